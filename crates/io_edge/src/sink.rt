@@ -1,0 +1,23 @@
+ghost use Rattle.std.specs.Prelude.{◌≡◌, ℕ, ◌<◌, ◌≤◌, List, Option, length, take, IfOk, OnErr};
+ghost use Rattle.std.specs.Io.KnownBytes.{Appends};
+ghost use Rattle.io_edge.specs.Device.{Counts};
+
+use crate::fault::Failed;
+
+/// Where bytes go.
+pub trait Sink {
+    /// The bytes that it holds, where they are told.
+    ghost held: { Self → Option (List ℕ) };
+
+    /// How often writing has failed. It never falls, and stands still at the largest `u64`.
+    ghost faults: { Self → ℕ };
+
+    /// Takes some bytes off the front of `piece`, and says how many: at least one where `piece` isn't empty.
+    /// A failed write takes nothing, and raises the count of faults.
+    fn write_some(&mut self, piece: &[u8]) -> Result<usize, Failed>
+        ensures within { IfOk result (λ n. n ≤ length piece.now) }
+        ensures some { IfOk result (λ n. 0 < length piece.now → 0 < n) }
+        ensures bytes { IfOk result (λ n. Appends (held self.old) (held self.new) (take n piece.now)) }
+        ensures failed { OnErr result (held self.new ≡ held self.old) }
+        ensures count { Counts (faults self.old) (faults self.new) result };
+}

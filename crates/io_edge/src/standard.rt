@@ -1,0 +1,119 @@
+ghost use Rattle.std.specs.Prelude.{◌≡◌, ◌<◌, ◌≤◌, None, IfSome, length};
+
+use crate::fault::Failed;
+use crate::sink::Sink;
+use crate::source::Source;
+use std::io::{ErrorKind, Read, Stdin, Stdout, Write};
+
+/// Standard input. No bytes are told of it: what a terminal, a pipe or a file gives is outside what is proved.
+#[derive(Drop)]
+pub struct StdSource {
+    input: Stdin,
+    failed_reads: u64,
+}
+
+impl StdSource {
+    /// Standard input, of which no read has failed yet.
+    pub fn new(input: Stdin) -> Self
+        ensures { ⟦<StdSource as Source>⟧.faults result ≡ 0 }
+    {
+        StdSource {
+            input,
+            failed_reads: 0,
+        }
+    }
+
+    /// How often reading has failed, at most the largest `u64`.
+    pub fn faults(&self) -> u64
+        ensures { result ≡ ⟦<StdSource as Source>⟧.faults self.now }
+    {
+        self.failed_reads
+    }
+}
+
+impl Source for StdSource {
+    ghost left = { λ _. None };
+
+    ghost faults = { λ s. s.failed_reads };
+
+    /// A read that a signal interrupted is tried again, and is no fault.
+    fn read_some(&mut self, buf: &mut [u8]) -> Result<usize, Failed> {
+        if let Some(n) = read_uninterrupted(&mut self.input, buf) {
+            return Ok(n);
+        }
+        self.failed_reads = self.failed_reads.saturating_add(1);
+        Err(Failed)
+    }
+}
+
+/// Standard output, of which no bytes are told.
+#[derive(Drop)]
+pub struct StdSink {
+    output: Stdout,
+    failed_writes: u64,
+}
+
+impl StdSink {
+    /// Standard output, to which no write has failed yet.
+    pub fn new(output: Stdout) -> Self
+        ensures { ⟦<StdSink as Sink>⟧.faults result ≡ 0 }
+    {
+        StdSink {
+            output,
+            failed_writes: 0,
+        }
+    }
+
+    /// How often writing has failed, at most the largest `u64`.
+    pub fn faults(&self) -> u64
+        ensures { result ≡ ⟦<StdSink as Sink>⟧.faults self.now }
+    {
+        self.failed_writes
+    }
+}
+
+impl Sink for StdSink {
+    ghost held = { λ _. None };
+
+    ghost faults = { λ s. s.failed_writes };
+
+    /// It flushes before it answers `Ok`. A write that a signal interrupted is tried again, and is no fault;
+    /// one to a pipe that nobody reads is.
+    fn write_some(&mut self, piece: &[u8]) -> Result<usize, Failed> {
+        if let Some(n) = write_and_flush(&mut self.output, piece) {
+            return Ok(n);
+        }
+        self.failed_writes = self.failed_writes.saturating_add(1);
+        Err(Failed)
+    }
+}
+
+/// How many bytes were read to the front of `buf`, 0 at the end of input, or `None` where reading failed.
+fn read_uninterrupted(input: &mut Stdin, buf: &mut [u8]) -> Option<usize>
+    ensures { IfSome result (λ n. n ≤ length buf.new) }
+{
+    for _ in 0..u64::MAX {
+        match input.read(buf) {
+            Ok(n) => return Some(n),
+            Err(e) if e.kind() == ErrorKind::Interrupted => {}
+            Err(_) => return None,
+        }
+    }
+    None
+}
+
+/// How many bytes off the front of `piece` were written, at least one where there is one, or `None` where
+/// writing failed.
+fn write_and_flush(output: &mut Stdout, piece: &[u8]) -> Option<usize>
+    ensures within { IfSome result (λ n. n ≤ length piece.now) }
+    ensures some { IfSome result (λ n. 0 < length piece.now → 0 < n) }
+{
+    for _ in 0..u64::MAX {
+        match output.write(piece) {
+            Ok(n) if n > 0 || piece.is_empty() => return output.flush().ok().map(|()| n),
+            Err(e) if e.kind() == ErrorKind::Interrupted => {}
+            _ => return None,
+        }
+    }
+    None
+}
