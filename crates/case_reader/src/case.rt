@@ -1,0 +1,38 @@
+ghost use Rattle.std.specs.Prelude.{◌≤◌, length};
+
+use rd_base::{Bytes, Listed, Script};
+
+/// The largest bound, in steps.
+pub const MAX_BOUND: u64 = 16_777_216;
+
+/// The longest input, in bytes.
+pub const MAX_INPUT_BYTES: usize = 1_048_576;
+
+/// The largest patience, in passes.
+pub const MAX_PATIENCE: u64 = 100;
+
+/// The most provers.
+pub const MAX_PROVERS: usize = 16;
+
+/// A case, with each number in its range.
+#[derive(Debug, Drop)]
+pub struct Case {
+    /// The image's bytes.
+    pub image: Bytes,
+    /// Whether the image is a flat file, and no ELF file.
+    pub flat: bool,
+    /// The program's input.
+    pub input: Bytes,
+    /// How many steps the run has.
+    pub bound: u64,
+    /// How many passes each question allows.
+    pub patience: u32,
+    /// The provers, by number from 1.
+    pub provers: Listed<Script>,
+    ghost input_is_short: { length input ≤ 1048576 },
+    ghost bound_is_positive: { 1 ≤ bound },
+    ghost bound_in_range: { bound ≤ 16777216 },
+    ghost patience_in_range: { patience ≤ 100 },
+    ghost somebody_plays: { 1 ≤ length provers },
+    ghost few_play: { length provers ≤ 16 },
+}

@@ -1,0 +1,87 @@
+ghost use Rattle.std.specs.Prelude.{◌≡◌, Some};
+ghost use Rattle.case_reader.specs.Key.{key_text};
+ghost use Rattle.case_reader.specs.declared.fault.CaseFault.TheVariants.{Memory};
+
+use std::alloc::{AllocError, AllocFailed};
+use std::fmt;
+use thiserror::Error;
+
+/// A key of a case, in the order in which keys are tested.
+#[derive(Clone, Copy, Debug, PartialEq, Eq)]
+pub enum Key {
+    Format,
+    Image,
+    Input,
+    Bound,
+    Patience,
+    Provers,
+}
+
+impl Key {
+    /// The key as it stands in a case.
+    pub fn name(self) -> &'static str
+        ensures { result.now ≡ key_text self }
+    {
+        match self {
+            Key::Format => "format",
+            Key::Image => "image",
+            Key::Input => "input",
+            Key::Bound => "bound",
+            Key::Patience => "patience",
+            Key::Provers => "provers",
+        }
+    }
+}
+
+impl fmt::Display for Key {
+    ghost output = { λ key. Some (key_text key) };
+
+    fn fmt<W: fmt::Write>(&self, f: &mut fmt::Formatter<W>) -> fmt::Result {
+        f.write_str(self.name())
+    }
+}
+
+/// Why bytes are no case: the first rule that is broken, or want of memory.
+#[derive(Clone, Copy, Debug, PartialEq, Eq, Error)]
+pub enum CaseFault {
+    /// The bytes are no JSON text (RFC 8259, as `serde_json` reads it).
+    #[error("the bytes are no JSON text")]
+    NotJson,
+    /// The text is no JSON object.
+    #[error("the case is no object")]
+    NotObject,
+    /// The key isn't there.
+    #[error("{0} is missing")]
+    Missing(Key),
+    /// The key's value has another type.
+    #[error("{0} has another type")]
+    WrongType(Key),
+    /// The key's text isn't hexadecimal digits in pairs.
+    #[error("{0} is no hexadecimal text")]
+    BadHex(Key),
+    /// The key's value is out of its range.
+    #[error("{0} is out of range")]
+    OutOfRange(Key),
+    /// The prover of this number, counted from 1, is none that is known.
+    #[error("prover {0} is none that is known")]
+    BadProver(u32),
+    /// An allocation was refused.
+    #[error("want of memory")]
+    Memory,
+}
+
+impl From<AllocError> for CaseFault {
+    ghost from_gives = { λ _ e. e ≡ Memory };
+
+    fn from(_e: AllocError) -> CaseFault {
+        CaseFault::Memory
+    }
+}
+
+impl<T: Drop> From<AllocFailed<T>> for CaseFault {
+    ghost from_gives = { λ _ e. e ≡ Memory };
+
+    fn from(_e: AllocFailed<T>) -> CaseFault {
+        CaseFault::Memory
+    }
+}

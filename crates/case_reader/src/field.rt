@@ -1,0 +1,73 @@
+ghost use Rattle.std.specs.Prelude.{◌≤◌, map, Ok, IfOk};
+ghost use Rattle.serde_json.specs.View.{view, items_view};
+ghost use Rattle.case_reader.specs.Reading.{Gives, field, text_in, bytes_in, number_in, array_in, hex_of};
+
+use crate::fault::{CaseFault, Key};
+use hex::FromHexError;
+use rd_base::Bytes;
+use serde_json::Value;
+use std::alloc::Global;
+
+/// The value of a key.
+pub fn value_of<'v>(tree: &'v Value, key: Key) -> Result<&'v Value, CaseFault>
+    ensures { Gives (λ v. view v.now) result (field key (view tree.now)) }
+{
+    tree.get(key.name()).ok_or(CaseFault::Missing(key))
+}
+
+/// The text of a key.
+#[tactic(auto, unfolding(crate::specs::Reading::text_in))]
+pub fn text_of<'v>(tree: &'v Value, key: Key) -> Result<&'v str, CaseFault>
+    ensures { Gives (λ text. text.now) result (text_in key (view tree.now)) }
+{
+    let value = value_of(tree, key)?;
+    value.as_str().ok_or(CaseFault::WrongType(key))
+}
+
+/// The bytes of a text of hexadecimal digits.
+pub fn hex_bytes(alloc: Global, text: &str) -> Result<Option<Bytes>, CaseFault>
+    ensures { Gives (λ bytes. bytes) result (Ok (hex_of text.now)) }
+{
+    match hex::decode(alloc, text) {
+        Ok(bytes) => Ok(Some(Bytes::new(bytes))),
+        Err(FromHexError::OutOfMemory) => Err(CaseFault::Memory),
+        Err(_) => Ok(None),
+    }
+}
+
+/// The bytes of a key whose text is hexadecimal digits.
+#[tactic(auto, unfolding(crate::specs::Reading::bytes_in))]
+pub fn bytes_of(alloc: Global, tree: &Value, key: Key) -> Result<Bytes, CaseFault>
+    ensures { Gives (λ bytes. bytes) result (bytes_in key (view tree.now)) }
+{
+    let text = text_of(tree, key)?;
+    hex_bytes(alloc, text)?.ok_or(CaseFault::BadHex(key))
+}
+
+/// The number of a key, from `low` to `high`.
+#[tactic(auto, unfolding(crate::specs::Reading::number_in))]
+pub fn number_of(tree: &Value, key: Key, low: u64, high: u64) -> Result<u64, CaseFault>
+    ensures value { Gives (λ n. n) result (number_in key low high (view tree.now)) }
+    ensures from { IfOk result (λ n. low ≤ n) }
+    ensures to { IfOk result (λ n. n ≤ high) }
+{
+    let value = value_of(tree, key)?;
+    let number = value.as_u64().ok_or(CaseFault::WrongType(key))?;
+    if low <= number && number <= high {
+        Ok(number)
+    } else {
+        Err(CaseFault::OutOfRange(key))
+    }
+}
+
+/// The items of a key whose value is an array.
+#[tactic(auto, unfolding(crate::specs::Reading::array_in))]
+pub fn array_of(tree: &Value, key: Key) -> Result<&[Value], CaseFault>
+    ensures { Gives (λ items. map view items.now) result (array_in key (view tree.now)) }
+{
+    let value = value_of(tree, key)?;
+    match value.as_array() {
+        Some(items) => Ok(items.as_slice()),
+        None => Err(CaseFault::WrongType(key)),
+    }
+}

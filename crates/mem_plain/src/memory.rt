@@ -1,0 +1,97 @@
+ghost use Rattle.std.specs.Prelude.{◌≡◌, ◌⊎◌, ◌+◌, ◌%◌, ◌^◌, ◌≤◌, length, IfOk, OnOk, OnErr};
+ghost use Rattle.mem_plain.specs.Contents.{no_bytes, byte_at, number_at, with_number, laid};
+
+use crate::page::{PAGE_BYTES, Page};
+use rd_base::Memory;
+use std::alloc::Global;
+use std::collections::BTreeMap;
+use std::marker::Model;
+
+/// Memory of 2^32 bytes, of which contracts see those that aren't 0.
+#[derive(Drop)]
+pub struct PlainMem {
+    pages: BTreeMap<u32, Page>,
+    alloc: Global,
+}
+
+impl Model for PlainMem {
+    ghost use Rattle.mem_plain.specs.Contents.{Contents, contents_code};
+
+    ghost Value = { Contents };
+
+    ghost coded = { contents_code };
+
+    ghost use Rattle.mem_plain.specs.Pages.{contents_of};
+
+    ghost view = { λ m. contents_of m.pages.entries };
+}
+
+impl PlainMem {
+    /// Memory in which every byte is 0. It takes no memory itself; what it takes later it takes from `alloc`.
+    pub fn new(alloc: Global) -> Self
+        ensures { result ≡ no_bytes }
+    {
+        PlainMem {
+            pages: BTreeMap::new(alloc),
+            alloc,
+        }
+    }
+
+    /// The byte at an address.
+    pub fn byte(&self, addr: u32) -> u8
+        ensures { result ≡ byte_at self.now addr }
+    {
+        match self.pages.get(&(addr / PAGE_BYTES)) {
+            Some(page) => page.byte((addr % PAGE_BYTES) as usize),
+            None => 0,
+        }
+    }
+
+    /// The word of four bytes at an address, the least byte first (RV32I, section 2.6). The address is a
+    /// multiple of 4.
+    pub fn word(&self, addr: u32) -> u32
+        requires { addr % 4 ≡ 0 }
+        ensures { result ≡ number_at self.now addr 4 }
+    {
+        match self.pages.get(&(addr / PAGE_BYTES)) {
+            Some(page) => page.word((addr % PAGE_BYTES) as usize),
+            None => 0,
+        }
+    }
+
+    /// Stores the low `width` bytes of `value` at an address, the least byte first. The width is 1, 2 or 4,
+    /// and the address a multiple of it. An `Err` is want of memory for a new page, and changes nothing.
+    pub fn store(&mut self, addr: u32, width: u8, value: u32) -> Result<(), Memory>
+        requires width { (width ≡ 1) ⊎ (width ≡ 2) ⊎ (width ≡ 4) }
+        requires aligned { addr % width ≡ 0 }
+        ensures stored { OnOk result (self.new ≡ with_number self.old addr width value) }
+        ensures err { OnErr result (self.new ≡ self.old) }
+    {
+        let at = (addr % PAGE_BYTES) as usize;
+        match self.pages.get_mut(&(addr / PAGE_BYTES)) {
+            Some(page) => {
+                page.write(at, width, value);
+                Ok(())
+            }
+            None => {
+                let mut page = Page::zeros(self.alloc)?;
+                page.write(at, width, value);
+                self.pages.insert(addr / PAGE_BYTES, page)?;
+                Ok(())
+            }
+        }
+    }
+
+    /// Lays bytes over what is there, from an address on. They don't reach beyond the end of the addresses. An
+    /// `Err` is want of memory, and drops all.
+    pub fn lay(self, addr: u32, bytes: &[u8]) -> Result<PlainMem, Memory>
+        requires { addr + length bytes.now ≤ 2 ^ 32 }
+        ensures { IfOk result (λ m. m ≡ laid self addr bytes.now) }
+    {
+        let mut mem = self;
+        'bytes: for (i, byte) in bytes.iter().enumerate() {
+            mem.store(addr + i as u32, 1, u32::from(*byte))?;
+        }
+        Ok(mem)
+    }
+}

@@ -1,0 +1,3 @@
+pub mod ArithmeticLemmas
+pub mod PartsLemmas
+pub mod StepLemmas

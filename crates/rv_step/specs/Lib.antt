@@ -1,0 +1,11 @@
+pub use Rattle.rd_base.specs.Regs
+pub use Rattle.rd_base.specs.Status
+pub use Rattle.rv_decode.specs.Word
+pub use Rattle.rv_decode.specs.Reading
+pub use Rattle.mem_plain.specs.Contents
+pub mod Arithmetic
+pub mod Effect
+pub mod Parts
+pub mod State
+pub mod Step
+pub mod Loaded

@@ -1,0 +1,18 @@
+-- The state of a machine.
+use Rattle.std.specs.Prelude.{ℕ, List}
+use Rattle.rd_base.specs.declared.status.Status.{Status}
+use Rattle.mem_plain.specs.Contents.{Contents}
+use Rattle.rv_step.specs.declared.machine.Machine.{Machine}
+
+-- x0 to x31, the address of the next instruction, the bytes of memory that aren't 0, the status, and the bytes that
+-- were put out
+pub record State : Type 0 where
+  pub regs : List ℕ
+  pub pc : ℕ
+  pub memory : Contents
+  pub status : Status
+  pub output : List ℕ
+
+-- the state that a machine is in
+abbrev pub state_of : Machine → State
+state_of m = record { regs = m.regs; pc = m.ctl.pc; memory = m.mem; status = m.ctl.status; output = m.output.items }

@@ -1,0 +1,4 @@
+pub use Rattle.rd_base.specs.Status
+pub use Rattle.hex.specs.Hex
+pub mod Digest
+pub mod Report
