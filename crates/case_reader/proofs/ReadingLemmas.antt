@@ -1,18 +1,18 @@
 -- Reading on, one prover after another, and the items of an array.
-use Rattle.std.proofs.Common.{◌≡◌, ℕ, ◌+◌, ◌<◌, List, [], ◌∷◌, ◌++◌, length, map, drop, get_or, Result, Ok, Err, Option, Some, None, refl, sym, ap, ◌∙◌, append_assoc, add-one, drop-cons, rules, ⊎_elim, arith}
+use Rattle.std.proofs.Common.{◌≡◌, ℕ, ◌+◌, ◌<◌, List, [], ◌∷◌, ◌++◌, length, map, drop, get_or, Result, Ok, Err, Option, Some, None, refl, sym, ap, ◌∙◌, append_assoc, add-one, drop-cons, ⊎_elim}
 use Rattle.std.specs.Prelude.{IsUtf8}
 use Rattle.std.specs.Str.{is_utf8}
 use Rattle.std.proofs.lemmas.Str.{IsUtf8-from_is_utf8, is_utf8-from_IsUtf8}
 use Rattle.std.proofs.lemmas.Bool.{cases_Bool}
 use Rattle.std.proofs.lemmas.List.{append-nil}
 use Rattle.serde_json.specs.Read.{read}
-use Rattle.serde_json.specs.Data.{Data, Items, no_items, item}
+use Rattle.serde_json.specs.Data.{Data, Items}
 use Rattle.std.specs.Option.{option_map}
 use Rattle.serde_json.specs.View.{view, items_of, items_view}
 use Rattle.serde_json.specs.declared.value.Value.{Value}
 use Rattle.rd_base.specs.declared.script.Script.{Script}
 use Rattle.case_reader.specs.declared.fault.CaseFault.{CaseFault}
-use Rattle.case_reader.specs.declared.fault.CaseFault.TheVariants.{BadProver, Memory}
+use Rattle.case_reader.specs.declared.fault.CaseFault.TheVariants.{BadProver}
 use Rattle.case_reader.specs.Reading.{listed, script_in, scripts_in, with_front, tree_of, ◌>>=◌}
 
 pub listed-items_of : (ds : List Data) → listed (items_of ds) ≡ ds

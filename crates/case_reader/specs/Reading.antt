@@ -1,7 +1,7 @@
 -- Reading a case: from the bytes to a JSON tree, and from the tree to a case or the first fault. Keys are tested in
 -- the order format, image, input, bound, patience, provers; each key first that it is there, then its type, then its
 -- hexadecimal digits, then its range; and last the provers, one after another.
-use Rattle.std.specs.Prelude.{◌≡◌, ◌⊎◌, ℕ, ◌+◌, ◌==◌, ◌&&◌, List, [], ◌∷◌, ◌++◌, length, codes, nat_le, Bool, true, false, not, is_some, Option, Some, None, Result, Ok, Err, if◌then◌else◌, map}
+use Rattle.std.specs.Prelude.{◌≡◌, ℕ, ◌+◌, ◌&&◌, List, [], ◌∷◌, ◌++◌, length, codes, nat_le, Bool, true, false, not, is_some, Option, Some, None, Result, Ok, Err, if◌then◌else◌}
 use Rattle.std.specs.Option.{ok_or, option_map, option_and_then}
 use Rattle.std.specs.Result.{result_ok}
 use Rattle.std.specs.Str.{is_utf8, bytes_eq}

@@ -9,6 +9,8 @@ mod fault;
 mod field;
 mod prover;
 mod reading;
+#[cfg(test)]
+mod tests;
 
 pub use case::{Case, MAX_BOUND, MAX_INPUT_BYTES, MAX_PATIENCE, MAX_PROVERS};
 pub use fault::{CaseFault, Key};

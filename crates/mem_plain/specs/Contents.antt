@@ -1,5 +1,6 @@
 -- Memory as a finite map from addresses to the bytes that aren't 0.
-use Rattle.std.specs.Prelude.{ℕ, zero, suc, ◌+◌, ◌*◌, ◌/◌, ◌%◌, ◌^◌, List, [], ◌∷◌, unwrap_or, if◌then◌else◌, ◌==◌}
+use Rattle.std.specs.Prelude.{◌≡◌, ◌≢◌, ℕ, zero, suc, ◌+◌, ◌*◌, ◌/◌, ◌%◌, ◌^◌, ◌<◌, ◌≤◌, Bool, ◌&&◌, nat_lt, nat_le, List, [], ◌∷◌, map, Option, Some, None, unwrap_or, if◌then◌else◌, ◌==◌}
+use Rattle.std.specs.List.{range_with_len}
 use Rattle.std.specs.Ordering.{nat_cmp}
 use Rattle.std.specs.FinMap.{FinMap, empty, get, insert, remove, code}
 use Rattle.std.specs.Coded.{Coded, coded_ℕ}
@@ -37,6 +38,23 @@ with_number m a (suc width) value = with_number (with_byte m a (value % 256)) (a
 abbrev pub laid : Contents → ℕ → List ℕ → Contents
 laid m a [] = m
 laid m a (b ∷ bytes) = laid (with_byte m a b) (a + 1) bytes
+
+-- an address is among the so many from another on
+abbrev pub is_among : ℕ → ℕ → ℕ → Bool
+is_among a width q = nat_le a q && nat_lt q (a + width)
+
+-- the chunk of 32 bytes with an index
+abbrev pub chunk_at : Contents → ℕ → List ℕ
+chunk_at m index = map (λ k. byte_at m (32 * index + k)) (range_with_len 0 32)
+
+-- some byte of a page, which has 4,096 of them, isn't 0
+abbrev pub IsUsed : Contents → ℕ → Type 0
+IsUsed m page = (a : ℕ) × (a / 4096 ≡ page) × (byte_at m a ≢ 0)
+
+-- the least page from a number on that is used, or none where none is
+abbrev pub IsNextUsed : Contents → ℕ → Option ℕ → Type 0
+IsNextUsed m from (Some page) = (from ≤ page) × IsUsed m page × ((q : ℕ) → from ≤ q → q < page → ¬ IsUsed m q)
+IsNextUsed m from None = (q : ℕ) → from ≤ q → ¬ IsUsed m q
 
 -- the contents that have the bytes of f at the addresses below n, and no others
 unfoldable pub tabulated : (ℕ → ℕ) → ℕ → Contents

@@ -1,11 +1,18 @@
-ghost use Rattle.std.specs.Prelude.{◌≡◌, ◌⊎◌, ◌+◌, ◌%◌, ◌^◌, ◌≤◌, length, IfOk, OnOk, OnErr};
-ghost use Rattle.mem_plain.specs.Contents.{no_bytes, byte_at, number_at, with_number, laid};
+ghost use Rattle.std.specs.Prelude.{◌≡◌, ◌⊎◌, ◌+◌, ◌%◌, ◌^◌, ◌<◌, ◌≤◌, length, IfOk, OnOk, OnErr};
+ghost use Rattle.mem_plain.specs.Pages.{contents_of};
+ghost use Rattle.mem_plain.specs.Contents.{no_bytes, byte_at, number_at, with_number, laid, chunk_at, IsNextUsed};
 
 use crate::page::{PAGE_BYTES, Page};
 use rd_base::Memory;
 use std::alloc::Global;
 use std::collections::BTreeMap;
 use std::marker::Model;
+
+/// How many bytes a chunk has.
+const CHUNK_BYTES: u32 = 32;
+
+/// How many pages there are.
+const PAGES: u32 = 1_048_576;
 
 /// Memory of 2^32 bytes, of which contracts see those that aren't 0.
 #[derive(Drop)]
@@ -59,6 +66,36 @@ impl PlainMem {
         }
     }
 
+    /// The chunk with an index below 2^27: the 32 bytes from address 32 * `index` on.
+    pub fn chunk(&self, index: u32) -> [u8; 32]
+        requires { index < 2 ^ 27 }
+        ensures { result ≡ chunk_at self.now index }
+    {
+        let addr = CHUNK_BYTES * index;
+        match self.pages.get(&(addr / PAGE_BYTES)) {
+            Some(page) => page.chunk((addr % PAGE_BYTES) as usize),
+            None => [0; 32],
+        }
+    }
+
+    /// The least page at or after `from` with a byte that isn't 0, or `None` where there is no such page. A page
+    /// goes by its number, which is that of its addresses / 4,096; `from` may be any number.
+    pub fn next_page(&self, from: u32) -> Option<u32>
+        ensures { IsNextUsed self.now from result }
+    {
+        next_used(&self.pages, from)
+    }
+
+    /// Memory with the same bytes, which goes its own way from now on. An `Err` is want of memory.
+    pub fn copy(&self) -> Result<PlainMem, Memory>
+        ensures { IfOk result (λ m. m ≡ self.now) }
+    {
+        Ok(PlainMem {
+            pages: self.pages.clone()?,
+            alloc: self.alloc,
+        })
+    }
+
     /// Stores the low `width` bytes of `value` at an address, the least byte first. The width is 1, 2 or 4,
     /// and the address a multiple of it. An `Err` is want of memory for a new page, and changes nothing.
     pub fn store(&mut self, addr: u32, width: u8, value: u32) -> Result<(), Memory>
@@ -94,4 +131,18 @@ impl PlainMem {
         }
         Ok(mem)
     }
+}
+
+fn next_used(pages: &BTreeMap<u32, Page>, from: u32) -> Option<u32>
+    ensures { IsNextUsed (contents_of pages.now.entries) from result }
+{
+    if from >= PAGES {
+        return None;
+    }
+    'pages: for (number, page) in pages.range(from..PAGES) {
+        if page.is_used() {
+            return Some(*number);
+        }
+    }
+    None
 }

@@ -11,6 +11,8 @@ mod memory;
 mod regs;
 mod script;
 mod status;
+#[cfg(test)]
+mod tests;
 
 pub use ctl::Ctl;
 pub use digest::Digest32;

@@ -1,16 +1,17 @@
 -- What an instruction needs of memory decides which of memory it reads.
-use Rattle.std.proofs.Common.{◌≡◌, ℕ, ◌%◌, ℤ, List, eqb, cond, Bool, true, false, refl}
+use Rattle.std.proofs.Common.{◌≡◌, ℕ, ◌/◌, ◌%◌, ℤ, List, Option, Some, None, eqb, cond, Bool, true, false, refl, sym, ap}
 use Rattle.rv_decode.specs.declared.instr.IType.{IType}
 use Rattle.rv_decode.specs.declared.instr.SType.{SType}
 use Rattle.rv_decode.specs.declared.instr.Instr.{Instr}
-use Rattle.rv_decode.specs.declared.instr.Instr.TheVariants.{Lui, Auipc, Jal, Jalr, Beq, Bne, Blt, Bge, Bltu, Bgeu, Lb, Lh, Lw, Lbu, Lhu, Sb, Sh, Sw, Addi, Slti, Sltiu, Xori, Ori, Andi, Slli, Srli, Srai, Add, Sub, Sll, Slt, Sltu, Xor, Srl, Sra, Or, And, Mul, Mulh, Mulhsu, Mulhu, Div, Divu, Rem, Remu, Fence, Ecall, Ebreak}
+use Rattle.rv_decode.specs.declared.instr.Instr.TheVariants.{Jal, Jalr, Beq, Bne, Blt, Bge, Bltu, Bgeu, Lb, Lh, Lw, Lbu, Lhu, Sb, Sh, Sw, Ecall}
 use Rattle.rv_step.specs.Arithmetic.{zero_extended, sign_extended}
 use Rattle.rv_step.specs.Effect.{effect, jumps, branches, loads, stores, calls, at_offset, x}
 use Rattle.rv_step.specs.Parts.{Meets, KeepsMemory, needed, load_needed, store_needed}
 use Rattle.rv_step.specs.State.{State}
-use Rattle.rv_step.specs.Step.{settled, after_effect}
+use Rattle.rv_step.specs.Step.{settled, after_effect, stored_page}
 use Rattle.rv_step.specs.declared.effect.Effect.{Effect}
 use Rattle.rv_step.specs.declared.effect.Effect.TheVariants.{Write, Jump, Branch, Next, Store, Put, Exit, Trap}
+use Rattle.rv_step.specs.declared.asked.Need.{Need}
 use Rattle.rv_step.specs.declared.asked.Need.TheVariants as need
 
 load_meets : (xs : List ℕ) (read : ℕ → ℕ → ℕ) (width : ℕ) (i : IType) (extended : ℕ → ℕ) → Meets (λ memory. loads xs memory width i extended) read (load_needed xs width i)
@@ -73,3 +74,30 @@ settled-kept s (Store addr width value) kept = absurd kept
 settled-kept s (Put byte) kept = refl
 settled-kept s (Exit code) kept = refl
 settled-kept s (Trap code) kept = refl
+
+-- an effect that keeps memory stores to no page
+kept-page : (e : Effect) → KeepsMemory e → stored_page e ≡ None
+kept-page (Write rd value) kept = refl
+kept-page (Jump rd target) kept = refl
+kept-page (Branch target) kept = refl
+kept-page Next kept = refl
+kept-page (Store addr width value) kept = absurd kept
+kept-page (Put byte) kept = refl
+kept-page (Exit code) kept = refl
+kept-page (Trap code) kept = refl
+
+-- the page that is stored to is that of the store that is needed
+abbrev pub needed_page : Need → Option ℕ
+needed_page need.Nothing = None
+needed_page (need.Load addr width) = None
+needed_page (need.Store addr width value) = Some (addr / 4096)
+needed_page (need.Trap code) = None
+
+page_met : (e : (ℕ → ℕ → ℕ) → Effect) (read : ℕ → ℕ → ℕ) (n : Need) → Meets e read n → needed_page n ≡ stored_page (e read)
+page_met e read need.Nothing met = sym (kept-page (e read) met.1)
+page_met e read (need.Load addr width) met = sym (kept-page (e read) met.1)
+page_met e read (need.Store addr width value) met = ap stored_page (sym met)
+page_met e read (need.Trap code) met = ap stored_page (sym met)
+
+pub page_needed : (xs : List ℕ) (pc : ℕ) (read : ℕ → ℕ → ℕ) (i : Instr) → needed_page (needed xs i) ≡ stored_page (effect xs pc read i)
+page_needed xs pc read i = page_met (λ memory. effect xs pc memory i) read (needed xs i) (effect_meets xs pc read i)

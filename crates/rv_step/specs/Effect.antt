@@ -1,5 +1,5 @@
 -- What one instruction does (RISC-V Unprivileged ISA 20191213): a case for each, in the order of chapters 2 and 7.
-use Rattle.std.specs.Prelude.{ℕ, ◌+◌, ◌-◌, ◌%◌, ◌<◌, ◌==◌, List, Bool, not, nat_lt, slice_index, bit_and, bit_or, bit_xor, if◌then◌else◌, ℤ}
+use Rattle.std.specs.Prelude.{ℕ, ◌-◌, ◌%◌, ◌<◌, ◌==◌, List, Bool, not, nat_lt, slice_index, bit_and, bit_or, bit_xor, if◌then◌else◌, ℤ}
 use Rattle.rv_decode.specs.declared.instr.IType.{IType}
 use Rattle.rv_decode.specs.declared.instr.SType.{SType}
 use Rattle.rv_decode.specs.declared.instr.Instr.{Instr}

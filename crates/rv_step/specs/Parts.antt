@@ -1,5 +1,5 @@
 -- The two parts of a step: what an instruction needs of memory, and what becomes of registers and pc.
-use Rattle.std.specs.Prelude.{◌≡◌, ◌⊎◌, ℕ, ◌%◌, ◌==◌, List, slice_index, if◌then◌else◌}
+use Rattle.std.specs.Prelude.{◌≡◌, ◌⊎◌, ℕ, ◌%◌, ◌==◌, List, if◌then◌else◌}
 use Rattle.rd_base.specs.Regs.{with_register}
 use Rattle.rv_decode.specs.declared.instr.IType.{IType}
 use Rattle.rv_decode.specs.declared.instr.SType.{SType}

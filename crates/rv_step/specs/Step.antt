@@ -1,7 +1,7 @@
 -- The step, and the run from a state (RISC-V Unprivileged ISA 20191213, 1.2 and 2).
-use Rattle.std.specs.Prelude.{ℕ, zero, suc, ◌%◌, ◌==◌, List, [], ◌∷◌, ◌++◌, Option, Some, None, if◌then◌else◌}
+use Rattle.std.specs.Prelude.{ℕ, zero, suc, ◌/◌, ◌%◌, ◌==◌, [], ◌∷◌, ◌++◌, Option, Some, None, if◌then◌else◌}
 use Rattle.rd_base.specs.Regs.{with_register}
-use Rattle.rd_base.specs.declared.status.Status.TheVariants.{Running, Exited, Trapped}
+use Rattle.rd_base.specs.declared.status.Status.TheVariants.{Exited, Trapped}
 use Rattle.rv_decode.specs.Reading.{reading_of}
 use Rattle.rv_decode.specs.declared.instr.Instr.{Instr}
 use Rattle.mem_plain.specs.Contents.{number_at, with_number}
@@ -56,3 +56,26 @@ step s =
 abbrev pub state_at : State → ℕ → State
 state_at s zero = s
 state_at s (suc i) = step (state_at s i)
+
+-- the page of the store that an effect is: its address by 4,096
+abbrev pub stored_page : Effect → Option ℕ
+stored_page (Write rd value) = None
+stored_page (Jump rd target) = None
+stored_page (Branch target) = None
+stored_page Next = None
+stored_page (Store addr width value) = Some (addr / 4096)
+stored_page (Put byte) = None
+stored_page (Exit code) = None
+stored_page (Trap code) = None
+
+-- the page that the instruction a word is stores to, from a state
+abbrev pub touched_by : State → Option Instr → Option ℕ
+touched_by s (Some i) = stored_page (effect s.regs s.pc (λ addr width. number_at s.memory addr width) i)
+touched_by s None = None
+
+-- the page that the step from a state stores to, where it stores
+unfoldable pub touched : State → Option ℕ
+touched s =
+    if is_running s.status
+    then (if s.pc % 4 == 0 then touched_by s (reading_of (number_at s.memory s.pc 4)) else None)
+    else None

@@ -7,26 +7,34 @@ use crate::arithmetic as words;
 use rd_base::Regs;
 use rv_decode::{IType, Instr, SType};
 
-/// Codes of traps (RISC-V Privileged ISA, table of exception codes).
+/// The code of a trap on a jump, a taken branch or a `pc` that isn't at a multiple of 4 (RISC-V Privileged ISA, table
+/// of exception codes, as the other codes of traps).
 pub const MISALIGNED_JUMP: u32 = 0;
 
+/// The code of a trap on a word that is no instruction.
 pub const ILLEGAL_INSTRUCTION: u32 = 2;
 
+/// The code of a trap on EBREAK.
 pub const BREAKPOINT: u32 = 3;
 
+/// The code of a trap on a load at an address that isn't a multiple of its width.
 pub const MISALIGNED_LOAD: u32 = 4;
 
+/// The code of a trap on a store at an address that isn't a multiple of its width.
 pub const MISALIGNED_STORE: u32 = 6;
 
+/// The code of a trap on an ECALL with a number that is neither `EXIT_CALL` nor `PUT_CALL`.
 pub const UNKNOWN_CALL: u32 = 8;
 
-/// The register with the number of an environment call, and the one with its argument.
+/// The register with the number of an environment call.
 pub const CALL_REGISTER: u8 = 17;
 
+/// The register with the argument of an environment call.
 pub const ARGUMENT_REGISTER: u8 = 10;
 
 /// The call that leaves the program with its argument as the code.
 pub const EXIT_CALL: u32 = 93;
+
 /// The call that puts out the low byte of its argument.
 pub const PUT_CALL: u32 = 1;
 

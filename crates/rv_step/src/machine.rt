@@ -13,9 +13,13 @@ pub const MAX_INPUT_BYTES: usize = 1_048_576;
 /// A machine between two steps. Its output's length is always that of its output.
 #[derive(Drop)]
 pub struct Machine {
+    /// The registers `x0` to `x31`.
     pub regs: Regs,
+    /// The address of the next instruction, the status, and the output's length and commitment.
     pub ctl: Ctl,
+    /// The memory, with the program and its input.
     pub mem: PlainMem,
+    /// The bytes that were put out so far, the first one first.
     pub output: Vec<u8>,
     ghost counted: { ctl.out_len ≡ vec_len output },
 }

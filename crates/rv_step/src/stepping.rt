@@ -70,8 +70,10 @@ fn carry_out(machine: &mut Machine, instr: &Instr) -> Result<(), Memory>
     }
 }
 
-/// One step. A machine that has stopped stays as it is. It takes memory only where it stores to a page for the
-/// first time or puts out a byte; an `Err` is want of it, and changes nothing.
+/// One step: carries out the word at `pc`. A machine that has stopped stays as it is. One whose `pc` isn't a multiple
+/// of 4, whose word is no instruction or whose instruction can't be carried out traps, which changes the status
+/// alone. A step takes memory only where it stores to a page for the first time or puts out a byte; an `Err` is want
+/// of it, and changes nothing.
 pub fn step(machine: &mut Machine) -> Result<(), Memory>
     ensures ok { OnOk result (state_of machine.new ≡ step_of (state_of machine.old)) }
     ensures err { OnErr result (state_of machine.new ≡ state_of machine.old) }

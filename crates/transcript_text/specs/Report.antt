@@ -61,3 +61,7 @@ verdict_line claims NoneLeft = codes "none left\n"
 
 abbrev pub report_text : Head → Record → Verdict → List ℕ
 report_text head settled verdict = head_line head ++ claim_lines 1 settled.claims ++ verdict_line settled.claims verdict
+
+-- the line that answers with the status and the output of a run
+abbrev pub answer_line_text : Status → List ℕ → List ℕ
+answer_line_text status output = codes "answer " ++ answer_text status output ++ codes "\n"

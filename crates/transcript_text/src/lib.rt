@@ -6,6 +6,8 @@
 
 mod record;
 mod reporting;
+#[cfg(test)]
+mod tests;
 
 pub use record::{Claim, DigestName, Head, Record, Settled, Verdict};
-pub use reporting::report;
+pub use reporting::{answer_line, report};

@@ -1,5 +1,5 @@
 ghost use Rattle.std.specs.Prelude.{◌≡◌, ◌++◌, ◌+◌, ◌≤◌, ◌<◌, ◌^◌, length, string_bytes, IfOk, OnOk};
-ghost use Rattle.transcript_text.specs.Report.{answer_text, played_text, patience_text, committed_text, head_line, claim_line, claim_lines, claim_of, verdict_line, report_text};
+ghost use Rattle.transcript_text.specs.Report.{answer_text, played_text, patience_text, committed_text, head_line, claim_line, claim_lines, claim_of, verdict_line, report_text, answer_line_text};
 ghost use Rattle.std.specs.Option.{option_copied};
 
 use crate::record::{Head, Record, Settled, Verdict};
@@ -122,16 +122,26 @@ fn claim_at(claims: &[Settled], number: u32) -> Option<&Settled>
 pub fn report(
     alloc: Global,
     head: &Head,
-    record: &Record,
+    settled: &Record,
     verdict: &Verdict,
 ) -> Result<Vec<u8>, Memory>
-    requires { length record.now.claims < 2 ^ 32 }
-    ensures { IfOk result (λ text. text.items ≡ report_text head.now record.now verdict.now) }
+    requires { length settled.now.claims < 2 ^ 32 }
+    ensures { IfOk result (λ text. text.items ≡ report_text head.now settled.now verdict.now) }
 {
     let mut text = String::new(alloc);
-    let claims = record.claims.as_slice();
+    let claims = settled.claims.as_slice();
     add_head(&mut text, head)?;
     add_claims(&mut text, alloc, claims)?;
     add_verdict(&mut text, alloc, claims, verdict)?;
+    Ok(text.into_bytes())
+}
+
+/// The line that answers with the status and the output of a run. An `Err` is want of memory.
+pub fn answer_line(alloc: Global, status: Status, output: &[u8]) -> Result<Vec<u8>, Memory>
+    ensures { IfOk result (λ text. text.items ≡ answer_line_text status output.now) }
+{
+    let mut text = String::from_str(alloc, "answer ")?;
+    add_answer(&mut text, alloc, status, output)?;
+    text.push_str("\n")?;
     Ok(text.into_bytes())
 }

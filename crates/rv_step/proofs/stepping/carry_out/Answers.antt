@@ -1,4 +1,4 @@
-use Rattle.std.proofs.Common.{◌≡◌, ℕ, OnOk, subst, sym, ap, ◌∙◌, refl}
+use Rattle.std.proofs.Common.{ℕ, subst, sym, ap, ◌∙◌}
 use Rattle.std.proofs.lemmas.Result.{on_ok_weaker, on_err_weaker}
 use Rattle.mem_plain.specs.Contents.{number_at}
 use Rattle.rv_step.specs.State.{State, state_of}

@@ -4,7 +4,7 @@ use Rattle.std.specs.Map.{lookup}
 use Rattle.std.specs.BTreeMap.{is_at}
 use Rattle.std.proofs.lemmas.List.{get_or-replicate}
 use Rattle.mem_plain.specs.Contents.{with_number}
-use Rattle.mem_plain.specs.Pages.{byte_of, contents_of}
+use Rattle.mem_plain.specs.Pages.{byte_of}
 use Rattle.mem_plain.proofs.PagesLemmas.{address_written, in_one_page}
 use Rattle.mem_plain.proofs.memory.PlainMem.store.Goals as goal
 

@@ -1,0 +1,300 @@
+use crate::{CaseFault, Key, read_case};
+use std::alloc::Global;
+use std::test::Fail;
+
+/// A case that is read, from which each table makes its texts.
+const BASE: &str =
+    "{\"format\":\"flat\",\"image\":\"1305a002\",\"input\":\"\",\"bound\":8,\"patience\":0,\"provers\":[{}]}";
+
+fn fault_of(alloc: Global, text: &str) -> Option<CaseFault> {
+    read_case(alloc, text.as_bytes()).err()
+}
+
+#[test]
+fn bytes_that_hold_no_object_are_refused(rt: HostRuntime) {
+    for (bytes, want) in [
+        (b"".as_slice(), CaseFault::NotJson),
+        (b"\xff", CaseFault::NotJson),
+        (b"{\"format\":\"\xc3\"}", CaseFault::NotJson),
+        (b"{} 5", CaseFault::NotJson),
+        (b"{}}", CaseFault::NotJson),
+        (b"{\"bound\":08}", CaseFault::NotJson),
+        (b"[", CaseFault::NotJson),
+        (b"[]", CaseFault::NotObject),
+        (b"\"format\"", CaseFault::NotObject),
+        (b"null", CaseFault::NotObject),
+        (b" {} ", CaseFault::Missing(Key::Format)),
+    ] {
+        assert_eq!(rt; read_case(rt.alloc(), bytes).err(), Some(want), "{bytes:?}");
+    }
+}
+
+#[test]
+fn the_first_rule_that_one_piece_breaks_is_the_fault(rt: HostRuntime) -> Result<(), Fail> {
+    let alloc = rt.alloc();
+    for (old, new, want) in [
+        ("\"format\"", "\"Format\"", CaseFault::Missing(Key::Format)),
+        ("\"image\"", "\"Image\"", CaseFault::Missing(Key::Image)),
+        ("\"input\"", "\"Input\"", CaseFault::Missing(Key::Input)),
+        ("\"bound\"", "\"Bound\"", CaseFault::Missing(Key::Bound)),
+        (
+            "\"patience\"",
+            "\"Patience\"",
+            CaseFault::Missing(Key::Patience),
+        ),
+        (
+            "\"provers\"",
+            "\"Provers\"",
+            CaseFault::Missing(Key::Provers),
+        ),
+        ("\"flat\"", "5", CaseFault::WrongType(Key::Format)),
+        ("\"1305a002\"", "1305", CaseFault::WrongType(Key::Image)),
+        ("\"\"", "null", CaseFault::WrongType(Key::Input)),
+        ("8", "\"8\"", CaseFault::WrongType(Key::Bound)),
+        ("8", "8.0", CaseFault::WrongType(Key::Bound)),
+        ("8", "8e0", CaseFault::WrongType(Key::Bound)),
+        ("8", "-1", CaseFault::WrongType(Key::Bound)),
+        (
+            "8",
+            "18446744073709551616",
+            CaseFault::WrongType(Key::Bound),
+        ),
+        (":0,\"p", ":-0,\"p", CaseFault::WrongType(Key::Patience)),
+        (":0,\"p", ":\"0\",\"p", CaseFault::WrongType(Key::Patience)),
+        ("[{}]", "{}", CaseFault::WrongType(Key::Provers)),
+        ("[{}]", "\"[]\"", CaseFault::WrongType(Key::Provers)),
+        ("1305a002", "1g", CaseFault::BadHex(Key::Image)),
+        ("1305a002", "130", CaseFault::BadHex(Key::Image)),
+        ("\"\"", "\" 0\"", CaseFault::BadHex(Key::Input)),
+        ("\"\"", "\"0x\"", CaseFault::BadHex(Key::Input)),
+        ("flat", "asm", CaseFault::OutOfRange(Key::Format)),
+        ("flat", "Flat", CaseFault::OutOfRange(Key::Format)),
+        ("flat", "", CaseFault::OutOfRange(Key::Format)),
+        ("8", "0", CaseFault::OutOfRange(Key::Bound)),
+        ("8", "16777217", CaseFault::OutOfRange(Key::Bound)),
+        (
+            "8",
+            "18446744073709551615",
+            CaseFault::OutOfRange(Key::Bound),
+        ),
+        (":0,\"p", ":101,\"p", CaseFault::OutOfRange(Key::Patience)),
+        (
+            ":0,\"p",
+            ":4294967296,\"p",
+            CaseFault::OutOfRange(Key::Patience),
+        ),
+        ("[{}]", "[]", CaseFault::OutOfRange(Key::Provers)),
+        // Where a key stands twice, its last value counts.
+        ("8", "8,\"bound\":0", CaseFault::OutOfRange(Key::Bound)),
+    ] {
+        let text = BASE.replace(alloc, old, new)?;
+        assert_eq!(rt; fault_of(alloc, text.as_str()), Some(want), "{text}");
+    }
+    Ok(())
+}
+
+#[test]
+fn of_two_faults_the_earlier_rule_names_the_fault(rt: HostRuntime) -> Result<(), Fail> {
+    let alloc = rt.alloc();
+    for (old, new, other, instead, want) in [
+        ("{\"f", "[{\"f", "flat", "asm", CaseFault::NotJson),
+        (
+            "flat",
+            "asm",
+            "image",
+            "Image",
+            CaseFault::OutOfRange(Key::Format),
+        ),
+        (
+            "1305a002",
+            "1g",
+            "input",
+            "Input",
+            CaseFault::BadHex(Key::Image),
+        ),
+        (
+            "\"\"",
+            "\"0\"",
+            "bound",
+            "Bound",
+            CaseFault::BadHex(Key::Input),
+        ),
+        (
+            ":8",
+            ":0",
+            "patience",
+            "Patience",
+            CaseFault::OutOfRange(Key::Bound),
+        ),
+        (
+            ":0",
+            ":101",
+            "provers",
+            "Provers",
+            CaseFault::OutOfRange(Key::Patience),
+        ),
+        (
+            "[{}]",
+            "{}",
+            ":0",
+            ":101",
+            CaseFault::OutOfRange(Key::Patience),
+        ),
+        (
+            "[{}]",
+            "[5]",
+            ":0",
+            ":101",
+            CaseFault::OutOfRange(Key::Patience),
+        ),
+        (
+            "[{}]",
+            "[{},5,{}]",
+            ",{}]",
+            ",{\"tamper\":0}]",
+            CaseFault::BadProver(2),
+        ),
+    ] {
+        let text = BASE.replace(alloc, old, new)?;
+        let text = text.replace(alloc, other, instead)?;
+        assert_eq!(rt; fault_of(alloc, text.as_str()), Some(want), "{text}");
+    }
+    Ok(())
+}
+
+#[test]
+fn a_prover_that_is_not_known_is_named_by_its_number(rt: HostRuntime) -> Result<(), Fail> {
+    let alloc = rt.alloc();
+    for (provers, number) in [
+        ("[{\"tamper\":{\"step\":3}}]", 1),
+        ("[{\"tamper\":null}]", 1),
+        ("[{\"manner\":{}}]", 1),
+        ("[{\"manner\":{\"bytes\":\"2a\"}}]", 1),
+        ("[{\"manner\":{\"kind\":\"none\"}}]", 1),
+        ("[{\"manner\":{\"kind\":\"plain\",\"bytes\":\"2a\"}}]", 1),
+        ("[{\"manner\":{\"kind\":5,\"bytes\":\"2a\"}}]", 1),
+        ("[{\"manner\":{\"kind\":\"output\"}}]", 1),
+        ("[{\"manner\":{\"kind\":\"output\",\"bytes\":42}}]", 1),
+        ("[{\"manner\":{\"kind\":\"output\",\"bytes\":\"2\"}}]", 1),
+        ("[{\"manner\":{\"kind\":\"output\",\"bytes\":\"2g\"}}]", 1),
+        ("[{\"manner\":\"output\"}]", 1),
+        ("[{\"manner\":null}]", 1),
+        ("[[]]", 1),
+        ("[{},5]", 2),
+        ("[{},{},{\"tamper\":0}]", 3),
+    ] {
+        let text = BASE.replace(alloc, "[{}]", provers)?;
+        let want = CaseFault::BadProver(number);
+        assert_eq!(rt; fault_of(alloc, text.as_str()), Some(want), "{text}");
+    }
+    Ok(())
+}
+
+#[test]
+fn lengths_are_taken_up_to_their_limit(rt: HostRuntime) -> Result<(), Fail> {
+    let alloc = rt.alloc();
+    let input_range = CaseFault::OutOfRange(Key::Input);
+    let provers_range = CaseFault::OutOfRange(Key::Provers);
+    for (old, start, piece, count, end, want) in [
+        ("\"\"", "\"", "00", 1_048_576, "\"", None),
+        ("\"\"", "\"", "00", 1_048_577, "\"", Some(input_range)),
+        // The digits are tested before the length, and the length before the next key.
+        (
+            "\"\"",
+            "\"",
+            "00",
+            1_048_577,
+            "0\"",
+            Some(CaseFault::BadHex(Key::Input)),
+        ),
+        (
+            "\"\",\"bound\"",
+            "\"",
+            "00",
+            1_048_577,
+            "\",\"Bound\"",
+            Some(input_range),
+        ),
+        ("[{}]", "[{}", ",{}", 15, "]", None),
+        ("[{}]", "[{}", ",{}", 16, "]", Some(provers_range)),
+        ("[{}]", "[5", ",{}", 16, "]", Some(provers_range)),
+    ] {
+        let pieces = piece.repeat(alloc, count)?;
+        let new = format!(in alloc; "{start}{pieces}{end}")?;
+        let text = BASE.replace(alloc, old, new.as_str())?;
+        assert_eq!(rt; fault_of(alloc, text.as_str()), want, "{count} of {piece}");
+    }
+    Ok(())
+}
+
+/// The case's own braces count, as `serde_json` counts: its limit is 127 levels in all.
+#[test]
+fn values_nest_up_to_the_limit_of_serde_json(rt: HostRuntime) -> Result<(), Fail> {
+    let alloc = rt.alloc();
+    for (arrays, want) in [(126, None), (127, Some(CaseFault::NotJson))] {
+        let front = "[".repeat(alloc, arrays)?;
+        let back = "]".repeat(alloc, arrays)?;
+        let new = format!(in alloc; "8,\"note\":{front}{back}")?;
+        let text = BASE.replace(alloc, "8", new.as_str())?;
+        assert_eq!(rt; fault_of(alloc, text.as_str()), want, "{arrays} arrays");
+    }
+    Ok(())
+}
+
+#[test]
+fn a_case_is_read_whole(rt: HostRuntime) -> Result<(), Fail> {
+    let alloc = rt.alloc();
+    for (text, want) in [
+        (
+            BASE,
+            "Case { image: Listed { items: [19, 5, 160, 2] }, flat: true, input: Listed { items: [] }, \
+             bound: 8, patience: 0, provers: Listed { items: [Script { manner: Plain }] } }",
+        ),
+        // Keys come in any order, the last of two counts, digits are in either case, and other keys are passed over.
+        (
+            "{\"provers\":[{\"name\":1},{\"manner\":{\"bytes\":\"aB\",\"kind\":\"output\",\"x\":[]}}],\
+             \"patience\":100,\"bound\":0,\"bound\":16777216,\"input\":\"00Ff\",\"image\":\"\",\
+             \"note\":{\"bound\":0},\"format\":\"elf\"}",
+            "Case { image: Listed { items: [] }, flat: false, input: Listed { items: [0, 255] }, \
+             bound: 16777216, patience: 100, provers: Listed { items: [Script { manner: Plain }, \
+             Script { manner: Output(Listed { items: [171] }) }] } }",
+        ),
+    ] {
+        let case = read_case(alloc, text.as_bytes())?;
+        let read = format!(in alloc; "{case:?}")?;
+        assert_eq!(rt; read.as_str(), want);
+    }
+    Ok(())
+}
+
+#[test]
+fn faults_are_told_in_words(rt: HostRuntime) -> Result<(), Fail> {
+    for (fault, want) in [
+        (CaseFault::NotJson, "the bytes are no JSON text"),
+        (CaseFault::NotObject, "the case is no object"),
+        (CaseFault::Missing(Key::Format), "format is missing"),
+        (CaseFault::WrongType(Key::Bound), "bound has another type"),
+        (
+            CaseFault::BadHex(Key::Image),
+            "image is no hexadecimal text",
+        ),
+        (
+            CaseFault::BadHex(Key::Input),
+            "input is no hexadecimal text",
+        ),
+        (
+            CaseFault::OutOfRange(Key::Patience),
+            "patience is out of range",
+        ),
+        (
+            CaseFault::OutOfRange(Key::Provers),
+            "provers is out of range",
+        ),
+        (CaseFault::BadProver(2), "prover 2 is none that is known"),
+        (CaseFault::Memory, "want of memory"),
+    ] {
+        let text = format!(in rt.alloc(); "{fault}")?;
+        assert_eq!(rt; text.as_str(), want);
+    }
+    Ok(())
+}

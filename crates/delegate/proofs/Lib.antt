@@ -1,0 +1,2 @@
+pub mod HeadlineLemmas
+pub mod WordsLemmas

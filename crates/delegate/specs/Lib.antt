@@ -1,0 +1,14 @@
+pub use Rattle.io_edge.specs.Device
+pub use Rattle.rv_step.specs.State
+pub use Rattle.rv_step.specs.Step
+pub use Rattle.rv_step.specs.Loaded
+pub use Rattle.case_reader.specs.Reading
+pub use Rattle.image_reader.specs.Image
+pub use Rattle.image_reader.specs.Elf
+pub use Rattle.transcript_text.specs.Report
+pub mod Answered
+pub mod Words
+pub mod Match
+pub mod Outcome
+pub mod Answer
+pub mod Headline

@@ -1,0 +1,50 @@
+ghost use Rattle.std.specs.Prelude.{◌≡◌};
+ghost use Rattle.delegate.specs.Answered.{status_number};
+
+/// How the program ended.
+#[derive(Clone, Copy, Debug, PartialEq, Eq)]
+pub enum Answered {
+    /// A claim was accepted, or the command's text was written.
+    Done,
+    /// The words aren't taken. Nothing was read.
+    Usage,
+    /// The bytes are no case.
+    Case,
+    /// The image can't be loaded.
+    Image,
+    /// The source failed. Nothing was written.
+    ReadFault,
+    /// The sink failed. It may have taken a part from the front of the text.
+    WriteFault,
+    /// The text is no full text of a legal match.
+    AuditRefused,
+    /// An allocation was refused. Nothing was written.
+    Memory,
+    /// Every prover is out.
+    NoneLeft,
+    /// Two different strings with one digest were found.
+    Collision,
+    /// The source has too many bytes.
+    TooLong,
+}
+
+impl Answered {
+    /// The exit status of the program.
+    pub fn status(self) -> u8
+        ensures { result ≡ status_number self }
+    {
+        match self {
+            Answered::Done => 0,
+            Answered::Usage => 2,
+            Answered::Case => 3,
+            Answered::Image => 4,
+            Answered::ReadFault => 5,
+            Answered::WriteFault => 6,
+            Answered::AuditRefused => 8,
+            Answered::Memory => 9,
+            Answered::NoneLeft => 10,
+            Answered::Collision => 11,
+            Answered::TooLong => 12,
+        }
+    }
+}

@@ -1,0 +1,2 @@
+pub mod LoadsLemmas
+pub mod OverlapLemmas

@@ -1,0 +1,24 @@
+//! Laws of the definitions, each of them the contract of a function that does nothing.
+ghost use Rattle.std.specs.Prelude.{◌≡◌, ◌⊎◌, ℕ, ◌+◌, ◌^◌, ◌<◌, ◌≤◌, ◌↔◌, List, true, false, length, slice_index, slice_index_or};
+ghost use Rattle.std.specs.List.{list_any, count_by};
+ghost use Rattle.mem_plain.specs.Contents.{byte_at, laid, no_bytes, contents_with};
+ghost use Rattle.image_reader.specs.declared.header.ProgramHeader.{ProgramHeader};
+ghost use Rattle.image_reader.specs.declared.loading.TheConstants.{IMAGE_BASE};
+ghost use Rattle.image_reader.specs.Elf.{has_larger_file, some_share, occupies, covers, byte_of_load, byte_of_loads};
+
+/// Memory has byte `k` of a flat file at `IMAGE_BASE + k`, and 0 at every other address.
+pub fn flat_memory()
+    ensures inside { (file : List ℕ) (k : ℕ) → k < length file → byte_at (laid no_bytes IMAGE_BASE file) (IMAGE_BASE + k) ≡ slice_index file k }
+    ensures outside { (file : List ℕ) (a : ℕ) → (a < IMAGE_BASE) ⊎ (IMAGE_BASE + length file ≤ a) → byte_at (laid no_bytes IMAGE_BASE file) a ≡ 0 }
+{}
+
+/// No two loads share an address exactly where each address is in at most one of them.
+pub fn sharing_loads()
+    ensures { (loads : List ProgramHeader) → (some_share loads ≡ false) ↔ ((a : ℕ) → count_by (λ load. occupies load a) loads ≤ 1) }
+{}
+
+/// Memory has at each address what the loads have there, and that is the byte of whichever load covers the address.
+pub fn elf_memory()
+    ensures bytes { (file : List ℕ) (loads : List ProgramHeader) (a : ℕ) → a < 2 ^ 32 → byte_at (contents_with (byte_of_loads file loads)) a ≡ byte_of_loads file loads a }
+    ensures whichever { (file : List ℕ) (loads : List ProgramHeader) (a i : ℕ) (d : ProgramHeader) → list_any has_larger_file loads ≡ false → some_share loads ≡ false → i < length loads → covers (slice_index_or loads i d) a ≡ true → byte_of_loads file loads a ≡ byte_of_load file (slice_index_or loads i d) a }
+{}
