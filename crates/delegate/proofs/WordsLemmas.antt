@@ -49,13 +49,13 @@ unfolding command_of
 name-of-rows m words rows = ap named (names-of-rows (out-ArgMatches m).subcommand ∙ ap (option_map name_of) rows)
 
 -- words that are plain: the program's name and a command
-pub judge-is-taken : (program : Text) → chosen (program ∷ codes "judge" ∷ []) ≡ Some Judge
+pub judge_is_taken : (program : Text) → chosen (program ∷ codes "judge" ∷ []) ≡ Some Judge
 unfolding clap_on_literals command_line is_taken command_of
-judge-is-taken program = refl
+judge_is_taken program = refl
 
-pub run-is-taken : (program : Text) → chosen (program ∷ codes "run" ∷ []) ≡ Some Run
+pub run_is_taken : (program : Text) → chosen (program ∷ codes "run" ∷ []) ≡ Some Run
 unfolding clap_on_literals command_line is_taken command_of
-run-is-taken program = refl
+run_is_taken program = refl
 
 -- a parse that succeeds gives the command
 pub chosen-of-parse : (a : App) (words : List Text) (m : ArgMatches) (command : Command) → a ≡ command_line

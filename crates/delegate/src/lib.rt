@@ -9,9 +9,15 @@ mod answer;
 mod answered;
 mod answering;
 mod faults;
+mod laws;
 mod playing;
 mod program;
 mod words;
 
 pub use answered::Answered;
+pub use laws::plain_words;
 pub use program::run;
+pub use words::Command;
+
+#[cfg(test)]
+mod tests;

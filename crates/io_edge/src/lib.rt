@@ -8,6 +8,7 @@
 
 mod fault;
 mod memory;
+mod quiet;
 mod reading;
 mod sink;
 mod source;
@@ -16,6 +17,7 @@ mod writing;
 
 pub use fault::Failed;
 pub use memory::{MemSink, MemSource};
+pub use quiet::{QuietSink, QuietSource};
 pub use reading::{ReadAll, read_all};
 pub use sink::Sink;
 pub use source::Source;

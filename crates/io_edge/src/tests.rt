@@ -77,3 +77,14 @@ fn standard_devices_start_with_no_fault(rt: HostRuntime) {
     assert_eq!(rt; write_all(&mut sink, TEXT), Ok(()));
     assert_eq!(rt; sink.faults(), 0);
 }
+
+#[test]
+fn a_quiet_source_gives_its_bytes_and_a_quiet_sink_takes_them(rt: HostRuntime) -> Result<(), Fail> {
+    let mut source = QuietSource::new(TEXT.to_vec(rt.alloc())?);
+    let all = read_all(rt.alloc(), &mut source, 12)?;
+    assert_eq!(rt; all.as_slice(), TEXT);
+    let rest = read_all(rt.alloc(), &mut source, 12)?;
+    assert!(rt; rest.is_empty());
+    assert!(rt; write_all(&mut QuietSink, TEXT).is_ok());
+    Ok(())
+}

@@ -1,0 +1,11 @@
+ghost use Rattle.std.specs.Prelude.{◌≡◌, ℕ, List, [], ◌∷◌, Some, codes};
+ghost use Rattle.delegate.specs.Words.{chosen};
+
+use crate::words::Command;
+
+/// The program's name, whatever it is, and one of the commands are words that are taken.
+#[tactic(auto, using(crate::proofs::WordsLemmas::judge_is_taken, crate::proofs::WordsLemmas::run_is_taken))]
+pub fn plain_words()
+    ensures judge { (program : List ℕ) → chosen (program ∷ codes "judge" ∷ []) ≡ Some Command.Judge }
+    ensures run { (program : List ℕ) → chosen (program ∷ codes "run" ∷ []) ≡ Some Command.Run }
+{}
