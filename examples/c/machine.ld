@@ -1,4 +1,4 @@
-/* The program from 0x00010000 on, in two loads: what is read alone, then what is written, with the bss behind it. */
+/* The program from 0x00010000 on, in two loads: what is only read, then what is written, with the bss behind it. */
 OUTPUT_ARCH(riscv)
 ENTRY(_start)
 
@@ -15,6 +15,8 @@ SECTIONS
     .rodata : { *(.rodata .rodata.* .srodata .srodata.*) } :code
     . = ALIGN(0x1000);
     .data : { *(.data .data.* .sdata .sdata.*) } :data
-    .bss (NOLOAD) : { *(.sbss .sbss.*) *(.bss .bss.*) *(COMMON) } :data
+    .bss : { *(.sbss .sbss.*) *(.bss .bss.*) *(COMMON) } :data
+    /* start.S sets the stack to 0x30000000. */
+    ASSERT(. <= 0x20000000, "the program reaches above 0x20000000, where it leaves the stack less than 256 MiB")
     /DISCARD/ : { *(.comment) *(.note .note.*) *(.eh_frame) *(.riscv.attributes) }
 }
