@@ -16,7 +16,6 @@ use Rattle.case_reader.specs.Key.{key_text}
 use Rattle.case_reader.specs.declared.fault.Key.{Key}
 use Rattle.case_reader.specs.declared.fault.Key.TheVariants.{Format, Image, Input, Bound, Patience, Provers}
 use Rattle.case_reader.specs.declared.case.Case.{Case}
-use Rattle.case_reader.specs.declared.case.TheConstants.{MAX_BOUND, MAX_INPUT_BYTES, MAX_PATIENCE, MAX_PROVERS}
 use Rattle.case_reader.specs.declared.fault.CaseFault.{CaseFault}
 use Rattle.case_reader.specs.declared.fault.CaseFault.TheVariants.{NotJson, NotObject, Missing, WrongType, BadHex, OutOfRange, BadProver, Memory}
 
@@ -81,11 +80,11 @@ format_in tree = do
   text ← text_in Format tree
   ok_or (format_named text) (OutOfRange Format)
 
--- the input's bytes, not too many
+-- the input's bytes, at most 1,048,576
 unfoldable pub input_in : Data → Result (List ℕ) CaseFault
 input_in tree = do
   input ← bytes_in Input tree
-  if nat_le (length input) MAX_INPUT_BYTES then Ok input else Err (OutOfRange Input)
+  if nat_le (length input) 1048576 then Ok input else Err (OutOfRange Input)
 
 -- a manner that is known: the kind `output` with its bytes
 unfoldable pub manner_in : Data → Option Manner
@@ -123,7 +122,7 @@ array_in key tree = do
 unfoldable pub provers_in : Data → Result (List Data) CaseFault
 provers_in tree = do
   provers ← array_in Provers tree
-  if nat_le 1 (length provers) && nat_le (length provers) MAX_PROVERS then Ok provers else Err (OutOfRange Provers)
+  if nat_le 1 (length provers) && nat_le (length provers) 16 then Ok provers else Err (OutOfRange Provers)
 
 -- the scripts of provers, the first of which has this number
 unfoldable pub scripts_in : ℕ → List Data → Result (List Script) CaseFault
@@ -156,8 +155,8 @@ case_of tree = do
   flat ← format_in tree
   image ← bytes_in Image tree
   input ← input_in tree
-  bound ← number_in Bound 1 MAX_BOUND tree
-  patience ← number_in Patience 0 MAX_PATIENCE tree
+  bound ← number_in Bound 1 16777216 tree
+  patience ← number_in Patience 0 100 tree
   provers ← provers_in tree
   scripts ← scripts_in 1 provers
   Ok (record { image = image; flat = flat; input = input; bound = bound; patience = patience; provers = scripts })

@@ -10,14 +10,13 @@ use Rattle.transcript_text.specs.declared.record.Settled.TheVariants.{Given}
 use Rattle.delegate.specs.Words.{chosen}
 use Rattle.delegate.specs.declared.words.Command.TheVariants.{Judge}
 use Rattle.delegate.specs.Match.{claim_by, claim_of_run, claims_of, head_of}
-use Rattle.delegate.specs.Outcome.{Outcome, image_at}
+use Rattle.delegate.specs.Outcome.{Outcome, image_at, most_bytes}
 use Rattle.delegate.specs.declared.answered.Answered.TheVariants.{Done}
-use Rattle.delegate.specs.declared.answering.TheConstants.{MAX_CASE_BYTES}
 
 -- the words ask for a match to be decided, and the bytes are this case with this image
 pub record IsCase (words : List (List ℕ)) (bytes : List ℕ) (c : CaseData) (image : Image) : Type 0 where
   pub asked : chosen words ≡ Some Judge
-  pub short : length bytes ≤ MAX_CASE_BYTES
+  pub short : length bytes ≤ most_bytes
   pub reads : case_at bytes ≡ Ok c
   pub loads : image_at c ≡ Ok image
 

@@ -21,7 +21,6 @@ use Rattle.delegate.specs.declared.words.Command.TheVariants.{Judge, Run}
 use Rattle.delegate.specs.Match.{claims_of, verdict_of, head_of}
 use Rattle.delegate.specs.declared.answered.Answered.{Answered}
 use Rattle.delegate.specs.declared.answered.Answered.TheVariants as answered
-use Rattle.delegate.specs.declared.answering.TheConstants.{MAX_CASE_BYTES}
 
 -- an answer, and the whole text that is written with it
 pub record Outcome : Type 0 where
@@ -85,10 +84,14 @@ abbrev pub after_case : Command → Result CaseData CaseFault → Outcome
 after_case command (Ok c) = after_image command c (image_at c)
 after_case command (Err fault) = record { answered = answered.Case; text = case_fault_text fault }
 
+-- the most bytes that are read
+abbrev pub most_bytes : ℕ
+most_bytes = 16777216
+
 -- bytes that were read: not too many, and a case
 unfoldable pub read_outcome : Command → List ℕ → Outcome
 read_outcome command bytes =
-    if nat_lt MAX_CASE_BYTES (length bytes) then record { answered = answered.TooLong; text = codes "fault too long\n" }
+    if nat_lt most_bytes (length bytes) then record { answered = answered.TooLong; text = codes "fault too long\n" }
     else after_case command (case_at bytes)
 
 abbrev pub usage : Outcome

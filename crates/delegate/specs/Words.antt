@@ -29,7 +29,8 @@ is_faultless (kind ∷ kinds) = false
 unfoldable pub is_taken : List Text → Bool
 is_taken words = is_faultless (fault_of command_line words)
 
--- the command of a name
+-- the command of a name. Words that are taken name one, since a subcommand is required; so the case of none has no part
+-- in an answer
 abbrev pub named : Option Text → Command
 named (Some name) = if bytes_eq name (codes "run") then Run else Judge
 named None = Judge

@@ -3,13 +3,12 @@ ghost use Rattle.std.specs.Prelude.{◌≡◌, ◌⊎◌, ℕ, ◌+◌, ◌^◌,
 ghost use Rattle.std.specs.List.{list_any, count_by};
 ghost use Rattle.mem_plain.specs.Contents.{byte_at, laid, no_bytes, contents_with};
 ghost use Rattle.image_reader.specs.declared.header.ProgramHeader.{ProgramHeader};
-ghost use Rattle.image_reader.specs.declared.loading.TheConstants.{IMAGE_BASE};
 ghost use Rattle.image_reader.specs.Elf.{has_larger_file, some_share, occupies, covers, byte_of_load, byte_of_loads};
 
-/// Memory has byte `k` of a flat file at `IMAGE_BASE + k`, and 0 at every other address.
+/// Memory has byte `k` of a flat file at `0x10000 + k`, and 0 at every other address.
 pub fn flat_memory()
-    ensures inside { (file : List ℕ) (k : ℕ) → k < length file → byte_at (laid no_bytes IMAGE_BASE file) (IMAGE_BASE + k) ≡ slice_index file k }
-    ensures outside { (file : List ℕ) (a : ℕ) → (a < IMAGE_BASE) ⊎ (IMAGE_BASE + length file ≤ a) → byte_at (laid no_bytes IMAGE_BASE file) a ≡ 0 }
+    ensures inside { (file : List ℕ) (k : ℕ) → k < length file → byte_at (laid no_bytes 0x10000 file) (0x10000 + k) ≡ slice_index file k }
+    ensures outside { (file : List ℕ) (a : ℕ) → (a < 0x10000) ⊎ (0x10000 + length file ≤ a) → byte_at (laid no_bytes 0x10000 file) a ≡ 0 }
 {}
 
 /// No two loads share an address exactly where each address is in at most one of them.

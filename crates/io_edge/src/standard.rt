@@ -1,4 +1,5 @@
-ghost use Rattle.std.specs.Prelude.{◌≡◌, ◌<◌, ◌≤◌, None, IfSome, length};
+ghost use Rattle.std.specs.Prelude.{◌≡◌, ◌<◌, ◌≤◌, None, IfSome, IsNone, length, take};
+ghost use Rattle.std.specs.Io.KnownBytes.{Appends, Consumes, IsAtEnd, Keeps};
 
 use crate::fault::Failed;
 use crate::sink::Sink;
@@ -80,39 +81,60 @@ impl Sink for StdSink {
     /// It flushes before it answers `Ok`. A write that a signal interrupted is tried again, and is no fault;
     /// one to a pipe that nobody reads is.
     fn write_some(&mut self, piece: &[u8]) -> Result<usize, Failed> {
-        if let Some(n) = write_and_flush(&mut self.output, piece) {
-            return Ok(n);
+        if let Some(n) = write_uninterrupted(&mut self.output, piece) {
+            if self.output.flush().is_ok() {
+                return Ok(n);
+            }
         }
         self.failed_writes = self.failed_writes.saturating_add(1);
         Err(Failed)
     }
 }
 
-/// How many bytes were read to the front of `buf`, 0 at the end of input, or `None` where reading failed.
-fn read_uninterrupted(input: &mut Stdin, buf: &mut [u8]) -> Option<usize>
-    ensures { IfSome result (λ n. n ≤ length buf.new) }
+/// How many bytes were read to the front of `buf`, 0 at the end of input, or `None` where reading failed. It is written
+/// for any reader, so that its clauses can say of one whose bytes are told that no failed read passes for the end.
+fn read_uninterrupted<R: Read>(input: &mut R, buf: &mut [u8]) -> Option<usize>
+    requires { 0 < length buf.old }
+    ensures within { IfSome result (λ n. n ≤ length buf.new) }
+    ensures bytes { IfSome result (λ n. Consumes (R.remaining input.old) (R.remaining input.new) (take n buf.new)) }
+    ensures end { IfSome result (λ n. n ≡ 0 → IsAtEnd (R.remaining input.new)) }
+    ensures failed { IsNone result → Keeps (R.remaining input.old) (R.remaining input.new) }
 {
-    for _ in 0..u64::MAX {
+    'tries: for _ in 0..u64::MAX {
         match input.read(buf) {
             Ok(n) => return Some(n),
-            Err(e) if e.kind() == ErrorKind::Interrupted => {}
-            Err(_) => return None,
+            Err(e) => {
+                if e.kind() != ErrorKind::Interrupted {
+                    return None;
+                }
+            }
         }
     }
     None
 }
 
-/// How many bytes off the front of `piece` were written, at least one where there is one, or `None` where
-/// writing failed.
-fn write_and_flush(output: &mut Stdout, piece: &[u8]) -> Option<usize>
+/// How many bytes off the front of `piece` were written, at least one where there is one, or `None` where writing
+/// failed. It is written for any writer, so that its clauses can say of one whose bytes are told that no failed write
+/// passes for a written text.
+fn write_uninterrupted<W: Write>(output: &mut W, piece: &[u8]) -> Option<usize>
     ensures within { IfSome result (λ n. n ≤ length piece.now) }
     ensures some { IfSome result (λ n. 0 < length piece.now → 0 < n) }
+    ensures bytes { IfSome result (λ n. Appends (W.contents output.old) (W.contents output.new) (take n piece.now)) }
+    ensures failed { IsNone result → Keeps (W.contents output.old) (W.contents output.new) }
 {
-    for _ in 0..u64::MAX {
+    'tries: for _ in 0..u64::MAX {
         match output.write(piece) {
-            Ok(n) if n > 0 || piece.is_empty() => return output.flush().ok().map(|()| n),
-            Err(e) if e.kind() == ErrorKind::Interrupted => {}
-            _ => return None,
+            Ok(n) => {
+                if n > 0 || piece.is_empty() {
+                    return Some(n);
+                }
+                return None;
+            }
+            Err(e) => {
+                if e.kind() != ErrorKind::Interrupted {
+                    return None;
+                }
+            }
         }
     }
     None

@@ -18,6 +18,6 @@ pub use ctl::Ctl;
 pub use digest::Digest32;
 pub use listed::{Bytes, Listed};
 pub use memory::Memory;
-pub use regs::{REGISTERS, Regs};
+pub use regs::Regs;
 pub use script::{Manner, Script};
 pub use status::Status;

@@ -3,9 +3,6 @@ ghost use Rattle.rd_base.specs.Regs.{no_registers_set, with_register};
 
 use std::marker::Model;
 
-/// How many registers there are.
-pub const REGISTERS: usize = 32;
-
 /// The registers `x0` to `x31`, of 32 bits each. `x0` is always 0 (RV32I, section 2.1).
 #[derive(Clone, Copy, Debug)]
 pub struct Regs {

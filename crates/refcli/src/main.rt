@@ -2,6 +2,10 @@
 //! and ends with the status of what that answers.
 #![tactic(auto)]
 
+ghost use Rattle.std.specs.Prelude.{◌≡◌};
+ghost use Rattle.std.specs.Process.{exit_status};
+ghost use Rattle.delegate.specs.Answered.{status_number};
+
 use delegate::{Answered, run};
 use io_edge::{StdSink, StdSource};
 use std::env;
@@ -16,6 +20,13 @@ fn main(rt: HostRuntime) -> ExitCode {
         Some(words) => run(&rt, rt.alloc(), words.as_slice(), &mut source, &mut sink),
         None => Answered::Memory,
     };
+    exit_code(answered)
+}
+
+/// The exit code of an answer.
+fn exit_code(answered: Answered) -> ExitCode
+    ensures { exit_status result ≡ status_number answered }
+{
     ExitCode::from(answered.status())
 }
 

@@ -11,7 +11,7 @@ use Rattle.rv_step.specs.Effect.{effect}
 use Rattle.rv_step.specs.Parts.{following}
 use Rattle.rv_step.specs.declared.effect.Effect.{Effect}
 use Rattle.rv_step.specs.declared.effect.Effect.TheVariants.{Write, Jump, Branch, Next, Store, Put, Exit, Trap}
-use Rattle.rv_step.specs.declared.effect.TheConstants.{MISALIGNED_JUMP, ILLEGAL_INSTRUCTION}
+use Rattle.rv_step.specs.Codes.{misaligned_jump, illegal_instruction}
 
 -- the state after an effect; an exit and a trap change the status alone
 abbrev pub after_effect : State → Effect → State
@@ -42,14 +42,14 @@ Puts (Trap code) = ⊥
 -- the state after the instruction that a word is, or after a word that is none
 abbrev pub after_word : State → Option Instr → State
 after_word s (Some i) = after_effect s (effect s.regs s.pc (λ addr width. number_at s.memory addr width) i)
-after_word s None = after_effect s (Trap ILLEGAL_INSTRUCTION)
+after_word s None = after_effect s (Trap illegal_instruction)
 
 -- the step: a state that has stopped steps to itself; one that is running carries out the word at pc, which is a
 -- multiple of 4, or traps
 unfoldable pub step : State → State
 step s =
     if is_running s.status
-    then (if s.pc % 4 == 0 then after_word s (reading_of (number_at s.memory s.pc 4)) else after_effect s (Trap MISALIGNED_JUMP))
+    then (if s.pc % 4 == 0 then after_word s (reading_of (number_at s.memory s.pc 4)) else after_effect s (Trap misaligned_jump))
     else s
 
 -- the state after so many steps
