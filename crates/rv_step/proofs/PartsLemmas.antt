@@ -30,17 +30,17 @@ store_meets xs read width i =
       | false ↦ refl
     ]
 
-keeps_either : (b : Bool) (p q : Effect) → KeepsMemory p → KeepsMemory q → KeepsMemory (cond b p q)
+pub keeps_either : (b : Bool) (p q : Effect) → KeepsMemory p → KeepsMemory q → KeepsMemory (cond b p q)
 keeps_either true p q kept _ = kept
 keeps_either false p q _ kept = kept
 
-jumps_keep : (rd target : ℕ) → KeepsMemory (jumps rd target)
+pub jumps_keep : (rd target : ℕ) → KeepsMemory (jumps rd target)
 jumps_keep rd target = keeps_either (eqb (target % 4) 0) (Jump rd target) (Trap 0) tt tt
 
-branches_keep : (pc : ℕ) (offset : ℤ) (holds : Bool) → KeepsMemory (branches pc offset holds)
+pub branches_keep : (pc : ℕ) (offset : ℤ) (holds : Bool) → KeepsMemory (branches pc offset holds)
 branches_keep pc offset holds = keeps_either holds _ Next (keeps_either (eqb (at_offset pc offset % 4) 0) (Branch (at_offset pc offset)) (Trap 0) tt tt) tt
 
-calls_keep : (number argument : ℕ) → KeepsMemory (calls number argument)
+pub calls_keep : (number argument : ℕ) → KeepsMemory (calls number argument)
 calls_keep number argument = keeps_either (eqb number 93) (Exit argument) _ tt (keeps_either (eqb number 1) (Put (argument % 256)) (Trap 8) tt tt)
 
 pub effect_meets : (xs : List ℕ) (pc : ℕ) (read : ℕ → ℕ → ℕ) (i : Instr) → Meets (λ memory. effect xs pc memory i) read (needed xs i)

@@ -5,7 +5,7 @@
 //! the same state at every later step once the machine has stopped. A step can also be carried out in two parts by
 //! one who keeps memory elsewhere: `need` says which one number an instruction reads or writes, from registers
 //! alone, and `finish` does the rest. `two_parts_are_the_step` states that together they are the step. `touches` gives
-//! the page that a step stores to, before it is made.
+//! the page that a step stores to, before it is made, and `one_page_changes` states that all other bytes stay.
 //!
 //! Read `specs/Effect.antt` first, which says what each instruction does and is what a reader has to believe, and
 //! `specs/Step.antt`, which makes a step of that. Then read `stepping`.
@@ -25,7 +25,7 @@ pub use machine::{INPUT_BASE, MAX_INPUT_BYTES, Machine};
 pub use parts::{finish, need, two_parts_are_the_step};
 pub use running::advance;
 pub use stepping::step;
-pub use touching::touches;
+pub use touching::{one_page_changes, touches};
 
 #[cfg(test)]
 mod tests;
