@@ -1,5 +1,5 @@
 ghost use Rattle.std.specs.Prelude.{◌≡◌, ◌↔◌, ◌⊎◌, ◌-◌, ◌<◌, ◌≤◌, min, [], ◌++◌, length, take, drop, Some, Contains, IfOk, OnErr, IsOk, IsErr};
-ghost use Rattle.std.specs.Io.KnownBytes.{Consumes, IsAtEnd, Appends};
+ghost use Rattle.std.specs.Io.KnownBytes.{Consumes, IsAtEnd, Appends, Keeps};
 ghost use Rattle.io_edge.specs.Device.{Counts, next_count};
 ghost use Rattle.io_edge.specs.MemSource.{after_read, after_failed_read};
 ghost use Rattle.io_edge.specs.MemSink.{after_write, after_failed_write};
@@ -82,7 +82,7 @@ impl Source for MemSource {
         ensures within { IfOk result (λ n. n ≤ length buf.new) }
         ensures bytes { IfOk result (λ n. Consumes (Some self.old.left) (Some self.new.left) (take n buf.new)) }
         ensures end { IfOk result (λ n. n ≡ 0 → IsAtEnd (Some self.new.left)) }
-        ensures failed { OnErr result (Some self.new.left ≡ Some self.old.left) }
+        ensures failed { OnErr result (Keeps (Some self.old.left) (Some self.new.left)) }
         ensures count { Counts self.old.faults self.new.faults result }
     {
         self.calls = self.calls.saturating_add(1);

@@ -1,5 +1,5 @@
 ghost use Rattle.std.specs.Prelude.{◌≡◌, ℕ, List, Option, ◌<◌, ◌≤◌, min, ◌++◌, length, take, drop, Some, None, Ok, IfOk, OnErr};
-ghost use Rattle.std.specs.Io.KnownBytes.{Consumes, IsAtEnd, Appends};
+ghost use Rattle.std.specs.Io.KnownBytes.{Consumes, IsAtEnd, Appends, Keeps};
 ghost use Rattle.io_edge.specs.Device.{Counts};
 
 use crate::fault::Failed;
@@ -50,7 +50,7 @@ impl Source for QuietSource {
         ensures within { IfOk result (λ n. n ≤ length buf.new) }
         ensures bytes { IfOk result (λ n. Consumes (Some self.old) (Some self.new) (take n buf.new)) }
         ensures end { IfOk result (λ n. n ≡ 0 → IsAtEnd (Some self.new)) }
-        ensures failed { OnErr result (Some self.new ≡ Some self.old) }
+        ensures failed { OnErr result (Keeps (Some self.old) (Some self.new)) }
         ensures count { Counts 0 0 result }
     {
         let n = buf.len().min(self.bytes.len() - self.given);

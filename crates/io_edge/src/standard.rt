@@ -6,19 +6,23 @@ use crate::sink::Sink;
 use crate::source::Source;
 use std::io::{ErrorKind, Read, Stdin, Stdout, Write};
 
-/// Standard input. No bytes are told of it: what a terminal, a pipe or a file gives is outside what is proved.
+/// A source over a reader of the standard library. The bytes that are left are those that the reader tells.
 #[derive(Drop)]
-pub struct StdSource {
-    input: Stdin,
+pub struct ReaderSource<R> {
+    input: R,
     failed_reads: u64,
 }
 
-impl StdSource {
-    /// Standard input, of which no read has failed yet.
-    pub fn new(input: Stdin) -> Self
-        ensures { ⟦<StdSource as Source>⟧.faults result ≡ 0 }
+/// Standard input. No bytes are told of it: what a terminal, a pipe or a file gives is outside what is proved.
+pub type StdSource = ReaderSource<Stdin>;
+
+impl<R: Read> ReaderSource<R> {
+    /// A source over this reader, of which no read has failed yet.
+    pub fn new(input: R) -> Self
+        ensures left { ⟦<ReaderSource<R> as Source>⟧.left result ≡ R.remaining input }
+        ensures faults { ⟦<ReaderSource<R> as Source>⟧.faults result ≡ 0 }
     {
-        StdSource {
+        ReaderSource {
             input,
             failed_reads: 0,
         }
@@ -26,14 +30,14 @@ impl StdSource {
 
     /// How often reading has failed, at most the largest `u64`.
     pub fn faults(&self) -> u64
-        ensures { result ≡ ⟦<StdSource as Source>⟧.faults self.now }
+        ensures { result ≡ ⟦<ReaderSource<R> as Source>⟧.faults self.now }
     {
         self.failed_reads
     }
 }
 
-impl Source for StdSource {
-    ghost left = { λ _. None };
+impl<R: Read> Source for ReaderSource<R> {
+    ghost left = { λ s. R.remaining s.input };
 
     ghost faults = { λ s. s.failed_reads };
 
@@ -91,8 +95,7 @@ impl Sink for StdSink {
     }
 }
 
-/// How many bytes were read to the front of `buf`, 0 at the end of input, or `None` where reading failed. It is written
-/// for any reader, so that its clauses can say of one whose bytes are told that no failed read passes for the end.
+/// How many bytes were read to the front of `buf`, 0 at the end of input, or `None` where reading failed.
 fn read_uninterrupted<R: Read>(input: &mut R, buf: &mut [u8]) -> Option<usize>
     requires { 0 < length buf.old }
     ensures within { IfSome result (λ n. n ≤ length buf.new) }

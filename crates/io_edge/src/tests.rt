@@ -70,6 +70,17 @@ fn a_sink_holds_all_or_after_a_fault_a_prefix(rt: HostRuntime) -> Result<(), Fai
 }
 
 #[test]
+fn a_source_over_a_reader_gives_the_reader_s_bytes(rt: HostRuntime) -> Result<(), Fail> {
+    let mut source = ReaderSource::new(TEXT);
+    assert!(rt; matches!(read_all(rt.alloc(), &mut source, 11), Err(ReadAll::TooLong)));
+    let mut source = ReaderSource::new(TEXT);
+    let all = read_all(rt.alloc(), &mut source, 12)?;
+    assert_eq!(rt; all.as_slice(), TEXT);
+    assert_eq!(rt; source.faults(), 0);
+    Ok(())
+}
+
+#[test]
 fn standard_devices_start_with_no_fault(rt: HostRuntime) {
     let source = StdSource::new(rt.stdin());
     assert_eq!(rt; source.faults(), 0);

@@ -2,4 +2,4 @@ use Rattle.std.specs.Io.KnownBytes.{Keeps}
 use Rattle.io_edge.proofs.standard.read_uninterrupted.Given as goal
 
 abbrev pub invariant-tries : goal.invariant-tries
-invariant-tries g l = record { kept : Keeps (g.R.Read.remaining l.fn.input) (g.R.Read.remaining l.input); }
+invariant-tries g l = record { kept : Keeps (g.R.Read.remaining l.fn.input) (g.R.Read.remaining l.input) }
