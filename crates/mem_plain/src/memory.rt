@@ -1,6 +1,6 @@
-ghost use Rattle.std.specs.Prelude.{◌≡◌, ◌⊎◌, ◌+◌, ◌%◌, ◌^◌, ◌<◌, ◌≤◌, length, IfOk, OnOk, OnErr};
+ghost use Rattle.std.specs.Prelude.{◌≡◌, ◌⊎◌, ◌+◌, ◌/◌, ◌%◌, ◌^◌, ◌<◌, ◌≤◌, length, IfOk, OnOk, OnErr};
 ghost use Rattle.mem_plain.specs.Pages.{contents_of};
-ghost use Rattle.mem_plain.specs.Contents.{no_bytes, byte_at, number_at, with_number, laid, chunk_at, IsNextUsed};
+ghost use Rattle.mem_plain.specs.Contents.{no_bytes, byte_at, number_at, with_number, laid, chunk_at, IsUsed, IsNextUsed};
 
 use crate::page::{PAGE_BYTES, Page};
 use rd_base::Memory;
@@ -97,12 +97,14 @@ impl PlainMem {
     }
 
     /// Stores the low `width` bytes of `value` at an address, the least byte first. The width is 1, 2 or 4,
-    /// and the address a multiple of it. An `Err` is want of memory for a new page, and changes nothing.
+    /// and the address a multiple of it. An `Err` is want of memory for a page in which every byte is 0, and changes
+    /// nothing.
     pub fn store(&mut self, addr: u32, width: u8, value: u32) -> Result<(), Memory>
         requires width { (width ≡ 1) ⊎ (width ≡ 2) ⊎ (width ≡ 4) }
         requires aligned { addr % width ≡ 0 }
         ensures stored { OnOk result (self.new ≡ with_number self.old addr width value) }
         ensures err { OnErr result (self.new ≡ self.old) }
+        ensures unused { OnErr result (¬ (IsUsed self.old (addr / 4096))) }
     {
         let at = (addr % PAGE_BYTES) as usize;
         match self.pages.get_mut(&(addr / PAGE_BYTES)) {

@@ -2,7 +2,7 @@ ghost use Rattle.std.specs.Prelude.{◌≡◌, ◌%◌, ◌⊎◌, OnOk, OnErr};
 ghost use Rattle.mem_plain.specs.Contents.{number_at};
 ghost use Rattle.rv_step.specs.State.{state_of};
 ghost use Rattle.rv_step.specs.Effect.{effect};
-ghost use Rattle.rv_step.specs.Step.{step as step_of, after_word, settled, Puts};
+ghost use Rattle.rv_step.specs.Step.{step as step_of, after_word, settled, Puts, NeedsMemory, StepNeedsMemory};
 
 use crate::asked::{Need, Outcome};
 use crate::effect::{ILLEGAL_INSTRUCTION, MISALIGNED_JUMP};
@@ -51,6 +51,7 @@ fn finish_on(machine: &mut Machine, instr: &Instr, loaded: u32) -> Result<(), Me
 fn carry_out(machine: &mut Machine, instr: &Instr) -> Result<(), Memory>
     ensures ok { OnOk result (state_of machine.new ≡ after_word (state_of machine.old) (Some instr.now)) }
     ensures err { OnErr result (state_of machine.new ≡ state_of machine.old) }
+    ensures needs { OnErr result (NeedsMemory machine.old.mem (effect machine.old.regs machine.old.ctl.pc (λ addr width. number_at machine.old.mem addr width) instr.now)) }
     ensures chain { machine.new.ctl.chain ≡ machine.old.ctl.chain }
 {
     match need(&machine.regs, machine.ctl.pc, instr) {
@@ -72,11 +73,12 @@ fn carry_out(machine: &mut Machine, instr: &Instr) -> Result<(), Memory>
 
 /// One step: carries out the word at `pc`. A machine that has stopped stays as it is. One whose `pc` isn't a multiple
 /// of 4, whose word is no instruction or whose instruction can't be carried out traps, which changes the status
-/// alone. A step takes memory only where it stores to a page for the first time or puts out a byte; an `Err` is want
-/// of it, and changes nothing.
+/// alone. An `Err` is want of memory, and changes nothing; it comes only where the step stores to a page in which every
+/// byte is 0, or puts out a byte.
 pub fn step(machine: &mut Machine) -> Result<(), Memory>
     ensures ok { OnOk result (state_of machine.new ≡ step_of (state_of machine.old)) }
     ensures err { OnErr result (state_of machine.new ≡ state_of machine.old) }
+    ensures needs { OnErr result (StepNeedsMemory (state_of machine.old)) }
     ensures chain { machine.new.ctl.chain ≡ machine.old.ctl.chain }
 {
     if !machine.ctl.status.is_running() {

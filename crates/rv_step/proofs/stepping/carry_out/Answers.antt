@@ -1,12 +1,12 @@
-use Rattle.std.proofs.Common.{ℕ, subst, sym, ap, ◌∙◌}
+use Rattle.std.proofs.Common.{ℕ, Ok, Err, OnErr, subst, sym, ap, ◌∙◌}
 use Rattle.std.proofs.lemmas.Result.{on_ok_weaker, on_err_weaker}
 use Rattle.mem_plain.specs.Contents.{number_at}
 use Rattle.rv_step.specs.State.{State, state_of}
 use Rattle.rv_step.specs.declared.effect.Effect.TheVariants.{Store}
-use Rattle.rv_step.specs.Step.{after_effect, settled, Puts}
+use Rattle.rv_step.specs.Step.{after_effect, settled, Puts, NeedsMemory}
 use Rattle.rv_step.specs.Effect.{effect}
 use Rattle.rv_step.specs.Parts.{Meets}
-use Rattle.rv_step.proofs.PartsLemmas.{effect_meets, settled-kept}
+use Rattle.rv_step.proofs.PartsLemmas.{effect_meets, settled-kept, puts_need}
 use Rattle.rv_step.proofs.stepping.carry_out.Goals as goal
 
 pub returns-in-Nothing-clause-ok : goal.returns-in-Nothing-clause-ok
@@ -55,3 +55,40 @@ returns-in-Trap-clause-ok c =
     let i = c.args.instr.now in
     let met = subst (λ n. Meets (λ memory. effect s.regs s.pc memory i) read n) (sym c.in-Trap.ensures.value) (effect_meets s.regs s.pc read i) in
     ap (after_effect s) (sym met)
+
+pub returns-in-Nothing-clause-needs : goal.returns-in-Nothing-clause-needs
+returns-in-Nothing-clause-needs c =
+    let s = state_of c.args.machine.now in
+    let read = λ (addr width : ℕ). number_at s.memory addr width in
+    let i = c.args.instr.now in
+    let met = subst (λ n. Meets (λ memory. effect s.regs s.pc memory i) read n) (sym c.in-Nothing.ensures.value) (effect_meets s.regs s.pc read i) in
+    on_err_weaker c.finish_on.result (λ puts. puts_need s.memory _ (subst Puts (sym (met.0 0)) puts)) c.finish_on.ensures.puts
+
+pub returns-in-Load-clause-needs : goal.returns-in-Load-clause-needs
+returns-in-Load-clause-needs c =
+    let s = state_of c.args.machine.now in
+    let read = λ (addr width : ℕ). number_at s.memory addr width in
+    let i = c.args.instr.now in
+    let met = subst (λ n. Meets (λ memory. effect s.regs s.pc memory i) read n) (sym c.in-Load.ensures.value) (effect_meets s.regs s.pc read i) in
+    on_err_weaker c.finish_on-in-Load.result
+    (λ puts. puts_need s.memory _ (subst Puts (ap (λ n. effect s.regs s.pc (λ _ _. n) i) c.number-loaded.ensures ∙ sym met.0) puts))
+    c.finish_on-in-Load.ensures.puts
+
+pub returns-in_ok-store-in-Store-clause-needs : goal.returns-in_ok-store-in-Store-clause-needs
+returns-in_ok-store-in-Store-clause-needs c =
+    let s = state_of c.args.machine.now in
+    let nothing : ℕ → ℕ → ℕ = λ addr width. 0 in
+    let i = c.args.instr.now in
+    let met_blind = subst (λ n. Meets (λ memory. effect s.regs s.pc memory i) nothing n) (sym c.in-Store.ensures.value) (effect_meets s.regs s.pc nothing i) in
+    on_err_weaker c.finish_on-in-Store.result (λ puts. absurd (subst Puts met_blind puts)) c.finish_on-in-Store.ensures.puts
+
+pub returns-in_err-store-in-Store-clause-needs : goal.returns-in_err-store-in-Store-clause-needs
+returns-in_err-store-in-Store-clause-needs c =
+    let s = state_of c.args.machine.now in
+    let read = λ (addr width : ℕ). number_at s.memory addr width in
+    let i = c.args.instr.now in
+    let met = subst (λ n. Meets (λ memory. effect s.regs s.pc memory i) read n) (sym c.in-Store.ensures.value) (effect_meets s.regs s.pc read i) in
+    elim c.from_residual.result as (λ r. OnErr r (NeedsMemory s.memory (effect s.regs s.pc read i))) [
+      | Ok done ↦ tt
+      | Err want ↦ subst (NeedsMemory s.memory) (sym met) c.in_err-store-in-Store.ensures.unused
+    ]
