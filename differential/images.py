@@ -1,4 +1,4 @@
-"""Images, by the section 'Images' of docs/MACHINE.md. Nothing here is taken from the crates."""
+"""Images, by the section 'Images' of docs/MACHINE.md. No code is taken from the crates."""
 import collections
 
 from machine import Memory

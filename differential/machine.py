@@ -1,8 +1,7 @@
-"""The machine of docs/MACHINE.md, RV32IM with two calls, written from that text alone.
+"""The machine of docs/MACHINE.md, RV32IM with two calls, written from that text.
 
-Nothing here is taken from the crates, so that a mistake of theirs isn't repeated. Comments name the sections: 'ISA 2.4'
-is one of The RISC-V Instruction Set Manual, Volume I, 20191213, and a title in quotes is one of docs/MACHINE.md. `a` and
-`b` are what rs1 and rs2 hold.
+No code is taken from the crates. Comments name the sections: 'ISA 2.4' is one of The RISC-V Instruction Set Manual, Volume
+I, 20191213, and a title in quotes is one of docs/MACHINE.md. `a` and `b` are what rs1 and rs2 hold.
 """
 import collections
 import functools
