@@ -1,23 +1,40 @@
-//! Plain data that every layer speaks of: register files, statuses, digests, scripts and byte strings.
+//! Plain data that every layer speaks of: register files, statuses, digests, answers, scripts and byte strings.
 //!
 //! The layers above may rely on what the types say by themselves: a register file never holds anything in
-//! `x0`, and a byte string is seen in contracts as the list of its bytes. Read `regs` first.
+//! `x0`, a claimed output is never longer than its length field can say, a tampered register is one of `x1` to `x31`,
+//! and a byte string is seen in contracts as the list of its bytes. Read `regs` first, then `answer`.
 #![tactic(auto)]
 
+mod answer;
+mod boxed;
+mod claim;
 mod ctl;
 mod digest;
+mod laws;
 mod listed;
 mod memory;
+mod open_text;
+mod proof;
 mod regs;
 mod script;
 mod status;
+mod steps;
+mod tamper;
 #[cfg(test)]
 mod tests;
 
+pub use answer::{Answer, Qid};
+pub use boxed::Boxed;
+pub use claim::{Claim, ClaimOutput, MAX_OUTPUT_BYTES};
 pub use ctl::Ctl;
 pub use digest::Digest32;
+pub use laws::registers_are_32;
 pub use listed::{Bytes, Listed};
 pub use memory::Memory;
+pub use open_text::{MAX_TEXT_BYTES, OpenText};
+pub use proof::{Opening, Path, StepProof};
 pub use regs::Regs;
 pub use script::{Manner, Script};
 pub use status::Status;
+pub use steps::Steps;
+pub use tamper::{RegisterNumber, Tamper};

@@ -6,7 +6,7 @@ use std::marker::Model;
 /// The registers `x0` to `x31`, of 32 bits each. `x0` is always 0 (RV32I, section 2.1).
 #[derive(Clone, Copy, Debug)]
 pub struct Regs {
-    x: [u32; 32],
+    pub(crate) x: [u32; 32],
 }
 
 impl Model for Regs {

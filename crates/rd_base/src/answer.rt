@@ -1,0 +1,39 @@
+ghost use Rattle.std.specs.Prelude.{◌≡◌, IfOk};
+
+use crate::boxed::Boxed;
+use crate::claim::Claim;
+use crate::digest::Digest32;
+use crate::memory::Memory;
+use crate::proof::StepProof;
+use std::alloc::Global;
+
+/// Which question of a match is meant: the claim is dispute 0, round 0; in a dispute rounds count from 1.
+#[derive(Clone, Copy, Debug, PartialEq, Eq)]
+pub struct Qid {
+    pub dispute: u32,
+    pub round: u32,
+}
+
+/// What a prover answers.
+#[derive(Debug, Drop)]
+pub enum Answer {
+    /// Its claim of the last state.
+    Claim(Claim),
+    /// The root of one state.
+    Root(Digest32),
+    /// The proof of one step.
+    Step(Boxed<StepProof>),
+}
+
+impl Answer {
+    /// The same answer once more. An `Err` is want of memory.
+    pub fn copy(&self, alloc: Global) -> Result<Answer, Memory>
+        ensures { IfOk result (λ a. a ≡ self.now) }
+    {
+        match self {
+            Answer::Claim(claim) => Ok(Answer::Claim(claim.copy(alloc)?)),
+            Answer::Root(root) => Ok(Answer::Root(*root)),
+            Answer::Step(proof) => Ok(Answer::Step(Boxed::new(Box::new(alloc, *proof.get())?))),
+        }
+    }
+}

@@ -1,0 +1,12 @@
+//! Facts about plain data, each a function that does nothing.
+ghost use Rattle.std.specs.Prelude.{◌≡◌, length, slice_index};
+
+use crate::regs::Regs;
+
+/// A register file has 32 registers, and `x0` holds 0.
+pub fn registers_are_32(regs: &Regs)
+    ensures count { length regs.now ≡ 32 }
+    ensures zero { slice_index regs.now 0 ≡ 0 }
+{
+    let _x0 = regs.x[0];
+}
