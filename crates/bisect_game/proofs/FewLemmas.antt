@@ -1,0 +1,98 @@
+-- A dispute has few rounds: each leaves at most one part in so many.
+use Rattle.std.proofs.Common.{◌≡◌, ℕ, zero, suc, ◌+◌, ◌-◌, ◌*◌, ◌/◌, ◌^◌, ◌<◌, ◌≤◌, min, nat_le, Bool, true, false, List, [], ◌∷◌, ◌++◌, length, inl, inr, Option, Some, None, refl, sym, ◌∙◌, ap, arith, length-append, add-one, if◌then◌else◌}
+use Rattle.std.proofs.lemmas.Bool.Decides.{nat_tests}
+use Rattle.std.proofs.Math.Nat.{mul-le-mul_left, pow-succ'}
+use Rattle.bisect_game.specs.declared.interval.Interval.{Interval}
+use Rattle.bisect_game.specs.declared.settled.Settled.{Settled}
+use Rattle.bisect_game.specs.declared.settled.Close.{Close}
+use Rattle.rd_base.specs.declared.digest.Digest32.{Digest32}
+use Rattle.bisect_game.specs.declared.side.Side.{Side}
+use Rattle.bisect_game.specs.declared.side.Side.TheVariants.{First, Second}
+use Rattle.bisect_game.proofs.CutLemmas.{either, tight}
+use Rattle.bisect_game.proofs.RoundLemmas.{close_of-none}
+use Rattle.bisect_game.specs.Bisection.{Bisection, cut, kept, parts_of, went_on, closed_or, decided, advanced, roots_of, agreeing, settle_first, settle_second, settle_side}
+use Rattle.bisect_game.specs.Closing.{is_step, close_of}
+use Rattle.bisect_game.specs.Laws.{IsFew, rounds_of, RoundsAreFew}
+use Rattle.bisect_game.specs.Rules.{Rules}
+
+none-more : (l m : ℕ) → 1 < l → l * m ≤ l - 1 → m ≡ 0
+none-more l zero long le = refl
+none-more l (suc m) long le = let one : 1 ≤ suc m = omega arith in absurd (omega (arith, mul-le-mul_left l one))
+
+-- m parts more, each of which was one in so many
+shrinks : (fan l g m w bound : ℕ) → 1 < l → 1 < fan → g ≡ min fan l → g * m ≤ l - 1 → (l - 1) * w < bound → m * (fan * w) < bound
+shrinks fan l g m w bound long more is le few =
+    elim (either (nat_le fan l)) [
+      | inl e ↦
+          let same : g ≡ fan = grind (arith, nat_tests) in
+          let low : fan * m ≤ l - 1 = rw same at le in
+          let t : w * (fan * m) ≤ w * (l - 1) = mul-le-mul_left w low in
+          omega (arith, t)
+      | inr e ↦
+          let same : g ≡ l = grind (arith, nat_tests) in
+          let low : l * m ≤ l - 1 = rw same at le in
+          let z : m ≡ 0 = none-more l m long low in
+          rw z (omega arith)
+    ]
+
+-- a round that is asked over more than a step is one of few
+pub few-asked : (fan bound : ℕ) (i : Interval) (k : ℕ) → 1 < fan → is_step i ≡ false → (i.hi - i.lo - 1) * fan ^ k < bound → fan ^ (k + 1) < fan * bound
+few-asked fan bound i k more long few =
+    let wide : 1 < i.hi - i.lo = grind (arith, nat_tests) in
+    let p : fan ^ (k + 1) ≡ fan * fan ^ k = ap (λ (n : ℕ). fan ^ n) (add-one k) ∙ pow-succ' fan k in
+    let one : 1 ≤ i.hi - i.lo - 1 = omega arith in
+    let low : fan ^ k * 1 ≤ fan ^ k * (i.hi - i.lo - 1) = mul-le-mul_left (fan ^ k) one in
+    let next : fan ^ k + 1 ≤ bound = omega (arith, few) in
+    let t : fan * (fan ^ k + 1) ≤ fan * bound = mul-le-mul_left fan next in
+    rw p (omega (arith, t))
+
+pub kept-few : (fan bound : ℕ) (i : Interval) (xs ys : List Digest32) (k : ℕ) → 1 < fan → is_step i ≡ false → IsFew fan bound i k → IsFew fan bound (kept (parts_of fan i) i xs ys) (suc k)
+unfolding cut
+kept-few fan bound i xs ys k more long f =
+    let wide : 1 < i.hi - i.lo = grind (arith, nat_tests) in
+    let j : ℕ = min (agreeing xs ys) (min fan (i.hi - i.lo) - 1) in
+    let g : ℕ = min fan (i.hi - i.lo) in
+    let t : min fan (i.hi - i.lo) * (((min (agreeing xs ys) (min fan (i.hi - i.lo) - 1) + 1) * (i.hi - i.lo)) / min fan (i.hi - i.lo) - (min (agreeing xs ys) (min fan (i.hi - i.lo) - 1) * (i.hi - i.lo)) / min fan (i.hi - i.lo) - 1) ≤ i.hi - i.lo - 1 =
+    tight (min fan (i.hi - i.lo)) (i.hi - i.lo) (min (agreeing xs ys) (min fan (i.hi - i.lo) - 1)) (omega arith) (omega arith) in
+    let e : (kept (parts_of fan i) i xs ys).hi - (kept (parts_of fan i) i xs ys).lo - 1 ≡ ((min (agreeing xs ys) (min fan (i.hi - i.lo) - 1) + 1) * (i.hi - i.lo)) / min fan (i.hi - i.lo) - (min (agreeing xs ys) (min fan (i.hi - i.lo) - 1) * (i.hi - i.lo)) / min fan (i.hi - i.lo) - 1 = omega arith in
+    let p : fan ^ suc k ≡ fan * fan ^ k = pow-succ' fan k in
+    record { few = rw (p, e) (shrinks fan (i.hi - i.lo) (min fan (i.hi - i.lo)) _ (fan ^ k) bound wide more refl t f.few); asked = let n : fan ^ suc k ≡ fan ^ (k + 1) = ap (λ (m : ℕ). fan ^ m) (sym (add-one k)) in rw n (few-asked fan bound i k more long f.few) }
+
+few-by : (rules : Rules) (d : Bisection) (a b : Settled) (o : Option Close) → 1 < rules.play.fan → close_of rules.play.ruling d.place a b ≡ o →
+    IsFew rules.play.fan rules.bound d.place (length d.past) → IsFew rules.play.fan rules.bound (closed_or d (went_on rules.play.fan d a b) o).place (length (closed_or d (went_on rules.play.fan d a b) o).past)
+few-by rules d a b (Some c) more e f = f
+few-by rules d a b None more e f =
+    let n : length (d.past ++ record { lo = d.place.lo; hi = d.place.hi; first = a; second = b } ∷ []) ≡ suc (length d.past) = length-append d.past _ ∙ add-one (length d.past) in
+    rw n (kept-few rules.play.fan rules.bound d.place (roots_of a) (roots_of b) (length d.past) more (close_of-none rules.play.ruling d.place a b e) f)
+
+few-advanced : (rules : Rules) (d : Bisection) (a b : Option Settled) → 1 < rules.play.fan → IsFew rules.play.fan rules.bound d.place (length d.past) →
+    IsFew rules.play.fan rules.bound (advanced rules.play d a b).place (length (advanced rules.play d a b).past)
+unfolding decided
+few-advanced rules d (Some a) (Some b) more f = few-by rules d a b (close_of rules.play.ruling d.place a b) more refl f
+few-advanced rules d (Some a) None more f = f
+few-advanced rules d None b more f = f
+
+few-first : (rules : Rules) (s : Settled) (d : Bisection) → 1 < rules.play.fan → IsFew rules.play.fan rules.bound d.place (length d.past) →
+    IsFew rules.play.fan rules.bound (settle_first rules.play s d).place (length (settle_first rules.play s d).past)
+unfolding settle_first
+few-first rules s d more f = few-advanced rules (record d { by_first = Some s }) (Some s) d.by_second more f
+
+few-second : (rules : Rules) (s : Settled) (d : Bisection) → 1 < rules.play.fan → IsFew rules.play.fan rules.bound d.place (length d.past) →
+    IsFew rules.play.fan rules.bound (settle_second rules.play s d).place (length (settle_second rules.play s d).past)
+unfolding settle_second
+few-second rules s d more f = few-advanced rules (record d { by_second = Some s }) d.by_first (Some s) more f
+
+rounds-few : (rules : Rules) (d : Bisection) (b : Bool) → is_step d.place ≡ b → 1 < rules.play.fan → IsFew rules.play.fan rules.bound d.place (length d.past) → rules.play.fan ^ (length d.past + (if b then 0 else 1)) < rules.play.fan * rules.bound
+rounds-few rules d true e more f = let z : length d.past + 0 ≡ length d.past = omega arith in rw z f.asked
+rounds-few rules d false e more f = few-asked rules.play.fan rules.bound d.place (length d.past) more e f.few
+
+few-side : (rules : Rules) (by : Side) (s : Settled) (d : Bisection) → 1 < rules.play.fan → IsFew rules.play.fan rules.bound d.place (length d.past) →
+    IsFew rules.play.fan rules.bound (settle_side rules.play by s d).place (length (settle_side rules.play by s d).past)
+few-side rules First s d more f = few-first rules s d more f
+few-side rules Second s d more f = few-second rules s d more f
+
+few-rounds : (rules : Rules) (d : Bisection) → 1 < rules.play.fan → IsFew rules.play.fan rules.bound d.place (length d.past) → rules.play.fan ^ rounds_of d < rules.play.fan * rules.bound
+few-rounds rules d more f = rounds-few rules d (is_step d.place) refl more f
+
+pub rounds_are_few : RoundsAreFew
+rounds_are_few = record { kept = few-side; few = few-rounds }

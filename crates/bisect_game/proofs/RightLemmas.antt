@@ -1,0 +1,288 @@
+-- A dispute keeps what is right: intervals of the match, roots that differ, and for a side whose answers are true the
+use Rattle.std.proofs.Common.{◌≡◌, ◌≢◌, ℕ, ◌+◌, ◌-◌, ◌*◌, ◌/◌, ◌<◌, ◌≤◌, min, Bool, true, false, not, ◌&&◌, ◌||◌, if◌then◌else◌, List, [], ◌∷◌, ◌++◌, ◌⊎◌, inl, inr, Option, Some, None, is_some, is_none, refl, ap, arith}
+use Rattle.std.proofs.lemmas.Bool.Decides.{nat_tests}
+use Rattle.rd_base.specs.declared.digest.Digest32.{Digest32}
+use Rattle.bisect_game.specs.declared.interval.Interval.{Interval}
+use Rattle.bisect_game.specs.declared.interval.Round.{Round}
+use Rattle.rd_base.specs.declared.proof.StepProof.{StepProof}
+use Rattle.rd_base.specs.declared.answer.Answer.{Answer}
+use Rattle.rd_base.specs.declared.answer.Answer.TheVariants as answer
+use Rattle.bisect_game.specs.declared.settled.Settled.{Settled}
+use Rattle.bisect_game.specs.declared.settled.Settled.TheVariants.{Given, Faulty, Spent}
+use Rattle.bisect_game.specs.declared.side.Side.{Side}
+use Rattle.bisect_game.specs.declared.side.Side.TheVariants.{First, Second}
+use Rattle.bisect_game.specs.declared.settled.Close.{Close}
+use Rattle.bisect_game.specs.declared.settled.Close.TheVariants.{Out}
+use Rattle.bisect_game.proofs.CutLemmas.{IsPart, part, below}
+use Rattle.bisect_game.proofs.RoundLemmas.{close_of-none}
+use Rattle.bisect_game.proofs.TruthLemmas.{same-is, HasRoots, kept-first, kept-second, not-out, kept-apart}
+use Rattle.bisect_game.specs.Bisection.{Bisection, cut, kept, kind_over, parts_of, ended, went_on, closed_or, decided, advanced, roots_of, agreeing, settle_first, settle_second, settle_side, asks}
+use Rattle.bisect_game.specs.Closing.{is_step, is_out, is_proved, is_root, both_proved, closed_by, close_of}
+use Rattle.bisect_game.specs.Laws.{IsPlay, KeepsRight, InvariantIsKept}
+use Rattle.bisect_game.specs.Rules.{Rules}
+use Rattle.bisect_game.specs.Ruling.{Ruling, IsFair}
+use Rattle.bisect_game.specs.Truth.{Truth, IsRun, IsFit, IsTrueSettled, IsTrueSoFar, own_answer, own_open, is_put_out, AllTrue, IsRight}
+
+-- run's roots.
+
+-- a proof round in which both sides have proved ends in a collision
+record Proves (r : Ruling) (agreed own : Digest32) (a : Answer) : Type 0 where
+  proof : StepProof
+  is : a ≡ answer.Step proof
+  leads : r.leads agreed proof ≡ Some own
+
+root-is : (own : Digest32) (o : Option Digest32) → is_root own o ≡ true → o ≡ Some own
+root-is own (Some b) e = ap Some (same-is b own e)
+root-is own None e = absurd (cc)
+
+proves : (r : Ruling) (agreed own : Digest32) (a : Answer) → is_proved r agreed own a ≡ true → Proves r agreed own a
+proves r agreed own (answer.Step p) e = record { proof = p; is = refl; leads = root-is own (r.leads agreed p) e }
+proves r agreed own (answer.Claim c) e = absurd (cc)
+proves r agreed own (answer.Root x) e = absurd (cc)
+
+record Stands (r : Ruling) (agreed own : Digest32) (s : Settled) : Type 0 where
+  proof : StepProof
+  is : s ≡ Given (answer.Step proof)
+  leads : r.leads agreed proof ≡ Some own
+
+not-not : (b : Bool) → not b ≡ false → b ≡ true
+not-not true e = refl
+not-not false e = absurd (cc)
+
+stands : (r : Ruling) (i : Interval) (own : Digest32) (s : Settled) → is_step i ≡ true → is_out r i own s ≡ false → Stands r i.agreed own s
+stands r i own (Given a) step e =
+    let out : not (is_proved r i.agreed own a) ≡ false = rw step at e in
+    let p : Proves r i.agreed own a = proves r i.agreed own a (not-not _ out) in
+    record { proof = p.proof; is = ap Given p.is; leads = p.leads }
+stands r i own (Faulty a) step e = absurd (cc)
+stands r i own Spent step e = absurd (cc)
+
+no-side : (side : Side) (pair : List ℕ × List ℕ) → is_put_out side (Some (closed_by (Some pair))) ≡ false
+no-side First pair = refl
+no-side Second pair = refl
+
+meeting-collides : (r : Ruling) (i : Interval) (a b : Settled) (side : Side) → IsFair r → i.first ≢ i.second → is_step i ≡ true →
+    is_out r i i.first a ≡ false → is_out r i i.second b ≡ false → is_put_out side (Some (both_proved r i.agreed a b)) ≡ false
+meeting-collides r i a b side fair differ step ea eb =
+    let p : Stands r i.agreed i.first a = stands r i i.first a step ea in
+    let q : Stands r i.agreed i.second b = stands r i i.second b step eb in
+    let m : (pair : List ℕ × List ℕ) × (r.step_collision i.agreed p.proof q.proof ≡ Some pair) = fair.steps_collide i.agreed p.proof q.proof i.first i.second p.leads q.leads differ in
+    rw (p.is, q.is, m.1) (no-side side m.0)
+
+-- which side a close puts out
+
+close-by : (side : Side) (x y z : Bool) (m c : Close) → (if x || y then Some (Out x y) else if z then Some m else None) ≡ Some c →
+    (z ≡ true → x ≡ false → y ≡ false → is_put_out side (Some m) ≡ false) → is_put_out side (Some (Out x y)) ≡ false → is_put_out side (Some c) ≡ false
+close-by side true y z m c e h out = let same : Out true y ≡ c = cc in rw (← same) out
+close-by side false true z m c e h out = let same : Out false true ≡ c = cc in rw (← same) out
+close-by side false false true m c e h out = let same : m ≡ c = cc in rw (← same) (h refl refl refl)
+close-by side false false false m c e h out = absurd (cc)
+
+stays-closed : (r : Ruling) (i : Interval) (a b : Settled) (c : Close) (side : Side) → IsFair r → i.first ≢ i.second → close_of r i a b ≡ Some c →
+    is_put_out side (Some (Out (is_out r i i.first a) (is_out r i i.second b))) ≡ false → is_put_out side (Some c) ≡ false
+unfolding close_of
+stays-closed r i a b c side fair differ e out =
+    close-by side (is_out r i i.first a) (is_out r i i.second b) (is_step i) (both_proved r i.agreed a b) c e
+    (λ step ea eb. meeting-collides r i a b side fair differ step ea eb) out
+
+record NoneOut (x y : Bool) : Type 0 where
+  first : x ≡ false
+  second : y ≡ false
+
+none-by : (x y z : Bool) (m : Close) → (if x || y then Some (Out x y) else if z then Some m else None) ≡ None → NoneOut x y
+none-by true y z m e = absurd (cc)
+none-by false true z m e = absurd (cc)
+none-by false false z m e = record { first = refl; second = refl }
+
+none-out : (r : Ruling) (i : Interval) (a b : Settled) → close_of r i a b ≡ None → NoneOut (is_out r i i.first a) (is_out r i i.second b)
+unfolding close_of
+none-out r i a b e = none-by _ _ (is_step i) (both_proved r i.agreed a b) e
+
+-- an interval of the match, whose roots differ
+
+pub record IsInside (i j : Interval) : Type 0 where
+  pub some : j.lo < j.hi
+  pub short : j.hi ≤ i.hi
+
+pub kept-inside : (fan : ℕ) (i : Interval) (xs ys : List Digest32) → 1 < fan → is_step i ≡ false → i.lo < i.hi → IsInside i (kept (parts_of fan i) i xs ys)
+unfolding cut
+kept-inside fan i xs ys more long some =
+    let wide : 1 < i.hi - i.lo = grind (arith, nat_tests) in
+    let g : ℕ = min fan (i.hi - i.lo) in
+    let j : ℕ = min (agreeing xs ys) (min fan (i.hi - i.lo) - 1) in
+    let p : IsPart (i.hi - i.lo) _ _ = part (min fan (i.hi - i.lo)) (i.hi - i.lo) (min (agreeing xs ys) (min fan (i.hi - i.lo) - 1)) (omega arith) (omega arith) in
+    let b : ((min (agreeing xs ys) (min fan (i.hi - i.lo) - 1) + 1) * (i.hi - i.lo)) / min fan (i.hi - i.lo) ≤ i.hi - i.lo =
+    below (min fan (i.hi - i.lo)) (i.hi - i.lo) (min (agreeing xs ys) (min fan (i.hi - i.lo) - 1) + 1) (omega arith) (omega arith) in
+    record { some = omega (arith, p.some); short = omega arith }
+
+play-by : (rules : Rules) (d : Bisection) (a b : Settled) (o : Option Close) → rules.play.fan ≡ 2 → close_of rules.play.ruling d.place a b ≡ o →
+    d.by_first ≡ Some a → d.by_second ≡ Some b → IsPlay rules d → IsPlay rules (closed_or d (went_on rules.play.fan d a b) o)
+play-by rules d a b (Some c) more e ea eb i = record { sound = i.sound; fit_first = i.fit_first; fit_second = i.fit_second }
+play-by rules d a b None more e ea eb i =
+    let long : is_step d.place ≡ false = close_of-none rules.play.ruling d.place a b e in
+    let n : NoneOut _ _ = none-out rules.play.ruling d.place a b e in
+    let k : IsInside d.place (kept (parts_of rules.play.fan d.place) d.place (roots_of a) (roots_of b)) = kept-inside rules.play.fan d.place (roots_of a) (roots_of b) (omega arith) long i.sound.some in
+    record {
+      sound = record {
+        some = k.some;
+        short = omega (arith, k.short, i.sound.short);
+        differ = kept-apart rules.play.ruling rules.play.fan d.place a b more long i.sound.differ n.first n.second (rw ea at i.fit_first) (rw eb at i.fit_second);
+      };
+      fit_first = tt;
+      fit_second = tt;
+    }
+
+play-advanced : (rules : Rules) (d : Bisection) (a b : Option Settled) → rules.play.fan ≡ 2 → d.by_first ≡ a → d.by_second ≡ b → IsPlay rules d → IsPlay rules (advanced rules.play d a b)
+unfolding decided
+play-advanced rules d (Some a) (Some b) more ea eb i = play-by rules d a b (close_of rules.play.ruling d.place a b) more refl ea eb i
+play-advanced rules d (Some a) None more ea eb i = i
+play-advanced rules d None b more ea eb i = i
+
+-- a side of a dispute that is right so long as its answers are true
+
+true-last : (t : Truth) (fan : ℕ) (side : Side) (rs : List Round) (r : Round) → AllTrue t fan side (rs ++ r ∷ []) →
+    AllTrue t fan side rs × IsTrueSettled t (kind_over fan r.lo r.hi) (own_answer side r)
+true-last t fan side [] r all = (tt, all.0)
+true-last t fan side (s ∷ rs) r all =
+    let rest : AllTrue t fan side rs × IsTrueSettled t (kind_over fan r.lo r.hi) (own_answer side r) = true-last t fan side rs r all.1 in
+    ((all.0, rest.0), rest.1)
+
+abbrev own-settled : Side → Settled → Settled → Settled
+own-settled First a b = a
+own-settled Second a b = b
+
+own-is : (side : Side) (d : Bisection) (a b : Settled) → d.by_first ≡ Some a → d.by_second ≡ Some b → own_open side d ≡ Some (own-settled side a b)
+own-is First d a b ea eb = ea
+own-is Second d a b ea eb = eb
+
+kept-side : (t : Truth) (fan : ℕ) (i : Interval) (side : Side) (a b : Settled) → fan ≡ 2 → is_step i ≡ false → i.lo < i.hi →
+    IsTrueSettled t (kind_over fan i.lo i.hi) (own-settled side a b) → HasRoots t side i → HasRoots t side (kept (parts_of fan i) i (roots_of a) (roots_of b))
+kept-side t fan i First a b more long some is h = kept-first t fan i a b more long some is h
+kept-side t fan i Second a b more long some is h = kept-second t fan i a b more long some is h
+
+out-side : (r : Ruling) (t : Truth) (fan : ℕ) (i : Interval) (side : Side) (a b : Settled) → i.lo < i.hi → HasRoots t side i →
+    r.leads (t.root i.lo) (t.proof i.lo) ≡ Some (t.root (i.lo + 1)) → IsTrueSettled t (kind_over fan i.lo i.hi) (own-settled side a b) →
+    is_put_out side (Some (Out (is_out r i i.first a) (is_out r i i.second b))) ≡ false
+out-side r t fan i First a b some h leads is = not-out r t fan i i.first a (is_step i) refl some h.agreed h.own leads is
+out-side r t fan i Second a b some h leads is = not-out r t fan i i.second b (is_step i) refl some h.agreed h.own leads is
+
+own-round : (side : Side) (lo hi : ℕ) (a b : Settled) → own_answer side (record { lo = lo; hi = hi; first = a; second = b }) ≡ own-settled side a b
+own-round First lo hi a b = refl
+own-round Second lo hi a b = refl
+
+still : (side : Side) → is_put_out side None ≡ false
+still First = refl
+still Second = refl
+
+own-ended : (side : Side) (d : Bisection) (c : Close) → own_open side (ended d c) ≡ own_open side d
+own-ended First d c = refl
+own-ended Second d c = refl
+
+right-by : (rules : Rules) (t : Truth) (d : Bisection) (side : Side) (a b : Settled) (o : Option Close) → rules.play.fan ≡ 2 → IsFair rules.play.ruling → IsRun rules t →
+    close_of rules.play.ruling d.place a b ≡ o → d.by_first ≡ Some a → d.by_second ≡ Some b → d.close ≡ None → IsPlay rules d →
+    KeepsRight t rules.play.fan side d → KeepsRight t rules.play.fan side (closed_or d (went_on rules.play.fan d a b) o)
+right-by rules t d side a b (Some c) more fair run e ea eb open_ i keeps truthful =
+    let open_now : IsTrueSoFar t (kind_over rules.play.fan d.place.lo d.place.hi) (own_open side d) = rw (own-ended side d c) at truthful.open_ in
+    let was : IsRight t side d = keeps (record { past = truthful.past; open_ = open_now }) in
+    let is : IsTrueSettled t (kind_over rules.play.fan d.place.lo d.place.hi) (own-settled side a b) = rw (own-is side d a b ea eb) at open_now in
+    let l : d.place.lo < rules.bound = omega (arith, i.sound.some, i.sound.short) in
+    record {
+      agreed = was.agreed;
+      own = was.own;
+      stays = stays-closed rules.play.ruling d.place a b c side fair i.sound.differ e
+          (out-side rules.play.ruling t rules.play.fan d.place side a b i.sound.some (record { agreed = was.agreed; own = was.own }) (run.leads d.place.lo l) is);
+    }
+right-by rules t d side a b None more fair run e ea eb open_ i keeps truthful =
+    let long : is_step d.place ≡ false = close_of-none rules.play.ruling d.place a b e in
+    let two : AllTrue t rules.play.fan side d.past × _ = true-last t rules.play.fan side d.past (record { lo = d.place.lo; hi = d.place.hi; first = a; second = b }) truthful.past in
+    let is : IsTrueSettled t (kind_over rules.play.fan d.place.lo d.place.hi) (own-settled side a b) = rw own-round at two.1 in
+    let open_now : IsTrueSoFar t (kind_over rules.play.fan d.place.lo d.place.hi) (own_open side d) = rw (own-is side d a b ea eb) is in
+    let was : IsRight t side d = keeps (record { past = two.0; open_ = open_now }) in
+    let k : HasRoots t side (kept (parts_of rules.play.fan d.place) d.place (roots_of a) (roots_of b)) =
+    kept-side t rules.play.fan d.place side a b more long i.sound.some is (record { agreed = was.agreed; own = was.own }) in
+    record { agreed = k.agreed; own = k.own; stays = rw open_ (still side) }
+
+right-advanced : (rules : Rules) (t : Truth) (d : Bisection) (side : Side) (a b : Option Settled) → rules.play.fan ≡ 2 → IsFair rules.play.ruling → IsRun rules t →
+    d.by_first ≡ a → d.by_second ≡ b → d.close ≡ None → IsPlay rules d → KeepsRight t rules.play.fan side d → KeepsRight t rules.play.fan side (advanced rules.play d a b)
+unfolding decided
+right-advanced rules t d side (Some a) (Some b) more fair run ea eb open_ i keeps =
+    right-by rules t d side a b (close_of rules.play.ruling d.place a b) more fair run refl ea eb open_ i keeps
+right-advanced rules t d side (Some a) None more fair run ea eb open_ i keeps = keeps
+right-advanced rules t d side None b more fair run ea eb open_ i keeps = keeps
+
+-- a settled answer keeps a dispute in play, and each side right
+
+none-closed : (c : Option Close) → is_some c ≡ false → c ≡ None
+none-closed None e = refl
+none-closed (Some c) e = absurd (cc)
+
+-- before an answer of the first side nothing was settled of it, so that it was true so far
+was-right : (rules : Rules) (t : Truth) (d : Bisection) (s : Settled) (side mine : Side) (e : Bisection) → own_open mine d ≡ None →
+    e.past ≡ d.past → e.place ≡ d.place → e.close ≡ d.close → (side ≢ mine → own_open side e ≡ own_open side d) → (side ≡ mine) ⊎ (side ≢ mine) →
+    KeepsRight t rules.play.fan side d → KeepsRight t rules.play.fan side e
+was-right rules t d s side mine e none past place close other (inl same) keeps truthful =
+    let was : IsRight t side d = keeps (record { past = rw past at truthful.past; open_ = rw (same, none) tt }) in
+    record { agreed = rw place was.agreed; own = rw place was.own; stays = rw close was.stays }
+was-right rules t d s side mine e none past place close other (inr differ) keeps truthful =
+    let same : own_open side e ≡ own_open side d = other differ in
+    let o : IsTrueSoFar t (kind_over rules.play.fan d.place.lo d.place.hi) (own_open side d) = rw (same, place) at truthful.open_ in
+    let was : IsRight t side d = keeps (record { past = rw past at truthful.past; open_ = o }) in
+    record { agreed = rw place was.agreed; own = rw place was.own; stays = rw close was.stays }
+
+pub play-first : (rules : Rules) (s : Settled) (d : Bisection) → rules.play.fan ≡ 2 → IsFit rules.play.ruling (kind_over rules.play.fan d.place.lo d.place.hi) s →
+    IsPlay rules d → IsPlay rules (settle_first rules.play s d)
+unfolding settle_first
+play-first rules s d more fit g =
+    play-advanced rules (record d { by_first = Some s }) (Some s) d.by_second more refl refl (record { sound = g.sound; fit_first = fit; fit_second = g.fit_second })
+
+pub play-second : (rules : Rules) (s : Settled) (d : Bisection) → rules.play.fan ≡ 2 → IsFit rules.play.ruling (kind_over rules.play.fan d.place.lo d.place.hi) s →
+    IsPlay rules d → IsPlay rules (settle_second rules.play s d)
+unfolding settle_second
+play-second rules s d more fit g =
+    play-advanced rules (record d { by_second = Some s }) d.by_first (Some s) more refl refl (record { sound = g.sound; fit_first = g.fit_first; fit_second = fit })
+
+right-of-first : (rules : Rules) (t : Truth) (s : Settled) (d : Bisection) (side : Side) → d.by_first ≡ None → KeepsRight t rules.play.fan side d → KeepsRight t rules.play.fan side (record d { by_first = Some s })
+right-of-first rules t s d First none keeps = was-right rules t d s First First (record d { by_first = Some s }) none refl refl refl (λ n. absurd (n refl)) (inl refl) keeps
+right-of-first rules t s d Second none keeps = was-right rules t d s Second First (record d { by_first = Some s }) none refl refl refl (λ n. refl) (inr (λ (same : Second ≡ First). cc)) keeps
+
+right-of-second : (rules : Rules) (t : Truth) (s : Settled) (d : Bisection) (side : Side) → d.by_second ≡ None → KeepsRight t rules.play.fan side d → KeepsRight t rules.play.fan side (record d { by_second = Some s })
+right-of-second rules t s d First none keeps = was-right rules t d s First Second (record d { by_second = Some s }) none refl refl refl (λ n. refl) (inr (λ (same : First ≡ Second). cc)) keeps
+right-of-second rules t s d Second none keeps = was-right rules t d s Second Second (record d { by_second = Some s }) none refl refl refl (λ n. absurd (n refl)) (inl refl) keeps
+
+pub right-first : (rules : Rules) (t : Truth) (s : Settled) (d : Bisection) (side : Side) → rules.play.fan ≡ 2 → IsFair rules.play.ruling → IsRun rules t → is_some d.close ≡ false → d.by_first ≡ None →
+    IsFit rules.play.ruling (kind_over rules.play.fan d.place.lo d.place.hi) s → IsPlay rules d → KeepsRight t rules.play.fan side d → KeepsRight t rules.play.fan side (settle_first rules.play s d)
+unfolding settle_first
+right-first rules t s d side more fair run still none fit g keeps =
+    right-advanced rules t (record d { by_first = Some s }) side (Some s) d.by_second more fair run refl refl (none-closed d.close still)
+    (record { sound = g.sound; fit_first = fit; fit_second = g.fit_second }) (right-of-first rules t s d side none keeps)
+
+pub right-second : (rules : Rules) (t : Truth) (s : Settled) (d : Bisection) (side : Side) → rules.play.fan ≡ 2 → IsFair rules.play.ruling → IsRun rules t → is_some d.close ≡ false → d.by_second ≡ None →
+    IsFit rules.play.ruling (kind_over rules.play.fan d.place.lo d.place.hi) s → IsPlay rules d → KeepsRight t rules.play.fan side d → KeepsRight t rules.play.fan side (settle_second rules.play s d)
+unfolding settle_second
+right-second rules t s d side more fair run still none fit g keeps =
+    right-advanced rules t (record d { by_second = Some s }) side d.by_first (Some s) more fair run refl refl (none-closed d.close still)
+    (record { sound = g.sound; fit_first = g.fit_first; fit_second = fit }) (right-of-second rules t s d side none keeps)
+
+-- the two sides as one
+
+asks-first : (o : Option Settled) (c : Option Close) → is_none o && not (is_some c) ≡ true → (o ≡ None) × (is_some c ≡ false)
+asks-first None None e = (refl, refl)
+asks-first None (Some c) e = absurd (cc)
+asks-first (Some s) c e = absurd (cc)
+
+play-side : (rules : Rules) (by : Side) (s : Settled) (d : Bisection) → rules.play.fan ≡ 2 → IsFit rules.play.ruling (kind_over rules.play.fan d.place.lo d.place.hi) s →
+    IsPlay rules d → IsPlay rules (settle_side rules.play by s d)
+play-side rules First s d two fit g = play-first rules s d two fit g
+play-side rules Second s d two fit g = play-second rules s d two fit g
+
+right-side : (rules : Rules) (t : Truth) (by : Side) (s : Settled) (d : Bisection) (side : Side) → rules.play.fan ≡ 2 → IsFair rules.play.ruling → IsRun rules t → asks by d ≡ true →
+    IsFit rules.play.ruling (kind_over rules.play.fan d.place.lo d.place.hi) s → IsPlay rules d → KeepsRight t rules.play.fan side d → KeepsRight t rules.play.fan side (settle_side rules.play by s d)
+right-side rules t First s d side two fair run open_ fit g keeps =
+    let a : (d.by_first ≡ None) × (is_some d.close ≡ false) = asks-first d.by_first d.close open_ in
+    right-first rules t s d side two fair run a.1 a.0 fit g keeps
+right-side rules t Second s d side two fair run open_ fit g keeps =
+    let a : (d.by_second ≡ None) × (is_some d.close ≡ false) = asks-first d.by_second d.close open_ in
+    right-second rules t s d side two fair run a.1 a.0 fit g keeps
+
+pub invariant_is_kept : InvariantIsKept
+invariant_is_kept = record { play = play-side; right = right-side }

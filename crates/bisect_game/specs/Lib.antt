@@ -1,0 +1,9 @@
+pub mod Says
+pub mod Ruling
+pub mod Rules
+pub mod Bisection
+pub mod Closing
+pub mod Disputes
+pub mod Truth
+pub mod Laws
+pub mod Narrowing

@@ -1,0 +1,40 @@
+-- To believe: what a judge decides, what a collision is, and the laws that every judge keeps.
+use Rattle.std.specs.Prelude.{◌≡◌, ◌≢◌, ℕ, List, Bool, true, Option, Some, None, Contains, bytes_eq}
+use Rattle.rd_base.specs.declared.digest.Digest32.{Digest32}
+use Rattle.rd_base.specs.declared.claim.Claim.{Claim}
+use Rattle.rd_base.specs.declared.proof.StepProof.{StepProof}
+
+-- the decisions of a judge as functions, the strings that a claim or a proof opens, and the digest of a string
+pub record Ruling : Type 0 where
+  pub is_sound : Claim → Bool
+  pub root_of : Claim → Digest32
+  pub leads : Digest32 → StepProof → Option Digest32
+  pub claim_collision : Claim → Claim → Option (List ℕ × List ℕ)
+  pub step_collision : Digest32 → StepProof → StepProof → Option (List ℕ × List ℕ)
+  pub opened_by_claim : Claim → List (List ℕ)
+  pub opened_by_step : StepProof → List (List ℕ)
+  pub digest : List ℕ → List ℕ
+
+-- two different strings of one digest, the first among those that one answer opens, the second among those that another
+-- opens
+pub record IsCollision (ruling : Ruling) (opened_first opened_second : List (List ℕ)) (pair : List ℕ × List ℕ) : Type 0 where
+  pub differ : pair.0 ≢ pair.1
+  pub one_digest : ruling.digest pair.0 ≡ ruling.digest pair.1
+  pub first_opened : Contains opened_first pair.0
+  pub second_opened : Contains opened_second pair.1
+
+-- the laws of a judge: two sound different claims of one root have a collision, two proofs that lead from one root to
+-- different ones have a collision, and each pair that is called a collision is one
+pub record IsFair (ruling : Ruling) : Type 0 where
+  pub claims_collide : (x y : Claim) → ruling.is_sound x ≡ true → ruling.is_sound y ≡ true → ruling.root_of x ≡ ruling.root_of y →
+      ruling.claim_collision x y ≡ None → x ≡ y
+  pub claim_collisions : (x y : Claim) (pair : List ℕ × List ℕ) → ruling.claim_collision x y ≡ Some pair →
+      IsCollision ruling (ruling.opened_by_claim x) (ruling.opened_by_claim y) pair
+  pub steps_collide : (from : Digest32) (x y : StepProof) (b c : Digest32) → ruling.leads from x ≡ Some b → ruling.leads from y ≡ Some c → b ≢ c →
+      (pair : List ℕ × List ℕ) × (ruling.step_collision from x y ≡ Some pair)
+  pub step_collisions : (from : Digest32) (x y : StepProof) (pair : List ℕ × List ℕ) → ruling.step_collision from x y ≡ Some pair →
+      IsCollision ruling (ruling.opened_by_step x) (ruling.opened_by_step y) pair
+
+-- two digests have the same bytes
+abbrev pub same_digest : Digest32 → Digest32 → Bool
+same_digest a b = bytes_eq a.0 b.0

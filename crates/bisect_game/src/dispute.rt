@@ -1,0 +1,244 @@
+ghost use Rattle.std.specs.Prelude.{◌≡◌, ◌+◌, ◌<◌, ◌≤◌, ◌^◌, [], true, false, Option, Some, None, option_copied, IfOk, if◌then◌else◌};
+ghost use Rattle.bisect_game.specs.Bisection.{prover_of, asks, settle_side, question_of, advance, went_on};
+ghost use Rattle.bisect_game.specs.Closing.{is_step};
+ghost use Rattle.bisect_game.specs.Truth.{own_open};
+ghost use Rattle.bisect_game.specs.Narrowing.{with_answer};
+
+use crate::interval::{Interval, Round};
+use crate::judge::Judge;
+use crate::question::Question;
+use crate::rounds::{close_of, kept, kind_over};
+use crate::settled::{Close, Settled};
+use crate::side::Side;
+use rd_base::{Digest32, Memory, Qid};
+use std::alloc::Global;
+use std::marker::Model;
+
+/// The most rounds that can go on below a bound of 2^32.
+const MOST_ROUNDS: usize = 32;
+
+/// The memory of one dispute.
+#[derive(Drop)]
+pub struct Room {
+    rounds: Vec<Round>,
+    bound: u64,
+}
+
+impl Model for Room {
+    ghost use Rattle.std.specs.Prelude.{◌≡◌, ◌<◌, ◌≤◌, ◌^◌, [], ℕ, vec_capacity};
+
+    ghost Value = { ℕ };
+
+    ghost view = { λ r. r.bound };
+
+    ghost invariant = { λ r. (0 < r.bound) × (r.bound < 2 ^ 32) × (r.rounds.items ≡ []) × (32 ≤ vec_capacity r.rounds) };
+}
+
+impl Room {
+    /// Room for a dispute over `bound` steps, from 1 to 2^32 - 1.
+    pub fn new(alloc: Global, bound: u64) -> Result<Room, Memory>
+        requires some { 0 < bound }
+        requires short { bound < 2 ^ 32 }
+        ensures { IfOk result (λ room. room ≡ bound) }
+    {
+        Ok(Room {
+            rounds: Vec::with_capacity(alloc, MOST_ROUNDS)?,
+            bound,
+        })
+    }
+}
+
+/// A dispute by bisection. No call of it takes memory.
+#[derive(Drop)]
+pub struct Dispute {
+    stage: u32,
+    number: u32,
+    first: u32,
+    second: u32,
+    place: Interval,
+    past: Vec<Round>,
+    by_first: Option<Settled>,
+    by_second: Option<Settled>,
+    close: Option<Close>,
+}
+
+impl Model for Dispute {
+    ghost use Rattle.std.specs.Prelude.{vec_len, vec_capacity};
+    ghost use Rattle.bisect_game.specs.Bisection.{Bisection};
+    ghost use Rattle.bisect_game.specs.Narrowing.{IsNarrowing};
+
+    ghost Value = { Bisection };
+
+    ghost view = { λ d. record {
+      stage = d.stage;
+      number = d.number;
+      first = d.first;
+      second = d.second;
+      place = d.place;
+      past = d.past.items;
+      by_first = d.by_first;
+      by_second = d.by_second;
+      close = d.close;
+    } };
+
+    ghost invariant = { λ d. IsNarrowing d.place (vec_len d.past) (vec_capacity d.past) };
+}
+
+impl Dispute {
+    /// The dispute with this number, in this stage of its match, of two provers and their claimed roots at the bound,
+    /// which differ. `start` is the root at step 0.
+    pub fn new(
+        room: Room,
+        stage: u32,
+        number: u32,
+        start: Digest32,
+        first: (u32, Digest32),
+        second: (u32, Digest32),
+    ) -> Dispute
+        ensures { result ≡ record { stage = stage; number = number; first = first.0; second = second.0; place = record { lo = 0; hi = room; agreed = start; first = first.1; second = second.1 }; past = []; by_first = None; by_second = None; close = None } }
+    {
+        let Room { rounds, bound } = room;
+        Dispute {
+            stage,
+            number,
+            first: first.0,
+            second: second.0,
+            place: Interval {
+                lo: 0,
+                hi: bound,
+                agreed: start,
+                first: first.1,
+                second: second.1,
+            },
+            past: rounds,
+            by_first: None,
+            by_second: None,
+            close: None,
+        }
+    }
+
+    /// The stage of the match in which it is played, from 1.
+    pub fn stage(&self) -> u32
+        ensures { result ≡ self.now.stage }
+    {
+        self.stage
+    }
+
+    /// Its number in the match, from 1.
+    pub fn number(&self) -> u32
+        ensures { result ≡ self.now.number }
+    {
+        self.number
+    }
+
+    /// The number of the prover on this side.
+    pub fn prover(&self, side: Side) -> u32
+        ensures { result ≡ prover_of side self.now }
+    {
+        match side {
+            Side::First => self.first,
+            Side::Second => self.second,
+        }
+    }
+
+    /// Where it stands.
+    pub fn interval(&self) -> Interval
+        ensures { result ≡ self.now.place }
+    {
+        self.place
+    }
+
+    /// The rounds that went on, the first one first.
+    pub fn rounds(&self) -> &[Round]
+        ensures { result.now ≡ self.now.past }
+    {
+        self.past.as_slice()
+    }
+
+    /// What is settled of this side in the last round; `None` where nothing is yet.
+    pub fn last_answer(&self, side: Side) -> Option<&Settled>
+        ensures { option_copied result ≡ own_open side self.now }
+    {
+        match side {
+            Side::First => self.by_first.as_ref(),
+            Side::Second => self.by_second.as_ref(),
+        }
+    }
+
+    /// How it closed; `None` exactly where a question is open.
+    pub fn closed(&self) -> Option<Close>
+        ensures { result ≡ self.now.close }
+    {
+        self.close.as_ref().map(Close::copy)
+    }
+
+    /// The open question of a side; `None` exactly where the side has settled this round or the dispute is closed.
+    pub fn question(&self, side: Side) -> Option<Question>
+        ensures { result ≡ (if asks side self.now then Some (question_of 2 self.now) else None) }
+    {
+        let settled = match side {
+            Side::First => self.by_first.is_some(),
+            Side::Second => self.by_second.is_some(),
+        };
+        if settled || self.close.is_some() {
+            return None;
+        }
+        let Interval { lo, hi, .. } = self.place;
+        Some(Question {
+            qid: Qid {
+                dispute: self.number,
+                round: self.past.len() as u32 + 1,
+            },
+            kind: kind_over(lo, hi),
+        })
+    }
+
+    /// The open question of a side is settled. The round is decided once both sides are settled.
+    pub fn settle<J: Judge>(&mut self, judge: &J, side: Side, settled: Settled)
+        requires { asks side self.old ≡ true }
+        ensures { self.new ≡ settle_side (record { ruling = J.ruling (J.names judge.now); fan = 2 }) side settled self.old }
+    {
+        self.put(side, settled);
+        self.advance(judge);
+    }
+
+    /// The answer of a side is put down.
+    fn put(&mut self, side: Side, settled: Settled)
+        ensures { self.new ≡ with_answer side settled self.old }
+    {
+        match side {
+            Side::First => self.by_first = Some(settled),
+            Side::Second => self.by_second = Some(settled),
+        }
+    }
+
+    /// The round is decided where both sides are settled.
+    fn advance<J: Judge>(&mut self, judge: &J)
+        ensures { self.new ≡ advance (record { ruling = J.ruling (J.names judge.now); fan = 2 }) self.old }
+    {
+        let (Some(first), Some(second)) = (&self.by_first, &self.by_second) else {
+            return;
+        };
+        match close_of(judge, self.place, first, second) {
+            Some(close) => self.close = Some(close),
+            None => self.go_on(),
+        }
+    }
+
+    /// A round that closes nothing is put behind, and the dispute goes on with the half that is kept.
+    fn go_on(&mut self)
+        requires long { is_step self.old.place ≡ false }
+        ensures { (a b : _) → self.old.by_first ≡ Some a → self.old.by_second ≡ Some b → self.new ≡ went_on 2 self.old a b }
+    {
+        if let (Some(first), Some(second)) = (self.by_first.take(), self.by_second.take()) {
+            let Interval { lo, hi, .. } = self.place;
+            self.place = kept(self.place, &first, &second);
+            self.past.push_reserved(Round {
+                lo,
+                hi,
+                first,
+                second,
+            });
+        }
+    }
+}

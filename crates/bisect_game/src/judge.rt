@@ -1,0 +1,44 @@
+ghost use Rattle.std.specs.Prelude.{◌≡◌};
+ghost use Rattle.bisect_game.specs.Ruling.{Ruling, IsFair};
+
+use rd_base::{Claim, Digest32, OpenText, StepProof};
+
+/// Who decides about answers.
+pub trait Judge {
+    /// Plain data that tells which judge it is. Names and type fix what it decides.
+    type Names: Copy;
+
+    ghost names: { Self → Self.Names };
+
+    /// Its decisions, as functions.
+    ghost ruling: { Self.Names → Ruling };
+
+    /// Its laws.
+    ghost is_fair: { (n : Self.Names) → IsFair (ruling n) };
+
+    /// Whether a claim agrees with itself.
+    fn sound(&self, claim: &Claim) -> bool
+        ensures { result ≡ (ruling (names self.now)).is_sound claim.now };
+
+    /// The root of the state that a claim names.
+    fn root_of(&self, claim: &Claim) -> Digest32
+        ensures { result ≡ (ruling (names self.now)).root_of claim.now };
+
+    /// The root to which a proof leads from the root `from`; `None` where it leads nowhere.
+    fn leads(&self, from: Digest32, proof: &StepProof) -> Option<Digest32>
+        ensures { result ≡ (ruling (names self.now)).leads from proof.now };
+
+    /// Two different strings of one digest, the first opened by the first claim, the second by the second.
+    fn claim_collision(&self, first: &Claim, second: &Claim) -> Option<(OpenText, OpenText)>
+        ensures { result ≡ (ruling (names self.now)).claim_collision first.now second.now };
+
+    /// Two different strings of one digest, the first opened by the first proof, the second by the second, of two proofs
+    /// that both lead from the root `from`.
+    fn step_collision(
+        &self,
+        from: Digest32,
+        first: &StepProof,
+        second: &StepProof,
+    ) -> Option<(OpenText, OpenText)>
+        ensures { result ≡ (ruling (names self.now)).step_collision from first.now second.now };
+}

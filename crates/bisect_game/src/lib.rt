@@ -1,0 +1,29 @@
+//! One dispute by bisection: two provers claim different roots of the same run, and rounds narrow the interval from a
+//! step on which they agree to a step on which they differ, until one step is left, of which both are asked for a proof.
+//!
+//! It knows no machine and no hash: what is sound, which root a claim has, where a proof leads and what a collision is
+//! says a `Judge`, with laws that every judge proves. The layers above may rely on this: each call of a `Dispute` is the
+//! definition of a dispute (`specs/Bisection.antt`, `specs/Closing.antt`) moved one answer at a time, and takes no memory
+//! once its `Room` was made; the laws in `laws` hold of that definition. Read `question`, `settled` and `judge` first, then
+//! `dispute`; `rounds` decides a round.
+#![tactic(auto)]
+
+mod answerer;
+mod dispute;
+mod interval;
+mod judge;
+mod laws;
+mod question;
+mod rounds;
+mod settled;
+mod side;
+
+pub use answerer::{Answerer, Provers};
+pub use dispute::{Dispute, Room};
+pub use interval::{Interval, Round};
+pub use judge::Judge;
+pub use laws::{bisection_laws, sides_settle_in_any_order};
+pub use question::{Kind, Question};
+pub use rounds::same_digest;
+pub use settled::{Close, Settled};
+pub use side::Side;

@@ -1,0 +1,20 @@
+use rd_base::Qid;
+
+/// What a prover is asked for.
+#[derive(Clone, Copy, Debug, PartialEq, Eq)]
+pub enum Kind {
+    /// The claim about the whole run.
+    Claim,
+    /// The root of the state after so many steps.
+    Root(u64),
+    /// The proof of the step with this number, from 0.
+    Proof(u64),
+}
+
+/// A question of a match.
+#[derive(Clone, Copy, Debug, PartialEq, Eq)]
+pub struct Question {
+    /// Its number: dispute and round, both 0 for the claim.
+    pub qid: Qid,
+    pub kind: Kind,
+}
