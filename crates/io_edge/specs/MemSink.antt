@@ -1,4 +1,4 @@
--- What contracts see of a sink over memory.
+-- To believe: what contracts see of a sink over memory.
 use Rattle.std.specs.Prelude.{ℕ, List, ◌++◌}
 use Rattle.io_edge.specs.Device.{next_count}
 

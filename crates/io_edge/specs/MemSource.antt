@@ -1,4 +1,4 @@
--- What contracts see of a source over memory.
+-- To believe: what contracts see of a source over memory.
 use Rattle.std.specs.Prelude.{ℕ, List, drop}
 use Rattle.io_edge.specs.Device.{next_count}
 

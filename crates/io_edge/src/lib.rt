@@ -1,28 +1,33 @@
-//! The outside: where bytes come from and go to, and how often that failed.
+//! The edge: where bytes come from and go to, and how often that failed.
 //!
 //! The layers above may rely on this: no failed read passes for the end of input, and no failed write for a
-//! written text, since every failure raises a count that nothing else raises. Contracts name the bytes that a
-//! source has left and a sink holds where those are told, as they are for the devices over memory and over a reader
-//! that tells them; of standard input and output no bytes are told. Read `source` first, then `sink`.
+//! written text, since every failure raises a count by one, and nothing else raises it. Contracts name the bytes that a
+//! source has left and a sink holds where those are visible: of the devices over memory, and of a device over a reader
+//! or writer whose bytes are visible. Those of standard input and output aren't; they are such devices too, so what is
+//! proved of every reader and writer holds of them. Read `source` first, then `sink`.
 #![tactic(auto)]
 
 mod fault;
-mod memory;
+mod mem_sink;
+mod mem_source;
 mod quiet;
-mod reading;
+mod read_whole;
+mod reader_source;
 mod sink;
 mod source;
-mod standard;
-mod writing;
+mod write_whole;
+mod writer_sink;
 
 pub use fault::Failed;
-pub use memory::{MemSink, MemSource};
+pub use mem_sink::MemSink;
+pub use mem_source::MemSource;
 pub use quiet::{QuietSink, QuietSource};
-pub use reading::{ReadAll, read_all};
+pub use read_whole::{ReadAll, read_all};
+pub use reader_source::{ReaderSource, StdSource};
 pub use sink::Sink;
 pub use source::Source;
-pub use standard::{ReaderSource, StdSink, StdSource};
-pub use writing::write_all;
+pub use write_whole::write_all;
+pub use writer_sink::{StdSink, WriterSink};
 
 #[cfg(test)]
 mod tests;

@@ -1,6 +1,6 @@
-ghost use Rattle.std.specs.Prelude.{◌≡◌, ℕ, List, Option, ◌<◌, ◌≤◌, min, ◌++◌, length, take, drop, Some, None, Ok, IfOk, OnErr};
+ghost use Rattle.std.specs.Prelude.{◌≡◌, ◌<◌, ◌≤◌, min, ◌++◌, length, take, drop, Some, None, Ok, IfOk, OnErr};
 ghost use Rattle.std.specs.Io.KnownBytes.{Consumes, IsAtEnd, Appends, Keeps};
-ghost use Rattle.io_edge.specs.Device.{Counts};
+ghost use Rattle.io_edge.specs.Device.{AppendsPart, Counts};
 
 use crate::fault::Failed;
 use crate::sink::Sink;
@@ -60,7 +60,7 @@ impl Source for QuietSource {
     }
 }
 
-/// A sink that takes each piece whole and drops it. It never fails, and no bytes of it are told.
+/// A sink that takes each piece whole and drops it. It never fails, and its bytes aren't visible.
 #[derive(Clone, Copy, Debug)]
 pub struct QuietSink;
 
@@ -77,7 +77,7 @@ impl Sink for QuietSink {
         ensures within { IfOk result (λ n. n ≤ length piece.now) }
         ensures some { IfOk result (λ n. 0 < length piece.now → 0 < n) }
         ensures bytes { IfOk result (λ n. Appends None None (take n piece.now)) }
-        ensures failed { OnErr result (◌≡◌ {A = Option (List ℕ)} None None) }
+        ensures failed { OnErr result (AppendsPart None None piece.now) }
         ensures count { Counts 0 0 result }
     {
         Ok(piece.len())

@@ -1,23 +1,24 @@
 ghost use Rattle.std.specs.Prelude.{◌≡◌, ℕ, ◌<◌, ◌≤◌, List, Option, length, take, IfOk, OnErr};
 ghost use Rattle.std.specs.Io.KnownBytes.{Appends};
-ghost use Rattle.io_edge.specs.Device.{Counts};
+ghost use Rattle.io_edge.specs.Device.{AppendsPart, Counts};
 
 use crate::fault::Failed;
 
 /// Where bytes go.
 pub trait Sink {
-    /// The bytes that it holds, where they are told.
+    /// The bytes that it holds, where they are visible.
     ghost held: { Self → Option (List ℕ) };
 
     /// How often writing has failed. It never falls, and stands still at the largest `u64`.
     ghost faults: { Self → ℕ };
 
-    /// Takes some bytes off the front of `piece`, and says how many: at least one where `piece` isn't empty.
-    /// A failed write takes nothing, and raises the count of faults.
+    /// Takes the first bytes of `piece`, and returns how many: at least one where `piece` isn't empty. A write that
+    /// fails raises the count of faults by one. A prefix of `piece` may have been taken by then, as where bytes are
+    /// written and then a flush fails.
     fn write_some(&mut self, piece: &[u8]) -> Result<usize, Failed>
         ensures within { IfOk result (λ n. n ≤ length piece.now) }
         ensures some { IfOk result (λ n. 0 < length piece.now → 0 < n) }
         ensures bytes { IfOk result (λ n. Appends (held self.old) (held self.new) (take n piece.now)) }
-        ensures failed { OnErr result (held self.new ≡ held self.old) }
+        ensures failed { OnErr result (AppendsPart (held self.old) (held self.new) piece.now) }
         ensures count { Counts (faults self.old) (faults self.new) result };
 }

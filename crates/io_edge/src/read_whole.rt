@@ -1,12 +1,12 @@
-ghost use Rattle.std.specs.Prelude.{◌≡◌, ◌<◌, ◌≤◌, length, vec_len, IfOk, IfSome, IsErrOf};
+ghost use Rattle.std.specs.Prelude.{◌≡◌, ◌+◌, ◌<◌, ◌≤◌, length, vec_len, IfOk, IfSome, IsErrOf};
 ghost use Rattle.std.specs.Io.KnownBytes.{Consumes, IsAtEnd};
-ghost use Rattle.io_edge.specs.Device.{Rises, IsLaterIn};
+ghost use Rattle.io_edge.specs.Device.{Rises, IsLaterIn, ReadsUpTo};
 
 use crate::source::Source;
 use std::alloc::Global;
 use thiserror::Error;
 
-/// How many bytes are asked for at a time.
+/// How many bytes one call asks for.
 const PIECE: usize = 4096;
 
 /// Why not everything was read.
@@ -19,16 +19,17 @@ pub enum ReadAll {
     #[error("there are too many bytes")]
     TooLong,
     /// An allocation was refused.
-    #[error("want of memory")]
+    #[error("out of memory")]
     Memory,
 }
 
 /// Reads all that the source has, at most `limit` bytes.
 ///
 /// `Fault` comes only where the source's count of faults rose, and every other answer leaves that count as it
-/// was. `TooLong` comes exactly where the source had more than `limit` bytes, and `Memory` where memory was
-/// refused, for which there is no need where the source had none. After an error the source stands after the
-/// bytes that it gave.
+/// was. `TooLong` comes exactly where the source had more than `limit` bytes, and `Memory` where an allocation was
+/// refused, which an empty source never needs. After an error the source stands after the bytes that were read:
+/// at most `limit`, and with `TooLong` at most 4,096 more. Nothing is read after the end, nor once more than `limit`
+/// bytes were seen.
 pub fn read_all<S: Source>(alloc: Global, source: &mut S, limit: usize) -> Result<Vec<u8>, ReadAll>
     ensures all { IfOk result (λ v. Consumes (S.left source.old) (S.left source.new) v.items × IsAtEnd (S.left source.new)) }
     ensures within { IfOk result (λ v. vec_len v ≤ limit) }
@@ -37,6 +38,8 @@ pub fn read_all<S: Source>(alloc: Global, source: &mut S, limit: usize) -> Resul
     ensures fault { IsErrOf result ReadAll.Fault → Rises (S.faults source.old) (S.faults source.new) }
     ensures count { ¬ (IsErrOf result ReadAll.Fault) → S.faults source.new ≡ S.faults source.old }
     ensures rest { IfSome (S.left source.old) (IsLaterIn (S.left source.new)) }
+    ensures most { ReadsUpTo (S.left source.old) (S.left source.new) (limit + 4096) }
+    ensures allowed { ¬ (IsErrOf result ReadAll.TooLong) → ReadsUpTo (S.left source.old) (S.left source.new) limit }
 {
     let mut bytes = Vec::new(alloc);
     let mut buf = [0u8; PIECE];

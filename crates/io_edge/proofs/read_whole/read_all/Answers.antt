@@ -1,7 +1,7 @@
 use Rattle.std.proofs.Common.{append-nil}
 use Rattle.std.proofs.KnownBytes.{Consumes-trans}
 use Rattle.io_edge.proofs.Known.{IsLaterIn-from_Consumes}
-use Rattle.io_edge.proofs.reading.read_all.Goals as goal
+use Rattle.io_edge.proofs.read_whole.read_all.Goals as goal
 
 pub returns-then-n-eq0-clause-all : goal.returns-then-n-eq0-clause-all
 returns-then-n-eq0-clause-all g c =

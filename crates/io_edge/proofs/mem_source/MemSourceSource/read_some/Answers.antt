@@ -1,6 +1,6 @@
 use Rattle.std.proofs.Common.{rules, drop}
 use Rattle.io_edge.proofs.CopyLemmas.{split_at_copy}
-use Rattle.io_edge.proofs.memory.MemSourceSource.read_some.Goals as goal
+use Rattle.io_edge.proofs.mem_source.MemSourceSource.read_some.Goals as goal
 
 pub returns-clause-bytes : goal.returns-clause-bytes
 returns-clause-bytes c =

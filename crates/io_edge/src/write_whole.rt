@@ -5,10 +5,10 @@ ghost use Rattle.io_edge.specs.Device.{Counts, AppendsPart};
 use crate::fault::Failed;
 use crate::sink::Sink;
 
-/// Writes all the bytes. It takes no memory.
+/// Writes all the bytes. It allocates nothing.
 ///
-/// It fails only where the sink's count of faults rose, and then the sink has taken a part from the front of
-/// them, and not all. `Ok` leaves the count as it was.
+/// It fails only where the sink's count of faults rose by one, and then the sink has taken a prefix of them. `Ok`
+/// leaves the count as it was.
 pub fn write_all<K: Sink>(sink: &mut K, bytes: &[u8]) -> Result<(), Failed>
     ensures ok { OnOk result (Appends (K.held sink.old) (K.held sink.new) bytes.now) }
     ensures failed { OnErr result (AppendsPart (K.held sink.old) (K.held sink.new) bytes.now) }
