@@ -1,19 +1,22 @@
 //! The machine's memory: 2^32 bytes, all of them 0 until something is stored.
 //!
-//! The layers above see a finite map from addresses to the bytes that aren't 0, whatever is kept inside, so two
-//! memories with the same bytes are one value to them. `store` and `lay` change their own bytes alone, which
-//! `laying_bytes` states byte by byte. Inside, memory is kept in pages of 4,096 bytes, of which only those are
-//! there that something was stored to: an access looks one page up, and `next_page` goes over these pages alone.
-//! Read `specs/Contents.antt` first, and then `memory`.
+//! The layers above see a finite map from addresses to the bytes that aren't 0, whatever is kept inside.
+//! `PlainMem::is_memory` and `memories_are_their_bytes` state that two memories with the same bytes are one value. `store`
+//! and `lay` change their own bytes alone, which `laying_bytes` states byte by byte, and `numbers_lie_in_chunks` for the
+//! chunks of 32 bytes. A memory is taken apart and put together by pages of 4,096 bytes with `next_page`, `page` and
+//! `put_page`. Inside, only those pages are kept that something was stored to: an access looks one page up, and
+//! `next_page` goes over these pages alone. Read `specs/Contents.antt` first, and then `memory` and `laws`.
 #![tactic(auto)]
 
-mod law;
+mod laws;
 mod memory;
 mod page;
 
-pub use law::laying_bytes;
+pub use laws::{
+    contents_of_a_function, laying_bytes, memories_are_their_bytes, numbers_lie_in_chunks,
+};
 pub use memory::PlainMem;
-pub use page::PAGE_BYTES;
+pub use page::{PAGE_BYTES, Page};
 
 #[cfg(test)]
 mod tests;

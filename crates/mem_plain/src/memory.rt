@@ -1,5 +1,6 @@
-ghost use Rattle.std.specs.Prelude.{◌≡◌, ◌⊎◌, ◌+◌, ◌/◌, ◌%◌, ◌^◌, ◌<◌, ◌≤◌, length, IfOk, OnOk, OnErr};
+ghost use Rattle.std.specs.Prelude.{◌≡◌, ◌⊎◌, ℕ, ◌+◌, ◌*◌, ◌/◌, ◌%◌, ◌^◌, ◌<◌, ◌≤◌, length, slice_index, if◌then◌else◌, ◌==◌, IfOk, IfSome, OnOk, OnErr};
 ghost use Rattle.mem_plain.specs.Pages.{contents_of};
+ghost use Rattle.mem_plain.specs.Memory.{IsMemory};
 ghost use Rattle.mem_plain.specs.Contents.{no_bytes, byte_at, number_at, with_number, laid, chunk_at, IsUsed, IsNextUsed};
 
 use crate::page::{PAGE_BYTES, Page};
@@ -81,7 +82,8 @@ impl PlainMem {
     /// The least page at or after `from` with a byte that isn't 0, or `None` where there is no such page. A page
     /// goes by its number, which is that of its addresses / 4,096; `from` may be any number.
     pub fn next_page(&self, from: u32) -> Option<u32>
-        ensures { IsNextUsed self.now from result }
+        ensures next { IsNextUsed self.now from result }
+        ensures below { IfSome result (λ page. page < 2 ^ 20) }
     {
         next_used(&self.pages, from)
     }
@@ -94,6 +96,35 @@ impl PlainMem {
             pages: self.pages.clone()?,
             alloc: self.alloc,
         })
+    }
+
+    /// The page with a number below 2^20: the 4,096 bytes from address 4,096 * `number` on. An `Err` is want of memory.
+    pub fn page(&self, number: u32) -> Result<Page, Memory>
+        requires { number < 2 ^ 20 }
+        ensures { IfOk result (λ page. (at : ℕ) → at < 4096 → slice_index page.bytes.items at ≡ byte_at self.now (number * 4096 + at)) }
+    {
+        match self.pages.get(&number) {
+            Some(page) => Ok(page.clone()?),
+            None => Page::zeros(self.alloc),
+        }
+    }
+
+    /// The page with a number below 2^20 has these bytes from now on, and every other byte stays. An `Err` is want of
+    /// memory, and changes nothing.
+    pub fn put_page(&mut self, number: u32, page: Page) -> Result<(), Memory>
+        requires { number < 2 ^ 20 }
+        ensures put { OnOk result ((q : ℕ) → byte_at self.new q ≡ (if q / 4096 == number then slice_index page.bytes.items (q % 4096) else byte_at self.old q)) }
+        ensures err { OnErr result (self.new ≡ self.old) }
+    {
+        self.pages.insert(number, page)?;
+        Ok(())
+    }
+
+    /// States that the contents are those of a memory, so that its bytes determine them. It computes nothing.
+    pub fn is_memory(&self)
+        ensures { IsMemory self.now }
+    {
+        let _pages = &self.pages;
     }
 
     /// Stores the low `width` bytes of `value` at an address, the least byte first. The width is 1, 2 or 4,
@@ -136,7 +167,8 @@ impl PlainMem {
 }
 
 fn next_used(pages: &BTreeMap<u32, Page>, from: u32) -> Option<u32>
-    ensures { IsNextUsed (contents_of pages.now.entries) from result }
+    ensures next { IsNextUsed (contents_of pages.now.entries) from result }
+    ensures below { IfSome result (λ page. page < 2 ^ 20) }
 {
     if from >= PAGES {
         return None;

@@ -124,3 +124,26 @@ fn a_copy_and_its_original_go_their_own_ways(rt: HostRuntime) -> Result<(), Fail
     assert_eq!(rt; copied.byte(0x9000), 4);
     Ok(())
 }
+
+#[test]
+fn a_memory_is_put_together_again_by_its_pages(rt: HostRuntime) -> Result<(), Fail> {
+    let mem = PlainMem::new(rt.alloc()).lay(0x1ffe, &[1, 2, 3, 4])?;
+    let mut copied = PlainMem::new(rt.alloc()).lay(0x2000, &[9; 4])?;
+    copied.put_page(1, mem.page(1)?)?;
+    copied.put_page(2, mem.page(2)?)?;
+    let wanted = [
+        (0x1ffd, 0),
+        (0x1ffe, 1),
+        (0x1fff, 2),
+        (0x2000, 3),
+        (0x2001, 4),
+        (0x2002, 0),
+        (0x2003, 0),
+    ];
+    for (addr, byte) in wanted {
+        assert_eq!(rt; copied.byte(addr), byte, "at {addr}");
+    }
+    copied.put_page(2, mem.page(0xf_ffff)?)?;
+    assert_eq!(rt; copied.next_page(2), None);
+    Ok(())
+}
