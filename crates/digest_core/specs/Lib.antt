@@ -1,0 +1,3 @@
+pub mod Text
+pub mod Chain
+pub mod Sha256Bytes

@@ -1,0 +1,44 @@
+-- To believe: the byte strings that are digested, one definition for each kind. A string begins with the byte of its
+-- kind; a number stands in it with its least byte first. A digest has 32 bytes, and so has a chunk of memory.
+use Rattle.std.specs.Prelude.{ℕ, List, [], ◌∷◌, ◌++◌}
+use Rattle.std.specs.List.{flat_map}
+use Rattle.byteorder.specs.Endian.{little_bytes}
+use Rattle.rd_base.specs.declared.status.Status.{Status}
+use Rattle.rd_base.specs.declared.status.Status.TheVariants.{Running, Exited, Trapped}
+
+-- leaf: 0, and a chunk of memory
+abbrev pub leaf_text : List ℕ → List ℕ
+leaf_text chunk = 0 ∷ chunk
+
+-- node: 1, and the digests of the left and of the right child
+abbrev pub node_text : List ℕ → List ℕ → List ℕ
+node_text left right = 1 ∷ left ++ right
+
+-- registers: 2, and what x0 to x31 hold, four bytes each
+unfoldable pub registers_text : List ℕ → List ℕ
+registers_text registers = 2 ∷ flat_map (little_bytes 4) registers
+
+-- the byte of a status: 0 running, 1 exited, 2 trapped
+abbrev pub status_byte : Status → ℕ
+status_byte Running = 0
+status_byte (Exited code) = 1
+status_byte (Trapped code) = 2
+
+-- the code of a status, which is 0 while the machine runs
+abbrev pub status_code : Status → ℕ
+status_code Running = 0
+status_code (Exited code) = code
+status_code (Trapped code) = code
+
+-- control: 3, the pc in four bytes, the status in one and its code in four, the output's length in eight, and its chain
+unfoldable pub control_text : ℕ → Status → ℕ → List ℕ → List ℕ
+control_text pc status out_len chain =
+    3 ∷ little_bytes 4 pc ++ status_byte status ∷ little_bytes 4 (status_code status) ++ little_bytes 8 out_len ++ chain
+
+-- state: 4, and the digests of memory, of the registers string and of the control string
+abbrev pub state_text : List ℕ → List ℕ → List ℕ → List ℕ
+state_text memory registers control = 4 ∷ memory ++ registers ++ control
+
+-- link: 5, the chain of an output, and the byte that is put out next
+abbrev pub link_text : List ℕ → ℕ → List ℕ
+link_text chain byte = 5 ∷ chain ++ byte ∷ []

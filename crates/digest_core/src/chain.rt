@@ -1,0 +1,13 @@
+ghost use Rattle.std.specs.Prelude.{◌≡◌};
+ghost use Rattle.digest_core.specs.Text as text;
+
+use crate::digester::Digester;
+use crate::text::link_text;
+use rd_base::Digest32;
+
+/// The chain of an output after one more byte, from the chain before: the digest of their link string.
+pub fn link<D: Digester>(d: D, chain: Digest32, byte: u8) -> Digest32
+    ensures { result.0 ≡ D.digest_of (text.link_text chain.0 byte) }
+{
+    d.digest(link_text(&chain, byte).as_slice())
+}

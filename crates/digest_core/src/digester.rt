@@ -1,0 +1,36 @@
+ghost use Rattle.std.specs.Prelude.{◌≡◌, ◌<◌, ℕ, List, length, slice_index};
+ghost use Rattle.sha2.specs.Sha256.{sha256};
+ghost use Rattle.sha2.proofs.Facts256.{length-sha256};
+ghost use Rattle.digest_core.specs.Sha256Bytes.{byte-sha256};
+
+use rd_base::Digest32;
+use sha2::Digest;
+
+/// A digest function, which the type alone names: two values of one type give the same digests.
+pub trait Digester: Copy {
+    ghost digest_of: { List ℕ → List ℕ };
+
+    /// The digest of the bytes. It takes no memory.
+    fn digest(&self, bytes: &[u8]) -> Digest32
+        ensures { result.0 ≡ digest_of bytes.now };
+
+    ghost is_digest: { (bytes : List ℕ) → length (digest_of bytes) ≡ 32 };
+
+    ghost is_bytes: { (bytes : List ℕ) (k : ℕ) → slice_index (digest_of bytes) k < 256 };
+}
+
+/// SHA-256 (FIPS 180-4, section 6.2).
+#[derive(Clone, Copy, Debug)]
+pub struct Sha256;
+
+impl Digester for Sha256 {
+    ghost digest_of = { sha256 };
+
+    ghost is_digest = { length-sha256 };
+
+    ghost is_bytes = { byte-sha256 };
+
+    fn digest(&self, bytes: &[u8]) -> Digest32 {
+        Digest32(sha2::Sha256::digest(bytes))
+    }
+}

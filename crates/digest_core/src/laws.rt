@@ -1,0 +1,47 @@
+//! Laws of the definitions, each of them the contract of a function that does nothing.
+ghost use Rattle.std.specs.Prelude.{◌≡◌, ◌≢◌, ℕ, ◌^◌, ◌<◌, List, [], ◌∷◌, ◌++◌, length, replicate, slice_index};
+ghost use Rattle.rd_base.specs.declared.status.Status.{Status};
+ghost use Rattle.digest_core.specs.Text.{leaf_text, node_text, registers_text, control_text, status_code, state_text, link_text};
+ghost use Rattle.digest_core.specs.Chain.{chain_of};
+
+/// Strings of two kinds differ, since a string of each kind has a length that no other kind has.
+#[tactic(auto, using(crate::proofs::TextLemmas::length_registers_text, crate::proofs::TextLemmas::length_control_text))]
+pub fn kinds_have_lengths()
+    ensures leaf { (chunk : List ℕ) → length chunk ≡ 32 → length (leaf_text chunk) ≡ 33 }
+    ensures node { (left right : List ℕ) → length left ≡ 32 → length right ≡ 32 → length (node_text left right) ≡ 65 }
+    ensures registers { (xs : List ℕ) → length xs ≡ 32 → length (registers_text xs) ≡ 129 }
+    ensures control { (pc : ℕ) (status : Status) (out_len : ℕ) (chain : List ℕ) → length chain ≡ 32 →
+        length (control_text pc status out_len chain) ≡ 50 }
+    ensures state { (memory registers control : List ℕ) →
+        length memory ≡ 32 → length registers ≡ 32 → length control ≡ 32 →
+        length (state_text memory registers control) ≡ 97 }
+    ensures link { (chain : List ℕ) (byte : ℕ) → length chain ≡ 32 → length (link_text chain byte) ≡ 34 }
+    ensures differ { (s t : List ℕ) → length s ≢ length t → s ≢ t }
+{}
+
+/// Two strings of one kind with different parts differ, since a string determines its parts.
+#[tactic(auto, using(crate::proofs::TextLemmas::cons_parts, crate::proofs::TextLemmas::append_parts, crate::proofs::TextLemmas::registers_text_same, crate::proofs::TextLemmas::control_text_same, crate::proofs::TextLemmas::state_text_same))]
+pub fn texts_determine_their_parts()
+    ensures leaf { (c d : List ℕ) → leaf_text c ≡ leaf_text d → c ≡ d }
+    ensures node { (l r m s : List ℕ) → length l ≡ length m → node_text l r ≡ node_text m s → (l ≡ m) × (r ≡ s) }
+    ensures registers { (xs ys : List ℕ) →
+        ((r : ℕ) → slice_index xs r < 2 ^ 32) → ((r : ℕ) → slice_index ys r < 2 ^ 32) →
+        registers_text xs ≡ registers_text ys → xs ≡ ys }
+    ensures control { (p q : ℕ) (s t : Status) (m n : ℕ) (c d : List ℕ) →
+        p < 2 ^ 32 → q < 2 ^ 32 → status_code s < 2 ^ 32 → status_code t < 2 ^ 32 → m < 2 ^ 64 → n < 2 ^ 64 →
+        control_text p s m c ≡ control_text q t n d → (p ≡ q) × (s ≡ t) × (m ≡ n) × (c ≡ d) }
+    ensures state { (m r c n s d : List ℕ) → length m ≡ length n → length r ≡ length s →
+        state_text m r c ≡ state_text n s d → (m ≡ n) × (r ≡ s) × (c ≡ d) }
+    ensures link { (c d : List ℕ) (b e : ℕ) → link_text c b ≡ link_text d e → (c ≡ d) × (b ≡ e) }
+{}
+
+/// The chain is 32 zero bytes for no output, else the digest of the link string of the chain before and the last byte.
+/// It has 32 bytes where each digest has.
+#[tactic(auto, using(crate::proofs::ChainLemmas::chain_of_none, crate::proofs::ChainLemmas::chain_of_more, crate::proofs::ChainLemmas::length_chain_of))]
+pub fn chain_grows()
+    ensures none { (digest : List ℕ → List ℕ) → chain_of digest [] ≡ replicate 32 0 }
+    ensures more { (digest : List ℕ → List ℕ) (output : List ℕ) (byte : ℕ) →
+        chain_of digest (output ++ byte ∷ []) ≡ digest (link_text (chain_of digest output) byte) }
+    ensures length { (digest : List ℕ → List ℕ) → ((bytes : List ℕ) → length (digest bytes) ≡ 32) →
+        (output : List ℕ) → length (chain_of digest output) ≡ 32 }
+{}
