@@ -1,12 +1,13 @@
 //! Facts about plain data, each a function that does nothing.
-ghost use Rattle.std.specs.Prelude.{◌≡◌, length, slice_index};
+ghost use Rattle.std.specs.Prelude.{◌≡◌, ◌<◌, ◌^◌, ℕ, length, slice_index};
 
 use crate::regs::Regs;
 
-/// A register file has 32 registers, and `x0` holds 0.
+/// A register file has 32 registers, `x0` holds 0, and each register a number below 2^32.
 pub fn registers_are_32(regs: &Regs)
     ensures count { length regs.now ≡ 32 }
     ensures zero { slice_index regs.now 0 ≡ 0 }
+    ensures words { (r : ℕ) → slice_index regs.now r < 2 ^ 32 }
 {
     let _x0 = regs.x[0];
 }

@@ -10,13 +10,13 @@ pub struct Regs {
 }
 
 impl Model for Regs {
-    ghost use Rattle.std.specs.Prelude.{◌≡◌, List, ℕ, slice_index};
+    ghost use Rattle.std.specs.Prelude.{◌≡◌, ◌<◌, ◌^◌, List, ℕ, slice_index};
 
     ghost Value = { List ℕ };
 
     ghost view = { λ r. r.x };
 
-    ghost invariant = { λ r. slice_index r.x 0 ≡ 0 };
+    ghost invariant = { λ r. (slice_index r.x 0 ≡ 0) × ((k : ℕ) → slice_index r.x k < 2 ^ 32) };
 
     ghost inverse = { λ xs. record { x = xs } };
 }
