@@ -1,0 +1,8 @@
+use Rattle.std.proofs.Common.{◌≡◌, ap, ◌∙◌}
+use Rattle.seat_lock.specs.Seats.{first_seat}
+use Rattle.seat_lock.specs.Views.{starting, known_as}
+use Rattle.seat_lock.proofs.Opens.{opens}
+use Rattle.seat_lock.proofs.lock.SeatLock.new.Goals as goal
+
+pub new-requires : goal.new-requires
+new-requires g c = rw (c.push_reserved.ensures.items, c.in_ok-slots.ensures.items, c.of-about.ensures) (opens g.T.Logged.head g.T.Logged.log c.args.value)
