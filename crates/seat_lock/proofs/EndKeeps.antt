@@ -1,9 +1,8 @@
 -- The end of a turn keeps the rule.
-use Rattle.std.proofs.Common.{◌≡◌, ◌≢◌, ◌⊎◌, inl, inr, ⊎_elim, ℕ, zero, suc, ◌+◌, ◌%◌, ◌<◌, ◌≤◌, List, [], ◌∷◌, ◌++◌, length, get_or, set, drop, Option, Some, None, sym, refl, ap, ◌∙◌, subst, arith}
+use Rattle.std.proofs.Common.{◌≡◌, ◌≢◌, inl, inr, ⊎_elim, ℕ, zero, suc, ◌+◌, ◌%◌, ◌<◌, List, [], ◌∷◌, ◌++◌, length, get_or, set, drop, Option, Some, None, sym, refl, ap, ◌∙◌, subst, arith}
 use mathlib.Core.Option.{some, none, some-injective}
 use mathlib.Core.Option as maybe
 use lib.ListN.{get_elem?}
-use Rattle.std.specs.List.{All}
 use Rattle.atomic_table.specs.Table.{rest, Me, step, gives, stepped, Allows}
 use Rattle.atomic_table.proofs.Lists.{set_here, drop_at}
 use Rattle.seat_lock.specs.declared.view.View.{View}

@@ -1,13 +1,12 @@
 -- A join keeps the rule.
-use Rattle.std.proofs.Common.{◌≡◌, ◌≢◌, ℕ, suc, ◌+◌, ◌-◌, ◌<◌, List, [], ◌∷◌, ◌++◌, length, set, Some, None, sym, refl, ap, ◌∙◌, subst, arith}
+use Rattle.std.proofs.Common.{◌≡◌, ℕ, suc, ◌<◌, List, ◌∷◌, ◌++◌, set, Some, None, sym, refl, ap, ◌∙◌, subst, arith}
 use mathlib.Core.Option.{some, some-injective}
 use lib.ListN.{get_elem?}
-use Rattle.std.specs.List.{All}
 use Rattle.std.proofs.lemmas.List.Elements.{All-cons, All-append}
 use Rattle.atomic_table.specs.Table.{Joins}
 use Rattle.atomic_table.proofs.Lists.{set_here, set_else}
 use Rattle.seat_lock.specs.declared.view.View.{View}
-use Rattle.seat_lock.specs.History.{Entry, History, log_of, Begins, times}
+use Rattle.seat_lock.specs.History.{Entry, History, Begins, times}
 use Rattle.seat_lock.specs.Rule.{word_size, weight, total, lives, holds_ticket, Fits}
 use Rattle.seat_lock.specs.Views.{with_joined, spent}
 use Rattle.seat_lock.proofs.Histories.{some≢none, begins-longer_of}

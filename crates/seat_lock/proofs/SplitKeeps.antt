@@ -1,11 +1,11 @@
 -- A split keeps the rule.
-use Rattle.std.proofs.Common.{◌≡◌, ◌⊎◌, ⊎_elim, ℕ, suc, ◌+◌, ◌<◌, List, [], ◌∷◌, ◌++◌, length, set, Some, None, sym, refl, ap, ◌∙◌, subst, arith}
+use Rattle.std.proofs.Common.{◌≡◌, ⊎_elim, suc, ◌+◌, ◌<◌, List, [], ◌∷◌, set, Some, None, sym, refl, ap, ◌∙◌, subst, arith}
 use mathlib.Core.Option.{some, some-injective}
 use lib.ListN.{get_elem?}
 use Rattle.atomic_table.specs.Table.{Splits}
 use Rattle.atomic_table.proofs.Lists.{at_snoc, at_longer, set_here}
 use Rattle.seat_lock.specs.declared.view.View.{View}
-use Rattle.seat_lock.specs.History.{Entry, log_of, times}
+use Rattle.seat_lock.specs.History.{Entry, times}
 use Rattle.seat_lock.specs.Rule.{word_size, weight, total, lives, holds_ticket, Fits}
 use Rattle.seat_lock.specs.Views.{with_one_more_out, newcomer}
 use Rattle.seat_lock.proofs.Histories.{some≢none}

@@ -1,5 +1,5 @@
 -- What a turn puts together from its steps.
-use Rattle.std.proofs.Common.{◌≡◌, ◌≢◌, ◌⊎◌, ⊎_elim, ℕ, ◌<◌, List, [], ◌∷◌, ◌++◌, length, Option, Some, None, sym, refl, ap, ◌∙◌, subst}
+use Rattle.std.proofs.Common.{◌≡◌, ⊎_elim, ℕ, ◌<◌, List, [], ◌∷◌, ◌++◌, length, Option, Some, None, sym, ap, ◌∙◌, subst}
 use Rattle.std.specs.Prelude.{slice_get}
 use Rattle.std.specs.List.{All}
 use Rattle.atomic_table.specs.Table.{rest, Me}
@@ -7,7 +7,7 @@ use Rattle.seat_lock.specs.declared.view.View.{View}
 use Rattle.seat_lock.specs.History.{Entry, Turn, History, log_of, Begins, with_receipt, NoneTwice}
 use Rattle.seat_lock.specs.Seats.{LockId}
 use Rattle.seat_lock.specs.Turned.{Turned}
-use Rattle.seat_lock.specs.Views.{known_as, with_ticket, with_served, at_turn, after_turn, StillWaits, BeginsTurn, LooksAt, EndsTurn}
+use Rattle.seat_lock.specs.Views.{known_as, with_ticket, at_turn, after_turn, StillWaits, BeginsTurn, EndsTurn}
 use Rattle.seat_lock.proofs.Histories.{some-injective_or, log_of-adds, log_of-idle, logs_begin, turn-adds, turn-idle, slice_get-last}
 
 module _ {T H : Type 0} (head : T → H) (log : T → List Entry) where

@@ -1,6 +1,6 @@
 -- The rule of a lock's table. Derived: `SeatLock::new` establishes it, each kind of step keeps it, and the clauses of the lock follow from it.
 -- Word 0 is the next ticket and word 1 the number served, both modulo 2^64. Slot 0 holds the value.
-use Rattle.std.specs.Prelude.{◌≡◌, ℕ, suc, ◌+◌, ◌%◌, ◌^◌, ◌<◌, ◌≤◌, nat_lt, if◌then◌else◌, List, [], ◌∷◌, length, Option, Some, None}
+use Rattle.std.specs.Prelude.{◌≡◌, ℕ, suc, ◌+◌, ◌%◌, ◌<◌, ◌≤◌, nat_lt, if◌then◌else◌, List, [], ◌∷◌, length, Option, Some, None}
 use Rattle.std.specs.List.{All}
 use mathlib.Core.Option.{some, none}
 use mathlib.Core.Option as maybe

@@ -1,5 +1,5 @@
 -- One turn of a seat. To believe: it is what the lock promises of a turn.
-use Rattle.std.specs.Prelude.{◌≡◌, ℕ, ◌<◌, List, [], ◌∷◌, ◌++◌, length, slice_get, Option, Some, None}
+use Rattle.std.specs.Prelude.{◌≡◌, ◌<◌, List, [], ◌∷◌, ◌++◌, length, slice_get, Some, None}
 use Rattle.std.specs.List.{All}
 use Rattle.seat_lock.specs.History.{Entry, Turn, History, log_of, Begins, with_receipt, NoneTwice}
 use Rattle.seat_lock.specs.Seats.{Known}

@@ -1,4 +1,4 @@
-use Rattle.std.proofs.Common.{rules, sym, ap, ◌∙◌, subst}
+use Rattle.std.proofs.Common.{rules, ap, ◌∙◌, subst}
 use Rattle.seat_lock.specs.Views.{BeginsTurn}
 use Rattle.seat_lock.proofs.LookKeeps.{looks}
 use Rattle.seat_lock.proofs.Turns.{begins_later}

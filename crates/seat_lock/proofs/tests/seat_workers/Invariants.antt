@@ -1,4 +1,4 @@
-use Rattle.std.proofs.Common.{◌≡◌, ◌≤◌, length, All}
+use Rattle.std.proofs.Common.{◌≡◌, length, All}
 use Rattle.seat_lock.proofs.tests.seat_workers.Given as goal
 
 abbrev pub invariant-loop-number : goal.invariant-loop-number

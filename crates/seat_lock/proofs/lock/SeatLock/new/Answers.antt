@@ -1,6 +1,3 @@
-use Rattle.std.proofs.Common.{◌≡◌, ap, ◌∙◌}
-use Rattle.seat_lock.specs.Seats.{first_seat}
-use Rattle.seat_lock.specs.Views.{starting, known_as}
 use Rattle.seat_lock.proofs.Opens.{opens}
 use Rattle.seat_lock.proofs.lock.SeatLock.new.Goals as goal
 
