@@ -1,5 +1,6 @@
 ghost use Rattle.std.specs.Prelude.{◌≡◌};
-ghost use Rattle.delegate.specs.declared.answer.Halt.TheVariants.{Memory as no_memory};
+ghost use Rattle.delegate.specs.declared.response.Halt.TheVariants.{Memory as no_memory};
+ghost use Rattle.delegate.specs.declared.response.Stop.TheVariants.{Halted};
 
 use crate::answered::Answered;
 use rd_base::{Bytes, Memory};
@@ -7,7 +8,7 @@ use std::alloc::AllocError;
 
 /// What is to be written, whole, and the answer once it is.
 #[derive(Debug, Drop)]
-pub struct Answer {
+pub struct Response {
     pub answered: Answered,
     pub text: Bytes,
 }
@@ -21,18 +22,27 @@ pub enum Halt {
     Memory,
 }
 
-impl From<Memory> for Halt {
-    ghost from_gives = { λ _ halt. halt ≡ no_memory };
+/// Why a command isn't carried out.
+#[derive(Debug, Drop)]
+pub enum Stop {
+    /// It is refused, with this response.
+    Refused(Response),
+    /// There is nothing to write.
+    Halted(Halt),
+}
 
-    fn from(_e: Memory) -> Halt {
-        Halt::Memory
+impl From<Memory> for Stop {
+    ghost from_gives = { λ _ stop. stop ≡ Halted no_memory };
+
+    fn from(_e: Memory) -> Stop {
+        Stop::Halted(Halt::Memory)
     }
 }
 
-impl From<AllocError> for Halt {
-    ghost from_gives = { λ _ halt. halt ≡ no_memory };
+impl From<AllocError> for Stop {
+    ghost from_gives = { λ _ stop. stop ≡ Halted no_memory };
 
-    fn from(_e: AllocError) -> Halt {
-        Halt::Memory
+    fn from(_e: AllocError) -> Stop {
+        Stop::Halted(Halt::Memory)
     }
 }
