@@ -2,13 +2,15 @@ pub use Rattle.io_edge.specs.Device
 pub use Rattle.rv_step.specs.State
 pub use Rattle.rv_step.specs.Step
 pub use Rattle.rv_step.specs.Loaded
-pub use Rattle.case_reader.specs.Reading
+pub use Rattle.case_reader.specs.Case
 pub use Rattle.image_reader.specs.Image
 pub use Rattle.image_reader.specs.Elf
 pub use Rattle.transcript_text.specs.Report
 pub mod Answered
 pub mod Words
 pub mod Match
+pub mod Refusal
 pub mod Outcome
-pub mod Answer
+pub mod Visible
+pub mod Stages
 pub mod Headline

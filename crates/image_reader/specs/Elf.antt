@@ -8,7 +8,7 @@ use Rattle.image_reader.specs.declared.header.Header.{Header}
 use Rattle.image_reader.specs.declared.header.ProgramHeader.{ProgramHeader}
 use Rattle.image_reader.specs.declared.fault.ImageFault.{ImageFault}
 use Rattle.image_reader.specs.declared.fault.ImageFault.TheVariants.{Short, NotElf32Le, NotExecutable, NotRiscv, BadTable, SegmentOutsideFile, FileLargerThanMemory, SegmentPastEnd, SegmentsOverlap, EntryMisaligned, ImageTooLarge}
-use Rattle.image_reader.specs.Fault.{◌>>=◌}
+use Rattle.rd_base.specs.Results.{◌>>=◌}
 use Rattle.image_reader.specs.Image.{Image, too_large}
 
 -- the number in so many bytes of a file from an offset on, the least byte first ('Data Encoding')

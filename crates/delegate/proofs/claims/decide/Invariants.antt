@@ -1,6 +1,6 @@
 use Rattle.std.proofs.Common.{◌≡◌, ◌+◌, drop}
 use Rattle.delegate.specs.Match.{verdict_from, verdict_of}
-use Rattle.delegate.proofs.playing.decide.Given as goal
+use Rattle.delegate.proofs.claims.decide.Given as goal
 
 -- the verdict lies with the provers that are left
 abbrev pub invariant-claims : goal.invariant-claims

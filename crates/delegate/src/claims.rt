@@ -8,7 +8,7 @@ use std::alloc::Global;
 use transcript_text::{Claim, Settled, Verdict};
 
 /// What a prover claims at the end of the run.
-fn claim_of(alloc: Global, end: &Machine, script: &Script) -> Result<Claim, Memory>
+fn claim_by(alloc: Global, end: &Machine, script: &Script) -> Result<Claim, Memory>
     ensures { IfOk result (λ claim. claim ≡ claim_by (state_of end.now) script.now) }
 {
     let output = match &script.manner {
@@ -41,7 +41,7 @@ pub fn settle_claims(
 {
     let mut claims = Vec::new(alloc);
     'scripts: for script in scripts {
-        let claim = claim_of(alloc, end, script)?;
+        let claim = claim_by(alloc, end, script)?;
         claims.push(settle(end, claim))?;
     }
     Ok(Listed::new(claims))
