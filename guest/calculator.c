@@ -130,7 +130,7 @@ static void put_number(uint32_t value)
     put_byte((uint8_t)('0' + value % 10));
 }
 
-/* Puts out what a line gives; tells whether it was good. */
+/* Puts out what a line gives, and returns whether it was good. */
 static bool evaluate(struct reader r, uint32_t line)
 {
     if (next(&r) == '\n')

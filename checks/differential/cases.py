@@ -28,7 +28,7 @@ def digits(count):
 
 
 def nested(levels):
-    """A passed-over value, so that the case has so many levels with its own object."""
+    """An ignored value, so that the case has so many levels with its own object."""
     return good_and('"note": ' + "[" * (levels - 1) + "]" * (levels - 1))
 
 
@@ -129,7 +129,7 @@ ROWS = [
 
 def status_of(answer):
     """The status that comes with an answer ('Statuses')."""
-    for front, status in (("answer", 0), ("fault case", 3), ("fault image", 4), ("fault too long", 12)):
-        if answer.startswith(front):
+    for start, status in (("answer", 0), ("fault case", 3), ("fault image", 4), ("fault too long", 12)):
+        if answer.startswith(start):
             return status
     raise AssertionError(answer)

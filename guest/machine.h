@@ -55,7 +55,7 @@ int memcmp(const void *left, const void *right, size_t count);
 #include <stdlib.h>
 #include <string.h>
 
-/* One byte more than the longest input, to tell one that is longer. */
+/* One byte more than the longest input, to detect one that is longer. */
 static uint8_t host_input[MAX_INPUT_BYTES + 1];
 static size_t host_input_length;
 
