@@ -1,4 +1,4 @@
--- The state of a machine.
+-- To believe: the state of a machine.
 use Rattle.std.specs.Prelude.{ℕ, List}
 use Rattle.rd_base.specs.declared.status.Status.{Status}
 use Rattle.mem_plain.specs.Contents.{Contents}

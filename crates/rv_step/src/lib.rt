@@ -14,6 +14,7 @@
 mod arithmetic;
 mod asked;
 mod effect;
+mod laws;
 mod machine;
 mod parts;
 mod running;
@@ -21,11 +22,12 @@ mod stepping;
 mod touching;
 
 pub use asked::{Need, Outcome};
+pub use laws::{one_page_changes, output_only_grows, stopped_states_stay, two_parts_are_the_step};
 pub use machine::{INPUT_BASE, MAX_INPUT_BYTES, Machine};
-pub use parts::{finish, need, two_parts_are_the_step};
+pub use parts::{finish, need};
 pub use running::advance;
 pub use stepping::step;
-pub use touching::{one_page_changes, touches};
+pub use touching::touches;
 
 #[cfg(test)]
 mod tests;

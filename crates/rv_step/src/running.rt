@@ -1,6 +1,7 @@
-ghost use Rattle.std.specs.Prelude.{◌≡◌, ℕ, ◌≤◌, OnOk, OnErr};
+ghost use Rattle.std.specs.Prelude.{◌≡◌, ℕ, ◌<◌, OnOk, OnErr};
 ghost use Rattle.rv_step.specs.State.{state_of};
-ghost use Rattle.rv_step.specs.Step.{state_at, StepNeedsMemory};
+ghost use Rattle.rv_step.specs.Step.{state_at};
+ghost use Rattle.rv_step.specs.OutOfMemory.{StepNeedsMemory};
 
 use crate::machine::Machine;
 use crate::stepping::step;
@@ -10,7 +11,7 @@ use rd_base::Memory;
 /// one of them, and the machine stands before that step, for which memory has to be taken.
 pub fn advance(machine: &mut Machine, steps: u64) -> Result<(), Memory>
     ensures ok { OnOk result (state_of machine.new ≡ state_at (state_of machine.old) steps) }
-    ensures err { OnErr result ((n : ℕ) × (n ≤ steps) × (state_of machine.new ≡ state_at (state_of machine.old) n)) }
+    ensures err { OnErr result ((n : ℕ) × (n < steps) × (state_of machine.new ≡ state_at (state_of machine.old) n)) }
     ensures needs { OnErr result (StepNeedsMemory (state_of machine.new)) }
     ensures chain { machine.new.ctl.chain ≡ machine.old.ctl.chain }
 {

@@ -2,7 +2,9 @@ ghost use Rattle.std.specs.Prelude.{◌≡◌, ◌%◌, ◌⊎◌, OnOk, OnErr};
 ghost use Rattle.mem_plain.specs.Contents.{number_at};
 ghost use Rattle.rv_step.specs.State.{state_of};
 ghost use Rattle.rv_step.specs.Effect.{effect};
-ghost use Rattle.rv_step.specs.Step.{step as step_of, after_word, settled, Puts, NeedsMemory, StepNeedsMemory};
+ghost use Rattle.rv_step.specs.Step.{step as step_of, after_word};
+ghost use Rattle.rv_step.specs.Parts.{after_finish};
+ghost use Rattle.rv_step.specs.OutOfMemory.{Puts, NeedsMemory, StepNeedsMemory};
 
 use crate::asked::{Need, Outcome};
 use crate::effect::{ILLEGAL_INSTRUCTION, MISALIGNED_JUMP};
@@ -28,7 +30,7 @@ fn number(mem: &PlainMem, addr: u32, width: u8) -> u32
 /// Finishes an instruction for which memory has been read and written, with the number that was read.
 fn finish_on(machine: &mut Machine, instr: &Instr, loaded: u32) -> Result<(), Memory>
     ensures puts { OnErr result (Puts (effect machine.old.regs machine.old.ctl.pc (λ _ _. loaded) instr.now)) }
-    ensures ok { OnOk result (state_of machine.new ≡ settled (state_of machine.old) (effect machine.old.regs machine.old.ctl.pc (λ _ _. loaded) instr.now)) }
+    ensures ok { OnOk result (state_of machine.new ≡ after_finish (state_of machine.old) (effect machine.old.regs machine.old.ctl.pc (λ _ _. loaded) instr.now)) }
     ensures err { OnErr result (state_of machine.new ≡ state_of machine.old) }
     ensures chain { machine.new.ctl.chain ≡ machine.old.ctl.chain }
 {
