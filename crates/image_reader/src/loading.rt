@@ -8,7 +8,7 @@ ghost use Rattle.image_reader.specs.Elf.{is_outside_file, has_larger_file, is_pa
 use crate::fault::ImageFault;
 use crate::header::{ProgramHeader, header_of, loads_of};
 use crate::rules::check_loads;
-use mem_plain::PlainMem;
+use mem_plain::{PlainMem, contents_of_a_function};
 use rd_base::Memory;
 use std::alloc::Global;
 
@@ -65,6 +65,7 @@ fn lay_loads(alloc: Global, bytes: &[u8], loads: &[ProgramHeader]) -> Result<Pla
     requires before_end { list_any is_past_end loads.now ≡ false }
     ensures { IfOk result (λ mem. mem ≡ contents_with (byte_of_loads bytes.now loads.now)) }
 {
+    contents_of_a_function();
     let mut mem = PlainMem::new(alloc);
     'loads: for k in (0..loads.len()).rev() {
         mem = lay_load(mem, bytes, &loads[k])?;

@@ -9,13 +9,13 @@ use Rattle.rv_step.proofs.PartsLemmas.{effect_meets, parts_are_the_step, puts_ne
 use Rattle.rv_step.proofs.stepping.carry_out.Goals as goal
 
 pub returns-in-Nothing-clause-ok : goal.returns-in-Nothing-clause-ok
-returns-in-Nothing-clause-ok c =
+returns-in-Nothing-clause-ok g c =
     let s = state_of c.args.machine.now in
     let i = c.args.instr.now in
     on_ok_weaker c.finish_on.result (λ done. done ∙ (ap (by_parts s i 0) c.in-Nothing.ensures.value ∙ parts_are_the_step s i 0)) c.finish_on.ensures.ok
 
 pub returns-in-Load-clause-ok : goal.returns-in-Load-clause-ok
-returns-in-Load-clause-ok c =
+returns-in-Load-clause-ok g c =
     let s = state_of c.args.machine.now in
     let i = c.args.instr.now in
     on_ok_weaker c.finish_on-in-Load.result
@@ -23,7 +23,7 @@ returns-in-Load-clause-ok c =
     c.finish_on-in-Load.ensures.ok
 
 pub returns-in_ok-store-in-Store-clause-ok : goal.returns-in_ok-store-in-Store-clause-ok
-returns-in_ok-store-in-Store-clause-ok c =
+returns-in_ok-store-in-Store-clause-ok g c =
     let s = state_of c.args.machine.now in
     let i = c.args.instr.now in
     on_ok_weaker c.finish_on-in-Store.result
@@ -31,7 +31,7 @@ returns-in_ok-store-in-Store-clause-ok c =
     c.finish_on-in-Store.ensures.ok
 
 pub returns-in_ok-store-in-Store-clause-err : goal.returns-in_ok-store-in-Store-clause-err
-returns-in_ok-store-in-Store-clause-err c =
+returns-in_ok-store-in-Store-clause-err g c =
     let s = state_of c.args.machine.now in
     let nothing : ℕ → ℕ → ℕ = λ addr width. 0 in
     let i = c.args.instr.now in
@@ -39,13 +39,13 @@ returns-in_ok-store-in-Store-clause-err c =
     on_err_weaker c.finish_on-in-Store.result (λ puts. absurd (subst Puts met_blind puts)) c.finish_on-in-Store.ensures.puts
 
 pub returns-in-Trap-clause-ok : goal.returns-in-Trap-clause-ok
-returns-in-Trap-clause-ok c =
+returns-in-Trap-clause-ok g c =
     let s = state_of c.args.machine.now in
     let i = c.args.instr.now in
     ap (by_parts s i 0) c.in-Trap.ensures.value ∙ parts_are_the_step s i 0
 
 pub returns-in-Nothing-clause-needs : goal.returns-in-Nothing-clause-needs
-returns-in-Nothing-clause-needs c =
+returns-in-Nothing-clause-needs g c =
     let s = state_of c.args.machine.now in
     let read = λ (addr width : ℕ). number_at s.memory addr width in
     let i = c.args.instr.now in
@@ -53,7 +53,7 @@ returns-in-Nothing-clause-needs c =
     on_err_weaker c.finish_on.result (λ puts. puts_need s.memory _ (subst Puts (sym (met.0 0)) puts)) c.finish_on.ensures.puts
 
 pub returns-in-Load-clause-needs : goal.returns-in-Load-clause-needs
-returns-in-Load-clause-needs c =
+returns-in-Load-clause-needs g c =
     let s = state_of c.args.machine.now in
     let read = λ (addr width : ℕ). number_at s.memory addr width in
     let i = c.args.instr.now in
@@ -63,7 +63,7 @@ returns-in-Load-clause-needs c =
     c.finish_on-in-Load.ensures.puts
 
 pub returns-in_ok-store-in-Store-clause-needs : goal.returns-in_ok-store-in-Store-clause-needs
-returns-in_ok-store-in-Store-clause-needs c =
+returns-in_ok-store-in-Store-clause-needs g c =
     let s = state_of c.args.machine.now in
     let nothing : ℕ → ℕ → ℕ = λ addr width. 0 in
     let i = c.args.instr.now in
@@ -71,7 +71,7 @@ returns-in_ok-store-in-Store-clause-needs c =
     on_err_weaker c.finish_on-in-Store.result (λ puts. absurd (subst Puts met_blind puts)) c.finish_on-in-Store.ensures.puts
 
 pub returns-in_err-store-in-Store-clause-needs : goal.returns-in_err-store-in-Store-clause-needs
-returns-in_err-store-in-Store-clause-needs c =
+returns-in_err-store-in-Store-clause-needs g c =
     let s = state_of c.args.machine.now in
     let read = λ (addr width : ℕ). number_at s.memory addr width in
     let i = c.args.instr.now in
