@@ -1,4 +1,4 @@
--- To believe. The numbers of the rules of images.
+-- To believe: the numbers of the rules of images.
 use Rattle.std.specs.Prelude.{ℕ, Option, Some, None}
 use Rattle.image_reader.specs.declared.fault.ImageFault.{ImageFault}
 use Rattle.image_reader.specs.declared.fault.ImageFault.TheVariants.{Short, NotElf32Le, NotExecutable, NotRiscv, BadTable, SegmentOutsideFile, FileLargerThanMemory, SegmentPastEnd, SegmentsOverlap, EntryMisaligned, ImageTooLarge, Memory}

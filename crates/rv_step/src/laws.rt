@@ -3,13 +3,17 @@ ghost use Rattle.std.specs.Prelude.{◌≡◌, ◌≢◌, ℕ, ◌++◌, ◌/◌
 ghost use Rattle.rd_base.specs.Status.{is_running};
 ghost use Rattle.rv_decode.specs.declared.instr.Instr.{Instr};
 ghost use Rattle.mem_plain.specs.Contents.{byte_at};
-ghost use Rattle.rv_step.specs.State.{State};
+ghost use Rattle.rv_step.specs.State.{State, state_of};
+ghost use Rattle.rv_step.specs.Valid.{IsValid};
 ghost use Rattle.rv_step.specs.Effect.{effect};
 ghost use Rattle.rv_step.specs.Step.{step, after_word};
 ghost use Rattle.rv_step.specs.Parts.{needed, by_parts, Meets, IsAligned};
 ghost use Rattle.rv_step.specs.Touched.{touched};
 
-use mem_plain::laying_bytes;
+use crate::machine::Machine;
+use crate::valid::{bytes_are_small, codes_are_words, registers_are_words};
+use mem_plain::{laying_bytes, memories_are_their_bytes};
+use rd_base::registers_are_32;
 
 /// The two parts of a step are the step, for every state and instruction (`step`): what `need` names is read or
 /// written, and `finish` does the rest, with the number that was read, or with any where none was.
@@ -43,3 +47,23 @@ pub fn stopped_states_stay()
 pub fn output_only_grows()
     ensures { (s : State) → (more : List ℕ) × ((step s).output ≡ s.output ++ more) }
 {}
+
+/// A step keeps valid states, which are those with 32 words as registers of which the first is 0, a word as `pc` and
+/// as the code of the status, and bytes in memory and output.
+pub fn steps_keep_valid_states()
+    ensures { (s : State) → IsValid s → IsValid (step s) }
+{
+    memories_are_their_bytes();
+}
+
+/// The state of each machine is valid.
+pub fn machines_are_valid(machine: &Machine)
+    ensures { IsValid (state_of machine.now) }
+{
+    registers_are_32(&machine.regs);
+    registers_are_words(&machine.regs);
+    codes_are_words(&machine.ctl.status);
+    bytes_are_small(&machine.output);
+    machine.mem.is_memory();
+    let _pc = machine.ctl.pc;
+}
