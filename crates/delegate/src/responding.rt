@@ -1,7 +1,8 @@
 ghost use Rattle.std.specs.Prelude.{◌≡◌, ◌↔◌, true, None, Ok, Err, IfOk, IfSome, IsErrOf};
 ghost use Rattle.std.specs.Io.KnownBytes.{IsAtEnd};
 ghost use Rattle.io_edge.specs.Device.{Rises, IsLaterIn};
-ghost use Rattle.rv_step.specs.State.{state_of};
+ghost use Rattle.rv_step.specs.State.{state_of, IsChained};
+ghost use Rattle.sha2.specs.Sha256.{sha256};
 ghost use Rattle.case_reader.specs.Case.{data_of};
 ghost use Rattle.delegate.specs.Answered.{is_outcome, is_of_a_command, reads_all};
 ghost use Rattle.delegate.specs.Outcome.{ended, carried_out, outcome};
@@ -23,6 +24,7 @@ use std::alloc::Global;
 
 /// Carries out a command on a case whose run starts in this machine.
 fn end(alloc: Global, command: Command, case: &Case, start: Machine) -> Result<Response, Memory>
+    requires { IsChained sha256 start }
     ensures { IfOk result (λ response. response ≡ ended command (data_of case.now) (state_of start)) }
 {
     match command {

@@ -251,9 +251,9 @@ module _ (xs : List ℕ) (words : (r : ℕ) → slice_index xs r < 2 ^ 32) where
 written_word : (xs : List ℕ) (r value k : ℕ) → ((k : ℕ) → IsWord (slice_index xs k)) → IsWord value → IsWord (slice_index (set xs r value) k)
 written_word xs r value k words small = ⊎_elim
     (λ inside. ⊎_elim
-        (λ same. omega (arith, ap (slice_index (set xs r value)) same ∙ get_or-set_same xs r value 0 inside))
-        (λ apart. omega (arith, get_or-set_other xs r k value 0 apart, words k))
-        (cases_eq k r))
+    (λ same. omega (arith, ap (slice_index (set xs r value)) same ∙ get_or-set_same xs r value 0 inside))
+    (λ apart. omega (arith, get_or-set_other xs r k value 0 apart, words k))
+    (cases_eq k r))
     (λ outside. omega (arith, ap (λ ys. slice_index ys k) (set_past xs r value outside), words k))
     (cases_lt r (length xs))
 
@@ -302,9 +302,9 @@ access_ends : (addr width : ℕ) → IsAccess addr width → addr + width ≤ 2 
 access_ends addr width access = ⊎_elim
     (λ one. omega (arith, one, access.2))
     (λ more. ⊎_elim
-        (λ two. let even : addr % 2 ≡ 0 = ap (λ w. addr % w) (sym two) ∙ access.1 in omega (arith, two, even, access.2))
-        (λ four. let even : addr % 4 ≡ 0 = ap (λ w. addr % w) (sym four) ∙ access.1 in omega (arith, four, even, access.2))
-        more)
+    (λ two. let even : addr % 2 ≡ 0 = ap (λ w. addr % w) (sym two) ∙ access.1 in omega (arith, two, even, access.2))
+    (λ four. let even : addr % 4 ≡ 0 = ap (λ w. addr % w) (sym four) ∙ access.1 in omega (arith, four, even, access.2))
+    more)
     access.0
 
 memory_valid : StaysMemory → (m : Contents) (e : Effect) → IsMemory m → Fits e → IsMemory (memory_after m e)
@@ -323,7 +323,7 @@ after_valid stays s e valid fits = record {
 pub step_valid : StaysMemory → (s : State) → IsValid s → IsValid (step s)
 step_valid stays s valid = by_effect (λ t _. IsValid t) s
     (λ i.
-        let read = λ (addr width : ℕ). number_at s.memory addr width in
-        after_valid stays s (effect s.regs s.pc read i) valid (effect_fits s.regs valid.regs.words s.pc read i (effect_aligned s.regs s.pc read i)))
+    let read = λ (addr width : ℕ). number_at s.memory addr width in
+    after_valid stays s (effect s.regs s.pc read i) valid (effect_fits s.regs valid.regs.words s.pc read i (effect_aligned s.regs s.pc read i)))
     (λ code small. after_valid stays s (Trap code) valid small)
     valid

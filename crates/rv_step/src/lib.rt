@@ -25,7 +25,10 @@ mod touching;
 mod valid;
 
 pub use asked::{Need, Outcome};
-pub use laws::{one_page_changes, machines_are_valid, output_only_grows, steps_keep_valid_states, stopped_states_stay, two_parts_are_the_step};
+pub use laws::{
+    machines_are_valid, one_page_changes, output_only_grows, steps_keep_valid_states,
+    stopped_states_stay, two_parts_are_the_step,
+};
 pub use machine::{INPUT_BASE, MAX_INPUT_BYTES, Machine};
 pub use parts::{finish, need};
 pub use running::advance;

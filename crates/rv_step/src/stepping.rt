@@ -29,7 +29,12 @@ fn number(mem: &PlainMem, addr: u32, width: u8) -> u32
 }
 
 /// Finishes an instruction for which memory has been read and written, with the number that was read.
-fn finish_on<D: Digester>(machine: &mut Machine, d: &D, instr: &Instr, loaded: u32) -> Result<(), Memory>
+fn finish_on<D: Digester>(
+    machine: &mut Machine,
+    d: &D,
+    instr: &Instr,
+    loaded: u32,
+) -> Result<(), Memory>
     requires { IsChained D.digest_of machine.old }
     ensures puts { OnErr result (Puts (effect machine.old.regs machine.old.ctl.pc (λ _ _. loaded) instr.now)) }
     ensures ok { OnOk result (state_of machine.new ≡ after_finish (state_of machine.old) (effect machine.old.regs machine.old.ctl.pc (λ _ _. loaded) instr.now)) }
