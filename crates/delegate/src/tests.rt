@@ -43,7 +43,7 @@ const HEADER_OF_301: &str =
 /// A load of 108 bytes, from the file's first on, at 0x10000.
 const LOAD: &str = "010000000000000000000100000001006c0000006c0000000500000000100000";
 
-/// A load of 24 bytes at 0x10000, which stand behind 301 program headers.
+/// A load of 24 bytes at 0x10000, which follow 301 program headers.
 const FIRST_OF_301: &str = "01000000d4250000000001000000000018000000180000000000000000000000";
 
 /// The arguments of a command.
