@@ -232,9 +232,9 @@ fn lengths_are_taken_up_to_their_limit(rt: HostRuntime) -> Result<(), Fail> {
 fn values_nest_up_to_the_limit_of_serde_json(rt: HostRuntime) -> Result<(), Fail> {
     let alloc = rt.alloc();
     for (arrays, want) in [(126, None), (127, Some(CaseFault::NotJson))] {
-        let front = "[".repeat(alloc, arrays)?;
-        let back = "]".repeat(alloc, arrays)?;
-        let new = format!(in alloc; "8,\"note\":{front}{back}")?;
+        let open = "[".repeat(alloc, arrays)?;
+        let close = "]".repeat(alloc, arrays)?;
+        let new = format!(in alloc; "8,\"note\":{open}{close}")?;
         let text = BASE.replace(alloc, "8", new.as_str())?;
         assert_eq!(rt; fault_of(alloc, text.as_str()), want, "{arrays} arrays");
     }

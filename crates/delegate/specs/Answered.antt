@@ -23,7 +23,7 @@ is_outcome WriteFault = false
 is_outcome Memory = false
 is_outcome _ = true
 
--- such an answer of one of the commands, or to words that name none
+-- such an answer of one of the commands, or to arguments that name none
 abbrev pub is_of_a_command : Answered → Bool
 is_of_a_command AuditRefused = false
 is_of_a_command Collision = false

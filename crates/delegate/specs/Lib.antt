@@ -14,3 +14,4 @@ pub mod Outcome
 pub mod Visible
 pub mod Stages
 pub mod Headline
+pub mod Process

@@ -2,7 +2,6 @@ ghost use Rattle.std.specs.Prelude.{◌≡◌, ◌↔◌, true, None, Ok, Err, I
 ghost use Rattle.std.specs.Io.KnownBytes.{IsAtEnd};
 ghost use Rattle.io_edge.specs.Device.{Rises, IsLaterIn};
 ghost use Rattle.rv_step.specs.State.{state_of, IsChained};
-ghost use Rattle.sha2.specs.Sha256.{sha256};
 ghost use Rattle.case_reader.specs.Case.{data_of};
 ghost use Rattle.delegate.specs.Answered.{is_outcome, is_of_a_command, reads_all};
 ghost use Rattle.delegate.specs.Outcome.{ended, carried_out, outcome};
@@ -17,19 +16,26 @@ use crate::running::run_program;
 use crate::stages::{bytes_in, case_in, command_in, image_in};
 use crate::words::Command;
 use case_reader::Case;
+use digest_core::{Digester, Sha256};
 use io_edge::Source;
 use rd_base::Memory;
 use rv_step::Machine;
 use std::alloc::Global;
 
-/// Carries out a command on a case whose run starts in this machine.
-fn end(alloc: Global, command: Command, case: &Case, start: Machine) -> Result<Response, Memory>
-    requires { IsChained sha256 start }
+/// Carries out a command on a case whose run starts in this machine. The machine's chain is that of the digester `d`.
+fn end<D: Digester>(
+    alloc: Global,
+    d: D,
+    command: Command,
+    case: &Case,
+    start: Machine,
+) -> Result<Response, Memory>
+    requires { IsChained D.digest_of start }
     ensures { IfOk result (λ response. response ≡ ended command (data_of case.now) (state_of start)) }
 {
     match command {
-        Command::Judge => judge(alloc, case, start),
-        Command::Run => run_program(alloc, case, start),
+        Command::Judge => judge(alloc, d, case, start),
+        Command::Run => run_program(alloc, d, case, start),
     }
 }
 
@@ -50,7 +56,7 @@ fn carry_out<S: Source>(alloc: Global, words: &[String], source: &mut S) -> Resu
     let case = case_in(alloc, bytes.as_slice())?;
     let loaded = image_in(alloc, &case)?;
     let start = Machine::new(alloc, loaded.mem, loaded.entry, case.input.as_slice())?;
-    Ok(end(alloc, command, &case, start)?)
+    Ok(end(alloc, Sha256, command, &case, start)?)
 }
 
 /// The response to the arguments and to what the source has, which is read only where the arguments name a command.
