@@ -16,3 +16,4 @@ pub mod AskedLemmas
 pub mod OverLemmas
 pub mod KeepingLemmas
 pub mod PostedLemmas
+pub mod TruthfulLemmas

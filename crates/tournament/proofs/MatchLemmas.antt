@@ -19,9 +19,9 @@ use Rattle.bisect_game.specs.Truth.{Truth, IsRun, IsFit, IsFitSoFar, IsRight, is
 use Rattle.tournament.proofs.OpenedLemmas.{opened-not, opened-due}
 use Rattle.tournament.proofs.ReachLemmas.{either, same-not}
 use Rattle.tournament.proofs.SidesLemmas.{SameSides, sides-first, sides-second}
-use Rattle.tournament.specs.Bracket.{Record, claim_question, is_out_by, is_out_in, claim_in, also, live_from, live, Taken, passed_over, take_other, pairs_of, pairs, last_stage, disputes_of, all_there, is_due, opened, nothing_settled, asks_first, asks_second, question_in, claim_missing, settled_in, put, settle}
+use Rattle.tournament.specs.Bracket.{Record, claim_question, is_out_by, is_out_in, claim_in, also, live_from, live, Taken, passed_over, take_other, pairs_of, pairs, last_stage, disputes_of, all_there, is_due, opened, nothing_settled, asks_first, asks_second, question_in, claim_missing, settled_in, put, settle, is_complete}
 use Rattle.tournament.specs.Settling.{after}
-use Rattle.tournament.specs.Theorem.{HasTrueClaim, TrueIn, AllTrueIn, RightIn, AllRightIn, AllFit, TruthfulStay}
+use Rattle.tournament.specs.Theorem.{Stays, HasTrueClaimSoFar, HasTrueClaim, TrueIn, AllTrueIn, RightIn, AllRightIn, AllFit, TruthfulStay}
 use Rattle.bisect_game.specs.Laws.{BisectionLaws}
 
 -- a dispute in play, in which one prover, whose claim is true, is right so long as its answers are true
@@ -293,12 +293,26 @@ module _ (laws : BisectionLaws) where
   kept-start rules t p es more long fair run fit =
       kept-after rules t p es (nothing_settled rules) more long fair run fit (record { good = tt; begun = λ _. refl; fit = fit-none rules.play.ruling rules.provers })
 
+  stays-none : (t : Truth) (p : ℕ) (r : Record) → r.disputes ≡ [] → Stays t p r
+  stays-none t p r e = record { live = rw e refl; right = rw e tt }
+
   pub truthful_stay : TruthfulStay
   truthful_stay rules t es p playable fair run numbered fit true_ =
       let more : rules.play.fan ≡ 2 = playable.halves in
       let long : 0 < rules.bound = playable.steps in
-      let k : IsKept rules t p (after rules es (nothing_settled rules)) =
-      kept-after rules t p es (nothing_settled rules) more long fair run fit (record { good = tt; begun = λ _. refl; fit = fit-none rules.play.ruling rules.provers }) in
-      let s : (_ ≡ false) × AllRightIn t p (after rules es (nothing_settled rules)).disputes =
-      stays-all rules t (after rules es (nothing_settled rules)).claims p (after rules es (nothing_settled rules)).disputes true_.claim k.good true_.disputes in
-      record { live = s.0; right = s.1 }
+      let k : IsKept rules t p (after rules es (nothing_settled rules)) = kept-start rules t p es more long fair run fit in
+      elim true_.claim [
+        | inl missing ↦ stays-none t p (after rules es (nothing_settled rules)) (k.begun (missing-there (after rules es (nothing_settled rules)).claims (p - 1) (ap claim_missing missing)))
+        | inr claim ↦
+            let s : (_ ≡ false) × AllRightIn t p (after rules es (nothing_settled rules)).disputes =
+            stays-all rules t (after rules es (nothing_settled rules)).claims p (after rules es (nothing_settled rules)).disputes claim k.good true_.disputes in
+            record { live = s.0; right = s.1 }
+      ]
+
+  -- once nothing is open, the claim is there
+  pub claim-there : (t : Truth) (p : ℕ) (r : Record) → is_complete r ≡ true → HasTrueClaimSoFar t r.claims p → HasTrueClaim t r.claims p
+  claim-there t p r c (inr claim) = claim
+  claim-there t p r c (inl missing) =
+      let part : all_there r.claims ≡ false = missing-there r.claims (p - 1) (ap claim_missing missing) in
+      let whole : all_there r.claims ≡ true = and-first _ _ c in
+      absurd (cc)

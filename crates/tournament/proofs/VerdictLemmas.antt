@@ -16,7 +16,7 @@ use Rattle.bisect_game.specs.Closing.{both_proved, closed_by, close_of, is_out, 
 use Rattle.bisect_game.specs.Rules.{Play, Rules}
 use Rattle.bisect_game.specs.Ruling.{Ruling, IsFair, IsCollision, same_digest}
 use Rattle.bisect_game.specs.Truth.{Truth, IsRun}
-use Rattle.tournament.proofs.MatchLemmas.{HasClaim, AllClaim, live-right, truthful_stay, IsKept, kept-start, FitClaims}
+use Rattle.tournament.proofs.MatchLemmas.{HasClaim, AllClaim, live-right, truthful_stay, claim-there, IsKept, kept-start, FitClaims}
 use Rattle.tournament.proofs.OpenedLemmas.{opened-not, opened-due, opened-twice}
 use Rattle.tournament.proofs.ReachLemmas.{either, same-is}
 use Rattle.tournament.proofs.StageLemmas.{IsPlayed, played-nothing}
@@ -359,4 +359,4 @@ module _ (laws : BisectionLaws) where
       let long : 0 < rules.bound = playable.steps in
       let s : Stays t p (after rules es (nothing_settled rules)) = (truthful_stay laws) rules t es p playable fair run numbered fit true_ in
       verdict-by rules t (after rules es (nothing_settled rules)) p _ _ some fair run numbered ((kept-start laws) rules t p es more long fair run fit)
-      (met-after rules es (nothing_settled rules) fair tt) (rests-after rules es (nothing_settled rules) (rests-nothing rules some)) c true_.claim s.live refl refl
+      (met-after rules es (nothing_settled rules) fair tt) (rests-after rules es (nothing_settled rules) (rests-nothing rules some)) c ((claim-there laws) t p (after rules es (nothing_settled rules)) c true_.claim) s.live refl refl

@@ -6,4 +6,5 @@ pub mod Journals
 pub mod Theorem
 pub mod Asked
 pub mod Length
+pub mod Truthful
 pub mod Keeping

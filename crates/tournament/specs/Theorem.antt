@@ -1,5 +1,5 @@
 -- To believe: the dispute theorem. Truthful provers stay, and the verdict is right.
-use Rattle.std.specs.Prelude.{◌≡◌, ℕ, ◌-◌, ◌<◌, false, true, ◌⊎◌, List, [], ◌∷◌, slice_get, Option, Some}
+use Rattle.std.specs.Prelude.{◌≡◌, ℕ, ◌-◌, ◌<◌, false, true, ◌⊎◌, List, [], ◌∷◌, slice_get, Option, Some, None}
 use Rattle.rd_base.specs.declared.answer.Answer.{Answer}
 use Rattle.rd_base.specs.declared.answer.Answer.TheVariants as answer
 use Rattle.bisect_game.specs.declared.question.Question.{Question}
@@ -27,6 +27,10 @@ AllFit rules (e ∷ es) r =
 abbrev pub HasTrueClaim : Truth → List (Option Settled) → ℕ → Type 0
 HasTrueClaim t claims p = slice_get claims (p - 1) ≡ Some (Some (Given (answer.Claim t.claim)))
 
+-- or it is not settled yet
+abbrev pub HasTrueClaimSoFar : Truth → List (Option Settled) → ℕ → Type 0
+HasTrueClaimSoFar t claims p = (slice_get claims (p - 1) ≡ Some None) ⊎ HasTrueClaim t claims p
+
 pub record TrueIn (rules : Rules) (t : Truth) (p : ℕ) (d : Bisection) : Type 0 where
   pub first : d.first ≡ p → IsTruthful t rules.play.fan First d
   pub second : d.second ≡ p → IsTruthful t rules.play.fan Second d
@@ -36,7 +40,7 @@ AllTrueIn rules t p [] = Unit {0}
 AllTrueIn rules t p (d ∷ ds) = TrueIn rules t p d × AllTrueIn rules t p ds
 
 pub record AreTrue (rules : Rules) (t : Truth) (p : ℕ) (r : Record) : Type 0 where
-  pub claim : HasTrueClaim t r.claims p
+  pub claim : HasTrueClaimSoFar t r.claims p
   pub disputes : AllTrueIn rules t p r.disputes
 
 -- TRUTHFUL PROVERS STAY: no dispute has put it out, and in each of its disputes the agreed root and its own are the run's

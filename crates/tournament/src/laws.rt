@@ -2,6 +2,7 @@ ghost use Rattle.tournament.specs.Settling.{OneRecord, FewDisputes, FewRounds};
 ghost use Rattle.tournament.specs.Theorem.{TruthfulStay, VerdictIsRight};
 ghost use Rattle.tournament.specs.Journals.{OrderDoesNotMatter, RecordOfCase, NobodyAskedIsOver};
 ghost use Rattle.tournament.specs.Length.{SpareIsEnough};
+ghost use Rattle.tournament.specs.Truthful.{TruthfulProversAreSafe};
 ghost use Rattle.tournament.specs.Asked.{AskedByTheCase, QuestionsStay};
 
 use bisect_game::bisection_laws;
@@ -18,6 +19,15 @@ pub fn truthful_provers_stay()
 /// the verdict is two different strings of one digest that answers of the record open.
 pub fn the_verdict_is_right()
     ensures { VerdictIsRight }
+{
+    bisection_laws();
+}
+
+/// Truthful provers are safe: of a prover that answers truly within its patience each question that the record of the case
+/// asks it, in whatever order anybody moves, the settled answers are given and true, it is not put out, and once nothing is
+/// open the verdict is right.
+pub fn truthful_provers_are_safe()
+    ensures { TruthfulProversAreSafe }
 {
     bisection_laws();
 }
