@@ -25,7 +25,7 @@ const MEMORY_LEVELS: usize = 27;
 pub struct MemTree<D: Digester> {
     d: D,
     alloc: Global,
-    nodes: Nodes,
+    pub(crate) nodes: Nodes,
     touched: BTreeSet<u32>,
 }
 
