@@ -93,9 +93,9 @@ pushed : (P : ℕ → Checkpoint → Type 0) (cs : List Checkpoint) (c : Checkpo
 pushed P cs c all last k = ⊎_elim
     (λ same. let Q : ℕ → Type 0 = λ n. IfSome (slice_get (cs ++ c ∷ []) n) (P n) in subst Q (sym same) (let R : Option Checkpoint → Type 0 = λ o. IfSome o (P (length cs)) in subst R (sym (slice_get_seam cs c [])) last))
     (λ other. let R : Option Checkpoint → Type 0 = λ o. IfSome o (P k) in ⊎_elim
-        (λ before. subst R (sym (slice_get_before cs (c ∷ []) k before)) (all k))
-        (λ past. subst R (sym (slice_get_past (cs ++ c ∷ []) k (omega (arith, length-append cs (c ∷ []))))) tt)
-        other)
+    (λ before. subst R (sym (slice_get_before cs (c ∷ []) k before)) (all k))
+    (λ past. subst R (sym (slice_get_past (cs ++ c ∷ []) k (omega (arith, length-append cs (c ∷ []))))) tt)
+    other)
     (cases_order k (length cs))
 
 -- a checkpoint of a machine's parts stands for the machine's state

@@ -56,12 +56,12 @@ pub early : (steps : ℕ) (s : State) (i : ℕ) → run_at (Early steps) s i ≡
 early steps s zero = let none : min 0 steps ≡ 0 = omega arith in rw none refl
 early steps s (suc i) = ⊎_elim
     (λ before.
-        let here : min i steps ≡ i = omega arith in
-        let there : min (suc i) steps ≡ suc i = omega arith in
-        rw (lt-ltb i steps before, there) (ap step (early steps s i ∙ ap (state_at s) here)))
+    let here : min i steps ≡ i = omega arith in
+    let there : min (suc i) steps ≡ suc i = omega arith in
+    rw (lt-ltb i steps before, there) (ap step (early steps s i ∙ ap (state_at s) here)))
     (λ after.
-        let same : min i steps ≡ min (suc i) steps = omega arith in
-        rw (le-ltb i steps after) (early steps s i ∙ ap (state_at s) same))
+    let same : min i steps ≡ min (suc i) steps = omega arith in
+    rw (le-ltb i steps after) (early steps s i ∙ ap (state_at s) same))
     (cases_lt i steps)
 
 -- one more step keeps a stop
@@ -110,9 +110,9 @@ first_stop_running t first zero k before = absurd (omega arith)
 first_stop_running t first (suc n) k before =
     elim (is_running (run_from t first (first_stop t first n)).status) as (λ b. is_running (run_from t first (first_stop t first n)).status ≡ b → k < cond b (suc n) (first_stop t first n) → is_running (run_from t first k).status ≡ true) [
       | true ↦ λ running less. ⊎_elim
-        (λ same. ap (λ m. is_running (run_from t first m).status) same ∙ running)
-        (λ apart. first_stop_running t first n k (further running less apart))
-        (cases_eq k (first_stop t first n))
+          (λ same. ap (λ m. is_running (run_from t first m).status) same ∙ running)
+          (λ apart. first_stop_running t first n k (further running less apart))
+          (cases_eq k (first_stop t first n))
       | false ↦ λ stopped less. first_stop_running t first n k less
     ] refl before
   where
@@ -120,7 +120,7 @@ first_stop_running t first (suc n) k before =
     further running less apart = ⊎_elim
         (λ early. absurd (both_ways _ (first_stop_stopped t first n early) running))
         (λ late. let most = first_stop_most t first n in
-            ⊎_elim (λ same. absurd (apart same)) (λ other. ⊎_elim (λ l. l) (λ g. absurd (omega arith)) other) (cases_order k (first_stop t first n)))
+        ⊎_elim (λ same. absurd (apart same)) (λ other. ⊎_elim (λ l. l) (λ g. absurd (omega arith)) other) (cases_order k (first_stop t first n)))
         (cases_lt (first_stop t first n) n)
 
 -- at rest, nothing more happens
@@ -166,9 +166,10 @@ pub run_rests : Stopping → (t : Tamper) (first : State) (bound i k : ℕ) → 
 run_rests stopping t first bound i zero rest within = (ap (run_from t first) (add-zero i), ap (λ n. rests t bound n (run_from t first i)) (add-zero i) ∙ rest)
 run_rests stopping t first bound i (suc k) rest within =
     let before = run_rests stopping t first bound i k rest (omega arith) in
-    let on = rests_on stopping t bound (i + k) (run_from t first i) before.1 (omega arith) in
-    ( ap (run_from t first) (add-suc i k) ∙ (ap (next_of t (i + k)) before.0 ∙ on.0)
-    , ap (λ n. rests t bound n (run_from t first i)) (add-suc i k ∙ sym (add-one (i + k))) ∙ on.1 )
+    let on = rests_on stopping t bound (i + k) (run_from t first i) before.1 (omega arith) in (
+      ap (run_from t first) (add-suc i k) ∙ (ap (next_of t (i + k)) before.0 ∙ on.0),
+      ap (λ n. rests t bound n (run_from t first i)) (add-suc i k ∙ sym (add-one (i + k))) ∙ on.1,
+    )
 
 -- the run rests where it stands still, and not before
 module _ (stopping : Stopping) (t : Tamper) (first : State) (bound : ℕ) where
@@ -199,15 +200,15 @@ module _ (stopping : Stopping) (t : Tamper) (first : State) (bound : ℕ) where
   pub late_rests : (at : ℕ) → (rests_late at (late at) ≡ true) ⊎ (late at ≡ bound)
   late_rests at = ⊎_elim
       (λ within. let l : late at ≡ max at stop = rw (le-leb at bound within) refl in
-          ⊎_elim
-          (λ early. inl (ap (rests_late at) l ∙ and_from _ _ (stopped_from (max at stop) early (omega arith)) (or_left _ _ (le-leb at (max at stop) (omega arith)))))
-          (λ none. inr (l ∙ omega arith))
-          stop_cases)
+      ⊎_elim
+      (λ early. inl (ap (rests_late at) l ∙ and_from _ _ (stopped_from (max at stop) early (omega arith)) (or_left _ _ (le-leb at (max at stop) (omega arith)))))
+      (λ none. inr (l ∙ omega arith))
+      stop_cases)
       (λ beyond. let l : late at ≡ stop = rw (lt-leb at bound beyond) refl in
-          ⊎_elim
-          (λ early. inl (ap (rests_late at) l ∙ and_from _ _ (stopped_from stop early (omega arith)) (or_right _ _ (lt-ltb bound at beyond))))
-          (λ none. inr (l ∙ none))
-          stop_cases)
+      ⊎_elim
+      (λ early. inl (ap (rests_late at) l ∙ and_from _ _ (stopped_from stop early (omega arith)) (or_right _ _ (lt-ltb bound at beyond))))
+      (λ none. inr (l ∙ none))
+      stop_cases)
       (order at)
     where
       order : (at : ℕ) → (at ≤ bound) ⊎ (bound < at)
@@ -220,7 +221,7 @@ module _ (stopping : Stopping) (t : Tamper) (first : State) (bound : ℕ) where
       after past = ⊎_elim
           (λ beyond. let l : late at ≡ stop = rw (lt-leb at bound beyond) refl in absurd (omega arith))
           (λ within. let l : late at ≡ max at stop = rw (le-leb at bound within) refl in
-              and_right _ _ (or_from _ _ (lt-leb at k (omega arith)) (le-ltb bound at within)))
+          and_right _ _ (or_from _ _ (lt-leb at k (omega arith)) (le-ltb bound at within)))
           (cases_lt bound at)
 
   pub late_most : (at : ℕ) → late at ≤ bound
@@ -242,9 +243,9 @@ still_rests stopping (Register at reg value) first bound = late_rests stopping (
 still_rests stopping (Early steps) first bound = ⊎_elim
     (λ ends. inl (or_right _ _ (le-leb steps (min steps (first_stop (Early steps) first bound)) (omega arith))))
     (λ stops. let here : min steps (first_stop (Early steps) first bound) ≡ first_stop (Early steps) first bound = omega arith in ⊎_elim
-        (λ early. inl (or_left _ _ (ap (not_running stopping (Early steps) first bound) here ∙ stopped_from stopping (Early steps) first bound (first_stop (Early steps) first bound) early (omega arith))))
-        (λ none. inr (here ∙ none))
-        (stop_cases stopping (Early steps) first bound))
+    (λ early. inl (or_left _ _ (ap (not_running stopping (Early steps) first bound) here ∙ stopped_from stopping (Early steps) first bound (first_stop (Early steps) first bound) early (omega arith))))
+    (λ none. inr (here ∙ none))
+    (stop_cases stopping (Early steps) first bound))
     (⊎_elim inr inl (cases_lt (first_stop (Early steps) first bound) steps))
 
 pub still_first : Stopping → (t : Tamper) (first : State) (bound k : ℕ) → k < still t first bound → rests t bound k (run_from t first k) ≡ false
@@ -257,8 +258,8 @@ still_first stopping (Early steps) first bound k before = or_from _ _ (running_b
 pub stands : Stopping → (t : Tamper) (first : State) (bound i : ℕ) → still t first bound ≤ i → i ≤ bound → run_from t first i ≡ run_from t first (still t first bound)
 stands stopping t first bound i after within = ⊎_elim
     (λ rest.
-        let whole : still t first bound + (i - still t first bound) ≡ i = omega arith in
-        ap (run_from t first) (sym whole) ∙ (run_rests stopping t first bound (still t first bound) (i - still t first bound) rest (omega arith)).0)
+    let whole : still t first bound + (i - still t first bound) ≡ i = omega arith in
+    ap (run_from t first) (sym whole) ∙ (run_rests stopping t first bound (still t first bound) (i - still t first bound) rest (omega arith)).0)
     (λ last. ap (run_from t first) (omega arith))
     (still_rests stopping t first bound)
 
@@ -267,7 +268,7 @@ pub still_found : Stopping → (t : Tamper) (first : State) (bound i : ℕ) → 
 still_found stopping t first bound i within before ends = ⊎_elim
     (λ same. same)
     (λ other. ⊎_elim
-        (λ less. ⊎_elim (λ rest. absurd (both_ways _ (before (still t first bound) less) rest)) (λ last. absurd (omega arith)) (still_rests stopping t first bound))
-        (λ more. ⊎_elim (λ rest. absurd (both_ways _ (still_first stopping t first bound i more) rest)) (λ last. let most = still_most stopping t first bound in absurd (omega arith)) ends)
-        other)
+    (λ less. ⊎_elim (λ rest. absurd (both_ways _ (before (still t first bound) less) rest)) (λ last. absurd (omega arith)) (still_rests stopping t first bound))
+    (λ more. ⊎_elim (λ rest. absurd (both_ways _ (still_first stopping t first bound i more) rest)) (λ last. let most = still_most stopping t first bound in absurd (omega arith)) ends)
+    other)
     (cases_order (still t first bound) i)

@@ -58,9 +58,9 @@ module _ (page : ℕ) (old new : List ℕ) (adds : IsAddedTo page old new) where
   used_more m from done none p low used = ⊎_elim
       (λ before. added_kept p (done p before used))
       (λ after. ⊎_elim
-          (λ between. absurd (none p after between used))
-          (λ past. ap (is_among new) (omega arith) ∙ added_here)
-          (cases_lt p page))
+      (λ between. absurd (none p after between used))
+      (λ past. ap (is_among new) (omega arith) ∙ added_here)
+      (cases_lt p page))
       (cases_lt p from)
 
 -- the bytes of a version that is added
@@ -130,10 +130,10 @@ pub restoring_put : (all : List Version) (v : Version) (left : List Version) (ol
 restoring_put all v left old new m n bytes restoring fresh adds is puts = record {
   shown = λ a below among. ⊎_elim
       (λ here.
-          puts a ∙ (ap (λ b. cond b (slice_index bytes (a % 4096)) (byte_at m a)) (eq-eqb (a / 4096) v.page here)
-          ∙ (ap (λ bs. slice_index bs (a % 4096)) is
-          ∙ sym (ap (λ o. byte_of o (a % 4096)) (restoring.same (a / 4096) (ap (is_among old) here ∙ fresh)
-          ∙ ap (λ b. cond b (Some v.bytes) (first_of left (a / 4096))) (eq-eqb v.page (a / 4096) (sym here)))))))
+      puts a ∙ (ap (λ b. cond b (slice_index bytes (a % 4096)) (byte_at m a)) (eq-eqb (a / 4096) v.page here)
+      ∙ (ap (λ bs. slice_index bs (a % 4096)) is
+      ∙ sym (ap (λ o. byte_of o (a % 4096)) (restoring.same (a / 4096) (ap (is_among old) here ∙ fresh)
+      ∙ ap (λ b. cond b (Some v.bytes) (first_of left (a / 4096))) (eq-eqb v.page (a / 4096) (sym here)))))))
       (λ other. kept a other ∙ restoring.shown a below (sym (before (a / 4096) other) ∙ among))
       (cases_eq (a / 4096) v.page);
   empty = λ a below none.

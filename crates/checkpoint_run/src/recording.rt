@@ -1,5 +1,5 @@
 //! A run that is being recorded.
-ghost use Rattle.std.specs.Prelude.{◌≡◌, ℕ, ◌+◌, ◌<◌, ◌^◌, ◌∷◌, [], false, IfOk, OnOk};
+ghost use Rattle.std.specs.Prelude.{◌≡◌, ℕ, ◌+◌, ◌<◌, ◌^◌, ◌∷◌, [], List, false, IfOk, OnOk};
 ghost use Rattle.rv_step.specs.State.{State, state_of, IsChained};
 ghost use Rattle.checkpoint_run.specs.TamperedRun.{tampered};
 ghost use Rattle.checkpoint_run.specs.NamedPages.{IsNamed, ArePages};
@@ -28,10 +28,9 @@ pub struct Recording {
 }
 
 /// The machine of step 0, after what the tamper does there. An `Err` is out of memory.
-fn first_machine<D: Digester>(d: D, machine: &Machine, tamper: &Tamper) -> Result<Machine, Memory>
-    requires { IsChained D.digest_of machine.now }
+fn first_machine(machine: &Machine, tamper: &Tamper) -> Result<Machine, Memory>
     ensures state { IfOk result (λ m. state_of m ≡ tampered tamper.now 0 (state_of machine.now)) }
-    ensures chained { IfOk result (λ m. IsChained D.digest_of m) }
+    ensures chained { (digest : List ℕ → List ℕ) → IsChained digest machine.now → IfOk result (λ m. IsChained digest m) }
 {
     let mut first = Machine {
         regs: machine.regs,
@@ -39,24 +38,17 @@ fn first_machine<D: Digester>(d: D, machine: &Machine, tamper: &Tamper) -> Resul
         mem: machine.mem.copy()?,
         output: machine.output.clone()?,
     };
-    tamper_at(d, tamper, 0, &mut first)?;
+    tamper_at(tamper, 0, &mut first)?;
     Ok(first)
 }
 
 /// The recording at step 0. An `Err` is out of memory.
-pub fn begin<D: Digester>(
-    alloc: Global,
-    d: D,
-    machine: &Machine,
-    every: u32,
-    tamper: &Tamper,
-) -> Result<Recording, Memory>
-    requires every { 0 < every }
-    requires chained { IsChained D.digest_of machine.now }
+pub fn begin(alloc: Global, machine: &Machine, tamper: &Tamper) -> Result<Recording, Memory>
     ensures at { IfOk result (λ r. r.at ≡ 0) }
-    ensures under_way { IfOk result (λ r. IsUnderWay D.digest_of tamper.now (tampered tamper.now 0 (state_of machine.now)) every r) }
+    ensures under_way { (digest : List ℕ → List ℕ) (every : ℕ) → 0 < every → IsChained digest machine.now →
+        IfOk result (λ r. IsUnderWay digest tamper.now (tampered tamper.now 0 (state_of machine.now)) every r) }
 {
-    let machine = first_machine(d, machine, tamper)?;
+    let machine = first_machine(machine, tamper)?;
     let mut changed = used_pages(alloc, &machine.mem)?;
     let mut versions = Vec::new(alloc);
     let mut checkpoints = Vec::new(alloc);

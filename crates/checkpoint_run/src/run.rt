@@ -90,7 +90,7 @@ pub fn record_run<D: Digester>(
     ensures chained { IfOk result (λ r. AreChained D.digest_of r) }
 {
     stopped_states_stay();
-    let mut recording = begin(alloc, d, machine, every, &tamper)?;
+    let mut recording = begin(alloc, machine, &tamper)?;
     'steps: while recording.at < bound
         && !is_at_rest(&tamper, bound, recording.at, &recording.machine)
     {

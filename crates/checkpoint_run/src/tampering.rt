@@ -26,15 +26,9 @@ pub fn is_at_rest(tamper: &Tamper, bound: u64, i: u64, machine: &Machine) -> boo
 }
 
 /// What the tamper does to the machine of step `i`, and the page in which it changes a byte. An `Err` is out of memory.
-pub fn tamper_at<D: Digester>(
-    _d: D,
-    tamper: &Tamper,
-    i: u64,
-    machine: &mut Machine,
-) -> Result<Option<u32>, Memory>
-    requires { IsChained D.digest_of machine.old }
+pub fn tamper_at(tamper: &Tamper, i: u64, machine: &mut Machine) -> Result<Option<u32>, Memory>
     ensures state { OnOk result (state_of machine.new ≡ tampered tamper.now i (state_of machine.old)) }
-    ensures chained { IsChained D.digest_of machine.new }
+    ensures chained { (digest : List ℕ → List ℕ) → IsChained digest machine.old → IsChained digest machine.new }
     ensures pages { IfOk result (λ page. ArePages (page ∷ [])) }
     ensures elsewhere { IfOk result (λ page. (q : ℕ) → ¬ IsNamed (q / 4096) (page ∷ []) → byte_at machine.new.mem q ≡ byte_at machine.old.mem q) }
 {
@@ -70,7 +64,9 @@ fn step_from<D: Digester>(
 {
     one_page_changes();
     output_only_grows();
-    if let Tamper::Early { steps } = tamper && u64::from(*steps) <= i {
+    if let Tamper::Early { steps } = tamper
+        && u64::from(*steps) <= i
+    {
         return Ok(None);
     }
     let page = touches(machine);
@@ -96,6 +92,6 @@ pub fn follow<D: Digester>(
 {
     let mut machine = machine;
     let stored = step_from(d, tamper, i, &mut machine)?;
-    let tampered = tamper_at(d, tamper, i + 1, &mut machine)?;
+    let tampered = tamper_at(tamper, i + 1, &mut machine)?;
     Ok((machine, [stored, tampered]))
 }

@@ -49,7 +49,7 @@ returns-clause-under_way g c first way =
     let Q : List ℕ → Type 0 = λ out. AllStand old.checkpoints.items c.add_checkpoint.new.versions.items out run c.args.every in
     let R : List Version → Type 0 = λ vs. AllStand old.checkpoints.items vs (old.machine.output.items ++ f.adds.0) run c.args.every in
     let before : AllStand old.checkpoints.items c.add_checkpoint.new.versions.items s.output run c.args.every =
-          subst Q (sym f.adds.1) (subst R (sym e.more.1) (all_stand_on old.checkpoints.items old.versions.items e.more.0 old.machine.output.items f.adds.0 run c.args.every way.each)) in
+    subst Q (sym f.adds.1) (subst R (sym e.more.1) (all_stand_on old.checkpoints.items old.versions.items e.more.0 old.machine.output.items f.adds.0 run c.args.every way.each)) in
     record {
       state = here;
       chained = f.chained;

@@ -26,13 +26,13 @@ invariant_of-result g c =
     let way = c.steps.invariant.under_way in
     let begun : State = tampered c.args.tamper 0 (state_of c.args.machine.now) in
     let first : first_by c.steps.recording.checkpoints.items c.steps.recording.versions.items c.steps.recording.machine.output.items ≡ begun
-          = first_of c.steps.recording.checkpoints.items c.steps.recording.versions.items c.steps.recording.machine.output.items (run_from c.args.tamper begun) c.args.every _ way.many way.each in
+    = first_of c.steps.recording.checkpoints.items c.steps.recording.versions.items c.steps.recording.machine.output.items (run_from c.args.tamper begun) c.args.every _ way.many way.each in
     let P : State → Type 0 = λ s. AllStand c.steps.recording.checkpoints.items c.steps.recording.versions.items c.steps.recording.machine.output.items (run_from c.args.tamper s) c.args.every in
     let within = c.steps.invariant.within in
     let ends : (rests c.args.tamper c.args.bound c.steps.recording.at (run_from c.args.tamper begun c.steps.recording.at) ≡ true) ⊎ (c.steps.recording.at ≡ c.args.bound) = elim c.steps-test.branch [
-          | then-steps-test+else-not-is_at_rest w ↦ inl (sym (w.if-not-is_at_rest.ensures ∙ ap (rests c.args.tamper c.args.bound c.steps.recording.at) way.state))
-          | else-steps-test w ↦ inr (let past = w.steps-test.false in omega arith)
-        ] in
+      | then-steps-test+else-not-is_at_rest w ↦ inl (sym (w.if-not-is_at_rest.ensures ∙ ap (rests c.args.tamper c.args.bound c.steps.recording.at) way.state))
+      | else-steps-test w ↦ inr (let past = w.steps-test.false in omega arith)
+    ] in
     record {
       spaced = c.requires.every;
       rest = sym (still_found c.stopped_states_stay.ensures c.args.tamper begun c.args.bound c.steps.recording.at within c.steps.invariant.before ends) ∙ ap (λ s. still c.args.tamper s c.args.bound) (sym first);

@@ -11,7 +11,7 @@ outside a q other =
     grind (arith, nat_tests)
 
 pub returns-in_ok-store-in-Flip-clause-elsewhere : goal.returns-in_ok-store-in-Flip-clause-elsewhere
-returns-in_ok-store-in-Flip-clause-elsewhere g c q other =
+returns-in_ok-store-in-Flip-clause-elsewhere c q other =
     ap (λ m. byte_at m q) c.in_ok-store-in-Flip.ensures.stored
     ∙ (c.laying_bytes.ensures.stored c.args.machine.now.mem c.in-Flip.addr 1 c.from-in-Flip.result q
     ∙ rw (outside c.in-Flip.addr q (λ same. other (inl same))) refl)
