@@ -13,7 +13,14 @@ use Rattle.serde_json.specs.declared.value.Value.{Value}
 use Rattle.rd_base.specs.declared.script.Script.{Script}
 use Rattle.case_reader.specs.declared.fault.CaseFault.{CaseFault}
 use Rattle.case_reader.specs.declared.fault.CaseFault.TheVariants.{BadProver}
-use Rattle.case_reader.specs.Reading.{listed, script_in, scripts_in, with_front, tree_of, ◌>>=◌}
+use Rattle.rd_base.specs.Results.{◌>>=◌}
+use Rattle.case_reader.specs.Fields.{listed}
+use Rattle.case_reader.specs.Provers.{script_in, scripts_in}
+use Rattle.case_reader.specs.Case.{tree_of}
+
+-- what was read so far, before the rest
+abbrev pub with_prefix : List Script → Result (List Script) CaseFault → Result (List Script) CaseFault
+with_prefix prefix reading = reading >>= λ rest. Ok (prefix ++ rest)
 
 pub listed-items_of : (ds : List Data) → listed (items_of ds) ≡ ds
 listed-items_of [] = refl
@@ -24,25 +31,25 @@ pub items_listed : (o : Option Items) (vs : List Value) → Some (items_view vs)
 items_listed o vs is = rw (← is) (ap Some (listed-items_of (map view vs)))
 
 -- a prover that is known goes to the scripts so far
-pub scripts_in-known : (front : List Script) (number : ℕ) (prover : Data) (provers : List Data) (script : Script) → script_in prover ≡ Some script
-    → with_front front (scripts_in number (prover ∷ provers)) ≡ with_front (front ++ script ∷ []) (scripts_in (number + 1) provers)
+pub scripts_in-known : (prefix : List Script) (number : ℕ) (prover : Data) (provers : List Data) (script : Script) → script_in prover ≡ Some script
+    → with_prefix prefix (scripts_in number (prover ∷ provers)) ≡ with_prefix (prefix ++ script ∷ []) (scripts_in (number + 1) provers)
 unfolding scripts_in
-scripts_in-known front number prover provers script known = rw known (regrouped (scripts_in (number + 1) provers))
+scripts_in-known prefix number prover provers script known = rw known (regrouped (scripts_in (number + 1) provers))
   where
-    regrouped : (rest : Result (List Script) CaseFault) → with_front front (rest >>= λ scripts. Ok (script ∷ scripts)) ≡ with_front (front ++ script ∷ []) rest
-    regrouped (Ok scripts) = ap Ok (sym (append_assoc front (script ∷ []) scripts))
+    regrouped : (rest : Result (List Script) CaseFault) → with_prefix prefix (rest >>= λ scripts. Ok (script ∷ scripts)) ≡ with_prefix (prefix ++ script ∷ []) rest
+    regrouped (Ok scripts) = ap Ok (sym (append_assoc prefix (script ∷ []) scripts))
     regrouped (Err e) = refl
 
 -- where no prover is left, the scripts so far are all
-pub scripts_in-all : (front : List Script) (number : ℕ) (provers : List Data) → provers ≡ [] → with_front front (scripts_in number provers) ≡ Ok front
+pub scripts_in-all : (prefix : List Script) (number : ℕ) (provers : List Data) → provers ≡ [] → with_prefix prefix (scripts_in number provers) ≡ Ok prefix
 unfolding scripts_in
-scripts_in-all front number provers none = rw none (ap Ok (append-nil front))
+scripts_in-all prefix number provers none = rw none (ap Ok (append-nil prefix))
 
 -- one that isn't known ends the reading
-pub scripts_in-unknown : (front : List Script) (number : ℕ) (prover : Data) (provers : List Data) → script_in prover ≡ None
-    → with_front front (scripts_in number (prover ∷ provers)) ≡ Err (BadProver number)
+pub scripts_in-unknown : (prefix : List Script) (number : ℕ) (prover : Data) (provers : List Data) → script_in prover ≡ None
+    → with_prefix prefix (scripts_in number (prover ∷ provers)) ≡ Err (BadProver number)
 unfolding scripts_in
-scripts_in-unknown front number prover provers unknown = rw unknown refl
+scripts_in-unknown prefix number prover provers unknown = rw unknown refl
 
 -- the next of the items that are left, under f
 pub map-drop : {X Y : Type 0} (f : X → Y) (xs : List X) (i : ℕ) (x : X) → i < length xs → x ≡ get_or xs i x → map f (drop i xs) ≡ f x ∷ map f (drop (i + 1) xs)

@@ -1,4 +1,4 @@
--- The keys of a case.
+-- To believe. The keys of a case.
 use Rattle.std.specs.Prelude.{ℕ, List, codes}
 use Rattle.case_reader.specs.declared.fault.Key.{Key}
 use Rattle.case_reader.specs.declared.fault.Key.TheVariants.{Format, Image, Input, Bound, Patience, Provers}

@@ -1,3 +1,6 @@
 pub use Rattle.serde_json.specs.Data
 pub mod Key
-pub mod Reading
+pub mod Fault
+pub mod Fields
+pub mod Provers
+pub mod Case

@@ -1,12 +1,15 @@
-ghost use Rattle.std.specs.Prelude.{◌≤◌, length};
+ghost use Rattle.std.specs.Prelude.{◌≡◌, ◌≤◌, length};
 
 use rd_base::{Bytes, Listed, Script};
 
+/// The version of the commitments of every case.
+pub const VERSION: u32 = 1;
+
+/// Into how many parts a round of bisection cuts its interval, in every case.
+pub const FAN: u32 = 2;
+
 /// The largest bound, in steps.
 pub const MAX_BOUND: u64 = 16_777_216;
-
-/// The longest input, in bytes.
-pub const MAX_INPUT_BYTES: usize = 1_048_576;
 
 /// The largest patience, in passes.
 pub const MAX_PATIENCE: u64 = 100;
@@ -27,12 +30,18 @@ pub struct Case {
     pub bound: u64,
     /// How many passes each question allows.
     pub patience: u32,
+    /// The version of the commitments, 1.
+    pub version: u32,
+    /// Into how many parts a round of bisection cuts its interval, 2.
+    pub fan: u32,
     /// The provers, by number from 1.
     pub provers: Listed<Script>,
     ghost input_is_short: { length input ≤ 1048576 },
     ghost bound_is_positive: { 1 ≤ bound },
     ghost bound_in_range: { bound ≤ 16777216 },
     ghost patience_in_range: { patience ≤ 100 },
+    ghost first_version: { version ≡ 1 },
+    ghost halves: { fan ≡ 2 },
     ghost somebody_plays: { 1 ≤ length provers },
     ghost few_play: { length provers ≤ 16 },
 }

@@ -1,5 +1,6 @@
 ghost use Rattle.std.specs.Prelude.{◌≡◌, Some};
 ghost use Rattle.case_reader.specs.Key.{key_text};
+ghost use Rattle.case_reader.specs.Fault.{rule_of};
 ghost use Rattle.case_reader.specs.declared.fault.CaseFault.TheVariants.{Memory};
 
 use std::alloc::{AllocError, AllocFailed};
@@ -41,7 +42,7 @@ impl fmt::Display for Key {
     }
 }
 
-/// Why bytes are no case: the first rule that is broken, or want of memory.
+/// Why bytes are no case: the first rule that is broken, or out of memory.
 #[derive(Clone, Copy, Debug, PartialEq, Eq, Error)]
 pub enum CaseFault {
     /// The bytes are no JSON text (RFC 8259, as `serde_json` reads it).
@@ -66,8 +67,26 @@ pub enum CaseFault {
     #[error("prover {0} is none that is known")]
     BadProver(u32),
     /// An allocation was refused.
-    #[error("want of memory")]
+    #[error("out of memory")]
     Memory,
+}
+
+impl CaseFault {
+    /// The number of the rule that is broken, from 1 to 7 as the variants stand, and `None` where memory ran out.
+    pub fn rule(self) -> Option<u32>
+        ensures { result ≡ rule_of self }
+    {
+        match self {
+            CaseFault::NotJson => Some(1),
+            CaseFault::NotObject => Some(2),
+            CaseFault::Missing(_) => Some(3),
+            CaseFault::WrongType(_) => Some(4),
+            CaseFault::BadHex(_) => Some(5),
+            CaseFault::OutOfRange(_) => Some(6),
+            CaseFault::BadProver(_) => Some(7),
+            CaseFault::Memory => None,
+        }
+    }
 }
 
 impl From<AllocError> for CaseFault {

@@ -1,6 +1,7 @@
 ghost use Rattle.std.specs.Prelude.{◌≤◌, map, Ok, IfOk};
 ghost use Rattle.serde_json.specs.View.{view, items_view};
-ghost use Rattle.case_reader.specs.Reading.{Gives, field, text_in, bytes_in, number_in, array_in, hex_of};
+ghost use Rattle.rd_base.specs.Results.{Gives};
+ghost use Rattle.case_reader.specs.Fields.{field, text_in, bytes_in, number_in, array_in, hex_of};
 
 use crate::fault::{CaseFault, Key};
 use hex::FromHexError;
@@ -10,15 +11,15 @@ use std::alloc::Global;
 
 /// The value of a key.
 pub fn value_of<'v>(tree: &'v Value, key: Key) -> Result<&'v Value, CaseFault>
-    ensures { Gives (λ v. view v.now) result (field key (view tree.now)) }
+    ensures { Gives CaseFault.Memory (λ v. view v.now) result (field key (view tree.now)) }
 {
     tree.get(key.name()).ok_or(CaseFault::Missing(key))
 }
 
 /// The text of a key.
-#[tactic(auto, unfolding(crate::specs::Reading::text_in))]
+#[tactic(auto, unfolding(crate::specs::Fields::text_in))]
 pub fn text_of<'v>(tree: &'v Value, key: Key) -> Result<&'v str, CaseFault>
-    ensures { Gives (λ text. text.now) result (text_in key (view tree.now)) }
+    ensures { Gives CaseFault.Memory (λ text. text.now) result (text_in key (view tree.now)) }
 {
     let value = value_of(tree, key)?;
     value.as_str().ok_or(CaseFault::WrongType(key))
@@ -26,7 +27,7 @@ pub fn text_of<'v>(tree: &'v Value, key: Key) -> Result<&'v str, CaseFault>
 
 /// The bytes of a text of hexadecimal digits.
 pub fn hex_bytes(alloc: Global, text: &str) -> Result<Option<Bytes>, CaseFault>
-    ensures { Gives (λ bytes. bytes) result (Ok (hex_of text.now)) }
+    ensures { Gives CaseFault.Memory (λ bytes. bytes) result (Ok (hex_of text.now)) }
 {
     match hex::decode(alloc, text) {
         Ok(bytes) => Ok(Some(Bytes::new(bytes))),
@@ -36,18 +37,18 @@ pub fn hex_bytes(alloc: Global, text: &str) -> Result<Option<Bytes>, CaseFault>
 }
 
 /// The bytes of a key whose text is hexadecimal digits.
-#[tactic(auto, unfolding(crate::specs::Reading::bytes_in))]
+#[tactic(auto, unfolding(crate::specs::Fields::bytes_in))]
 pub fn bytes_of(alloc: Global, tree: &Value, key: Key) -> Result<Bytes, CaseFault>
-    ensures { Gives (λ bytes. bytes) result (bytes_in key (view tree.now)) }
+    ensures { Gives CaseFault.Memory (λ bytes. bytes) result (bytes_in key (view tree.now)) }
 {
     let text = text_of(tree, key)?;
     hex_bytes(alloc, text)?.ok_or(CaseFault::BadHex(key))
 }
 
 /// The number of a key, from `low` to `high`.
-#[tactic(auto, unfolding(crate::specs::Reading::number_in))]
+#[tactic(auto, unfolding(crate::specs::Fields::number_in))]
 pub fn number_of(tree: &Value, key: Key, low: u64, high: u64) -> Result<u64, CaseFault>
-    ensures value { Gives (λ n. n) result (number_in key low high (view tree.now)) }
+    ensures value { Gives CaseFault.Memory (λ n. n) result (number_in key low high (view tree.now)) }
     ensures from { IfOk result (λ n. low ≤ n) }
     ensures to { IfOk result (λ n. n ≤ high) }
 {
@@ -61,9 +62,9 @@ pub fn number_of(tree: &Value, key: Key, low: u64, high: u64) -> Result<u64, Cas
 }
 
 /// The items of a key whose value is an array.
-#[tactic(auto, unfolding(crate::specs::Reading::array_in))]
+#[tactic(auto, unfolding(crate::specs::Fields::array_in))]
 pub fn array_of(tree: &Value, key: Key) -> Result<&[Value], CaseFault>
-    ensures { Gives (λ items. map view items.now) result (array_in key (view tree.now)) }
+    ensures { Gives CaseFault.Memory (λ items. map view items.now) result (array_in key (view tree.now)) }
 {
     let value = value_of(tree, key)?;
     match value.as_array() {

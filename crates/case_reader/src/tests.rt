@@ -232,9 +232,9 @@ fn lengths_are_taken_up_to_their_limit(rt: HostRuntime) -> Result<(), Fail> {
 fn values_nest_up_to_the_limit_of_serde_json(rt: HostRuntime) -> Result<(), Fail> {
     let alloc = rt.alloc();
     for (arrays, want) in [(126, None), (127, Some(CaseFault::NotJson))] {
-        let front = "[".repeat(alloc, arrays)?;
-        let back = "]".repeat(alloc, arrays)?;
-        let new = format!(in alloc; "8,\"note\":{front}{back}")?;
+        let open = "[".repeat(alloc, arrays)?;
+        let close = "]".repeat(alloc, arrays)?;
+        let new = format!(in alloc; "8,\"note\":{open}{close}")?;
         let text = BASE.replace(alloc, "8", new.as_str())?;
         assert_eq!(rt; fault_of(alloc, text.as_str()), want, "{arrays} arrays");
     }
@@ -248,16 +248,17 @@ fn a_case_is_read_whole(rt: HostRuntime) -> Result<(), Fail> {
         (
             BASE,
             "Case { image: Listed { items: [19, 5, 160, 2] }, flat: true, input: Listed { items: [] }, \
-             bound: 8, patience: 0, provers: Listed { items: [Script { manner: Plain }] } }",
+             bound: 8, patience: 0, version: 1, fan: 2, provers: Listed { items: [Script { manner: Plain }] } }",
         ),
-        // Keys come in any order, the last of two counts, digits are in either case, and other keys are passed over.
+        // Keys come in any order, the last of two counts, digits are of either case, and other keys are ignored.
         (
             "{\"provers\":[{\"name\":1},{\"manner\":{\"bytes\":\"aB\",\"kind\":\"output\",\"x\":[]}}],\
              \"patience\":100,\"bound\":0,\"bound\":16777216,\"input\":\"00Ff\",\"image\":\"\",\
              \"note\":{\"bound\":0},\"format\":\"elf\"}",
             "Case { image: Listed { items: [] }, flat: false, input: Listed { items: [0, 255] }, \
-             bound: 16777216, patience: 100, provers: Listed { items: [Script { manner: Plain }, \
-             Script { manner: Output(Listed { items: [171] }) }] } }",
+             bound: 16777216, patience: 100, version: 1, fan: 2, provers: Listed { items: [\
+             Script { manner: Plain }, \
+             Script { manner: Output(ClaimOutput { bytes: Listed { items: [171] } }) }] } }",
         ),
     ] {
         let case = read_case(alloc, text.as_bytes())?;
@@ -268,33 +269,50 @@ fn a_case_is_read_whole(rt: HostRuntime) -> Result<(), Fail> {
 }
 
 #[test]
-fn faults_are_told_in_words(rt: HostRuntime) -> Result<(), Fail> {
-    for (fault, want) in [
-        (CaseFault::NotJson, "the bytes are no JSON text"),
-        (CaseFault::NotObject, "the case is no object"),
-        (CaseFault::Missing(Key::Format), "format is missing"),
-        (CaseFault::WrongType(Key::Bound), "bound has another type"),
+fn a_fault_has_its_rule_and_its_text(rt: HostRuntime) -> Result<(), Fail> {
+    for (fault, rule, want) in [
+        (CaseFault::NotJson, Some(1), "the bytes are no JSON text"),
+        (CaseFault::NotObject, Some(2), "the case is no object"),
+        (
+            CaseFault::Missing(Key::Format),
+            Some(3),
+            "format is missing",
+        ),
+        (
+            CaseFault::WrongType(Key::Bound),
+            Some(4),
+            "bound has another type",
+        ),
         (
             CaseFault::BadHex(Key::Image),
+            Some(5),
             "image is no hexadecimal text",
         ),
         (
             CaseFault::BadHex(Key::Input),
+            Some(5),
             "input is no hexadecimal text",
         ),
         (
             CaseFault::OutOfRange(Key::Patience),
+            Some(6),
             "patience is out of range",
         ),
         (
             CaseFault::OutOfRange(Key::Provers),
+            Some(6),
             "provers is out of range",
         ),
-        (CaseFault::BadProver(2), "prover 2 is none that is known"),
-        (CaseFault::Memory, "want of memory"),
+        (
+            CaseFault::BadProver(2),
+            Some(7),
+            "prover 2 is none that is known",
+        ),
+        (CaseFault::Memory, None, "out of memory"),
     ] {
         let text = format!(in rt.alloc(); "{fault}")?;
         assert_eq!(rt; text.as_str(), want);
+        assert_eq!(rt; fault.rule(), rule, "{want}");
     }
     Ok(())
 }

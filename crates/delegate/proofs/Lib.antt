@@ -1,2 +1,4 @@
 pub mod HeadlineLemmas
+pub mod OutcomeLemmas
+pub mod ProcessLemmas
 pub mod WordsLemmas

@@ -26,12 +26,12 @@ pub command_line-is-free : is_simple_and_free command_line ≡ true
 unfolding command_line
 command_line-is-free = refl
 
--- words in which `clap` finds no fault name the command of its subcommand
-pub chosen-taken : (words : List Text) → fault_of command_line words ≡ [] → chosen words ≡ Some (command_of words)
+-- arguments in which `clap` finds no fault name the command of its subcommand
+pub chosen-taken : (words : List Text) → fault_of command_line words ≡ [] → chosen words ≡ command_of words
 unfolding is_taken
-chosen-taken words none = ap (λ faults. cond (is_faultless faults) (Some (command_of words)) None) none
+chosen-taken words none = ap (λ faults. cond (is_faultless faults) (command_of words) None) none
 
-abbrev untaken : (command : Command) (faults : Kinds) (k : ErrorKind) → IsAmong k faults → cond (is_faultless faults) (Some command) None ≡ None
+abbrev untaken : (command : Option Command) (faults : Kinds) (k : ErrorKind) → IsAmong k faults → cond (is_faultless faults) command None ≡ None
 untaken command [] k among = absurd among
 untaken command (x ∷ faults) k among = refl
 
@@ -48,7 +48,7 @@ pub name-of-rows : (m : ArgMatches) (words : List Text) → subcommand_rows_of m
 unfolding command_of
 name-of-rows m words rows = ap named (names-of-rows (out-ArgMatches m).subcommand ∙ ap (option_map name_of) rows)
 
--- words that are plain: the program's name and a command
+-- plain arguments: the program's name and a command
 pub judge_is_taken : (program : Text) → chosen (program ∷ codes "judge" ∷ []) ≡ Some Judge
 unfolding clap_on_literals command_line is_taken command_of
 judge_is_taken program = refl
@@ -58,15 +58,15 @@ unfolding clap_on_literals command_line is_taken command_of
 run_is_taken program = refl
 
 -- a parse that succeeds gives the command
-pub chosen-of-parse : (a : App) (words : List Text) (m : ArgMatches) (command : Command) → a ≡ command_line
+pub chosen-of-parse : (a : App) (words : List Text) (m : ArgMatches) (command : Option Command) → a ≡ command_line
     → (is_simple_and_free a ≡ true → fault_of a words ≡ []) → HasMatchesOf a words m → command ≡ named (subcommand_name_of m)
-    → Some command ≡ chosen words
+    → command ≡ chosen words
 chosen-of-parse a words m command app free has is =
     let none = subst (λ x. fault_of x words ≡ []) app (free (ap is_simple_and_free app ∙ command_line-is-free)) in
     let rows = subst (λ x. subcommand_rows_of m ≡ subcommand_of x words) app (has (ap is_simple app ∙ command_line-is-simple)).1 in
-    ap Some (is ∙ name-of-rows m words rows) ∙ sym (chosen-taken words none)
+    is ∙ name-of-rows m words rows ∙ sym (chosen-taken words none)
 
--- a parse that fails, and not for want of memory, refuses the words
+-- a parse that fails, and not because memory ran out, refuses the arguments
 pub chosen-of-fault : (a : App) (words : List Text) (e : Error) → a ≡ command_line
     → (is_simple_and_free a ≡ true → HasKind (fault_of a words) e) → kind_of e ≢ OutOfMemory → None ≡ chosen words
 chosen-of-fault a words e app free other =

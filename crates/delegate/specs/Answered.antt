@@ -1,4 +1,4 @@
--- The exit statuses of the program.
+-- To believe. The program's exit statuses, and what an answer says of the source.
 use Rattle.std.specs.Prelude.{ℕ, Bool, true, false}
 use Rattle.delegate.specs.declared.answered.Answered.{Answered}
 use Rattle.delegate.specs.declared.answered.Answered.TheVariants.{Done, Usage, Case, Image, ReadFault, WriteFault, AuditRefused, Memory, NoneLeft, Collision, TooLong}
@@ -16,30 +16,21 @@ status_number NoneLeft = 10
 status_number Collision = 11
 status_number TooLong = 12
 
--- the answer is an outcome of the words and the bytes, and no fault of a device or want of memory
+-- an answer with which a whole text is written: no fault of a device, and memory didn't run out
 abbrev pub is_outcome : Answered → Bool
-is_outcome Done = true
-is_outcome Usage = true
-is_outcome Case = true
-is_outcome Image = true
 is_outcome ReadFault = false
 is_outcome WriteFault = false
-is_outcome AuditRefused = true
 is_outcome Memory = false
-is_outcome NoneLeft = true
-is_outcome Collision = true
-is_outcome TooLong = true
+is_outcome _ = true
 
--- the answer is one to bytes that were read
-abbrev pub answers_bytes : Answered → Bool
-answers_bytes Done = true
-answers_bytes Usage = false
-answers_bytes Case = true
-answers_bytes Image = true
-answers_bytes ReadFault = false
-answers_bytes WriteFault = false
-answers_bytes AuditRefused = true
-answers_bytes Memory = false
-answers_bytes NoneLeft = true
-answers_bytes Collision = true
-answers_bytes TooLong = true
+-- such an answer of one of the commands, or to arguments that name none
+abbrev pub is_of_a_command : Answered → Bool
+is_of_a_command AuditRefused = false
+is_of_a_command Collision = false
+is_of_a_command answered = is_outcome answered
+
+-- an answer for which the source is read to its end
+abbrev pub reads_all : Answered → Bool
+reads_all Usage = false
+reads_all TooLong = false
+reads_all answered = is_outcome answered

@@ -1,18 +1,24 @@
--- The match: the referee runs the program itself, and a claim is faulty where its output isn't the run's.
+-- To believe. The match: the referee runs the program itself, and a claim is faulty where its output isn't the run's.
 use Rattle.std.specs.Prelude.{ℕ, ◌+◌, List, [], ◌∷◌, length, map, if◌then◌else◌}
 use Rattle.std.specs.Str.{bytes_eq}
 use Rattle.rd_base.specs.declared.script.Script.{Script}
 use Rattle.rd_base.specs.declared.script.Manner.{Manner}
 use Rattle.rd_base.specs.declared.script.Manner.TheVariants.{Plain, Output}
 use Rattle.rv_step.specs.State.{State}
-use Rattle.case_reader.specs.Reading.{CaseData}
+use Rattle.rv_step.specs.Step.{state_at}
+use Rattle.case_reader.specs.Case.{CaseData}
 use Rattle.transcript_text.specs.declared.record.Claim.{Claim}
 use Rattle.transcript_text.specs.declared.record.Settled.{Settled}
 use Rattle.transcript_text.specs.declared.record.Settled.TheVariants.{Given, Faulty}
+use Rattle.transcript_text.specs.declared.record.Record.{Record}
 use Rattle.transcript_text.specs.declared.record.Head.{Head}
 use Rattle.transcript_text.specs.declared.record.DigestName.TheVariants.{Sha256}
 use Rattle.transcript_text.specs.declared.record.Verdict.{Verdict}
 use Rattle.transcript_text.specs.declared.record.Verdict.TheVariants.{Accept, NoneLeft}
+
+-- the state in which the run of a case from this state ends: that at the bound
+abbrev pub end_of_run : CaseData → State → State
+end_of_run c start = state_at start c.bound
 
 -- what the run claims in the state that it ends in: its status and output
 abbrev pub claim_of_run : State → Claim
@@ -34,6 +40,10 @@ settled_claim final claim = if bytes_eq claim.output final.output then Given cla
 abbrev pub claims_of : State → List Script → List Settled
 claims_of final scripts = map (λ script. settled_claim final (claim_by final script)) scripts
 
+-- the record of a case whose run ends in this state
+abbrev pub record_of : CaseData → State → Record
+record_of c final = record { claims = claims_of final c.provers }
+
 -- the lowest prover whose claim was given, of provers the first of which has this number; else nobody is left
 abbrev pub verdict_from : ℕ → List Settled → Verdict
 verdict_from number [] = NoneLeft
@@ -45,4 +55,4 @@ verdict_of claims = verdict_from 1 claims
 
 -- what the match is played over
 abbrev pub head_of : CaseData → Head
-head_of c = record { provers = length c.provers; bound = c.bound; patience = c.patience; version = 1; fan = 2; digest = Sha256 }
+head_of c = record { provers = length c.provers; bound = c.bound; patience = c.patience; version = c.version; fan = c.fan; digest = Sha256 }

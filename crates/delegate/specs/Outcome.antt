@@ -1,14 +1,10 @@
--- What the program answers and writes: a function of the words and of the bytes that it reads. The words are tested
--- first, then how many bytes there are, then the case, then the image; then the program runs, and the match is decided.
-use Rattle.std.specs.Prelude.{ℕ, List, [], ◌++◌, length, nat_lt, codes, decimal, Result, Ok, Err, Option, Some, None, if◌then◌else◌}
+-- To believe. What the program answers and writes: a function of its arguments and of the bytes that it reads.
+use Rattle.std.specs.Prelude.{ℕ, List, length, nat_lt, Result, Ok, Err, if◌then◌else◌}
+use Rattle.std.specs.Option.{ok_or}
+use Rattle.rd_base.specs.Results.{◌>>=◌}
 use Rattle.rv_step.specs.State.{State}
-use Rattle.rv_step.specs.Step.{state_at}
 use Rattle.rv_step.specs.Loaded.{started}
-use Rattle.case_reader.specs.Key.{key_text}
-use Rattle.case_reader.specs.Reading.{CaseData, case_at}
-use Rattle.case_reader.specs.declared.fault.CaseFault.{CaseFault}
-use Rattle.case_reader.specs.declared.fault.CaseFault.TheVariants as case
-use Rattle.image_reader.specs.Fault.{rule_of}
+use Rattle.case_reader.specs.Case.{CaseData, case_at}
 use Rattle.image_reader.specs.Image.{Image, flat_at}
 use Rattle.image_reader.specs.Elf.{elf_at}
 use Rattle.image_reader.specs.declared.fault.ImageFault.{ImageFault}
@@ -18,89 +14,56 @@ use Rattle.transcript_text.specs.declared.record.Verdict.TheVariants.{Accept, No
 use Rattle.delegate.specs.Words.{chosen}
 use Rattle.delegate.specs.declared.words.Command.{Command}
 use Rattle.delegate.specs.declared.words.Command.TheVariants.{Judge, Run}
-use Rattle.delegate.specs.Match.{claims_of, verdict_of, head_of}
+use Rattle.delegate.specs.Match.{end_of_run, record_of, verdict_of, head_of}
+use Rattle.delegate.specs.Refusal.{usage, too_long, case_refusal, image_refusal, or_refusal}
+use Rattle.delegate.specs.declared.response.Response.{Response}
 use Rattle.delegate.specs.declared.answered.Answered.{Answered}
 use Rattle.delegate.specs.declared.answered.Answered.TheVariants as answered
 
--- an answer, and the whole text that is written with it
-pub record Outcome : Type 0 where
-  pub answered : Answered
-  pub text : List ℕ
-
--- the rule of a case that is broken, with its key, or the prover's number
-abbrev pub case_fault_text : CaseFault → List ℕ
-case_fault_text case.NotJson = codes "fault case 1\n"
-case_fault_text case.NotObject = codes "fault case 2\n"
-case_fault_text (case.Missing key) = codes "fault case 3 " ++ (key_text key ++ codes "\n")
-case_fault_text (case.WrongType key) = codes "fault case 4 " ++ (key_text key ++ codes "\n")
-case_fault_text (case.BadHex key) = codes "fault case 5 " ++ (key_text key ++ codes "\n")
-case_fault_text (case.OutOfRange key) = codes "fault case 6 " ++ (key_text key ++ codes "\n")
-case_fault_text (case.BadProver number) = codes "fault case 7 " ++ (decimal number ++ codes "\n")
-case_fault_text case.Memory = []
-
--- the rule of an image that is broken
-abbrev pub rule_text : Option ℕ → List ℕ
-rule_text (Some rule) = codes "fault image " ++ (decimal rule ++ codes "\n")
-rule_text None = []
-
-abbrev pub image_fault_text : ImageFault → List ℕ
-image_fault_text fault = rule_text (rule_of fault)
+-- not more than the most bytes that are read
+abbrev pub within_limit : List ℕ → Result (Unit {0}) Response
+within_limit bytes = if nat_lt 16777216 (length bytes) then Err too_long else Ok tt
 
 -- the image of a case, flat or ELF, or the first rule of images that is broken
 abbrev pub image_at : CaseData → Result Image ImageFault
 image_at c = if c.flat then flat_at c.image else elf_at c.image
 
--- the state in which the sequential run of a case ends
-abbrev pub final_state : CaseData → Image → State
-final_state c image = state_at (started image.memory image.entry c.input) c.bound
+-- the state in which the run of a case starts
+abbrev pub start_of : CaseData → Image → State
+start_of c image = started image.memory image.entry c.input
 
 abbrev pub answered_by : Verdict → Answered
 answered_by (Accept number) = answered.Done
 answered_by NoneLeft = answered.NoneLeft
 
--- a match that ends in this state of the run
-unfoldable pub judged : CaseData → State → Outcome
-judged c final =
-    let claims = claims_of final c.provers in
-    record {
-      answered = answered_by (verdict_of claims);
-      text = report_text (head_of c) (record { claims = claims }) (verdict_of claims);
-    }
+-- the verdict of a match and its report, from the state in which the case's run ends
+abbrev pub reported : CaseData → State → Response
+reported c final =
+    let verdict = verdict_of (record_of c final).claims in
+    record { answered = answered_by verdict; text = report_text (head_of c) (record_of c final) verdict }
 
--- what is answered of a run that ends in this state
-abbrev pub run_answer : State → Outcome
+-- the run's status and output, from the state in which it ends
+abbrev pub run_answer : State → Response
 run_answer final = record { answered = answered.Done; text = answer_line_text final.status final.output }
 
--- a command on a run that ends in this state
-abbrev pub ended : Command → CaseData → State → Outcome
-ended Judge c final = judged c final
-ended Run c final = run_answer final
+-- a command on a case whose run starts in this state
+abbrev pub ended : Command → CaseData → State → Response
+ended Judge c start = reported c (end_of_run c start)
+ended Run c start = run_answer (end_of_run c start)
 
-abbrev pub after_image : Command → CaseData → Result Image ImageFault → Outcome
-after_image command c (Ok image) = ended command c (final_state c image)
-after_image command c (Err fault) = record { answered = answered.Image; text = image_fault_text fault }
+-- the steps in their order, of which the first that is refused is the last
+unfoldable pub carried_out : List (List ℕ) → List ℕ → Result Response Response
+carried_out words bytes = do
+  command ← ok_or (chosen words) usage
+  short ← within_limit bytes
+  c ← or_refusal case_refusal (case_at bytes)
+  image ← or_refusal image_refusal (image_at c)
+  Ok (ended command c (start_of c image))
 
-abbrev pub after_case : Command → Result CaseData CaseFault → Outcome
-after_case command (Ok c) = after_image command c (image_at c)
-after_case command (Err fault) = record { answered = answered.Case; text = case_fault_text fault }
+-- the response, of a command that is carried out or refused
+abbrev pub either_way : Result Response Response → Response
+either_way (Ok response) = response
+either_way (Err response) = response
 
--- the most bytes that are read
-abbrev pub most_bytes : ℕ
-most_bytes = 16777216
-
--- bytes that were read: not too many, and a case
-unfoldable pub read_outcome : Command → List ℕ → Outcome
-read_outcome command bytes =
-    if nat_lt most_bytes (length bytes) then record { answered = answered.TooLong; text = codes "fault too long\n" }
-    else after_case command (case_at bytes)
-
-abbrev pub usage : Outcome
-usage = record { answered = answered.Usage; text = codes "fault usage\n" }
-
--- a command, where the words name one
-abbrev pub asked : Option Command → List ℕ → Outcome
-asked (Some command) bytes = read_outcome command bytes
-asked None bytes = usage
-
-unfoldable pub outcome : List (List ℕ) → List ℕ → Outcome
-outcome words bytes = asked (chosen words) bytes
+unfoldable pub outcome : List (List ℕ) → List ℕ → Response
+outcome words bytes = either_way (carried_out words bytes)

@@ -1,6 +1,7 @@
--- The words of the command line, as `clap` takes them.
-use Rattle.std.specs.Prelude.{List, [], ◌∷◌, Bool, true, false, codes, map, option_map, Option, Some, None, if◌then◌else◌, String, string_bytes}
+-- To believe. The arguments of the command line, as `clap` takes them.
+use Rattle.std.specs.Prelude.{ℕ, List, [], ◌∷◌, Bool, true, false, codes, map, option_map, Option, Some, None, if◌then◌else◌, String, string_bytes}
 use Rattle.std.specs.declared.alloc.Global.{Global}
+use Rattle.std.specs.Option.{option_and_then}
 use Rattle.std.specs.Str.{bytes_eq}
 use Rattle.clap.specs.Kinds.{Kinds}
 use Rattle.clap.specs.Walk.{Row, Text}
@@ -9,7 +10,7 @@ use Rattle.clap.specs.Faults.{fault_of}
 use Rattle.delegate.specs.declared.words.Command.{Command}
 use Rattle.delegate.specs.declared.words.Command.TheVariants.{Judge, Run}
 
--- words as their bytes
+-- arguments as their bytes
 abbrev pub texts : List (String Global) → List Text
 texts words = map string_bytes words
 
@@ -25,23 +26,27 @@ abbrev pub is_faultless : Kinds → Bool
 is_faultless [] = true
 is_faultless (kind ∷ kinds) = false
 
--- words that are taken: `clap` finds no fault in them, the first being the program's name
+-- arguments that are taken: `clap` finds no fault in them, the first being the program's name
 unfoldable pub is_taken : List Text → Bool
 is_taken words = is_faultless (fault_of command_line words)
 
--- the command of a name. Words that are taken name one, since a subcommand is required; so the case of none has no part
--- in an answer
-abbrev pub named : Option Text → Command
-named (Some name) = if bytes_eq name (codes "run") then Run else Judge
-named None = Judge
+-- the command of a name
+abbrev pub command_of_name : List ℕ → Option Command
+command_of_name name =
+    if bytes_eq name (codes "judge") then Some Judge
+    else if bytes_eq name (codes "run") then Some Run
+    else None
+
+abbrev pub named : Option Text → Option Command
+named name = option_and_then command_of_name name
 
 abbrev pub name_of : Text × List Row → Text
 name_of entered = entered.0
 
--- the command that words which are taken name
-unfoldable pub command_of : List Text → Command
+-- the command of the subcommand that the arguments name
+unfoldable pub command_of : List Text → Option Command
 command_of words = named (option_map name_of (subcommand_of command_line words))
 
--- the command, where words are taken
+-- the command, where the arguments are taken
 abbrev pub chosen : List Text → Option Command
-chosen words = if is_taken words then Some (command_of words) else None
+chosen words = if is_taken words then command_of words else None

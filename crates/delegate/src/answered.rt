@@ -6,7 +6,7 @@ ghost use Rattle.delegate.specs.Answered.{status_number};
 pub enum Answered {
     /// A claim was accepted, or the command's text was written.
     Done,
-    /// The words aren't taken. Nothing was read.
+    /// The arguments name no command. Nothing was read.
     Usage,
     /// The bytes are no case.
     Case,
@@ -14,11 +14,11 @@ pub enum Answered {
     Image,
     /// The source failed. Nothing was written.
     ReadFault,
-    /// The sink failed. It may have taken a part from the front of the text.
+    /// The sink failed. It may have taken a prefix of the text.
     WriteFault,
     /// The text is no full text of a legal match.
     AuditRefused,
-    /// An allocation was refused. Nothing was written.
+    /// Memory ran out. Nothing was written.
     Memory,
     /// Every prover is out.
     NoneLeft,

@@ -1,13 +1,32 @@
-ghost use Rattle.std.specs.Prelude.{◌≡◌, IfOk};
-ghost use Rattle.delegate.specs.Outcome.{case_fault_text, image_fault_text};
+ghost use Rattle.std.specs.Prelude.{◌≡◌, IfOk, string_bytes};
+ghost use Rattle.delegate.specs.Refusal.{usage, too_long, case_refusal, image_refusal};
 
+use crate::answered::Answered;
+use crate::response::Response;
 use case_reader::CaseFault;
 use image_reader::ImageFault;
+use rd_base::Bytes;
 use std::alloc::{AllocError, Global};
 
-/// The text of a fault of a case; there is none of want of memory.
-pub fn case_fault(alloc: Global, fault: CaseFault) -> Result<Vec<u8>, AllocError>
-    ensures { IfOk result (λ text. text.items ≡ case_fault_text fault) }
+/// The response to arguments that name no command.
+pub fn usage(alloc: Global) -> Result<Response, AllocError>
+    ensures { IfOk result (λ response. response ≡ usage) }
+{
+    let text = String::from_str(alloc, "fault usage\n")?;
+    Ok(response(Answered::Usage, text))
+}
+
+/// The response to more bytes than are read.
+pub fn too_long(alloc: Global) -> Result<Response, AllocError>
+    ensures { IfOk result (λ response. response ≡ too_long) }
+{
+    let text = String::from_str(alloc, "fault too long\n")?;
+    Ok(response(Answered::TooLong, text))
+}
+
+/// The response to a fault of a case. The text is empty where memory ran out.
+pub fn case_refusal(alloc: Global, fault: CaseFault) -> Result<Response, AllocError>
+    ensures { IfOk result (λ response. response ≡ case_refusal fault) }
 {
     let text = match fault {
         CaseFault::NotJson => String::from_str(alloc, "fault case 1\n")?,
@@ -19,16 +38,25 @@ pub fn case_fault(alloc: Global, fault: CaseFault) -> Result<Vec<u8>, AllocError
         CaseFault::BadProver(number) => format!(in alloc; "fault case 7 {number}\n")?,
         CaseFault::Memory => String::new(alloc),
     };
-    Ok(text.into_bytes())
+    Ok(response(Answered::Case, text))
 }
 
-/// The text of a fault of an image; there is none of want of memory.
-pub fn image_fault(alloc: Global, fault: ImageFault) -> Result<Vec<u8>, AllocError>
-    ensures { IfOk result (λ text. text.items ≡ image_fault_text fault) }
+/// The response to a fault of an image. The text is empty where memory ran out.
+pub fn image_refusal(alloc: Global, fault: ImageFault) -> Result<Response, AllocError>
+    ensures { IfOk result (λ response. response ≡ image_refusal fault) }
 {
     let text = match fault.rule() {
         Some(rule) => format!(in alloc; "fault image {rule}\n")?,
         None => String::new(alloc),
     };
-    Ok(text.into_bytes())
+    Ok(response(Answered::Image, text))
+}
+
+fn response(answered: Answered, text: String) -> Response
+    ensures { result ≡ record { answered = answered; text = string_bytes text } }
+{
+    Response {
+        answered,
+        text: Bytes::new(text.into_bytes()),
+    }
 }

@@ -3,7 +3,7 @@ ghost use Rattle.delegate.specs.Words.{chosen};
 
 use crate::words::Command;
 
-/// The program's name, whatever it is, and one of the commands are words that are taken.
+/// The program's name, whatever it is, and the name of a command are arguments that name it.
 #[tactic(auto, using(crate::proofs::WordsLemmas::judge_is_taken, crate::proofs::WordsLemmas::run_is_taken))]
 pub fn plain_words()
     ensures judge { (program : List ℕ) → chosen (program ∷ codes "judge" ∷ []) ≡ Some Command.Judge }

@@ -1,21 +1,27 @@
-//! The program: from words and bytes to a status and a text.
+//! The program: from arguments and bytes to a status and a text.
 //!
-//! `run` is the top call. Its clauses say what it answers and writes as a function of the words and of the bytes that
-//! its source had, and carry the headline: a prover whose claim is the run's own is never put out, and where there is
-//! one the verdict is the sequential run's status and output. Read `program` first, then `answering` and `playing`.
+//! `run` is the top call. Its clauses say what it answers and writes as a function of the arguments and of the bytes
+//! that its source had, and carry the headline: a prover whose claim is the run's own is never put out, and where there
+//! is one the verdict is the sequential run's status and output. Read `program` first, then `responding`, whose steps
+//! stand in `stages`, `judging` and `running`. `run_process` is what a program's `main` calls.
 #![tactic(auto)]
 
-mod answer;
 mod answered;
-mod answering;
+mod claims;
 mod faults;
+mod judging;
 mod laws;
-mod playing;
+mod process;
 mod program;
+mod responding;
+mod response;
+mod running;
+mod stages;
 mod words;
 
 pub use answered::Answered;
 pub use laws::plain_words;
+pub use process::{arguments, run_process};
 pub use program::run;
 pub use words::Command;
 

@@ -1,25 +1,26 @@
-ghost use Rattle.std.specs.Prelude.{◌≡◌, ◌≢◌, ◌<◌, ◌↔◌, ℕ, List, true, false, length, IfSome};
+ghost use Rattle.std.specs.Prelude.{◌≡◌, ◌≢◌, ◌↔◌, ℕ, List, true, None, IfSome, codes};
 ghost use Rattle.std.specs.Io.KnownBytes.{Appends, IsAtEnd};
-ghost use Rattle.io_edge.specs.Device.{Rises, AppendsPart};
-ghost use Rattle.case_reader.specs.Reading.{CaseData};
+ghost use Rattle.io_edge.specs.Device.{Rises, IsLaterIn, AppendsPart};
+ghost use Rattle.case_reader.specs.Case.{CaseData};
 ghost use Rattle.image_reader.specs.Image.{Image};
-ghost use Rattle.delegate.specs.Answer.{IsReadWhole};
-ghost use Rattle.delegate.specs.Answered.{is_outcome};
-ghost use Rattle.delegate.specs.Outcome.{Outcome, outcome, final_state};
-ghost use Rattle.delegate.specs.Headline.{IsCase, IsTruthful, Headline};
-ghost use Rattle.delegate.specs.Words.{texts, is_taken};
+ghost use Rattle.delegate.specs.Answered.{is_outcome, is_of_a_command, reads_all};
+ghost use Rattle.delegate.specs.Outcome.{outcome};
+ghost use Rattle.delegate.specs.Headline.{IsCase, IsTruthful, Headline, final_state};
+ghost use Rattle.delegate.specs.Visible.{ForItsBytes};
+ghost use Rattle.delegate.specs.Words.{texts, chosen};
 
-use crate::answer::Halt;
 use crate::answered::Answered;
-use crate::answering::answer;
+use crate::responding::respond;
+use crate::response::Halt;
 use io_edge::{Sink, Source, write_all};
 use std::alloc::Global;
 use std::thread::Threads;
 
-/// Runs the program: reads a case from the source where the words are taken, decides it, and writes the text.
+/// Runs the program: reads a case from the source where the arguments name a command, carries the command out, and
+/// writes the text.
 ///
-/// The answer and the text are the outcome of the words and of the bytes that the source had, or a fault of a device,
-/// or want of memory. Nothing is written before the whole text is made, and writing takes no memory.
+/// The answer and the text are the outcome of the arguments and of the bytes that the source had, or a fault of a
+/// device, or out of memory. Nothing is written before the whole text is made, and writing takes no memory.
 pub fn run<R: Threads + Sync, S: Source, K: Sink>(
     _rt: &R,
     alloc: Global,
@@ -27,15 +28,20 @@ pub fn run<R: Threads + Sync, S: Source, K: Sink>(
     source: &mut S,
     sink: &mut K,
 ) -> Answered
-    // What it answers and writes.
-    ensures answers { is_outcome result ≡ true → IfSome (S.left source.old) (λ bytes.
+    // What it answers and writes, for the source's bytes where they are visible, and for some bytes where they aren't.
+    ensures answers { is_outcome result ≡ true → ForItsBytes (S.left source.old) (λ bytes.
         (result ≡ (outcome (texts words.now) bytes).answered)
         × Appends (K.held sink.old) (K.held sink.new) (outcome (texts words.now) bytes).text) }
+    ensures of_a_command { is_outcome result ≡ true → is_of_a_command result ≡ true }
 
-    // The words that aren't taken are refused, and nothing is read.
-    ensures usage { is_outcome result ≡ true → (result ≡ Answered.Usage) ↔ (is_taken (texts words.now) ≡ false) }
-    ensures unread { is_taken (texts words.now) ≡ false → S.left source.new ≡ S.left source.old }
-    ensures read_whole { IsReadWhole result → IsAtEnd (S.left source.new) }
+    // Arguments that name no command are refused, and nothing is read.
+    ensures usage { is_outcome result ≡ true → (result ≡ Answered.Usage) ↔ (chosen (texts words.now) ≡ None) }
+    ensures usage_text { result ≡ Answered.Usage → Appends (K.held sink.old) (K.held sink.new) (codes "fault usage\n") }
+    ensures unread { chosen (texts words.now) ≡ None → S.left source.new ≡ S.left source.old }
+
+    // Where the source stands: at its end, or after the bytes that it gave.
+    ensures read_whole { reads_all result ≡ true → IsAtEnd (S.left source.new) }
+    ensures rest { IfSome (S.left source.old) (IsLaterIn (S.left source.new)) }
 
     // Faults of the devices come only where their counts rose, and nothing else raises those.
     ensures read_fault { result ≡ Answered.ReadFault → Rises (S.faults source.old) (S.faults source.new) }
@@ -43,8 +49,8 @@ pub fn run<R: Threads + Sync, S: Source, K: Sink>(
     ensures write_fault { result ≡ Answered.WriteFault → Rises (K.faults sink.old) (K.faults sink.new) }
     ensures sink_count { result ≢ Answered.WriteFault → K.faults sink.new ≡ K.faults sink.old }
 
-    // What is written where there is a fault or want of memory.
-    ensures part { result ≡ Answered.WriteFault → IfSome (S.left source.old) (λ bytes.
+    // What is written where there is a fault, or memory ran out.
+    ensures part { result ≡ Answered.WriteFault → ForItsBytes (S.left source.old) (λ bytes.
         AppendsPart (K.held sink.old) (K.held sink.new) (outcome (texts words.now) bytes).text) }
     ensures nothing_read_fault { result ≡ Answered.ReadFault → K.held sink.new ≡ K.held sink.old }
     ensures nothing_memory { result ≡ Answered.Memory → K.held sink.new ≡ K.held sink.old }
@@ -56,13 +62,13 @@ pub fn run<R: Threads + Sync, S: Source, K: Sink>(
         (text : List ℕ) × Headline (record { answered = result; text = text }) c (final_state c image) number
         × Appends (K.held sink.old) (K.held sink.new) text) }
 {
-    let answer = match answer(alloc, words, source) {
-        Ok(answer) => answer,
+    let response = match respond(alloc, words, source) {
+        Ok(response) => response,
         Err(Halt::ReadFault) => return Answered::ReadFault,
         Err(Halt::Memory) => return Answered::Memory,
     };
-    match write_all(sink, answer.text.as_slice()) {
-        Ok(()) => answer.answered,
+    match write_all(sink, response.text.as_slice()) {
+        Ok(()) => response.answered,
         Err(_) => Answered::WriteFault,
     }
 }

@@ -2,6 +2,7 @@ use crate::{Answered, run};
 use io_edge::{MemSink, MemSource};
 use std::alloc::{AllocError, Global};
 use std::test::Fail;
+use std::thread::Threads;
 
 /// It puts the byte 42 and exits with status 0, in six steps.
 const ANSWER: &str = "1305a0029308100073000000130500009308d00573000000";
@@ -16,14 +17,36 @@ const DIVISION: &str =
 /// It stores a word, changes one of its bytes, puts that byte, and traps at a misaligned load.
 const STORE: &str = "b70202001303a007a381620003a5020013558501930810007300000003a51200";
 
-/// A file of one load, which is the whole file at 0x10000, with the program of `ANSWER`.
-const EXECUTABLE: &str =
-    "7f454c460101010000000000000000000200f30001000000540001003400000000000000000000003400200001002800000000000100000000000000000001000000010\
-06c0000006c0000000500000000100000";
+/// It stores 3000 down to 1 to as many pages, puts the low byte of the first and of the last, and exits.
+const PAGES: &str =
+    "b7020020b71300001303c05d1313130023a06200b38272001303f3ffe31a03fe93081000b702002003a50200730000003774bb200325040073000000130500009308d00573000000";
 
-const ONE: &str =
-    "match provers 1 bound 8 patience 0 version 1 fan 2 digest sha256\np1 claims exited 0 output 2a\naccept exited 0 output 2a\n";
+/// It puts the byte 42 102,400 times, and exits.
+const OUTPUTS: &str = "1305a0029308100037930100730000001303f3ffe31c03fe130500009308d00573000000";
 
+/// It puts the third byte of the input's length and the last of 1,048,576 bytes of input, and exits.
+const INPUT: &str =
+    "93081000b702004003a502001355050173000000370310400345330073000000130500009308d00573000000";
+
+/// The header of a file with one program header, which is entered at 0x10054.
+const HEADER: &str =
+    "7f454c460101010000000000000000000200f3000100000054000100340000000000000000000000340020000100280000000000";
+
+/// The same with two program headers.
+const HEADER_OF_TWO: &str =
+    "7f454c460101010000000000000000000200f3000100000054000100340000000000000000000000340020000200280000000000";
+
+/// The same with 301 program headers, which is entered at 0x10000.
+const HEADER_OF_301: &str =
+    "7f454c460101010000000000000000000200f3000100000000000100340000000000000000000000340020002d01280000000000";
+
+/// A load of 108 bytes, from the file's first on, at 0x10000.
+const LOAD: &str = "010000000000000000000100000001006c0000006c0000000500000000100000";
+
+/// A load of 24 bytes at 0x10000, which follow 301 program headers.
+const FIRST_OF_301: &str = "01000000d4250000000001000000000018000000180000000000000000000000";
+
+/// The arguments of a command.
 fn words_of(alloc: Global, words: &[&str]) -> Result<Vec<String>, AllocError> {
     let mut all = Vec::new(alloc);
     for word in words {
@@ -32,19 +55,22 @@ fn words_of(alloc: Global, words: &[&str]) -> Result<Vec<String>, AllocError> {
     Ok(all)
 }
 
-/// A case with no input and no patience.
+/// A case with no patience.
 fn case_of(
     alloc: Global,
     format: &str,
     image: &str,
+    input: &str,
     bound: &str,
     provers: &str,
 ) -> Result<Vec<u8>, AllocError> {
-    let mut text = String::from_str(alloc, "{\"input\":\"\",\"patience\":0,\"format\":\"")?;
+    let mut text = String::from_str(alloc, "{\"patience\":0,\"format\":\"")?;
     for part in [
         format,
         "\",\"image\":\"",
         image,
+        "\",\"input\":\"",
+        input,
         "\",\"bound\":",
         bound,
         ",\"provers\":",
@@ -56,101 +82,136 @@ fn case_of(
     Ok(text.into_bytes())
 }
 
+/// What a command answers and writes, over memory.
+fn answer_to<R: Threads + Sync>(
+    rt: &R,
+    alloc: Global,
+    command: &str,
+    bytes: Vec<u8>,
+) -> Result<(Answered, Vec<u8>), Fail> {
+    let words = words_of(alloc, ["refcli", command].as_slice())?;
+    let mut source = MemSource::new(bytes, 65536, Vec::new(alloc));
+    let mut sink = MemSink::new(alloc, 262144, 4096, Vec::new(alloc))?;
+    let answered = run(rt, alloc, words.as_slice(), &mut source, &mut sink);
+    Ok((answered, sink.as_slice().to_vec(alloc)?))
+}
+
 #[test]
-fn a_match_gives_its_report_at_each_piece(rt: HostRuntime) -> Result<(), Fail> {
-    for piece in [1, 7, 4096] {
-        assert!(rt; piece >= 1);
-        for (image, bound, provers, answered, text) in [
-            (ANSWER, "8", "[{}]", Answered::Done, ONE),
-            (
-                ANSWER,
-                "8",
-                "[{},{\"manner\":{\"kind\":\"output\",\"bytes\":\"2b\"}}]",
-                Answered::Done,
-                "match provers 2 bound 8 patience 0 version 1 fan 2 digest sha256\np1 claims exited 0 output 2a\nout p2 faulty\naccept exited 0 output 2a\n",
-            ),
-            (
-                ANSWER,
-                "8",
-                "[{\"manner\":{\"kind\":\"output\",\"bytes\":\"2b\"}},{}]",
-                Answered::Done,
-                "match provers 2 bound 8 patience 0 version 1 fan 2 digest sha256\nout p1 faulty\np2 claims exited 0 output 2a\naccept exited 0 output 2a\n",
-            ),
-            (
-                ANSWER,
-                "8",
-                "[{},{\"manner\":{\"kind\":\"output\",\"bytes\":\"2A\"}}]",
-                Answered::Done,
-                "match provers 2 bound 8 patience 0 version 1 fan 2 digest sha256\np1 claims exited 0 output 2a\np2 claims exited 0 output 2a\naccept exited 0 output 2a\n",
-            ),
-            (
-                ANSWER,
-                "8",
-                "[{\"manner\":{\"kind\":\"output\",\"bytes\":\"\"}}]",
-                Answered::NoneLeft,
-                "match provers 1 bound 8 patience 0 version 1 fan 2 digest sha256\nout p1 faulty\nnone left\n",
-            ),
-            (
-                "00000000",
-                "8",
-                "[{}]",
-                Answered::Done,
-                "match provers 1 bound 8 patience 0 version 1 fan 2 digest sha256\np1 claims trapped 2 output\naccept trapped 2 output\n",
-            ),
-            (
-                "",
-                "8",
-                "[{}]",
-                Answered::Done,
-                "match provers 1 bound 8 patience 0 version 1 fan 2 digest sha256\np1 claims trapped 2 output\naccept trapped 2 output\n",
-            ),
-            (
-                "e7002000",
-                "8",
-                "[{}]",
-                Answered::Done,
-                "match provers 1 bound 8 patience 0 version 1 fan 2 digest sha256\np1 claims trapped 0 output\naccept trapped 0 output\n",
-            ),
-            (
-                LOOP,
-                "1000",
-                "[{}]",
-                Answered::Done,
-                "match provers 1 bound 1000 patience 0 version 1 fan 2 digest sha256\np1 claims running output\naccept running output\n",
-            ),
-            (
-                DIVISION,
-                "16",
-                "[{}]",
-                Answered::Done,
-                "match provers 1 bound 16 patience 0 version 1 fan 2 digest sha256\np1 claims exited 0 output 80ff\naccept exited 0 output 80ff\n",
-            ),
-            (
-                STORE,
-                "8",
-                "[{}]",
-                Answered::Done,
-                "match provers 1 bound 8 patience 0 version 1 fan 2 digest sha256\np1 claims trapped 4 output 7a\naccept trapped 4 output 7a\n",
-            ),
-        ] {
-            let words = words_of(rt.alloc(), ["refcli", "judge"].as_slice())?;
-            let bytes = case_of(rt.alloc(), "flat", image, bound, provers)?;
-            let mut source = MemSource::new(bytes, piece, Vec::new(rt.alloc()));
-            let mut sink = MemSink::new(rt.alloc(), 4096, piece, Vec::new(rt.alloc()))?;
-            assert_eq!(rt;
-                run(&rt, rt.alloc(), words.as_slice(), &mut source, &mut sink),
-                answered,
-                "{image}, piece {piece}"
-            );
-            assert_eq!(rt; sink.as_slice(), text.as_bytes(), "{image}, piece {piece}");
-        }
+fn the_worked_rows_give_their_texts(rt: HostRuntime) -> Result<(), Fail> {
+    let alloc = rt.alloc();
+    let honest = "[{}]";
+    let done = "p1 claims exited 0 output 2a\naccept exited 0 output 2a\n";
+    for (image, bound, provers, count, answered, lines) in [
+        (ANSWER, "8", honest, 1, Answered::Done, done),
+        (ANSWER, "16777216", honest, 1, Answered::Done, done),
+        (
+            ANSWER,
+            "8",
+            "[{},{\"manner\":{\"kind\":\"output\",\"bytes\":\"2b\"}}]",
+            2,
+            Answered::Done,
+            "p1 claims exited 0 output 2a\nout p2 faulty\naccept exited 0 output 2a\n",
+        ),
+        (
+            ANSWER,
+            "8",
+            "[{\"manner\":{\"kind\":\"output\",\"bytes\":\"2b\"}},{}]",
+            2,
+            Answered::Done,
+            "out p1 faulty\np2 claims exited 0 output 2a\naccept exited 0 output 2a\n",
+        ),
+        (
+            ANSWER,
+            "8",
+            "[{},{\"manner\":{\"kind\":\"output\",\"bytes\":\"2A\"}}]",
+            2,
+            Answered::Done,
+            "p1 claims exited 0 output 2a\np2 claims exited 0 output 2a\naccept exited 0 output 2a\n",
+        ),
+        // All outputs are false.
+        (
+            ANSWER,
+            "8",
+            "[{\"manner\":{\"kind\":\"output\",\"bytes\":\"2b\"}}]",
+            1,
+            Answered::NoneLeft,
+            "out p1 faulty\nnone left\n",
+        ),
+        (
+            ANSWER,
+            "8",
+            "[{\"manner\":{\"kind\":\"output\",\"bytes\":\"\"}}]",
+            1,
+            Answered::NoneLeft,
+            "out p1 faulty\nnone left\n",
+        ),
+        (
+            LOOP,
+            "1000",
+            honest,
+            1,
+            Answered::Done,
+            "p1 claims running output\naccept running output\n",
+        ),
+        (
+            DIVISION,
+            "16",
+            honest,
+            1,
+            Answered::Done,
+            "p1 claims exited 0 output 80ff\naccept exited 0 output 80ff\n",
+        ),
+        (
+            STORE,
+            "8",
+            honest,
+            1,
+            Answered::Done,
+            "p1 claims trapped 4 output 7a\naccept trapped 4 output 7a\n",
+        ),
+    ] {
+        let bytes = case_of(alloc, "flat", image, "", bound, provers)?;
+        let want = format!(in alloc;
+            "match provers {count} bound {bound} patience 0 version 1 fan 2 digest sha256\n{lines}"
+        )?;
+        let (given, text) = answer_to(&rt, alloc, "judge", bytes)?;
+        assert_eq!(rt; given, answered, "{image} {provers}");
+        assert_eq!(rt; text.as_slice(), want.as_bytes(), "{image} {provers}");
+    }
+    Ok(())
+}
+
+#[test]
+fn an_image_traps_with_its_code(rt: HostRuntime) -> Result<(), Fail> {
+    let alloc = rt.alloc();
+    for (image, code) in [
+        ("", 2),
+        ("00000000", 2),
+        // JALR to 2, and BEQ x0, x0, +2.
+        ("e7002000", 0),
+        ("63010000", 0),
+        // BNE x0, x0, +2 isn't taken, and an illegal word follows.
+        ("63110000", 2),
+        // EBREAK, SW x0, 2(x0), and ECALL with x17 = 0.
+        ("73001000", 3),
+        ("23210000", 6),
+        ("73000000", 8),
+    ] {
+        let bytes = case_of(alloc, "flat", image, "", "8", "[{}]")?;
+        let want = format!(in alloc;
+            "match provers 1 bound 8 patience 0 version 1 fan 2 digest sha256\np1 claims trapped {code} output\naccept trapped {code} output\n"
+        )?;
+        let (answered, text) = answer_to(&rt, alloc, "judge", bytes)?;
+        assert_eq!(rt; answered, Answered::Done, "{image}");
+        assert_eq!(rt; text.as_slice(), want.as_bytes(), "{image}");
     }
     Ok(())
 }
 
 #[test]
 fn a_run_answers_with_its_status_and_output_at_the_bound(rt: HostRuntime) -> Result<(), Fail> {
-    for (image, bound, text) in [
+    let alloc = rt.alloc();
+    for (image, bound, want) in [
         (ANSWER, "8", "answer exited 0 output 2a\n"),
         (ANSWER, "6", "answer exited 0 output 2a\n"),
         (ANSWER, "5", "answer running output 2a\n"),
@@ -158,23 +219,291 @@ fn a_run_answers_with_its_status_and_output_at_the_bound(rt: HostRuntime) -> Res
         (ANSWER, "2", "answer running output\n"),
         (STORE, "8", "answer trapped 4 output 7a\n"),
     ] {
-        let words = words_of(rt.alloc(), ["refcli", "run"].as_slice())?;
         let provers = "[{\"manner\":{\"kind\":\"output\",\"bytes\":\"2b\"}}]";
-        let bytes = case_of(rt.alloc(), "flat", image, bound, provers)?;
-        let mut source = MemSource::new(bytes, 7, Vec::new(rt.alloc()));
-        let mut sink = MemSink::new(rt.alloc(), 64, 7, Vec::new(rt.alloc()))?;
-        assert_eq!(rt;
-            run(&rt, rt.alloc(), words.as_slice(), &mut source, &mut sink),
+        let bytes = case_of(alloc, "flat", image, "", bound, provers)?;
+        let (answered, text) = answer_to(&rt, alloc, "run", bytes)?;
+        assert_eq!(rt; answered, Answered::Done, "{image} at {bound}");
+        assert_eq!(rt; text.as_slice(), want.as_bytes(), "{image} at {bound}");
+    }
+    Ok(())
+}
+
+/// The first `length` bytes of a file in hexadecimal, with other digits from the byte `at` on.
+fn changed(alloc: Global, file: &str, length: usize, at: usize, new: &str) -> Result<String, Fail> {
+    let mut digits = file.as_bytes().to_vec(alloc)?;
+    digits.truncate(length.saturating_mul(2));
+    for (i, digit) in new.bytes().enumerate() {
+        let place = at.saturating_mul(2).saturating_add(i);
+        if let Some(old) = digits.get_mut(place) {
+            *old = digit;
+        }
+    }
+    Ok(String::from_utf8(digits)?)
+}
+
+#[test]
+fn each_change_of_an_executable_is_answered(rt: HostRuntime) -> Result<(), Fail> {
+    let alloc = rt.alloc();
+    let one = format!(in alloc; "{HEADER}{LOAD}{ANSWER}")?;
+    let two = format!(in alloc; "{HEADER_OF_TWO}{LOAD}{LOAD}{ANSWER}")?;
+    for (file, length, at, new, answered, want) in [
+        (
+            &one,
+            108,
+            0,
+            "",
             Answered::Done,
-            "{image} at {bound}"
+            "answer exited 0 output 2a\n",
+        ),
+        (&one, 51, 0, "", Answered::Image, "fault image 1\n"),
+        (&one, 60, 0, "", Answered::Image, "fault image 5\n"),
+        (&two, 140, 0, "", Answered::Image, "fault image 9\n"),
+        (&one, 108, 0, "00", Answered::Image, "fault image 2\n"),
+        (&one, 108, 16, "03", Answered::Image, "fault image 3\n"),
+        (&one, 108, 18, "3e", Answered::Image, "fault image 4\n"),
+        (&one, 108, 24, "56", Answered::Image, "fault image 10\n"),
+        (&one, 108, 68, "6d", Answered::Image, "fault image 6\n"),
+        (&one, 108, 72, "6b", Answered::Image, "fault image 7\n"),
+        (
+            &one,
+            108,
+            60,
+            "ffffffff",
+            Answered::Image,
+            "fault image 8\n",
+        ),
+        // With no program header nothing is loaded.
+        (
+            &one,
+            108,
+            44,
+            "00",
+            Answered::Done,
+            "answer trapped 2 output\n",
+        ),
+        // Entered and loaded at 0x40000000, where the input's length lies over the first four bytes of the file.
+        (
+            &one,
+            108,
+            24,
+            "54000040340000000000000000000000340020000100280000000000010000000000000000000040",
+            Answered::Done,
+            "answer exited 0 output 2a\n",
+        ),
+    ] {
+        let file = changed(alloc, file.as_str(), length, at, new)?;
+        let bytes = case_of(alloc, "elf", file.as_str(), "", "8", "[{}]")?;
+        let (given, text) = answer_to(&rt, alloc, "run", bytes)?;
+        assert_eq!(rt; given, answered, "{length} bytes, {new} at {at}");
+        assert_eq!(rt;
+            text.as_slice(),
+            want.as_bytes(),
+            "{length} bytes, {new} at {at}"
         );
-        assert_eq!(rt; sink.as_slice(), text.as_bytes(), "{image} at {bound}");
     }
     Ok(())
 }
 
 #[test]
-fn words_that_are_not_taken_are_usage_and_nothing_is_read(rt: HostRuntime) -> Result<(), Fail> {
+fn a_case_that_breaks_a_rule_is_named(rt: HostRuntime) -> Result<(), Fail> {
+    let alloc = rt.alloc();
+    let image = "01".repeat(alloc, 4_194_305)?;
+    for (text, want) in [
+        ("", "fault case 1\n"),
+        ("[]", "fault case 2\n"),
+        ("{}", "fault case 3 format\n"),
+    ] {
+        let bytes = text.as_bytes().to_vec(alloc)?;
+        let (given, text) = answer_to(&rt, alloc, "judge", bytes)?;
+        assert_eq!(rt; given, Answered::Case, "{want}");
+        assert_eq!(rt; text.as_slice(), want.as_bytes());
+    }
+    for (format, image, bound, provers, answered, want) in [
+        (
+            "flat",
+            "00",
+            "\"\"",
+            "[{}]",
+            Answered::Case,
+            "fault case 4 bound\n",
+        ),
+        (
+            "flat",
+            "1g",
+            "8",
+            "[{}]",
+            Answered::Case,
+            "fault case 5 image\n",
+        ),
+        (
+            "flat",
+            "130",
+            "8",
+            "[{}]",
+            Answered::Case,
+            "fault case 5 image\n",
+        ),
+        (
+            "flat",
+            "00",
+            "0",
+            "[{}]",
+            Answered::Case,
+            "fault case 6 bound\n",
+        ),
+        (
+            "flat",
+            "00",
+            "16777217",
+            "[{}]",
+            Answered::Case,
+            "fault case 6 bound\n",
+        ),
+        (
+            "flat",
+            "00",
+            "8",
+            "[]",
+            Answered::Case,
+            "fault case 6 provers\n",
+        ),
+        (
+            "flat",
+            "00",
+            "8",
+            "[{},5]",
+            Answered::Case,
+            "fault case 7 2\n",
+        ),
+        (
+            "elf",
+            "7f454c46",
+            "0",
+            "[{}]",
+            Answered::Case,
+            "fault case 6 bound\n",
+        ),
+        (
+            "elf",
+            "7f454c46",
+            "8",
+            "[{}]",
+            Answered::Image,
+            "fault image 1\n",
+        ),
+        (
+            "flat",
+            image.as_str(),
+            "8",
+            "[{}]",
+            Answered::Image,
+            "fault image 11\n",
+        ),
+        (
+            "elf",
+            image.as_str(),
+            "8",
+            "[{}]",
+            Answered::Image,
+            "fault image 11\n",
+        ),
+    ] {
+        let bytes = case_of(alloc, format, image, "", bound, provers)?;
+        let (given, text) = answer_to(&rt, alloc, "judge", bytes)?;
+        assert_eq!(rt; given, answered, "{want}");
+        assert_eq!(rt; text.as_slice(), want.as_bytes());
+    }
+    Ok(())
+}
+
+/// A file with the load of `ANSWER` and three hundred loads of one byte.
+fn three_hundred_loads(alloc: Global) -> Result<String, AllocError> {
+    let mut file = format!(in alloc; "{HEADER_OF_301}{FIRST_OF_301}")?;
+    for third in [
+        "2f", "2e", "2d", "2c", "2b", "2a", "29", "28", "27", "26", "25", "24", "23", "22", "21",
+        "20", "1f", "1e", "1d", "1c",
+    ] {
+        for second in [
+            "0", "1", "2", "3", "4", "5", "6", "7", "8", "9", "a", "b", "c", "d", "e",
+        ] {
+            file.push_str("0100000000000000")?;
+            for part in ["00", second, "0", third, "00"] {
+                file.push_str(part)?;
+            }
+            file.push_str("000000000100000001000000")?;
+            file.push_str("0000000000000000")?;
+        }
+    }
+    file.push_str(ANSWER)?;
+    Ok(file)
+}
+
+#[test]
+fn each_limit_is_reached(rt: HostRuntime) -> Result<(), Fail> {
+    let alloc = rt.alloc();
+    let image = "01".repeat(alloc, 4_194_304)?;
+    let input = "07".repeat(alloc, 1_048_576)?;
+    let loads = three_hundred_loads(alloc)?;
+    let outputs = "2a".repeat(alloc, 102_400)?;
+    let outputs = format!(in alloc; "answer exited 0 output {outputs}\n")?;
+    for (format, image, input, bound, want) in [
+        (
+            "flat",
+            image.as_str(),
+            "",
+            "16777216",
+            "answer trapped 2 output\n",
+        ),
+        (
+            "flat",
+            INPUT,
+            input.as_str(),
+            "16",
+            "answer exited 0 output 1007\n",
+        ),
+        (
+            "elf",
+            loads.as_str(),
+            "",
+            "8",
+            "answer exited 0 output 2a\n",
+        ),
+        ("flat", PAGES, "", "20000", "answer exited 0 output b801\n"),
+        ("flat", OUTPUTS, "", "400000", outputs.as_str()),
+    ] {
+        let bytes = case_of(alloc, format, image, input, bound, "[{}]")?;
+        let (answered, text) = answer_to(&rt, alloc, "run", bytes)?;
+        assert_eq!(rt; answered, Answered::Done, "bound {bound}");
+        assert_eq!(rt; text.as_slice(), want.as_bytes(), "bound {bound}");
+    }
+    Ok(())
+}
+
+#[test]
+fn sixteen_provers_are_reported(rt: HostRuntime) -> Result<(), Fail> {
+    let alloc = rt.alloc();
+    let others = ",{}".repeat(alloc, 15)?;
+    let provers = format!(in alloc; "[{{}}{others}]")?;
+    let bytes = case_of(alloc, "flat", ANSWER, "", "8", provers.as_str())?;
+    let mut want = String::from_str(
+        alloc,
+        "match provers 16 bound 8 patience 0 version 1 fan 2 digest sha256\n",
+    )?;
+    for number in 1..17 {
+        let line = format!(in alloc; "p{number} claims exited 0 output 2a\n")?;
+        want.push_str(line.as_str())?;
+    }
+    want.push_str("accept exited 0 output 2a\n")?;
+    let (answered, text) = answer_to(&rt, alloc, "judge", bytes)?;
+    assert_eq!(rt; answered, Answered::Done);
+    assert_eq!(rt; text.as_slice(), want.as_bytes());
+    Ok(())
+}
+
+#[test]
+fn arguments_that_name_no_command_are_usage_and_nothing_is_read(
+    rt: HostRuntime,
+) -> Result<(), Fail> {
     let tables: [&[&str]; 14] = [
         &[],
         &["refcli"],
@@ -208,160 +537,39 @@ fn words_that_are_not_taken_are_usage_and_nothing_is_read(rt: HostRuntime) -> Re
 }
 
 #[test]
-fn a_case_or_an_image_that_breaks_a_rule_is_named(rt: HostRuntime) -> Result<(), Fail> {
-    for (format, image, bound, provers, answered, text) in [
-        (
-            "flat",
-            "130",
-            "8",
-            "[{}]",
-            Answered::Case,
-            "fault case 5 image\n",
-        ),
-        (
-            "flat",
-            ANSWER,
-            "0",
-            "[{}]",
-            Answered::Case,
-            "fault case 6 bound\n",
-        ),
-        (
-            "flat",
-            ANSWER,
-            "16777217",
-            "[{}]",
-            Answered::Case,
-            "fault case 6 bound\n",
-        ),
-        (
-            "flat",
-            ANSWER,
-            "8",
-            "[]",
-            Answered::Case,
-            "fault case 6 provers\n",
-        ),
-        (
-            "flat",
-            ANSWER,
-            "8",
-            "[{},5]",
-            Answered::Case,
-            "fault case 7 2\n",
-        ),
-        (
-            "flat",
-            ANSWER,
-            "8",
-            "[{}]]",
-            Answered::Case,
-            "fault case 1\n",
-        ),
-        (
-            "elf",
-            "7f454c46",
-            "0",
-            "[{}]",
-            Answered::Case,
-            "fault case 6 bound\n",
-        ),
-        (
-            "elf",
-            "7f454c46",
-            "8",
-            "[{}]",
-            Answered::Image,
-            "fault image 1\n",
-        ),
-        (
-            "elf",
-            EXECUTABLE,
-            "8",
-            "[{}]",
-            Answered::Image,
-            "fault image 6\n",
-        ),
+fn a_device_that_fails_leaves_a_prefix_of_the_text(rt: HostRuntime) -> Result<(), Fail> {
+    let alloc = rt.alloc();
+    for (read, written, answered, want) in [
+        (1, 9, Answered::ReadFault, ""),
+        (2, 9, Answered::ReadFault, ""),
+        (99, 1, Answered::WriteFault, ""),
+        (99, 3, Answered::WriteFault, "match provers 1 boun"),
     ] {
-        let words = words_of(rt.alloc(), ["refcli", "judge"].as_slice())?;
-        let bytes = case_of(rt.alloc(), format, image, bound, provers)?;
-        let mut source = MemSource::new(bytes, 4096, Vec::new(rt.alloc()));
-        let mut sink = MemSink::new(rt.alloc(), 64, 7, Vec::new(rt.alloc()))?;
+        let words = words_of(alloc, ["refcli", "judge"].as_slice())?;
+        let bytes = case_of(alloc, "flat", ANSWER, "", "8", "[{}]")?;
+        let mut source = MemSource::new(bytes, 16, vec![in alloc; read]?);
+        let mut sink = MemSink::new(alloc, 4096, 10, vec![in alloc; written]?)?;
         assert_eq!(rt;
-            run(&rt, rt.alloc(), words.as_slice(), &mut source, &mut sink),
-            answered,
-            "{text}"
-        );
-        assert_eq!(rt; sink.as_slice(), text.as_bytes());
-    }
-    Ok(())
-}
-
-#[test]
-fn an_executable_runs_as_its_flat_image_does(rt: HostRuntime) -> Result<(), Fail> {
-    let words = words_of(rt.alloc(), ["refcli", "judge"].as_slice())?;
-    let mut image = String::from_str(rt.alloc(), EXECUTABLE)?;
-    image.push_str(ANSWER)?;
-    let bytes = case_of(rt.alloc(), "elf", image.as_str(), "8", "[{}]")?;
-    let mut source = MemSource::new(bytes, 4096, Vec::new(rt.alloc()));
-    let mut sink = MemSink::new(rt.alloc(), 4096, 4096, Vec::new(rt.alloc()))?;
-    assert_eq!(rt;
-        run(&rt, rt.alloc(), words.as_slice(), &mut source, &mut sink),
-        Answered::Done
-    );
-    assert_eq!(rt; sink.as_slice(), ONE.as_bytes());
-    Ok(())
-}
-
-#[test]
-fn a_source_that_fails_leaves_nothing_written(rt: HostRuntime) -> Result<(), Fail> {
-    for call in [1, 2] {
-        let words = words_of(rt.alloc(), ["refcli", "judge"].as_slice())?;
-        let bytes = case_of(rt.alloc(), "flat", ANSWER, "8", "[{}]")?;
-        let mut source = MemSource::new(bytes, 16, vec![in rt.alloc(); call]?);
-        let mut sink = MemSink::new(rt.alloc(), 4096, 4096, Vec::new(rt.alloc()))?;
-        assert_eq!(rt;
-            run(&rt, rt.alloc(), words.as_slice(), &mut source, &mut sink),
-            Answered::ReadFault
-        );
-        assert!(rt; sink.as_slice().is_empty());
-    }
-    Ok(())
-}
-
-#[test]
-fn a_sink_that_fails_holds_the_front_of_the_text(rt: HostRuntime) -> Result<(), Fail> {
-    let words = words_of(rt.alloc(), ["refcli", "judge"].as_slice())?;
-    let bytes = case_of(rt.alloc(), "flat", ANSWER, "8", "[{}]")?;
-    let mut source = MemSource::new(bytes, 4096, Vec::new(rt.alloc()));
-    let mut sink = MemSink::new(rt.alloc(), 4096, 10, vec![in rt.alloc(); 3]?)?;
-    assert_eq!(rt;
-        run(&rt, rt.alloc(), words.as_slice(), &mut source, &mut sink),
-        Answered::WriteFault
-    );
-    assert_eq!(rt; sink.as_slice(), b"match provers 1 boun".as_slice());
-    Ok(())
-}
-
-/// So many spaces.
-fn spaces(alloc: Global, count: usize) -> Result<Vec<u8>, AllocError> {
-    vec![in alloc; b' '; count]
-}
-
-#[test]
-fn one_byte_too_many_is_too_long(rt: HostRuntime) -> Result<(), Fail> {
-    for (count, answered, text) in [
-        (16_777_216, Answered::Case, "fault case 1\n"),
-        (16_777_217, Answered::TooLong, "fault too long\n"),
-    ] {
-        let words = words_of(rt.alloc(), ["refcli", "judge"].as_slice())?;
-        let mut source = MemSource::new(spaces(rt.alloc(), count)?, 65536, Vec::new(rt.alloc()));
-        let mut sink = MemSink::new(rt.alloc(), 64, 64, Vec::new(rt.alloc()))?;
-        assert_eq!(rt;
-            run(&rt, rt.alloc(), words.as_slice(), &mut source, &mut sink),
+            run(&rt, alloc, words.as_slice(), &mut source, &mut sink),
             answered
         );
-        assert_eq!(rt; sink.as_slice(), text.as_bytes());
+        assert_eq!(rt; sink.as_slice(), want.as_bytes());
+    }
+    Ok(())
+}
+
+#[test]
+fn a_case_of_the_most_bytes_is_read_and_one_more_is_too_long(rt: HostRuntime) -> Result<(), Fail> {
+    let alloc = rt.alloc();
+    for (length, answered, want) in [
+        (16_777_216, Answered::Done, "answer exited 0 output 2a\n"),
+        (16_777_217, Answered::TooLong, "fault too long\n"),
+    ] {
+        let mut bytes = case_of(alloc, "flat", ANSWER, "", "8", "[{}]")?;
+        bytes.resize(length, b' ')?;
+        let (given, text) = answer_to(&rt, alloc, "run", bytes)?;
+        assert_eq!(rt; given, answered);
+        assert_eq!(rt; text.as_slice(), want.as_bytes());
     }
     Ok(())
 }

@@ -7,7 +7,7 @@ use clap::error::ErrorKind;
 use rd_base::Memory;
 use std::alloc::{AllocError, Global};
 
-/// What the program is asked for.
+/// What the program is asked to do.
 #[derive(Clone, Copy, Debug, PartialEq, Eq)]
 pub enum Command {
     /// To decide a match, and to write its report.
@@ -29,27 +29,22 @@ fn command_line<'a>(alloc: Global) -> Result<Parser<'a>, AllocError>
         .subcommand(run)
 }
 
-fn command_named(name: Option<&str>) -> Command
+fn command_named(name: Option<&str>) -> Option<Command>
     ensures { result ≡ named (option_map (λ text. text.now) name.entry) }
 {
     match name {
-        None => Command::Judge,
-        Some(name) => {
-            if name == "run" {
-                Command::Run
-            } else {
-                Command::Judge
-            }
-        }
+        Some("judge") => Some(Command::Judge),
+        Some("run") => Some(Command::Run),
+        _ => None,
     }
 }
 
-/// The command that the words name, of which the first is the program's name; `None` where they aren't taken.
+/// The command that the arguments name, of which the first is the program's name; `None` where they name none.
 pub fn command_given(alloc: Global, words: &[String]) -> Result<Option<Command>, Memory>
     ensures { IfOk result (λ command. command ≡ chosen (texts words.now)) }
 {
     match command_line(alloc)?.try_get_matches_from(words) {
-        Ok(matches) => Ok(Some(command_named(matches.subcommand_name()))),
+        Ok(matches) => Ok(command_named(matches.subcommand_name())),
         Err(error) => match error.kind() {
             ErrorKind::OutOfMemory => Err(Memory),
             _ => Ok(None),

@@ -1,4 +1,4 @@
--- The image of an ELF32 executable, or the first rule that the file breaks (TIS ELF 1.2). Fields have the names of
+-- To believe: the image of an ELF32 executable, or the first rule that the file breaks (TIS ELF 1.2). Fields have the names of
 -- that text. Sums are sums of whole numbers: none wraps.
 use Rattle.std.specs.Prelude.{ℕ, zero, suc, ◌+◌, ◌-◌, ◌*◌, ◌%◌, ◌^◌, ◌==◌, ◌&&◌, ◌||◌, List, [], ◌∷◌, length, take, drop, slice_index, nat_le, nat_lt, Bool, false, not, Result, Ok, Err, if◌then◌else◌}
 use Rattle.std.specs.List.{list_any, starts_with}
@@ -8,7 +8,7 @@ use Rattle.image_reader.specs.declared.header.Header.{Header}
 use Rattle.image_reader.specs.declared.header.ProgramHeader.{ProgramHeader}
 use Rattle.image_reader.specs.declared.fault.ImageFault.{ImageFault}
 use Rattle.image_reader.specs.declared.fault.ImageFault.TheVariants.{Short, NotElf32Le, NotExecutable, NotRiscv, BadTable, SegmentOutsideFile, FileLargerThanMemory, SegmentPastEnd, SegmentsOverlap, EntryMisaligned, ImageTooLarge}
-use Rattle.image_reader.specs.Fault.{◌>>=◌}
+use Rattle.rd_base.specs.Results.{◌>>=◌}
 use Rattle.image_reader.specs.Image.{Image, too_large}
 
 -- the number in so many bytes of a file from an offset on, the least byte first ('Data Encoding')

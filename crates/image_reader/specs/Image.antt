@@ -1,4 +1,4 @@
--- What a file is loaded as, and a flat file's image.
+-- To believe: what a file is loaded as, and a flat file's image.
 use Rattle.std.specs.Prelude.{ℕ, List, length, nat_lt, Bool, Result, Ok, Err, if◌then◌else◌}
 use Rattle.mem_plain.specs.Contents.{Contents, no_bytes, laid}
 use Rattle.image_reader.specs.declared.fault.ImageFault.{ImageFault}

@@ -1,5 +1,5 @@
 ghost use Rattle.std.specs.Prelude.{◌≡◌, ℕ, ◌+◌, ◌*◌, ◌<◌, ◌≤◌, length, Ok};
-ghost use Rattle.image_reader.specs.Fault.{Gives};
+ghost use Rattle.rd_base.specs.Results.{Gives};
 ghost use Rattle.image_reader.specs.Elf.{header_at, program_header_at, header_in, loads_from, loads_in, is_bad_table};
 
 use crate::fault::ImageFault;
@@ -92,7 +92,7 @@ impl ProgramHeader {
 /// The header of a file that isn't too large and meets rules 1 to 4.
 #[tactic(auto, unfolding(crate::specs::Elf::header_in))]
 pub fn header_of(bytes: &[u8]) -> Result<Header, ImageFault>
-    ensures { Gives (λ header. header) result (header_in bytes.now) }
+    ensures { Gives ImageFault.Memory (λ header. header) result (header_in bytes.now) }
 {
     if bytes.len() > MAX_IMAGE_BYTES {
         return Err(ImageFault::ImageTooLarge);
@@ -121,7 +121,7 @@ fn collect_loads(
     count: u16,
 ) -> Result<Vec<ProgramHeader>, ImageFault>
     requires { offset + 32 * count ≤ length bytes.now }
-    ensures { Gives (λ loads. loads.items) result (Ok (loads_from bytes.now offset count)) }
+    ensures { Gives ImageFault.Memory (λ loads. loads.items) result (Ok (loads_from bytes.now offset count)) }
 {
     let mut loads = Vec::new(alloc);
     'headers: for k in 0..count {
@@ -140,7 +140,7 @@ pub fn loads_of(
     bytes: &[u8],
     header: &Header,
 ) -> Result<Vec<ProgramHeader>, ImageFault>
-    ensures { Gives (λ loads. loads.items) result (loads_in bytes.now header.now) }
+    ensures { Gives ImageFault.Memory (λ loads. loads.items) result (loads_in bytes.now header.now) }
 {
     if header.e_phnum == 0 {
         return Ok(Vec::new(alloc));

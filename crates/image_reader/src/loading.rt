@@ -1,14 +1,14 @@
 ghost use Rattle.std.specs.Prelude.{◌≡◌, length, false, IfOk};
 ghost use Rattle.std.specs.List.{list_any};
 ghost use Rattle.mem_plain.specs.Contents.{contents_with, laid};
-ghost use Rattle.image_reader.specs.Fault.{Gives};
+ghost use Rattle.rd_base.specs.Results.{Gives};
 ghost use Rattle.image_reader.specs.Image.{loaded_of, flat_at};
 ghost use Rattle.image_reader.specs.Elf.{is_outside_file, has_larger_file, is_past_end, part_of, byte_of_loads, elf_at};
 
 use crate::fault::ImageFault;
 use crate::header::{ProgramHeader, header_of, loads_of};
 use crate::rules::check_loads;
-use mem_plain::PlainMem;
+use mem_plain::{PlainMem, contents_of_a_function};
 use rd_base::Memory;
 use std::alloc::Global;
 
@@ -32,7 +32,7 @@ pub struct Loaded {
 /// `ImageTooLarge` is a file of more than `MAX_IMAGE_BYTES` bytes, and `Memory` want of memory.
 #[tactic(auto, unfolding(crate::specs::Image::flat_at))]
 pub fn load_flat(alloc: Global, bytes: &[u8]) -> Result<Loaded, ImageFault>
-    ensures { Gives loaded_of result (flat_at bytes.now) }
+    ensures { Gives ImageFault.Memory loaded_of result (flat_at bytes.now) }
 {
     if bytes.len() > MAX_IMAGE_BYTES {
         return Err(ImageFault::ImageTooLarge);
@@ -65,6 +65,7 @@ fn lay_loads(alloc: Global, bytes: &[u8], loads: &[ProgramHeader]) -> Result<Pla
     requires before_end { list_any is_past_end loads.now ≡ false }
     ensures { IfOk result (λ mem. mem ≡ contents_with (byte_of_loads bytes.now loads.now)) }
 {
+    contents_of_a_function();
     let mut mem = PlainMem::new(alloc);
     'loads: for k in (0..loads.len()).rev() {
         mem = lay_load(mem, bytes, &loads[k])?;
@@ -83,7 +84,7 @@ fn lay_loads(alloc: Global, bytes: &[u8], loads: &[ProgramHeader]) -> Result<Pla
 /// before the next. `Memory` is want of memory.
 #[tactic(auto, unfolding(crate::specs::Elf::elf_at))]
 pub fn load_elf(alloc: Global, bytes: &[u8]) -> Result<Loaded, ImageFault>
-    ensures { Gives loaded_of result (elf_at bytes.now) }
+    ensures { Gives ImageFault.Memory loaded_of result (elf_at bytes.now) }
 {
     let header = header_of(bytes)?;
     let loads = loads_of(alloc, bytes, &header)?;

@@ -1,6 +1,6 @@
 ghost use Rattle.std.specs.Prelude.{◌≡◌, ◌+◌, ◌^◌, false, OnOk};
 ghost use Rattle.std.specs.List.{list_any};
-ghost use Rattle.image_reader.specs.Fault.{Gives};
+ghost use Rattle.rd_base.specs.Results.{Gives};
 ghost use Rattle.image_reader.specs.Elf.{is_outside_file, has_larger_file, is_past_end, checked_in};
 
 use crate::fault::ImageFault;
@@ -67,7 +67,7 @@ pub fn check_loads(
     file_bytes: usize,
     loads: &[ProgramHeader],
 ) -> Result<(), ImageFault>
-    ensures value { Gives (λ unit. unit) result (checked_in file_bytes loads.now) }
+    ensures value { Gives ImageFault.Memory (λ unit. unit) result (checked_in file_bytes loads.now) }
     ensures inside { OnOk result (list_any (is_outside_file file_bytes) loads.now ≡ false) }
     ensures smaller { OnOk result (list_any has_larger_file loads.now ≡ false) }
     ensures before_end { OnOk result (list_any is_past_end loads.now ≡ false) }

@@ -1,6 +1,8 @@
-ghost use Rattle.std.specs.Prelude.{◌≤◌, length};
+ghost use Rattle.std.specs.Prelude.{ℕ, ◌≤◌, List, length, IfOk};
+ghost use Rattle.rv_step.specs.State.{IsChained};
 
 use crate::{INPUT_BASE, Machine, Outcome, advance, finish, touches};
+use digest_core::Sha256;
 use mem_plain::PlainMem;
 use rd_base::{Memory, Regs, Status};
 use rv_decode::decode;
@@ -491,6 +493,7 @@ fn loads_extend_what_they_read(rt: HostRuntime) {
 fn machine_of(alloc: Global, image: &[u8], input: &[u8]) -> Result<Machine, Memory>
     requires image { length image.now ≤ 64 }
     requires input { length input.now ≤ 64 }
+    ensures { IfOk result (λ m. (digest : List ℕ → List ℕ) → IsChained digest m) }
 {
     let mem = PlainMem::new(alloc).lay(0x1_0000, image)?;
     Machine::new(alloc, mem, 0x1_0000, input)
@@ -516,12 +519,12 @@ fn programs_trap_with_their_causes(rt: HostRuntime) -> Result<(), Fail> {
     ];
     for (image, code) in rows {
         let mut machine = machine_of(rt.alloc(), &image, &[])?;
-        advance(&mut machine, 8)?;
+        advance(&mut machine, &Sha256, 8)?;
         assert_eq!(rt; machine.ctl.status, Status::Trapped(code));
         assert_eq!(rt; machine.regs.get(1), 0);
     }
     let mut empty = machine_of(rt.alloc(), &[], &[])?;
-    advance(&mut empty, 8)?;
+    advance(&mut empty, &Sha256, 8)?;
     assert_eq!(rt; empty.ctl.status, Status::Trapped(2));
     Ok(())
 }
@@ -534,10 +537,11 @@ fn a_program_puts_out_a_byte_and_leaves(rt: HostRuntime) -> Result<(), Fail> {
         0x00, 0x93, 0x08, 0xd0, 0x05, 0x73, 0x00, 0x00, 0x00,
     ];
     let mut machine = machine_of(rt.alloc(), &image, &[])?;
-    advance(&mut machine, 5)?;
+    advance(&mut machine, &Sha256, 5)?;
     assert_eq!(rt; machine.ctl.status, Status::Running);
-    for steps in [1, 1000] {
-        advance(&mut machine, steps)?;
+    for steps in [6, 1006] {
+        let mut machine = machine_of(rt.alloc(), &image, &[])?;
+        advance(&mut machine, &Sha256, steps)?;
         assert_eq!(rt; machine.ctl.status, Status::Exited(0));
         assert_eq!(rt; machine.ctl.pc, 0x1_0014);
         assert_eq!(rt; machine.regs.get(10), 0);
@@ -551,7 +555,7 @@ fn a_program_puts_out_a_byte_and_leaves(rt: HostRuntime) -> Result<(), Fail> {
 fn a_jump_to_itself_goes_on(rt: HostRuntime) -> Result<(), Fail> {
     // jal x0, .
     let mut machine = machine_of(rt.alloc(), &[0x6f, 0x00, 0x00, 0x00], &[])?;
-    advance(&mut machine, 1000)?;
+    advance(&mut machine, &Sha256, 1000)?;
     assert_eq!(rt; machine.ctl.status, Status::Running);
     assert_eq!(rt; machine.ctl.pc, 0x1_0000);
     Ok(())
@@ -567,9 +571,17 @@ fn a_program_divides_to_the_edge(rt: HostRuntime) -> Result<(), Fail> {
         0x00, 0x00, 0x13, 0x05, 0x00, 0x00, 0x93, 0x08, 0xd0, 0x05, 0x73, 0x00, 0x00, 0x00,
     ];
     let mut machine = machine_of(rt.alloc(), &image, &[])?;
-    advance(&mut machine, 100)?;
+    advance(&mut machine, &Sha256, 100)?;
     assert_eq!(rt; machine.ctl.status, Status::Exited(0));
     assert_eq!(rt; machine.output.as_slice(), [0x80, 0xff].as_slice());
+    // c = bytes(32); for b in (0x80, 0xff): c = hashlib.sha256(b'\5' + c + bytes([b])).digest()
+    let chain: [u8; 32] = [
+        0x26, 0x09, 0x27, 0x17, 0xac, 0x58, 0x4a, 0xd3, 0xf9, 0x0a, 0x83, 0xf6, 0xdb, 0x9a, 0x33,
+        0x87, 0x59, 0xe2, 0xac, 0xca, 0x71, 0xfa, 0xcf, 0xc6, 0x8a, 0x95, 0xb5, 0xbe, 0xbb, 0xa7,
+        0x66, 0x05,
+    ];
+    assert_eq!(rt; machine.ctl.chain.0, chain);
+    assert_eq!(rt; machine.ctl.out_len, 2);
     Ok(())
 }
 
@@ -583,7 +595,7 @@ fn a_load_sees_what_was_stored_last(rt: HostRuntime) -> Result<(), Fail> {
         0x12, 0x00,
     ];
     let mut machine = machine_of(rt.alloc(), &image, &[])?;
-    advance(&mut machine, 100)?;
+    advance(&mut machine, &Sha256, 100)?;
     assert_eq!(rt; machine.ctl.status, Status::Trapped(4));
     assert_eq!(rt; machine.output.as_slice(), [0x7a].as_slice());
     Ok(())
@@ -597,11 +609,13 @@ fn a_store_to_the_next_instruction_is_seen_and_foreseen(rt: HostRuntime) -> Resu
         0x97, 0x03, 0x00, 0x00, 0x03, 0xa3, 0x83, 0x01, 0x23, 0xa6, 0x63, 0x00, 0x13, 0x05, 0x10,
         0x00, 0x93, 0x08, 0xd0, 0x05, 0x73, 0x00, 0x00, 0x00, 0x13, 0x05, 0xa0, 0x02,
     ];
-    let mut machine = machine_of(rt.alloc(), &image, &[])?;
-    for page in [None, None, Some(0x10), None, None, None, None] {
+    for (steps, page) in [(0, None), (1, None), (2, Some(0x10)), (3, None), (7, None)] {
+        let mut machine = machine_of(rt.alloc(), &image, &[])?;
+        advance(&mut machine, &Sha256, steps)?;
         assert_eq!(rt; touches(&machine), page);
-        advance(&mut machine, 1)?;
     }
+    let mut machine = machine_of(rt.alloc(), &image, &[])?;
+    advance(&mut machine, &Sha256, 7)?;
     assert_eq!(rt; machine.ctl.status, Status::Exited(42));
     Ok(())
 }

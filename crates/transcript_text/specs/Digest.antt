@@ -1,4 +1,4 @@
--- The names of digests.
+-- To believe. The names of digests.
 use Rattle.std.specs.Prelude.{ℕ, List, codes}
 use Rattle.transcript_text.specs.declared.record.DigestName.{DigestName}
 use Rattle.transcript_text.specs.declared.record.DigestName.TheVariants.{Sha256}

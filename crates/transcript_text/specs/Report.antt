@@ -1,4 +1,4 @@
--- The report of a match. Numbers are decimal, bytes hexadecimal in lower case, and each line ends with a line feed.
+-- To believe. The report of a match, and the line that answers with a run. Numbers are decimal, bytes hexadecimal in lower case, and each line ends with a line feed.
 use Rattle.std.specs.Prelude.{ℕ, zero, suc, ◌+◌, List, [], ◌∷◌, ◌++◌, Option, Some, None, codes, decimal, slice_get}
 use Rattle.hex.specs.Hex.{encode_lower}
 use Rattle.rd_base.specs.Status.{status_text}
@@ -47,20 +47,19 @@ claim_lines number (settled ∷ others) = claim_line number settled ++ claim_lin
 -- the line of a claim that is accepted; there is none for a claim that wasn't given
 abbrev pub accept_line : Option Settled → List ℕ
 accept_line (Some (Given claim)) = codes "accept " ++ answer_text claim.status claim.output ++ codes "\n"
-accept_line (Some (Faulty claim)) = []
-accept_line None = []
+accept_line _ = []
 
 -- what is settled of a prover, by its number from 1
-abbrev pub claim_of : List Settled → ℕ → Option Settled
-claim_of claims zero = None
-claim_of claims (suc before) = slice_get claims before
+abbrev pub settled_at : List Settled → ℕ → Option Settled
+settled_at claims zero = None
+settled_at claims (suc before) = slice_get claims before
 
 abbrev pub verdict_line : List Settled → Verdict → List ℕ
-verdict_line claims (Accept number) = accept_line (claim_of claims number)
+verdict_line claims (Accept number) = accept_line (settled_at claims number)
 verdict_line claims NoneLeft = codes "none left\n"
 
 abbrev pub report_text : Head → Record → Verdict → List ℕ
-report_text head settled verdict = head_line head ++ claim_lines 1 settled.claims ++ verdict_line settled.claims verdict
+report_text head match_record verdict = head_line head ++ claim_lines 1 match_record.claims ++ verdict_line match_record.claims verdict
 
 -- the line that answers with the status and the output of a run
 abbrev pub answer_line_text : Status → List ℕ → List ℕ

@@ -1,7 +1,7 @@
 //! The texts that a match leaves.
 //!
-//! The layers above may rely on this: the report is a function of the match's head, record and verdict, and so names no
-//! order in which answers came. Read `record` first, then `reporting`.
+//! The layers above may rely on this: the report is the text `report_text` of the match's head, record and verdict. Read
+//! `record` first, then `reporting`.
 #![tactic(auto)]
 
 mod record;

@@ -37,7 +37,7 @@ pub struct Head {
     pub digest: DigestName,
 }
 
-/// What a prover claims: how the run stands at the bound, and what it has put out.
+/// What a prover claims: the status at the bound, and the output.
 #[derive(Debug, Drop)]
 pub struct Claim {
     pub status: Status,
@@ -47,13 +47,13 @@ pub struct Claim {
 /// An answer that is settled.
 #[derive(Debug, Drop)]
 pub enum Settled {
-    /// It was given, and nothing is wrong with it by itself.
+    /// A claim that stands.
     Given(Claim),
-    /// It was given, and puts its prover out.
+    /// A claim that puts its prover out.
     Faulty(Claim),
 }
 
-/// What is settled in a match: the claims, by prover from 1.
+/// What is settled in a match: the claims, the first of which is that of prover 1.
 #[derive(Debug, Drop)]
 pub struct Record {
     pub claims: Listed<Settled>,

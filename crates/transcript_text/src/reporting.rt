@@ -1,5 +1,5 @@
-ghost use Rattle.std.specs.Prelude.{◌≡◌, ◌++◌, ◌+◌, ◌≤◌, ◌<◌, ◌^◌, length, string_bytes, IfOk, OnOk};
-ghost use Rattle.transcript_text.specs.Report.{answer_text, played_text, patience_text, committed_text, head_line, claim_line, claim_lines, claim_of, verdict_line, report_text, answer_line_text};
+ghost use Rattle.std.specs.Prelude.{◌≡◌, ◌++◌, ◌+◌, string_bytes, IfOk, OnOk};
+ghost use Rattle.transcript_text.specs.Report.{answer_text, played_text, patience_text, committed_text, head_line, claim_line, claim_lines, settled_at, verdict_line, report_text, answer_line_text};
 ghost use Rattle.std.specs.Option.{option_copied};
 
 use crate::record::{Head, Record, Settled, Verdict};
@@ -63,7 +63,7 @@ fn add_head(text: &mut String, head: &Head) -> Result<(), AllocError>
 fn add_claim(
     text: &mut String,
     alloc: Global,
-    prover: u32,
+    prover: usize,
     settled: &Settled,
 ) -> Result<(), AllocError>
     ensures { OnOk result (string_bytes text.new ≡ string_bytes text.old ++ claim_line prover settled.now) }
@@ -79,11 +79,10 @@ fn add_claim(
 }
 
 fn add_claims(text: &mut String, alloc: Global, claims: &[Settled]) -> Result<(), AllocError>
-    requires { length claims.now < 2 ^ 32 }
     ensures { OnOk result (string_bytes text.new ≡ string_bytes text.old ++ claim_lines 1 claims.now) }
 {
     'claims: for (i, settled) in claims.iter().enumerate() {
-        add_claim(text, alloc, i as u32 + 1, settled)?;
+        add_claim(text, alloc, i + 1, settled)?;
     }
     Ok(())
 }
@@ -100,7 +99,7 @@ fn add_verdict(
         Verdict::NoneLeft => return text.push_str("none left\n"),
         Verdict::Accept(number) => *number,
     };
-    match claim_at(claims, number) {
+    match settled_at(claims, number) {
         Some(Settled::Given(claim)) => {
             text.push_str("accept ")?;
             add_answer(text, alloc, claim.status, claim.output.as_slice())?;
@@ -111,32 +110,31 @@ fn add_verdict(
 }
 
 /// What is settled of a prover, by its number from 1.
-fn claim_at(claims: &[Settled], number: u32) -> Option<&Settled>
-    ensures { option_copied result ≡ claim_of claims.now number }
+fn settled_at(claims: &[Settled], number: u32) -> Option<&Settled>
+    ensures { option_copied result ≡ settled_at claims.now number }
 {
     claims.get((number as usize).checked_sub(1)?)
 }
 
 /// The report of a match: a line for its head, one for each prover, and the verdict's. Each line ends with a line feed.
-/// An `Err` is want of memory.
+/// An `Err` comes where memory ran out.
 pub fn report(
     alloc: Global,
     head: &Head,
-    settled: &Record,
+    match_record: &Record,
     verdict: &Verdict,
 ) -> Result<Vec<u8>, Memory>
-    requires { length settled.now.claims < 2 ^ 32 }
-    ensures { IfOk result (λ text. text.items ≡ report_text head.now settled.now verdict.now) }
+    ensures { IfOk result (λ text. text.items ≡ report_text head.now match_record.now verdict.now) }
 {
     let mut text = String::new(alloc);
-    let claims = settled.claims.as_slice();
+    let claims = match_record.claims.as_slice();
     add_head(&mut text, head)?;
     add_claims(&mut text, alloc, claims)?;
     add_verdict(&mut text, alloc, claims, verdict)?;
     Ok(text.into_bytes())
 }
 
-/// The line that answers with the status and the output of a run. An `Err` is want of memory.
+/// The line that answers with the status and the output of a run. An `Err` comes where memory ran out.
 pub fn answer_line(alloc: Global, status: Status, output: &[u8]) -> Result<Vec<u8>, Memory>
     ensures { IfOk result (λ text. text.items ≡ answer_line_text status output.now) }
 {

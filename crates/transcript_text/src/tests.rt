@@ -22,7 +22,7 @@ fn claim_of(alloc: Global, status: Status, output: &[u8]) -> Result<Claim, Alloc
 }
 
 #[test]
-fn the_line_of_a_claim_tells_its_status_and_its_output_where_there_is_one(
+fn the_line_of_a_claim_has_its_status_and_its_output_where_there_is_one(
     rt: HostRuntime,
 ) -> Result<(), Fail> {
     let alloc = rt.alloc();
@@ -64,7 +64,7 @@ fn the_last_line_is_that_of_the_verdict(rt: HostRuntime) -> Result<(), Fail> {
         (Verdict::Accept(2), "accept exited 7 output ab\n"),
         (Verdict::Accept(3), "accept trapped 2 output\n"),
         (Verdict::NoneLeft, "none left\n"),
-        // A claim that wasn't given has no line, and neither has a number that nobody bears.
+        // A claim that doesn't stand has no line, and neither has a number that no prover has.
         (Verdict::Accept(1), ""),
         (Verdict::Accept(0), ""),
         (Verdict::Accept(4), ""),
@@ -80,7 +80,7 @@ fn the_last_line_is_that_of_the_verdict(rt: HostRuntime) -> Result<(), Fail> {
 }
 
 #[test]
-fn a_head_is_told_in_decimal(rt: HostRuntime) -> Result<(), Fail> {
+fn the_numbers_of_a_head_are_decimal(rt: HostRuntime) -> Result<(), Fail> {
     let alloc = rt.alloc();
     let head = Head {
         provers: 0,

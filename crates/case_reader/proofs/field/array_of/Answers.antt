@@ -3,7 +3,8 @@ use Rattle.std.specs.Option.{ok_or, option_map}
 use Rattle.serde_json.specs.Find.{as_array}
 use Rattle.serde_json.specs.View.{view}
 use Rattle.case_reader.specs.declared.fault.CaseFault.TheVariants.{WrongType}
-use Rattle.case_reader.specs.Reading.{array_in, listed, ◌>>=◌}
+use Rattle.rd_base.specs.Results.{◌>>=◌}
+use Rattle.case_reader.specs.Fields.{array_in, listed}
 use Rattle.case_reader.proofs.ReadingLemmas.{items_listed}
 use Rattle.case_reader.proofs.field.array_of.Goals as goal
 

@@ -1,0 +1,12 @@
+use Rattle.std.proofs.Common.{◌≡◌, ◌*◌, ◌^◌, ◌<◌, ◌≤◌, ◌-◌}
+use Rattle.board_book.proofs.room.most_rounds.Given as goal
+
+abbrev pub invariant-loop-power : goal.invariant-loop-power
+invariant-loop-power l = record {
+  is : 2 ^ l.rounds ≡ l.power;
+  low : l.power < 2 * l.bound;
+  some : 0 < l.power;
+}
+
+abbrev pub decreases-loop-power : goal.decreases-loop-power
+decreases-loop-power l = l.bound - l.power

@@ -1,0 +1,25 @@
+use bisect_game::Question;
+use rd_base::Qid;
+use tournament::Reply;
+
+/// A post that wasn't stale. Its answer stands in the record.
+#[derive(Clone, Copy, Debug)]
+pub struct Entry {
+    /// The prover's number, from 1.
+    pub p: u32,
+    pub qid: Qid,
+    /// Whether it was a pass.
+    pub pass: bool,
+    pub reply: Reply,
+}
+
+/// What a prover is asked.
+#[derive(Clone, Copy, Debug)]
+pub enum Ask {
+    /// Its open question, and how often it has passed on it.
+    Question(Question, u32),
+    /// It has no open question, and the match goes on.
+    Nothing,
+    /// The match is over.
+    Over,
+}

@@ -1,0 +1,45 @@
+ghost use Rattle.std.specs.Prelude.{◌≡◌, ◌+◌, ◌-◌, ◌*◌, ◌<◌, ◌≤◌, ◌^◌};
+ghost use Rattle.tournament.specs.Length.{IsMost};
+
+use tournament::Setup;
+
+/// The most bisection rounds of a dispute: the greatest k with `2^k < 2N`.
+fn most_rounds(bound: u64) -> u64
+    requires steps { 0 < bound }
+    requires short { bound < 2 ^ 32 }
+    ensures most { IsMost 2 bound result }
+    ensures few { result < 36 }
+{
+    let mut rounds = 0;
+    let mut power = 1;
+    while power < bound {
+        power *= 2;
+        rounds += 1;
+    }
+    rounds
+}
+
+/// The most entries of a journal: each question takes one for each pass and one more, and there are a claim of each
+/// prover and two questions in each round.
+fn entries_for(setup: Setup, rounds: u64) -> u64
+    requires some { 0 < setup.provers }
+    requires few { setup.provers ≤ 16 }
+    requires patience { setup.patience ≤ 100 }
+    requires rounds { rounds < 36 }
+    ensures { result ≡ (setup.patience + 1) * (setup.provers + 2 * (setup.provers - 1) * (rounds + 1)) }
+{
+    let provers = u64::from(setup.provers);
+    (u64::from(setup.patience) + 1) * (provers + 2 * (provers - 1) * (rounds + 1))
+}
+
+/// The most entries of a journal of a match.
+pub(crate) fn most_entries(setup: Setup) -> u64
+    requires some { 0 < setup.provers }
+    requires few { setup.provers ≤ 16 }
+    requires steps { 0 < setup.bound }
+    requires short { setup.bound < 2 ^ 32 }
+    requires patience { setup.patience ≤ 100 }
+    ensures { (k : _) × IsMost 2 setup.bound k × (result ≡ (setup.patience + 1) * (setup.provers + 2 * (setup.provers - 1) * (k + 1))) }
+{
+    entries_for(setup, most_rounds(setup.bound))
+}

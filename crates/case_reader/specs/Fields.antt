@@ -1,0 +1,77 @@
+-- To believe. The value of a key of a case: that the key is there, then its type, then its hexadecimal digits, then its
+-- range.
+use Rattle.std.specs.Prelude.{ℕ, ◌&&◌, List, [], ◌∷◌, length, codes, nat_le, Bool, true, false, Option, Some, None, Result, Ok, Err, if◌then◌else◌}
+use Rattle.std.specs.Option.{ok_or, option_map, option_and_then}
+use Rattle.std.specs.Result.{result_ok}
+use Rattle.std.specs.Str.{bytes_eq}
+use Rattle.serde_json.specs.Data.{Data, Items, no_items, item}
+use Rattle.serde_json.specs.Find.{get, as_str, as_number, as_u64, as_array}
+use Rattle.hex.specs.Hex.{decode_of}
+use Rattle.rd_base.specs.Results.{◌>>=◌}
+use Rattle.case_reader.specs.Key.{key_text}
+use Rattle.case_reader.specs.declared.fault.Key.{Key}
+use Rattle.case_reader.specs.declared.fault.Key.TheVariants.{Format, Input, Provers}
+use Rattle.case_reader.specs.declared.fault.CaseFault.{CaseFault}
+use Rattle.case_reader.specs.declared.fault.CaseFault.TheVariants.{Missing, WrongType, BadHex, OutOfRange}
+
+-- the value of a key
+abbrev pub field : Key → Data → Result Data CaseFault
+field key tree = ok_or (get (key_text key) tree) (Missing key)
+
+-- a string
+unfoldable pub text_in : Key → Data → Result (List ℕ) CaseFault
+text_in key tree = do
+  value ← field key tree
+  ok_or (as_str value) (WrongType key)
+
+-- the bytes of hexadecimal digits of either case, in pairs
+abbrev pub hex_of : List ℕ → Option (List ℕ)
+hex_of text = result_ok (decode_of text)
+
+-- a string of hexadecimal digits
+unfoldable pub bytes_in : Key → Data → Result (List ℕ) CaseFault
+bytes_in key tree = do
+  text ← text_in key tree
+  ok_or (hex_of text) (BadHex key)
+
+-- a number that reads as an unsigned number of 64 bits, in a range
+unfoldable pub number_in : Key → ℕ → ℕ → Data → Result ℕ CaseFault
+number_in key low high tree = do
+  value ← field key tree
+  number ← ok_or (option_and_then as_u64 (as_number value)) (WrongType key)
+  if nat_le low number && nat_le number high then Ok number else Err (OutOfRange key)
+
+-- whether a format is flat: `flat` or `elf`
+abbrev pub format_named : List ℕ → Option Bool
+format_named text =
+    if bytes_eq text (codes "flat") then Some true
+    else if bytes_eq text (codes "elf") then Some false
+    else None
+
+unfoldable pub format_in : Data → Result Bool CaseFault
+format_in tree = do
+  text ← text_in Format tree
+  ok_or (format_named text) (OutOfRange Format)
+
+-- the input's bytes, at most 1,048,576
+unfoldable pub input_in : Data → Result (List ℕ) CaseFault
+input_in tree = do
+  input ← bytes_in Input tree
+  if nat_le (length input) 1048576 then Ok input else Err (OutOfRange Input)
+
+-- the items of an array, as a list
+abbrev pub listed : Items → List Data
+listed no_items = []
+listed (item d ds) = d ∷ listed ds
+
+-- an array
+unfoldable pub array_in : Key → Data → Result (List Data) CaseFault
+array_in key tree = do
+  value ← field key tree
+  ok_or (option_map listed (as_array value)) (WrongType key)
+
+-- the elements of `provers`, 1 to 16 of them
+unfoldable pub provers_in : Data → Result (List Data) CaseFault
+provers_in tree = do
+  provers ← array_in Provers tree
+  if nat_le 1 (length provers) && nat_le (length provers) 16 then Ok provers else Err (OutOfRange Provers)

@@ -1,0 +1,109 @@
+ghost use Rattle.std.specs.Prelude.{◌≡◌, ◌≤◌, length, map, IfOk};
+ghost use Rattle.std.specs.Option.{ok_or};
+ghost use Rattle.serde_json.specs.View.{view};
+ghost use Rattle.rd_base.specs.Results.{Gives};
+ghost use Rattle.case_reader.specs.Fields.{format_in, input_in, provers_in};
+ghost use Rattle.case_reader.specs.Case.{case_of, case_at, tree_of, data_of};
+ghost use Rattle.case_reader.specs.declared.fault.CaseFault.TheVariants.{NotJson};
+
+use crate::case::{Case, FAN, MAX_BOUND, MAX_PATIENCE, MAX_PROVERS, VERSION};
+use crate::fault::{CaseFault, Key};
+use crate::field::{array_of, bytes_of, number_of, text_of};
+use crate::prover::scripts_of;
+use rd_base::{Bytes, MAX_INPUT_BYTES};
+use serde_json::Value;
+use std::alloc::Global;
+
+#[tactic(auto, unfolding(crate::specs::Fields::format_in))]
+fn flat_of(tree: &Value) -> Result<bool, CaseFault>
+    ensures { Gives CaseFault.Memory (λ flat. flat) result (format_in (view tree.now)) }
+{
+    match text_of(tree, Key::Format)? {
+        "flat" => Ok(true),
+        "elf" => Ok(false),
+        _ => Err(CaseFault::OutOfRange(Key::Format)),
+    }
+}
+
+#[tactic(auto, unfolding(crate::specs::Fields::input_in))]
+fn input_of(alloc: Global, tree: &Value) -> Result<Bytes, CaseFault>
+    ensures value { Gives CaseFault.Memory (λ input. input) result (input_in (view tree.now)) }
+    ensures short { IfOk result (λ input. length input ≤ MAX_INPUT_BYTES) }
+{
+    let input = bytes_of(alloc, tree, Key::Input)?;
+    if input.len() <= MAX_INPUT_BYTES {
+        Ok(input)
+    } else {
+        Err(CaseFault::OutOfRange(Key::Input))
+    }
+}
+
+#[tactic(auto, unfolding(crate::specs::Fields::provers_in))]
+fn provers_of(tree: &Value) -> Result<&[Value], CaseFault>
+    ensures value { Gives CaseFault.Memory (λ provers. map view provers.now) result (provers_in (view tree.now)) }
+    ensures some { IfOk result (λ provers. 1 ≤ length provers.now) }
+    ensures few { IfOk result (λ provers. length provers.now ≤ MAX_PROVERS) }
+{
+    let provers = array_of(tree, Key::Provers)?;
+    if 1 <= provers.len() && provers.len() <= MAX_PROVERS {
+        Ok(provers)
+    } else {
+        Err(CaseFault::OutOfRange(Key::Provers))
+    }
+}
+
+#[tactic(auto, unfolding(crate::specs::Case::case_of))]
+fn case_of_tree(alloc: Global, tree: &Value) -> Result<Case, CaseFault>
+    ensures { Gives CaseFault.Memory data_of result (case_of (view tree.now)) }
+{
+    if !tree.is_object() {
+        return Err(CaseFault::NotObject);
+    }
+    let flat = flat_of(tree)?;
+    let image = bytes_of(alloc, tree, Key::Image)?;
+    let input = input_of(alloc, tree)?;
+    let bound = number_of(tree, Key::Bound, 1, MAX_BOUND)?;
+    let patience = number_of(tree, Key::Patience, 0, MAX_PATIENCE)? as u32;
+    let provers = provers_of(tree)?;
+    let provers = scripts_of(alloc, provers)?;
+    Ok(Case {
+        image,
+        flat,
+        input,
+        bound,
+        patience,
+        version: VERSION,
+        fan: FAN,
+        provers,
+    })
+}
+
+/// The JSON tree of bytes.
+fn tree_of_bytes(alloc: Global, bytes: &[u8]) -> Result<Value, CaseFault>
+    ensures { Gives CaseFault.Memory view result (ok_or (tree_of bytes.now) NotJson) }
+{
+    match Value::from_slice(alloc, bytes) {
+        Ok(tree) => Ok(tree),
+        Err(error) => {
+            if error.is_memory() {
+                Err(CaseFault::Memory)
+            } else {
+                Err(CaseFault::NotJson)
+            }
+        }
+    }
+}
+
+/// Reads a case.
+///
+/// What comes back is the case that the bytes hold. A fault is the first rule that is broken: the bytes are a JSON
+/// text (`NotJson`) that is an object (`NotObject`); then of each key in its order that it is there (`Missing`), has
+/// its type (`WrongType`), its hexadecimal digits (`BadHex`) and its range (`OutOfRange`); and last that each prover
+/// is known (`BadProver`, by its number). `Memory` comes where memory ran out.
+#[tactic(auto, unfolding(crate::specs::Case::case_at))]
+pub fn read_case(alloc: Global, bytes: &[u8]) -> Result<Case, CaseFault>
+    ensures { Gives CaseFault.Memory data_of result (case_at bytes.now) }
+{
+    let tree = tree_of_bytes(alloc, bytes)?;
+    case_of_tree(alloc, &tree)
+}

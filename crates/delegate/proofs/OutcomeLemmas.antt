@@ -1,0 +1,195 @@
+-- The steps of the program, and what every outcome is.
+use Rattle.std.proofs.Common.{◌≡◌, ℕ, suc, ◌<◌, List, length, Result, Ok, Err, Option, Some, None, Bool, true, false, cond, codes, IfSome, replicate, lt-ltb, refl, sym, ap, subst, ◌∙◌, ◌↔◌, arith}
+use Rattle.std.specs.Option.{ok_or}
+use Rattle.std.proofs.lemmas.Bool.{false≢true}
+use Rattle.std.proofs.lemmas.List.{length-replicate}
+use Rattle.rd_base.specs.Results.{◌>>=◌}
+use Rattle.rv_step.specs.State.{State}
+use Rattle.case_reader.specs.Case.{CaseData, case_at}
+use Rattle.image_reader.specs.Image.{Image}
+use Rattle.transcript_text.specs.declared.record.Verdict.{Verdict}
+use Rattle.transcript_text.specs.declared.record.Verdict.TheVariants.{Accept, NoneLeft}
+use Rattle.delegate.specs.Answered.{is_outcome, is_of_a_command}
+use Rattle.delegate.specs.Match.{record_of, verdict_of, end_of_run}
+use Rattle.delegate.specs.Outcome.{within_limit, image_at, start_of, answered_by, ended, carried_out, either_way, outcome}
+use Rattle.delegate.specs.Refusal.{usage, too_long, case_refusal, image_refusal, or_refusal}
+use Rattle.delegate.specs.Visible.{MayBe, ForItsBytes}
+use Rattle.delegate.specs.Words.{chosen}
+use Rattle.delegate.specs.declared.words.Command.{Command}
+use Rattle.delegate.specs.declared.words.Command.TheVariants.{Judge, Run}
+use Rattle.delegate.specs.declared.response.Response.{Response}
+use Rattle.delegate.specs.declared.answered.Answered.{Answered}
+use Rattle.delegate.specs.declared.answered.Answered.TheVariants.{Done, Usage, Case, Image as BadImage, ReadFault, WriteFault, AuditRefused, Memory, NoneLeft as NobodyLeft, Collision, TooLong}
+
+goes_on : {A B E : Type 0} (r : Result A E) (x : A) (f : A → Result B E) → r ≡ Ok x → (r >>= f) ≡ f x
+goes_on r x f is = ap (λ r. r >>= f) is
+
+stops : {A B E : Type 0} (r : Result A E) (e : E) (f : A → Result B E) → r ≡ Err e → (r >>= f) ≡ Err e
+stops r e f is = ap (λ r. r >>= f) is
+
+-- the first step that is refused is the last
+pub no_command : (words : List (List ℕ)) (bytes : List ℕ) (response : Response) → ok_or (chosen words) usage ≡ Err response → carried_out words bytes ≡ Err response
+unfolding carried_out
+no_command words bytes response is = stops _ _ _ is
+
+pub too_many : (words : List (List ℕ)) (bytes : List ℕ) (command : Command) (response : Response) → ok_or (chosen words) usage ≡ Ok command → within_limit bytes ≡ Err response
+    → carried_out words bytes ≡ Err response
+unfolding carried_out
+too_many words bytes command response taken is = goes_on _ _ _ taken ∙ stops _ _ _ is
+
+pub no_case : (words : List (List ℕ)) (bytes : List ℕ) (command : Command) (response : Response) → ok_or (chosen words) usage ≡ Ok command → within_limit bytes ≡ Ok tt
+    → or_refusal case_refusal (case_at bytes) ≡ Err response → carried_out words bytes ≡ Err response
+unfolding carried_out
+no_case words bytes command response taken short is = goes_on _ _ _ taken ∙ (goes_on _ _ _ short ∙ stops _ _ _ is)
+
+pub no_image : (words : List (List ℕ)) (bytes : List ℕ) (command : Command) (c : CaseData) (response : Response) → ok_or (chosen words) usage ≡ Ok command → within_limit bytes ≡ Ok tt
+    → or_refusal case_refusal (case_at bytes) ≡ Ok c → or_refusal image_refusal (image_at c) ≡ Err response → carried_out words bytes ≡ Err response
+unfolding carried_out
+no_image words bytes command c response taken short reads is = goes_on _ _ _ taken ∙ (goes_on _ _ _ short ∙ (goes_on _ _ _ reads ∙ stops _ _ _ is))
+
+pub all_steps : (words : List (List ℕ)) (bytes : List ℕ) (command : Command) (c : CaseData) (image : Image) → ok_or (chosen words) usage ≡ Ok command → within_limit bytes ≡ Ok tt
+    → or_refusal case_refusal (case_at bytes) ≡ Ok c → or_refusal image_refusal (image_at c) ≡ Ok image → carried_out words bytes ≡ Ok (ended command c (start_of c image))
+unfolding carried_out
+all_steps words bytes command c image taken short reads loads = goes_on _ _ _ taken ∙ (goes_on _ _ _ short ∙ (goes_on _ _ _ reads ∙ goes_on _ _ _ loads))
+
+-- there are bytes that a source may have had
+pub some_bytes : (left : Option (List ℕ)) (P : List ℕ → Type 0) → ((bytes : List ℕ) → P bytes) → ForItsBytes left P
+some_bytes (Some all) P holds = (all, refl, holds all)
+some_bytes None P holds = (replicate 0 0, tt, holds (replicate 0 0))
+
+long_list : (n : ℕ) → n < length {A = ℕ} (replicate (suc n) 0)
+long_list n = omega (arith, length-replicate {A = ℕ} (suc n) 0)
+
+-- where its visible bytes are more than n, there are more than n that it may have had
+pub many_bytes : (left : Option (List ℕ)) (n : ℕ) → IfSome left (λ bytes. n < length bytes) → ForItsBytes left (λ bytes. n < length bytes)
+many_bytes (Some all) n long = (all, refl, long)
+many_bytes None n long = (replicate (suc n) 0, tt, long_list n)
+
+pub for_its_bytes : (left : Option (List ℕ)) (P Q : List ℕ → Type 0) → ((bytes : List ℕ) → P bytes → Q bytes) → ForItsBytes left P → ForItsBytes left Q
+for_its_bytes left P Q then its = (its.0, its.1, then its.0 its.2)
+
+pub over_limit : (bytes : List ℕ) → 16777216 < length bytes → within_limit bytes ≡ Err too_long
+over_limit bytes long = rw (lt-ltb 16777216 (length bytes) long) refl
+
+-- the outcome of what is carried out or refused
+pub outcome-ok : (words : List (List ℕ)) (bytes : List ℕ) (response : Response) → carried_out words bytes ≡ Ok response → response ≡ outcome words bytes
+unfolding outcome
+outcome-ok words bytes response is = sym (ap either_way is)
+
+pub outcome-err : (words : List (List ℕ)) (bytes : List ℕ) (response : Response) → carried_out words bytes ≡ Err response → response ≡ outcome words bytes
+unfolding outcome
+outcome-err words bytes response is = sym (ap either_way is)
+
+-- an answer to bytes that were read
+abbrev pub answers_bytes : Answered → Bool
+answers_bytes Usage = false
+answers_bytes answered = is_of_a_command answered
+
+step : {A : Type 0} (P : Response → Type 0) (r : Result A Response) (f : A → Result Response Response)
+    → ((e : Response) → r ≡ Err e → P e) → ((x : A) → P (either_way (f x))) → P (either_way (r >>= f))
+step P (Ok x) f refused further = further x
+step P (Err e) f refused further = refused e refl
+
+refused : {A E : Type 0} (P : Response → Type 0) (refusal : E → Response) (r : Result A E) → ((fault : E) → P (refusal fault)) → (e : Response) → or_refusal refusal r ≡ Err e → P e
+refused P refusal (Ok x) holds e is = absurd (cc)
+refused P refusal (Err fault) holds e is = subst P (cc is) (holds fault)
+
+abbrev limit : Bool → Result (Unit {0}) Response
+limit b = cond b (Err too_long) (Ok tt)
+
+limited : (b : Bool) (e : Response) → limit b ≡ Err e → e ≡ too_long
+limited true e is = cc
+limited false e is = absurd (cc)
+
+verdict-kind : (verdict : Verdict) → answers_bytes (answered_by verdict) ≡ true
+verdict-kind (Accept number) = refl
+verdict-kind NoneLeft = refl
+
+ended-kind : (command : Command) (c : CaseData) (start : State) → answers_bytes (ended command c start).answered ≡ true
+ended-kind Judge c start = verdict-kind (verdict_of (record_of c (end_of_run c start)).claims)
+ended-kind Run c start = refl
+
+abbrev AnswersBytes : Response → Type 0
+AnswersBytes response = answers_bytes response.answered ≡ true
+
+-- arguments that name a command are answered as it is, or the bytes are
+taken-kind : (words : List (List ℕ)) (bytes : List ℕ) (command : Command) → chosen words ≡ Some command → AnswersBytes (outcome words bytes)
+unfolding outcome carried_out
+taken-kind words bytes command is =
+    step AnswersBytes _ _ (λ e none. absurd (named is none))
+    (λ command. step AnswersBytes (within_limit bytes) _ (λ e long. subst AnswersBytes (sym (limited _ e long)) refl)
+    (λ short. step AnswersBytes _ _ (refused AnswersBytes case_refusal (case_at bytes) (λ fault. refl))
+    (λ c. step AnswersBytes _ _ (refused AnswersBytes image_refusal (image_at c) (λ fault. refl))
+    (λ image. ended-kind command c (start_of c image)))))
+  where
+    named : {e : Response} → chosen words ≡ Some command → ok_or (chosen words) usage ≡ Err e → ⊥
+    named some none = let is = sym (ap (λ o. ok_or o usage) some) ∙ none in cc
+
+pub untaken : (words : List (List ℕ)) (bytes : List ℕ) → chosen words ≡ None → outcome words bytes ≡ usage
+unfolding outcome carried_out
+untaken words bytes is = ap either_way (stops _ _ _ (ap (λ o. ok_or o usage) is))
+
+bytes-of_a_command : (answered : Answered) → answers_bytes answered ≡ true → is_of_a_command answered ≡ true
+bytes-of_a_command Done is = is
+bytes-of_a_command Usage is = refl
+bytes-of_a_command Case is = is
+bytes-of_a_command BadImage is = is
+bytes-of_a_command ReadFault is = is
+bytes-of_a_command WriteFault is = is
+bytes-of_a_command AuditRefused is = is
+bytes-of_a_command Memory is = is
+bytes-of_a_command NobodyLeft is = is
+bytes-of_a_command Collision is = is
+bytes-of_a_command TooLong is = is
+
+of_a_command-outcome : (answered : Answered) → is_of_a_command answered ≡ true → is_outcome answered ≡ true
+of_a_command-outcome Done is = is
+of_a_command-outcome Usage is = is
+of_a_command-outcome Case is = is
+of_a_command-outcome BadImage is = is
+of_a_command-outcome ReadFault is = is
+of_a_command-outcome WriteFault is = is
+of_a_command-outcome AuditRefused is = refl
+of_a_command-outcome Memory is = is
+of_a_command-outcome NobodyLeft is = is
+of_a_command-outcome Collision is = refl
+of_a_command-outcome TooLong is = is
+
+-- every outcome is one of a command, or of arguments that name none, and usage is that of such arguments alone
+pub outcome-kind : (words : List (List ℕ)) (bytes : List ℕ) → is_of_a_command (outcome words bytes).answered ≡ true
+outcome-kind words bytes = by (chosen words) refl
+  where
+    by : (command : Option Command) → chosen words ≡ command → is_of_a_command (outcome words bytes).answered ≡ true
+    by None none = ap (λ response. is_of_a_command response.answered) (untaken words bytes none)
+    by (Some command) some = bytes-of_a_command (outcome words bytes).answered (taken-kind words bytes command some)
+
+pub outcome-usage : (words : List (List ℕ)) (bytes : List ℕ) → (outcome words bytes).answered ≡ Usage → chosen words ≡ None
+outcome-usage words bytes is = by (chosen words) refl
+  where
+    by : (command : Option Command) → chosen words ≡ command → chosen words ≡ None
+    by None none = none
+    by (Some command) some = absurd (false≢true (sym (ap answers_bytes is) ∙ taken-kind words bytes command some))
+
+-- what holds of bytes that a source may have had holds of its visible ones
+pub for_visible : (left : Option (List ℕ)) (P : List ℕ → Type 0) (bytes : List ℕ) → MayBe left bytes → P bytes → IfSome left P
+for_visible (Some all) P bytes is holds = subst P (sym is) holds
+for_visible None P bytes is holds = tt
+
+-- what holds of a response that is an outcome of some bytes
+pub response-of_a_command : (left : Option (List ℕ)) (words : List (List ℕ)) (response : Response) → ForItsBytes left (λ bytes. response ≡ outcome words bytes) → is_of_a_command response.answered ≡ true
+response-of_a_command left words response its = subst (λ r. is_of_a_command r.answered ≡ true) (sym its.2) (outcome-kind words its.0)
+
+pub response-kind : (left : Option (List ℕ)) (words : List (List ℕ)) (response : Response) → ForItsBytes left (λ bytes. response ≡ outcome words bytes) → is_outcome response.answered ≡ true
+response-kind left words response its = of_a_command-outcome response.answered (response-of_a_command left words response its)
+
+pub response-usage : (left : Option (List ℕ)) (words : List (List ℕ)) (response : Response) → ForItsBytes left (λ bytes. response ≡ outcome words bytes)
+    → (response.answered ≡ Usage) ↔ (chosen words ≡ None)
+response-usage left words response its = (
+  λ is. outcome-usage words its.0 (sym (ap (λ r. r.answered) its.2) ∙ is),
+  λ none. ap (λ r. r.answered) (its.2 ∙ untaken words its.0 none),
+)
+
+pub response-usage_text : (left : Option (List ℕ)) (words : List (List ℕ)) (response : Response) → ForItsBytes left (λ bytes. response ≡ outcome words bytes)
+    → response.answered ≡ Usage → response.text ≡ codes "fault usage\n"
+response-usage_text left words response its is =
+    ap (λ r. r.text) (its.2 ∙ untaken words its.0 (outcome-usage words its.0 (sym (ap (λ r. r.answered) its.2) ∙ is)))

@@ -1,0 +1,79 @@
+ghost use Rattle.std.specs.Prelude.{◌≡◌, ◌↔◌, true, None, Ok, Err, IfOk, IfSome, IsErrOf};
+ghost use Rattle.std.specs.Io.KnownBytes.{IsAtEnd};
+ghost use Rattle.io_edge.specs.Device.{Rises, IsLaterIn};
+ghost use Rattle.rv_step.specs.State.{state_of, IsChained};
+ghost use Rattle.case_reader.specs.Case.{data_of};
+ghost use Rattle.delegate.specs.Answered.{is_outcome, is_of_a_command, reads_all};
+ghost use Rattle.delegate.specs.Outcome.{ended, carried_out, outcome};
+ghost use Rattle.delegate.specs.Visible.{ForItsBytes};
+ghost use Rattle.delegate.specs.Words.{texts, chosen};
+ghost use Rattle.delegate.specs.declared.response.Response.{Response};
+
+use crate::answered::Answered;
+use crate::judging::judge;
+use crate::response::{Halt, Response, Stop};
+use crate::running::run_program;
+use crate::stages::{bytes_in, case_in, command_in, image_in};
+use crate::words::Command;
+use case_reader::Case;
+use digest_core::{Digester, Sha256};
+use io_edge::Source;
+use rd_base::Memory;
+use rv_step::Machine;
+use std::alloc::Global;
+
+/// Carries out a command on a case whose run starts in this machine. The machine's chain is that of the digester `d`.
+fn end<D: Digester>(
+    alloc: Global,
+    d: D,
+    command: Command,
+    case: &Case,
+    start: Machine,
+) -> Result<Response, Memory>
+    requires { IsChained D.digest_of start }
+    ensures { IfOk result (λ response. response ≡ ended command (data_of case.now) (state_of start)) }
+{
+    match command {
+        Command::Judge => judge(alloc, d, case, start),
+        Command::Run => run_program(alloc, d, case, start),
+    }
+}
+
+/// Carries out what the arguments ask for, step by step.
+fn carry_out<S: Source>(alloc: Global, words: &[String], source: &mut S) -> Result<Response, Stop>
+    ensures done { IfOk result (λ response. ForItsBytes (S.left source.old) (λ bytes. carried_out (texts words.now) bytes ≡ Ok response)) }
+    ensures refused { (response : Response) → result ≡ Err (Stop.Refused response) →
+        ForItsBytes (S.left source.old) (λ bytes. carried_out (texts words.now) bytes ≡ Err response) }
+    ensures unread { chosen (texts words.now) ≡ None → S.left source.new ≡ S.left source.old }
+    ensures end { IfOk result (λ response. IsAtEnd (S.left source.new)) }
+    ensures end_refused { (response : Response) → result ≡ Err (Stop.Refused response) → reads_all response.answered ≡ true → IsAtEnd (S.left source.new) }
+    ensures rest { IfSome (S.left source.old) (IsLaterIn (S.left source.new)) }
+    ensures fault { result ≡ Err (Stop.Halted Halt.ReadFault) → Rises (S.faults source.old) (S.faults source.new) }
+    ensures count { ¬ (result ≡ Err (Stop.Halted Halt.ReadFault)) → S.faults source.new ≡ S.faults source.old }
+{
+    let command = command_in(alloc, words)?;
+    let bytes = bytes_in(alloc, source)?;
+    let case = case_in(alloc, bytes.as_slice())?;
+    let loaded = image_in(alloc, &case)?;
+    let start = Machine::new(alloc, loaded.mem, loaded.entry, case.input.as_slice())?;
+    Ok(end(alloc, Sha256, command, &case, start)?)
+}
+
+/// The response to the arguments and to what the source has, which is read only where the arguments name a command.
+pub fn respond<S: Source>(alloc: Global, words: &[String], source: &mut S) -> Result<Response, Halt>
+    ensures outcome { IfOk result (λ response. ForItsBytes (S.left source.old) (λ bytes. response ≡ outcome (texts words.now) bytes)) }
+    ensures kind { IfOk result (λ response. is_outcome response.answered ≡ true) }
+    ensures of_a_command { IfOk result (λ response. is_of_a_command response.answered ≡ true) }
+    ensures usage { IfOk result (λ response. (response.answered ≡ Answered.Usage) ↔ (chosen (texts words.now) ≡ None)) }
+    ensures unread { chosen (texts words.now) ≡ None → S.left source.new ≡ S.left source.old }
+    ensures end { IfOk result (λ response. reads_all response.answered ≡ true → IsAtEnd (S.left source.new)) }
+    ensures rest { IfSome (S.left source.old) (IsLaterIn (S.left source.new)) }
+    ensures fault { IsErrOf result Halt.ReadFault → Rises (S.faults source.old) (S.faults source.new) }
+    ensures count { ¬ (IsErrOf result Halt.ReadFault) → S.faults source.new ≡ S.faults source.old }
+{
+    match carry_out(alloc, words, source) {
+        Ok(response) => Ok(response),
+        Err(Stop::Refused(response)) => Ok(response),
+        Err(Stop::Halted(halt)) => Err(halt),
+    }
+}

@@ -1,0 +1,88 @@
+ghost use Rattle.std.specs.Prelude.{◌≡◌, ◌<◌, length, IfOk, IfSome, Ok, Err};
+ghost use Rattle.std.specs.Io.KnownBytes.{IsAtEnd};
+ghost use Rattle.std.specs.Option.{ok_or};
+ghost use Rattle.io_edge.specs.Device.{Rises, IsLaterIn};
+ghost use Rattle.rd_base.specs.Results.{Gives};
+ghost use Rattle.case_reader.specs.Case.{data_of, case_at};
+ghost use Rattle.image_reader.specs.Image.{loaded_of};
+ghost use Rattle.delegate.specs.Outcome.{within_limit, image_at};
+ghost use Rattle.delegate.specs.Refusal.{usage, too_long, case_refusal, image_refusal, or_refusal};
+ghost use Rattle.delegate.specs.Stages.{Stands};
+ghost use Rattle.delegate.specs.Visible.{MayBe};
+ghost use Rattle.delegate.specs.declared.response.Response.{Response};
+ghost use Rattle.delegate.specs.Words.{texts, chosen};
+
+use crate::faults;
+use crate::response::{Halt, Stop};
+use crate::words::{Command, command_given};
+use case_reader::{Case, CaseFault, read_case};
+use image_reader::{ImageFault, Loaded, load_elf, load_flat};
+use io_edge::{ReadAll, Source, read_all};
+use std::alloc::Global;
+
+/// The most bytes that are read.
+pub const MAX_CASE_BYTES: usize = 16_777_216;
+
+/// The command that the arguments name.
+pub fn command_in(alloc: Global, words: &[String]) -> Result<Command, Stop>
+    ensures stands { Stands (λ command. command) result (ok_or (chosen (texts words.now)) usage) }
+    ensures no_read { ¬ (result ≡ Err (Stop.Halted Halt.ReadFault)) }
+{
+    match command_given(alloc, words)? {
+        Some(command) => Ok(command),
+        None => Err(Stop::Refused(faults::usage(alloc)?)),
+    }
+}
+
+/// All bytes that the source has.
+pub fn bytes_in<S: Source>(alloc: Global, source: &mut S) -> Result<Vec<u8>, Stop>
+    ensures bytes { IfOk result (λ bytes. MayBe (S.left source.old) bytes.items) }
+    ensures short { IfOk result (λ bytes. within_limit bytes.items ≡ Ok tt) }
+    ensures end { IfOk result (λ bytes. IsAtEnd (S.left source.new)) }
+    ensures refusal { (response : Response) → result ≡ Err (Stop.Refused response) → response ≡ too_long }
+    ensures long { (response : Response) → result ≡ Err (Stop.Refused response) → IfSome (S.left source.old) (λ bytes. 16777216 < length bytes) }
+    ensures rest { IfSome (S.left source.old) (IsLaterIn (S.left source.new)) }
+    ensures fault { result ≡ Err (Stop.Halted Halt.ReadFault) → Rises (S.faults source.old) (S.faults source.new) }
+    ensures count { ¬ (result ≡ Err (Stop.Halted Halt.ReadFault)) → S.faults source.new ≡ S.faults source.old }
+{
+    match read_all(alloc, source, MAX_CASE_BYTES) {
+        Ok(bytes) => Ok(bytes),
+        Err(ReadAll::Fault) => Err(Stop::Halted(Halt::ReadFault)),
+        Err(ReadAll::Memory) => Err(Stop::Halted(Halt::Memory)),
+        Err(ReadAll::TooLong) => Err(Stop::Refused(faults::too_long(alloc)?)),
+    }
+}
+
+/// The case of the bytes.
+pub fn case_in(alloc: Global, bytes: &[u8]) -> Result<Case, Stop>
+    ensures stands { Stands data_of result (or_refusal case_refusal (case_at bytes.now)) }
+    ensures no_read { ¬ (result ≡ Err (Stop.Halted Halt.ReadFault)) }
+{
+    match read_case(alloc, bytes) {
+        Ok(case) => Ok(case),
+        Err(CaseFault::Memory) => Err(Stop::Halted(Halt::Memory)),
+        Err(fault) => Err(Stop::Refused(faults::case_refusal(alloc, fault)?)),
+    }
+}
+
+/// The image of the case, loaded.
+pub fn image_in(alloc: Global, case: &Case) -> Result<Loaded, Stop>
+    ensures stands { Stands loaded_of result (or_refusal image_refusal (image_at (data_of case.now))) }
+    ensures no_read { ¬ (result ≡ Err (Stop.Halted Halt.ReadFault)) }
+{
+    match load(alloc, case) {
+        Ok(loaded) => Ok(loaded),
+        Err(ImageFault::Memory) => Err(Stop::Halted(Halt::Memory)),
+        Err(fault) => Err(Stop::Refused(faults::image_refusal(alloc, fault)?)),
+    }
+}
+
+fn load(alloc: Global, case: &Case) -> Result<Loaded, ImageFault>
+    ensures { Gives ImageFault.Memory loaded_of result (image_at (data_of case.now)) }
+{
+    if case.flat {
+        load_flat(alloc, case.image.as_slice())
+    } else {
+        load_elf(alloc, case.image.as_slice())
+    }
+}

@@ -1,0 +1,140 @@
+ghost use Rattle.std.specs.Prelude.{◌≡◌, ◌<◌, ◌^◌, ℕ, [], IfOk, All, true};
+ghost use Rattle.std.specs.List.{AllZip};
+ghost use Rattle.mem_plain.specs.Contents.{IsUsed};
+ghost use Rattle.mem_tree.specs.Page.{AreEmpty, IsPageTree};
+ghost use Rattle.mem_tree.specs.Tree.{kept_of, IsOver, is_among};
+
+use crate::kept::{Nodes, PageTree};
+use crate::page::page_tree;
+use digest_core::{Digester, leaf_text};
+use mem_plain::PlainMem;
+use merkle_nodes::{fill_empty_nodes, nodes_over_one_string_are_empty};
+use rayon::prelude::*;
+use rd_base::{Digest32, Memory, Steps};
+use std::alloc::{AllocError, Global};
+use std::collections::BTreeMap;
+use std::marker::Brand;
+use std::sync::ledger::{Blank, Ledger};
+use std::thread::Threads;
+
+/// The pages that hold a byte other than 0, in order.
+fn used_pages(alloc: Global, mem: &PlainMem) -> Result<Vec<u32>, Memory>
+    ensures used { IfOk result (λ pages. (p : ℕ) → IsUsed mem.now p → is_among pages.items p ≡ true) }
+    ensures pages { IfOk result (λ pages. All (λ page. page < 2 ^ 20) pages.items) }
+{
+    let mut pages = Vec::new(alloc);
+    let mut from = 0;
+    'pages: while let Some(page) = mem.next_page(from) {
+        pages.push(page)?;
+        from = page + 1;
+    }
+    Ok(pages)
+}
+
+fn page_tree_in<D: Digester, L: Ledger>(
+    d: D,
+    alloc: Global,
+    mem: &PlainMem,
+    page: u32,
+    blank: Blank,
+) -> Result<Option<PageTree>, Memory>
+    requires name { blank.name ≡ L.name }
+    requires parts { blank.parts ≡ L.parts }
+    requires one { L.parts ≡ 1 }
+    requires page { page < 2 ^ 20 }
+    ensures { IfOk result (λ tree. IsPageTree D.digest_of tree mem.now page) }
+{
+    let mut steps = Steps::<L>::new(blank);
+    page_tree(d, alloc, mem, page, &mut steps)
+}
+
+/// The subtree of a page, uncounted.
+fn plain_page_tree<D: Digester>(
+    d: D,
+    alloc: Global,
+    mem: &PlainMem,
+    page: u32,
+) -> Result<Option<PageTree>, Memory>
+    requires { page < 2 ^ 20 }
+    ensures { IfOk result (λ tree. IsPageTree D.digest_of tree mem.now page) }
+{
+    page_tree_in::<D, Brand>(d, alloc, mem, page, Blank::new(1))
+}
+
+/// The subtrees of pages, in their order, from as many threads as there are processors.
+fn trees_of<R: Threads + Sync, D: Digester + Send + Sync>(
+    rt: &R,
+    alloc: Global,
+    d: D,
+    mem: &PlainMem,
+    pages: &[u32],
+) -> Result<Vec<Result<Option<PageTree>, Memory>>, AllocError>
+    requires { All (λ page. page < 2 ^ 20) pages.now }
+    ensures { IfOk result (λ trees. AllZip (λ page tree. IfOk tree (λ t. IsPageTree D.digest_of t mem.now page))
+        pages.now trees.items) }
+{
+    pages
+        .par_iter()
+        .map(
+            |page: &u32| -> Result<Option<PageTree>, Memory>
+                requires { page.now < 2 ^ 20 }
+                ensures { IfOk result (λ tree. IsPageTree D.digest_of tree mem.entry.now page.now) }
+            { plain_page_tree(d, alloc, mem, *page) },
+        )
+        .collect(rt, alloc)
+}
+
+/// The nodes of a memory in which every byte is 0: none is kept.
+fn no_nodes<D: Digester>(alloc: Global, d: D) -> Nodes
+    ensures pages { result.pages.entries ≡ [] }
+    ensures upper { result.upper.entries ≡ [] }
+    ensures empty { AreEmpty D.digest_of result.empties }
+{
+    let mut empties = [Digest32::ZERO; 28];
+    fill_empty_nodes(d, &leaf_text(&[0; 32]), &mut empties);
+    Nodes {
+        pages: BTreeMap::new(alloc),
+        upper: BTreeMap::new(alloc),
+        empties,
+    }
+}
+
+fn nodes_in<R: Threads + Sync, D: Digester + Send + Sync, L: Ledger>(
+    rt: &R,
+    alloc: Global,
+    d: D,
+    mem: &PlainMem,
+    blank: Blank,
+) -> Result<Nodes, Memory>
+    requires name { blank.name ≡ L.name }
+    requires parts { blank.parts ≡ L.parts }
+    requires one { L.parts ≡ 1 }
+    ensures over { IfOk result (λ nodes. IsOver D.digest_of (kept_of nodes) [] mem.now) }
+    ensures empty { IfOk result (λ nodes. AreEmpty D.digest_of nodes.empties) }
+{
+    nodes_over_one_string_are_empty();
+    let mut steps = Steps::<L>::new(blank);
+    let mut left = used_pages(alloc, mem)?;
+    let mut trees = trees_of(rt, alloc, d, mem, &left)?;
+    let mut nodes = no_nodes(alloc, d);
+    'pages: while let Some(page) = left.pop() {
+        let Some(tree) = trees.pop() else {
+            unreachable!()
+        };
+        nodes.place(d, page, tree?, &mut steps)?;
+    }
+    Ok(nodes)
+}
+
+/// The nodes of a memory, whose pages' subtrees are computed side by side. An `Err` is out of memory.
+pub(crate) fn nodes_of<R: Threads + Sync, D: Digester + Send + Sync>(
+    rt: &R,
+    alloc: Global,
+    d: D,
+    mem: &PlainMem,
+) -> Result<Nodes, Memory>
+    ensures over { IfOk result (λ nodes. IsOver D.digest_of (kept_of nodes) [] mem.now) }
+    ensures empty { IfOk result (λ nodes. AreEmpty D.digest_of nodes.empties) }
+{
+    nodes_in::<R, D, Brand>(rt, alloc, d, mem, Blank::new(1))
+}

@@ -1,0 +1,21 @@
+ghost use Rattle.std.specs.Prelude.{◌≡◌, length, vec_len};
+
+use rd_base::Digest32;
+use std::collections::BTreeMap;
+
+/// The nodes of a page's subtree: the root at 1, and the two below node `i` at `2 * i` and `2 * i + 1`.
+#[derive(Drop)]
+pub struct PageTree {
+    pub nodes: Vec<Digest32>,
+    ghost whole: { vec_len nodes ≡ 256 },
+}
+
+/// The nodes of a tree that are kept: the subtrees of pages by the page's number; the nodes from the pages' roots up by how
+/// many levels they stand above these, and their place; and the empty node of each level, for all others.
+#[derive(Drop)]
+pub struct Nodes {
+    pub pages: BTreeMap<u32, PageTree>,
+    pub upper: BTreeMap<(u8, u32), Digest32>,
+    pub empties: [Digest32; 28],
+    ghost levels: { length empties ≡ 28 },
+}

@@ -1,0 +1,4 @@
+pub mod EmptyLemmas
+pub mod NodeLemmas
+pub mod OpeningLemmas
+pub mod SplitLemmas

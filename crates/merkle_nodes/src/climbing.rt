@@ -1,0 +1,80 @@
+ghost use Rattle.std.specs.Prelude.{◌≡◌, ◌+◌, length};
+ghost use Rattle.merkle_nodes.specs.Node.{digest_at};
+ghost use Rattle.merkle_nodes.specs.Opening.{joined, opened};
+
+use digest_core::{Digester, node_text};
+use rd_base::{Digest32, OpenText, Steps};
+use std::marker::Brand;
+use std::sync::ledger::{Blank, Ledger};
+
+/// The string of the node above a child and its sibling, at a bit of the index.
+pub(crate) fn joined_text(bit: u32, child: &Digest32, sibling: &Digest32) -> OpenText
+    ensures { result ≡ joined bit child.now.0 sibling.now.0 }
+{
+    if bit == 0 {
+        node_text(child, sibling)
+    } else {
+        node_text(sibling, child)
+    }
+}
+
+/// The digest of a string, which is counted as one step.
+pub fn digest_counted<D: Digester, L: Ledger>(
+    d: D,
+    text: &OpenText,
+    steps: &mut Steps<L>,
+) -> Digest32
+    ensures digest { result.0 ≡ D.digest_of text.now }
+    ensures steps { steps.new ≡ steps.old + 1 }
+{
+    steps.tick();
+    d.digest(text.as_slice())
+}
+
+/// The digest at the top of a path, from the string of the leaf up: a level for each sibling, the leaf's sibling first.
+/// Bit l of `index` is 0 where the path stands on the left at level l. It counts one step for each digest.
+pub fn climb_counted<D: Digester, L: Ledger>(
+    d: D,
+    index: u32,
+    leaf: &OpenText,
+    siblings: &[Digest32],
+    steps: &mut Steps<L>,
+) -> Digest32
+    ensures digest { result.0 ≡ D.digest_of
+        (opened D.digest_of leaf.now (digest_at siblings.now) (length siblings.now) index) }
+    ensures steps { steps.new ≡ steps.old + 1 + length siblings.now }
+{
+    let mut digest = digest_counted(d, leaf, steps);
+    let mut k = index;
+    'levels: for sibling in siblings {
+        let text = joined_text(k % 2, &digest, sibling);
+        digest = digest_counted(d, &text, steps);
+        k /= 2;
+    }
+    digest
+}
+
+fn climb_in<D: Digester, L: Ledger>(
+    d: D,
+    index: u32,
+    leaf: &OpenText,
+    siblings: &[Digest32],
+    blank: Blank,
+) -> Digest32
+    requires name { blank.name ≡ L.name }
+    requires parts { blank.parts ≡ L.parts }
+    requires one { L.parts ≡ 1 }
+    ensures { result.0 ≡ D.digest_of
+        (opened D.digest_of leaf.now (digest_at siblings.now) (length siblings.now) index) }
+{
+    let mut steps = Steps::<L>::new(blank);
+    climb_counted(d, index, leaf, siblings, &mut steps)
+}
+
+/// What `climb_counted` gives, uncounted.
+pub fn climb<D: Digester>(d: D, index: u32, leaf: &OpenText, siblings: &[Digest32]) -> Digest32
+    ensures { result.0 ≡ D.digest_of
+        (opened D.digest_of leaf.now (digest_at siblings.now) (length siblings.now) index) }
+{
+    climb_in::<D, Brand>(d, index, leaf, siblings, Blank::new(1))
+}

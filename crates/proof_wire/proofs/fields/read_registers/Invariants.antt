@@ -1,0 +1,11 @@
+use Rattle.std.proofs.Common.{◌≡◌, ◌≤◌, ◌+◌, ◌*◌, ◌-◌, [], ◌∷◌, length, take}
+use Rattle.proof_wire.specs.Reading.{word_at, each_at}
+use Rattle.proof_wire.proofs.EachLemmas.{with_front}
+use Rattle.proof_wire.proofs.fields.read_registers.Given as goal
+
+abbrev pub invariant-loop-reg : goal.invariant-loop-reg
+invariant-loop-reg l = record {
+  count : length l.regs ≡ 32;
+  room : length l.bytes + 4 ≡ length l.rest + 4 * l.reg;
+  so_far : with_front (take l.reg l.regs) (each_at word_at (32 - l.reg) l.rest) ≡ with_front (0 ∷ []) (each_at word_at 31 l.bytes);
+}

@@ -1,0 +1,185 @@
+//! Fields at the front of some bytes. Each function gives the field and the bytes behind it.
+ghost use Rattle.std.specs.Prelude.{◌≡◌, ◌≤◌, ◌+◌, length, Ok, IfOk};
+ghost use Rattle.rd_base.specs.Results.{Gives};
+ghost use Rattle.proof_wire.specs.declared.fault.WireFault.TheVariants.{Memory};
+ghost use Rattle.proof_wire.specs.Reading.{block_at, byte_at, word_at, double_word_at, digest_at, each_at, status_of, status_at, control_at, registers_at, opening_at, opening_if, flags_of};
+
+use crate::fault::WireFault;
+use crate::layout::{
+    EXITED, FETCH, FETCH_AND_OPERAND, NO_CHUNK, OPENING_BYTES, OPERAND, RUNNING, TRAPPED,
+};
+use rd_base::{Ctl, Digest32, Opening, Path, Regs, Status};
+
+/// A byte.
+#[tactic(auto, unfolding(crate::specs::Reading::byte_at))]
+pub fn read_byte(bytes: &[u8]) -> (u8, &[u8])
+    requires { 1 ≤ length bytes.now }
+    ensures read { byte_at bytes.now ≡ Ok (result.0, result.1.now) }
+    ensures rest { length bytes.now ≡ length result.1.now + 1 }
+{
+    (bytes[0], &bytes[1..])
+}
+
+/// A number of four bytes.
+#[tactic(auto, unfolding(crate::specs::Reading::word_at))]
+fn read_word(bytes: &[u8]) -> (u32, &[u8])
+    requires { 4 ≤ length bytes.now }
+    ensures read { word_at bytes.now ≡ Ok (result.0, result.1.now) }
+    ensures rest { length bytes.now ≡ length result.1.now + 4 }
+{
+    let (front, rest) = bytes.split_at(4);
+    let number = u32::from_le_bytes([front[0], front[1], front[2], front[3]]);
+    (number, rest)
+}
+
+/// A number of eight bytes.
+#[tactic(auto, unfolding(crate::specs::Reading::double_word_at))]
+pub fn read_double_word(bytes: &[u8]) -> (u64, &[u8])
+    requires { 8 ≤ length bytes.now }
+    ensures read { double_word_at bytes.now ≡ Ok (result.0, result.1.now) }
+    ensures rest { length bytes.now ≡ length result.1.now + 8 }
+{
+    let (front, rest) = bytes.split_at(8);
+    let number = u64::from_le_bytes([
+        front[0], front[1], front[2], front[3], front[4], front[5], front[6], front[7],
+    ]);
+    (number, rest)
+}
+
+/// 32 bytes as they are.
+fn read_block(bytes: &[u8]) -> ([u8; 32], &[u8])
+    requires { 32 ≤ length bytes.now }
+    ensures read { block_at 32 bytes.now ≡ Ok (result.0, result.1.now) }
+    ensures rest { length bytes.now ≡ length result.1.now + 32 }
+{
+    let (front, rest) = bytes.split_at(32);
+    let mut block = [0; 32];
+    block.copy_from_slice(front);
+    (block, rest)
+}
+
+/// A digest.
+#[tactic(auto, unfolding(crate::specs::Reading::digest_at))]
+pub fn read_digest(bytes: &[u8]) -> (Digest32, &[u8])
+    requires { 32 ≤ length bytes.now }
+    ensures read { digest_at bytes.now ≡ Ok (result.0, result.1.now) }
+    ensures rest { length bytes.now ≡ length result.1.now + 32 }
+{
+    let (digest, rest) = read_block(bytes);
+    (Digest32(digest), rest)
+}
+
+/// The status with this byte and this code. `BadStatus` comes exactly where there is none.
+fn status_with(byte: u8, code: u32) -> Result<Status, WireFault>
+    ensures { result ≡ status_of byte code }
+{
+    match (byte, code) {
+        (RUNNING, 0) => Ok(Status::Running),
+        (EXITED, code) => Ok(Status::Exited(code)),
+        (TRAPPED, code) => Ok(Status::Trapped(code)),
+        _ => Err(WireFault::BadStatus),
+    }
+}
+
+/// A status with its code.
+#[tactic(auto, unfolding(crate::specs::Reading::status_at))]
+fn read_status(bytes: &[u8]) -> Result<(Status, &[u8]), WireFault>
+    requires { 5 ≤ length bytes.now }
+    ensures read { Gives Memory (λ x. (x.0, x.1.now)) result (status_at bytes.now) }
+    ensures rest { IfOk result (λ x. length bytes.now ≡ length x.1.now + 5) }
+{
+    let (byte, rest) = read_byte(bytes);
+    let (code, rest) = read_word(rest);
+    let status = status_with(byte, code)?;
+    Ok((status, rest))
+}
+
+/// The control fields of a state.
+#[tactic(auto, unfolding(crate::specs::Reading::control_at))]
+pub fn read_control(bytes: &[u8]) -> Result<(Ctl, &[u8]), WireFault>
+    requires { 49 ≤ length bytes.now }
+    ensures read { Gives Memory (λ x. (x.0, x.1.now)) result (control_at bytes.now) }
+    ensures rest { IfOk result (λ x. length bytes.now ≡ length x.1.now + 49) }
+{
+    let (pc, rest) = read_word(bytes);
+    let (status, rest) = read_status(rest)?;
+    let (out_len, rest) = read_double_word(rest);
+    let (chain, rest) = read_digest(rest);
+    let ctl = Ctl {
+        pc,
+        status,
+        out_len,
+        chain,
+    };
+    Ok((ctl, rest))
+}
+
+/// The registers `x1` to `x31`.
+#[tactic(auto, unfolding(crate::specs::Reading::registers_at))]
+pub fn read_registers(bytes: &[u8]) -> (Regs, &[u8])
+    requires { 124 ≤ length bytes.now }
+    ensures read { registers_at bytes.now ≡ Ok (result.0, result.1.now) }
+    ensures rest { length bytes.now ≡ length result.1.now + 124 }
+{
+    let mut regs = Regs::new();
+    let mut rest = bytes;
+    for reg in 1..32 {
+        let (value, after) = read_word(rest);
+        regs.set(reg, value);
+        rest = after;
+    }
+    (regs, rest)
+}
+
+/// The siblings of a Merkle path, the leaf's first.
+fn read_path(bytes: &[u8]) -> (Path, &[u8])
+    requires { 864 ≤ length bytes.now }
+    ensures { each_at digest_at 27 bytes.now ≡ Ok (result.0.0, result.1.now) }
+{
+    let mut siblings = [Digest32::ZERO; 27];
+    let mut rest = bytes;
+    for sibling in siblings.iter_mut() {
+        let (digest, after) = read_digest(rest);
+        *sibling = digest;
+        rest = after;
+    }
+    (Path(siblings), rest)
+}
+
+/// A chunk and its Merkle path.
+#[tactic(auto, unfolding(crate::specs::Reading::opening_at))]
+fn read_opening(bytes: &[u8]) -> Result<(Opening, &[u8]), WireFault>
+    ensures { Gives Memory (λ x. (x.0, x.1.now)) result (opening_at bytes.now) }
+{
+    if bytes.len() < OPENING_BYTES {
+        return Err(WireFault::Short);
+    }
+    let (chunk, rest) = read_block(bytes);
+    let (path, rest) = read_path(rest);
+    Ok((Opening { chunk, path }, rest))
+}
+
+/// A chunk and its Merkle path where they are there, and else nothing.
+#[tactic(auto, unfolding(crate::specs::Reading::opening_if))]
+pub fn read_opening_if(is_there: bool, bytes: &[u8]) -> Result<(Option<Opening>, &[u8]), WireFault>
+    ensures { Gives Memory (λ x. (x.0, x.1.now)) result (opening_if is_there bytes.now) }
+{
+    if !is_there {
+        return Ok((None, bytes));
+    }
+    let (opening, rest) = read_opening(bytes)?;
+    Ok((Some(opening), rest))
+}
+
+/// Whether the fetched chunk and whether the data chunk is opened. `BadTag` comes exactly where the flags are above 3.
+pub fn chunks_of(flags: u8) -> Result<(bool, bool), WireFault>
+    ensures { result ≡ flags_of flags }
+{
+    match flags {
+        NO_CHUNK => Ok((false, false)),
+        FETCH => Ok((true, false)),
+        OPERAND => Ok((false, true)),
+        FETCH_AND_OPERAND => Ok((true, true)),
+        _ => Err(WireFault::BadTag),
+    }
+}

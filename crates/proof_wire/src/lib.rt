@@ -1,0 +1,22 @@
+//! Wire forms: a prover's answer as bytes, and back.
+//!
+//! The layers above may rely on this: which bytes an answer has is said by a grammar (`specs/Wire.antt`), `encode`
+//! writes them, and `decode` gives an answer exactly where bytes are its, and else the first rule that they break
+//! (`specs/Reading.antt`). An answer has one spelling, bytes spell one answer, and no answer's bytes are a proper
+//! prefix of another's (`laws`). Read `fault` first, then `reading` and `writing`.
+#![tactic(auto)]
+
+mod fault;
+mod fields;
+mod laws;
+mod layout;
+mod reading;
+mod writing;
+
+pub use fault::WireFault;
+pub use laws::{no_proper_prefix, one_spelling, reading_is_spelling};
+pub use reading::decode;
+pub use writing::encode;
+
+#[cfg(test)]
+mod tests;

@@ -1,0 +1,11 @@
+pub mod Histories
+pub mod Totals
+pub mod Receipts
+pub mod Views
+pub mod DrawKeeps
+pub mod LookKeeps
+pub mod EndKeeps
+pub mod SplitKeeps
+pub mod JoinKeeps
+pub mod Opens
+pub mod Turns

@@ -1,0 +1,5 @@
+pub mod History
+pub mod Seats
+pub mod Turned
+pub mod Views
+pub mod Rule

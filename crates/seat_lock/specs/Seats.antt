@@ -1,0 +1,45 @@
+-- What contracts see of a lock and of a seat, and of a seat after `new`, `split` and `join`. To believe.
+use Rattle.std.specs.Prelude.{ℕ, suc, ◌-◌, List, [], ◌∷◌, ◌++◌, Option, Some}
+use Rattle.atomic_table.specs.Seated.{TableId}
+use Rattle.seat_lock.specs.History.{Entry, History, turns_of, longer_of}
+
+-- what tells one lock from another
+abbrev pub LockId : Type 0
+LockId = TableId
+
+-- what a seat knows, where H is the type of heads
+pub record Known (H : Type 0) : Type 0 where
+  -- the lock that it is at, and its number there: 0 for the first seat, that of `new`
+  pub lock : LockId
+  pub number : ℕ
+  -- the head of the value under the lock; each seat has one
+  pub head : Option H
+  -- how many seats that were split off it haven't been joined in again
+  pub out : ℕ
+  -- the turns that it has seen, and, since its last turn, those that it and the seats joined into it had seen
+  pub seen : History
+  pub joined : List History
+  -- the places in the log of the entries that it added, and then of those that seats joined into it added
+  pub receipts : List ℕ
+
+module _ {H : Type 0} where
+  -- the first seat of a lock whose value has this head and this log
+  abbrev pub first_seat : LockId → H → List Entry → Known H
+  first_seat lock head log = record { lock = lock; number = 0; head = Some head; out = 0; seen = turns_of log; joined = []; receipts = [] }
+
+  -- the first seat after one was split off it
+  abbrev pub after_split : Known H → Known H
+  after_split k = record k { out = suc k.out }
+
+  -- the seat that was split off: it has seen the same, and has no receipts
+  abbrev pub split_off : Known H → ℕ → Known H
+  split_off k number = record { lock = k.lock; number = number; head = k.head; out = 0; seen = k.seen; joined = k.joined; receipts = [] }
+
+  -- the first seat after another was joined into it
+  abbrev pub after_join : Known H → Known H → Known H
+  after_join k other = record k {
+    out = k.out - 1;
+    seen = longer_of k.seen other.seen;
+    joined = k.seen ∷ other.seen ∷ (k.joined ++ other.joined);
+    receipts = k.receipts ++ other.receipts;
+  }

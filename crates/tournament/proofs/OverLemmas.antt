@@ -1,0 +1,187 @@
+-- A match in which nobody is asked is complete.
+use Rattle.std.proofs.Common.{◌≡◌, ℕ, zero, suc, ◌+◌, ◌-◌, ◌<◌, ◌≤◌, Bool, true, false, ◌&&◌, ◌||◌, ◌==◌, if◌then◌else◌, List, [], ◌∷◌, ◌++◌, length, slice_get, slice_set, inl, inr, Option, Some, None, is_some, refl, arith}
+use Rattle.std.proofs.lemmas.Bool.Decides.{nat_tests}
+use Rattle.bisect_game.specs.declared.question.Question.{Question}
+use Rattle.bisect_game.specs.declared.settled.Settled.{Settled}
+use Rattle.rd_base.specs.declared.claim.Claim.{Claim}
+use Rattle.bisect_game.specs.declared.settled.Close.{Close}
+use Rattle.bisect_game.specs.Bisection.{Bisection, question_of, settle_first, settle_second, advanced, decided, closed_or, went_on}
+use Rattle.bisect_game.specs.Closing.{close_of}
+use Rattle.bisect_game.specs.Rules.{Play, Rules}
+use Rattle.bisect_game.specs.Says.{Says}
+use Rattle.tournament.proofs.JournalLemmas.{AreCounts, counts-begun, turned, counts-turn, turns-keep}
+use Rattle.tournament.proofs.OnceLemmas.{IsApart, engaged-asked, is-prover, or-left, or-right}
+use Rattle.tournament.proofs.OpenedLemmas.{opened-not, opened-due}
+use Rattle.tournament.proofs.ReachLemmas.{either}
+use Rattle.tournament.specs.Bracket.{Record, claim_question, pairs, last_stage, disputes_of, is_due, opened, asks_first, asks_second, question_in, claim_missing, open_question, settled_in, put, settle, all_there, all_closed, is_complete}
+use Rattle.tournament.specs.Journals.{turn, turns, NobodyAskedIsOver}
+use Rattle.tournament.specs.Moves.{State, begun, passes_of, settled_by, moved}
+use Rattle.bisect_game.specs.Laws.{BisectionLaws}
+
+-- an open dispute waits for one of its sides
+abbrev pub Moves : Option Settled → Option Settled → Option Close → Type 0
+Moves (Some a) (Some b) None = ⊥
+Moves (Some a) (Some b) (Some c) = Unit {0}
+Moves (Some a) None c = Unit {0}
+Moves None b c = Unit {0}
+
+abbrev pub AllMove : List Bisection → Type 0
+AllMove [] = Unit {0}
+AllMove (d ∷ ds) = Moves d.by_first d.by_second d.close × AllMove ds
+
+-- so somebody is asked in an open one
+pub record IsAsked (fan : ℕ) (ds : List Bisection) : Type 0 where
+  pub prover : ℕ
+  pub question : Question
+  pub asked : question_in fan prover ds ≡ Some question
+
+record IsMoving (rules : Rules) (says : Says) (n : ℕ) (st : State) : Type 0 where
+  counts : AreCounts rules says st
+  moves : AllMove st.record_.disputes
+
+module _ (laws : BisectionLaws) where
+  moves-closed : (a b : Option Settled) (c : Close) → Moves a b (Some c)
+  moves-closed (Some a) (Some b) c = tt
+  moves-closed (Some a) None c = tt
+  moves-closed None b c = tt
+
+  moves-decided : (play : Play) (d : Bisection) (a b : Settled) (o : Option Close) → Moves (closed_or d (went_on play.fan d a b) o).by_first (closed_or d (went_on play.fan d a b) o).by_second (closed_or d (went_on play.fan d a b) o).close
+  moves-decided play d a b (Some c) = moves-closed d.by_first d.by_second c
+  moves-decided play d a b None = tt
+
+  moves-advanced : (play : Play) (d : Bisection) (x y : Option Settled) → d.by_first ≡ x → d.by_second ≡ y → Moves (advanced play d x y).by_first (advanced play d x y).by_second (advanced play d x y).close
+  unfolding decided
+  moves-advanced play d (Some a) (Some b) ex ey = moves-decided play d a b (close_of play.ruling d.place a b)
+  moves-advanced play d (Some a) None ex ey = rw (ex, ey) tt
+  moves-advanced play d None y ex ey = rw (ex) tt
+
+  moves-first : (play : Play) (s : Settled) (d : Bisection) → Moves (settle_first play s d).by_first (settle_first play s d).by_second (settle_first play s d).close
+  unfolding settle_first
+  moves-first play s d = moves-advanced play (record d { by_first = Some s }) (Some s) d.by_second refl refl
+
+  moves-second : (play : Play) (s : Settled) (d : Bisection) → Moves (settle_second play s d).by_first (settle_second play s d).by_second (settle_second play s d).close
+  unfolding settle_second
+  moves-second play s d = moves-advanced play (record d { by_second = Some s }) d.by_first (Some s) refl refl
+
+  moves-choice : (rules : Rules) (p : ℕ) (s : Settled) (d : Bisection) (ds : List Bisection) (x y : Bool) → AllMove (d ∷ ds) → AllMove (settled_in rules p s ds) →
+      AllMove (if x then settle_first rules.play s d ∷ ds else if y then settle_second rules.play s d ∷ ds else d ∷ settled_in rules p s ds)
+  moves-choice rules p s d ds true y a r = (moves-first rules.play s d, a.1)
+  moves-choice rules p s d ds false true a r = (moves-second rules.play s d, a.1)
+  moves-choice rules p s d ds false false a r = (a.0, r)
+
+  moves-settled : (rules : Rules) (p : ℕ) (s : Settled) (ds : List Bisection) → AllMove ds → AllMove (settled_in rules p s ds)
+  moves-settled rules p s [] a = tt
+  moves-settled rules p s (d ∷ ds) a = moves-choice rules p s d ds (asks_first p d) (asks_second p d) a (moves-settled rules p s ds a.1)
+
+  moves-both : (ds es : List Bisection) → AllMove ds → AllMove es → AllMove (ds ++ es)
+  moves-both [] es a b = b
+  moves-both (d ∷ ds) es a b = (a.0, moves-both ds es a.1 b)
+
+  moves-new : (rules : Rules) (g : ℕ) (n : ℕ) (ps : List ((ℕ × Claim) × (ℕ × Claim))) → AllMove (disputes_of rules g n ps)
+  moves-new rules g n [] = tt
+  moves-new rules g n (p ∷ ps) = (tt, moves-new rules g (n + 1) ps)
+
+  moves-put : (rules : Rules) (p : ℕ) (s : Settled) (t : Record) (b : Bool) → AllMove t.disputes →
+      AllMove (if b then record t { claims = slice_set t.claims (p - 1) (Some s) } else record t { disputes = settled_in rules p s t.disputes }).disputes
+  moves-put rules p s t true a = a
+  moves-put rules p s t false a = moves-settled rules p s t.disputes a
+
+  moves-opened : (rules : Rules) (t : Record) → AllMove t.disputes → AllMove (opened rules t).disputes
+  moves-opened rules t a =
+      elim (either (is_due rules t)) [
+        | inl due ↦ rw (opened-due rules t due) (moves-both t.disputes _ a (moves-new rules (last_stage t.disputes + 1) (length t.disputes + 1) (pairs rules t)))
+        | inr not_due ↦ rw (opened-not rules t not_due) a
+      ]
+
+  moves-settle : (rules : Rules) (p : ℕ) (s : Settled) (t : Record) → AllMove t.disputes → AllMove (settle rules p s t).disputes
+  unfolding settle
+  moves-settle rules p s t a = moves-opened rules (put rules p s t) (moves-put rules p s t (claim_missing (slice_get t.claims (p - 1))) a)
+
+  eqb-same : (n : ℕ) → (n == n) ≡ true
+  eqb-same n = grind (arith, nat_tests)
+
+  asked-true : (fan p : ℕ) (d : Bisection) (ds : List Bisection) → (asks_first p d || asks_second p d) ≡ true → IsAsked fan (d ∷ ds)
+  asked-true fan p d ds e = record { prover = p; question = question_of fan d; asked = rw e refl }
+
+  asked-first : (fan : ℕ) (d : Bisection) (ds : List Bisection) → d.by_first ≡ None → d.close ≡ None → IsAsked fan (d ∷ ds)
+  asked-first fan d ds e f = asked-true fan d.first d ds (or-left (asks_first d.first d) (asks_second d.first d) (rw (eqb-same d.first, e, f) refl))
+
+  asked-second : (fan : ℕ) (d : Bisection) (ds : List Bisection) → d.by_second ≡ None → d.close ≡ None → IsAsked fan (d ∷ ds)
+  asked-second fan d ds e f = asked-true fan d.second d ds (or-right (asks_first d.second d) (asks_second d.second d) (rw (eqb-same d.second, e, f) refl))
+
+  asked-open : (fan : ℕ) (d : Bisection) (ds : List Bisection) (x y : Option Settled) → d.by_first ≡ x → d.by_second ≡ y → d.close ≡ None → Moves x y None → IsAsked fan (d ∷ ds)
+  asked-open fan d ds (Some a) (Some b) ex ey ec m = absurd m
+  asked-open fan d ds (Some a) None ex ey ec m = asked-second fan d ds ey ec
+  asked-open fan d ds None y ex ey ec m = asked-first fan d ds ex ec
+
+  asked-further : (fan : ℕ) (d : Bisection) (ds : List Bisection) → IsAsked fan ds → IsAsked fan (d ∷ ds)
+  asked-further fan d ds i =
+      elim (either (asks_first i.prover d || asks_second i.prover d)) [
+        | inl here ↦ asked-true fan i.prover d ds here
+        | inr further ↦ record { prover = i.prover; question = i.question; asked = rw further i.asked }
+      ]
+
+  asked-by : (fan : ℕ) (d : Bisection) (ds : List Bisection) (c : Option Close) → d.close ≡ c → Moves d.by_first d.by_second c → (is_some c && all_closed ds) ≡ false → (all_closed ds ≡ false → IsAsked fan ds) → IsAsked fan (d ∷ ds)
+  asked-by fan d ds (Some c) ec m e r = asked-further fan d ds (r e)
+  asked-by fan d ds None ec m e r = asked-open fan d ds d.by_first d.by_second refl refl ec m
+
+  asked-some : (fan : ℕ) (ds : List Bisection) → AllMove ds → all_closed ds ≡ false → IsAsked fan ds
+  asked-some fan [] a e = absurd (cc)
+  asked-some fan (d ∷ ds) a e = asked-by fan d ds d.close refl a.0 e (asked-some fan ds a.1)
+
+  -- claims
+
+  missing-at : (ss : List (Option Settled)) → all_there ss ≡ false → (k : ℕ) × (claim_missing (slice_get ss k) ≡ true)
+  missing-at [] e = absurd (cc)
+  missing-at (None ∷ ss) e = (zero, refl)
+  missing-at (Some s ∷ ss) e = let r : (k : ℕ) × (claim_missing (slice_get ss k) ≡ true) = missing-at ss e in (suc r.0, r.1)
+
+  there-at : (ss : List (Option Settled)) (k : ℕ) → all_there ss ≡ true → claim_missing (slice_get ss k) ≡ false
+  there-at [] k e = refl
+  there-at (None ∷ ss) k e = absurd (cc)
+  there-at (Some s ∷ ss) zero e = refl
+  there-at (Some s ∷ ss) (suc k) e = there-at ss k e
+
+  some-none : (p : ℕ) (rules : Rules) (t : Record) (q : Question) → ((r : ℕ) → IsApart rules r t) → ((r : ℕ) → 0 < r → r ≤ rules.provers → open_question rules t r ≡ None) → 0 < p → open_question rules t p ≡ Some q → ⊥
+  some-none p rules t q apart none some e =
+      let z : open_question rules t p ≡ None = none p some (is-prover rules p q t some (apart p) e) in absurd (cc)
+
+  pub complete-is : (rules : Rules) (t : Record) → ((p : ℕ) → IsApart rules p t) → AllMove t.disputes → ((p : ℕ) → 0 < p → p ≤ rules.provers → open_question rules t p ≡ None) → is_complete t ≡ true
+  complete-is rules t apart moves none =
+      elim (either (all_there t.claims)) [
+        | inr part ↦
+            let m : (k : ℕ) × (claim_missing (slice_get t.claims k) ≡ true) = missing-at t.claims part in
+            let at : m.0 + 1 - 1 ≡ m.0 = omega arith in
+            let e : open_question rules t (m.0 + 1) ≡ Some claim_question = rw (at, m.1) refl in
+            absurd (some-none (m.0 + 1) rules t claim_question apart none (omega arith) e)
+        | inl whole ↦
+            elim (either (all_closed t.disputes)) [
+              | inl closed ↦ rw (whole, closed) refl
+              | inr open_ ↦
+                  let i : IsAsked rules.play.fan t.disputes = asked-some rules.play.fan t.disputes moves open_ in
+                  let e : open_question rules t i.prover ≡ Some i.question = rw (there-at t.claims (i.prover - 1) whole) i.asked in
+                  elim (either (i.prover == 0)) [
+                    | inl zero_ ↦ let z : i.prover ≡ 0 = grind (arith, nat_tests) in absurd (let a : IsApart rules i.prover t = apart i.prover in omega (arith, a.numbered z, engaged-asked rules.play.fan i.prover i.question t.disputes i.asked))
+                    | inr more ↦ let some : 0 < i.prover = grind (arith, nat_tests) in absurd (some-none i.prover rules t i.question apart none some e)
+                  ]
+            ]
+      ]
+
+  -- what a journal keeps
+
+  moves-moved : (rules : Rules) (p : ℕ) (st : State) (o : Option Settled) → AllMove st.record_.disputes → AllMove (moved rules st p o).record_.disputes
+  moves-moved rules p st None a = a
+  moves-moved rules p st (Some s) a = moves-settle rules p s st.record_ a
+
+  moving-turn : (rules : Rules) (says : Says) (n : ℕ) (st : State) (p : ℕ) (q : Question) → 0 < p → open_question rules st.record_ p ≡ Some q → IsMoving rules says n st → IsMoving rules says (suc n) (turn rules says st p q)
+  moving-turn rules says n st p q some e i = record {
+    counts = (counts-turn laws) rules says st p q (turn rules says st p q) ((turned laws) rules says st p q some e i.counts);
+    moves = moves-moved rules p st (settled_by rules q (passes_of st p) (says p q (passes_of st p))) i.moves;
+  }
+
+  -- where nobody is asked the match is over
+  pub nobody_asked_is_over : NobodyAskedIsOver
+  nobody_asked_is_over rules says ps playable legal none =
+      let i : IsMoving rules says (0 + length ps) (turns rules says ps (begun rules)) =
+      (turns-keep laws) rules says (IsMoving rules says) (moving-turn rules says) ps 0 (begun rules) legal (record { counts = (counts-begun laws) rules says; moves = tt }) in
+      complete-is rules (turns rules says ps (begun rules)).record_ i.counts.apart i.moves none

@@ -1,0 +1,133 @@
+-- One round over answers, and a settled answer that is one of them.
+use Rattle.std.proofs.Common.{◌≡◌, ℕ, zero, suc, ◌-◌, ◌<◌, ◌≤◌, true, false, ◌⊎◌, inl, inr, Option, Some, None, refl, sym, ◌∙◌, ap, arith}
+use Rattle.std.specs.Fn.{iterate}
+use Rattle.bisect_game.specs.declared.settled.Settled.{Settled}
+use Rattle.bisect_game.specs.Bisection.{Bisection, advanced, advance, is_closed, question_of, settle_first, settle_second}
+use Rattle.bisect_game.specs.Disputes.{Answers, or_else, filled, round_over, played}
+use Rattle.bisect_game.specs.Laws.{IsNarrower, HasClosed}
+use Rattle.bisect_game.specs.Rules.{Play, Rules}
+use Rattle.tournament.proofs.ReachLemmas.{either, iterate-fixed, iterate-out, iterate-same}
+use Rattle.tournament.proofs.SidesLemmas.{round-closed, round-open}
+use Rattle.bisect_game.specs.Laws.{BisectionLaws}
+
+-- how a dispute moves: it closes where it stands, or it narrows
+abbrev pub Moved : Bisection → Bisection → Type 0
+Moved d e = HasClosed d e ⊎ IsNarrower d.place e.place
+
+abbrev pub Steps : Play → Answers → Bisection → Bisection → Type 0
+Steps rules f d e = (round_over rules f e ≡ round_over rules f d) ⊎ (e ≡ round_over rules f d)
+
+-- an interval of a match: not empty, and no longer than the run
+pub record IsWithin (rules : Rules) (d : Bisection) : Type 0 where
+  pub some : d.place.lo < d.place.hi
+  pub few : d.place.hi - d.place.lo ≤ rules.bound
+
+module _ (laws : BisectionLaws) where
+  pub advanced-moves : (rules : Play) (d : Bisection) (a b : Option Settled) → 1 < rules.fan → Moved d (advanced rules d a b) ⊎ (advanced rules d a b ≡ d)
+  advanced-moves rules d (Some a) (Some b) more = inl (laws.narrow rules d a b more)
+  advanced-moves rules d (Some a) None more = inr refl
+  advanced-moves rules d None b more = inr refl
+
+  or_else-twice : (a b : Option Settled) → or_else (or_else a b) b ≡ or_else a b
+  or_else-twice (Some s) b = refl
+  or_else-twice None (Some s) = refl
+  or_else-twice None None = refl
+
+  filled-twice : (rules : Play) (f : Answers) (d : Bisection) → filled rules f (filled rules f d) ≡ filled rules f d
+  filled-twice rules f d =
+      rw (or_else-twice d.by_first (f d.first (question_of rules.fan d)), or_else-twice d.by_second (f d.second (question_of rules.fan d))) refl
+
+  -- after a round over the answers nothing more is to be done, or the interval is narrower
+  pub round-moves : (rules : Play) (f : Answers) (d : Bisection) → 1 < rules.fan →
+      (round_over rules f (round_over rules f d) ≡ round_over rules f d) ⊎ IsNarrower d.place (round_over rules f d).place
+  round-moves rules f d more =
+      elim (either (is_closed d)) [
+        | inl closed ↦ inl (ap (round_over rules f) (round-closed rules f d closed))
+        | inr still ↦
+            let e : Bisection = filled rules f d in
+            let o : round_over rules f d ≡ advance rules (filled rules f d) = round-open rules f d still in
+            elim (advanced-moves rules (filled rules f d) (filled rules f d).by_first (filled rules f d).by_second more) [
+              | inl m ↦ elim m [
+                | inl c ↦ rw o (inl (round-closed rules f (advance rules (filled rules f d)) c.closed))
+                | inr n ↦ rw o (inr n)
+              ]
+              | inr same ↦
+                  let oo : round_over rules f d ≡ filled rules f d = o ∙ same in
+                  rw oo (inl (round-open rules f (filled rules f d) still ∙ (ap (advance rules) (filled-twice rules f d) ∙ same)))
+            ]
+      ]
+
+  -- as many rounds as there are steps are enough
+  pub enough : (rules : Play) (f : Answers) (n : ℕ) (d : Bisection) → 1 < rules.fan → d.place.lo < d.place.hi → d.place.hi - d.place.lo ≤ n →
+      round_over rules f (iterate (round_over rules f) n d) ≡ iterate (round_over rules f) n d
+  enough rules f zero d more some few = absurd (omega arith)
+  enough rules f (suc n) d more some few =
+      elim (round-moves rules f d more) [
+        | inl fixed ↦ rw (iterate-fixed (round_over rules f) n (round_over rules f d) fixed) fixed
+        | inr narrow ↦ enough rules f n (round_over rules f d) more narrow.some (omega (arith, narrow.less))
+      ]
+
+  -- a dispute of which the second side's answer is this one, and the first side's is settled now
+  first-by : (rules : Play) (f : Answers) (d : Bisection) (s : Settled) (o : Option Settled) → is_closed d ≡ false → d.by_second ≡ o →
+      d.by_first ≡ None → f d.first (question_of rules.fan d) ≡ Some s → Steps rules f d (advanced rules (record d { by_first = Some s }) (Some s) o)
+  first-by rules f d s None still second none is =
+      let same : filled rules f (record d { by_first = Some s }) ≡ filled rules f d = rw (none, is) refl in
+      inl (round-open rules f (record d { by_first = Some s }) still ∙ (ap (advance rules) same ∙ sym (round-open rules f d still)))
+  first-by rules f d s (Some t) still second none is =
+      let e : Bisection = record d { by_first = Some s } in
+      let same : filled rules f d ≡ e = rw (none, is, second) refl in
+      inr (sym (round-open rules f d still ∙ (ap (advance rules) same ∙ ap (λ (o : Option Settled). advanced rules e (Some s) o) second)))
+
+  second-by : (rules : Play) (f : Answers) (d : Bisection) (s : Settled) (o : Option Settled) → is_closed d ≡ false → d.by_first ≡ o →
+      d.by_second ≡ None → f d.second (question_of rules.fan d) ≡ Some s → Steps rules f d (advanced rules (record d { by_second = Some s }) o (Some s))
+  second-by rules f d s None still first none is =
+      let same : filled rules f (record d { by_second = Some s }) ≡ filled rules f d = rw (none, is) refl in
+      inl (round-open rules f (record d { by_second = Some s }) still ∙ (ap (advance rules) same ∙ sym (round-open rules f d still)))
+  second-by rules f d s (Some t) still first none is =
+      let e : Bisection = record d { by_second = Some s } in
+      let same : filled rules f d ≡ e = rw (none, is, first) refl in
+      inr (sym (round-open rules f d still ∙ (ap (advance rules) same ∙ ap (λ (o : Option Settled). advanced rules e o (Some s)) first)))
+
+  -- the first side settles its answer
+  pub steps-first : (rules : Play) (f : Answers) (d : Bisection) (s : Settled) → is_closed d ≡ false → d.by_first ≡ None → f d.first (question_of rules.fan d) ≡ Some s →
+      Steps rules f d (settle_first rules s d)
+  unfolding settle_first
+  steps-first rules f d s still none is = first-by rules f d s d.by_second still refl none is
+
+  -- the second side settles its answer
+  pub steps-second : (rules : Play) (f : Answers) (d : Bisection) (s : Settled) → is_closed d ≡ false → d.by_second ≡ None → f d.second (question_of rules.fan d) ≡ Some s →
+      Steps rules f d (settle_second rules s d)
+  unfolding settle_second
+  steps-second rules f d s still none is = second-by rules f d s d.by_first still refl none is
+
+  -- a dispute of which an answer was settled is played out to the same end
+  pub played-steps : (rules : Rules) (f : Answers) (d e : Bisection) → 1 < rules.play.fan → 0 < rules.bound → IsWithin rules d → Steps rules.play f d e →
+      played rules f e ≡ played rules f d
+  unfolding played
+  played-steps rules f d e more long w (inl same) = iterate-same (round_over rules.play f) rules.bound e d long same
+  played-steps rules f d e more long w (inr further) =
+      ap (iterate (round_over rules.play f) rules.bound) further
+      ∙ (sym (iterate-out (round_over rules.play f) rules.bound d) ∙ enough rules.play f rules.bound d more w.some w.few)
+
+  pub played-closed : (rules : Rules) (f : Answers) (d : Bisection) → is_closed d ≡ true → played rules f d ≡ d
+  unfolding played
+  played-closed rules f d closed = iterate-fixed (round_over rules.play f) rules.bound d (round-closed rules.play f d closed)
+
+  within-moved : (rules : Rules) (d e : Bisection) → IsWithin rules d → Moved d e → IsWithin rules e
+  within-moved rules d e w (inl c) = rw c.stays (record { some = w.some; few = w.few })
+  within-moved rules d e w (inr n) = record { some = n.some; few = omega (arith, n.less, w.few) }
+
+  pub within-advanced : (rules : Rules) (d : Bisection) (a b : Option Settled) → 1 < rules.play.fan → IsWithin rules d → IsWithin rules (advanced rules.play d a b)
+  within-advanced rules d a b more w =
+      elim (advanced-moves rules.play d a b more) [
+        | inl m ↦ within-moved rules d (advanced rules.play d a b) w m
+        | inr same ↦ rw same w
+      ]
+
+  pub within-first : (rules : Rules) (s : Settled) (d : Bisection) → 1 < rules.play.fan → IsWithin rules d → IsWithin rules (settle_first rules.play s d)
+  unfolding settle_first
+  within-first rules s d more w = within-advanced rules (record d { by_first = Some s }) (Some s) d.by_second more (record { some = w.some; few = w.few })
+
+  pub within-second : (rules : Rules) (s : Settled) (d : Bisection) → 1 < rules.play.fan → IsWithin rules d → IsWithin rules (settle_second rules.play s d)
+  unfolding settle_second
+  within-second rules s d more w = within-advanced rules (record d { by_second = Some s }) d.by_first (Some s) more (record { some = w.some; few = w.few })

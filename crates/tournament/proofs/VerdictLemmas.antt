@@ -1,0 +1,362 @@
+-- The verdict is right.
+use Rattle.std.proofs.Common.{◌≡◌, ℕ, zero, suc, ◌+◌, ◌-◌, ◌<◌, Bool, true, false, not, ◌&&◌, ◌||◌, ◌==◌, if◌then◌else◌, List, [], ◌∷◌, ◌++◌, length, slice_get, slice_set, ◌⊎◌, inl, inr, Option, Some, None, is_some, is_none, refl, sym, ◌∙◌, ap, arith, length-append}
+use Rattle.std.proofs.lemmas.Bool.Decides.{nat_tests}
+use Rattle.rd_base.specs.declared.digest.Digest32.{Digest32}
+use Rattle.rd_base.specs.declared.claim.Claim.{Claim}
+use Rattle.rd_base.specs.declared.proof.StepProof.{StepProof}
+use Rattle.rd_base.specs.declared.answer.Answer.{Answer}
+use Rattle.rd_base.specs.declared.answer.Answer.TheVariants as answer
+use Rattle.bisect_game.specs.declared.settled.Settled.{Settled}
+use Rattle.bisect_game.specs.declared.settled.Settled.TheVariants.{Given}
+use Rattle.bisect_game.specs.declared.settled.Close.{Close}
+use Rattle.bisect_game.specs.declared.settled.Close.TheVariants.{Out, Collision}
+use Rattle.tournament.specs.declared.verdict.Verdict.TheVariants.{Collision}
+use Rattle.bisect_game.specs.Bisection.{Bisection, is_closed, settle_first, settle_second, closed_or, ended, went_on, decided, advanced}
+use Rattle.bisect_game.specs.Closing.{both_proved, closed_by, close_of, is_out, is_step}
+use Rattle.bisect_game.specs.Rules.{Play, Rules}
+use Rattle.bisect_game.specs.Ruling.{Ruling, IsFair, IsCollision, same_digest}
+use Rattle.bisect_game.specs.Truth.{Truth, IsRun}
+use Rattle.tournament.proofs.MatchLemmas.{HasClaim, AllClaim, live-right, truthful_stay, claim-there, IsKept, kept-start, FitClaims}
+use Rattle.tournament.proofs.OpenedLemmas.{opened-not, opened-due, opened-twice}
+use Rattle.tournament.proofs.ReachLemmas.{either, same-is}
+use Rattle.tournament.proofs.StageLemmas.{IsPlayed, played-nothing}
+use Rattle.tournament.specs.Bracket.{Record, is_out_in, claim_in, also, live_from, live, first_of, collision_with, claims_collision, Taken, passed_over, take_other, pairs_of, pairs, last_stage, disputes_of, all_there, all_out, put_out, all_closed, is_due, opened, nothing_settled, asks_first, asks_second, claim_missing, settled_in, put, settle, is_complete, collided, disputes_collision, lowest, or_lowest}
+use Rattle.tournament.specs.Settling.{after}
+use Rattle.tournament.specs.Theorem.{HasTrueClaim, Stays, IsInClaims, IsInDisputes, IsCollisionIn, IsRightVerdict, VerdictIsRight}
+use Rattle.bisect_game.specs.Laws.{BisectionLaws}
+
+record MetBy (r : Ruling) (d : Bisection) (pair : List ℕ × List ℕ) : Type 0 where
+  one : StepProof
+  other : StepProof
+  by_one : d.by_first ≡ Some (Given (answer.Step one))
+  by_other : d.by_second ≡ Some (Given (answer.Step other))
+  collision_with : IsCollision r (r.opened_by_step one) (r.opened_by_step other) pair
+
+abbrev IsMet : Ruling → Bisection → Option Close → Type 0
+IsMet r d (Some (Collision s u)) = MetBy r d (s, u)
+IsMet r d (Some (Out a b)) = Unit {0}
+IsMet r d None = Unit {0}
+
+abbrev AllMet : Ruling → List Bisection → Type 0
+AllMet r [] = Unit {0}
+AllMet r (d ∷ ds) = IsMet r d d.close × AllMet r ds
+
+abbrev IsIn : ℕ → Claim → List (ℕ × Claim) → Type 0
+IsIn p c [] = ⊥
+IsIn p c (x ∷ xs) = (x ≡ (p, c)) ⊎ IsIn p c xs
+
+module _ (laws : BisectionLaws) where
+  -- a collision of a dispute is that of its proofs
+
+  met-out : (r : Ruling) (d : Bisection) (agreed : Digest32) (one other : StepProof) (o : Option (List ℕ × List ℕ)) → IsFair r → r.step_collision agreed one other ≡ o →
+      d.by_first ≡ Some (Given (answer.Step one)) → d.by_second ≡ Some (Given (answer.Step other)) → IsMet r d (Some (closed_by o))
+  met-out r d agreed one other (Some pair) fair e ea eb = record { one = one; other = other; by_one = ea; by_other = eb; collision_with = fair.step_collisions agreed one other pair e }
+  met-out r d agreed one other None fair e ea eb = tt
+
+  met-meeting : (r : Ruling) (d : Bisection) (agreed : Digest32) (a b : Settled) → IsFair r → d.by_first ≡ Some a → d.by_second ≡ Some b → IsMet r d (Some (both_proved r agreed a b))
+  met-meeting r d agreed (Given (answer.Step one)) (Given (answer.Step other)) fair ea eb = met-out r d agreed one other (r.step_collision agreed one other) fair refl ea eb
+  met-meeting r d agreed _ _ fair ea eb = tt
+
+  met-close : (r : Ruling) (d : Bisection) (x y z : Bool) (m c : Close) → (if x || y then Some (Out x y) else if z then Some m else None) ≡ Some c → IsMet r d (Some m) → IsMet r d (Some c)
+  met-close r d true y z m c e h = let same : Out true y ≡ c = cc in rw (← same) tt
+  met-close r d false true z m c e h = let same : Out false true ≡ c = cc in rw (← same) tt
+  met-close r d false false true m c e h = let same : m ≡ c = cc in rw (← same) h
+  met-close r d false false false m c e h = absurd (cc)
+
+  met-of : (r : Ruling) (d : Bisection) (a b : Settled) (c : Close) → IsFair r → close_of r d.place a b ≡ Some c → d.by_first ≡ Some a → d.by_second ≡ Some b → IsMet r d (Some c)
+  unfolding close_of
+  met-of r d a b c fair e ea eb = met-close r d (is_out r d.place d.place.first a) (is_out r d.place d.place.second b) (is_step d.place) (both_proved r d.place.agreed a b) c e (met-meeting r d d.place.agreed a b fair ea eb)
+
+  met-moved : (r : Ruling) (d e : Bisection) (c : Option Close) → e.by_first ≡ d.by_first → e.by_second ≡ d.by_second → IsMet r d c → IsMet r e c
+  met-moved r d e (Some (Collision s u)) ea eb h = record { one = h.one; other = h.other; by_one = ea ∙ h.by_one; by_other = eb ∙ h.by_other; collision_with = h.collision_with }
+  met-moved r d e (Some (Out a b)) ea eb h = tt
+  met-moved r d e None ea eb h = tt
+
+  met-by : (play : Play) (d : Bisection) (a b : Settled) (o : Option Close) → IsFair play.ruling → close_of play.ruling d.place a b ≡ o → d.by_first ≡ Some a → d.by_second ≡ Some b → d.close ≡ None →
+      IsMet play.ruling (closed_or d (went_on play.fan d a b) o) (closed_or d (went_on play.fan d a b) o).close
+  met-by play d a b (Some c) fair e ea eb still = met-moved play.ruling d (ended d c) (Some c) refl refl (met-of play.ruling d a b c fair e ea eb)
+  met-by play d a b None fair e ea eb still = rw still tt
+
+  met-advanced : (play : Play) (d : Bisection) (a b : Option Settled) → IsFair play.ruling → d.by_first ≡ a → d.by_second ≡ b → d.close ≡ None → IsMet play.ruling (advanced play d a b) (advanced play d a b).close
+  unfolding decided
+  met-advanced play d (Some a) (Some b) fair ea eb still = met-by play d a b (close_of play.ruling d.place a b) fair refl ea eb still
+  met-advanced play d (Some a) None fair ea eb still = rw still tt
+  met-advanced play d None b fair ea eb still = rw still tt
+
+  open-close : (same : Bool) (o : Option Settled) (c : Option Close) → (same && (is_none o && not (is_some c))) ≡ true → c ≡ None
+  open-close true None None e = refl
+  open-close true None (Some c) e = absurd (cc)
+  open-close true (Some s) c e = absurd (cc)
+  open-close false o c e = absurd (cc)
+
+  met-first : (play : Play) (s : Settled) (d : Bisection) → IsFair play.ruling → d.close ≡ None → IsMet play.ruling (settle_first play s d) (settle_first play s d).close
+  unfolding settle_first
+  met-first play s d fair still = met-advanced play (record d { by_first = Some s }) (Some s) d.by_second fair refl refl still
+
+  met-second : (play : Play) (s : Settled) (d : Bisection) → IsFair play.ruling → d.close ≡ None → IsMet play.ruling (settle_second play s d) (settle_second play s d).close
+  unfolding settle_second
+  met-second play s d fair still = met-advanced play (record d { by_second = Some s }) d.by_first (Some s) fair refl refl still
+
+  met-choice : (rules : Rules) (p : ℕ) (s : Settled) (d : Bisection) (ds : List Bisection) (x y : Bool) → IsFair rules.play.ruling → asks_first p d ≡ x → asks_second p d ≡ y → AllMet rules.play.ruling (d ∷ ds) → AllMet rules.play.ruling (settled_in rules p s ds) →
+      AllMet rules.play.ruling (if x then settle_first rules.play s d ∷ ds else if y then settle_second rules.play s d ∷ ds else d ∷ settled_in rules p s ds)
+  met-choice rules p s d ds true y fair ex ey h r = (met-first rules.play s d fair (open-close (d.first == p) d.by_first d.close ex), h.1)
+  met-choice rules p s d ds false true fair ex ey h r = (met-second rules.play s d fair (open-close (d.second == p) d.by_second d.close ey), h.1)
+  met-choice rules p s d ds false false fair ex ey h r = (h.0, r)
+
+  met-settled : (rules : Rules) (p : ℕ) (s : Settled) (ds : List Bisection) → IsFair rules.play.ruling → AllMet rules.play.ruling ds → AllMet rules.play.ruling (settled_in rules p s ds)
+  met-settled rules p s [] fair h = tt
+  met-settled rules p s (d ∷ ds) fair h = met-choice rules p s d ds (asks_first p d) (asks_second p d) fair refl refl h (met-settled rules p s ds fair h.1)
+
+  met-new : (rules : Rules) (g : ℕ) (n : ℕ) (ps : List ((ℕ × Claim) × (ℕ × Claim))) → AllMet rules.play.ruling (disputes_of rules g n ps)
+  met-new rules g n [] = tt
+  met-new rules g n (p ∷ ps) = (tt, met-new rules g (n + 1) ps)
+
+  met-both : (r : Ruling) (ds es : List Bisection) → AllMet r ds → AllMet r es → AllMet r (ds ++ es)
+  met-both r [] es h k = k
+  met-both r (d ∷ ds) es h k = (h.0, met-both r ds es h.1 k)
+
+  met-opened : (rules : Rules) (t : Record) → AllMet rules.play.ruling t.disputes → AllMet rules.play.ruling (opened rules t).disputes
+  met-opened rules t h =
+      elim (either (is_due rules t)) [
+        | inl due ↦ rw (opened-due rules t due) (met-both rules.play.ruling t.disputes _ h (met-new rules (last_stage t.disputes + 1) (length t.disputes + 1) (pairs rules t)))
+        | inr not_due ↦ rw (opened-not rules t not_due) h
+      ]
+
+  met-put : (rules : Rules) (p : ℕ) (s : Settled) (t : Record) (b : Bool) → IsFair rules.play.ruling → AllMet rules.play.ruling t.disputes →
+      AllMet rules.play.ruling (if b then record t { claims = slice_set t.claims (p - 1) (Some s) } else record t { disputes = settled_in rules p s t.disputes }).disputes
+  met-put rules p s t true fair h = h
+  met-put rules p s t false fair h = met-settled rules p s t.disputes fair h
+
+  met-after : (rules : Rules) (es : List (ℕ × Settled)) (t : Record) → IsFair rules.play.ruling → AllMet rules.play.ruling t.disputes → AllMet rules.play.ruling (after rules es t).disputes
+  unfolding settle
+  met-after rules [] t fair h = h
+  met-after rules (e ∷ es) t fair h = met-after rules es (settle rules e.0 e.1 t) fair (met-opened rules (put rules e.0 e.1 t) (met-put rules e.0 e.1 t (claim_missing (slice_get t.claims (e.0 - 1))) fair h))
+
+  -- so the collision of the disputes is one of the record
+
+  collision-by : (rules : Rules) (r : Record) (d : Bisection) (ds : List Bisection) (pair : List ℕ × List ℕ) (c : Option Close) → first_of (collided c) (disputes_collision ds) ≡ Some pair → IsMet rules.play.ruling d c →
+      ((a : Answer) → IsInDisputes a (d ∷ ds) → IsInDisputes a r.disputes) → (disputes_collision ds ≡ Some pair → IsCollisionIn rules r pair) → IsCollisionIn rules r pair
+  collision-by rules r d ds pair (Some (Collision s u)) e h sub rest =
+      let same : (s, u) ≡ pair = cc in
+      rw (← same) (record {
+        first = answer.Step h.one;
+        second = answer.Step h.other;
+        first_in = inr (sub (answer.Step h.one) (inl h.by_one));
+        second_in = inr (sub (answer.Step h.other) (inr (inl h.by_other)));
+        collision = h.collision_with;
+      })
+  collision-by rules r d ds pair (Some (Out a b)) e h sub rest = rest e
+  collision-by rules r d ds pair None e h sub rest = rest e
+
+  dispute-collision : (rules : Rules) (r : Record) (ds : List Bisection) (pair : List ℕ × List ℕ) → disputes_collision ds ≡ Some pair → AllMet rules.play.ruling ds →
+      ((a : Answer) → IsInDisputes a ds → IsInDisputes a r.disputes) → IsCollisionIn rules r pair
+  dispute-collision rules r [] pair e h sub = absurd (cc)
+  dispute-collision rules r (d ∷ ds) pair e h sub =
+      collision-by rules r d ds pair d.close e h.0 sub (λ further. dispute-collision rules r ds pair further h.1 (λ a i. sub a (inr (inr i))))
+
+  -- the collision of the claims is one of the record
+
+  in-claims : (a : Answer) (ss : List (Option Settled)) (k : ℕ) → slice_get ss k ≡ Some (Some (Given a)) → IsInClaims a ss
+  in-claims a [] k e = absurd (cc)
+  in-claims a (s ∷ ss) zero e = let same : s ≡ Some (Given a) = cc in inl same
+  in-claims a (s ∷ ss) (suc k) e = inr (in-claims a ss k e)
+
+  meets-choice : (rules : Rules) (r : Record) (x y : ℕ × Claim) (ys : List (ℕ × Claim)) (pair : List ℕ × List ℕ) (o : Option (List ℕ × List ℕ)) → IsFair rules.play.ruling → HasClaim r.claims x → HasClaim r.claims y →
+      rules.play.ruling.claim_collision x.1 y.1 ≡ o → first_of o (collision_with rules.play.ruling x.1 ys) ≡ Some pair → (collision_with rules.play.ruling x.1 ys ≡ Some pair → IsCollisionIn rules r pair) → IsCollisionIn rules r pair
+  meets-choice rules r x y ys pair (Some p) fair hx hy em e rest =
+      let same : rules.play.ruling.claim_collision x.1 y.1 ≡ Some pair = cc in
+      record {
+        first = answer.Claim x.1;
+        second = answer.Claim y.1;
+        first_in = inl (in-claims (answer.Claim x.1) r.claims (x.0 - 1) hx.is);
+        second_in = inl (in-claims (answer.Claim y.1) r.claims (y.0 - 1) hy.is);
+        collision = fair.claim_collisions x.1 y.1 pair same;
+      }
+  meets-choice rules r x y ys pair None fair hx hy em e rest = rest e
+
+  meets-collision : (rules : Rules) (r : Record) (x : ℕ × Claim) (ys : List (ℕ × Claim)) (pair : List ℕ × List ℕ) → IsFair rules.play.ruling → HasClaim r.claims x → AllClaim r.claims ys →
+      collision_with rules.play.ruling x.1 ys ≡ Some pair → IsCollisionIn rules r pair
+  meets-collision rules r x [] pair fair hx h e = absurd (cc)
+  meets-collision rules r x (y ∷ ys) pair fair hx h e =
+      meets-choice rules r x y ys pair (rules.play.ruling.claim_collision x.1 y.1) fair hx h.0 refl e (λ further. meets-collision rules r x ys pair fair hx h.1 further)
+
+  claims-choice : (rules : Rules) (r : Record) (x : ℕ × Claim) (xs : List (ℕ × Claim)) (pair : List ℕ × List ℕ) (o : Option (List ℕ × List ℕ)) → collision_with rules.play.ruling x.1 xs ≡ o → first_of o (claims_collision rules.play.ruling xs) ≡ Some pair →
+      (collision_with rules.play.ruling x.1 xs ≡ Some pair → IsCollisionIn rules r pair) → (claims_collision rules.play.ruling xs ≡ Some pair → IsCollisionIn rules r pair) → IsCollisionIn rules r pair
+  claims-choice rules r x xs pair (Some p) em e here rest = let same : collision_with rules.play.ruling x.1 xs ≡ Some pair = cc in here same
+  claims-choice rules r x xs pair None em e here rest = rest e
+
+  claims-collision : (rules : Rules) (r : Record) (xs : List (ℕ × Claim)) (pair : List ℕ × List ℕ) → IsFair rules.play.ruling → AllClaim r.claims xs → claims_collision rules.play.ruling xs ≡ Some pair → IsCollisionIn rules r pair
+  claims-collision rules r [] pair fair h e = absurd (cc)
+  claims-collision rules r (x ∷ xs) pair fair h e =
+      claims-choice rules r x xs pair (collision_with rules.play.ruling x.1 xs) refl e
+      (λ here. meets-collision rules r x xs pair fair h.0 h.1 here) (λ further. claims-collision rules r xs pair fair h.1 further)
+
+  -- a live prover is in the list of the live ones
+
+  in-also : (q p : ℕ) (c : Claim) (o : Option Claim) (xs : List (ℕ × Claim)) → IsIn p c xs → IsIn p c (also q o xs)
+  in-also q p c (Some d) xs i = inr i
+  in-also q p c None xs i = i
+
+  in-choice : (q p : ℕ) (c : Claim) (s : Option Settled) (xs : List (ℕ × Claim)) (b : Bool) → IsIn p c xs → IsIn p c (if b then xs else also q (claim_in s) xs)
+  in-choice q p c s xs true i = i
+  in-choice q p c s xs false i = in-also q p c (claim_in s) xs i
+
+  live-in : (ds : List Bisection) (q k : ℕ) (c : Claim) (ss : List (Option Settled)) → slice_get ss k ≡ Some (Some (Given (answer.Claim c))) → is_out_in ds (q + k) ≡ false → IsIn (q + k) c (live_from ds q ss)
+  live-in ds q k c [] e stays = absurd (cc)
+  live-in ds q zero c (s ∷ ss) e stays =
+      let same : s ≡ Some (Given (answer.Claim c)) = cc in
+      let at : q + 0 ≡ q = omega arith in
+      let here : is_out_in ds q ≡ false = rw at at stays in
+      rw (at, here, same) (inl refl)
+  live-in ds q (suc k) c (s ∷ ss) e stays =
+      let at : q + suc k ≡ q + 1 + k = omega arith in
+      let there : is_out_in ds (q + 1 + k) ≡ false = rw at at stays in
+      rw at (in-choice q (q + 1 + k) c s (live_from ds (q + 1) ss) (is_out_in ds q) (live-in ds (q + 1) k c ss e there))
+
+  -- without a collision of the claims, live ones of one root are the same
+
+  first-none : (a b : Option (List ℕ × List ℕ)) → first_of a b ≡ None → (a ≡ None) × (b ≡ None)
+  first-none (Some pair) b e = absurd (cc)
+  first-none None b e = (refl, e)
+
+  both-none : (a b : Option (List ℕ × List ℕ)) → a ≡ None → b ≡ None → first_of a b ≡ None
+  both-none a b ea eb = rw ea eb
+
+  meets-none : (r : Ruling) (x : Claim) (p : ℕ) (c : Claim) (ys : List (ℕ × Claim)) → collision_with r x ys ≡ None → IsIn p c ys → r.claim_collision x c ≡ None
+  meets-none r x p c [] e i = absurd i
+  meets-none r x p c (y ∷ ys) e (inl same) = let at : y.1 ≡ c = ap (λ (z : ℕ × Claim). z.1) same in rw at at (first-none (r.claim_collision x y.1) (collision_with r x ys) e).0
+  meets-none r x p c (y ∷ ys) e (inr i) = meets-none r x p c ys (first-none (r.claim_collision x y.1) (collision_with r x ys) e).1 i
+
+  -- fewer live ones have no more collisions
+
+  meets-sub-by : (r : Ruling) (x : Claim) (p : ℕ) (o : Option Claim) (xs ys : List (ℕ × Claim)) (b : Bool) → collision_with r x (also p o xs) ≡ None → (collision_with r x xs ≡ None → collision_with r x ys ≡ None) → collision_with r x (if b then ys else also p o ys) ≡ None
+  meets-sub-by r x p (Some c) xs ys true e h = h (first-none (r.claim_collision x c) (collision_with r x xs) e).1
+  meets-sub-by r x p None xs ys true e h = h e
+  meets-sub-by r x p (Some c) xs ys false e h = let n : (_ ≡ None) × (_ ≡ None) = first-none (r.claim_collision x c) (collision_with r x xs) e in both-none _ _ n.0 (h n.1)
+  meets-sub-by r x p None xs ys false e h = h e
+
+  collide-sub-by : (r : Ruling) (p : ℕ) (o : Option Claim) (xs ys : List (ℕ × Claim)) (b : Bool) → claims_collision r (also p o xs) ≡ None → ((x : Claim) → collision_with r x xs ≡ None → collision_with r x ys ≡ None) → (claims_collision r xs ≡ None → claims_collision r ys ≡ None) →
+      claims_collision r (if b then ys else also p o ys) ≡ None
+  collide-sub-by r p (Some c) xs ys true e m h = h (first-none (collision_with r c xs) (claims_collision r xs) e).1
+  collide-sub-by r p None xs ys true e m h = h e
+  collide-sub-by r p (Some c) xs ys false e m h = let n : (_ ≡ None) × (_ ≡ None) = first-none (collision_with r c xs) (claims_collision r xs) e in both-none _ _ (m c n.0) (h n.1)
+  collide-sub-by r p None xs ys false e m h = h e
+
+  meets-sub : (r : Ruling) (x : Claim) (ds : List Bisection) (p : ℕ) (ss : List (Option Settled)) → collision_with r x (live_from [] p ss) ≡ None → collision_with r x (live_from ds p ss) ≡ None
+  meets-sub r x ds p [] e = refl
+  meets-sub r x ds p (s ∷ ss) e = meets-sub-by r x p (claim_in s) (live_from [] (p + 1) ss) (live_from ds (p + 1) ss) (is_out_in ds p) e (λ further. meets-sub r x ds (p + 1) ss further)
+
+  collide-sub : (r : Ruling) (ds : List Bisection) (p : ℕ) (ss : List (Option Settled)) → claims_collision r (live_from [] p ss) ≡ None → claims_collision r (live_from ds p ss) ≡ None
+  collide-sub r ds p [] e = refl
+  collide-sub r ds p (s ∷ ss) e =
+      collide-sub-by r p (claim_in s) (live_from [] (p + 1) ss) (live_from ds (p + 1) ss) (is_out_in ds p) e
+      (λ x h. meets-sub r x ds (p + 1) ss h) (λ further. collide-sub r ds (p + 1) ss further)
+
+  -- without a pair, live ones have one root
+
+  eqb-is : (m n : ℕ) → (m == n) ≡ true → m ≡ n
+  eqb-is m n e = grind (arith, nat_tests)
+
+  passed-none : (x : ℕ × Claim) (t : Taken) → passed_over x t ≡ None → t ≡ None
+  passed-none x None e = refl
+  passed-none x (Some t) e = absurd (cc)
+
+  other-choice : (r : Ruling) (root : Digest32) (p : ℕ) (c : Claim) (x : ℕ × Claim) (xs : List (ℕ × Claim)) (b : Bool) → (same_digest (r.root_of x.1) root) ≡ b → (if b then passed_over x (take_other r root xs) else Some (x, xs)) ≡ None →
+      (x ≡ (p, c)) ⊎ IsIn p c xs → (take_other r root xs ≡ None → IsIn p c xs → r.root_of c ≡ root) → r.root_of c ≡ root
+  other-choice r root p c x xs true eb e (inl same) rest = let at : x.1 ≡ c = ap (λ (z : ℕ × Claim). z.1) same in rw at at (same-is (r.root_of x.1) root eb)
+  other-choice r root p c x xs true eb e (inr i) rest = rest (passed-none x (take_other r root xs) e) i
+  other-choice r root p c x xs false eb e i rest = absurd (cc)
+
+  other-none : (r : Ruling) (root : Digest32) (p : ℕ) (c : Claim) (xs : List (ℕ × Claim)) → take_other r root xs ≡ None → IsIn p c xs → r.root_of c ≡ root
+  other-none r root p c [] e i = absurd i
+  other-none r root p c (x ∷ xs) e i = other-choice r root p c x xs (same_digest (r.root_of x.1) root) refl e i (λ further j. other-none r root p c xs further j)
+
+  no-pairs-by : (r : Ruling) (n : ℕ) (x : ℕ × Claim) (xs : List (ℕ × Claim)) (t : Taken) →
+      (let ps : List ((ℕ × Claim) × (ℕ × Claim)) = elim t [ None ↦ pairs_of r n xs | Some u ↦ (x, u.0) ∷ pairs_of r n u.1 ] in ps ≡ []) → t ≡ None
+  no-pairs-by r n x xs None e = refl
+  no-pairs-by r n x xs (Some u) e = absurd (cc)
+
+  no-pairs : (r : Ruling) (n : ℕ) (x : ℕ × Claim) (xs : List (ℕ × Claim)) → 0 < n → pairs_of r n (x ∷ xs) ≡ [] → take_other r (r.root_of x.1) xs ≡ None
+  no-pairs r zero x xs some e = absurd (omega arith)
+  no-pairs r (suc n) x xs some e = no-pairs-by r n x xs (take_other r (r.root_of x.1) xs) e
+
+  fit-at : (r : Ruling) (ss : List (Option Settled)) (k : ℕ) (c : Claim) → FitClaims r ss → slice_get ss k ≡ Some (Some (Given (answer.Claim c))) → r.is_sound c ≡ true
+  fit-at r [] k c f e = absurd (cc)
+  fit-at r (s ∷ ss) zero c f e = let same : s ≡ Some (Given (answer.Claim c)) = cc in rw same at f.0
+  fit-at r (s ∷ ss) (suc k) c f e = fit-at r ss k c f.1 e
+
+  -- the lowest live one has the true claim
+
+  lowest-right : (rules : Rules) (t : Truth) (r : Record) (p : ℕ) (xs : List (ℕ × Claim)) → IsFair rules.play.ruling → 0 < rules.provers → FitClaims rules.play.ruling r.claims → AllClaim r.claims xs →
+      rules.play.ruling.is_sound t.claim ≡ true → IsIn p t.claim xs → claims_collision rules.play.ruling xs ≡ None → pairs_of rules.play.ruling rules.provers xs ≡ [] → IsRightVerdict rules t r (lowest xs)
+  lowest-right rules t r p [] fair some fit h sound i none over = absurd i
+  lowest-right rules t r p (x ∷ xs) fair some fit h sound i none over =
+      let c : x.1 ≡ t.claim = elim i [
+        | inl same ↦ ap (λ (z : ℕ × Claim). z.1) same
+        | inr further ↦
+            fair.claims_collide x.1 t.claim (fit-at rules.play.ruling r.claims (x.0 - 1) x.1 fit h.0.is) sound
+            (sym (other-none rules.play.ruling (rules.play.ruling.root_of x.1) p t.claim xs (no-pairs rules.play.ruling rules.provers x xs some over) further))
+            (meets-none rules.play.ruling x.1 p t.claim xs (first-none (collision_with rules.play.ruling x.1 xs) (claims_collision rules.play.ruling xs) none).0 further)
+      ] in
+      rw c at h.0.is
+
+  -- a complete match without a collision has no pair left
+
+  both : (a b : Bool) → (a && b) ≡ true → (a ≡ true) × (b ≡ true)
+  both true b e = (refl, e)
+  both false b e = absurd (cc)
+
+  out-closed : (c : Option Close) → is_some c ≡ true → collided c ≡ None → put_out c ≡ true
+  out-closed (Some (Out a b)) e n = refl
+  out-closed (Some (Collision s u)) e n = absurd (cc)
+  out-closed None e n = absurd (cc)
+
+  all-out-by : (ds : List Bisection) → all_closed ds ≡ true → disputes_collision ds ≡ None → all_out ds ≡ true
+  all-out-by [] e n = refl
+  all-out-by (d ∷ ds) e n =
+      let two : (is_closed d ≡ true) × (all_closed ds ≡ true) = both (is_closed d) (all_closed ds) e in
+      let none : (collided d.close ≡ None) × (disputes_collision ds ≡ None) = first-none (collided d.close) (disputes_collision ds) n in
+      rw (out-closed d.close two.0 none.0, all-out-by ds two.1 none.1) refl
+
+  new-none : (rules : Rules) (g : ℕ) (n : ℕ) (ps : List ((ℕ × Claim) × (ℕ × Claim))) → length (disputes_of rules g n ps) ≡ 0 → ps ≡ []
+  new-none rules g n [] e = refl
+  new-none rules g n (p ∷ ps) e = absurd (omega arith)
+
+  no-pair-left : (rules : Rules) (r : Record) → is_due rules r ≡ true → opened rules r ≡ r → pairs rules r ≡ []
+  no-pair-left rules r due rests =
+      let e : record r { disputes = r.disputes ++ disputes_of rules (last_stage r.disputes + 1) (length r.disputes + 1) (pairs rules r) } ≡ r = sym (opened-due rules r due) ∙ rests in
+      let l : length (r.disputes ++ disputes_of rules (last_stage r.disputes + 1) (length r.disputes + 1) (pairs rules r)) ≡ length r.disputes = ap (λ (u : Record). length u.disputes) e in
+      new-none rules (last_stage r.disputes + 1) (length r.disputes + 1) (pairs rules r) (omega (arith, l, length-append r.disputes (disputes_of rules (last_stage r.disputes + 1) (length r.disputes + 1) (pairs rules r))))
+
+  rests-after : (rules : Rules) (es : List (ℕ × Settled)) (r : Record) → opened rules r ≡ r → opened rules (after rules es r) ≡ after rules es r
+  unfolding settle
+  rests-after rules [] r e = e
+  rests-after rules (x ∷ es) r e = rests-after rules es (settle rules x.0 x.1 r) (opened-twice rules (put rules x.0 x.1 r))
+
+  rests-nothing : (rules : Rules) → 0 < rules.provers → opened rules (nothing_settled rules) ≡ nothing_settled rules
+  rests-nothing rules some = let i : IsPlayed rules (nothing_settled rules) = (played-nothing laws) rules some in i.rests
+
+  verdict-by : (rules : Rules) (t : Truth) (r : Record) (p : ℕ) (a b : Option (List ℕ × List ℕ)) → 0 < rules.provers → IsFair rules.play.ruling → IsRun rules t → 0 < p → IsKept rules t p r → AllMet rules.play.ruling r.disputes →
+      opened rules r ≡ r → is_complete r ≡ true → HasTrueClaim t r.claims p → is_out_in r.disputes p ≡ false →
+      claims_collision rules.play.ruling (live_from [] 1 r.claims) ≡ a → disputes_collision r.disputes ≡ b → IsRightVerdict rules t r (or_lowest (first_of a b) (live r))
+  verdict-by rules t r p (Some pair) b some fair run numbered k m rests c claim stays ea eb =
+      claims-collision rules r (live_from [] 1 r.claims) pair fair ((live-right laws) r.claims [] 0 r.claims (λ i. ap (slice_get r.claims) (omega arith))) ea
+  verdict-by rules t r p None (Some pair) some fair run numbered k m rests c claim stays ea eb =
+      dispute-collision rules r r.disputes pair eb m (λ a i. i)
+  verdict-by rules t r p None None some fair run numbered k m rests c claim stays ea eb =
+      let two : (all_there r.claims ≡ true) × (all_closed r.disputes ≡ true) = both (all_there r.claims) (all_closed r.disputes) c in
+      let outs : all_out r.disputes ≡ true = all-out-by r.disputes two.1 eb in
+      let due : is_due rules r ≡ true = rw (two.0, outs, ea) refl in
+      let at : 1 + (p - 1) ≡ p = omega arith in
+      let i : IsIn p t.claim (live r) = rw at at (live-in r.disputes 1 (p - 1) t.claim r.claims claim (rw at stays)) in
+      lowest-right rules t r p (live r) fair some k.fit ((live-right laws) r.claims r.disputes 0 r.claims (λ j. ap (slice_get r.claims) (omega arith))) run.sound i
+      (collide-sub rules.play.ruling r.disputes 1 r.claims ea) (no-pair-left rules r due rests)
+
+  pub verdict_is_right : VerdictIsRight
+  verdict_is_right rules t es p playable fair run numbered fit true_ c =
+      let some : 0 < rules.provers = playable.some in
+      let more : rules.play.fan ≡ 2 = playable.halves in
+      let long : 0 < rules.bound = playable.steps in
+      let s : Stays t p (after rules es (nothing_settled rules)) = (truthful_stay laws) rules t es p playable fair run numbered fit true_ in
+      verdict-by rules t (after rules es (nothing_settled rules)) p _ _ some fair run numbered ((kept-start laws) rules t p es more long fair run fit)
+      (met-after rules es (nothing_settled rules) fair tt) (rests-after rules es (nothing_settled rules) (rests-nothing rules some)) c ((claim-there laws) t p (after rules es (nothing_settled rules)) c true_.claim) s.live refl refl

@@ -1,0 +1,5 @@
+use Rattle.tournament.proofs.BracketLemmas as lemmas
+use Rattle.tournament.proofs.laws.one_record_of_a_case.Goals as goal
+
+pub returns : goal.returns
+returns c = lemmas.record_of_case c.bisection_laws.ensures

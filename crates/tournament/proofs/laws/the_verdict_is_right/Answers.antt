@@ -1,0 +1,5 @@
+use Rattle.tournament.proofs.VerdictLemmas as lemmas
+use Rattle.tournament.proofs.laws.the_verdict_is_right.Goals as goal
+
+pub returns : goal.returns
+returns c = lemmas.verdict_is_right c.bisection_laws.ensures

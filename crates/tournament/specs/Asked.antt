@@ -1,0 +1,52 @@
+-- To believe: what a match asks under a number. It is one question at most.
+use Rattle.std.specs.Prelude.{◌≡◌, ◌≢◌, ℕ, zero, suc, ◌-◌, ◌<◌, ◌||◌, ◌==◌, List, [], ◌∷◌, Option, Some, None, if◌then◌else◌}
+use Rattle.rd_base.specs.declared.answer.Qid.{Qid}
+use Rattle.bisect_game.specs.declared.interval.Interval.{Interval}
+use Rattle.bisect_game.specs.declared.interval.Round.{Round}
+use Rattle.bisect_game.specs.declared.question.Kind.{Kind}
+use Rattle.bisect_game.specs.declared.question.Kind.TheVariants as kind
+use Rattle.bisect_game.specs.declared.question.Question.{Question}
+use Rattle.bisect_game.specs.Says.{Says}
+use Rattle.bisect_game.specs.Rules.{Rules, ArePlayable}
+use Rattle.bisect_game.specs.Bisection.{Bisection, kind_over}
+use Rattle.tournament.specs.Bracket.{Record, open_question, bracket}
+use Rattle.tournament.specs.Moves.{State, begun, passes_of}
+use Rattle.tournament.specs.Journals.{turn_on, turns, Legal, answers_of}
+
+-- what the round after so many is asked over: one that went on, or the last
+abbrev pub kind_in : ℕ → Interval → List Round → ℕ → Option Kind
+kind_in fan place [] zero = Some (kind_over fan place.lo place.hi)
+kind_in fan place [] (suc k) = None
+kind_in fan place (x ∷ past) zero = Some (kind_over fan x.lo x.hi)
+kind_in fan place (x ∷ past) (suc k) = kind_in fan place past k
+
+abbrev pub kind_of : ℕ → Bisection → ℕ → Option Kind
+kind_of fan d round = if round == 0 then None else kind_in fan d.place d.past (round - 1)
+
+abbrev pub asked_in : ℕ → ℕ → Qid → List Bisection → Option Kind
+asked_in fan p qid [] = None
+asked_in fan p qid (d ∷ ds) =
+    if d.number == qid.dispute then (if (d.first == p) || (d.second == p) then kind_of fan d qid.round else None)
+    else asked_in fan p qid ds
+
+-- what the match of a record asks a prover under a number
+abbrev pub asked : Rules → Record → ℕ → Qid → Option Kind
+asked rules t p qid =
+    if qid.dispute == 0 then (if qid.round == 0 then Some kind.Claim else None)
+    else asked_in rules.play.fan p qid t.disputes
+
+-- an open question is the one that the case's own match asks under its number
+abbrev pub AskedByTheCase : Type 0
+AskedByTheCase =
+    (rules : Rules) (says : Says) (ps : List ℕ) (p : ℕ) (q : Question) → ArePlayable rules →
+    Legal rules says ps (begun rules) → 0 < p → open_question rules (turns rules says ps (begun rules)).record_ p ≡ Some q →
+    asked rules (bracket rules (answers_of rules says)) p q.qid ≡ Some q.kind
+
+-- an open question and its passes stay while another prover moves
+abbrev pub QuestionsStay : Type 0
+QuestionsStay =
+    (rules : Rules) (says : Says) (ps : List ℕ) (p other : ℕ) (q : Question) →
+    Legal rules says ps (begun rules) → 0 < p → 0 < other → other ≢ p →
+    let st : State = turns rules says ps (begun rules) in
+    let next : State = turn_on rules says st other (open_question rules st.record_ other) in
+    open_question rules st.record_ p ≡ Some q → (open_question rules next.record_ p ≡ Some q) × (passes_of next p ≡ passes_of st p)

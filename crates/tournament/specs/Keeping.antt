@@ -1,0 +1,102 @@
+-- Derived: a match as it is kept in memory, with room for all of it.
+use Rattle.std.specs.Prelude.{◌≡◌, ℕ, zero, suc, ◌+◌, ◌^◌, ◌<◌, ◌≤◌, Bool, List, [], ◌∷◌, ◌++◌, length, Option, Some, None, if◌then◌else◌}
+use Rattle.rd_base.specs.declared.digest.Digest32.{Digest32}
+use Rattle.rd_base.specs.declared.claim.Claim.{Claim}
+use Rattle.bisect_game.specs.declared.settled.Settled.{Settled}
+use Rattle.bisect_game.specs.declared.side.Side.{Side}
+use Rattle.bisect_game.specs.declared.side.Side.TheVariants.{First, Second}
+use Rattle.bisect_game.specs.Ruling.{Ruling, same_digest}
+use Rattle.bisect_game.specs.Rules.{Rules}
+use Rattle.bisect_game.specs.Bisection.{Bisection}
+use Rattle.tournament.specs.declared.setup.Setup.{Setup}
+use Rattle.tournament.specs.Bracket.{Record, side_of, asks_first, asks_second, last_stage, nothing_settled}
+use Rattle.tournament.specs.Settling.{after}
+use Rattle.tournament.specs.Posting.{rules_of}
+
+-- the side of a prover that has an open question
+abbrev pub asks_of : Side → ℕ → Bisection → Bool
+asks_of First p d = asks_first p d
+asks_of Second p d = asks_second p d
+
+-- where a prover is asked, and on which side
+abbrev pub asked_from : ℕ → ℕ → List Bisection → Option (ℕ × Side)
+asked_from i p [] = None
+asked_from i p (d ∷ ds) = if asks_first p d then Some (i, First) else if asks_second p d then Some (i, Second) else asked_from (i + 1) p ds
+
+-- the live provers as they are paired: number and root
+abbrev pub sides : Ruling → List (ℕ × Claim) → List (ℕ × Digest32)
+sides r [] = []
+sides r (x ∷ xs) = side_of r x ∷ sides r xs
+
+-- the first side of another root, and the others
+abbrev pub Taking : Type 0
+Taking = Option ((ℕ × Digest32) × List (ℕ × Digest32))
+
+abbrev pub going_by : ℕ × Digest32 → Taking → Taking
+going_by x None = None
+going_by x (Some t) = Some (t.0, x ∷ t.1)
+
+abbrev pub take_side : Digest32 → List (ℕ × Digest32) → Taking
+take_side root [] = None
+take_side root (x ∷ xs) = if same_digest x.1 root then going_by x (take_side root xs) else Some (x, xs)
+
+abbrev pub side_pairs : ℕ → List (ℕ × Digest32) → List ((ℕ × Digest32) × (ℕ × Digest32))
+side_pairs zero xs = []
+side_pairs (suc n) [] = []
+side_pairs (suc n) (x ∷ xs) = elim (take_side x.1 xs) [ None ↦ side_pairs n xs | Some t ↦ (x, t.0) ∷ side_pairs n t.1 ]
+
+-- where the first side of another root stands
+abbrev pub other_from : ℕ → Digest32 → List (ℕ × Digest32) → Option ℕ
+other_from i root [] = None
+other_from i root (x ∷ xs) = if same_digest x.1 root then other_from (i + 1) root xs else Some i
+
+abbrev pub dispute_at : Setup → ℕ → ℕ → ℕ × Digest32 → ℕ × Digest32 → Bisection
+dispute_at t stage number x y =
+    record {
+      stage = stage;
+      number = number;
+      first = x.0;
+      second = y.0;
+      place = record { lo = 0; hi = t.bound; agreed = t.start; first = x.1; second = y.1 };
+      past = [];
+      by_first = None;
+      by_second = None;
+      close = None;
+    }
+
+abbrev pub disputes_over : Setup → ℕ → ℕ → List ((ℕ × Digest32) × (ℕ × Digest32)) → List Bisection
+disputes_over t g k [] = []
+disputes_over t g k (p ∷ ps) = dispute_at t g k p.0 p.1 ∷ disputes_over t g (k + 1) ps
+
+abbrev pub and_also : Record → List Bisection → Record
+and_also r ds = record r { disputes = r.disputes ++ ds }
+
+-- a record and the numbers that it is played by
+pub record Sheet : Type 0 where
+  pub table : Setup
+  pub record_ : Record
+
+abbrev pub AllRooms : ℕ → List ℕ → Type 0
+AllRooms bound [] = Unit {0}
+AllRooms bound (r ∷ rs) = (r ≡ bound) × AllRooms bound rs
+
+-- a sheet has room for each dispute that can come
+pub record IsSheet (t : Setup) (r : Record) (rooms : List ℕ) (free : ℕ) : Type 0 where
+  pub some : 0 < t.provers
+  pub few : t.provers ≤ 2 ^ 16
+  pub steps : 0 < t.bound
+  pub short : t.bound < 2 ^ 32
+  pub claims_ : length r.claims ≡ t.provers
+  pub stages : last_stage r.disputes ≤ length r.disputes
+  pub rooms_ : AllRooms t.bound rooms
+  pub room : length r.disputes + free + 1 ≡ t.provers
+
+-- some settled answers, in some order, come to the record
+abbrev pub IsReached : Rules → Record → Type 0
+IsReached rules t = (es : List (ℕ × Settled)) × (after rules es (nothing_settled rules) ≡ t)
+
+pub record IsMatch (r : Ruling) (s : Sheet) (passed : List ℕ) (room : ℕ) : Type 0 where
+  pub some : 0 < s.table.provers
+  pub counts : length passed ≡ s.table.provers
+  pub reached : IsReached (rules_of r s.table) s.record_
+  pub room_ : s.table.provers ≤ room

@@ -1,0 +1,20 @@
+-- To believe: how many moves a match has at most.
+use Rattle.std.specs.Prelude.{ℕ, ◌+◌, ◌-◌, ◌*◌, ◌^◌, ◌<◌, ◌≤◌, List, length}
+use Rattle.bisect_game.specs.Says.{Says}
+use Rattle.bisect_game.specs.Rules.{Rules, ArePlayable}
+use Rattle.tournament.specs.Moves.{begun}
+use Rattle.tournament.specs.Journals.{Legal}
+
+-- the most bisection rounds of a dispute
+pub record IsMost (fan bound k : ℕ) : Type 0 where
+  pub few : fan ^ k < fan * bound
+  pub most : (j : ℕ) → fan ^ j < fan * bound → j ≤ k
+
+-- a question takes a move for each pass and one more, and there are a claim of each prover and two questions a round
+abbrev pub most_entries : Rules → ℕ → ℕ
+most_entries rules k = (rules.patience + 1) * (rules.provers + 2 * (rules.provers - 1) * (k + 1))
+
+abbrev pub SpareIsEnough : Type 0
+SpareIsEnough =
+    (rules : Rules) (says : Says) (ps : List ℕ) (k : ℕ) → ArePlayable rules → IsMost rules.play.fan rules.bound k →
+    Legal rules says ps (begun rules) → length ps ≤ most_entries rules k

@@ -1,0 +1,10 @@
+pub mod Bracket
+pub mod Settling
+pub mod Moves
+pub mod Posting
+pub mod Journals
+pub mod Theorem
+pub mod Asked
+pub mod Length
+pub mod Truthful
+pub mod Keeping

@@ -1,0 +1,54 @@
+-- To believe: a post. The tests in their order, the state after it, and the reply to it.
+use Rattle.std.specs.Prelude.{ℕ, Bool, ◌&&◌, ◌==◌, Option, Some, None, is_some, if◌then◌else◌}
+use Rattle.rd_base.specs.declared.answer.Answer.{Answer}
+use Rattle.rd_base.specs.declared.answer.Qid.{Qid}
+use Rattle.bisect_game.specs.declared.question.Question.{Question}
+use Rattle.bisect_game.specs.declared.settled.Settled.{Settled}
+use Rattle.bisect_game.specs.declared.settled.Settled.TheVariants as settled
+use Rattle.bisect_game.specs.Ruling.{Ruling}
+use Rattle.bisect_game.specs.Rules.{Rules}
+use Rattle.tournament.specs.declared.setup.Setup.{Setup}
+use Rattle.tournament.specs.declared.posting.Move.{Move}
+use Rattle.tournament.specs.declared.posting.Move.TheVariants.{Pass, Give}
+use Rattle.tournament.specs.declared.posting.Reply.{Reply}
+use Rattle.tournament.specs.declared.posting.Reply.TheVariants as reply
+use Rattle.tournament.specs.Bracket.{open_question}
+use Rattle.tournament.specs.Moves.{State, passes_of, settled_by, moved}
+
+-- what a match is played by: a judge, halves, and the numbers
+abbrev pub rules_of : Ruling → Setup → Rules
+rules_of r t = record { play = record { ruling = r; fan = 2 }; provers = t.provers; bound = t.bound; patience = t.patience; start = t.start }
+
+abbrev pub answer_of : Move → Option Answer
+answer_of Pass = None
+answer_of (Give a) = Some a
+
+abbrev pub same_qid : Qid → Qid → Bool
+same_qid a b = (a.dispute == b.dispute) && (a.round == b.round)
+
+abbrev pub posted_on : Rules → State → ℕ → Qid → Option Answer → Option Question → State
+posted_on rules st p qid m None = st
+posted_on rules st p qid m (Some q) = if same_qid q.qid qid then moved rules st p (settled_by rules q (passes_of st p) m) else st
+
+-- the state after a post: a stale one changes nothing
+abbrev pub posted : Rules → State → ℕ → Qid → Option Answer → State
+posted rules st p qid m = posted_on rules st p qid m (open_question rules st.record_ p)
+
+abbrev pub reply_by : Option Settled → Reply
+reply_by None = reply.Taken
+reply_by (Some (settled.Given a)) = reply.Taken
+reply_by (Some (settled.Faulty a)) = reply.Faulty
+reply_by (Some settled.Spent) = reply.Spent
+
+abbrev pub reply_on : Rules → State → ℕ → Qid → Option Answer → Option Question → Reply
+reply_on rules st p qid m None = reply.Stale None
+reply_on rules st p qid m (Some q) = if same_qid q.qid qid then reply_by (settled_by rules q (passes_of st p) m) else reply.Stale (Some q.qid)
+
+-- stale where the question isn't the prover's open one, which the reply carries; spent at the pass after the patience;
+-- faulty at an answer that does not fit; else taken
+abbrev pub reply_to : Rules → State → ℕ → Qid → Option Answer → Reply
+reply_to rules st p qid m = reply_on rules st p qid m (open_question rules st.record_ p)
+
+-- the passes on the open question; none without one
+abbrev pub passes_on : Rules → State → ℕ → ℕ
+passes_on rules st p = if is_some (open_question rules st.record_ p) then passes_of st p else 0

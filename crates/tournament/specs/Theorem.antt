@@ -1,0 +1,99 @@
+-- To believe: the dispute theorem. Truthful provers stay, and the verdict is right.
+use Rattle.std.specs.Prelude.{◌≡◌, ℕ, ◌-◌, ◌<◌, false, true, ◌⊎◌, List, [], ◌∷◌, slice_get, Option, Some, None}
+use Rattle.rd_base.specs.declared.answer.Answer.{Answer}
+use Rattle.rd_base.specs.declared.answer.Answer.TheVariants as answer
+use Rattle.bisect_game.specs.declared.question.Question.{Question}
+use Rattle.bisect_game.specs.declared.settled.Settled.{Settled}
+use Rattle.bisect_game.specs.declared.settled.Settled.TheVariants.{Given}
+use Rattle.bisect_game.specs.declared.side.Side.TheVariants.{First, Second}
+use Rattle.bisect_game.specs.Ruling.{Ruling, IsFair, IsCollision}
+use Rattle.bisect_game.specs.Rules.{Rules, ArePlayable}
+use Rattle.bisect_game.specs.Bisection.{Bisection}
+use Rattle.bisect_game.specs.Truth.{Truth, IsRun, IsFit, IsTruthful, IsRight}
+use Rattle.tournament.specs.declared.verdict.Verdict.{Verdict}
+use Rattle.tournament.specs.declared.verdict.Verdict.TheVariants.{Accept, NoneLeft, Collision}
+use Rattle.tournament.specs.Bracket.{Record, open_question, settle, nothing_settled, is_out_in, is_complete, verdict_of}
+use Rattle.tournament.specs.Settling.{after}
+
+-- settled answers, in any order and of any content; what was taken as given fits what was asked
+abbrev pub AllFit : Rules → List (ℕ × Settled) → Record → Type 0
+AllFit rules [] r = Unit {0}
+AllFit rules (e ∷ es) r =
+    ((q : Question) → open_question rules r e.0 ≡ Some q → IsFit rules.play.ruling q.kind e.1) × AllFit rules es (settle rules e.0 e.1 r)
+
+-- THE PREMISE: the settled answers of a prover so far are all given and true
+
+-- its claim is the true one
+abbrev pub HasTrueClaim : Truth → List (Option Settled) → ℕ → Type 0
+HasTrueClaim t claims p = slice_get claims (p - 1) ≡ Some (Some (Given (answer.Claim t.claim)))
+
+-- or it is not settled yet
+abbrev pub HasTrueClaimSoFar : Truth → List (Option Settled) → ℕ → Type 0
+HasTrueClaimSoFar t claims p = (slice_get claims (p - 1) ≡ Some None) ⊎ HasTrueClaim t claims p
+
+pub record TrueIn (rules : Rules) (t : Truth) (p : ℕ) (d : Bisection) : Type 0 where
+  pub first : d.first ≡ p → IsTruthful t rules.play.fan First d
+  pub second : d.second ≡ p → IsTruthful t rules.play.fan Second d
+
+abbrev pub AllTrueIn : Rules → Truth → ℕ → List Bisection → Type 0
+AllTrueIn rules t p [] = Unit {0}
+AllTrueIn rules t p (d ∷ ds) = TrueIn rules t p d × AllTrueIn rules t p ds
+
+pub record AreTrue (rules : Rules) (t : Truth) (p : ℕ) (r : Record) : Type 0 where
+  pub claim : HasTrueClaimSoFar t r.claims p
+  pub disputes : AllTrueIn rules t p r.disputes
+
+-- TRUTHFUL PROVERS STAY: no dispute has put it out, and in each of its disputes the agreed root and its own are the run's
+
+pub record RightIn (t : Truth) (p : ℕ) (d : Bisection) : Type 0 where
+  pub first : d.first ≡ p → IsRight t First d
+  pub second : d.second ≡ p → IsRight t Second d
+
+abbrev pub AllRightIn : Truth → ℕ → List Bisection → Type 0
+AllRightIn t p [] = Unit {0}
+AllRightIn t p (d ∷ ds) = RightIn t p d × AllRightIn t p ds
+
+pub record Stays (t : Truth) (p : ℕ) (r : Record) : Type 0 where
+  pub live : is_out_in r.disputes p ≡ false
+  pub right : AllRightIn t p r.disputes
+
+abbrev pub TruthfulStay : Type 0
+TruthfulStay =
+    (rules : Rules) (t : Truth) (es : List (ℕ × Settled)) (p : ℕ) → ArePlayable rules → IsFair rules.play.ruling → IsRun rules t → 0 < p →
+    AllFit rules es (nothing_settled rules) → AreTrue rules t p (after rules es (nothing_settled rules)) → Stays t p (after rules es (nothing_settled rules))
+
+-- THE VERDICT IS RIGHT: the true claim is accepted, or two strings collide
+
+-- the strings that an answer opens
+abbrev pub opened_by : Ruling → Answer → List (List ℕ)
+opened_by r (answer.Claim c) = r.opened_by_claim c
+opened_by r (answer.Root x) = []
+opened_by r (answer.Step p) = r.opened_by_step p
+
+-- an answer of the record: a claim, or one of the last round of a dispute
+abbrev pub IsInClaims : Answer → List (Option Settled) → Type 0
+IsInClaims a [] = ⊥
+IsInClaims a (s ∷ ss) = (s ≡ Some (Given a)) ⊎ IsInClaims a ss
+
+abbrev pub IsInDisputes : Answer → List Bisection → Type 0
+IsInDisputes a [] = ⊥
+IsInDisputes a (d ∷ ds) = (d.by_first ≡ Some (Given a)) ⊎ ((d.by_second ≡ Some (Given a)) ⊎ IsInDisputes a ds)
+
+-- two different strings of one digest, each opened by an answer of the record
+pub record IsCollisionIn (rules : Rules) (r : Record) (pair : List ℕ × List ℕ) : Type 0 where
+  pub first : Answer
+  pub second : Answer
+  pub first_in : IsInClaims first r.claims ⊎ IsInDisputes first r.disputes
+  pub second_in : IsInClaims second r.claims ⊎ IsInDisputes second r.disputes
+  pub collision : IsCollision rules.play.ruling (opened_by rules.play.ruling first) (opened_by rules.play.ruling second) pair
+
+abbrev pub IsRightVerdict : Rules → Truth → Record → Verdict → Type 0
+IsRightVerdict rules t r (Accept n) = HasTrueClaim t r.claims n
+IsRightVerdict rules t r (Collision s u) = IsCollisionIn rules r (s, u)
+IsRightVerdict rules t r NoneLeft = ⊥
+
+abbrev pub VerdictIsRight : Type 0
+VerdictIsRight =
+    (rules : Rules) (t : Truth) (es : List (ℕ × Settled)) (p : ℕ) → ArePlayable rules → IsFair rules.play.ruling → IsRun rules t → 0 < p →
+    AllFit rules es (nothing_settled rules) → AreTrue rules t p (after rules es (nothing_settled rules)) → is_complete (after rules es (nothing_settled rules)) ≡ true →
+    IsRightVerdict rules t (after rules es (nothing_settled rules)) (verdict_of rules (after rules es (nothing_settled rules)))

@@ -1,0 +1,87 @@
+ghost use Rattle.tournament.specs.Settling.{OneRecord, FewDisputes, FewRounds};
+ghost use Rattle.tournament.specs.Theorem.{TruthfulStay, VerdictIsRight};
+ghost use Rattle.tournament.specs.Journals.{OrderDoesNotMatter, RecordOfCase, NobodyAskedIsOver};
+ghost use Rattle.tournament.specs.Length.{SpareIsEnough};
+ghost use Rattle.tournament.specs.Truthful.{TruthfulProversAreSafe};
+ghost use Rattle.tournament.specs.Asked.{AskedByTheCase, QuestionsStay};
+
+use bisect_game::bisection_laws;
+
+/// Truthful provers stay: whatever is settled in whatever order, a prover whose settled answers so far are all given and
+/// true is not put out, and in each of its disputes the agreed root and its own are the run's.
+pub fn truthful_provers_stay()
+    ensures { TruthfulStay }
+{
+    bisection_laws();
+}
+
+/// The verdict is right: where such a prover is there and nothing is open, a claim is accepted that is the true one, or
+/// the verdict is two different strings of one digest that answers of the record open.
+pub fn the_verdict_is_right()
+    ensures { VerdictIsRight }
+{
+    bisection_laws();
+}
+
+/// Truthful provers are safe: of a prover that answers truly within its patience each question that the record of the case
+/// asks it, in whatever order anybody moves, the settled answers are given and true, it is not put out, and once nothing is
+/// open the verdict is right.
+pub fn truthful_provers_are_safe()
+    ensures { TruthfulProversAreSafe }
+{
+    bisection_laws();
+}
+
+/// Few rounds: m provers play at most m - 1 disputes, and a dispute has k bisection rounds with `2^k < 2N`.
+pub fn a_match_has_few_disputes_and_rounds()
+    ensures disputes { FewDisputes }
+    ensures rounds { FewRounds }
+{
+    bisection_laws();
+}
+
+/// Order does not matter: every two complete lists of the settled answers of one case come to one record, and so do every
+/// two complete legal lists of moves.
+pub fn order_does_not_matter()
+    ensures settled { OneRecord }
+    ensures moves { OrderDoesNotMatter }
+{
+    bisection_laws();
+}
+
+/// Every complete legal list of moves of a case comes to the record of the case: the bracket over what each question is
+/// settled as.
+pub fn one_record_of_a_case()
+    ensures { RecordOfCase }
+{
+    bisection_laws();
+}
+
+/// No legal list of moves is longer than the passes of all questions and an answer to each.
+pub fn spare_is_enough()
+    ensures { SpareIsEnough }
+{
+    bisection_laws();
+}
+
+/// A number names one question of a match: an open question is the one that the case's own match asks its prover under
+/// its number.
+pub fn a_number_names_one_question()
+    ensures { AskedByTheCase }
+{
+    bisection_laws();
+}
+
+/// An open question and its passes stay while another prover moves.
+pub fn open_questions_stay()
+    ensures { QuestionsStay }
+{
+    bisection_laws();
+}
+
+/// Where nobody has an open question, the match is over.
+pub fn nobody_asked_means_over()
+    ensures { NobodyAskedIsOver }
+{
+    bisection_laws();
+}

@@ -1,0 +1,27 @@
+//! A match of several provers before one judge: claims first, then stages of disputes, then the verdict.
+//!
+//! It knows no machine and no hash. The layers above may rely on this: `Match::post` is the definition of a post
+//! (`specs/Posting.antt`, over `specs/Bracket.antt`) with its reply, and takes no memory once the match was made; the
+//! dispute theorem (`laws`) holds of that definition whatever is posted in whatever order. Read `setup`, `verdict` and
+//! `posting` first, then `playing`; `record` is what a match leaves.
+#![tactic(auto)]
+
+mod laws;
+mod playing;
+mod posting;
+mod reading;
+mod record;
+mod setup;
+mod sheet;
+mod verdict;
+
+pub use laws::{
+    a_match_has_few_disputes_and_rounds, a_number_names_one_question, nobody_asked_means_over,
+    one_record_of_a_case, open_questions_stay, order_does_not_matter, spare_is_enough,
+    the_verdict_is_right, truthful_provers_are_safe, truthful_provers_stay,
+};
+pub use playing::Match;
+pub use posting::{Move, Reply, same_qid};
+pub use record::Record;
+pub use setup::Setup;
+pub use verdict::Verdict;

@@ -1,0 +1,222 @@
+ghost use Rattle.std.specs.Prelude.{◌≡◌, ◌+◌, ◌-◌, ◌<◌, ◌≤◌, ◌^◌, Some, None, IfOk, replicate, if◌then◌else◌};
+ghost use Rattle.tournament.specs.declared.setup.Setup.{Setup};
+ghost use Rattle.tournament.specs.Bracket.{open_question, is_complete, verdict_of};
+ghost use Rattle.tournament.specs.Moves.{passes_of, settled_by, moved, begun};
+ghost use Rattle.tournament.specs.Posting.{rules_of, answer_of, posted, reply_by, reply_to, passes_on};
+
+use crate::posting::{Move, Reply, judged, reply_by, same_qid};
+use crate::record::Record;
+use crate::setup::Setup;
+use crate::sheet::Sheet;
+use crate::verdict::Verdict;
+use bisect_game::{Judge, Question, Settled};
+use rd_base::{Digest32, Memory, Qid};
+use std::alloc::Global;
+use std::marker::Model;
+
+/// So many counts of passes, all 0.
+fn no_passes(alloc: Global, many: usize) -> Result<Vec<u32>, Memory>
+    ensures { IfOk result (λ v. v.items ≡ replicate many 0) }
+{
+    let mut passed = Vec::with_capacity(alloc, many)?;
+    for _ in 0..many {
+        passed.push(0)?;
+    }
+    Ok(passed)
+}
+
+/// A match before a judge. Once it was made, no call of it takes memory.
+///
+/// Contracts see the judge's names, the numbers by which it is played, and its state: the record and the passes on each
+/// open question.
+#[derive(Drop)]
+pub struct Match<J: Judge + Drop> {
+    judge: J,
+    sheet: Sheet,
+    passed: Vec<u32>,
+    live: Vec<(u32, Digest32)>,
+}
+
+impl<J: Judge + Drop> Model for Match<J> {
+    ghost use Rattle.std.specs.Prelude.{vec_capacity};
+    ghost use Rattle.tournament.specs.declared.setup.Setup.{Setup};
+    ghost use Rattle.tournament.specs.Moves.{State};
+    ghost use Rattle.tournament.specs.Keeping.{IsMatch};
+
+    ghost Value = { J.Names × Setup × State };
+
+    ghost view = { λ m. (J.names m.judge, m.sheet.table, record { record_ = m.sheet.record_; passed = m.passed.items }) };
+
+    ghost invariant = { λ m. IsMatch (J.ruling (J.names m.judge)) m.sheet m.passed.items (vec_capacity m.live) };
+}
+
+impl<J: Judge + Drop> Match<J> {
+    /// A match that begins, of so many provers (at least one), over `bound` steps (1 to 2^32 - 1) from the root `start`,
+    /// with so many passes allowed on a question. It takes the memory of the whole match.
+    pub fn new(
+        alloc: Global,
+        judge: J,
+        provers: u32,
+        bound: u64,
+        patience: u32,
+        start: Digest32,
+    ) -> Result<Match<J>, Memory>
+        requires some { 0 < provers }
+        requires few { provers ≤ 2 ^ 16 }
+        requires steps { 0 < bound }
+        requires short { bound < 2 ^ 32 }
+        ensures { let setup : Setup = record { provers = provers; bound = bound; patience = patience; start = start } in IfOk result (λ m. m ≡ (J.names judge, setup, begun (rules_of (J.ruling (J.names judge)) setup))) }
+    {
+        let setup = Setup {
+            provers,
+            bound,
+            patience,
+            start,
+        };
+        Ok(Match {
+            judge,
+            sheet: Sheet::new(alloc, setup)?,
+            passed: no_passes(alloc, provers as usize)?,
+            live: Vec::with_capacity(alloc, provers as usize)?,
+        })
+    }
+
+    /// The numbers by which it is played.
+    pub fn setup(&self) -> Setup
+        ensures { result ≡ self.now.1 }
+    {
+        self.sheet.setup()
+    }
+
+    /// Whether it is over: nothing is open.
+    pub fn is_over(&self) -> bool
+        ensures { result ≡ is_complete self.now.2.record_ }
+    {
+        self.sheet.is_over()
+    }
+
+    /// The verdict; `None` exactly where a question is open.
+    pub fn verdict(&self) -> Option<Verdict>
+        ensures { result ≡ (if is_complete self.now.2.record_ then Some (verdict_of (rules_of (J.ruling self.now.0) self.now.1) self.now.2.record_) else None) }
+    {
+        self.sheet.verdict(&self.judge)
+    }
+
+    /// The open question of a prover, from 1 to their count; `None` exactly where it has none.
+    pub fn question(&self, p: u32) -> Option<Question>
+        requires some { 0 < p }
+        requires few { p ≤ self.now.1.provers }
+        ensures { result ≡ open_question (rules_of (J.ruling self.now.0) self.now.1) self.now.2.record_ p }
+    {
+        self.sheet.question(&self.judge, p)
+    }
+
+    /// How often a prover has passed on its open question; 0 without one.
+    pub fn passes(&self, p: u32) -> u32
+        requires some { 0 < p }
+        requires few { p ≤ self.now.1.provers }
+        ensures { result ≡ passes_on (rules_of (J.ruling self.now.0) self.now.1) self.now.2 p }
+    {
+        if self.question(p).is_some() {
+            self.passed[p as usize - 1]
+        } else {
+            0
+        }
+    }
+
+    /// Counts a pass.
+    fn count_pass(&mut self, p: u32)
+        requires some { 0 < p }
+        requires few { p ≤ self.old.1.provers }
+        requires room { passes_of self.old.2 p + 1 < 2 ^ 32 }
+        ensures names { self.new.0 ≡ self.old.0 }
+        ensures setup { self.new.1 ≡ self.old.1 }
+        ensures state { self.new.2 ≡ moved (rules_of (J.ruling self.old.0) self.old.1) self.old.2 p None }
+    {
+        self.passed[p as usize - 1] += 1;
+    }
+
+    /// What a prover is asked is settled, and the next stage begins where it is due.
+    fn settle(&mut self, p: u32, settled: Settled)
+        requires some { 0 < p }
+        requires few { p ≤ self.old.1.provers }
+        ensures names { self.new.0 ≡ self.old.0 }
+        ensures setup { self.new.1 ≡ self.old.1 }
+        ensures state { self.new.2 ≡ moved (rules_of (J.ruling self.old.0) self.old.1) self.old.2 p (Some settled) }
+    {
+        self.passed[p as usize - 1] = 0;
+        let Match {
+            judge,
+            sheet,
+            live,
+            ..
+        } = self;
+        sheet.put(judge, p, settled);
+        sheet.open_due(judge, live);
+    }
+
+    /// A move on the open question.
+    fn take(&mut self, p: u32, question: Question, turn: Move) -> Reply
+        requires some { 0 < p }
+        requires few { p ≤ self.old.1.provers }
+        ensures names { self.new.0 ≡ self.old.0 }
+        ensures setup { self.new.1 ≡ self.old.1 }
+        ensures state { let rules = rules_of (J.ruling self.old.0) self.old.1 in self.new.2 ≡ moved rules self.old.2 p (settled_by rules question (passes_of self.old.2 p) (answer_of turn)) }
+        ensures reply { let rules = rules_of (J.ruling self.old.0) self.old.1 in result ≡ reply_by (settled_by rules question (passes_of self.old.2 p) (answer_of turn)) }
+    {
+        match turn {
+            Move::Give(answer) => {
+                let settled = judged(&self.judge, question.kind, answer);
+                let reply = reply_by(&settled);
+                self.settle(p, settled);
+                reply
+            }
+            Move::Pass => {
+                if self.passed[p as usize - 1] < self.sheet.setup().patience {
+                    self.count_pass(p);
+                    Reply::Taken
+                } else {
+                    self.settle(p, Settled::Spent);
+                    Reply::Spent
+                }
+            }
+        }
+    }
+
+    /// A post of a prover, from 1 to their count, on the question with this number. It takes no memory.
+    ///
+    /// `Stale` comes exactly where that isn't the prover's open question; it carries the open one, and nothing changes.
+    /// Else `Spent` comes exactly at the pass after the patience, and `Faulty` exactly at an answer of another kind than
+    /// asked or an unsound claim.
+    pub fn post(&mut self, p: u32, qid: Qid, turn: Move) -> Reply
+        requires some { 0 < p }
+        requires few { p ≤ self.old.1.provers }
+        ensures names { self.new.0 ≡ self.old.0 }
+        ensures setup { self.new.1 ≡ self.old.1 }
+        ensures state { self.new.2 ≡ posted (rules_of (J.ruling self.old.0) self.old.1) self.old.2 p qid (answer_of turn) }
+        ensures reply { result ≡ reply_to (rules_of (J.ruling self.old.0) self.old.1) self.old.2 p qid (answer_of turn) }
+    {
+        let Some(question) = self.question(p) else {
+            return Reply::Stale(None);
+        };
+        if !same_qid(question.qid, qid) {
+            return Reply::Stale(Some(question.qid));
+        }
+        self.take(p, question, turn)
+    }
+
+    /// What is settled so far.
+    pub fn record(&self) -> &Record
+        ensures { result.now ≡ self.now.2.record_ }
+    {
+        self.sheet.record()
+    }
+
+    /// What was settled. It takes no memory.
+    pub fn into_record(self) -> Record
+        ensures { result ≡ self.2.record_ }
+    {
+        let Match { sheet, .. } = self;
+        sheet.into_record()
+    }
+}

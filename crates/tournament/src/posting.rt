@@ -1,0 +1,67 @@
+ghost use Rattle.std.specs.Prelude.{◌≡◌, Some};
+ghost use Rattle.bisect_game.specs.Rules.{is_fit, judged};
+ghost use Rattle.tournament.specs.Posting.{same_qid, reply_by};
+
+use bisect_game::{Judge, Kind, Settled};
+use rd_base::{Answer, Qid};
+
+/// What a prover does about its open question.
+#[derive(Debug, Drop)]
+pub enum Move {
+    Pass,
+    Give(Answer),
+}
+
+/// The reply to a post.
+#[derive(Clone, Copy, Debug)]
+pub enum Reply {
+    /// The pass is counted, or the answer is taken as given.
+    Taken,
+    /// The answer is of another kind than asked, or an unsound claim: the question is settled against the prover.
+    Faulty,
+    /// It was the pass after the patience: the question is settled against the prover.
+    Spent,
+    /// The question isn't the prover's open one, which stands here. Nothing changed, and the move is dropped.
+    Stale(Option<Qid>),
+}
+
+/// Whether two numbers name the same question.
+pub fn same_qid(first: Qid, second: Qid) -> bool
+    ensures { result ≡ same_qid first second }
+{
+    first.dispute == second.dispute && first.round == second.round
+}
+
+/// Whether an answer is of the kind that was asked, and a claim sound.
+fn is_fit<J: Judge>(judge: &J, kind: Kind, answer: &Answer) -> bool
+    ensures { result ≡ is_fit (J.ruling (J.names judge.now)) kind answer.now }
+{
+    match (kind, answer) {
+        (Kind::Claim, Answer::Claim(claim)) => judge.sound(claim),
+        (Kind::Root(_), Answer::Root(_)) => true,
+        (Kind::Proof(_), Answer::Step(_)) => true,
+        _ => false,
+    }
+}
+
+/// What an answer to a question of this kind is settled as.
+pub(crate) fn judged<J: Judge>(judge: &J, kind: Kind, answer: Answer) -> Settled
+    ensures { result ≡ judged (J.ruling (J.names judge.now)) kind answer }
+{
+    if is_fit(judge, kind, &answer) {
+        Settled::Given(answer)
+    } else {
+        Settled::Faulty(answer)
+    }
+}
+
+/// The reply to a post that settled its question.
+pub(crate) fn reply_by(settled: &Settled) -> Reply
+    ensures { result ≡ reply_by (Some settled.now) }
+{
+    match settled {
+        Settled::Given(_) => Reply::Taken,
+        Settled::Faulty(_) => Reply::Faulty,
+        Settled::Spent => Reply::Spent,
+    }
+}

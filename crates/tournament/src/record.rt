@@ -1,0 +1,131 @@
+ghost use Rattle.std.specs.Prelude.{◌≡◌, ◌+◌, ◌-◌, ◌<◌, ◌≤◌, ◌∷◌, ◌++◌, [], length, slice_get, slice_set, Some, None, IfOk, replicate, if◌then◌else◌};
+ghost use Rattle.bisect_game.specs.Bisection.{Bisection, asks, settle_side};
+ghost use Rattle.tournament.specs.Bracket.{claim_missing, claim_question, question_in, settled_in, put, is_complete};
+ghost use Rattle.tournament.specs.Keeping.{asked_from, and_also};
+ghost use Rattle.tournament.specs.Posting.{rules_of};
+
+use crate::reading::{all_closed, all_there, asked_from, question_in};
+use bisect_game::{Dispute, Judge, Kind, Question, Settled, Side};
+use rd_base::{Memory, Qid};
+use std::alloc::Global;
+use std::marker::Model;
+
+/// What was settled in a match.
+#[derive(Drop)]
+pub struct Record {
+    claims: Vec<Option<Settled>>,
+    disputes: Vec<Dispute>,
+}
+
+impl Model for Record {
+    ghost use Rattle.std.specs.Prelude.{◌+◌, ◌≤◌, vec_len, vec_capacity};
+    ghost use Rattle.tournament.specs.Bracket.{Record};
+
+    ghost Value = { Record };
+
+    ghost view = { λ r. record { claims = r.claims.items; disputes = r.disputes.items } };
+
+    ghost invariant = { λ r. vec_len r.claims ≤ vec_capacity r.disputes + 1 };
+}
+
+/// So many claims of which none is settled.
+fn no_claims(alloc: Global, many: usize) -> Result<Vec<Option<Settled>>, Memory>
+    ensures { IfOk result (λ v. v.items ≡ replicate many None) }
+{
+    let mut claims = Vec::with_capacity(alloc, many)?;
+    for _ in 0..many {
+        claims.push(None)?;
+    }
+    Ok(claims)
+}
+
+impl Record {
+    /// A record of so many provers in which nothing is settled, with room for every dispute that can come.
+    pub(crate) fn new(alloc: Global, provers: usize) -> Result<Record, Memory>
+        requires { 0 < provers }
+        ensures { IfOk result (λ r. r ≡ record { claims = replicate provers None; disputes = [] }) }
+    {
+        Ok(Record {
+            claims: no_claims(alloc, provers)?,
+            disputes: Vec::with_capacity(alloc, provers - 1)?,
+        })
+    }
+
+    /// What each prover's claim was settled as, by number; `None` where it isn't yet.
+    pub fn claims(&self) -> &[Option<Settled>]
+        ensures { result.now ≡ self.now.claims }
+    {
+        self.claims.as_slice()
+    }
+
+    /// The disputes, by number.
+    pub fn disputes(&self) -> &[Dispute]
+        ensures { result.now ≡ self.now.disputes }
+    {
+        self.disputes.as_slice()
+    }
+
+    /// The open question of a prover.
+    pub(crate) fn question(&self, p: u32) -> Option<Question>
+        requires some { 0 < p }
+        requires few { p ≤ length self.now.claims }
+        ensures { result ≡ (if claim_missing (slice_get self.now.claims (p - 1)) then Some claim_question else question_in 2 p self.now.disputes) }
+    {
+        if self.claims[p as usize - 1].is_none() {
+            return Some(Question {
+                qid: Qid {
+                    dispute: 0,
+                    round: 0,
+                },
+                kind: Kind::Claim,
+            });
+        }
+        question_in(self.disputes.as_slice(), p)
+    }
+
+    /// Adds a dispute.
+    pub(crate) fn push(&mut self, dispute: Dispute)
+        requires { length self.old.disputes + 1 < length self.old.claims }
+        ensures { self.new ≡ and_also self.old (dispute ∷ []) }
+    {
+        self.disputes.push_reserved(dispute);
+    }
+
+    /// The claim of a prover is settled.
+    fn put_claim(&mut self, p: u32, settled: Settled)
+        requires some { 0 < p }
+        requires few { p ≤ length self.old.claims }
+        ensures { self.new ≡ record self.old { claims = slice_set self.old.claims (p - 1) (Some settled) } }
+    {
+        self.claims[p as usize - 1] = Some(settled);
+    }
+
+    /// The answer of a prover is settled where it is asked.
+    fn settle_at<J: Judge>(&mut self, judge: &J, i: usize, side: Side, p: u32, settled: Settled)
+        requires { asked_from 0 p self.old.disputes ≡ Some (i, side) }
+        ensures { (setup : _) → self.new ≡ record self.old { disputes = settled_in (rules_of (J.ruling (J.names judge.now)) setup) p settled self.old.disputes } }
+    {
+        self.disputes[i].settle(judge, side, settled);
+    }
+
+    /// What a prover is asked is settled.
+    pub(crate) fn put<J: Judge>(&mut self, judge: &J, p: u32, settled: Settled)
+        requires some { 0 < p }
+        requires few { p ≤ length self.old.claims }
+        ensures { (setup : _) → self.new ≡ put (rules_of (J.ruling (J.names judge.now)) setup) p settled self.old }
+    {
+        if self.claims[p as usize - 1].is_none() {
+            return self.put_claim(p, settled);
+        }
+        if let Some((i, side)) = asked_from(self.disputes.as_slice(), 0, p) {
+            self.settle_at(judge, i, side, p, settled);
+        }
+    }
+
+    /// Whether nothing is open.
+    pub(crate) fn is_over(&self) -> bool
+        ensures { result ≡ is_complete self.now }
+    {
+        all_there(self.claims.as_slice()) && all_closed(self.disputes.as_slice())
+    }
+}

@@ -1,0 +1,235 @@
+ghost use Rattle.std.specs.Prelude.{◌≡◌, ◌+◌, ◌-◌, ◌<◌, ◌≤◌, ◌^◌, ◌∷◌, ◌++◌, [], length, vec_len, vec_capacity, Some, None, IfSome, IfOk, replicate, if◌then◌else◌};
+ghost use Rattle.tournament.specs.Bracket.{Record, open_question, put, is_due, last_stage, opened, is_complete, verdict_of, nothing_settled};
+ghost use Rattle.tournament.specs.Keeping.{Sheet, other_from, side_pairs, dispute_at, disputes_over, and_also, AllRooms};
+ghost use Rattle.tournament.specs.Posting.{rules_of};
+
+use crate::reading::{
+    all_out, all_there, claims_collision, disputes_collision, fill_live, last_stage, lowest,
+};
+use crate::record::Record;
+use crate::setup::Setup;
+use crate::verdict::Verdict;
+use bisect_game::{Dispute, Judge, Question, Room, Settled, same_digest};
+use rd_base::{Digest32, Memory};
+use std::alloc::Global;
+use std::marker::Model;
+
+/// A record with the numbers by which it is played and the rooms of the disputes to come.
+#[derive(Drop)]
+pub(crate) struct Sheet {
+    table: Setup,
+    record_: Record,
+    rooms: Vec<Room>,
+}
+
+impl Model for Sheet {
+    ghost use Rattle.std.specs.Prelude.{vec_len};
+    ghost use Rattle.tournament.specs.Keeping.{Sheet, IsSheet};
+
+    ghost Value = { Sheet };
+
+    ghost view = { λ s. record { table = s.table; record_ = s.record_ } };
+
+    ghost invariant = { λ s. IsSheet s.table s.record_ s.rooms.items (vec_len s.rooms) };
+}
+
+/// Where the first prover with another root stands, of provers the first of which stands at `i`.
+fn other_from(live: &[(u32, Digest32)], i: usize, root: &Digest32) -> Option<usize>
+    requires { i + length live.now < 2 ^ 64 }
+    ensures is { result ≡ other_from i root.now live.now }
+    ensures within { IfSome result (λ j. j < i + length live.now) }
+    ensures from { IfSome result (λ j. i ≤ j) }
+{
+    match live {
+        [] => None,
+        [first, rest @ ..] => {
+            if same_digest(&first.1, root) {
+                other_from(rest, i + 1, root)
+            } else {
+                Some(i)
+            }
+        }
+    }
+}
+
+/// The rooms of so many disputes.
+#[tactic(auto, using(crate::proofs::KeepingLemmas::rooms_more))]
+fn rooms_for(alloc: Global, bound: u64, many: usize) -> Result<Vec<Room>, Memory>
+    requires steps { 0 < bound }
+    requires short { bound < 2 ^ 32 }
+    ensures len { IfOk result (λ v. vec_len v ≡ many) }
+    ensures rooms { IfOk result (λ v. AllRooms bound v.items) }
+{
+    let mut rooms = Vec::with_capacity(alloc, many)?;
+    for _ in 0..many {
+        rooms.push(Room::new(alloc, bound)?)?;
+    }
+    Ok(rooms)
+}
+
+impl Sheet {
+    /// A sheet on which nothing is settled, with room for the whole match.
+    pub(crate) fn new(alloc: Global, setup: Setup) -> Result<Sheet, Memory>
+        requires some { 0 < setup.provers }
+        requires few { setup.provers ≤ 2 ^ 16 }
+        requires steps { 0 < setup.bound }
+        requires short { setup.bound < 2 ^ 32 }
+        ensures { IfOk result (λ s. s ≡ record { table = setup; record_ = record { claims = replicate setup.provers None; disputes = [] } }) }
+    {
+        let provers = setup.provers as usize;
+        Ok(Sheet {
+            table: setup,
+            record_: Record::new(alloc, provers)?,
+            rooms: rooms_for(alloc, setup.bound, provers - 1)?,
+        })
+    }
+
+    /// The numbers by which it is played.
+    pub(crate) fn setup(&self) -> Setup
+        ensures { result ≡ self.now.table }
+    {
+        self.table
+    }
+
+    /// What is settled.
+    pub(crate) fn record(&self) -> &Record
+        ensures { result.now ≡ self.now.record_ }
+    {
+        &self.record_
+    }
+
+    /// What was settled, without the rooms.
+    pub(crate) fn into_record(self) -> Record
+        ensures { result ≡ self.record_ }
+    {
+        let Sheet { record_, .. } = self;
+        record_
+    }
+
+    /// The open question of a prover.
+    pub(crate) fn question<J: Judge>(&self, judge: &J, p: u32) -> Option<Question>
+        requires some { 0 < p }
+        requires few { p ≤ self.now.table.provers }
+        ensures { result ≡ open_question (rules_of (J.ruling (J.names judge.now)) self.now.table) self.now.record_ p }
+    {
+        self.record_.question(p)
+    }
+
+    /// Opens one dispute.
+    fn open_one(&mut self, stage: u32, first: (u32, Digest32), second: (u32, Digest32))
+        requires few { length self.old.record_.disputes + 1 < self.old.table.provers }
+        requires stage { stage ≤ length self.old.record_.disputes + 1 }
+        ensures table { self.new.table ≡ self.old.table }
+        ensures record_ { self.new.record_ ≡ and_also self.old.record_ (dispute_at self.old.table stage (length self.old.record_.disputes + 1) first second ∷ []) }
+    {
+        let Some(room) = self.rooms.pop() else {
+            unreachable!()
+        };
+        let number = self.record_.disputes().len() as u32 + 1;
+        self.record_.push(Dispute::new(room, stage, number, self.table.start, first, second));
+    }
+
+    /// Opens the disputes of a stage, of at most so many pairs.
+    fn open_pairs(&mut self, stage: u32, left: u32, live: &mut Vec<(u32, Digest32)>)
+        requires few { length self.old.record_.disputes + length (side_pairs left live.old.items) < self.old.table.provers }
+        requires stage { stage ≤ length self.old.record_.disputes + 1 }
+        ensures table { self.new.table ≡ self.old.table }
+        ensures record_ { self.new.record_ ≡ and_also self.old.record_ (disputes_over self.old.table stage (length self.old.record_.disputes + 1) (side_pairs left live.old.items)) }
+        ensures capacity { vec_capacity live.new ≡ vec_capacity live.old }
+    {
+        if left == 0 || live.is_empty() {
+            return;
+        }
+        let first = live.remove(0);
+        match other_from(live.as_slice(), 0, &first.1) {
+            None => self.open_pairs(stage, left - 1, live),
+            Some(i) => {
+                let second = live.remove(i);
+                self.open_one(stage, first, second);
+                self.open_pairs(stage, left - 1, live);
+            }
+        }
+    }
+
+    /// What a prover is asked is settled.
+    pub(crate) fn put<J: Judge>(&mut self, judge: &J, p: u32, settled: Settled)
+        requires some { 0 < p }
+        requires few { p ≤ self.old.table.provers }
+        ensures table { self.new.table ≡ self.old.table }
+        ensures record_ { self.new.record_ ≡ put (rules_of (J.ruling (J.names judge.now)) self.old.table) p settled self.old.record_ }
+    {
+        self.record_.put(judge, p, settled);
+    }
+
+    /// Whether the next stage may begin.
+    fn is_due<J: Judge>(&self, judge: &J) -> bool
+        ensures { result ≡ is_due (rules_of (J.ruling (J.names judge.now)) self.now.table) self.now.record_ }
+    {
+        all_there(self.record_.claims())
+            && (all_out(self.record_.disputes())
+                && claims_collision(judge, self.record_.claims()).is_none())
+    }
+
+    /// The number of the next stage.
+    fn next_stage(&self) -> u32
+        ensures is { result ≡ last_stage self.now.record_.disputes + 1 }
+        ensures few { result ≤ length self.now.record_.disputes + 1 }
+    {
+        last_stage(self.record_.disputes()) + 1
+    }
+
+    /// Opens the next stage where it is due.
+    pub(crate) fn open_due<J: Judge>(&mut self, judge: &J, live: &mut Vec<(u32, Digest32)>)
+        requires few { length (opened (rules_of (J.ruling (J.names judge.now)) self.old.table) self.old.record_).disputes < self.old.table.provers }
+        requires room { self.old.table.provers ≤ vec_capacity live.old }
+        ensures table { self.new.table ≡ self.old.table }
+        ensures record_ { self.new.record_ ≡ opened (rules_of (J.ruling (J.names judge.now)) self.old.table) self.old.record_ }
+        ensures capacity { vec_capacity live.new ≡ vec_capacity live.old }
+    {
+        if !self.is_due(judge) {
+            return;
+        }
+        let provers = self.table.provers;
+        let stage = self.next_stage();
+        live.clear();
+        fill_live(
+            judge,
+            self.record_.disputes(),
+            1,
+            self.record_.claims(),
+            live,
+        );
+        self.open_pairs(stage, provers, live);
+    }
+
+    /// Whether nothing is open.
+    pub(crate) fn is_over(&self) -> bool
+        ensures { result ≡ is_complete self.now.record_ }
+    {
+        self.record_.is_over()
+    }
+
+    /// The verdict of a match in which nothing is open.
+    fn verdict_now<J: Judge>(&self, judge: &J) -> Verdict
+        ensures { result ≡ verdict_of (rules_of (J.ruling (J.names judge.now)) self.now.table) self.now.record_ }
+    {
+        if let Some((x, y)) = claims_collision(judge, self.record_.claims()) {
+            return Verdict::Collision(x, y);
+        }
+        if let Some((x, y)) = disputes_collision(self.record_.disputes()) {
+            return Verdict::Collision(x, y);
+        }
+        lowest(self.record_.disputes(), 1, self.record_.claims())
+    }
+
+    /// The verdict; `None` exactly where a question is open.
+    pub(crate) fn verdict<J: Judge>(&self, judge: &J) -> Option<Verdict>
+        ensures { result ≡ (if is_complete self.now.record_ then Some (verdict_of (rules_of (J.ruling (J.names judge.now)) self.now.table) self.now.record_) else None) }
+    {
+        if self.is_over() {
+            Some(self.verdict_now(judge))
+        } else {
+            None
+        }
+    }
+}
