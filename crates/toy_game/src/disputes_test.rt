@@ -92,7 +92,7 @@ enum Ended {
     Collided,
 }
 
-fn ended(dispute: &Dispute) -> Ended {
+fn how(dispute: &Dispute) -> Ended {
     match dispute.closed() {
         None => Ended::Open,
         Some(Close::Out { first, second }) => Ended::Out(first, second),
@@ -146,7 +146,7 @@ fn disputes_are_played_round_by_round_in_either_order(rt: HostRuntime) -> Result
         assert!(rt; bound == 8 || bound == 7 || bound == 1);
         for late_first in [false, true] {
             let dispute = played(rt.alloc(), bound, &first, &second, late_first)?;
-            assert_eq!(rt; ended(&dispute), wanted, "bound {bound}");
+            assert_eq!(rt; how(&dispute), wanted, "bound {bound}");
             assert_eq!(rt; dispute.rounds().len(), rounds.len(), "bound {bound}");
             let mut i = 0;
             for (mid, same) in rounds {

@@ -22,7 +22,7 @@ pub(crate) enum Ended {
 pub(crate) type Line = (u32, u32, u32, u32, usize, bool, bool);
 
 /// How the verdict of a match says that it ended.
-pub(crate) fn ended(verdict: Option<Verdict>) -> Ended {
+pub(crate) fn how(verdict: Option<Verdict>) -> Ended {
     match verdict {
         None => Ended::Open,
         Some(Verdict::Accept(p)) => Ended::Accepted(p),
@@ -187,7 +187,7 @@ fn matches_end_as_their_rows_say(rt: HostRuntime) -> Result<(), Fail> {
     for (players, patience, wanted, end) in rows {
         assert!(rt; players.len() >= 1 && players.len() <= 16);
         let game = played(rt.alloc(), players, &[0, 1, 2, 3, 4], patience)?;
-        assert_eq!(rt; ended(game.verdict()), end);
+        assert_eq!(rt; how(game.verdict()), end);
         assert_eq!(rt; lines(rt.alloc(), game.record())?.as_slice(), wanted);
         assert_eq!(rt; game.record().claims().len(), players.len());
     }
@@ -214,7 +214,7 @@ fn all_orders_end_in_one_record(rt: HostRuntime) -> Result<(), Fail> {
     ];
     for order in orders {
         let game = played(rt.alloc(), &players, &order, 1)?;
-        assert_eq!(rt; ended(game.verdict()), Ended::Accepted(2));
+        assert_eq!(rt; how(game.verdict()), Ended::Accepted(2));
         assert_eq!(rt;
             lines(rt.alloc(), game.record())?.as_slice(),
             [(1, 1, 1, 2, 3, true, false), (2, 2, 2, 3, 1, false, true)].as_slice()
@@ -256,10 +256,19 @@ fn stale_posts_change_nothing(rt: HostRuntime) -> Result<(), Fail> {
     assert_eq!(rt; game.passes(1), 0);
     move_prover(&mut game, rt.alloc(), 2, &LIAR)?;
     assert_eq!(rt; game.setup().provers, 2);
-    for qid in [claim, later, absent] {
-        assert_eq!(rt; stale_on(game.post(1, qid, Move::Pass)), Some(Some(first)));
-        assert_eq!(rt; game.passes(1), 0);
-    }
+    assert_eq!(rt;
+        stale_on(game.post(1, claim, Move::Pass)),
+        Some(Some(first))
+    );
+    assert_eq!(rt;
+        stale_on(game.post(1, later, Move::Pass)),
+        Some(Some(first))
+    );
+    assert_eq!(rt;
+        stale_on(game.post(1, absent, Move::Pass)),
+        Some(Some(first))
+    );
+    assert_eq!(rt; game.passes(1), 0);
     assert!(rt;
         matches!(
             game.post(
@@ -272,6 +281,6 @@ fn stale_posts_change_nothing(rt: HostRuntime) -> Result<(), Fail> {
     );
     assert!(rt; matches!(game.post(2, first, Move::Pass), Reply::Taken));
     assert!(rt; matches!(game.post(2, first, Move::Pass), Reply::Spent));
-    assert_eq!(rt; ended(game.verdict()), Ended::NoneLeft);
+    assert_eq!(rt; how(game.verdict()), Ended::NoneLeft);
     Ok(())
 }
