@@ -82,6 +82,18 @@ fn case_of(
     Ok(text.into_bytes())
 }
 
+/// A long text, of which the proof of a test sees nothing.
+fn repeated(alloc: Global, piece: &str, count: usize) -> Result<String, AllocError> {
+    piece.repeat(alloc, count)
+}
+
+/// A case followed by spaces, so many bytes in all.
+fn padded(alloc: Global, length: usize) -> Result<Vec<u8>, AllocError> {
+    let mut bytes = case_of(alloc, "flat", ANSWER, "", "8", "[{}]")?;
+    bytes.resize(length, b' ')?;
+    Ok(bytes)
+}
+
 /// What a command answers and writes, over memory.
 fn answer_to<R: Threads + Sync>(
     rt: &R,
@@ -307,7 +319,7 @@ fn each_change_of_an_executable_is_answered(rt: HostRuntime) -> Result<(), Fail>
 #[test]
 fn a_case_that_breaks_a_rule_is_named(rt: HostRuntime) -> Result<(), Fail> {
     let alloc = rt.alloc();
-    let image = "01".repeat(alloc, 4_194_305)?;
+    let image = repeated(alloc, "01", 4_194_305)?;
     for (text, want) in [
         ("", "fault case 1\n"),
         ("[]", "fault case 2\n"),
@@ -441,10 +453,10 @@ fn three_hundred_loads(alloc: Global) -> Result<String, AllocError> {
 #[test]
 fn each_limit_is_reached(rt: HostRuntime) -> Result<(), Fail> {
     let alloc = rt.alloc();
-    let image = "01".repeat(alloc, 4_194_304)?;
-    let input = "07".repeat(alloc, 1_048_576)?;
+    let image = repeated(alloc, "01", 4_194_304)?;
+    let input = repeated(alloc, "07", 1_048_576)?;
     let loads = three_hundred_loads(alloc)?;
-    let outputs = "2a".repeat(alloc, 102_400)?;
+    let outputs = repeated(alloc, "2a", 102_400)?;
     let outputs = format!(in alloc; "answer exited 0 output {outputs}\n")?;
     for (format, image, input, bound, want) in [
         (
@@ -482,7 +494,7 @@ fn each_limit_is_reached(rt: HostRuntime) -> Result<(), Fail> {
 #[test]
 fn sixteen_provers_are_reported(rt: HostRuntime) -> Result<(), Fail> {
     let alloc = rt.alloc();
-    let others = ",{}".repeat(alloc, 15)?;
+    let others = repeated(alloc, ",{}", 15)?;
     let provers = format!(in alloc; "[{{}}{others}]")?;
     let bytes = case_of(alloc, "flat", ANSWER, "", "8", provers.as_str())?;
     let mut want = String::from_str(
@@ -565,8 +577,7 @@ fn a_case_of_the_most_bytes_is_read_and_one_more_is_too_long(rt: HostRuntime) ->
         (16_777_216, Answered::Done, "answer exited 0 output 2a\n"),
         (16_777_217, Answered::TooLong, "fault too long\n"),
     ] {
-        let mut bytes = case_of(alloc, "flat", ANSWER, "", "8", "[{}]")?;
-        bytes.resize(length, b' ')?;
+        let bytes = padded(alloc, length)?;
         let (given, text) = answer_to(&rt, alloc, "run", bytes)?;
         assert_eq!(rt; given, answered);
         assert_eq!(rt; text.as_slice(), want.as_bytes());

@@ -1,4 +1,4 @@
-use Rattle.std.proofs.Common.{rules, ◌≡◌, ◌+◌, ◌≤◌, ◌∙◌, length, ap, refl, arith}
+use Rattle.std.proofs.Common.{rules, ◌≡◌, ◌∙◌, length, ap, refl, arith}
 use Rattle.std.specs.List.{range_with_len}
 use Rattle.round_robin.specs.Swaps.{swapped}
 use Rattle.round_robin.proofs.Swaps.{length-swapped}
