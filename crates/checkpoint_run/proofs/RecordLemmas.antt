@@ -1,16 +1,16 @@
 -- Checkpoints that stand for states, while the run goes on.
 use Rattle.std.proofs.Common.{◌≡◌, ◌≢◌, ◌⊎◌, ℕ, zero, suc, ◌+◌, ◌*◌, ◌/◌, ◌%◌, ◌<◌, ◌≤◌, List, [], ◌∷◌, ◌++◌, length, take, Option, Some, None, IfSome, inl, inr, refl, sym, ap, subst, ◌∙◌, ⊎_elim, arith, slice_get, get_or, false, length-append}
-use Rattle.std.proofs.lemmas.Bool.{cases_eq, cases_order}
+use Rattle.std.proofs.lemmas.Bool.{cases_order}
 use Rattle.std.proofs.lemmas.List.{take-append-le, take_all}
-use Rattle.std.proofs.lemmas.Option.{slice_get_past, slice_get_within}
+use Rattle.std.proofs.lemmas.Option.{slice_get_past}
 use Rattle.std.proofs.Math.Nat.{le-div_iff_mul-le, div-lt_iff_lt-mul, div-add-mod, mul_comm, lt-div-mul-add, lt_of_mul-lt-mul_right, add-mul}
 use Rattle.digest_core.specs.Chain.{chain_of}
 use Rattle.mem_plain.specs.Contents.{Contents, byte_at}
 use Rattle.rd_base.specs.declared.ctl.Ctl.{Ctl}
 use Rattle.rv_step.specs.State.{State}
-use Rattle.checkpoint_run.specs.Versions.{pictured, is_among, AreBelow, IsShownBut}
+use Rattle.checkpoint_run.specs.Versions.{is_among, AreBelow, IsShownBut}
 use Rattle.checkpoint_run.specs.NamedPages.{IsNamed, ArePages}
-use Rattle.checkpoint_run.specs.Keeping.{Stands, AllStand, IsAdded, state_by}
+use Rattle.checkpoint_run.specs.Keeping.{Stands, AllStand, IsAdded}
 use Rattle.checkpoint_run.specs.UnderWay.{AllChained}
 use Rattle.checkpoint_run.specs.declared.checkpoint.Checkpoint.{Checkpoint}
 use Rattle.checkpoint_run.specs.declared.version.Version.{Version}

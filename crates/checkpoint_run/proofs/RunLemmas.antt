@@ -1,8 +1,7 @@
 -- A tampered run in the words of the machine's own, and from where on it stands still.
-use Rattle.std.proofs.Common.{◌≡◌, ◌≢◌, ◌⊎◌, ℕ, zero, suc, ◌+◌, ◌-◌, ◌<◌, ◌≤◌, min, max, eqb, ltb, leb, cond, not, ◌&&◌, ◌||◌, Bool, true, false, inl, inr, refl, sym, ap, subst, ◌∙◌, ⊎_elim, add-zero, add-suc, add-one, arith}
-use Rattle.std.proofs.lemmas.Bool.{cases_eq, cases_lt, cases_Bool, cases_order, eq-eqb, ne_eqb, lt-ltb, le-ltb, le-leb, lt-leb, leb-true, ltb-true, both_ways, not-true, and_parts, or_cases, and_from, and_left, and_right, or_left, or_right, or_from, not_from_true, not_from_false}
+use Rattle.std.proofs.Common.{◌≡◌, ◌⊎◌, ℕ, zero, suc, ◌+◌, ◌-◌, ◌<◌, ◌≤◌, min, max, eqb, ltb, leb, cond, not, ◌&&◌, ◌||◌, Bool, true, false, inl, inr, refl, sym, ap, ◌∙◌, ⊎_elim, add-zero, add-suc, add-one, arith}
+use Rattle.std.proofs.lemmas.Bool.{cases_eq, cases_lt, cases_order, ne_eqb, lt-ltb, le-ltb, le-leb, lt-leb, leb-true, both_ways, not-true, and_parts, or_cases, and_from, and_left, and_right, or_left, or_right, or_from, not_from_true, not_from_false}
 use Rattle.rd_base.specs.Status.{is_running}
-use Rattle.rd_base.specs.Regs.{with_register}
 use Rattle.std.proofs.lemmas.Bool.Decides.{nat_tests}
 use Rattle.rd_base.specs.declared.tamper.Tamper.{Tamper}
 use Rattle.rd_base.specs.declared.tamper.Tamper.TheVariants.{Untouched, Flip, Register, Early}

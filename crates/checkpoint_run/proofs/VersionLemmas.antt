@@ -1,6 +1,6 @@
 -- Versions of pages, and the memory that they stand for.
-use Rattle.std.proofs.Common.{◌≡◌, ◌≢◌, ◌⊎◌, ℕ, zero, suc, ◌+◌, ◌*◌, ◌/◌, ◌%◌, ◌^◌, ◌<◌, ◌≤◌, List, [], ◌∷◌, ◌++◌, slice_index, Option, Some, None, eqb, cond, Bool, true, false, true≢false, ◌||◌, inl, inr, refl, sym, ap, subst, ◌∙◌, ⊎_elim, arith, reverse}
-use Rattle.std.proofs.lemmas.Bool.{cases_eq, cases_lt, cases_Bool, eq-eqb, ne_eqb}
+use Rattle.std.proofs.Common.{◌≡◌, ◌≢◌, ◌⊎◌, ℕ, ◌+◌, ◌*◌, ◌/◌, ◌%◌, ◌^◌, ◌<◌, ◌≤◌, List, [], ◌∷◌, ◌++◌, slice_index, Some, eqb, cond, Bool, true, false, true≢false, ◌||◌, inl, inr, refl, sym, ap, subst, ◌∙◌, ⊎_elim, arith, reverse}
+use Rattle.std.proofs.lemmas.Bool.{cases_eq, cases_lt, eq-eqb, ne_eqb}
 use Rattle.std.proofs.lemmas.Bool.Decides.{nat_tests}
 use Rattle.std.proofs.lemmas.List.{reverse-append, append_assoc}
 use Rattle.std.specs.Ordering.{nat_cmp}
@@ -8,7 +8,6 @@ use Rattle.std.specs.BTreeMap.{is_at}
 use Rattle.mem_plain.specs.Contents.{Contents, byte_at, no_bytes, IsUsed, contents_with}
 use Rattle.mem_plain.specs.Memory.{IsMemory}
 use Rattle.mem_plain.specs.Pages.{byte_of}
-use Rattle.mem_plain.specs.declared.page.Page.{Page}
 use Rattle.checkpoint_run.specs.Versions.{first_of, byte_by, pictured, is_among, AreBelow, IsShownBut}
 use Rattle.checkpoint_run.specs.declared.version.Version.{Version}
 

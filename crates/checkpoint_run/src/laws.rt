@@ -1,8 +1,9 @@
-ghost use Rattle.std.specs.Prelude.{◌≡◌, ℕ, ◌+◌, ◌<◌, ◌≤◌, min};
+ghost use Rattle.std.specs.Prelude.{◌≡◌, ◌⊎◌, ◌↔◌, ℕ, ◌+◌, ◌<◌, ◌≤◌, ◌∷◌, [], List, Option, None, length, get_or, min};
 ghost use Rattle.rd_base.specs.declared.tamper.Tamper.{Tamper};
 ghost use Rattle.rd_base.specs.declared.tamper.Tamper.TheVariants.{Untouched, Flip, Register, Early};
 ghost use Rattle.rv_step.specs.State.{State};
 ghost use Rattle.rv_step.specs.Step.{state_at};
+ghost use Rattle.checkpoint_run.specs.NamedPages.{IsNamed};
 ghost use Rattle.checkpoint_run.specs.TamperedRun.{run_from, run_at, tampered, still};
 
 use rv_step::stopped_states_stay;
@@ -26,3 +27,9 @@ pub fn tampered_runs()
 {
     stopped_states_stay();
 }
+
+/// A page that is named in one of two places is named in the first of them or in the second.
+pub fn pages_of_two_places()
+    ensures { (pages : List (Option ℕ)) (page : ℕ) → length pages ≡ 2 →
+        IsNamed page pages ↔ (IsNamed page (get_or pages 0 None ∷ []) ⊎ IsNamed page (get_or pages 1 None ∷ [])) }
+{}

@@ -23,5 +23,5 @@ mod tests;
 mod version;
 mod versions;
 
-pub use laws::tampered_runs;
+pub use laws::{pages_of_two_places, tampered_runs};
 pub use run::{Run, machine_at, next, record_run};

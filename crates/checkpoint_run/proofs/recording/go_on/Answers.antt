@@ -1,4 +1,4 @@
-use Rattle.std.proofs.Common.{◌≡◌, ◌≢◌, ◌∷◌, length-append, ℕ, ◌+◌, ◌*◌, ◌/◌, ◌%◌, ◌++◌, [], List, length, refl, sym, ap, subst, ◌∙◌, arith, rules}
+use Rattle.std.proofs.Common.{◌≡◌, ◌∷◌, length-append, ℕ, ◌+◌, ◌*◌, ◌%◌, ◌++◌, [], List, length, refl, sym, ap, subst, ◌∙◌, arith, rules}
 use Rattle.digest_core.specs.Chain.{chain_of}
 use Rattle.std.proofs.Math.Numerals.{add-one}
 use Rattle.std.proofs.lemmas.List.{append-nil}

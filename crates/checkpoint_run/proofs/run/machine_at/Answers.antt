@@ -1,10 +1,7 @@
-use Rattle.std.proofs.Common.{◌≡◌, ◌≤◌, ℕ, List, length, take, refl, sym, ap, subst, ◌∙◌, arith, rules}
+use Rattle.std.proofs.Common.{◌≤◌, ℕ, List, length, take, refl, sym, ap, subst, ◌∙◌}
 use Rattle.std.proofs.lemmas.List.{length-take-le}
-use Rattle.rv_step.specs.State.{State, state_of}
+use Rattle.rv_step.specs.State.{State}
 use Rattle.checkpoint_run.specs.Versions.{pictured}
-use Rattle.checkpoint_run.specs.Keeping.{Stands}
-use Rattle.checkpoint_run.specs.Recorded.{Recorded, state_of_step}
-use Rattle.checkpoint_run.specs.declared.checkpoint.Checkpoint.{Checkpoint}
 use Rattle.checkpoint_run.specs.declared.version.Version.{Version}
 use Rattle.checkpoint_run.proofs.EndLemmas.{stands_within, chained_within}
 use Rattle.digest_core.specs.Chain.{chain_of}

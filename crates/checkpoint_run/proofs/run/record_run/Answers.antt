@@ -1,4 +1,4 @@
-use Rattle.std.proofs.Common.{◌≡◌, ◌⊎◌, ℕ, ◌*◌, List, Option, slice_get, IfSome, map, true, inl, inr, refl, sym, ap, subst, ◌∙◌, arith, rules}
+use Rattle.std.proofs.Common.{◌≡◌, ◌⊎◌, ℕ, ◌*◌, slice_get, IfSome, map, true, inl, inr, sym, ap, subst, ◌∙◌, arith}
 use Rattle.digest_core.specs.Chain.{chain_of}
 use Rattle.rv_step.specs.State.{State, state_of}
 use Rattle.checkpoint_run.specs.TamperedRun.{tampered, run_from, still}
@@ -8,6 +8,15 @@ use Rattle.checkpoint_run.proofs.RunLemmas.{still_found}
 use Rattle.checkpoint_run.proofs.EndLemmas.{first_of, chains_of}
 use Rattle.checkpoint_run.proofs.run.record_run.Goals as goal
 use Rattle.checkpoint_run.proofs.run.record_run.Goals.{then-steps-test+else-not-is_at_rest, else-steps-test}
+
+pub steps-init : goal.steps-init
+steps-init g c =
+    let at = c.in_ok-recording.ensures.at in
+    record {
+      within = omega (arith, at);
+      under_way = c.in_ok-recording.ensures.under_way g.D.Digester.digest_of c.args.every c.requires.every c.requires.chained;
+      before = λ k early. absurd (omega (arith, at, early));
+    }
 
 pub returns-clause-first : goal.returns-clause-first
 returns-clause-first g c =

@@ -1,4 +1,4 @@
-use Rattle.std.proofs.Common.{⊎_elim, arith}
+use Rattle.std.proofs.Common.{⊎_elim}
 use Rattle.std.proofs.lemmas.Bool.{cases_lt}
 use Rattle.checkpoint_run.proofs.VersionLemmas.{added_below, used_more, shown_unused}
 use Rattle.checkpoint_run.proofs.versions.used_pages.Goals as goal
