@@ -1,11 +1,11 @@
 //! One worker: a machine of a run, moved from step to step with the tree of its memory.
-ghost use Rattle.std.specs.Prelude.{◌≡◌, ℕ, ◌+◌, ◌<◌, ◌≤◌, ◌×◌, ◌∷◌, [], false, IfOk, OnOk, IfSome, min};
+ghost use Rattle.std.specs.Prelude.{◌≡◌, ℕ, ◌+◌, ◌<◌, ◌≤◌, ◌∷◌, [], false, IfOk, OnOk, IfSome, min};
 ghost use Rattle.mem_plain.specs.Contents.{Contents};
 ghost use Rattle.mem_tree.specs.Tree.{IsTreeOf, is_among};
 ghost use Rattle.rv_step.specs.State.{state_of, IsChained};
 ghost use Rattle.state_commit.specs.StateRoot.{state_root, memory_digest};
 ghost use Rattle.checkpoint_run.specs.NamedPages.{IsNamed, ArePages};
-ghost use Rattle.checkpoint_run.specs.Recorded.{AreChained, still_of};
+ghost use Rattle.checkpoint_run.specs.Recorded.{AreChained, state_of_step, still_of};
 ghost use Rattle.segment_replay.specs.Roots.{root_at};
 ghost use Rattle.segment_replay.specs.Cursor.{IsMachineOf, IsBehind, IsFresh};
 
@@ -48,14 +48,24 @@ fn machine_up_to<D: Digester>(d: D, run: &Run, goal: u64) -> Result<Machine, Mem
     Ok(machine)
 }
 
+/// A step that has the state of a step, at most the one from which the run stands still. Above the bound the state of
+/// the bound stands for a step.
+fn goal_of(run: &Run, step: u64) -> u64
+    ensures within { result ≤ still_of run.now }
+    ensures same { state_of_step run.now result ≡ state_of_step run.now (min step run.now.bound) }
+{
+    tampered_runs();
+    let _bound = run.bound();
+    step.min(run.still())
+}
+
 /// The machine of a step; above the bound it is that of the bound. An `Err` is out of memory.
 pub fn machine_of_step<D: Digester>(d: D, run: &Run, step: u64) -> Result<Machine, Memory>
     requires { AreChained D.digest_of run.now }
     ensures { IfOk result (λ m. IsMachineOf D.digest_of run.now (min step run.now.bound) m) }
 {
-    tampered_runs();
-    let _bound = run.bound();
-    machine_up_to(d, run, step.min(run.still()))
+    let goal = goal_of(run, step);
+    machine_up_to(d, run, goal)
 }
 
 /// Touches a page, where one is named. An `Err` is out of memory.
@@ -101,12 +111,7 @@ fn go_on<D: Digester>(d: D, run: &Run, cursor: Cursor<D>) -> Result<Cursor<D>, M
 }
 
 /// The cursor at a later step, up to the one from which the run stands still. An `Err` is out of memory.
-fn moved_on<D: Digester>(
-    d: D,
-    run: &Run,
-    cursor: Cursor<D>,
-    goal: u64,
-) -> Result<Cursor<D>, Memory>
+fn moved_on<D: Digester>(d: D, run: &Run, cursor: Cursor<D>, goal: u64) -> Result<Cursor<D>, Memory>
     requires later { cursor.at ≤ goal }
     requires goal { goal ≤ still_of run.now }
     requires machine { IsMachineOf D.digest_of run.now cursor.at cursor.machine }
@@ -190,9 +195,8 @@ pub fn root_of_step<D: Digester + Send + Sync, R: Threads + Sync>(
     ensures tree { IfOk result (λ r. IsFresh D.digest_of r.0.tree r.0.machine.mem) }
     ensures root { IfOk result (λ r. r.1.0 ≡ root_at D.digest_of run.now step) }
 {
-    tampered_runs();
-    let _bound = run.bound();
-    let cursor = cursor_at(rt, alloc, d, run, at_hand, step.min(run.still()))?;
+    let goal = goal_of(run, step);
+    let cursor = cursor_at(rt, alloc, d, run, at_hand, goal)?;
     let root = root_over(d, cursor.tree.root(), &cursor.machine);
     Ok((cursor, root))
 }

@@ -34,10 +34,7 @@ fn replayed<D: Digester + Send + Sync, R: Threads + Sync>(
 }
 
 /// What the workers made, one behind the other. An `Err` is out of memory, here or in one of the pieces.
-fn joined(
-    alloc: Global,
-    pieces: &[Result<Vec<Digest32>, Memory>],
-) -> Result<Vec<Digest32>, Memory>
+fn joined(alloc: Global, pieces: &[Result<Vec<Digest32>, Memory>]) -> Result<Vec<Digest32>, Memory>
     ensures { (wanted : List (List ℕ)) (size : ℕ) → ArePieces wanted size pieces.now → length wanted ≤ length pieces.now * size → IfOk result (λ v. digests v.items ≡ wanted) }
 {
     let mut all = Vec::new(alloc);

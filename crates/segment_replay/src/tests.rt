@@ -443,6 +443,16 @@ fn a_hundred_pages_have_the_roots_of_their_steps(rt: HostRuntime) -> Result<(), 
             }
         }
     }
-    assert!(rt; roots(&rt, rt.alloc(), Sha256, &record_run(rt.alloc(), Sha256, &machine, 0, 1, Tamper::Untouched)?, &[], 1)?.is_empty());
+    assert!(rt;
+        roots(
+            &rt,
+            rt.alloc(),
+            Sha256,
+            &record_run(rt.alloc(), Sha256, &machine, 0, 1, Tamper::Untouched)?,
+            &[],
+            1
+        )?
+        .is_empty()
+    );
     Ok(())
 }

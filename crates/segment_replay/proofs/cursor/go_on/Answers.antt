@@ -5,8 +5,8 @@ use Rattle.segment_replay.proofs.cursor.go_on.Goals as goal
 pub touch_named-requires : goal.touch_named-requires
 touch_named-requires g c page named = c.in_ok-machine.ensures.pages page ((c.pages_of_two_places.ensures c.in_ok-machine.pages page c.in_ok-machine.ensures.two).1 (inl named))
 
-pub touch_named-2-requires : goal.touch_named-2-requires
-touch_named-2-requires g c page named = c.in_ok-machine.ensures.pages page ((c.pages_of_two_places.ensures c.in_ok-machine.pages page c.in_ok-machine.ensures.two).1 (inr named))
+pub touch_named-requires-2 : goal.touch_named-requires-2
+touch_named-requires-2 g c page named = c.in_ok-machine.ensures.pages page ((c.pages_of_two_places.ensures c.in_ok-machine.pages page c.in_ok-machine.ensures.two).1 (inr named))
 
 pub returns-clause-tree : goal.returns-clause-tree
 returns-clause-tree g c old behind =

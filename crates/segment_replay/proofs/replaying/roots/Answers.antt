@@ -21,10 +21,10 @@ returns g c =
     let some : 0 < size = search rules in
     c.joined.ensures (map f c.args.steps.now) size
     (subst (ArePieces (map f c.args.steps.now) size) (sym c.deref.ensures.value) (λ n d below.
-        let k = (c.in_ok-pieces.ensures.each n d below).1 in
-        piece_is (get_or c.in_ok-pieces.pieces.items n d) (map f k.argument.now) (slice_chunk (map f c.args.steps.now) size n) (ap (map f) k.argument_is.value ∙ map_chunk f c.args.steps.now size n) k.call))
+    let k = (c.in_ok-pieces.ensures.each n d below).1 in
+    piece_is (get_or c.in_ok-pieces.pieces.items n d) (map f k.argument.now) (slice_chunk (map f c.args.steps.now) size n) (ap (map f) k.argument_is.value ∙ map_chunk f c.args.steps.now size n) k.call))
     (let whole = whole_chunks (length c.args.steps.now) size some in
-     let mapped = length-map c.args.steps.now f in
-     let len : length c.deref.result.now ≡ length c.args.steps.now / size + min 1 (length c.args.steps.now % size) = ap length c.deref.ensures.value ∙ (sym c.in_ok-pieces.pieces.ok.0 ∙ c.in_ok-pieces.ensures.len) in
-     let P : ℕ → Type 0 = λ k. length (map f c.args.steps.now) ≤ k * size in
-     subst P (sym len) (omega arith))
+    let mapped = length-map c.args.steps.now f in
+    let len : length c.deref.result.now ≡ length c.args.steps.now / size + min 1 (length c.args.steps.now % size) = ap length c.deref.ensures.value ∙ (sym c.in_ok-pieces.pieces.ok.0 ∙ c.in_ok-pieces.ensures.len) in
+    let P : ℕ → Type 0 = λ k. length (map f c.args.steps.now) ≤ k * size in
+    subst P (sym len) (omega arith))
