@@ -28,7 +28,9 @@ pub struct Run {
     every: u32,
     still: u64,
     checkpoints: Vec<Checkpoint>,
+    /// The versions of pages, those of an earlier checkpoint first.
     versions: Vec<Version>,
+    /// The whole output.
     output: Vec<u8>,
 }
 
