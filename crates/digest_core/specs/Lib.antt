@@ -1,3 +1,4 @@
 pub mod Text
+pub mod TextLaws
 pub mod Chain
 pub mod Sha256Bytes

@@ -5,7 +5,7 @@ ghost use Rattle.digest_core.specs.Text.{leaf_text, node_text, registers_text, c
 ghost use Rattle.digest_core.specs.Chain.{chain_of};
 
 /// Strings of two kinds differ, since a string of each kind has a length that no other kind has.
-#[tactic(auto, using(crate::proofs::TextLemmas::length_registers_text, crate::proofs::TextLemmas::length_control_text))]
+#[tactic(auto, using(crate::specs::TextLaws::length_registers_text, crate::specs::TextLaws::length_control_text))]
 pub fn kinds_have_lengths()
     ensures leaf { (chunk : List ℕ) → length chunk ≡ 32 → length (leaf_text chunk) ≡ 33 }
     ensures node { (left right : List ℕ) → length left ≡ 32 → length right ≡ 32 → length (node_text left right) ≡ 65 }
@@ -20,7 +20,7 @@ pub fn kinds_have_lengths()
 {}
 
 /// Two strings of one kind with different parts differ, since a string determines its parts.
-#[tactic(auto, using(crate::proofs::TextLemmas::cons_parts, crate::proofs::TextLemmas::append_parts, crate::proofs::TextLemmas::registers_text_same, crate::proofs::TextLemmas::control_text_same, crate::proofs::TextLemmas::state_text_same))]
+#[tactic(auto, using(crate::specs::TextLaws::cons_parts, crate::specs::TextLaws::append_parts, crate::specs::TextLaws::registers_text_same, crate::specs::TextLaws::control_text_same, crate::specs::TextLaws::state_text_same))]
 pub fn texts_determine_their_parts()
     ensures leaf { (c d : List ℕ) → leaf_text c ≡ leaf_text d → c ≡ d }
     ensures node { (l r m s : List ℕ) → length l ≡ length m → node_text l r ≡ node_text m s → (l ≡ m) × (r ≡ s) }

@@ -1,4 +1,4 @@
--- Strings have their lengths, and determine their parts.
+-- Derived: strings have their lengths, and determine their parts. The laws in `laws` have the same as clauses.
 use Rattle.std.proofs.Common.{◌≡◌, ℕ, suc, ◌*◌, ◌^◌, ◌<◌, List, [], ◌∷◌, ◌++◌, length, slice_index, refl, sym, ap, ◌∙◌, arith, length-append}
 use Rattle.std.specs.List.{flat_map}
 use Rattle.byteorder.specs.Endian.{little_bytes, little_number}

@@ -1,0 +1,4 @@
+pub mod Root
+pub mod Soundness
+pub mod Collision
+pub mod ClaimLaws

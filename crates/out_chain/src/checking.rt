@@ -1,0 +1,77 @@
+ghost use Rattle.std.specs.Prelude.{◌≡◌, ◌<◌, ◌^◌, true, length};
+ghost use Rattle.digest_core.specs.Text.{status_code};
+ghost use Rattle.out_chain.specs.Soundness.{claim_check, says_sound, is_in_range, is_sound};
+
+use crate::chain::chain_of;
+use crate::colliding::same_digest;
+use digest_core::Digester;
+use rd_base::{Claim, Digest32, Status};
+
+/// Whether a claim agrees with itself.
+#[derive(Clone, Copy, Debug, PartialEq, Eq)]
+pub enum ClaimCheck {
+    /// The control fields have the length and the chain of the output.
+    Sound,
+    /// The control fields have another length than the output has.
+    WrongLength,
+    /// The length is right, and the control fields have another chain than the output has.
+    WrongChain,
+}
+
+impl ClaimCheck {
+    /// Whether it is `Sound`.
+    pub fn is_sound(self) -> bool
+        ensures { result ≡ says_sound self }
+    {
+        match self {
+            ClaimCheck::Sound => true,
+            ClaimCheck::WrongLength | ClaimCheck::WrongChain => false,
+        }
+    }
+}
+
+/// A digest has 32 bytes.
+fn digests_are_32_bytes(digest: &Digest32)
+    ensures { length digest.now.0 ≡ 32 }
+{
+    let _first = digest.0[0];
+}
+
+/// The code of a status fits in 32 bits.
+fn codes_fit(status: Status)
+    ensures { status_code status < 2 ^ 32 }
+{
+    match status {
+        Status::Running => {}
+        Status::Exited(_code) => {}
+        Status::Trapped(_code) => {}
+    }
+}
+
+/// The digests of a claim have 32 bytes, and its numbers fit in their types.
+fn claims_are_in_range(claim: &Claim)
+    ensures { is_in_range claim.now ≡ true }
+{
+    digests_are_32_bytes(&claim.mem);
+    digests_are_32_bytes(&claim.regs);
+    digests_are_32_bytes(&claim.ctl.chain);
+    codes_fit(claim.ctl.status);
+    let _pc = claim.ctl.pc;
+    let _out_len = claim.ctl.out_len;
+}
+
+/// Checks that a claim's control fields have the length and the chain of its output, the length first.
+#[tactic(auto, unfolding(crate::specs::Soundness::is_sound))]
+pub fn check_claim<D: Digester>(d: D, claim: &Claim) -> ClaimCheck
+    ensures value { result ≡ claim_check D.digest_of claim.now }
+    ensures sound { says_sound result ≡ is_sound D.digest_of claim.now }
+{
+    claims_are_in_range(claim);
+    if claim.ctl.out_len != claim.output.len() as u64 {
+        return ClaimCheck::WrongLength;
+    }
+    if !same_digest(&claim.ctl.chain, &chain_of(d, claim.output.as_slice())) {
+        return ClaimCheck::WrongChain;
+    }
+    ClaimCheck::Sound
+}
