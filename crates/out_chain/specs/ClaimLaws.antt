@@ -1,11 +1,10 @@
 -- Derived: what holds of sound claims and of their collisions. `claims_of_one_root` has the same as clauses.
-use Rattle.std.proofs.Common.{◌≡◌, ◌≢◌, ℕ, zero, suc, ◌+◌, ◌^◌, ◌<◌, nat_lt, List, [], ◌∷◌, ◌++◌, length, slice_index_or, replicate, Option, Some, None, Bool, true, false, ◌&&◌, not, eqb, ltb, refl, sym, ap, ◌∙◌, subst, arith, true≢false, Contains}
+use Rattle.std.proofs.Common.{◌≡◌, ◌≢◌, ℕ, suc, ◌^◌, ◌<◌, List, [], ◌∷◌, ◌++◌, length, replicate, Some, None, Bool, true, false, ◌&&◌, not, eqb, ltb, refl, sym, ap, ◌∙◌, subst, arith, true≢false, Contains}
 use Rattle.std.specs.Prelude.{bytes_eq, if◌then◌else◌}
 use Rattle.std.proofs.lemmas.Slice.Eq.{bytes_eq-Decides}
 use Rattle.std.proofs.lemmas.Bool.Decides.{Decides-eqb, Decides-ltb}
-use Rattle.rd_base.specs.declared.ctl.Ctl.{Ctl}
 use Rattle.rd_base.specs.declared.claim.Claim.{Claim}
-use Rattle.digest_core.specs.Text.{link_text, state_text, control_text, status_code}
+use Rattle.digest_core.specs.Text.{link_text, status_code}
 use Rattle.digest_core.specs.TextLaws.{cons_parts, append_parts, control_text_same, state_text_same}
 use Rattle.digest_core.specs.Chain.{chain_after, chain_of}
 use Rattle.out_chain.specs.declared.checking.ClaimCheck.TheVariants.{Sound, WrongLength, WrongChain}

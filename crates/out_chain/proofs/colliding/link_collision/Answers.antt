@@ -1,5 +1,5 @@
-use Rattle.std.proofs.Common.{◌≡◌, sym, ◌∙◌, refl, arith, rules}
-use Rattle.out_chain.specs.Collision.{links_of, first_collision}
+use Rattle.std.proofs.Common.{sym, ◌∙◌, refl, arith, rules}
+use Rattle.out_chain.specs.Collision.{links_of}
 use Rattle.out_chain.proofs.CollisionLemmas.{link-goes_on, link-collides, link-end, links-same}
 use Rattle.out_chain.proofs.colliding.link_collision.Goals as goal
 

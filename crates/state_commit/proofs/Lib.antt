@@ -1,0 +1,2 @@
+pub mod ScratchLemmas
+pub mod StateLemmas

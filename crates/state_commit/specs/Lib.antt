@@ -1,0 +1,4 @@
+pub mod StateRoot
+pub mod Strings
+pub mod StateCode
+pub mod Committing
