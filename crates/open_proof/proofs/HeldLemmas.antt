@@ -21,8 +21,8 @@ use Rattle.rv_step.specs.declared.effect.Effect.TheVariants.{Write, Jump, Branch
 use Rattle.rv_step.specs.declared.asked.Need.{Need}
 use Rattle.rv_step.specs.declared.asked.Need.TheVariants as need
 use Rattle.open_proof.specs.Held.{Held, held_of, held_after, held_after_word, held_step, mem_after, number_shown, path_text, chunk_with}
-use Rattle.open_proof.specs.Leads.{fetch_address, fetched_at, address_needed, operand_address}
-use Rattle.open_proof.specs.PlainProof.{IsShown, IsShownAt, fetch_of_state, operand_of_state}
+use Rattle.open_proof.specs.Leads.{fetch_address, address_needed, operand_address}
+use Rattle.open_proof.specs.PlainProof.{IsShown, IsShownAt, fetched_at, fetch_of_state, operand_of_state}
 
 -- the laws of the crates below that a step rests on
 pub record StepLaws : Type 0 where
@@ -125,7 +125,7 @@ module _ (laws : StepLaws) (digest : List ℕ → List ℕ) where
   held-step fetch operand s = go (is_running s.status) (eqb (s.pc % 4) 0) fetch refl
     where
       go : (r b : Bool) (f : Option Opening) → eqb (s.pc % 4) 0 ≡ b → IsShownAt digest s.memory f (cond (r && b) (Some s.pc) None)
-          → IsShownAt digest s.memory operand (operand_address s.regs (fetched_at (cond (r && b) (Some s.pc) None) (λ addr. number_at s.memory addr 4)))
+          → IsShownAt digest s.memory operand (operand_address s.regs (fetched_at s.memory (cond (r && b) (Some s.pc) None)))
           → cond r (cond b (held_after_word digest operand (held_of digest s) (reading_of (number_shown f s.pc 4))) (held_after digest operand (held_of digest s) (Trap 0))) (held_of digest s)
           ≡ held_of digest (cond r (cond b (after_word s (reading_of (number_at s.memory s.pc 4))) (after_effect s (Trap 0))) s)
       go true true (Some f) test fetched shown =

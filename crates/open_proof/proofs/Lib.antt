@@ -1,1 +1,3 @@
 pub mod HeldLemmas
+pub mod RangeLemmas
+pub mod PartsLemmas

@@ -28,10 +28,10 @@ OpensAt digest mem chunk address = Unit {0}
 abbrev pub fetch_address : Ctl → Option ℕ
 fetch_address ctl = if is_running ctl.status && (ctl.pc % 4 == 0) then Some ctl.pc else None
 
--- the instruction that a word at this address is
-abbrev pub fetched_at : Option ℕ → (ℕ → ℕ) → Option Instr
-fetched_at (Some addr) word = reading_of (word addr)
-fetched_at None word = None
+-- the instruction that is fetched from the chunk that holds its address
+abbrev pub fetched_in : Option Opening → Option ℕ → Option Instr
+fetched_in (Some o) (Some addr) = reading_of (number_shown (Some o) addr 4)
+fetched_in chunk address = None
 
 -- the address that an instruction reads or writes: that of an aligned load or store
 abbrev pub address_needed : Need → Option ℕ
@@ -48,7 +48,7 @@ abbrev pub fetch_called : StepProof → Option ℕ
 fetch_called proof = fetch_address proof.ctl
 
 abbrev pub fetched : StepProof → Option Instr
-fetched proof = fetched_at (fetch_called proof) (λ addr. number_shown proof.fetch addr 4)
+fetched proof = fetched_in proof.fetch (fetch_called proof)
 
 abbrev pub operand_called : StepProof → Option ℕ
 operand_called proof = operand_address proof.regs (fetched proof)

@@ -19,7 +19,14 @@ chunk_texts digest chunk address = []
 
 -- the strings that a proof opens: its state string, registers string and control string, then those of the fetched chunk,
 -- then those of the data chunk
+abbrev pub part_texts : (List ℕ → List ℕ) → StepProof → List (List ℕ)
+part_texts digest proof = text_of_held digest (held_by proof) ∷ registers_text proof.regs ∷ control_text_of proof.ctl ∷ []
+
+abbrev pub fetch_texts : (List ℕ → List ℕ) → StepProof → List (List ℕ)
+fetch_texts digest proof = chunk_texts digest proof.fetch (fetch_called proof)
+
+abbrev pub operand_texts : (List ℕ → List ℕ) → StepProof → List (List ℕ)
+operand_texts digest proof = chunk_texts digest proof.operand (operand_called proof)
+
 unfoldable pub opened_by_step : (List ℕ → List ℕ) → StepProof → List (List ℕ)
-opened_by_step digest proof =
-    text_of_held digest (held_by proof) ∷ registers_text proof.regs ∷ control_text_of proof.ctl
-    ∷ (chunk_texts digest proof.fetch (fetch_called proof) ++ chunk_texts digest proof.operand (operand_called proof))
+opened_by_step digest proof = part_texts digest proof ++ (fetch_texts digest proof ++ operand_texts digest proof)

@@ -4,13 +4,15 @@ use Rattle.std.specs.List.{range_with_len}
 use Rattle.rd_base.specs.declared.digest.Digest32.{Digest32}
 use Rattle.rd_base.specs.declared.proof.Opening.{Opening}
 use Rattle.rd_base.specs.declared.proof.StepProof.{StepProof}
+use Rattle.rv_decode.specs.Reading.{reading_of}
+use Rattle.rv_decode.specs.declared.instr.Instr.{Instr}
 use Rattle.mem_plain.specs.Contents.{Contents, chunk_at, number_at}
 use Rattle.merkle_nodes.specs.Node.{beside}
 use Rattle.merkle_nodes.specs.Opening.{IsPath}
 use Rattle.mem_tree.specs.Memory.{memory_leaf, memory_node}
 use Rattle.rv_step.specs.State.{State}
 use Rattle.state_commit.specs.StateRoot.{ctl_of, memory_digest}
-use Rattle.open_proof.specs.Leads.{fetch_address, fetched_at, operand_address}
+use Rattle.open_proof.specs.Leads.{fetch_address, operand_address}
 
 -- the path of a chunk, by its index: the node beside it at each of the levels 0 to 26
 unfoldable pub siblings_of : (List ℕ → List ℕ) → Contents → ℕ → List Digest32
@@ -28,8 +30,13 @@ opening_at digest m None = None
 abbrev pub fetch_of_state : (List ℕ → List ℕ) → State → Option ℕ
 fetch_of_state digest s = fetch_address (ctl_of digest s)
 
+-- the instruction that is fetched from a memory
+abbrev pub fetched_at : Contents → Option ℕ → Option Instr
+fetched_at m (Some addr) = reading_of (number_at m addr 4)
+fetched_at m None = None
+
 abbrev pub operand_of_state : (List ℕ → List ℕ) → State → Option ℕ
-operand_of_state digest s = operand_address s.regs (fetched_at (fetch_of_state digest s) (λ addr. number_at s.memory addr 4))
+operand_of_state digest s = operand_address s.regs (fetched_at s.memory (fetch_of_state digest s))
 
 -- the proof that has a state's parts, and with their paths exactly the chunks that they call for
 unfoldable pub plain_proof : (List ℕ → List ℕ) → State → StepProof
