@@ -1,3 +1,6 @@
 pub mod HeldLemmas
 pub mod RangeLemmas
 pub mod PartsLemmas
+pub mod ShownLemmas
+pub mod StateLemmas
+pub mod CollisionLemmas
