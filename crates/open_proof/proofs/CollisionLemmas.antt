@@ -40,7 +40,7 @@ texts-agree digest f g m (suc n) none l low high one =
     (λ later. texts-agree digest f g (m + 1) n here.1 l (omega arith) (omega arith) one)
     (cases_eq l m)
 
-same-digest : (x y : Digest32) → x.0 ≡ y.0 → x ≡ y
+pub same-digest : (x y : Digest32) → x.0 ≡ y.0 → x ≡ y
 same-digest x y same = λ i. record { 0 = same i }
 
 module _ (laws : PathLaws) (digest : List ℕ → List ℕ) (is_digest : (bytes : List ℕ) → length (digest bytes) ≡ 32) where
@@ -111,8 +111,8 @@ module _ (laws : PathLaws) (digest : List ℕ → List ℕ) (is_digest : (bytes 
   unfolding step_collision
   proofs-without-collision a x y b c x_range y_range x_leads y_leads none =
       opened-agree a x y b c x_range y_range x_leads y_leads
-      (ap (λ t. if t && bytes_eq a.0 (root_of_held digest (held_by y)) then opened_collision digest x y else None) (sym ((bytes_eq-Decides _ _).1 x_leads.parts_open))
-      ∙ ap (λ t. if true && t then opened_collision digest x y else None) (sym ((bytes_eq-Decides _ _).1 y_leads.parts_open)) ∙ none)
+      (ap (λ t. if true && t then opened_collision digest x y else None) (sym ((bytes_eq-Decides a.0 (root_of_held digest (held_by y))).1 y_leads.parts_open))
+      ∙ (ap (λ t. if t && bytes_eq a.0 (root_of_held digest (held_by y)) then opened_collision digest x y else None) (sym ((bytes_eq-Decides a.0 (root_of_held digest (held_by x))).1 x_leads.parts_open)) ∙ none))
 
 -- a proof has no collision with itself
 pub no-collision-of-equal : (digest : List ℕ → List ℕ) (a : Digest32) (x : StepProof) → step_collision digest a x x ≡ None

@@ -4,3 +4,5 @@ pub mod PartsLemmas
 pub mod ShownLemmas
 pub mod StateLemmas
 pub mod CollisionLemmas
+pub mod LeadsLemmas
+pub mod CodeLemmas

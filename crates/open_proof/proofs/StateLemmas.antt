@@ -121,7 +121,8 @@ module _ (steps : StepLaws) (laws : PathLaws) (digest : List ℕ → List ℕ) (
         inr (fetch-or-found proof s a b range valid leads held))
       inr (parts-or-found proof s range valid (sym leads.parts_open ∙ root))
 
-  -- the plain proof leads from the root of its state to that of the next
+-- the plain proof leads from the root of its state to that of the next
+module _ (steps : StepLaws) (laws : PathLaws) (digest : List ℕ → List ℕ) where
   pub plain-leads : (s : State) (a b : Digest32) → s.pc < 2 ^ 32 → a.0 ≡ state_root digest s → b.0 ≡ state_root digest (step s) → Leads digest a (plain_proof digest s) b
   unfolding plain_proof
   plain-leads s a b low start end =

@@ -1,0 +1,96 @@
+-- What the code's steps come to.
+use Rattle.std.proofs.Common.{◌≡◌, ℕ, zero, suc, ◌+◌, ◌-◌, ◌/◌, ◌%◌, ◌^◌, ◌<◌, List, [], ◌∷◌, length, get_or, Option, Some, None, Bool, true, false, not, ◌&&◌, refl, sym, ap, ◌∙◌, arith, add-one, sub-one, map}
+use Rattle.std.specs.Prelude.{bytes_eq, if◌then◌else◌}
+use Rattle.std.specs.List.{range_with_len}
+use Rattle.std.proofs.Math.Nat.{div-one, div-div-eq-div-mul, pow-suc}
+use Rattle.std.proofs.lemmas.List.{ext_get_or}
+use Rattle.std.proofs.lemmas.List.FromFn.{get_or-map-range_with_len, length-map-range_with_len}
+use Rattle.rd_base.specs.declared.digest.Digest32.{Digest32}
+use Rattle.rd_base.specs.declared.proof.Opening.{Opening}
+use Rattle.rd_base.specs.declared.proof.StepProof.{StepProof}
+use Rattle.digest_core.specs.Text.{leaf_text}
+use Rattle.mem_plain.specs.Contents.{Contents, chunk_at}
+use Rattle.merkle_nodes.specs.Node.{beside, digest_at}
+use Rattle.merkle_nodes.specs.Opening.{joined, opened, IsPath}
+use Rattle.mem_tree.specs.Memory.{memory_leaf, memory_node}
+use Rattle.rv_step.specs.State.{State}
+use Rattle.out_chain.specs.Collision.{collides, first_collision}
+use Rattle.open_proof.specs.Held.{Held, held_by, held_of, path_text}
+use Rattle.open_proof.specs.Opened.{texts_from, chunk_texts}
+use Rattle.open_proof.specs.Collision.{first_there}
+use Rattle.open_proof.specs.PlainProof.{siblings_of, opening_of, opening_at, fetch_of_state, operand_of_state, plain_proof}
+use Rattle.open_proof.proofs.CollisionLemmas.{same-digest}
+
+-- one string after another
+pub collision-after : (digest : List ℕ → List ℕ) (x y : List ℕ) (xs ys : List (List ℕ))
+    → first_collision digest (x ∷ xs) (y ∷ ys) ≡ first_there (first_collision digest (x ∷ []) (y ∷ [])) (first_collision digest xs ys)
+unfolding first_collision
+collision-after digest x y xs ys = go (collides digest x y)
+  where
+    go : (t : Bool) → (if t then Some (x, y) else first_collision digest xs ys) ≡ first_there (if t then Some (x, y) else None) (first_collision digest xs ys)
+    go true = refl
+    go false = refl
+
+pub collision-first : (digest : List ℕ → List ℕ) (x y : List ℕ) (xs ys : List (List ℕ)) → collides digest x y ≡ true → first_collision digest (x ∷ xs) (y ∷ ys) ≡ Some (x, y)
+unfolding first_collision
+collision-first digest x y xs ys test = ap (λ t. if t then Some (x, y) else first_collision digest xs ys) test
+
+pub collision-later : (digest : List ℕ → List ℕ) (x y : List ℕ) (xs ys : List (List ℕ)) → collides digest x y ≡ false → first_collision digest (x ∷ xs) (y ∷ ys) ≡ first_collision digest xs ys
+unfolding first_collision
+collision-later digest x y xs ys test = ap (λ t. if t then Some (x, y) else first_collision digest xs ys) test
+
+pub collision-without : (digest : List ℕ → List ℕ) (xs : List (List ℕ)) → first_collision digest xs [] ≡ None
+unfolding first_collision
+collision-without digest [] = refl
+collision-without digest (x ∷ xs) = refl
+
+pub collision-of-none : (digest : List ℕ → List ℕ) (ys : List (List ℕ)) → first_collision digest [] ys ≡ None
+unfolding first_collision
+collision-of-none digest ys = refl
+
+-- the strings from a level on
+pub texts-next : (f : ℕ → List ℕ) (l n k : ℕ) → n ≡ k + 1 → texts_from f l n ≡ f l ∷ texts_from f (l + 1) k
+unfolding texts_from
+texts-next f l n k is = ap (texts_from f l) (is ∙ add-one) 
+
+pub text-first : (digest : List ℕ → List ℕ) (o : Opening) (addr : ℕ) → leaf_text o.chunk ≡ path_text digest o addr 0
+unfolding opened
+text-first digest o addr = refl
+
+pub opened-next : (digest : List ℕ → List ℕ) (leaf : List ℕ) (siblings : ℕ → List ℕ) (l k : ℕ) → joined (k / 2 ^ l % 2) (digest (opened digest leaf siblings l k)) (siblings l) ≡ opened digest leaf siblings (l + 1) k
+unfolding opened
+opened-next digest leaf siblings l k = rw add-one refl
+
+pub text-next : (digest : List ℕ → List ℕ) (o : Opening) (addr l i : ℕ) (d x other : List ℕ) → d ≡ digest (path_text digest o addr l) → i ≡ addr / 32 / 2 ^ l
+    → other ≡ digest_at o.path.0 l → x ≡ joined (i % 2) d other → x ≡ path_text digest o addr (l + 1)
+text-next digest o addr l i d x other climbed at beside text =
+    text ∙ (ap (λ q. joined (q % 2) d other) at ∙ (ap (λ c. joined (addr / 32 / 2 ^ l % 2) c other) climbed
+    ∙ (ap (joined (addr / 32 / 2 ^ l % 2) (digest (path_text digest o addr l))) beside ∙ above)))
+  where
+    above : joined (addr / 32 / 2 ^ l % 2) (digest (path_text digest o addr l)) (digest_at o.path.0 l) ≡ path_text digest o addr (l + 1)
+    above = opened-next digest (leaf_text o.chunk) (digest_at o.path.0) l (addr / 32)
+
+pub place-first : (k : ℕ) → k ≡ k / 2 ^ 0
+place-first k = sym (div-one k)
+
+pub place-next : (k l i : ℕ) → i ≡ k / 2 ^ l → i / 2 ≡ k / 2 ^ (l + 1)
+place-next k l i at = ap (λ q. q / 2) at ∙ rw add-one (div-div-eq-div-mul k (2 ^ l) 2 ∙ ap (λ n. k / n) (sym (pow-suc 2 l)))
+
+-- a chunk with its memory's path is the plain opening
+pub plain-opening : (digest : List ℕ → List ℕ) (m : Contents) (addr : ℕ) (chunk : List ℕ) (path : List Digest32) → chunk ≡ chunk_at m (addr / 32) → length path ≡ 27
+    → IsPath digest (memory_leaf m) 27 (addr / 32) path → record { chunk = chunk; path = record { 0 = path } } ≡ opening_of digest m addr
+unfolding siblings_of
+plain-opening digest m addr chunk path same levels is =
+    let along = λ (l : ℕ). record { 0 = memory_node digest m l (beside (addr / 32 / 2 ^ l)) } in
+    let path-same : path ≡ map along (range_with_len 0 27) =
+        ext_get_or (record { 0 = [] }) path (map along (range_with_len 0 27)) (levels ∙ sym (length-map-range_with_len along 0 27)) (λ l below.
+          let low : l < 27 = omega (arith, levels) in
+          same-digest _ _ (is l low ∙ ap (λ (d : Digest32). d.0) (sym (get_or-map-range_with_len along 0 27 l l (record { 0 = [] }) low (omega arith))))) in
+    λ i. record { chunk = same i; path = record { 0 = path-same i } }
+
+-- a proof with a state's parts and the chunks that they call for is the plain proof
+pub plain-whole : (digest : List ℕ → List ℕ) (s : State) (proof : StepProof) → held_by proof ≡ held_of digest s
+    → proof.fetch ≡ opening_at digest s.memory (fetch_of_state digest s) → proof.operand ≡ opening_at digest s.memory (operand_of_state digest s) → proof ≡ plain_proof digest s
+unfolding plain_proof
+plain-whole digest s proof held fetch operand =
+    λ i. record { mem = record { 0 = (held i).mem }; regs = (held i).regs; ctl = (held i).ctl; fetch = fetch i; operand = operand i }
