@@ -1,5 +1,5 @@
 -- What the code's steps come to.
-use Rattle.std.proofs.Common.{◌≡◌, ℕ, zero, suc, ◌+◌, ◌-◌, ◌/◌, ◌%◌, ◌^◌, ◌<◌, List, [], ◌∷◌, length, get_or, Option, Some, None, Bool, true, false, not, ◌&&◌, refl, sym, ap, ◌∙◌, arith, add-one, sub-one, map}
+use Rattle.std.proofs.Common.{◌≡◌, ℕ, zero, suc, ◌+◌, ◌-◌, ◌/◌, ◌%◌, ◌^◌, ◌<◌, List, [], ◌∷◌, length, get_or, Option, Some, None, Bool, true, false, true≢false, is_some, not, ◌&&◌, refl, sym, ap, ◌∙◌, arith, add-one, sub-one, map}
 use Rattle.std.specs.Prelude.{bytes_eq, if◌then◌else◌}
 use Rattle.std.specs.List.{range_with_len}
 use Rattle.std.proofs.Math.Nat.{div-one, div-div-eq-div-mul, pow-suc}
@@ -39,19 +39,38 @@ pub collision-later : (digest : List ℕ → List ℕ) (x y : List ℕ) (xs ys :
 unfolding first_collision
 collision-later digest x y xs ys test = ap (λ t. if t then Some (x, y) else first_collision digest xs ys) test
 
-pub collision-without : (digest : List ℕ → List ℕ) (xs : List (List ℕ)) → first_collision digest xs [] ≡ None
+pub collision_without : (digest : List ℕ → List ℕ) (xs : List (List ℕ)) → first_collision digest xs [] ≡ None
 unfolding first_collision
-collision-without digest [] = refl
-collision-without digest (x ∷ xs) = refl
+collision_without digest [] = refl
+collision_without digest (x ∷ xs) = refl
 
-pub collision-of-none : (digest : List ℕ → List ℕ) (ys : List (List ℕ)) → first_collision digest [] ys ≡ None
+pub collision_of_none : (digest : List ℕ → List ℕ) (ys : List (List ℕ)) → first_collision digest [] ys ≡ None
 unfolding first_collision
-collision-of-none digest ys = refl
+collision_of_none digest ys = refl
+
+-- the test of the code
+pub collides-code : (digest : List ℕ → List ℕ) (x y of_x of_y : List ℕ) (t : Bool) → of_x ≡ digest x → of_y ≡ digest y
+    → t ≡ (not (bytes_eq x y) && bytes_eq of_x of_y) → collides digest x y ≡ t
+collides-code digest x y of_x of_y t x_is y_is test =
+    ap (λ d. not (bytes_eq x y) && bytes_eq d (digest y)) (sym x_is) ∙ (ap (λ d. not (bytes_eq x y) && bytes_eq of_x d) (sym y_is) ∙ sym test)
+
+-- the first of two that is there
+pub there-first : {A : Type 0} (first other : Option A) → true ≡ is_some first → first ≡ first_there first other
+there-first (Some x) other test = refl
+there-first None other test = absurd (true≢false test)
+
+pub there-later : {A : Type 0} (first other : Option A) → false ≡ is_some first → other ≡ first_there first other
+there-later (Some x) other test = absurd (true≢false (sym test))
+there-later None other test = refl
 
 -- the strings from a level on
 pub texts-next : (f : ℕ → List ℕ) (l n k : ℕ) → n ≡ k + 1 → texts_from f l n ≡ f l ∷ texts_from f (l + 1) k
 unfolding texts_from
-texts-next f l n k is = ap (texts_from f l) (is ∙ add-one) 
+texts-next f l n k is = ap (texts_from f l) (is ∙ add-one k)
+
+pub texts-last : (f : ℕ → List ℕ) (l : ℕ) → texts_from f l 1 ≡ f l ∷ []
+unfolding texts_from
+texts-last f l = refl
 
 pub text-first : (digest : List ℕ → List ℕ) (o : Opening) (addr : ℕ) → leaf_text o.chunk ≡ path_text digest o addr 0
 unfolding opened
@@ -77,15 +96,16 @@ pub place-next : (k l i : ℕ) → i ≡ k / 2 ^ l → i / 2 ≡ k / 2 ^ (l + 1)
 place-next k l i at = ap (λ q. q / 2) at ∙ rw add-one (div-div-eq-div-mul k (2 ^ l) 2 ∙ ap (λ n. k / n) (sym (pow-suc 2 l)))
 
 -- a chunk with its memory's path is the plain opening
-pub plain-opening : (digest : List ℕ → List ℕ) (m : Contents) (addr : ℕ) (chunk : List ℕ) (path : List Digest32) → chunk ≡ chunk_at m (addr / 32) → length path ≡ 27
-    → IsPath digest (memory_leaf m) 27 (addr / 32) path → record { chunk = chunk; path = record { 0 = path } } ≡ opening_of digest m addr
+pub plain-opening : (digest : List ℕ → List ℕ) (m : Contents) (addr : ℕ) (o : Opening) → o.chunk ≡ chunk_at m (addr / 32) → length o.path.0 ≡ 27
+    → IsPath digest (memory_leaf m) 27 (addr / 32) o.path.0 → o ≡ opening_of digest m addr
 unfolding siblings_of
-plain-opening digest m addr chunk path same levels is =
-    let along = λ (l : ℕ). record { 0 = memory_node digest m l (beside (addr / 32 / 2 ^ l)) } in
-    let path-same : path ≡ map along (range_with_len 0 27) =
-        ext_get_or (record { 0 = [] }) path (map along (range_with_len 0 27)) (levels ∙ sym (length-map-range_with_len along 0 27)) (λ l below.
+plain-opening digest m addr o same levels is =
+    let along : ℕ → Digest32 = λ l. record { 0 = memory_node digest m l (beside (addr / 32 / 2 ^ l)) } in
+    let none : Digest32 = record { 0 = [] } in
+    let path-same : o.path.0 ≡ map along (range_with_len 0 27) =
+        ext_get_or none o.path.0 (map along (range_with_len 0 27)) (levels ∙ sym (length-map-range_with_len along 0 27)) (λ l below.
           let low : l < 27 = omega (arith, levels) in
-          same-digest _ _ (is l low ∙ ap (λ (d : Digest32). d.0) (sym (get_or-map-range_with_len along 0 27 l l (record { 0 = [] }) low (omega arith))))) in
+          same-digest _ _ (is l low) ∙ sym (get_or-map-range_with_len along 0 27 l l none low (omega arith))) in
     λ i. record { chunk = same i; path = record { 0 = path-same i } }
 
 -- a proof with a state's parts and the chunks that they call for is the plain proof

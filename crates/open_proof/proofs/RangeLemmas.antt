@@ -96,3 +96,19 @@ range-of-state digest s valid size = record {
   code_fits = code-of s.status valid.status;
   length_fits = omega arith;
 }
+
+-- and the other way round
+and-true : (a b : Bool) → a ≡ true → b ≡ true → (a && b) ≡ true
+and-true true b x y = y
+and-true false b x y = x
+
+pub words_are : (xs : List ℕ) → ((r : ℕ) → slice_index xs r < 2 ^ 32) → are_words xs ≡ true
+unfolding are_words
+words_are [] words = refl
+words_are (x ∷ xs) words = and-true (ltb x (2 ^ 32)) (are_words xs) ((Decides-ltb x (2 ^ 32)).1 (words 0)) (words_are xs (λ r. words (suc r)))
+
+pub digests_are : (ds : List Digest32) → ((l : ℕ) → l < length ds → length (digest_at ds l) ≡ 32) → are_digests ds ≡ true
+unfolding are_digests
+digests_are [] sizes = refl
+digests_are (d ∷ ds) sizes =
+    and-true (eqb (length d.0) 32) (are_digests ds) ((Decides-eqb (length d.0) 32).1 (sizes 0 (omega arith))) (digests_are ds (λ l below. sizes (suc l) (omega arith)))

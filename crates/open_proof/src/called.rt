@@ -35,7 +35,7 @@ pub fn address_needed(regs: &Regs, pc: u32, instr: &Instr) -> Option<u32>
 }
 
 /// The same, where there is an instruction.
-pub(crate) fn operand_address(regs: &Regs, pc: u32, instr: &Option<Instr>) -> Option<u32>
+pub fn operand_address(regs: &Regs, pc: u32, instr: &Option<Instr>) -> Option<u32>
     ensures { result ≡ leads.operand_address regs.now instr.now }
 {
     match instr {
@@ -55,7 +55,7 @@ fn word_in(chunk: &[u8; 32], at: usize) -> u32
 }
 
 /// The instruction at an address that is a multiple of 4, in the chunk that holds it.
-pub(crate) fn fetched_in(chunk: &Option<Opening>, address: Option<u32>) -> Option<Instr>
+pub fn fetched_in(chunk: &Option<Opening>, address: Option<u32>) -> Option<Instr>
     requires { IfSome address (λ addr. addr % 4 ≡ 0) }
     ensures { result ≡ leads.fetched_in chunk.now address }
 {
@@ -69,7 +69,7 @@ pub(crate) fn fetched_in(chunk: &Option<Opening>, address: Option<u32>) -> Optio
 }
 
 /// The instruction at an address that is a multiple of 4, in memory.
-pub(crate) fn fetched_at(mem: &PlainMem, address: Option<u32>) -> Option<Instr>
+pub fn fetched_at(mem: &PlainMem, address: Option<u32>) -> Option<Instr>
     requires { IfSome address (λ addr. addr % 4 ≡ 0) }
     ensures { result ≡ fetched_at mem.now address }
 {
@@ -80,7 +80,7 @@ pub(crate) fn fetched_at(mem: &PlainMem, address: Option<u32>) -> Option<Instr>
 }
 
 /// The address for which a proof's parts call for a data chunk.
-pub(crate) fn operand_called(proof: &StepProof) -> Option<u32>
+pub fn operand_called(proof: &StepProof) -> Option<u32>
     ensures { result ≡ leads.operand_called proof.now }
 {
     let instr = fetched_in(&proof.fetch, fetch_address(&proof.ctl));

@@ -107,6 +107,7 @@ fn path_collision<D: Digester>(
 }
 
 /// The same for chunks that may be there and called for.
+#[tactic(auto, using(crate::proofs::CodeLemmas::collision_without, crate::proofs::CodeLemmas::collision_of_none), unfolding(crate::specs::Opened::chunk_texts))]
 fn chunk_collision<D: Digester>(
     d: D,
     first: &Option<Opening>,
@@ -176,6 +177,7 @@ fn parts_open<D: Digester>(d: D, a: &Digest32, proof: &StepProof) -> bool
 ///
 /// `None` where a proof doesn't open `a`. Of two proofs that lead from `a` it comes exactly where the proofs are equal
 /// (`proofs_from_one_root`).
+#[tactic(auto, unfolding(crate::specs::Collision::step_collision))]
 pub fn step_collision<D: Digester>(
     d: D,
     a: Digest32,

@@ -8,7 +8,7 @@ mod laws;
 mod proving;
 mod ranges;
 
-pub use called::{address_needed, fetch_address};
+pub use called::{fetch_address, fetched_at, fetched_in, operand_address, operand_called};
 pub use climbing::climb;
 pub use colliding::step_collision;
 pub use laws::{

@@ -1,4 +1,4 @@
-ghost use Rattle.std.specs.Prelude.{◌≡◌, length};
+ghost use Rattle.std.specs.Prelude.{◌≡◌};
 ghost use Rattle.rd_base.specs.declared.digest.Digest32.{Digest32};
 ghost use Rattle.rv_step.specs.Step.{step};
 ghost use Rattle.state_commit.specs.StateRoot.{state_root};
@@ -8,17 +8,11 @@ ghost use Rattle.open_proof.specs.PlainProof as plain;
 
 use crate::called::{fetch_address, fetched_at, operand_address};
 use crate::laws::plain_proofs_lead;
+use crate::ranges::paths_have_27_levels;
 use digest_core::Digester;
-use rd_base::{Opening, Path, StepProof};
+use rd_base::{Opening, StepProof};
 use rv_step::machines_are_valid;
 use state_commit::Committed;
-
-/// A path has 27 siblings.
-fn paths_have_27_levels(path: &Path)
-    ensures { length path.now.0 ≡ 27 }
-{
-    let _first = path.0[0];
-}
 
 /// The chunk that holds an address, with its path.
 fn opening_of<D: Digester>(committed: &Committed<D>, addr: u32) -> Opening

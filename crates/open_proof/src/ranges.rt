@@ -34,6 +34,7 @@ fn ctls_are_in_range(ctl: &Ctl)
 }
 
 /// Registers hold words.
+#[tactic(auto, using(crate::proofs::RangeLemmas::words_are))]
 fn registers_are_in_range(regs: &Regs)
     ensures count { length regs.now ≡ 32 }
     ensures words { are_words regs.now ≡ true }
@@ -41,11 +42,19 @@ fn registers_are_in_range(regs: &Regs)
     registers_are_32(regs);
 }
 
+/// A path has 27 siblings.
+pub(crate) fn paths_have_27_levels(path: &Path)
+    ensures { length path.now.0 ≡ 27 }
+{
+    let _first = path.0[0];
+}
+
 /// A path has 27 digests of 32 bytes.
 fn paths_are_in_range(path: &Path)
     ensures levels { length path.now.0 ≡ 27 }
     ensures digests { are_digests path.now.0 ≡ true }
 {
+    paths_have_27_levels(path);
     'levels: for level in 0..27usize {
         digests_are_32_bytes(&path.0[level]);
     }

@@ -15,8 +15,8 @@ returns c = λ digest s a b valid.
   more = c.chain_grows.ensures.more;
 } in
     let laws : PathLaws = record {
-  climbs = c.climbing_is_opening.ensures;
-  paths = c.two_paths_agree_or_split.ensures;
+  climbs = c.climbing_is_opening.ensures.climbs;
+  paths = c.two_paths_agree_or_split.ensures.paths;
   nodes = c.memory_nodes.ensures.climbs;
 } in
     plain-leads steps laws digest s a b valid.pc

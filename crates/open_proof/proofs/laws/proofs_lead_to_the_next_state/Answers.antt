@@ -16,8 +16,8 @@ returns c = λ digest is_digest proof s a b range.
   more = c.chain_grows.ensures.more;
 } in
     let laws : PathLaws = record {
-  climbs = c.climbing_is_opening.ensures;
-  paths = c.two_paths_agree_or_split.ensures;
+  climbs = c.climbing_is_opening.ensures.climbs;
+  paths = c.two_paths_agree_or_split.ensures.paths;
   nodes = c.memory_nodes.ensures.climbs;
 } in
     leads-or-found steps laws digest is_digest proof s a b (range-of proof range)
