@@ -64,13 +64,24 @@ there-later (Some x) other test = absurd (true≢false (sym test))
 there-later None other test = refl
 
 -- the strings from a level on
-pub texts-next : (f : ℕ → List ℕ) (l n k : ℕ) → n ≡ k + 1 → texts_from f l n ≡ f l ∷ texts_from f (l + 1) k
+texts-next : (f : ℕ → List ℕ) (l n k : ℕ) → n ≡ k + 1 → texts_from f l n ≡ f l ∷ texts_from f (l + 1) k
 unfolding texts_from
 texts-next f l n k is = ap (texts_from f l) (is ∙ add-one k)
 
-pub texts-last : (f : ℕ → List ℕ) (l : ℕ) → texts_from f l 1 ≡ f l ∷ []
+texts-last : (f : ℕ → List ℕ) (l n : ℕ) → n ≡ 1 → texts_from f l n ≡ f l ∷ []
 unfolding texts_from
-texts-last f l = refl
+texts-last f l n is = ap (texts_from f l) is
+
+pub collision-from : (digest : List ℕ → List ℕ) (f h : ℕ → List ℕ) (l n k : ℕ) → n ≡ k + 1
+    → first_collision digest (f l ∷ texts_from f (l + 1) k) (h l ∷ texts_from h (l + 1) k) ≡ first_collision digest (texts_from f l n) (texts_from h l n)
+collision-from digest f h l n k is =
+    ap (λ xs. first_collision digest xs (h l ∷ texts_from h (l + 1) k)) (sym (texts-next f l n k is))
+    ∙ ap (first_collision digest (texts_from f l n)) (sym (texts-next h l n k is))
+
+pub collision-last : (digest : List ℕ → List ℕ) (f h : ℕ → List ℕ) (l n : ℕ) → n ≡ 1
+    → first_collision digest (f l ∷ []) (h l ∷ []) ≡ first_collision digest (texts_from f l n) (texts_from h l n)
+collision-last digest f h l n is =
+    ap (λ xs. first_collision digest xs (h l ∷ [])) (sym (texts-last f l n is)) ∙ ap (first_collision digest (texts_from f l n)) (sym (texts-last h l n is))
 
 pub text-first : (digest : List ℕ → List ℕ) (o : Opening) (addr : ℕ) → leaf_text o.chunk ≡ path_text digest o addr 0
 unfolding opened
