@@ -114,9 +114,9 @@ plain-opening digest m addr o same levels is =
     let along : ℕ → Digest32 = λ l. record { 0 = memory_node digest m l (beside (addr / 32 / 2 ^ l)) } in
     let none : Digest32 = record { 0 = [] } in
     let path-same : o.path.0 ≡ map along (range_with_len 0 27) =
-        ext_get_or none o.path.0 (map along (range_with_len 0 27)) (levels ∙ sym (length-map-range_with_len along 0 27)) (λ l below.
-          let low : l < 27 = omega (arith, levels) in
-          same-digest _ _ (is l low) ∙ sym (get_or-map-range_with_len along 0 27 l l none low (omega arith))) in
+    ext_get_or none o.path.0 (map along (range_with_len 0 27)) (levels ∙ sym (length-map-range_with_len along 0 27)) (λ l below.
+    let low : l < 27 = omega (arith, levels) in
+    same-digest _ _ (is l low) ∙ sym (get_or-map-range_with_len along 0 27 l l none low (omega arith))) in
     λ i. record { chunk = same i; path = record { 0 = path-same i } }
 
 -- a proof with a state's parts and the chunks that they call for is the plain proof

@@ -49,14 +49,14 @@ module _ (laws : PathLaws) (digest : List ℕ → List ℕ) (is_digest : (bytes 
       → first_collision digest (texts_from (path_text digest x addr) 0 28) (texts_from (path_text digest y addr) 0 28) ≡ None → x ≡ y
   openings-same mem x y addr x_range y_range x_climbs y_climbs none = ⊎_elim
       (λ whole.
-        let chunk : x.chunk ≡ y.chunk = (cons_parts 0 0 x.chunk y.chunk whole.0).1 in
-        let path : x.path.0 ≡ y.path.0 =
-            ext_get_or (record { 0 = [] }) x.path.0 y.path.0 (x_range.levels ∙ sym y_range.levels) (λ l below. same-digest _ _ (whole.1 l (subst (λ n. l < n) x_range.levels below))) in
-        λ i. record { chunk = chunk i; path = record { 0 = path i } })
+      let chunk : x.chunk ≡ y.chunk = (cons_parts 0 0 x.chunk y.chunk whole.0).1 in
+      let path : x.path.0 ≡ y.path.0 =
+      ext_get_or (record { 0 = [] }) x.path.0 y.path.0 (x_range.levels ∙ sym y_range.levels) (λ l below. same-digest _ _ (whole.1 l (subst (λ n. l < n) x_range.levels below))) in
+      λ i. record { chunk = chunk i; path = record { 0 = path i } })
       (λ split. absurd (split.2.differ
-        (texts-agree digest (path_text digest x addr) (path_text digest y addr) 0 28 none split.0 (omega arith) (omega arith) split.2.agree)))
+      (texts-agree digest (path_text digest x addr) (path_text digest y addr) 0 28 none split.0 (omega arith) (omega arith) split.2.agree)))
       (laws.paths digest is_digest (leaf_text x.chunk) (leaf_text y.chunk) (digest_at x.path.0) (digest_at y.path.0) (addr / 32) 27
-        (λ l below. x_range.sizes l below ∙ sym (y_range.sizes l below)) (sym x_climbs ∙ y_climbs))
+      (λ l below. x_range.sizes l below ∙ sym (y_range.sizes l below)) (sym x_climbs ∙ y_climbs))
 
   chunks-same : (mem : List ℕ) (x y : Option Opening) (address : Option ℕ) → IsOpeningInRange x → IsOpeningInRange y
       → is_some x ≡ is_some address → is_some y ≡ is_some address → OpensAt digest mem x address → OpensAt digest mem y address
@@ -95,15 +95,15 @@ module _ (laws : PathLaws) (digest : List ℕ → List ℕ) (is_digest : (bytes 
       let mem : y.mem.0 ≡ x.mem.0 = ap (λ (h : Held). h.mem) (sym held) in
       let fetch_address-same : fetch_called y ≡ fetch_called x = ap (λ (h : Held). fetch_address h.ctl) (sym held) in
       let fetch : x.fetch ≡ y.fetch = chunks-same x.mem.0 x.fetch y.fetch (fetch_called x) x_range.fetch y_range.fetch x_leads.fetch_shaped
-          (y_leads.fetch_shaped ∙ ap is_some fetch_address-same) x_leads.fetch_opens
-          (subst (λ address. OpensAt digest x.mem.0 y.fetch address) fetch_address-same (subst (λ m. OpensAt digest m y.fetch (fetch_called y)) mem y_leads.fetch_opens))
-          (subst (λ address. first_collision digest (fetch_texts digest x) (chunk_texts digest y.fetch address) ≡ None) fetch_address-same inner.0) in
+      (y_leads.fetch_shaped ∙ ap is_some fetch_address-same) x_leads.fetch_opens
+      (subst (λ address. OpensAt digest x.mem.0 y.fetch address) fetch_address-same (subst (λ m. OpensAt digest m y.fetch (fetch_called y)) mem y_leads.fetch_opens))
+      (subst (λ address. first_collision digest (fetch_texts digest x) (chunk_texts digest y.fetch address) ≡ None) fetch_address-same inner.0) in
       let operand_address-same : operand_called y ≡ operand_called x =
-          ap (λ (h : Held). operand_address h.regs (fetched_in y.fetch (fetch_address h.ctl))) (sym held) ∙ ap (λ f. operand_address x.regs (fetched_in f (fetch_called x))) (sym fetch) in
+      ap (λ (h : Held). operand_address h.regs (fetched_in y.fetch (fetch_address h.ctl))) (sym held) ∙ ap (λ f. operand_address x.regs (fetched_in f (fetch_called x))) (sym fetch) in
       let operand : x.operand ≡ y.operand = chunks-same x.mem.0 x.operand y.operand (operand_called x) x_range.operand y_range.operand x_leads.operand_shaped
-          (y_leads.operand_shaped ∙ ap is_some operand_address-same) x_leads.operand_opens
-          (subst (λ address. OpensAt digest x.mem.0 y.operand address) operand_address-same (subst (λ m. OpensAt digest m y.operand (operand_called y)) mem y_leads.operand_opens))
-          (subst (λ address. first_collision digest (operand_texts digest x) (chunk_texts digest y.operand address) ≡ None) operand_address-same inner.1) in
+      (y_leads.operand_shaped ∙ ap is_some operand_address-same) x_leads.operand_opens
+      (subst (λ address. OpensAt digest x.mem.0 y.operand address) operand_address-same (subst (λ m. OpensAt digest m y.operand (operand_called y)) mem y_leads.operand_opens))
+      (subst (λ address. first_collision digest (operand_texts digest x) (chunk_texts digest y.operand address) ≡ None) operand_address-same inner.1) in
       proof-same x y held fetch operand
 
   pub proofs-without-collision : (a : Digest32) (x y : StepProof) (b c : Digest32) → IsInRange x → IsInRange y → Leads digest a x b → Leads digest a y c
@@ -122,7 +122,7 @@ no-collision-of-equal digest a x = go (bytes_eq a.0 (root_of_held digest (held_b
     nothing : opened_collision digest x x ≡ None
     nothing =
         ap (λ found. first_there found (first_there (first_collision digest (fetch_texts digest x) (fetch_texts digest x)) (first_collision digest (operand_texts digest x) (operand_texts digest x))))
-          (collision_of_same digest (part_texts digest x))
+        (collision_of_same digest (part_texts digest x))
         ∙ (ap (λ found. first_there found (first_collision digest (operand_texts digest x) (operand_texts digest x))) (collision_of_same digest (fetch_texts digest x))
         ∙ collision_of_same digest (operand_texts digest x))
 
@@ -158,9 +158,9 @@ module _ (digest : List ℕ → List ℕ) (x y : StepProof) (pair : List ℕ × 
   opened-collides some = ⊎_elim
       (λ parts. collides (part_texts digest x) (part_texts digest y) (among-parts x) (among-parts y) parts)
       (λ chunks. ⊎_elim
-        (λ fetch. collides (fetch_texts digest x) (fetch_texts digest y) (among-fetch x) (among-fetch y) fetch)
-        (λ operand. collides (operand_texts digest x) (operand_texts digest y) (among-operand x) (among-operand y) operand)
-        (either-there (first_collision digest (fetch_texts digest x) (fetch_texts digest y)) _ chunks))
+      (λ fetch. collides (fetch_texts digest x) (fetch_texts digest y) (among-fetch x) (among-fetch y) fetch)
+      (λ operand. collides (operand_texts digest x) (operand_texts digest y) (among-operand x) (among-operand y) operand)
+      (either-there (first_collision digest (fetch_texts digest x) (fetch_texts digest y)) _ chunks))
       (either-there (first_collision digest (part_texts digest x) (part_texts digest y)) _ some)
 
   pub proofs-collide : (a : Digest32) → step_collision digest a x y ≡ Some pair → IsStepCollision digest x y pair

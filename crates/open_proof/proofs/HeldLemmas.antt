@@ -61,10 +61,10 @@ module _ (laws : StepLaws) (digest : List ℕ → List ℕ) where
     shown-stored value low =
         let after = with_number m addr width value in
         let stored : with_number_in o.chunk (addr % 32) width value ≡ chunk_at after (addr / 32) =
-            ap (λ bytes. with_number_in bytes (addr % 32) width value) shown.chunk
-            ∙ (laws.stored m (addr / 32) (addr % 32) width value fits ∙ ap (λ a. chunk_at (with_number m a width value) (addr / 32)) whole) in
+        ap (λ bytes. with_number_in bytes (addr % 32) width value) shown.chunk
+        ∙ (laws.stored m (addr / 32) (addr % 32) width value fits ∙ ap (λ a. chunk_at (with_number m a width value) (addr / 32)) whole) in
         let elsewhere : (j : ℕ) → j ≢ addr / 32 → chunk_at m j ≡ chunk_at after j =
-            λ j apart. sym (ap (λ a. chunk_at (with_number m a width value) j) (sym whole) ∙ laws.elsewhere m (addr / 32) (addr % 32) width value j fits apart) in
+        λ j apart. sym (ap (λ a. chunk_at (with_number m a width value) j) (sym whole) ∙ laws.elsewhere m (addr / 32) (addr % 32) width value j fits apart) in
         let top : addr / 32 / 2 ^ 27 ≡ 0 = omega arith in
         ap (λ bytes. digest (opened digest (leaf_text bytes) (digest_at o.path.0) 27 (addr / 32))) stored
         ∙ (laws.changed digest m after (digest_at o.path.0) 27 (addr / 32) elsewhere shown.path ∙ ap (memory_node digest after 27) top)
@@ -103,7 +103,7 @@ module _ (laws : StepLaws) (digest : List ℕ → List ℕ) where
   held-met (Some o) s e read (need.Store addr width value) reads access shown met other =
       ap (held_after digest (Some o) (held_of digest s)) other
       ∙ (ap (λ memory. record (held_after digest (Some o) (held_of digest s) (Store addr width value)) { mem = memory })
-          (shown-stored s.memory o addr width shown (within addr width access) value access.2)
+      (shown-stored s.memory o addr width shown (within addr width access) value access.2)
       ∙ ap (λ e'. held_of digest (after_effect s e')) (sym met))
   held-met operand s e read (need.Trap code) reads access shown met other =
       ap (held_after digest operand (held_of digest s)) other

@@ -54,11 +54,11 @@ module _ (laws : PathLaws) (digest : List ℕ → List ℕ) where
   leads-leading : (a : Digest32) (proof : StepProof) (b : Digest32) → Leads digest a proof b → is_leading digest a proof ≡ true
   leads-leading a proof b leads =
       and-true _ _ (and-true _ _ (and-true _ _ (and-true _ _
-        ((bytes_eq-Decides a.0 (root_of_held digest (held_by proof))).1 leads.parts_open)
-        ((called-shape proof.fetch (fetch_called proof)).1 leads.fetch_shaped))
-        ((climbs-opens proof.mem.0 proof.fetch (fetch_called proof)).1 leads.fetch_opens))
-        ((called-shape proof.operand (operand_called proof)).1 leads.operand_shaped))
-        ((climbs-opens proof.mem.0 proof.operand (operand_called proof)).1 leads.operand_opens)
+      ((bytes_eq-Decides a.0 (root_of_held digest (held_by proof))).1 leads.parts_open)
+      ((called-shape proof.fetch (fetch_called proof)).1 leads.fetch_shaped))
+      ((climbs-opens proof.mem.0 proof.fetch (fetch_called proof)).1 leads.fetch_opens))
+      ((called-shape proof.operand (operand_called proof)).1 leads.operand_shaped))
+      ((climbs-opens proof.mem.0 proof.operand (operand_called proof)).1 leads.operand_opens)
 
   pub leads-of : (a : Digest32) (proof : StepProof) (b : Digest32) → leads_to digest a proof ≡ Some b → (is_in_range proof ≡ true) × Leads digest a proof b
   unfolding leads_to

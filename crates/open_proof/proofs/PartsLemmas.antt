@@ -23,5 +23,5 @@ module _ (digest : List ℕ → List ℕ) (is_digest : (bytes : List ℕ) → le
   parts-same mem registers control =
       let regs = registers_text_same p.regs q.regs p_range.words q_range.words registers in
       let fields = control_text_same p.ctl.pc q.ctl.pc p.ctl.status q.ctl.status p.ctl.out_len q.ctl.out_len p.ctl.chain.0 q.ctl.chain.0
-          p_range.pc_fits q_range.pc_fits p_range.code_fits q_range.code_fits p_range.length_fits q_range.length_fits control in
+      p_range.pc_fits q_range.pc_fits p_range.code_fits q_range.code_fits p_range.length_fits q_range.length_fits control in
       held-same p q mem regs fields.0 fields.1 fields.2 fields.3

@@ -160,7 +160,7 @@ module _ (laws : PathLaws) (digest : List ℕ → List ℕ) where
         (λ whole. inl (record { chunk = (cons_parts 0 0 _ _ whole.0).1; path = whole.1 }))
         (λ split. inr (split.0, split.1, opened digest (leaf_text (chunk_at m k)) truth split.0 k, split.2, string-along s k split.0 split.1 (omega arith)))
         (laws.paths digest is_digest (leaf_text o.chunk) (leaf_text (chunk_at m k)) (digest_at o.path.0) truth k 27
-          (λ l below. range.sizes l below ∙ sym (node-size m l (beside (k / 2 ^ l)))) meet)
+        (λ l below. range.sizes l below ∙ sym (node-size m l (beside (k / 2 ^ l)))) meet)
 
     pub shown-or-found : (s : State) (chunk : Option Opening) (address : Option ℕ) → IsLowAt address → IsOpeningInRange chunk
         → is_some chunk ≡ is_some address → OpensAt digest (memory_node digest s.memory 27 0) chunk address

@@ -67,14 +67,14 @@ module _ (steps : StepLaws) (laws : PathLaws) (digest : List ℕ → List ℕ) (
       let q_range = range-of-state digest s valid (node-size laws digest is_digest s.memory 27 0) in
       ⊎_elim
       (λ state.
-        let parts = state-parts digest is_digest p q range.parts q_range state in
-        ⊎_elim
-        (λ registers. ⊎_elim
-          (λ control. inl (parts-same digest is_digest p q range.parts q_range parts.0 registers control))
-          (λ split. inr (found proof s _ _ split (opened-part digest proof _ (2, omega arith, refl)) (is_control refl)))
-          (same-or-split digest (control_text_of p.ctl) (control_text_of q.ctl) parts.2))
-        (λ split. inr (found proof s _ _ split (opened-part digest proof _ (1, omega arith, refl)) (is_registers refl)))
-        (same-or-split digest (registers_text p.regs) (registers_text q.regs) parts.1))
+      let parts = state-parts digest is_digest p q range.parts q_range state in
+      ⊎_elim
+      (λ registers. ⊎_elim
+      (λ control. inl (parts-same digest is_digest p q range.parts q_range parts.0 registers control))
+      (λ split. inr (found proof s _ _ split (opened-part digest proof _ (2, omega arith, refl)) (is_control refl)))
+      (same-or-split digest (control_text_of p.ctl) (control_text_of q.ctl) parts.2))
+      (λ split. inr (found proof s _ _ split (opened-part digest proof _ (1, omega arith, refl)) (is_registers refl)))
+      (same-or-split digest (registers_text p.regs) (registers_text q.regs) parts.1))
       (λ split. inr (found proof s _ _ split (opened-part digest proof _ (0, omega arith, refl)) (is_state refl)))
       (same-or-split digest (text_of_held digest p) (text_of_held digest q) roots)
 
@@ -86,7 +86,7 @@ module _ (steps : StepLaws) (laws : PathLaws) (digest : List ℕ → List ℕ) (
       ⊎_elim inl
       (λ split. inr (found proof s split.0 split.1 split.2 (opened-fetch digest proof split.0 split.3) split.4))
       (shown-or-found laws digest is_digest s proof.fetch (fetch_called proof) (low-word (fetch_called proof) (word-fetched proof.ctl range.parts.pc_fits)) range.fetch
-        leads.fetch_shaped (subst (λ mem. OpensAt digest mem proof.fetch (fetch_called proof)) memory leads.fetch_opens))
+      leads.fetch_shaped (subst (λ mem. OpensAt digest mem proof.fetch (fetch_called proof)) memory leads.fetch_opens))
 
   operand-or-found : (proof : StepProof) (s : State) (a b : Digest32) → IsInRange proof → IsValid s → Leads digest a proof b → held_by proof ≡ held_of digest s
       → IsShownAt digest s.memory proof.operand (operand_called proof) ⊎ ((pair : List ℕ × List ℕ) × IsStateCollision digest proof s pair)
@@ -95,7 +95,7 @@ module _ (steps : StepLaws) (laws : PathLaws) (digest : List ℕ → List ℕ) (
       ⊎_elim inl
       (λ split. inr (found proof s split.0 split.1 split.2 (opened-operand digest proof split.0 split.3) split.4))
       (shown-or-found laws digest is_digest s proof.operand (operand_called proof) (low-operand steps proof.regs (fetched proof)) range.operand
-        leads.operand_shaped (subst (λ mem. OpensAt digest mem proof.operand (operand_called proof)) memory leads.operand_opens))
+      leads.operand_shaped (subst (λ mem. OpensAt digest mem proof.operand (operand_called proof)) memory leads.operand_opens))
 
   -- the addresses for which the parts call are those for which the state calls
   fetch-same : (proof : StepProof) (s : State) → held_by proof ≡ held_of digest s → fetch_called proof ≡ fetch_of_state digest s
@@ -111,14 +111,14 @@ module _ (steps : StepLaws) (laws : PathLaws) (digest : List ℕ → List ℕ) (
       → (b.0 ≡ state_root digest (step s)) ⊎ ((pair : List ℕ × List ℕ) × IsStateCollision digest proof s pair)
   leads-or-found proof s a b range valid root leads = ⊎_elim
       (λ held. ⊎_elim
-        (λ fetch. ⊎_elim
-          (λ operand.
-            let fetch' = subst (IsShownAt digest s.memory proof.fetch) (fetch-same proof s held) fetch in
-            let operand' = subst (IsShownAt digest s.memory proof.operand) (operand-same proof s held valid.pc fetch') operand in
-            inl (leads.root ∙ (ap (λ h. root_of_held digest (held_step digest proof.fetch proof.operand h)) held
-              ∙ ap (root_of_held digest) (held-step steps digest proof.fetch proof.operand s fetch' operand'))))
-          inr (operand-or-found proof s a b range valid leads held))
-        inr (fetch-or-found proof s a b range valid leads held))
+      (λ fetch. ⊎_elim
+      (λ operand.
+      let fetch' = subst (IsShownAt digest s.memory proof.fetch) (fetch-same proof s held) fetch in
+      let operand' = subst (IsShownAt digest s.memory proof.operand) (operand-same proof s held valid.pc fetch') operand in
+      inl (leads.root ∙ (ap (λ h. root_of_held digest (held_step digest proof.fetch proof.operand h)) held
+      ∙ ap (root_of_held digest) (held-step steps digest proof.fetch proof.operand s fetch' operand'))))
+      inr (operand-or-found proof s a b range valid leads held))
+      inr (fetch-or-found proof s a b range valid leads held))
       inr (parts-or-found proof s range valid (sym leads.parts_open ∙ root))
 
 -- the plain proof leads from the root of its state to that of the next

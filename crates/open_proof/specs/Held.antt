@@ -92,6 +92,6 @@ unfoldable pub held_step : (List ℕ → List ℕ) → Option Opening → Option
 held_step digest fetch operand p =
     if is_running p.ctl.status
     then (if p.ctl.pc % 4 == 0
-      then held_after_word digest operand p (reading_of (number_shown fetch p.ctl.pc 4))
-      else held_after digest operand p (Trap misaligned_jump))
+    then held_after_word digest operand p (reading_of (number_shown fetch p.ctl.pc 4))
+    else held_after digest operand p (Trap misaligned_jump))
     else p

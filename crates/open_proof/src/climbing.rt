@@ -7,13 +7,13 @@ use digest_core::{Digester, leaf_text};
 use merkle_nodes::climbing_is_opening;
 use rd_base::{Digest32, Path};
 
-/// The digest of memory that a chunk climbs to along the bits of its index, from the leaf string up. It is `h` exactly
-/// where `h` opens to the chunk with these siblings.
-pub fn climb<D: Digester>(d: D, index: u32, chunk: &[u8; 32], path: &Path) -> Digest32
+/// The digest to which a chunk of memory climbs along a path, from the leaf string up through 27 levels. Bit l of `index`
+/// is 0 where the path stands on the left at level l. It is `h` exactly where `h` opens to the chunk along the index.
+pub fn climb<D: Digester>(d: D, index: u32, chunk: [u8; 32], path: &Path) -> Digest32
     ensures opens { (h : List ℕ) →
-        (result.0 ≡ h) ↔ Opens D.digest_of (leaf_string chunk.now) (digest_at path.now.0) 27 index h }
-    ensures digest { result.0 ≡ D.digest_of (opened D.digest_of (leaf_string chunk.now) (digest_at path.now.0) 27 index) }
+        (result.0 ≡ h) ↔ Opens D.digest_of (leaf_string chunk) (digest_at path.now.0) 27 index h }
+    ensures digest { result.0 ≡ D.digest_of (opened D.digest_of (leaf_string chunk) (digest_at path.now.0) 27 index) }
 {
     climbing_is_opening();
-    merkle_nodes::climb(d, index, &leaf_text(chunk), &path.0)
+    merkle_nodes::climb(d, index, &leaf_text(&chunk), &path.0)
 }

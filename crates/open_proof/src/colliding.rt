@@ -29,10 +29,10 @@ fn text_collision<D: Digester>(d: D, x: OpenText, y: OpenText) -> Option<(OpenTe
 {
     let of_x = d.digest(x.as_slice());
     let of_y = d.digest(y.as_slice());
-    if collides(&x, &of_x, &y, &of_y) {
-        return Some((x, y));
+    if !collides(&x, &of_x, &y, &of_y) {
+        return None;
     }
-    None
+    Some((x, y))
 }
 
 /// The state string of a proof's parts.

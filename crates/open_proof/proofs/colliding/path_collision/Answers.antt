@@ -28,7 +28,7 @@ levels-preserved g c =
     let of_x = c.digest-of_x.ensures ∙ ap digest (c.as_slice.ensures ∙ inv.left) in
     let of_y = c.digest-of_y.ensures ∙ ap digest (c.as_slice-in-levels.ensures ∙ inv.right) in
     let test : collides digest (f l) (h l) ≡ false = ap (λ t. collides digest t (h l)) (sym inv.left) ∙ (ap (collides digest c.levels.x) (sym inv.right)
-        ∙ collides-code digest c.levels.x c.levels.y c.digest-of_x.result.0 c.digest-of_y.result.0 _ (c.digest-of_x.ensures ∙ ap digest c.as_slice.ensures) (c.digest-of_y.ensures ∙ ap digest c.as_slice-in-levels.ensures) c.if-collides.ensures) in
+    ∙ collides-code digest c.levels.x c.levels.y c.digest-of_x.result.0 c.digest-of_y.result.0 _ (c.digest-of_x.ensures ∙ ap digest c.as_slice.ensures) (c.digest-of_y.ensures ∙ ap digest c.as_slice-in-levels.ensures) c.if-collides.ensures) in
     record {
       left = text-next digest x c.args.first_addr l c.levels.i c.digest-of_x.result.0 c.joined_text-x.result _ of_x inv.at_left refl c.joined_text-x.ensures;
       right = text-next digest y c.args.second_addr l c.levels.j c.digest-of_y.result.0 c.joined_text-y.result _ of_y inv.at_right refl c.joined_text-y.ensures;
@@ -45,7 +45,7 @@ returns-then-collides g c =
     let f = path_text digest c.args.first.now c.args.first_addr in
     let h = path_text digest c.args.second.now c.args.second_addr in
     let test : collides digest (f l) (h l) ≡ true = ap (λ t. collides digest t (h l)) (sym inv.left) ∙ (ap (collides digest c.levels.x) (sym inv.right)
-        ∙ collides-code digest c.levels.x c.levels.y c.digest-of_x.result.0 c.digest-of_y.result.0 _ (c.digest-of_x.ensures ∙ ap digest c.as_slice.ensures) (c.digest-of_y.ensures ∙ ap digest c.as_slice-in-levels.ensures) c.if-collides.ensures) in
+    ∙ collides-code digest c.levels.x c.levels.y c.digest-of_x.result.0 c.digest-of_y.result.0 _ (c.digest-of_x.ensures ∙ ap digest c.as_slice.ensures) (c.digest-of_y.ensures ∙ ap digest c.as_slice-in-levels.ensures) c.if-collides.ensures) in
     ap (λ t. Some (t, c.levels.y)) inv.left ∙ (ap (λ t. Some (f l, t)) inv.right
     ∙ (sym (collision-first digest (f l) (h l) _ _ test) ∙ (collision-from digest f h l (28 - l) (28 - (l + 1)) (omega arith) ∙ inv.rest)))
 

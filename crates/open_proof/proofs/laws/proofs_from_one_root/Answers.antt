@@ -30,10 +30,10 @@ apart laws digest is_digest a x y b c x_leads y_leads differ = go (step_collisio
 pub returns : goal.returns
 returns c =
     let laws : PathLaws = record {
-  climbs = c.climbing_is_opening.ensures.climbs;
-  paths = c.two_paths_agree_or_split.ensures.paths;
-  nodes = c.memory_nodes.ensures.climbs;
-} in
+      climbs = c.climbing_is_opening.ensures.climbs;
+      paths = c.two_paths_agree_or_split.ensures.paths;
+      nodes = c.memory_nodes.ensures.climbs;
+    } in
     record {
       equal = no-collision-of-equal;
       without = without laws;

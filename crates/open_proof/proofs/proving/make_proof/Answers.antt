@@ -20,9 +20,9 @@ returns-clause-plain g c =
     let made = c.with_chunks.ensures in
     let fetch : c.fetch_address-fetch.result ≡ fetch_of_state digest s = c.fetch_address-fetch.ensures.value ∙ ap fetch_at state in
     let operand : c.operand_address-operand.result ≡ operand_of_state digest s =
-        c.operand_address-operand.ensures
-        ∙ (ap (operand_address c.machine-machine.result.now.regs) (c.fetched_at-instr.ensures ∙ ap (fetched_at c.machine-machine.result.now.mem) c.fetch_address-fetch.ensures.value)
-        ∙ ap (λ (t : State). operand_address t.regs (fetched_at t.memory (fetch_at t))) state) in
+    c.operand_address-operand.ensures
+    ∙ (ap (operand_address c.machine-machine.result.now.regs) (c.fetched_at-instr.ensures ∙ ap (fetched_at c.machine-machine.result.now.mem) c.fetch_address-fetch.ensures.value)
+    ∙ ap (λ (t : State). operand_address t.regs (fetched_at t.memory (fetch_at t))) state) in
     plain-whole digest s c.with_chunks.result made.held
     (made.fetch ∙ (c.opening_at.ensures ∙ ap (opening_at digest s.memory) fetch))
     (made.operand ∙ (c.opening_at-2.ensures ∙ ap (opening_at digest s.memory) operand))
