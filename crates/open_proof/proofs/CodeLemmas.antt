@@ -1,5 +1,5 @@
 -- What the code's steps come to.
-use Rattle.std.proofs.Common.{◌≡◌, ℕ, zero, suc, ◌+◌, ◌-◌, ◌/◌, ◌%◌, ◌^◌, ◌<◌, List, [], ◌∷◌, length, get_or, Option, Some, None, Bool, true, false, true≢false, is_some, not, ◌&&◌, refl, sym, ap, ◌∙◌, arith, add-one, sub-one, map}
+use Rattle.std.proofs.Common.{◌≡◌, ℕ, ◌+◌, ◌/◌, ◌%◌, ◌^◌, ◌<◌, List, [], ◌∷◌, length, Option, Some, None, Bool, true, false, true≢false, is_some, not, ◌&&◌, refl, sym, ap, ◌∙◌, arith, add-one, map}
 use Rattle.std.specs.Prelude.{bytes_eq, if◌then◌else◌}
 use Rattle.std.specs.List.{range_with_len}
 use Rattle.std.proofs.Math.Nat.{div-one, div-div-eq-div-mul, pow-suc}
@@ -15,8 +15,8 @@ use Rattle.merkle_nodes.specs.Opening.{joined, opened, IsPath}
 use Rattle.mem_tree.specs.Memory.{memory_leaf, memory_node}
 use Rattle.rv_step.specs.State.{State}
 use Rattle.out_chain.specs.Collision.{collides, first_collision}
-use Rattle.open_proof.specs.Held.{Held, held_by, held_of, path_text}
-use Rattle.open_proof.specs.Opened.{texts_from, chunk_texts}
+use Rattle.open_proof.specs.Held.{held_by, held_of, path_text}
+use Rattle.open_proof.specs.Opened.{texts_from}
 use Rattle.open_proof.specs.Collision.{first_there}
 use Rattle.open_proof.specs.PlainProof.{siblings_of, opening_of, opening_at, fetch_of_state, operand_of_state, plain_proof}
 use Rattle.open_proof.proofs.CollisionLemmas.{same-digest}

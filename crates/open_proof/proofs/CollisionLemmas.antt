@@ -1,5 +1,5 @@
 -- Two different proofs that lead from one root have two different strings of one digest.
-use Rattle.std.proofs.Common.{◌≡◌, ◌≢◌, ◌↔◌, ℕ, zero, suc, ◌+◌, ◌/◌, ◌^◌, ◌<◌, ◌≤◌, ◌⊎◌, inl, inr, List, [], ◌∷◌, ◌++◌, length, get_or, Option, Some, None, is_some, Bool, true, false, true≢false, ◌&&◌, Contains, refl, sym, ap, ◌∙◌, subst, arith, ⊎_elim}
+use Rattle.std.proofs.Common.{◌≡◌, ℕ, zero, suc, ◌+◌, ◌/◌, ◌<◌, ◌≤◌, ◌⊎◌, inl, inr, List, [], length, Option, Some, None, is_some, Bool, true, false, ◌&&◌, Contains, refl, sym, ap, ◌∙◌, subst, arith, ⊎_elim}
 use Rattle.std.specs.Prelude.{bytes_eq, if◌then◌else◌}
 use Rattle.std.proofs.lemmas.Bool.{cases_eq}
 use Rattle.std.proofs.lemmas.List.{ext_get_or}
@@ -11,15 +11,14 @@ use Rattle.rd_base.specs.declared.proof.StepProof.{StepProof}
 use Rattle.digest_core.specs.Text.{leaf_text, registers_text}
 use Rattle.digest_core.specs.TextLaws.{cons_parts}
 use Rattle.merkle_nodes.specs.Node.{digest_at}
-use Rattle.merkle_nodes.specs.Split.{IsSplitAt}
 use Rattle.out_chain.specs.Root.{control_text_of}
 use Rattle.out_chain.specs.Collision.{first_collision}
 use Rattle.out_chain.specs.ClaimLaws.{collision-none, collision_of_same, first-collides}
-use Rattle.open_proof.specs.Held.{Held, held_by, held_step, root_of_held, text_of_held, path_text}
-use Rattle.open_proof.specs.Leads.{Leads, OpensAt, fetch_address, fetched_in, fetch_called, operand_address, operand_called, root_after}
+use Rattle.open_proof.specs.Held.{Held, held_by, root_of_held, text_of_held, path_text}
+use Rattle.open_proof.specs.Leads.{Leads, OpensAt, fetch_address, fetched_in, fetch_called, operand_address, operand_called}
 use Rattle.open_proof.specs.Opened.{texts_from, chunk_texts, part_texts, fetch_texts, operand_texts, opened_by_step}
 use Rattle.open_proof.specs.Collision.{first_there, opened_collision, step_collision, IsStepCollision}
-use Rattle.open_proof.proofs.RangeLemmas.{IsInRange, IsPathInRange, IsOpeningInRange, both-true}
+use Rattle.open_proof.proofs.RangeLemmas.{IsInRange, IsPathInRange, IsOpeningInRange}
 use Rattle.open_proof.proofs.PartsLemmas.{state-parts, parts-same}
 use Rattle.open_proof.proofs.ShownLemmas.{PathLaws, chunk-climbs}
 

@@ -1,5 +1,5 @@
 -- A step depends on what is opened alone.
-use Rattle.std.proofs.Common.{◌≡◌, ◌≢◌, ℕ, ◌+◌, ◌*◌, ◌-◌, ◌/◌, ◌%◌, ◌^◌, ◌<◌, ◌≤◌, ◌⊎◌, List, [], ◌∷◌, ◌++◌, length, Option, Some, None, Bool, true, false, cond, eqb, ◌&&◌, refl, sym, ap, ◌∙◌, subst, arith, ⊎_elim, length-append}
+use Rattle.std.proofs.Common.{◌≡◌, ◌≢◌, ℕ, ◌+◌, ◌*◌, ◌/◌, ◌%◌, ◌^◌, ◌<◌, ◌≤◌, List, [], ◌∷◌, ◌++◌, length, Option, Some, None, Bool, true, false, cond, eqb, ◌&&◌, refl, sym, ap, ◌∙◌, arith, ⊎_elim, length-append}
 use Rattle.std.proofs.lemmas.Bool.{eqb-true}
 use Rattle.rd_base.specs.Status.{is_running}
 use Rattle.rd_base.specs.declared.proof.Opening.{Opening}
@@ -20,8 +20,8 @@ use Rattle.rv_step.specs.declared.effect.Effect.{Effect}
 use Rattle.rv_step.specs.declared.effect.Effect.TheVariants.{Write, Jump, Branch, Next, Store, Put, Exit, Trap}
 use Rattle.rv_step.specs.declared.asked.Need.{Need}
 use Rattle.rv_step.specs.declared.asked.Need.TheVariants as need
-use Rattle.open_proof.specs.Held.{Held, held_of, held_after, held_after_word, held_step, mem_after, number_shown, path_text, chunk_with}
-use Rattle.open_proof.specs.Leads.{fetch_address, address_needed, operand_address}
+use Rattle.open_proof.specs.Held.{held_of, held_after, held_after_word, held_step, number_shown, path_text, chunk_with}
+use Rattle.open_proof.specs.Leads.{address_needed, operand_address}
 use Rattle.open_proof.specs.PlainProof.{IsShown, IsShownAt, fetched_at, fetch_of_state, operand_of_state}
 
 -- the laws of the crates below that a step rests on

@@ -1,6 +1,6 @@
 -- Parts with the same strings are the same.
-use Rattle.std.proofs.Common.{◌≡◌, ℕ, ◌^◌, ◌<◌, List, length, slice_index, refl, sym, ap, ◌∙◌}
-use Rattle.digest_core.specs.Text.{registers_text, control_text, state_text}
+use Rattle.std.proofs.Common.{◌≡◌, ℕ, List, length, sym, ◌∙◌}
+use Rattle.digest_core.specs.Text.{registers_text}
 use Rattle.digest_core.specs.TextLaws.{cons_parts, registers_text_same, control_text_same, state_text_same}
 use Rattle.out_chain.specs.Root.{control_text_of}
 use Rattle.open_proof.specs.Held.{Held, text_of_held}

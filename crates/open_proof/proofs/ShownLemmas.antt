@@ -1,6 +1,5 @@
 -- What an opened chunk shows of a memory whose digest it opens.
-use Rattle.std.proofs.Common.{◌≡◌, ◌≢◌, ◌↔◌, ℕ, zero, suc, ◌+◌, ◌*◌, ◌-◌, ◌/◌, ◌%◌, ◌^◌, ◌<◌, ◌≤◌, ◌⊎◌, inl, inr, List, [], ◌∷◌, ◌++◌, length, get_or, Option, Some, None, is_some, Bool, true, false, cond, eqb, ◌&&◌, Contains, refl, sym, ap, ◌∙◌, subst, arith, ⊎_elim, map}
-use Rattle.std.specs.List.{range_with_len}
+use Rattle.std.proofs.Common.{◌≡◌, ◌↔◌, ℕ, zero, suc, ◌+◌, ◌*◌, ◌-◌, ◌/◌, ◌%◌, ◌^◌, ◌<◌, ◌≤◌, ◌⊎◌, inl, inr, List, [], length, Option, Some, None, is_some, Bool, true, false, cond, eqb, ◌&&◌, Contains, refl, sym, ap, ◌∙◌, subst, arith, ⊎_elim}
 use Rattle.std.proofs.Math.Nat.{div-div-eq-div-mul, pow-suc, div-lt_iff_lt-mul}
 use Rattle.std.proofs.lemmas.Nat.{pow-add, pow_pos}
 use Rattle.std.proofs.lemmas.Bool.{eq-eqb, ne_eqb, cases_eq, eqb-true}
@@ -11,7 +10,7 @@ use Rattle.rd_base.specs.declared.digest.Digest32.{Digest32}
 use Rattle.rd_base.specs.declared.proof.Opening.{Opening}
 use Rattle.rv_decode.specs.Reading.{reading_of}
 use Rattle.rv_decode.specs.declared.instr.Instr.{Instr}
-use Rattle.mem_plain.specs.Contents.{Contents, chunk_at, number_at}
+use Rattle.mem_plain.specs.Contents.{Contents, chunk_at}
 use Rattle.digest_core.specs.Text.{leaf_text, node_text}
 use Rattle.digest_core.specs.TextLaws.{cons_parts}
 use Rattle.merkle_nodes.specs.Node.{node, beside, digest_at}
@@ -24,10 +23,10 @@ use Rattle.rv_step.specs.declared.asked.Need.{Need}
 use Rattle.rv_step.specs.declared.asked.Need.TheVariants as need
 use Rattle.state_commit.specs.Strings.{IsStringOf}
 use Rattle.state_commit.specs.Strings.IsStringOf.{is_leaf, is_node}
-use Rattle.open_proof.specs.Held.{number_shown, path_text}
+use Rattle.open_proof.specs.Held.{path_text}
 use Rattle.open_proof.specs.Leads.{ChunkOpens, OpensAt, fetch_address, fetched_in, address_needed, operand_address}
 use Rattle.open_proof.specs.Opened.{texts_from, chunk_texts}
-use Rattle.open_proof.specs.PlainProof.{siblings_of, opening_of, opening_at, fetched_at, IsShown, IsShownAt}
+use Rattle.open_proof.specs.PlainProof.{siblings_of, opening_at, fetched_at, IsShown, IsShownAt}
 use Rattle.open_proof.proofs.RangeLemmas.{IsPathInRange, IsOpeningInRange}
 use Rattle.open_proof.proofs.HeldLemmas.{StepLaws, shown-number}
 

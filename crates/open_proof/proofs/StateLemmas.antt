@@ -1,6 +1,6 @@
 -- A proof that opens the root of a state has that state's parts, and leads to the root of the state after it, or a string
 -- that it opens and a different string of the state have one digest.
-use Rattle.std.proofs.Common.{◌≡◌, ◌≢◌, ◌↔◌, ℕ, ◌^◌, ◌<◌, ◌⊎◌, inl, inr, List, [], ◌∷◌, ◌++◌, length, Option, Some, None, is_some, Bool, true, false, true≢false, Contains, refl, sym, ap, ◌∙◌, subst, arith, ⊎_elim}
+use Rattle.std.proofs.Common.{◌≡◌, ℕ, ◌^◌, ◌<◌, ◌⊎◌, inl, inr, List, length, is_some, Bool, true, false, true≢false, Contains, refl, sym, ap, ◌∙◌, subst, arith, ⊎_elim}
 use Rattle.std.specs.Prelude.{bytes_eq}
 use Rattle.std.proofs.lemmas.Slice.Eq.{bytes_eq-Decides}
 use Rattle.std.proofs.lemmas.List.Elements.{Contains-append_left, Contains-append_right}
@@ -13,15 +13,15 @@ use Rattle.out_chain.specs.Root.{control_text_of}
 use Rattle.rv_step.specs.State.{State}
 use Rattle.rv_step.specs.Step.{step}
 use Rattle.rv_step.specs.Valid.{IsValid}
-use Rattle.state_commit.specs.StateRoot.{ctl_of, state_root, text_of_state}
+use Rattle.state_commit.specs.StateRoot.{ctl_of, state_root}
 use Rattle.state_commit.specs.Strings.{IsStringOf}
 use Rattle.state_commit.specs.Strings.IsStringOf.{is_state, is_registers, is_control}
 use Rattle.open_proof.specs.Held.{Held, held_of, held_by, held_step, root_of_held, text_of_held}
 use Rattle.open_proof.specs.Leads.{Leads, OpensAt, fetch_address, fetched, fetched_in, fetch_called, operand_address, operand_called}
-use Rattle.open_proof.specs.Opened.{part_texts, fetch_texts, operand_texts, opened_by_step, chunk_texts}
+use Rattle.open_proof.specs.Opened.{part_texts, fetch_texts, operand_texts, opened_by_step}
 use Rattle.open_proof.specs.PlainProof.{IsShownAt, fetched_at, fetch_of_state, operand_of_state, opening_at, plain_proof}
 use Rattle.open_proof.specs.StateCollision.{IsStateCollision}
-use Rattle.open_proof.proofs.RangeLemmas.{IsInRange, IsOpeningInRange, range-of-state}
+use Rattle.open_proof.proofs.RangeLemmas.{IsInRange, range-of-state}
 use Rattle.open_proof.proofs.PartsLemmas.{state-parts, parts-same}
 use Rattle.open_proof.proofs.HeldLemmas.{StepLaws, held-step}
 use Rattle.open_proof.proofs.ShownLemmas.{PathLaws, node-size, shown-opens, shown-or-found, fetched-same, word-fetched, low-word, low-operand, plain-shown, plain-shape}

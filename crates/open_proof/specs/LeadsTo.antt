@@ -1,5 +1,5 @@
 -- Derived, tied to `Leads` by the law `leading_is_decided`: the root to which a proof leads, by tests.
-use Rattle.std.specs.Prelude.{ℕ, List, Bool, true, false, not, ◌&&◌, Option, Some, None, is_some, bytes_eq, if◌then◌else◌}
+use Rattle.std.specs.Prelude.{ℕ, List, Bool, true, false, ◌&&◌, Option, Some, None, bytes_eq, if◌then◌else◌}
 use Rattle.rd_base.specs.declared.digest.Digest32.{Digest32}
 use Rattle.rd_base.specs.declared.proof.Opening.{Opening}
 use Rattle.rd_base.specs.declared.proof.StepProof.{StepProof}

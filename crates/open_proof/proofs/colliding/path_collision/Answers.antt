@@ -1,5 +1,4 @@
-use Rattle.std.proofs.Common.{◌≡◌, ℕ, ◌+◌, ◌-◌, ◌/◌, List, [], ◌∷◌, Some, true, false, refl, ap, ◌∙◌, sym, arith}
-use Rattle.merkle_nodes.specs.Node.{digest_at}
+use Rattle.std.proofs.Common.{◌≡◌, ◌+◌, ◌-◌, ◌/◌, [], ◌∷◌, Some, true, false, refl, ap, ◌∙◌, sym, arith}
 use Rattle.out_chain.specs.Collision.{collides, first_collision}
 use Rattle.open_proof.specs.Held.{path_text}
 use Rattle.open_proof.proofs.CodeLemmas.{collides-code, collision-first, collision-later, collision-from, collision-last, text-first, text-next, place-first, place-next}

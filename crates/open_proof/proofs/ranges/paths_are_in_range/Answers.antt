@@ -1,4 +1,4 @@
-use Rattle.std.proofs.Common.{◌<◌, length, ℕ, arith}
+use Rattle.std.proofs.Common.{◌<◌, arith}
 use Rattle.open_proof.proofs.RangeLemmas.{digests_are}
 use Rattle.open_proof.proofs.ranges.paths_are_in_range.Goals as goal
 
