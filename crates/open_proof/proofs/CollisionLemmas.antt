@@ -129,6 +129,20 @@ no-collision-of-equal digest a x = go (bytes_eq a.0 (root_of_held digest (held_b
     go true = nothing
     go false = refl
 
+-- the strings of the parts and of the chunks are among those that a proof opens
+module _ (digest : List ℕ → List ℕ) (proof : StepProof) (x : List ℕ) where
+  pub opened-part : Contains (part_texts digest proof) x → Contains (opened_by_step digest proof) x
+  unfolding opened_by_step
+  opened-part among = Contains-append_left (part_texts digest proof) _ x among
+
+  pub opened-fetch : Contains (fetch_texts digest proof) x → Contains (opened_by_step digest proof) x
+  unfolding opened_by_step
+  opened-fetch among = Contains-append_right (part_texts digest proof) _ x (Contains-append_left (fetch_texts digest proof) (operand_texts digest proof) x among)
+
+  pub opened-operand : Contains (operand_texts digest proof) x → Contains (opened_by_step digest proof) x
+  unfolding opened_by_step
+  opened-operand among = Contains-append_right (part_texts digest proof) _ x (Contains-append_right (fetch_texts digest proof) (operand_texts digest proof) x among)
+
 -- what is called a collision is one
 module _ (digest : List ℕ → List ℕ) (x y : StepProof) (pair : List ℕ × List ℕ) where
   collides : (xs ys : List (List ℕ)) → ((t : List ℕ) → Contains xs t → Contains (opened_by_step digest x) t)
@@ -137,28 +151,16 @@ module _ (digest : List ℕ → List ℕ) (x y : StepProof) (pair : List ℕ × 
       let found = first-collides digest xs ys pair some in
       record { differ = found.0; one_digest = found.1; first_opened = x_opens pair.0 found.2; second_opened = y_opens pair.1 found.3 }
 
-  among-parts : (z : StepProof) (t : List ℕ) → Contains (part_texts digest z) t → Contains (opened_by_step digest z) t
-  unfolding opened_by_step
-  among-parts z t among = Contains-append_left (part_texts digest z) _ t among
-
-  among-fetch : (z : StepProof) (t : List ℕ) → Contains (fetch_texts digest z) t → Contains (opened_by_step digest z) t
-  unfolding opened_by_step
-  among-fetch z t among = Contains-append_right (part_texts digest z) _ t (Contains-append_left (fetch_texts digest z) (operand_texts digest z) t among)
-
-  among-operand : (z : StepProof) (t : List ℕ) → Contains (operand_texts digest z) t → Contains (opened_by_step digest z) t
-  unfolding opened_by_step
-  among-operand z t among = Contains-append_right (part_texts digest z) _ t (Contains-append_right (fetch_texts digest z) (operand_texts digest z) t among)
-
   either-there : (first other : Option (List ℕ × List ℕ)) → first_there first other ≡ Some pair → (first ≡ Some pair) ⊎ (other ≡ Some pair)
   either-there (Some found) other some = inl some
   either-there None other some = inr some
 
   opened-collides : opened_collision digest x y ≡ Some pair → IsStepCollision digest x y pair
   opened-collides some = ⊎_elim
-      (λ parts. collides (part_texts digest x) (part_texts digest y) (among-parts x) (among-parts y) parts)
+      (λ parts. collides (part_texts digest x) (part_texts digest y) (opened-part digest x) (opened-part digest y) parts)
       (λ chunks. ⊎_elim
-      (λ fetch. collides (fetch_texts digest x) (fetch_texts digest y) (among-fetch x) (among-fetch y) fetch)
-      (λ operand. collides (operand_texts digest x) (operand_texts digest y) (among-operand x) (among-operand y) operand)
+      (λ fetch. collides (fetch_texts digest x) (fetch_texts digest y) (opened-fetch digest x) (opened-fetch digest y) fetch)
+      (λ operand. collides (operand_texts digest x) (operand_texts digest y) (opened-operand digest x) (opened-operand digest y) operand)
       (either-there (first_collision digest (fetch_texts digest x) (fetch_texts digest y)) _ chunks))
       (either-there (first_collision digest (part_texts digest x) (part_texts digest y)) _ some)
 

@@ -9,7 +9,7 @@ use Rattle.open_proof.specs.Held.{held_by, root_of_held, path_text}
 use Rattle.open_proof.specs.Leads.{Leads, OpensAt, fetch_called, operand_called, root_after}
 use Rattle.open_proof.specs.InRange.{is_in_range}
 use Rattle.open_proof.specs.LeadsTo.{is_called, climbs_at, is_leading, leads_to}
-use Rattle.open_proof.proofs.RangeLemmas.{both-true}
+use Rattle.open_proof.proofs.RangeLemmas.{both-true, and-true}
 use Rattle.open_proof.proofs.CollisionLemmas.{same-digest}
 use Rattle.open_proof.proofs.ShownLemmas.{PathLaws, chunk-climbs}
 
@@ -46,10 +46,6 @@ module _ (laws : PathLaws) (digest : List ℕ → List ℕ) where
         operand_opens = (climbs-opens proof.mem.0 proof.operand operand).0 fifth.1;
         root = root;
       }
-
-  and-true : (a b : Bool) → a ≡ true → b ≡ true → (a && b) ≡ true
-  and-true true b x y = y
-  and-true false b x y = x
 
   leads-leading : (a : Digest32) (proof : StepProof) (b : Digest32) → Leads digest a proof b → is_leading digest a proof ≡ true
   leads-leading a proof b leads =

@@ -98,7 +98,7 @@ range-of-state digest s valid size = record {
 }
 
 -- and the other way round
-and-true : (a b : Bool) → a ≡ true → b ≡ true → (a && b) ≡ true
+pub and-true : (a b : Bool) → a ≡ true → b ≡ true → (a && b) ≡ true
 and-true true b x y = y
 and-true false b x y = x
 

@@ -100,13 +100,7 @@ module _ (laws : PathLaws) (digest : List ℕ → List ℕ) where
   shown-opens m (Some o) None low shown = tt
   shown-opens m None None low shown = tt
 
-  -- the strings of a memory along a path
-  along : Contents → ℕ → ℕ → List ℕ
-  along m k l = memory_node digest m l (beside (k / 2 ^ l))
-
-  text-along : Contents → ℕ → ℕ → List ℕ
-  text-along m k l = opened digest (leaf_text (chunk_at m k)) (λ j. memory_node digest m j (beside (k / 2 ^ j))) l k
-
+  -- the string of the node above two neighbours
   node-text : (m : Contents) (l q : ℕ)
       → joined (q % 2) (memory_node digest m l q) (memory_node digest m l (beside q)) ≡ node_text (memory_node digest m l (2 * (q / 2))) (memory_node digest m l (2 * (q / 2) + 1))
   node-text m l q = ⊎_elim
@@ -130,6 +124,7 @@ module _ (laws : PathLaws) (digest : List ℕ → List ℕ) where
       (div-lt_iff_lt-mul {k = 2 ^ suc l} {x = k} {y = 2 ^ (26 - l)} (pow_pos (suc l))).1
       (subst (λ n. k < n) (ap (λ n. 2 ^ n) (sym whole) ∙ pow-add 2 (26 - l) (suc l)) low)
 
+  -- the strings of a memory along a path are strings of the state
   string-along : (s : State) (k l : ℕ) → l ≤ 27 → k < 2 ^ 27 → IsStringOf digest s (opened digest (leaf_text (chunk_at s.memory k)) (λ j. memory_node digest s.memory j (beside (k / 2 ^ j))) l k)
   unfolding opened memory_leaf
   string-along s k zero levels low = is_leaf k low refl

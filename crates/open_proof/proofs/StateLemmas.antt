@@ -3,7 +3,6 @@
 use Rattle.std.proofs.Common.{◌≡◌, ℕ, ◌^◌, ◌<◌, ◌⊎◌, inl, inr, List, length, is_some, Bool, true, false, true≢false, Contains, refl, sym, ap, ◌∙◌, subst, arith, ⊎_elim}
 use Rattle.std.specs.Prelude.{bytes_eq}
 use Rattle.std.proofs.lemmas.Slice.Eq.{bytes_eq-Decides}
-use Rattle.std.proofs.lemmas.List.Elements.{Contains-append_left, Contains-append_right}
 use Rattle.rd_base.specs.declared.digest.Digest32.{Digest32}
 use Rattle.rd_base.specs.declared.proof.StepProof.{StepProof}
 use Rattle.digest_core.specs.Text.{registers_text}
@@ -24,6 +23,7 @@ use Rattle.open_proof.specs.StateCollision.{IsStateCollision}
 use Rattle.open_proof.proofs.RangeLemmas.{IsInRange, range-of-state}
 use Rattle.open_proof.proofs.PartsLemmas.{state-parts, parts-same}
 use Rattle.open_proof.proofs.HeldLemmas.{StepLaws, held-step}
+use Rattle.open_proof.proofs.CollisionLemmas.{opened-part, opened-fetch, opened-operand}
 use Rattle.open_proof.proofs.ShownLemmas.{PathLaws, node-size, shown-opens, shown-or-found, fetched-same, word-fetched, low-word, low-operand, plain-shown, plain-shape}
 
 -- strings of one digest are one, or such a pair
@@ -34,26 +34,7 @@ same-or-split digest x y one = go (bytes_eq x y) refl
     go true test = inl ((bytes_eq-Decides x y).0 test)
     go false test = inr (record { differ = λ same. true≢false (sym ((bytes_eq-Decides x y).1 same) ∙ test); agree = one })
 
--- the strings that a proof opens
-opened-part : (digest : List ℕ → List ℕ) (proof : StepProof) (x : List ℕ) → Contains (part_texts digest proof) x → Contains (opened_by_step digest proof) x
-unfolding opened_by_step
-opened-part digest proof x among = Contains-append_left (part_texts digest proof) _ x among
-
-opened-fetch : (digest : List ℕ → List ℕ) (proof : StepProof) (x : List ℕ) → Contains (fetch_texts digest proof) x → Contains (opened_by_step digest proof) x
-unfolding opened_by_step
-opened-fetch digest proof x among =
-    Contains-append_right (part_texts digest proof) _ x (Contains-append_left (fetch_texts digest proof) (operand_texts digest proof) x among)
-
-opened-operand : (digest : List ℕ → List ℕ) (proof : StepProof) (x : List ℕ) → Contains (operand_texts digest proof) x → Contains (opened_by_step digest proof) x
-unfolding opened_by_step
-opened-operand digest proof x among =
-    Contains-append_right (part_texts digest proof) _ x (Contains-append_right (fetch_texts digest proof) (operand_texts digest proof) x among)
-
 module _ (steps : StepLaws) (laws : PathLaws) (digest : List ℕ → List ℕ) (is_digest : (bytes : List ℕ) → length (digest bytes) ≡ 32) where
-  -- a goal, or a pair of strings
-  abbrev Or : StepProof → State → Type 0 → Type 0
-  Or proof s P = P ⊎ ((pair : List ℕ × List ℕ) × IsStateCollision digest proof s pair)
-
   found : (proof : StepProof) (s : State) (x y : List ℕ) → IsSplit digest x y → Contains (opened_by_step digest proof) x → IsStringOf digest s y
       → (pair : List ℕ × List ℕ) × IsStateCollision digest proof s pair
   found proof s x y split opened of_state = ((x, y), record { differ = split.differ; one_digest = split.agree; opened = opened; of_state = of_state })

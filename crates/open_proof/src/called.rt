@@ -23,7 +23,7 @@ pub fn fetch_address(ctl: &Ctl) -> Option<u32>
 }
 
 /// The address that an instruction reads or writes, from the registers before it: that of an aligned load or store.
-pub fn address_needed(regs: &Regs, pc: u32, instr: &Instr) -> Option<u32>
+fn address_needed(regs: &Regs, pc: u32, instr: &Instr) -> Option<u32>
     ensures { result ≡ leads.address_needed (needed regs.now instr.now) }
 {
     match need(regs, pc, instr) {
@@ -34,7 +34,7 @@ pub fn address_needed(regs: &Regs, pc: u32, instr: &Instr) -> Option<u32>
     }
 }
 
-/// The same, where there is an instruction.
+/// The address that an instruction reads or writes, where there is an instruction, from the registers before it.
 pub fn operand_address(regs: &Regs, pc: u32, instr: &Option<Instr>) -> Option<u32>
     ensures { result ≡ leads.operand_address regs.now instr.now }
 {
@@ -69,7 +69,7 @@ pub fn fetched_in(chunk: &Option<Opening>, address: Option<u32>) -> Option<Instr
 }
 
 /// The instruction at an address that is a multiple of 4, in memory.
-pub fn fetched_at(mem: &PlainMem, address: Option<u32>) -> Option<Instr>
+pub(crate) fn fetched_at(mem: &PlainMem, address: Option<u32>) -> Option<Instr>
     requires { IfSome address (λ addr. addr % 4 ≡ 0) }
     ensures { result ≡ fetched_at mem.now address }
 {
