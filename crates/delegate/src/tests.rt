@@ -375,7 +375,10 @@ fn roots_has_a_bound_of_its_own_which_is_tested_before_the_image(
         let (given, text) = answer_to(&rt, alloc, "roots", bytes)?;
         assert_eq!(rt; given, answered, "{format} at {bound}");
         assert_eq!(rt; text.len(), length, "{format} at {bound}");
-        assert!(rt; text.as_slice().ends_with(end.as_bytes()), "{format} at {bound}");
+        assert!(rt;
+            text.as_slice().ends_with(end.as_bytes()),
+            "{format} at {bound}"
+        );
     }
     Ok(())
 }
