@@ -1,5 +1,5 @@
 -- A book as it is kept.
-use Rattle.std.proofs.Common.{◌≡◌, ℕ, zero, suc, ◌+◌, ◌-◌, ◌*◌, ◌^◌, ◌<◌, ◌≤◌, nat_le, Bool, true, false, ◌&&◌, ◌==◌, if◌then◌else◌, List, [], ◌∷◌, ◌++◌, length, slice_index_or, slice_set, ◌⊎◌, inl, inr, Option, Some, None, is_none, refl, sym, ◌∙◌, ap, arith, add-one, length-append, append_assoc}
+use Rattle.std.proofs.Common.{◌≡◌, ℕ, zero, suc, ◌+◌, ◌*◌, ◌^◌, ◌<◌, ◌≤◌, nat_le, Bool, true, false, ◌&&◌, ◌==◌, if◌then◌else◌, List, [], ◌∷◌, ◌++◌, length, slice_index_or, slice_set, ◌⊎◌, inl, inr, Option, Some, None, is_none, refl, sym, ◌∙◌, ap, arith, add-one, length-append, append_assoc}
 use Rattle.std.proofs.lemmas.Bool.Decides.{nat_tests}
 use Rattle.std.proofs.Math.Nat.{mul-le-mul_left, pow-succ', pow-le-pow_right}
 use Rattle.std.proofs.Math.Pow.{pow_mono}
@@ -16,6 +16,9 @@ use Rattle.tournament.specs.Journals.{turn, turn_on, turns, IsAskedOf, Legal, an
 use Rattle.tournament.specs.Length.{IsMost, most_entries, SpareIsEnough}
 use Rattle.tournament.specs.Posting.{same_qid, posted, posted_on, reply_by, reply_on, reply_to}
 use Rattle.tournament.specs.Asked.{asked, AskedByTheCase}
+use Rattle.tournament.specs.Truthful.{IsTruthfulProver, IsSafe, TruthfulProversAreSafe}
+use Rattle.bisect_game.specs.Truth.{Truth, IsRun}
+use Rattle.bisect_game.specs.Ruling.{IsFair}
 use Rattle.board_book.specs.declared.entry.Entry.{Entry}
 use Rattle.board_book.specs.Entries.{IsEntry, IsJournal, who, state_of, is_stale}
 use Rattle.board_book.specs.Asking.{AnswerAs}
@@ -203,3 +206,9 @@ pub book-asks : AskedByTheCase → (rules : Rules) (says : Says) (count : ℕ) (
 book-asks by rules says count es st room capacity b p q some e =
     let legal : Legal rules says (who es) (begun rules) = journal-legal rules says es (begun rules) b.legal in
     by rules says (who es) p q b.playable legal some (rw (← b.state) at e)
+
+pub book-safe : TruthfulProversAreSafe → (rules : Rules) (says : Says) (count : ℕ) (es : List Entry) (st : State) (room capacity : ℕ) → IsBook rules says count es st room capacity → IsFair rules.play.ruling →
+    (t : Truth) (p : ℕ) → IsRun rules t → 0 < p → p ≤ rules.provers → IsTruthfulProver rules says t p → IsSafe rules t p st.record_
+book-safe safe rules says count es st room capacity b fair t p run low high truthful =
+    let legal : Legal rules says (who es) (begun rules) = journal-legal rules says es (begun rules) b.legal in
+    rw b.state at (safe rules says t (who es) p b.playable fair run low high truthful legal)

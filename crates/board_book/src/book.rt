@@ -6,7 +6,9 @@ ghost use Rattle.tournament.specs.Bracket.{open_question, is_complete, verdict_o
 ghost use Rattle.tournament.specs.Moves.{passes_of, begun};
 ghost use Rattle.tournament.specs.Journals.{answers_of};
 ghost use Rattle.tournament.specs.Posting.{rules_of, answer_of, same_qid, posted, reply_to};
+ghost use Rattle.bisect_game.specs.Truth.{Truth, IsRun};
 ghost use Rattle.tournament.specs.Asked.{asked};
+ghost use Rattle.tournament.specs.Truthful.{IsTruthfulProver, IsSafe};
 ghost use Rattle.tournament.specs.Length.{IsMost, most_entries};
 ghost use Rattle.board_book.specs.declared.entry.Entry.{Entry};
 ghost use Rattle.board_book.specs.Entries.{IsJournal, state_of, noted, is_stale};
@@ -21,7 +23,7 @@ use std::marker::Model;
 use std::thread::Threads;
 use tournament::{
     Match, Move, Record, Reply, Setup, Verdict, a_number_names_one_question,
-    nobody_asked_means_over, one_record_of_a_case, spare_is_enough,
+    nobody_asked_means_over, one_record_of_a_case, spare_is_enough, truthful_provers_are_safe,
 };
 
 /// Whether a reply says that nothing changed.
@@ -300,6 +302,15 @@ impl<J: Judge + Drop, P: Provers + Drop> Book<J, P> {
         ensures { let rules = rules_of (J.ruling self.now.0.0) self.now.0.2 in (p : ℕ) (q : Question) → 0 < p → open_question rules self.now.2.record_ p ≡ Some q → asked rules (bracket rules (answers_of rules (P.says self.now.0.1))) p q.qid ≡ Some q.kind }
     {
         a_number_names_one_question();
+        let _ = &self.room;
+    }
+
+    /// The dispute theorem: a prover that answers truly within its patience each question that the record of the case asks it
+    /// is not put out, its settled answers are true, and once the match is over the verdict is right.
+    pub fn keeps_truthful_provers(&self)
+        ensures { let rules = rules_of (J.ruling self.now.0.0) self.now.0.2 in (t : Truth) (p : ℕ) → IsRun rules t → 0 < p → p ≤ self.now.0.2.provers → IsTruthfulProver rules (P.says self.now.0.1) t p → IsSafe rules t p self.now.2.record_ }
+    {
+        truthful_provers_are_safe();
         let _ = &self.room;
     }
 }

@@ -1,4 +1,4 @@
-ghost use Rattle.std.specs.Prelude.{◌≡◌, ◌≢◌, ◌⊎◌, ◌+◌, ◌-◌, ◌*◌, ◌/◌, ◌≤◌, ◌<◌, ◌^◌, ℕ, List, [], length, OnOk, Option, false, true};
+ghost use Rattle.std.specs.Prelude.{◌≡◌, ◌≢◌, ◌⊎◌, ◌+◌, ◌-◌, ◌*◌, ◌/◌, ◌≤◌, ◌<◌, ◌^◌, ℕ, List, [], length, OnOk, OnErr, Option, false, true};
 ghost use Rattle.rd_base.specs.declared.digest.Digest32.{Digest32};
 ghost use Rattle.digest_core.specs.Text.{node_text as node_string};
 ghost use Rattle.mem_plain.specs.Contents.{Contents};
@@ -197,6 +197,7 @@ impl Nodes {
         ensures kept { (m : Contents) → IsOver D.digest_of (kept_of self.old) touched.now.keys m → IsOver D.digest_of (kept_of self.new) touched.now.keys m }
         ensures empties { self.new.empties ≡ self.old.empties }
         ensures steps { steps.new ≤ steps.old + 275 * length touched.now.keys }
+        ensures some { OnErr result (0 < length touched.now.keys) }
     {
         'pages: for page in touched.iter() {
             let tree = page_tree(d, alloc, mem, *page, steps)?;

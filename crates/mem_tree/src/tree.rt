@@ -1,4 +1,4 @@
-ghost use Rattle.std.specs.Prelude.{◌≡◌, ◌≢◌, ◌↔◌, ◌+◌, ◌-◌, ◌*◌, ◌/◌, ◌≤◌, ◌<◌, ◌^◌, ℕ, List, [], length, OnOk, OnErr, IfOk, IsTrue, true};
+ghost use Rattle.std.specs.Prelude.{◌≡◌, ◌≢◌, ◌↔◌, ◌+◌, ◌-◌, ◌*◌, ◌/◌, ◌≤◌, ◌<◌, ◌^◌, ℕ, List, [], length, OnOk, OnErr, IfOk, IsTrue, true, false};
 ghost use Rattle.mem_plain.specs.Contents.{Contents, IsUsed};
 ghost use Rattle.merkle_nodes.specs.Node.{beside as place_beside};
 ghost use Rattle.merkle_nodes.specs.Opening.{IsPath};
@@ -83,14 +83,16 @@ impl<D: Digester> MemTree<D> {
         ensures again { is_among self.old.touched page ≡ true → self.new.touched ≡ self.old.touched }
         ensures count { length self.new.touched ≤ length self.old.touched + 1 }
         ensures err { OnErr result (self.new.touched ≡ self.old.touched) }
+        ensures untouched { OnErr result (is_among self.old.touched page ≡ false) }
     {
         self.touched.insert(page)?;
         Ok(())
     }
 
     /// Makes the tree that of a memory which differs from the one before in touched pages alone; no page is touched then.
-    /// It counts one step for each digest, at most 275 for each touched page. An `Err` is out of memory: the touched pages
-    /// stay touched, and the tree is that of every memory that it was the tree of, but for these pages.
+    /// It counts one step for each digest, at most 275 for each touched page. An `Err` is out of memory, and comes only where
+    /// a page is touched: the touched pages stay touched, and the tree is that of every memory that it was the tree of, but
+    /// for these pages.
     pub fn refresh_counted<L: Ledger>(
         &mut self,
         mem: &PlainMem,
@@ -101,6 +103,7 @@ impl<D: Digester> MemTree<D> {
         ensures untouched { OnOk result (self.new.touched ≡ []) }
         ensures err { OnErr result ((m : Contents) → IsTreeOf D.digest_of self.old m → IsTreeOf D.digest_of self.new m) }
         ensures touched { OnErr result (self.new.touched ≡ self.old.touched) }
+        ensures some { OnErr result (0 < length self.old.touched) }
         ensures steps { steps.new ≤ steps.old + 275 * length self.old.touched }
     {
         nodes_depend_on_leaves_below();
@@ -119,6 +122,7 @@ impl<D: Digester> MemTree<D> {
         ensures untouched { OnOk result (self.new.touched ≡ []) }
         ensures err { OnErr result ((m : Contents) → IsTreeOf D.digest_of self.old m → IsTreeOf D.digest_of self.new m) }
         ensures touched { OnErr result (self.new.touched ≡ self.old.touched) }
+        ensures some { OnErr result (0 < length self.old.touched) }
     {
         let mut steps = Steps::<L>::new(blank);
         self.refresh_counted(mem, &mut steps)
@@ -131,6 +135,7 @@ impl<D: Digester> MemTree<D> {
         ensures untouched { OnOk result (self.new.touched ≡ []) }
         ensures err { OnErr result ((m : Contents) → IsTreeOf D.digest_of self.old m → IsTreeOf D.digest_of self.new m) }
         ensures touched { OnErr result (self.new.touched ≡ self.old.touched) }
+        ensures some { OnErr result (0 < length self.old.touched) }
     {
         self.refresh_in::<Brand>(mem, Blank::new(1))
     }

@@ -1,10 +1,9 @@
 -- An answer that is read is spelled by the bytes, and each answer that they spell is read.
-use Rattle.std.proofs.Common.{◌≡◌, ℕ, zero, suc, ◌+◌, ◌*◌, ◌^◌, ◌<◌, ◌≤◌, Bool, true, false, cond, eqb, ltb, List, [], ◌∷◌, ◌++◌, length, take, drop, Option, Some, None, Result, Ok, Err, refl, sym, ap, subst, ◌∙◌, append_assoc, ◌⊎◌, inl, inr, arith}
+use Rattle.std.proofs.Common.{◌≡◌, ℕ, ◌*◌, ◌^◌, ◌<◌, ◌≤◌, Bool, true, false, cond, eqb, ltb, List, [], ◌∷◌, ◌++◌, length, drop, Option, Some, None, Result, Ok, Err, refl, sym, ap, subst, ◌∙◌, append_assoc, ◌⊎◌, inl, inr, arith}
 use Rattle.std.specs.Prelude.{is_some, IfOk}
 use Rattle.std.specs.Int.{w32, to_le_bytes}
 use Rattle.std.proofs.lemmas.Bool.{eqb-true, ltb-false, le-ltb}
 use Rattle.std.proofs.lemmas.List.{append-nil, nil_from_length, take-append-drop, length-append}
-use Rattle.rd_base.specs.declared.digest.Digest32.{Digest32}
 use Rattle.rd_base.specs.declared.status.Status.{Status}
 use Rattle.rd_base.specs.declared.status.Status.TheVariants.{Running, Exited, Trapped}
 use Rattle.rd_base.specs.declared.ctl.Ctl.{Ctl}
@@ -15,9 +14,9 @@ use Rattle.rd_base.specs.declared.answer.Answer.{Answer}
 use Rattle.rd_base.specs.declared.answer.Answer.TheVariants as answers
 use Rattle.rd_base.specs.Results.{◌>>=◌, Gives}
 use Rattle.proof_wire.specs.declared.fault.WireFault.{WireFault}
-use Rattle.proof_wire.specs.declared.fault.WireFault.TheVariants.{Short, BadTag, BadStatus, TrailingBytes, BadLength, Memory}
+use Rattle.proof_wire.specs.declared.fault.WireFault.TheVariants.{BadTag, BadStatus, TrailingBytes, BadLength, Memory}
 use Rattle.proof_wire.specs.Wire.{Form, ◌‖◌, byte, word, double_word, block, each, digest, status, control, registers, opening, flags, optional, output, wire_form, Spells}
-use Rattle.proof_wire.specs.Reading.{Read, at_least, block_at, byte_at, word_at, double_word_at, digest_at, each_at, status_of, status_at, control_at, registers_at, opening_at, opening_if, flags_of, output_at, claim_at, proof_at, answer_at, answer_in}
+use Rattle.proof_wire.specs.Reading.{Read, block_at, byte_at, word_at, double_word_at, digest_at, each_at, status_of, status_at, control_at, registers_at, opening_at, opening_if, flags_of, output_at, claim_at, proof_at, answer_at, answer_in}
 use Rattle.proof_wire.proofs.FieldLemmas.{AreBytes, AreBytes-behind, bind_ok, ok_is, Takes, Takes-then, Reads, next, next_of, length-both, long_behind, behind_at_least, at_least_ok, block_takes, block_again, digest_reads, word_reads, double_word_reads, each_reads, length-each}
 
 -- which way a test went

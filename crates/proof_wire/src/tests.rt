@@ -6,10 +6,13 @@ use std::alloc::{AllocError, Global};
 use std::process::Abort;
 use std::test::Fail;
 
-/// So many bytes of one value, one row behind another.
-fn rows(alloc: Global, rows: &[(u8, usize)]) -> Result<Vec<u8>, AllocError> {
+/// So many bytes of one value.
+type Run = (u8, usize);
+
+/// Runs, one behind another.
+fn laid_out(alloc: Global, runs: &[Run]) -> Result<Vec<u8>, AllocError> {
     let mut bytes = Vec::new(alloc);
-    for (byte, count) in rows {
+    for (byte, count) in runs {
         for _ in 0..*count {
             bytes.push(*byte)?;
         }
@@ -23,6 +26,15 @@ fn broken_rule(alloc: Global, bytes: &[u8]) -> u32 {
         Ok(_) => 0,
         Err(fault) => fault.rule().unwrap_or(6),
     }
+}
+
+/// Asserts of each row of runs which rule it breaks, or 0 for none.
+fn check_rules(rt: &impl Abort, alloc: Global, table: &[(&[Run], u32)]) -> Result<(), Fail> {
+    for (row, want) in table {
+        let bytes = laid_out(alloc, row)?;
+        assert_eq!(rt; broken_rule(alloc, &bytes), *want, "{row:?}");
+    }
+    Ok(())
 }
 
 fn digest(byte: u8) -> Digest32 {
@@ -88,14 +100,10 @@ fn step(
     Ok(Answer::Step(Boxed::new(Box::new(alloc, proof)?)))
 }
 
-/// Asserts that an answer has these bytes; that each prefix of them isn't whole, and a byte behind them is one too many.
-fn check(
-    rt: &impl Abort,
-    alloc: Global,
-    answer: &Answer,
-    want: &[(u8, usize)],
-) -> Result<(), Fail> {
-    let want = rows(alloc, want)?;
+/// Asserts that an answer has these bytes, and comes back from them; that no shorter prefix of them is whole; and that
+/// a byte behind them is one too many.
+fn check(rt: &impl Abort, alloc: Global, answer: &Answer, runs: &[Run]) -> Result<(), Fail> {
+    let want = laid_out(alloc, runs)?;
     let bytes = encode(alloc, answer)?;
     assert_eq!(rt; bytes.as_slice(), want.as_slice());
     let again = encode(alloc, &decode(alloc, &bytes)?)?;
@@ -109,28 +117,55 @@ fn check(
     Ok(())
 }
 
+const ROWS: [(&[Run], u32); 7] = [
+    (&[(2, 1), (0, 32)], 0),
+    (&[(2, 1), (0, 31)], 1),
+    (&[(2, 1), (0, 33)], 4),
+    (&[], 1),
+    (&[(7, 1)], 2),
+    // a status byte of 3
+    (&[(1, 1), (0, 68), (3, 1), (0, 52)], 3),
+    // an output length of eight bytes `ff`
+    (&[(1, 1), (0, 113), (255, 8)], 5),
+];
+
 #[test]
 fn wire_rows(rt: HostRuntime) -> Result<(), Fail> {
-    let alloc = rt.alloc();
-    check(
-        &rt,
-        alloc,
-        &Answer::Root(Digest32::ZERO),
-        &[(2, 1), (0, 32)],
-    )?;
-    for (row, want) in [
-        (&[][..], 1),
-        (&[(2, 1), (0, 31)], 1),
-        (&[(2, 1), (0, 33)], 4),
-        (&[(7, 1)], 2),
-        // a status byte of 3, and then a length of eight bytes `ff`
-        (&[(1, 1), (0, 68), (3, 1), (0, 52)], 3),
-        (&[(1, 1), (0, 113), (255, 8)], 5),
-    ] {
-        let bytes = rows(alloc, row)?;
-        assert_eq!(rt; broken_rule(alloc, &bytes), want, "{row:?}");
-    }
-    Ok(())
+    check_rules(&rt, rt.alloc(), &ROWS)?;
+    let root = Answer::Root(Digest32::ZERO);
+    check(&rt, rt.alloc(), &root, &[(2, 1), (0, 32)])
+}
+
+const FIRST_BROKEN: [(&[Run], u32); 19] = [
+    (&[(0, 1), (0, 40)], 2),
+    (&[(4, 1)], 2),
+    // a bad status, and a fixed part that isn't whole
+    (&[(1, 1), (0, 68), (3, 1), (0, 51)], 1),
+    (&[(3, 1), (0, 160), (3, 1), (0, 44)], 1),
+    // a bad status, and a length or flags that are above the largest
+    (&[(1, 1), (0, 68), (3, 1), (0, 44), (255, 8)], 3),
+    (&[(3, 1), (0, 160), (255, 1), (0, 44), (255, 1)], 3),
+    // running with a code; exited and trapped with the largest
+    (&[(1, 1), (0, 69), (1, 1), (0, 51)], 3),
+    (&[(1, 1), (0, 72), (1, 1), (0, 48)], 3),
+    (&[(1, 1), (0, 68), (1, 1), (255, 4), (0, 48)], 0),
+    (&[(1, 1), (0, 68), (2, 1), (255, 4), (0, 48)], 0),
+    // flags above the largest; openings that aren't whole, or too many
+    (&[(3, 1), (0, 205), (4, 1)], 2),
+    (&[(3, 1), (0, 205), (255, 1), (0, 895)], 2),
+    (&[(3, 1), (0, 205), (3, 1), (0, 896)], 1),
+    (&[(3, 1), (0, 205), (1, 1), (0, 895)], 1),
+    (&[(3, 1), (0, 205), (2, 1), (0, 1792)], 4),
+    // an output length of 4,294,967,296, of 4,294,967,295 and of 1, without a byte; and two bytes where it is 1
+    (&[(1, 1), (0, 117), (1, 1), (0, 3)], 5),
+    (&[(1, 1), (0, 113), (255, 4), (0, 4)], 1),
+    (&[(1, 1), (0, 113), (1, 1), (0, 7)], 1),
+    (&[(1, 1), (0, 113), (1, 1), (0, 9)], 4),
+];
+
+#[test]
+fn the_first_broken_rule_is_the_fault(rt: HostRuntime) -> Result<(), Fail> {
+    check_rules(&rt, rt.alloc(), &FIRST_BROKEN)
 }
 
 #[test]
@@ -142,152 +177,128 @@ fn the_least_of_each_field_comes_back(rt: HostRuntime) -> Result<(), Fail> {
     check(&rt, alloc, &least, &[(3, 1), (0, 206)])
 }
 
+/// A root, a claim of three bytes, and a proof: the tag; what stands in front of the status byte, and that byte; the
+/// code, the output length and the chain; the length or the flags; the output or the openings.
+const LARGEST_ROOT: [Run; 2] = [(2, 1), (255, 32)];
+
+const LARGEST_CLAIM: [Run; 7] = [
+    (1, 1),
+    (255, 68),
+    (2, 1),
+    (255, 44),
+    (3, 1),
+    (0, 7),
+    (255, 3),
+];
+
+const LARGEST_PROOF: [Run; 6] = [(3, 1), (255, 160), (2, 1), (255, 44), (3, 1), (255, 1792)];
+
 #[test]
 fn the_largest_of_each_field_comes_back(rt: HostRuntime) -> Result<(), Fail> {
     let alloc = rt.alloc();
-    check(&rt, alloc, &Answer::Root(digest(255)), &[(2, 1), (255, 32)])?;
+    check(&rt, alloc, &Answer::Root(digest(255)), &LARGEST_ROOT)?;
     let largest = claim(alloc, 255, 255, largest_control(), b"\xff\xff\xff")?;
-    // control: pc, status, code, output length and chain; then the length of the output, and the output
-    check(
-        &rt,
+    check(&rt, alloc, &largest, &LARGEST_CLAIM)?;
+    let both = Some(opening(255, 255));
+    let largest = step(
         alloc,
-        &largest,
-        &[
-            (1, 1),
-            (255, 64),
-            (255, 4),
-            (2, 1),
-            (255, 44),
-            (3, 1),
-            (0, 7),
-            (255, 3),
-        ],
+        255,
+        registers(u32::MAX),
+        largest_control(),
+        both,
+        both,
     )?;
-    let all = Some(opening(255, 255));
-    let largest = step(alloc, 255, registers(u32::MAX), largest_control(), all, all)?;
-    check(
-        &rt,
-        alloc,
-        &largest,
-        &[
-            (3, 1),
-            (255, 156),
-            (255, 4),
-            (2, 1),
-            (255, 44),
-            (3, 1),
-            (255, 1792),
-        ],
+    check(&rt, alloc, &largest, &LARGEST_PROOF)
+}
+
+/// Control fields whose bytes, but for the chain's, are 1 to 16, with 1 for the status.
+fn control_in_order() -> Ctl {
+    control(
+        0x0403_0201,
+        Status::Exited(0x0807_0605),
+        0x100f_0e0d_0c0b_0a09,
+        17,
     )
 }
 
+const CONTROL_IN_ORDER: [Run; 18] = [
+    (1, 1),
+    (2, 1),
+    (3, 1),
+    (4, 1),
+    (1, 1),
+    (5, 1),
+    (6, 1),
+    (7, 1),
+    (8, 1),
+    (9, 1),
+    (10, 1),
+    (11, 1),
+    (12, 1),
+    (13, 1),
+    (14, 1),
+    (15, 1),
+    (16, 1),
+    (17, 32),
+];
+
 #[test]
-fn each_field_stands_in_its_place(rt: HostRuntime) -> Result<(), Fail> {
+fn each_field_of_a_claim_stands_in_its_place(rt: HostRuntime) -> Result<(), Fail> {
     let alloc = rt.alloc();
-    // the pc is 0x04030201, the code 0x08070605, and the length of the output 0x100f0e0d0c0b0a09
-    let ctl = control(67305985, Status::Exited(134678021), 1157159078456920585, 17);
-    let placed = [
-        (1, 1),
-        (2, 1),
-        (3, 1),
-        (4, 1),
-        (1, 1),
-        (5, 1),
-        (6, 1),
-        (7, 1),
-        (8, 1),
-        (9, 1),
-        (10, 1),
-        (11, 1),
-        (12, 1),
-        (13, 1),
-        (14, 1),
-        (15, 1),
-        (16, 1),
-        (17, 32),
-    ];
-    let claimed = claim(alloc, 18, 19, ctl, b"+-")?;
+    let answer = claim(alloc, 18, 19, control_in_order(), b"+-")?;
     let mut want = [(1, 1), (18, 32), (19, 32)].to_vec(alloc)?;
-    want.extend_from_slice(&placed)?;
+    want.extend_from_slice(&CONTROL_IN_ORDER)?;
     want.extend_from_slice(&[(2, 1), (0, 7), (43, 1), (45, 1)])?;
-    check(&rt, alloc, &claimed, &want)?;
+    check(&rt, alloc, &answer, &want)
+}
+
+/// Registers of which each holds its number, and their bytes.
+fn registers_in_order(alloc: Global) -> Result<(Regs, Vec<Run>), AllocError> {
     let mut regs = Regs::new();
-    let mut want = [(3, 1), (18, 32)].to_vec(alloc)?;
+    let mut runs = Vec::new(alloc);
     for reg in 1..32 {
         regs.set(reg, u32::from(reg));
-        want.extend_from_slice(&[(reg, 1), (0, 3)])?;
+        runs.push((reg, 1))?;
+        runs.push((0, 3))?;
     }
-    want.extend_from_slice(&placed)?;
-    let mut path = Path([digest(0); 27]);
-    let mut opened = [(20, 32)].to_vec(alloc)?;
-    for level in 0..27 {
-        path.0[level] = digest(100 + level as u8);
-        opened.push((100 + level as u8, 32))?;
+    Ok((regs, runs))
+}
+
+/// A chunk of bytes 20 with the siblings 100, 101 and so on, and its bytes.
+fn opening_in_order(alloc: Global) -> Result<(Opening, Vec<Run>), AllocError> {
+    let mut opened = opening(20, 0);
+    let mut runs = Vec::new(alloc);
+    runs.push((20, 32))?;
+    let mut byte: u8 = 100;
+    for sibling in opened.path.0.iter_mut() {
+        *sibling = digest(byte);
+        runs.push((byte, 32))?;
+        byte = byte.wrapping_add(1);
     }
-    let fetch = Opening {
-        chunk: [20; 32],
-        path,
-    };
-    let operand = opening(21, 22);
-    let rows_of_operand = [(21, 32), (22, 864)];
-    for (flags, has_fetch, has_operand) in [
-        (0, false, false),
-        (1, true, false),
-        (2, false, true),
-        (3, true, true),
-    ] {
-        let proof = step(
-            alloc,
-            18,
-            regs,
-            ctl,
-            has_fetch.then_some(fetch),
-            has_operand.then_some(operand),
-        )?;
-        let mut want = want.as_slice().to_vec(alloc)?;
-        want.push((flags, 1))?;
-        if has_fetch {
-            want.extend_from_slice(&opened)?;
-        }
-        if has_operand {
-            want.extend_from_slice(&rows_of_operand)?;
-        }
-        check(&rt, alloc, &proof, &want)?;
-    }
-    Ok(())
+    Ok((opened, runs))
 }
 
 #[test]
-fn the_first_broken_rule_is_the_fault(rt: HostRuntime) -> Result<(), Fail> {
+fn each_field_of_a_proof_stands_in_its_place(rt: HostRuntime) -> Result<(), Fail> {
     let alloc = rt.alloc();
-    for (row, want) in [
-        (&[(0, 1), (0, 40)][..], 2),
-        (&[(4, 1)], 2),
-        // a bad status, and a fixed part that isn't whole
-        (&[(1, 1), (0, 68), (3, 1), (0, 51)], 1),
-        (&[(3, 1), (0, 160), (3, 1), (0, 44)], 1),
-        // a bad status, and a length or flags that are above the largest
-        (&[(1, 1), (0, 68), (3, 1), (0, 44), (255, 8)], 3),
-        (&[(3, 1), (0, 160), (255, 1), (0, 44), (255, 1)], 3),
-        // running with a code; exited and trapped with the largest
-        (&[(1, 1), (0, 69), (1, 1), (0, 51)], 3),
-        (&[(1, 1), (0, 72), (1, 1), (0, 48)], 3),
-        (&[(1, 1), (0, 68), (1, 1), (255, 4), (0, 48)], 0),
-        (&[(1, 1), (0, 68), (2, 1), (255, 4), (0, 48)], 0),
-        // flags above the largest, and openings that aren't whole or too many
-        (&[(3, 1), (0, 205), (4, 1)], 2),
-        (&[(3, 1), (0, 205), (255, 1), (0, 895)], 2),
-        (&[(3, 1), (0, 205), (3, 1), (0, 896)], 1),
-        (&[(3, 1), (0, 205), (1, 1), (0, 895)], 1),
-        (&[(3, 1), (0, 205), (2, 1), (0, 1792)], 4),
-        // a length of 4,294,967,296, one of 4,294,967,295, and one of 1 without a byte
-        (&[(1, 1), (0, 117), (1, 1), (0, 3)], 5),
-        (&[(1, 1), (0, 113), (255, 4), (0, 4)], 1),
-        (&[(1, 1), (0, 113), (1, 1), (0, 7)], 1),
-        (&[(1, 1), (0, 113), (1, 1), (0, 9)], 4),
-    ] {
-        let bytes = rows(alloc, row)?;
-        assert_eq!(rt; broken_rule(alloc, &bytes), want, "{row:?}");
+    let (regs, runs_of_regs) = registers_in_order(alloc)?;
+    let (fetch, runs_of_fetch) = opening_in_order(alloc)?;
+    let operand = opening(21, 22);
+    for (flags, is_fetched, is_loaded) in [(1, true, false), (2, false, true), (3, true, true)] {
+        let fetch = is_fetched.then_some(fetch);
+        let operand = is_loaded.then_some(operand);
+        let answer = step(alloc, 18, regs, control_in_order(), fetch, operand)?;
+        let mut want = [(3, 1), (18, 32)].to_vec(alloc)?;
+        want.extend_from_slice(&runs_of_regs)?;
+        want.extend_from_slice(&CONTROL_IN_ORDER)?;
+        want.push((flags, 1))?;
+        if is_fetched {
+            want.extend_from_slice(&runs_of_fetch)?;
+        }
+        if is_loaded {
+            want.extend_from_slice(&[(21, 32), (22, 864)])?;
+        }
+        check(&rt, alloc, &answer, &want)?;
     }
     Ok(())
 }

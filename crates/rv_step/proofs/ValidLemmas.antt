@@ -1,6 +1,6 @@
 -- A step keeps valid states: what instructions compute from words are words.
-use Rattle.std.proofs.Common.{◌≡◌, ◌≢◌, ◌⊎◌, ℕ, zero, suc, ◌+◌, ◌-◌, ◌*◌, ◌/◌, ◌%◌, ◌^◌, ◌<◌, ◌≤◌, ℤ, pos, negsuc, neg_ℤ, ◌*ℤ◌, ◌≤ℤ◌, List, [], ◌∷◌, ◌++◌, length, set, slice_index, Option, Some, None, eqb, cond, Bool, true, false, refl, sym, ap, subst, ◌∙◌, ⊎_elim, arith, get_or-set_same, get_or-set_other}
-use Rattle.std.specs.Prelude.{unsigned_abs, int_div, int_rem, bit_and, bit_or, bit_xor}
+use Rattle.std.proofs.Common.{◌≡◌, ℕ, zero, suc, ◌+◌, ◌-◌, ◌*◌, ◌/◌, ◌%◌, ◌^◌, ◌<◌, ◌≤◌, ℤ, pos, negsuc, neg_ℤ, ◌*ℤ◌, ◌≤ℤ◌, List, [], ◌∷◌, ◌++◌, length, set, slice_index, eqb, cond, Bool, true, false, sym, ap, ◌∙◌, ⊎_elim, arith, get_or-set_same, get_or-set_other}
+use Rattle.std.specs.Prelude.{unsigned_abs, int_div, int_rem, bit_and}
 use Rattle.std.proofs.Math.ListN.{length-set}
 use Rattle.std.proofs.Math.Nat.{div-le_self, mod-le, mul-le-mul}
 use Rattle.std.proofs.lemmas.Bool.{cases_eq, cases_lt, eq-eqb, ne_eqb}
@@ -10,7 +10,6 @@ use Rattle.std.proofs.lemmas.List.{set_past}
 use Rattle.std.proofs.lemmas.Nat.{and_le_l, or_of_32, xor_of_32}
 use Rattle.rd_base.specs.Regs.{with_register}
 use Rattle.rd_base.specs.declared.status.Status.{Status}
-use Rattle.rv_decode.specs.declared.instr.RType.{RType}
 use Rattle.rv_decode.specs.declared.instr.IType.{IType}
 use Rattle.rv_decode.specs.declared.instr.ShiftType.{ShiftType}
 use Rattle.rv_decode.specs.declared.instr.BType.{BType}
@@ -19,7 +18,7 @@ use Rattle.rv_decode.specs.declared.instr.Instr.{Instr}
 use Rattle.rv_decode.specs.declared.instr.Instr.TheVariants.{Lui, Auipc, Jal, Jalr, Beq, Bne, Blt, Bge, Bltu, Bgeu, Lb, Lh, Lw, Lbu, Lhu, Sb, Sh, Sw, Addi, Slti, Sltiu, Xori, Ori, Andi, Slli, Srli, Srai, Add, Sub, Sll, Slt, Sltu, Xor, Srl, Sra, Or, And, Mul, Mulh, Mulhsu, Mulhu, Div, Divu, Rem, Remu, Fence, Ecall, Ebreak}
 use Rattle.mem_plain.specs.Contents.{Contents, number_at, with_number}
 use Rattle.mem_plain.specs.Memory.{IsMemory}
-use Rattle.rv_step.specs.Arithmetic.{signed, word, plus, flag, rounded_down, is_equal, is_different, is_less_signed, is_at_least_signed, is_less_unsigned, is_at_least_unsigned, set_less_signed, set_less_unsigned, by_low_five, shifted_left, shifted_right, shifted_right_signed, zero_extended, sign_extended, minus, product_low, product_high, product_high_signed_unsigned, product_high_unsigned, quotient, quotient_unsigned, remainder, remainder_unsigned, overflows}
+use Rattle.rv_step.specs.Arithmetic.{signed, word, plus, flag, rounded_down, is_equal, is_different, is_less_signed, is_at_least_signed, is_less_unsigned, is_at_least_unsigned, by_low_five, shifted_left, shifted_right, shifted_right_signed, zero_extended, sign_extended, minus, product_high, product_high_signed_unsigned, product_high_unsigned, quotient, quotient_unsigned, remainder, remainder_unsigned, overflows}
 use Rattle.rv_step.specs.Effect.{effect, jumps, branches, loads, stores, calls, at_offset, x}
 use Rattle.rv_step.specs.State.{State}
 use Rattle.rv_step.specs.Parts.{IsAccess}

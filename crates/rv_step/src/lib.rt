@@ -29,7 +29,7 @@ pub use laws::{
     machines_are_valid, one_page_changes, output_only_grows, steps_keep_valid_states,
     stopped_states_stay, two_parts_are_the_step,
 };
-pub use machine::{INPUT_BASE, MAX_INPUT_BYTES, Machine};
+pub use machine::{INPUT_BASE, Machine};
 pub use parts::{finish, need};
 pub use running::advance;
 pub use stepping::step;

@@ -1,8 +1,8 @@
 -- The root of a machine's state, and what a step leaves of its memory.
-use Rattle.std.proofs.Common.{◌≡◌, ◌≢◌, ℕ, ◌/◌, ◌%◌, ◌^◌, ◌<◌, List, length, Option, Some, None, refl, sym, ap, ◌∙◌, subst, arith}
+use Rattle.std.proofs.Common.{◌≡◌, ◌≢◌, ℕ, ◌/◌, ◌%◌, ◌^◌, ◌<◌, List, length, Option, Some, None, sym, ap, ◌∙◌, arith}
 use Rattle.rd_base.specs.declared.ctl.Ctl.{Ctl}
 use Rattle.digest_core.specs.Chain.{chain_of}
-use Rattle.mem_plain.specs.Contents.{Contents, byte_at}
+use Rattle.mem_plain.specs.Contents.{byte_at}
 use Rattle.out_chain.specs.Root.{parts_root}
 use Rattle.rv_step.specs.State.{State}
 use Rattle.rv_step.specs.Step.{step}

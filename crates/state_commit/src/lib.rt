@@ -7,10 +7,12 @@
 #![tactic(auto)]
 
 mod committed;
+mod laws;
 mod root;
 mod scratch;
 
 pub use committed::Committed;
+pub use laws::paths_open_strings_of_the_state;
 pub use root::state_root;
 
 #[cfg(test)]

@@ -1,4 +1,4 @@
-use Rattle.std.proofs.Common.{◌≡◌, ◌+◌, ◌-◌, ◌<◌, ◌≤◌, length, take, arith, refl, ap, ◌∙◌, Ok}
+use Rattle.std.proofs.Common.{◌+◌, ◌-◌, ◌<◌, ◌≤◌, length, arith, ap, ◌∙◌, Ok}
 use Rattle.std.proofs.lemmas.List.{take_more_set, take_all, length-set}
 use Rattle.proof_wire.specs.Reading.{digest_at}
 use Rattle.proof_wire.proofs.EachLemmas.{goes_on, ends}

@@ -1,4 +1,4 @@
-use Rattle.std.proofs.Common.{◌≡◌, ◌+◌, ◌-◌, ◌<◌, ◌≤◌, length, take, set, arith, refl, ap, ◌∙◌, Ok}
+use Rattle.std.proofs.Common.{◌≡◌, ◌+◌, ◌-◌, ◌<◌, ◌≤◌, length, set, arith, ap, ◌∙◌, Ok}
 use Rattle.std.proofs.lemmas.List.{take_more_set, take_all, length-set}
 use Rattle.proof_wire.specs.Reading.{word_at, registers_at}
 use Rattle.proof_wire.proofs.EachLemmas.{goes_on, ends, with_register-above_zero}

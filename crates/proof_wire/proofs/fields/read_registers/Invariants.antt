@@ -1,4 +1,4 @@
-use Rattle.std.proofs.Common.{◌≡◌, ◌≤◌, ◌+◌, ◌*◌, ◌-◌, [], ◌∷◌, length, take}
+use Rattle.std.proofs.Common.{◌≡◌, ◌+◌, ◌*◌, ◌-◌, [], ◌∷◌, length, take}
 use Rattle.proof_wire.specs.Reading.{word_at, each_at}
 use Rattle.proof_wire.proofs.EachLemmas.{with_front}
 use Rattle.proof_wire.proofs.fields.read_registers.Given as goal

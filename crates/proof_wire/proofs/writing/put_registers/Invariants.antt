@@ -1,4 +1,4 @@
-use Rattle.std.proofs.Common.{◌≡◌, ◌++◌, ◌≤◌, ◌-◌, take, drop}
+use Rattle.std.proofs.Common.{◌≡◌, ◌++◌, ◌-◌, take, drop}
 use Rattle.std.specs.List.{flat_map, AllByRecursion}
 use Rattle.proof_wire.specs.Wire.{word}
 use Rattle.proof_wire.proofs.writing.put_registers.Given as goal

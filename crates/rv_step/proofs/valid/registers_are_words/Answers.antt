@@ -1,4 +1,4 @@
-use Rattle.std.proofs.Common.{◌+◌, slice_index, ap, sym, ◌∙◌, ⊎_elim, arith}
+use Rattle.std.proofs.Common.{slice_index, ap, sym, ◌∙◌, ⊎_elim, arith}
 use Rattle.std.proofs.lemmas.Bool.{cases_eq, cases_lt}
 use Rattle.std.proofs.lemmas.List.{get_or_past}
 use Rattle.rv_step.proofs.valid.registers_are_words.Goals as goal

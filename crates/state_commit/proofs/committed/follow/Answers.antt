@@ -6,5 +6,5 @@ use Rattle.state_commit.proofs.committed.follow.Goals as goal
 pub returns-in_ok-refresh-in-Some-clause-tree : goal.returns-in_ok-refresh-in-Some-clause-tree
 returns-in_ok-refresh-in-Some-clause-tree g c = λ m tree same.
     c.in_ok-refresh-in-Some.ensures.tree m (c.touch.ensures.tree m tree)
-      (λ p fresh a at. same a (λ is. true≢false (sym c.in_ok-touch-in-Some.ensures.touched
-        ∙ (ap (is_among c.touch.new.self.touched) (same-named c.args.page c.in-Some.page (a / 4096) c.in-Some.is is ∙ at) ∙ fresh))))
+    (λ p fresh a at. same a (λ is. true≢false (sym c.in_ok-touch-in-Some.ensures.touched
+    ∙ (ap (is_among c.touch.new.self.touched) (same-named c.args.page c.in-Some.page (a / 4096) c.in-Some.is is ∙ at) ∙ fresh))))

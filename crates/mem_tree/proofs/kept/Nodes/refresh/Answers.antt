@@ -30,5 +30,6 @@ pages-preserved g c =
           (inv.among page (subst (λ l. is_among l page ≡ true) (sym step) (among-head page rest)));
       empties = c.place.ensures.empties ∙ inv.empties;
       among = λ p at. inv.among p (subst (λ l. is_among l p ≡ true) (sym step) (among-tail page rest p at));
+      rest = omega (arith, inv.rest, long);
       steps = omega (arith, inv.steps, long, c.place.ensures.steps, c.page_tree.ensures.steps);
     }

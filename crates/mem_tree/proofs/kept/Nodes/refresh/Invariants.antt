@@ -9,5 +9,6 @@ invariant-pages g l = record {
   kept : (m : Contents) → IsOver g.D.Digester.digest_of (kept_of l.fn.self) l.touched.keys m → IsOver g.D.Digester.digest_of (kept_of l.self) l.touched.keys m;
   empties : l.self.empties ≡ l.fn.self.empties;
   among : (p : ℕ) → is_among l.page-iterator p ≡ true → is_among l.touched.keys p ≡ true;
+  rest : length l.page-iterator ≤ length l.touched.keys;
   steps : l.steps + 275 * length l.page-iterator ≤ l.initial.steps + 275 * length l.touched.keys;
 }

@@ -1,0 +1,4 @@
+pub mod Swaps
+pub mod Blocks
+pub mod ByClass
+pub mod ForTests

@@ -1,0 +1,19 @@
+//! Many items served by a few workers, each in a thread of its own: worker t of k serves the items whose number leaves t
+//! when it is divided by k.
+//!
+//! The layers above may rely on this: a worker is handed items of its own class alone, each with its number; what the
+//! workers keep of themselves and what serving keeps of an item is afterwards as before, and each item stands at its
+//! place again. Where there is one worker no thread is started. No clause says that a worker serves anything, that a
+//! second thread ran, or that the workers come to an end. The crate knows nothing of what is served, or where.
+//! Read `specs/Classes.antt` first, then `worker` and `serving`.
+#![tactic(auto)]
+
+mod order;
+mod serving;
+mod worker;
+
+pub use serving::serve_all;
+pub use worker::Worker;
+
+#[cfg(test)]
+mod tests;

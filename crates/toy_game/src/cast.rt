@@ -1,0 +1,131 @@
+ghost use Rattle.std.specs.Prelude.{◌≡◌, IfOk, is_none, replicate};
+ghost use Rattle.rd_base.specs.declared.status.Status.TheVariants.{Running};
+ghost use Rattle.toy_game.specs.Toy.{number_at, given, answers, says_of, claim_of};
+
+use crate::player::Player;
+use crate::toy_judge::root;
+use bisect_game::{Answerer, Kind, Provers, Question};
+use rd_base::{Answer, Boxed, Claim, ClaimOutput, Ctl, Digest32, Memory, Regs, Status, StepProof};
+use std::alloc::Global;
+use std::thread::Threads;
+
+/// The number of a player's state at a step.
+pub(crate) fn number_at(player: &Player, step: u64) -> u8
+    ensures { result ≡ number_at player.now step }
+{
+    if step < player.from {
+        step.min(6) as u8
+    } else {
+        ((step % 256 + u64::from(player.shift)) % 256) as u8
+    }
+}
+
+/// The control fields with this mark.
+fn marked(mark: u32) -> Ctl
+    ensures { result ≡ record { pc = mark; status = Running; out_len = 0; chain = record { 0 = replicate 32 0 } } }
+{
+    Ctl {
+        pc: mark,
+        status: Status::Running,
+        out_len: 0,
+        chain: Digest32::ZERO,
+    }
+}
+
+/// The claim of a root with a mark.
+fn claim_of(alloc: Global, mem: Digest32, mark: u32) -> Claim
+    ensures { result ≡ claim_of mem mark }
+{
+    let Some(output) = ClaimOutput::new(Vec::new(alloc)) else {
+        unreachable!()
+    };
+    Claim {
+        mem,
+        regs: Digest32::ZERO,
+        ctl: marked(mark),
+        output,
+    }
+}
+
+/// What a player gives once it answers.
+pub(crate) fn given(alloc: Global, player: &Player, kind: Kind) -> Result<Answer, Memory>
+    ensures { IfOk result (λ a. a ≡ given player.now kind) }
+{
+    match kind {
+        Kind::Claim => Ok(Answer::Claim(claim_of(
+            alloc,
+            root(number_at(player, 8)),
+            player.claim_mark,
+        ))),
+        Kind::Root(step) => Ok(Answer::Root(root(number_at(player, step)))),
+        Kind::Proof(step) => {
+            let proof = StepProof {
+                mem: root(number_at(player, step)),
+                regs: Regs::new(),
+                ctl: marked(player.proof_mark),
+                fetch: None,
+                operand: None,
+            };
+            Ok(Answer::Step(Boxed::new(Box::new(alloc, proof)?)))
+        }
+    }
+}
+
+/// Whether a player passes on a question after so many passes.
+pub(crate) fn passes_now(player: &Player, question: &Question, passes: u32) -> bool
+    ensures { result ≡ is_none (answers player.now question.now passes) }
+{
+    player.silent_from <= question.qid.round || passes < player.late
+}
+
+/// The players of a match, by number.
+#[derive(Clone, Copy, Debug)]
+pub struct Cast {
+    pub players: [Player; 16],
+    /// How many of them play.
+    pub count: u32,
+}
+
+impl Provers for Cast {
+    type Names = Cast;
+
+    ghost names = { λ c. c };
+
+    ghost many = { λ c. c.count };
+
+    ghost says = { λ c. says_of c.players };
+
+    fn count(&self) -> u32 {
+        self.count
+    }
+
+    fn waits(&self, p: u32, question: &Question, passes: u32) -> bool {
+        match self.players.get(p as usize - 1) {
+            Some(player) => passes_now(player, question, passes),
+            None => true,
+        }
+    }
+}
+
+/// One player at the table.
+#[derive(Clone, Copy, Debug)]
+pub struct Seated {
+    pub player: Player,
+    pub alloc: Global,
+}
+
+impl Answerer for Seated {
+    ghost answers = { λ s. answers s.player };
+
+    fn answer<R: Threads + Sync>(
+        &mut self,
+        _rt: &R,
+        question: &Question,
+        passes: u32,
+    ) -> Result<Option<Answer>, Memory> {
+        if passes_now(&self.player, question, passes) {
+            return Ok(None);
+        }
+        Ok(Some(given(self.alloc, &self.player, question.kind)?))
+    }
+}
