@@ -1,0 +1,4 @@
+pub mod RunLemmas
+pub mod VersionLemmas
+pub mod RecordLemmas
+pub mod EndLemmas

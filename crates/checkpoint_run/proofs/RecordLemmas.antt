@@ -1,0 +1,149 @@
+-- Checkpoints that stand for states, while the run goes on.
+use Rattle.std.proofs.Common.{◌≡◌, ◌≢◌, ◌⊎◌, ℕ, zero, suc, ◌+◌, ◌*◌, ◌/◌, ◌%◌, ◌<◌, ◌≤◌, List, [], ◌∷◌, ◌++◌, length, take, Option, Some, None, IfSome, inl, inr, refl, sym, ap, subst, ◌∙◌, ⊎_elim, arith, slice_get, get_or, false, length-append}
+use Rattle.std.proofs.lemmas.Bool.{cases_order}
+use Rattle.std.proofs.lemmas.List.{take-append-le, take_all}
+use Rattle.std.proofs.lemmas.Option.{slice_get_past}
+use Rattle.std.proofs.Math.Nat.{le-div_iff_mul-le, div-lt_iff_lt-mul, div-add-mod, mul_comm, lt-div-mul-add, lt_of_mul-lt-mul_right, add-mul}
+use Rattle.digest_core.specs.Chain.{chain_of}
+use Rattle.mem_plain.specs.Contents.{Contents, byte_at}
+use Rattle.rd_base.specs.declared.ctl.Ctl.{Ctl}
+use Rattle.rv_step.specs.State.{State}
+use Rattle.checkpoint_run.specs.Versions.{is_among, AreBelow, IsShownBut}
+use Rattle.checkpoint_run.specs.NamedPages.{IsNamed, ArePages}
+use Rattle.checkpoint_run.specs.Keeping.{Stands, AllStand, IsAdded}
+use Rattle.checkpoint_run.specs.UnderWay.{AllChained}
+use Rattle.checkpoint_run.specs.declared.checkpoint.Checkpoint.{Checkpoint}
+use Rattle.checkpoint_run.specs.declared.version.Version.{Version}
+
+-- a place that is there stays where entries are added
+pub slice_get_before : {X : Type 0} (xs ys : List X) (i : ℕ) → i < length xs → slice_get (xs ++ ys) i ≡ slice_get xs i
+slice_get_before [] ys i before = absurd (omega arith)
+slice_get_before (x ∷ xs) ys zero before = refl
+slice_get_before (x ∷ xs) ys (suc i) before = slice_get_before xs ys i (omega arith)
+
+pub slice_get_seam : {X : Type 0} (xs : List X) (y : X) (ys : List X) → slice_get (xs ++ y ∷ ys) (length xs) ≡ Some y
+slice_get_seam [] y ys = refl
+slice_get_seam (x ∷ xs) y ys = slice_get_seam xs y ys
+
+-- versions and output that are added change no checkpoint
+pub stands_on : (c : Checkpoint) (versions added : List Version) (output more : List ℕ) (s : State) → Stands c versions output s → Stands c (versions ++ added) (output ++ more) s
+stands_on c versions added output more s stands = record {
+  versions_there = omega (arith, length-append versions added, stands.versions_there);
+  output_there = omega (arith, length-append output more, stands.output_there);
+  state = rw (take-append-le c.versions versions added stands.versions_there, take-append-le c.ctl.out_len output more stands.output_there) stands.state;
+}
+
+pub all_stand_on : (cs : List Checkpoint) (versions added : List Version) (output more : List ℕ) (run : ℕ → State) (every : ℕ) → AllStand cs versions output run every → AllStand cs (versions ++ added) (output ++ more) run every
+all_stand_on cs versions added output more run every all k = each (slice_get cs k) (all k)
+  where
+    each : (o : Option Checkpoint) → IfSome o (λ c. Stands c versions output (run (k * every))) → IfSome o (λ c. Stands c (versions ++ added) (output ++ more) (run (k * every)))
+    each (Some c) stands = stands_on c versions added output more (run (k * every)) stands
+    each None nothing = tt
+
+-- the pages that are named in two places
+module _ (pages : List (Option ℕ)) (two : length pages ≡ 2) (page : ℕ) where
+  pub named_apart : IsNamed page pages → IsNamed page (get_or pages 0 None ∷ []) ⊎ IsNamed page (get_or pages 1 None ∷ [])
+  named_apart = apart pages two
+    where
+      split : (x y : Option ℕ) → IsNamed page (x ∷ y ∷ []) → IsNamed page (x ∷ []) ⊎ IsNamed page (y ∷ [])
+      split (Some n) y (inl same) = inl (inl same)
+      split (Some n) y (inr rest) = inr rest
+      split None y rest = inr rest
+
+      apart : (pages : List (Option ℕ)) → length pages ≡ 2 → IsNamed page pages → IsNamed page (get_or pages 0 None ∷ []) ⊎ IsNamed page (get_or pages 1 None ∷ [])
+      apart [] two named = absurd named
+      apart (x ∷ []) two named = absurd (omega arith)
+      apart (x ∷ y ∷ z ∷ rest) two named = absurd (omega arith)
+      apart (x ∷ y ∷ []) two named = split x y named
+
+  pub named_either : IsNamed page (get_or pages 0 None ∷ []) ⊎ IsNamed page (get_or pages 1 None ∷ []) → IsNamed page pages
+  named_either = either pages two
+    where
+      joined : (x y : Option ℕ) → IsNamed page (x ∷ []) ⊎ IsNamed page (y ∷ []) → IsNamed page (x ∷ y ∷ [])
+      joined (Some n) y (inl (inl same)) = inl same
+      joined (Some n) y (inl (inr none)) = absurd none
+      joined (Some n) y (inr second) = inr second
+      joined None y (inl none) = absurd none
+      joined None y (inr second) = second
+
+      either : (pages : List (Option ℕ)) → length pages ≡ 2 → IsNamed page (get_or pages 0 None ∷ []) ⊎ IsNamed page (get_or pages 1 None ∷ []) → IsNamed page pages
+      either [] two named = absurd (omega arith)
+      either (x ∷ []) two named = absurd (omega arith)
+      either (x ∷ y ∷ z ∷ rest) two named = absurd (omega arith)
+      either (x ∷ y ∷ []) two named = joined x y named
+
+-- the changed pages after both were noted, from the ones before
+module _ (pages : List (Option ℕ)) (two : length pages ≡ 2) (old between new : List ℕ) where
+  pub noted_below : ArePages pages → (ArePages (get_or pages 0 None ∷ []) → AreBelow old → AreBelow between) → (ArePages (get_or pages 1 None ∷ []) → AreBelow between → AreBelow new)
+      → AreBelow old → AreBelow new
+  noted_below below first second before =
+      second (λ page named. below page (named_either pages two page (inr named))) (first (λ page named. below page (named_either pages two page (inl named))) before)
+
+  pub noted_shown : (versions : List Version) (m n : Contents)
+      → ((p : ℕ) → is_among between p ≡ false → IsNamed p (get_or pages 0 None ∷ []) → ⊥) → ((p : ℕ) → is_among between p ≡ false → is_among old p ≡ false)
+      → ((p : ℕ) → is_among new p ≡ false → IsNamed p (get_or pages 1 None ∷ []) → ⊥) → ((p : ℕ) → is_among new p ≡ false → is_among between p ≡ false)
+      → ((q : ℕ) → ¬ IsNamed (q / 4096) pages → byte_at n q ≡ byte_at m q) → IsShownBut versions old m → IsShownBut versions new n
+  noted_shown versions m n named-1 kept-1 named-2 kept-2 elsewhere shown a below none =
+      let none-1 = kept-2 (a / 4096) none in
+      elsewhere a (λ named. ⊎_elim (named-1 (a / 4096) none-1) (named-2 (a / 4096) none) (named_apart pages two (a / 4096) named))
+      ∙ shown a below (kept-1 (a / 4096) none-1)
+
+-- a property of each, after one more
+pushed : (P : ℕ → Checkpoint → Type 0) (cs : List Checkpoint) (c : Checkpoint) → ((k : ℕ) → IfSome (slice_get cs k) (P k)) → P (length cs) c → (k : ℕ) → IfSome (slice_get (cs ++ c ∷ []) k) (P k)
+pushed P cs c all last k = ⊎_elim
+    (λ same. let Q : ℕ → Type 0 = λ n. IfSome (slice_get (cs ++ c ∷ []) n) (P n) in subst Q (sym same) (let R : Option Checkpoint → Type 0 = λ o. IfSome o (P (length cs)) in subst R (sym (slice_get_seam cs c [])) last))
+    (λ other. let R : Option Checkpoint → Type 0 = λ o. IfSome o (P k) in ⊎_elim
+    (λ before. subst R (sym (slice_get_before cs (c ∷ []) k before)) (all k))
+    (λ past. subst R (sym (slice_get_past (cs ++ c ∷ []) k (omega (arith, length-append cs (c ∷ []))))) tt)
+    other)
+    (cases_order k (length cs))
+
+-- a checkpoint of a machine's parts stands for the machine's state
+pub all_stand_added : (cs new : List Checkpoint) (versions : List Version) (s : State) (ctl : Ctl) (run : ℕ → State) (every : ℕ)
+    → AllStand cs versions s.output run every → (added : IsAdded cs new versions s.regs ctl s.memory) → ctl.pc ≡ s.pc → ctl.status ≡ s.status → ctl.out_len ≡ length s.output → run (length cs * every) ≡ s
+    → AllStand new versions s.output run every
+all_stand_added cs new versions s ctl run every all added pc status len here =
+    let Q : List Checkpoint → Type 0 = λ xs. AllStand xs versions s.output run every in
+    let whole : take added.checkpoint.versions versions ≡ versions = take_all added.checkpoint.versions versions (omega (arith, added.versions_are)) in
+    let out : take added.checkpoint.ctl.out_len s.output ≡ s.output = take_all added.checkpoint.ctl.out_len s.output (omega (arith, ap (λ x. x.out_len) added.ctl_is, len)) in
+    subst Q (sym added.pushed) (pushed (λ k c. Stands c versions s.output (run (k * every))) cs added.checkpoint all (record {
+      versions_there = omega (arith, added.versions_are);
+      output_there = omega (arith, ap (λ x. x.out_len) added.ctl_is, len);
+      state = rw (added.regs_are, ap (λ x. x.pc) added.ctl_is ∙ pc, whole, added.memory_is, ap (λ x. x.status) added.ctl_is ∙ status, out) (sym here);
+    }))
+
+-- the number of checkpoints, at a step that is due and at one that isn't
+pub due : (a e : ℕ) → 0 < e → (a + 1) % e ≡ 0 → (a + 1) / e ≡ a / e + 1
+due a e some even =
+    let whole = div-add-mod (a + 1) e in
+    let turned = mul_comm e ((a + 1) / e) in
+    let q = (a + 1) / e in
+    let below : a / e < q = (div-lt_iff_lt-mul some).1 (omega arith) in
+    let reach = lt-div-mul-add {a = a} some in
+    let two = add-mul (a / e) 2 e in
+    let above : q < a / e + 2 = lt_of_mul-lt-mul_right e (omega arith) in
+    omega arith
+
+pub not_due : (a e : ℕ) → 0 < e → (a + 1) % e ≢ 0 → (a + 1) / e ≡ a / e
+not_due a e some odd =
+    let whole = div-add-mod (a + 1) e in
+    let turned = mul_comm e ((a + 1) / e) in
+    let wholly = div-add-mod a e in
+    let turnedly = mul_comm e (a / e) in
+    let below : (a + 1) / e ≤ a / e = (le-div_iff_mul-le some).1 (omega arith) in
+    let above : a / e ≤ (a + 1) / e = (le-div_iff_mul-le some).1 (omega arith) in
+    omega arith
+
+-- at a step that is due the next checkpoint's number is its own
+pub due_here : (a e n : ℕ) → 0 < e → (a + 1) % e ≡ 0 → n ≡ a / e + 1 → n * e ≡ a + 1
+due_here a e n some even is =
+    let whole = div-add-mod (a + 1) e in
+    let turned = mul_comm e ((a + 1) / e) in
+    ap (λ k. k * e) (is ∙ sym (due a e some even)) ∙ omega arith
+
+-- the chain of a checkpoint more
+pub all_chained_added : (digest : List ℕ → List ℕ) (cs new : List Checkpoint) (versions : List Version) (regs : List ℕ) (ctl : Ctl) (memory : Contents) (run : ℕ → State) (every : ℕ)
+    → AllChained digest cs run every → IsAdded cs new versions regs ctl memory → ctl.chain.0 ≡ chain_of digest (run (length cs * every)).output → AllChained digest new run every
+all_chained_added digest cs new versions regs ctl memory run every all added chained =
+    let Q : List Checkpoint → Type 0 = λ xs. AllChained digest xs run every in
+    subst Q (sym added.pushed) (pushed (λ k c. c.ctl.chain.0 ≡ chain_of digest (run (k * every)).output) cs added.checkpoint all (ap (λ x. x.chain.0) added.ctl_is ∙ chained))

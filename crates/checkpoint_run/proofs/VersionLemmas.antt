@@ -1,0 +1,175 @@
+-- Versions of pages, and the memory that they stand for.
+use Rattle.std.proofs.Common.{◌≡◌, ◌≢◌, ◌⊎◌, ℕ, ◌+◌, ◌*◌, ◌/◌, ◌%◌, ◌^◌, ◌<◌, ◌≤◌, List, [], ◌∷◌, ◌++◌, slice_index, Some, eqb, cond, Bool, true, false, true≢false, ◌||◌, inl, inr, refl, sym, ap, subst, ◌∙◌, ⊎_elim, arith, reverse}
+use Rattle.std.proofs.lemmas.Bool.{cases_eq, cases_lt, eq-eqb, ne_eqb}
+use Rattle.std.proofs.lemmas.Bool.Decides.{nat_tests}
+use Rattle.std.proofs.lemmas.List.{reverse-append, append_assoc}
+use Rattle.std.specs.Ordering.{nat_cmp}
+use Rattle.std.specs.BTreeMap.{is_at}
+use Rattle.mem_plain.specs.Contents.{Contents, byte_at, no_bytes, IsUsed, contents_with}
+use Rattle.mem_plain.specs.Memory.{IsMemory}
+use Rattle.mem_plain.specs.Pages.{byte_of}
+use Rattle.checkpoint_run.specs.Versions.{first_of, byte_by, pictured, is_among, AreBelow, IsShownBut}
+use Rattle.checkpoint_run.specs.declared.version.Version.{Version}
+
+pub is_at-eqb : (key x : ℕ) → is_at (nat_cmp key) x ≡ eqb x key
+is_at-eqb key x = grind (arith, nat_tests)
+
+-- the first of some pages is among them, and so is one of the others
+pub among_first : (page : ℕ) (rest : List ℕ) → is_among (page ∷ rest) page ≡ true
+among_first page rest = ap (λ b. b || is_among rest page) (is_at-eqb page page ∙ eq-eqb page page refl)
+
+pub among_rest : (page : ℕ) (rest : List ℕ) (p : ℕ) → is_among rest p ≡ true → is_among (page ∷ rest) p ≡ true
+among_rest page rest p is = either (is_at (nat_cmp p) page) (is_among rest p) is
+  where
+    either : (b c : Bool) → c ≡ true → (b || c) ≡ true
+    either true c is = refl
+    either false c is = is
+
+pub among_other : (page : ℕ) (rest : List ℕ) (p : ℕ) → p ≢ page → is_among rest p ≡ false → is_among (page ∷ rest) p ≡ false
+among_other page rest p apart none = ap (λ b. b || is_among rest p) (is_at-eqb p page ∙ ne_eqb page p (λ same. apart (sym same))) ∙ none
+
+-- a page is added to some
+abbrev pub IsAddedTo : ℕ → List ℕ → List ℕ → Type 0
+IsAddedTo page old new = (q : ℕ) → is_among new q ≡ cond (is_at (nat_cmp page) q) true (is_among old q)
+
+module _ (page : ℕ) (old new : List ℕ) (adds : IsAddedTo page old new) where
+  pub added_here : is_among new page ≡ true
+  added_here = adds page ∙ ap (λ b. cond b true (is_among old page)) (is_at-eqb page page ∙ eq-eqb page page refl)
+
+  pub added_elsewhere : (q : ℕ) → q ≢ page → is_among new q ≡ is_among old q
+  added_elsewhere q other = adds q ∙ ap (λ b. cond b true (is_among old q)) (is_at-eqb page q ∙ ne_eqb q page other)
+
+  pub added_kept : (q : ℕ) → is_among old q ≡ true → is_among new q ≡ true
+  added_kept q there = ⊎_elim (λ same. ap (is_among new) same ∙ added_here) (λ other. added_elsewhere q other ∙ there) (cases_eq q page)
+
+  pub added_apart : (q : ℕ) → is_among new q ≡ false → q ≢ page
+  added_apart q none same = true≢false (sym added_here ∙ (ap (is_among new) (sym same) ∙ none))
+
+  pub added_none : (q : ℕ) → is_among new q ≡ false → is_among old q ≡ false
+  added_none q none = sym (added_elsewhere q (added_apart q none)) ∙ none
+
+  pub added_below : page < 2 ^ 20 → AreBelow old → AreBelow new
+  added_below small below q there = ⊎_elim (λ same. subst (λ n. n < 2 ^ 20) (sym same) small) (λ other. below q (sym (added_elsewhere q other) ∙ there)) (cases_eq q page)
+
+  -- the used pages below a number, and the next one
+  pub used_more : (m : Contents) (from : ℕ) → ((p : ℕ) → p < from → IsUsed m p → is_among old p ≡ true) → ((p : ℕ) → from ≤ p → p < page → ¬ IsUsed m p)
+      → (p : ℕ) → p < page + 1 → IsUsed m p → is_among new p ≡ true
+  used_more m from done none p low used = ⊎_elim
+      (λ before. added_kept p (done p before used))
+      (λ after. ⊎_elim
+      (λ between. absurd (none p after between used))
+      (λ past. ap (is_among new) (omega arith) ∙ added_here)
+      (cases_lt p page))
+      (cases_lt p from)
+
+-- the bytes of a version that is added
+module _ (versions : List Version) (v : Version) (a : ℕ) where
+  added_first : reverse (versions ++ v ∷ []) ≡ v ∷ reverse versions
+  added_first = reverse-append versions (v ∷ [])
+
+  pub byte_added : a / 4096 ≡ v.page → byte_by (versions ++ v ∷ []) a ≡ slice_index v.bytes.bytes.items (a % 4096)
+  byte_added same =
+      ap (λ vs. byte_of (first_of vs (a / 4096)) (a % 4096)) added_first
+      ∙ ap (λ b. byte_of (cond b (Some v.bytes) (first_of (reverse versions) (a / 4096))) (a % 4096)) (eq-eqb v.page (a / 4096) (sym same))
+
+  pub byte_kept : a / 4096 ≢ v.page → byte_by (versions ++ v ∷ []) a ≡ byte_by versions a
+  byte_kept other =
+      ap (λ vs. byte_of (first_of vs (a / 4096)) (a % 4096)) added_first
+      ∙ ap (λ b. byte_of (cond b (Some v.bytes) (first_of (reverse versions) (a / 4096))) (a % 4096)) (ne_eqb v.page (a / 4096) (λ same. other (sym same)))
+
+-- a version of the first changed page is added
+shown_more : (versions : List Version) (v : Version) (rest : List ℕ) (m : Contents)
+    → ((at : ℕ) → at < 4096 → slice_index v.bytes.bytes.items at ≡ byte_at m (v.page * 4096 + at))
+    → IsShownBut versions (v.page ∷ rest) m → IsShownBut (versions ++ v ∷ []) rest m
+shown_more versions v rest m is shown a below none = ⊎_elim
+    (λ same. ap (byte_at m) (omega (arith, same)) ∙ (sym (is (a % 4096) (omega arith)) ∙ sym (byte_added versions v a same)))
+    (λ other. shown a below (among_other v.page rest (a / 4096) other none) ∙ sym (byte_kept versions v a other))
+    (cases_eq (a / 4096) v.page)
+
+pub shown_pushed : (versions new : List Version) (v : Version) (rest : List ℕ) (m : Contents) → new ≡ versions ++ v ∷ []
+    → ((at : ℕ) → at < 4096 → slice_index v.bytes.bytes.items at ≡ byte_at m (v.page * 4096 + at))
+    → IsShownBut versions (v.page ∷ rest) m → IsShownBut new rest m
+shown_pushed versions new v rest m pushed is shown = subst (λ vs. IsShownBut vs rest m) (sym pushed) (shown_more versions v rest m is shown)
+
+pub more_pushed : (first old new : List Version) (v : Version) → ((added : List Version) × (old ≡ first ++ added)) → new ≡ old ++ v ∷ [] → (added : List Version) × (new ≡ first ++ added)
+more_pushed first old new v more pushed = (more.0 ++ v ∷ [], pushed ∙ (ap (λ vs. vs ++ v ∷ []) more.1 ∙ append_assoc first more.0 (v ∷ [])))
+
+-- versions that show each byte stand for the memory
+pub pictured_memory : (versions : List Version) (m : Contents) → ((f g : ℕ → ℕ) → ((q : ℕ) → q < 2 ^ 32 → f q ≡ g q) → contents_with f ≡ contents_with g)
+    → IsMemory m → IsShownBut versions [] m → pictured versions ≡ m
+unfolding pictured
+pictured_memory versions m alike memory shown = alike (byte_by versions) (byte_at m) (λ q below. sym (shown q below refl)) ∙ memory.whole
+
+-- a page that is not among the used ones has no byte other than 0
+pub shown_unused : (pages : List ℕ) (m : Contents) → ((p : ℕ) → IsUsed m p → is_among pages p ≡ true) → IsShownBut [] pages m
+shown_unused pages m used a below none = ⊎_elim
+    (λ zeros. zeros)
+    (λ some. absurd (true≢false (sym (used (a / 4096) (a, refl, some)) ∙ none)))
+    (cases_eq (byte_at m a) 0)
+
+-- where the versions that are left, the last one first, are still to be put into a memory, and some pages were put into it
+pub record IsRestoring (all left : List Version) (put : List ℕ) (m : Contents) : Type 0 where
+  pub shown : (a : ℕ) → a < 2 ^ 32 → is_among put (a / 4096) ≡ true → byte_at m a ≡ byte_by all a
+  pub empty : (a : ℕ) → a < 2 ^ 32 → is_among put (a / 4096) ≡ false → byte_at m a ≡ 0
+  pub same : (p : ℕ) → is_among put p ≡ false → first_of (reverse all) p ≡ first_of left p
+
+pub restoring_none : (all : List Version) → ((q : ℕ) → byte_at no_bytes q ≡ 0) → IsRestoring all (reverse all) [] no_bytes
+restoring_none all zeros = record {
+  shown = λ a below among. absurd (true≢false (sym among));
+  empty = λ a below none. zeros a;
+  same = λ p none. refl;
+}
+
+-- the last version of a page that was not put before
+pub restoring_put : (all : List Version) (v : Version) (left : List Version) (old new : List ℕ) (m n : Contents) (bytes : List ℕ)
+    → IsRestoring all (v ∷ left) old m → is_among old v.page ≡ false
+    → IsAddedTo v.page old new
+    → bytes ≡ v.bytes.bytes.items → ((q : ℕ) → byte_at n q ≡ cond (eqb (q / 4096) v.page) (slice_index bytes (q % 4096)) (byte_at m q))
+    → IsRestoring all left new n
+restoring_put all v left old new m n bytes restoring fresh adds is puts = record {
+  shown = λ a below among. ⊎_elim
+      (λ here.
+      puts a ∙ (ap (λ b. cond b (slice_index bytes (a % 4096)) (byte_at m a)) (eq-eqb (a / 4096) v.page here)
+      ∙ (ap (λ bs. slice_index bs (a % 4096)) is
+      ∙ sym (ap (λ o. byte_of o (a % 4096)) (restoring.same (a / 4096) (ap (is_among old) here ∙ fresh)
+      ∙ ap (λ b. cond b (Some v.bytes) (first_of left (a / 4096))) (eq-eqb v.page (a / 4096) (sym here)))))))
+      (λ other. kept a other ∙ restoring.shown a below (sym (before (a / 4096) other) ∙ among))
+      (cases_eq (a / 4096) v.page);
+  empty = λ a below none.
+      let other = apart (a / 4096) none in
+      kept a other ∙ restoring.empty a below (sym (before (a / 4096) other) ∙ none);
+  same = λ p none.
+      let other = apart p none in
+      restoring.same p (sym (before p other) ∙ none) ∙ ap (λ b. cond b (Some v.bytes) (first_of left p)) (ne_eqb v.page p (λ same. other (sym same)));
+}
+  where
+    before : (p : ℕ) → p ≢ v.page → is_among new p ≡ is_among old p
+    before p other = added_elsewhere v.page old new adds p other
+
+    apart : (p : ℕ) → is_among new p ≡ false → p ≢ v.page
+    apart p none = added_apart v.page old new adds p none
+
+    kept : (a : ℕ) → a / 4096 ≢ v.page → byte_at n a ≡ byte_at m a
+    kept a other = puts a ∙ ap (λ b. cond b (slice_index bytes (a % 4096)) (byte_at m a)) (ne_eqb (a / 4096) v.page other)
+
+-- an earlier version of a page that was put before
+pub restoring_passed : (all : List Version) (v : Version) (left : List Version) (put : List ℕ) (m : Contents)
+    → IsRestoring all (v ∷ left) put m → is_among put v.page ≡ true → IsRestoring all left put m
+restoring_passed all v left put m restoring there = record {
+  shown = restoring.shown;
+  empty = restoring.empty;
+  same = λ p none.
+      let other : p ≢ v.page = λ same. true≢false (sym (ap (is_among put) same ∙ there) ∙ none) in
+      restoring.same p none ∙ ap (λ b. cond b (Some v.bytes) (first_of left p)) (ne_eqb v.page p (λ same. other (sym same)));
+}
+
+-- no version is left
+pub restored_all : (all : List Version) (put : List ℕ) (m : Contents) → IsRestoring all [] put m → IsShownBut all [] m
+restored_all all put m restoring a below none = ⊎_elim
+    (λ there. restoring.shown a below there)
+    (λ absent. restoring.empty a below absent ∙ sym (ap (λ o. byte_of o (a % 4096)) (restoring.same (a / 4096) absent)))
+    (either (is_among put (a / 4096)))
+  where
+    either : (b : Bool) → (b ≡ true) ⊎ (b ≡ false)
+    either true = inl refl
+    either false = inr refl

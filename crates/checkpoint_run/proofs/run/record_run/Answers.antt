@@ -1,0 +1,50 @@
+use Rattle.std.proofs.Common.{◌≡◌, ◌⊎◌, ℕ, ◌*◌, slice_get, IfSome, map, true, inl, inr, sym, ap, subst, ◌∙◌, arith}
+use Rattle.digest_core.specs.Chain.{chain_of}
+use Rattle.rv_step.specs.State.{State, state_of}
+use Rattle.checkpoint_run.specs.TamperedRun.{tampered, run_from, still}
+use Rattle.checkpoint_run.specs.AtRest.{rests}
+use Rattle.checkpoint_run.specs.Keeping.{AllStand, first_by}
+use Rattle.checkpoint_run.proofs.RunLemmas.{still_found}
+use Rattle.checkpoint_run.proofs.EndLemmas.{first_of, chains_of}
+use Rattle.checkpoint_run.proofs.run.record_run.Goals as goal
+use Rattle.checkpoint_run.proofs.run.record_run.Goals.{then-steps-test+else-not-is_at_rest, else-steps-test}
+
+pub steps-init : goal.steps-init
+steps-init g c =
+    let at = c.in_ok-recording.ensures.at in
+    record {
+      within = omega (arith, at);
+      under_way = c.in_ok-recording.ensures.under_way g.D.Digester.digest_of c.args.every c.requires.every c.requires.chained;
+      before = λ k early. absurd (omega (arith, at, early));
+    }
+
+pub returns-clause-first : goal.returns-clause-first
+returns-clause-first g c =
+    let way = c.steps.invariant.under_way in
+    first_of c.steps.recording.checkpoints.items c.steps.recording.versions.items c.steps.recording.machine.output.items (run_from c.args.tamper (tampered c.args.tamper 0 (state_of c.args.machine.now))) c.args.every _ way.many way.each
+
+pub returns-clause-chained : goal.returns-clause-chained
+returns-clause-chained g c =
+    let way = c.steps.invariant.under_way in
+    let first = first_of c.steps.recording.checkpoints.items c.steps.recording.versions.items c.steps.recording.machine.output.items (run_from c.args.tamper (tampered c.args.tamper 0 (state_of c.args.machine.now))) c.args.every _ way.many way.each in
+    let P : State → Type 0 = λ s. (k : ℕ) → IfSome (slice_get (map (λ c. c.ctl.chain.0) c.steps.recording.checkpoints.items) k) (λ chain. chain ≡ chain_of g.D.Digester.digest_of (run_from c.args.tamper s (k * c.args.every)).output) in
+    subst P (sym first) (chains_of g.D.Digester.digest_of c.steps.recording.checkpoints.items (run_from c.args.tamper (tampered c.args.tamper 0 (state_of c.args.machine.now))) c.args.every way.chains)
+
+pub invariant_of-result : goal.invariant_of-result
+invariant_of-result g c =
+    let way = c.steps.invariant.under_way in
+    let begun : State = tampered c.args.tamper 0 (state_of c.args.machine.now) in
+    let first : first_by c.steps.recording.checkpoints.items c.steps.recording.versions.items c.steps.recording.machine.output.items ≡ begun
+    = first_of c.steps.recording.checkpoints.items c.steps.recording.versions.items c.steps.recording.machine.output.items (run_from c.args.tamper begun) c.args.every _ way.many way.each in
+    let P : State → Type 0 = λ s. AllStand c.steps.recording.checkpoints.items c.steps.recording.versions.items c.steps.recording.machine.output.items (run_from c.args.tamper s) c.args.every in
+    let within = c.steps.invariant.within in
+    let ends : (rests c.args.tamper c.args.bound c.steps.recording.at (run_from c.args.tamper begun c.steps.recording.at) ≡ true) ⊎ (c.steps.recording.at ≡ c.args.bound) = elim c.steps-test.branch [
+      | then-steps-test+else-not-is_at_rest w ↦ inl (sym (w.if-not-is_at_rest.ensures ∙ ap (rests c.args.tamper c.args.bound c.steps.recording.at) way.state))
+      | else-steps-test w ↦ inr (let past = w.steps-test.false in omega arith)
+    ] in
+    record {
+      spaced = c.requires.every;
+      rest = sym (still_found c.stopped_states_stay.ensures c.args.tamper begun c.args.bound c.steps.recording.at within c.steps.invariant.before ends) ∙ ap (λ s. still c.args.tamper s c.args.bound) (sym first);
+      many = way.many;
+      each = subst P (sym first) way.each;
+    }

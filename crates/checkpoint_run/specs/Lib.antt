@@ -1,0 +1,9 @@
+pub use Rattle.rv_step.specs.State
+pub use Rattle.rv_step.specs.Step
+pub mod TamperedRun
+pub mod NamedPages
+pub mod AtRest
+pub mod Recorded
+pub mod Versions
+pub mod Keeping
+pub mod UnderWay

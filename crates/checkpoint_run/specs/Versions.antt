@@ -1,0 +1,34 @@
+-- Derived, a part of the view of `Run`: the memory that versions of pages stand for, of which the last one of a page counts.
+use Rattle.std.specs.Prelude.{◌≡◌, ℕ, ◌/◌, ◌%◌, ◌^◌, ◌<◌, ◌==◌, Bool, true, false, List, [], ◌∷◌, reverse, Option, Some, None, if◌then◌else◌}
+use Rattle.std.specs.List.{list_any}
+use Rattle.std.specs.Ordering.{nat_cmp}
+use Rattle.std.specs.BTreeMap.{is_at}
+use Rattle.mem_plain.specs.Contents.{Contents, contents_with, byte_at}
+use Rattle.mem_plain.specs.Pages.{byte_of}
+use Rattle.mem_plain.specs.declared.page.Page.{Page}
+use Rattle.checkpoint_run.specs.declared.version.Version.{Version}
+
+-- the first version of a page
+abbrev pub first_of : List Version → ℕ → Option Page
+first_of [] page = None
+first_of (v ∷ rest) page = if v.page == page then Some v.bytes else first_of rest page
+
+-- the byte at an address, by the last version of its page
+abbrev pub byte_by : List Version → ℕ → ℕ
+byte_by versions a = byte_of (first_of (reverse versions) (a / 4096)) (a % 4096)
+
+-- the memory
+unfoldable pub pictured : List Version → Contents
+pictured versions = contents_with (byte_by versions)
+
+-- a page is among some
+abbrev pub is_among : List ℕ → ℕ → Bool
+is_among pages page = list_any (is_at (nat_cmp page)) pages
+
+-- each of some pages is one of the 2^20
+abbrev pub AreBelow : List ℕ → Type 0
+AreBelow pages = (page : ℕ) → is_among pages page ≡ true → page < 2 ^ 20
+
+-- the versions stand for a memory, but for some pages
+abbrev pub IsShownBut : List Version → List ℕ → Contents → Type 0
+IsShownBut versions changed m = (a : ℕ) → a < 2 ^ 32 → is_among changed (a / 4096) ≡ false → byte_at m a ≡ byte_by versions a

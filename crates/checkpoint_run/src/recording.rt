@@ -1,0 +1,123 @@
+//! A run that is being recorded.
+ghost use Rattle.std.specs.Prelude.{◌≡◌, ℕ, ◌+◌, ◌<◌, ◌^◌, ◌∷◌, [], List, false, IfOk, OnOk};
+ghost use Rattle.rv_step.specs.State.{State, state_of, IsChained};
+ghost use Rattle.checkpoint_run.specs.TamperedRun.{tampered};
+ghost use Rattle.checkpoint_run.specs.NamedPages.{IsNamed, ArePages};
+ghost use Rattle.checkpoint_run.specs.Versions.{AreBelow, IsShownBut, is_among};
+ghost use Rattle.checkpoint_run.specs.UnderWay.{IsUnderWay};
+
+use crate::checkpoint::{Checkpoint, add_checkpoint};
+use crate::tampering::{follow, tamper_at};
+use crate::version::Version;
+use crate::versions::used_pages;
+use digest_core::Digester;
+use rd_base::{Memory, Tamper};
+use rv_step::Machine;
+use std::alloc::Global;
+use std::collections::BTreeSet;
+
+/// A run that is being recorded: its machine and at which step it is, the pages that changed since the last checkpoint, the
+/// versions of pages, and the checkpoints.
+#[derive(Drop)]
+pub struct Recording {
+    pub machine: Machine,
+    pub at: u64,
+    pub changed: BTreeSet<u32>,
+    pub versions: Vec<Version>,
+    pub checkpoints: Vec<Checkpoint>,
+}
+
+/// The machine of step 0, after what the tamper does there. An `Err` is out of memory.
+fn first_machine(machine: &Machine, tamper: &Tamper) -> Result<Machine, Memory>
+    ensures state { IfOk result (λ m. state_of m ≡ tampered tamper.now 0 (state_of machine.now)) }
+    ensures chained { (digest : List ℕ → List ℕ) → IsChained digest machine.now → IfOk result (λ m. IsChained digest m) }
+{
+    let mut first = Machine {
+        regs: machine.regs,
+        ctl: machine.ctl,
+        mem: machine.mem.copy()?,
+        output: machine.output.clone()?,
+    };
+    tamper_at(tamper, 0, &mut first)?;
+    Ok(first)
+}
+
+/// The recording at step 0. An `Err` is out of memory.
+pub fn begin(alloc: Global, machine: &Machine, tamper: &Tamper) -> Result<Recording, Memory>
+    ensures at { IfOk result (λ r. r.at ≡ 0) }
+    ensures under_way { (digest : List ℕ → List ℕ) (every : ℕ) → 0 < every → IsChained digest machine.now →
+        IfOk result (λ r. IsUnderWay digest tamper.now (tampered tamper.now 0 (state_of machine.now)) every r) }
+{
+    let machine = first_machine(machine, tamper)?;
+    let mut changed = used_pages(alloc, &machine.mem)?;
+    let mut versions = Vec::new(alloc);
+    let mut checkpoints = Vec::new(alloc);
+    add_checkpoint(&machine, &mut changed, &mut versions, &mut checkpoints)?;
+    Ok(Recording {
+        machine,
+        at: 0,
+        changed,
+        versions,
+        checkpoints,
+    })
+}
+
+/// Notes a page that changed, where one is named. An `Err` is out of memory.
+fn note(changed: &mut BTreeSet<u32>, page: Option<u32>) -> Result<(), Memory>
+    ensures named { OnOk result ((p : ℕ) → is_among changed.new.keys p ≡ false → IsNamed p (page ∷ []) → ⊥) }
+    ensures kept { OnOk result ((p : ℕ) → is_among changed.new.keys p ≡ false → is_among changed.old.keys p ≡ false) }
+    ensures pages { OnOk result (ArePages (page ∷ []) → AreBelow changed.old.keys → AreBelow changed.new.keys) }
+{
+    match page {
+        Some(page) => {
+            changed.insert(page)?;
+            Ok(())
+        }
+        None => Ok(()),
+    }
+}
+
+/// The recording at the next step. An `Err` is out of memory.
+pub fn go_on<D: Digester>(
+    d: D,
+    tamper: &Tamper,
+    every: u32,
+    recording: Recording,
+) -> Result<Recording, Memory>
+    requires every { 0 < every }
+    requires room { recording.at + 1 < 2 ^ 64 }
+    requires chained { IsChained D.digest_of recording.machine }
+    requires pages { AreBelow recording.changed.keys }
+    requires shown { IsShownBut recording.versions.items recording.changed.keys recording.machine.mem }
+    ensures at { IfOk result (λ r. r.at ≡ recording.at + 1) }
+    ensures under_way { (first : State) → IsUnderWay D.digest_of tamper.now first every recording → IfOk result (λ r. IsUnderWay D.digest_of tamper.now first every r) }
+{
+    let Recording {
+        machine,
+        at,
+        mut changed,
+        mut versions,
+        mut checkpoints,
+    } = recording;
+    let (machine, pages) = follow(d, tamper, at, machine)?;
+    let at = at + 1;
+    note(&mut changed, pages[0])?;
+    note(&mut changed, pages[1])?;
+    if at % u64::from(every) != 0 {
+        return Ok(Recording {
+            machine,
+            at,
+            changed,
+            versions,
+            checkpoints,
+        });
+    }
+    add_checkpoint(&machine, &mut changed, &mut versions, &mut checkpoints)?;
+    Ok(Recording {
+        machine,
+        at,
+        changed,
+        versions,
+        checkpoints,
+    })
+}

@@ -1,0 +1,158 @@
+ghost use Rattle.std.specs.Prelude.{◌≡◌, ◌+◌, ◌*◌, ◌/◌, ◌<◌, ◌≤◌, ℕ, IfOk, List, length};
+ghost use Rattle.mem_plain.specs.Contents.{byte_at};
+ghost use Rattle.rv_step.specs.State.{state_of, IsChained};
+ghost use Rattle.checkpoint_run.specs.TamperedRun.{tampered};
+ghost use Rattle.checkpoint_run.specs.NamedPages.{IsNamed, ArePages};
+ghost use Rattle.checkpoint_run.specs.Recorded.{AreChained, state_of_step, still_of};
+
+use crate::checkpoint::Checkpoint;
+use crate::recording::{Recording, begin, go_on};
+use crate::tampering::{follow, is_at_rest};
+use crate::version::Version;
+use crate::versions::restored;
+use digest_core::Digester;
+use rd_base::{Memory, Tamper};
+use rv_step::{Machine, stopped_states_stay};
+use std::alloc::Global;
+use std::marker::Model;
+
+/// A run of a prover up to a bound, kept as checkpoints.
+///
+/// Contracts see it as the run's first state, tamper, bound and spacing, from which every state of the run follows, and
+/// the chains of its checkpoints.
+#[derive(Drop)]
+pub struct Run {
+    alloc: Global,
+    tamper: Tamper,
+    bound: u64,
+    every: u32,
+    still: u64,
+    checkpoints: Vec<Checkpoint>,
+    versions: Vec<Version>,
+    output: Vec<u8>,
+}
+
+impl Model for Run {
+    ghost use Rattle.checkpoint_run.specs.Recorded.{Recorded, recorded_code};
+    ghost use Rattle.checkpoint_run.specs.Keeping.{recorded_by, IsRecorded};
+
+    ghost Value = { Recorded };
+
+    ghost coded = { recorded_code };
+
+    ghost view = { λ r. recorded_by r.tamper r.bound r.every r.checkpoints.items r.versions.items r.output.items };
+
+    ghost invariant = { λ r. IsRecorded (recorded_by r.tamper r.bound r.every r.checkpoints.items r.versions.items r.output.items) r.still r.checkpoints.items r.versions.items r.output.items };
+}
+
+impl Run {
+    /// The last step of the run.
+    pub fn bound(&self) -> u64
+        ensures { result ≡ self.now.bound }
+    {
+        self.bound
+    }
+
+    /// How many steps lie between two checkpoints: at least 1.
+    pub fn every(&self) -> u32
+        ensures value { result ≡ self.now.every }
+        ensures some { 0 < result }
+    {
+        self.every
+    }
+
+    /// The step from which the run stands still; it is not above the bound. There is a checkpoint at each multiple of the
+    /// spacing up to this step.
+    pub fn still(&self) -> u64
+        ensures { result ≡ still_of self.now }
+    {
+        self.still
+    }
+}
+
+/// Records the run of a prover from a machine, with this tamper, up to the step `bound`, with a checkpoint at every `every`
+/// steps (at least 1) from step 0 on. It makes no step after the one from which the run stands still. The machine's chain is
+/// that of its output, by the digester `d`, and so are the checkpoints'. An `Err` is out of memory.
+pub fn record_run<D: Digester>(
+    alloc: Global,
+    d: D,
+    machine: &Machine,
+    bound: u64,
+    every: u32,
+    tamper: Tamper,
+) -> Result<Run, Memory>
+    requires every { 0 < every }
+    requires chained { IsChained D.digest_of machine.now }
+    ensures first { IfOk result (λ r. r.first ≡ tampered tamper 0 (state_of machine.now)) }
+    ensures tamper { IfOk result (λ r. r.tamper ≡ tamper) }
+    ensures bound { IfOk result (λ r. r.bound ≡ bound) }
+    ensures every { IfOk result (λ r. r.every ≡ every) }
+    ensures chained { IfOk result (λ r. AreChained D.digest_of r) }
+{
+    stopped_states_stay();
+    let mut recording = begin(alloc, machine, &tamper)?;
+    'steps: while recording.at < bound
+        && !is_at_rest(&tamper, bound, recording.at, &recording.machine)
+    {
+        recording = go_on(d, &tamper, every, recording)?;
+    }
+    let Recording {
+        machine: last,
+        at,
+        checkpoints,
+        versions,
+        ..
+    } = recording;
+    let Machine { output, .. } = last;
+    Ok(Run {
+        alloc,
+        tamper,
+        bound,
+        every,
+        still: at,
+        checkpoints,
+        versions,
+        output,
+    })
+}
+
+/// The machine of a checkpoint: that of the step which is so many times the spacing. The step is not above the one from which
+/// the run stands still, so that there is such a checkpoint. Its chain is that of its output by the digester that recorded the
+/// run. An `Err` is out of memory.
+pub fn machine_at(run: &Run, checkpoint: u64) -> Result<Machine, Memory>
+    requires { checkpoint * run.now.every ≤ still_of run.now }
+    ensures state { IfOk result (λ m. state_of m ≡ state_of_step run.now (checkpoint * run.now.every)) }
+    ensures chained { (digest : List ℕ → List ℕ) → AreChained digest run.now → IfOk result (λ m. IsChained digest m) }
+{
+    let kept = &run.checkpoints[checkpoint as usize];
+    let mem = restored(run.alloc, &run.versions[..kept.versions])?;
+    let output = Vec::from_slice(run.alloc, &run.output[..kept.ctl.out_len as usize])?;
+    Ok(Machine {
+        regs: kept.regs,
+        ctl: kept.ctl,
+        mem,
+        output,
+    })
+}
+
+/// From the machine of step `i`, which is below the bound, to that of the next step, with every page that changed: the page
+/// that the step stores to, and the page in which the tamper changes a byte. A page goes by its number, below 2^20. It keeps
+/// the chain by the digester `d`. An `Err` is out of memory.
+pub fn next<D: Digester>(
+    d: D,
+    run: &Run,
+    i: u64,
+    machine: Machine,
+) -> Result<(Machine, [Option<u32>; 2]), Memory>
+    requires chained { IsChained D.digest_of machine }
+    requires at { state_of machine ≡ state_of_step run.now i }
+    requires below { i < run.now.bound }
+    ensures state { IfOk result (λ r. state_of r.0 ≡ state_of_step run.now (i + 1)) }
+    ensures chained { IfOk result (λ r. IsChained D.digest_of r.0) }
+    ensures two { IfOk result (λ r. length r.1 ≡ 2) }
+    ensures pages { IfOk result (λ r. ArePages r.1) }
+    ensures elsewhere { IfOk result (λ r. (q : ℕ) → ¬ IsNamed (q / 4096) r.1 → byte_at r.0.mem q ≡ byte_at machine.mem q) }
+{
+    let _bound = run.bound();
+    follow(d, &run.tamper, i, machine)
+}

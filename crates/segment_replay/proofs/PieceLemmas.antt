@@ -1,0 +1,37 @@
+-- Pieces of a list, put together again.
+use Rattle.std.proofs.Common.{◌≡◌, ◌⊎◌, ℕ, zero, suc, ◌+◌, ◌*◌, ◌/◌, ◌%◌, ◌<◌, ◌≤◌, min, List, [], ◌∷◌, ◌++◌, length, take, drop, map, inl, inr, refl, sym, ap, ◌∙◌, ⊎_elim, arith}
+use Rattle.std.proofs.lemmas.List.{take-map}
+use Rattle.std.proofs.Math.Nat.{div-add-mod, mul_comm, mod-lt, add-mul}
+use Rattle.std.proofs.Math.Seq.{take-add}
+use Rattle.std.specs.Fork.{slice_chunk}
+
+map_drop : {X Y : Type 0} (f : X → Y) (n : ℕ) (xs : List X) → map f (drop n xs) ≡ drop n (map f xs)
+map_drop f zero xs = refl
+map_drop f (suc n) [] = refl
+map_drop f (suc n) (x ∷ xs) = map_drop f n xs
+
+pub map_chunk : {X Y : Type 0} (f : X → Y) (xs : List X) (size n : ℕ) → map f (slice_chunk xs size n) ≡ slice_chunk (map f xs) size n
+map_chunk f xs size n = sym (take-map f size (drop (n * size) xs)) ∙ ap (take size) (map_drop f (n * size) xs)
+
+-- one chunk more
+pub chunk_more : {X : Type 0} (xs : List X) (size n : ℕ) → take (n * size) xs ++ slice_chunk xs size n ≡ take ((n + 1) * size) xs
+chunk_more xs size n = sym (take-add (n * size) size xs) ∙ ap (λ k. take k xs) (sym (more n size))
+  where
+    more : (n size : ℕ) → (n + 1) * size ≡ n * size + size
+    more n size = add-mul n 1 size ∙ ap (λ k. n * size + k) (omega arith)
+
+-- so many chunks are the whole
+pub whole_chunks : (len size : ℕ) → 0 < size → len ≤ (len / size + min 1 (len % size)) * size
+whole_chunks len size some =
+    let whole = div-add-mod len size in
+    let turned = mul_comm size (len / size) in
+    let less = mod-lt len some in
+    let split = add-mul (len / size) (min 1 (len % size)) size in
+    ⊎_elim
+    (λ (none : len % size ≡ 0). omega arith)
+    (λ (one : min 1 (len % size) ≡ 1). let here : min 1 (len % size) * size ≡ size = ap (λ k. k * size) one ∙ omega arith in omega arith)
+    (either (len % size))
+  where
+    either : (r : ℕ) → (r ≡ 0) ⊎ (min 1 r ≡ 1)
+    either zero = inl refl
+    either (suc r) = inr (omega arith)

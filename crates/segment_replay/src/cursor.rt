@@ -1,0 +1,202 @@
+//! One worker: a machine of a run, moved from step to step with the tree of its memory.
+ghost use Rattle.std.specs.Prelude.{◌≡◌, ℕ, ◌+◌, ◌<◌, ◌≤◌, ◌∷◌, [], false, IfOk, OnOk, IfSome, min};
+ghost use Rattle.mem_plain.specs.Contents.{Contents};
+ghost use Rattle.mem_tree.specs.Tree.{IsTreeOf, is_among};
+ghost use Rattle.rv_step.specs.State.{state_of, IsChained};
+ghost use Rattle.state_commit.specs.StateRoot.{state_root, memory_digest};
+ghost use Rattle.checkpoint_run.specs.NamedPages.{IsNamed, ArePages};
+ghost use Rattle.checkpoint_run.specs.Recorded.{AreChained, state_of_step, still_of};
+ghost use Rattle.segment_replay.specs.Roots.{root_at};
+ghost use Rattle.segment_replay.specs.Cursor.{IsMachineOf, IsBehind, IsFresh};
+
+use checkpoint_run::{Run, machine_at, next, pages_of_two_places, tampered_runs};
+use digest_core::{Digester, registers_text};
+use mem_tree::MemTree;
+use out_chain::parts_root;
+use rd_base::{Digest32, Memory};
+use rv_step::Machine;
+use std::alloc::Global;
+use std::thread::Threads;
+
+/// A machine of a run, at which step it is, and the tree of its memory.
+#[derive(Drop)]
+pub struct Cursor<D: Digester> {
+    pub at: u64,
+    pub machine: Machine,
+    pub tree: MemTree<D>,
+}
+
+/// The machine of a step up to the one from which the run stands still, replayed from the last checkpoint up to it. An `Err`
+/// is out of memory.
+fn machine_up_to<D: Digester>(d: D, run: &Run, goal: u64) -> Result<Machine, Memory>
+    requires goal { goal ≤ still_of run.now }
+    requires chained { AreChained D.digest_of run.now }
+    ensures { IfOk result (λ m. IsMachineOf D.digest_of run.now goal m) }
+{
+    tampered_runs();
+    let _bound = run.bound();
+    let _still = run.still();
+    let every = u64::from(run.every());
+    let checkpoint = goal / every;
+    let mut at = checkpoint * every;
+    let mut machine = machine_at(run, checkpoint)?;
+    'steps: while at < goal {
+        let (stepped, _pages) = next(d, run, at, machine)?;
+        machine = stepped;
+        at += 1;
+    }
+    Ok(machine)
+}
+
+/// A step that has the state of a step, at most the one from which the run stands still. Above the bound the state of
+/// the bound stands for a step.
+fn goal_of(run: &Run, step: u64) -> u64
+    ensures within { result ≤ still_of run.now }
+    ensures same { state_of_step run.now result ≡ state_of_step run.now (min step run.now.bound) }
+{
+    tampered_runs();
+    let _bound = run.bound();
+    step.min(run.still())
+}
+
+/// The machine of a step; above the bound it is that of the bound. An `Err` is out of memory.
+pub fn machine_of_step<D: Digester>(d: D, run: &Run, step: u64) -> Result<Machine, Memory>
+    requires { AreChained D.digest_of run.now }
+    ensures { IfOk result (λ m. IsMachineOf D.digest_of run.now (min step run.now.bound) m) }
+{
+    let goal = goal_of(run, step);
+    machine_up_to(d, run, goal)
+}
+
+/// Touches a page, where one is named. An `Err` is out of memory.
+fn touch_named<D: Digester>(tree: &mut MemTree<D>, page: Option<u32>) -> Result<(), Memory>
+    requires { ArePages (page ∷ []) }
+    ensures tree { OnOk result ((m : Contents) → IsTreeOf D.digest_of tree.old m → IsTreeOf D.digest_of tree.new m) }
+    ensures named { OnOk result ((p : ℕ) → is_among tree.new.touched p ≡ false → IsNamed p (page ∷ []) → ⊥) }
+    ensures others { OnOk result ((p : ℕ) → is_among tree.new.touched p ≡ false → is_among tree.old.touched p ≡ false) }
+{
+    match page {
+        Some(page) => {
+            tree.touch(page)?;
+            Ok(())
+        }
+        None => Ok(()),
+    }
+}
+
+/// The cursor at the next step, with the pages touched that changed. An `Err` is out of memory.
+fn go_on<D: Digester>(d: D, run: &Run, cursor: Cursor<D>) -> Result<Cursor<D>, Memory>
+    requires machine { IsMachineOf D.digest_of run.now cursor.at cursor.machine }
+    requires below { cursor.at < run.now.bound }
+    ensures at { IfOk result (λ c. c.at ≡ cursor.at + 1) }
+    ensures machine { IfOk result (λ c. IsMachineOf D.digest_of run.now c.at c.machine) }
+    ensures tree { (old : Contents) → IsBehind D.digest_of cursor.tree old cursor.machine.mem →
+        IfOk result (λ c. IsBehind D.digest_of c.tree old c.machine.mem) }
+{
+    pages_of_two_places();
+    let _bound = run.bound();
+    let Cursor {
+        at,
+        machine,
+        mut tree,
+    } = cursor;
+    let (machine, pages) = next(d, run, at, machine)?;
+    touch_named(&mut tree, pages[0])?;
+    touch_named(&mut tree, pages[1])?;
+    Ok(Cursor {
+        at: at + 1,
+        machine,
+        tree,
+    })
+}
+
+/// The cursor at a later step, up to the one from which the run stands still. An `Err` is out of memory.
+fn moved_on<D: Digester>(d: D, run: &Run, cursor: Cursor<D>, goal: u64) -> Result<Cursor<D>, Memory>
+    requires later { cursor.at ≤ goal }
+    requires goal { goal ≤ still_of run.now }
+    requires machine { IsMachineOf D.digest_of run.now cursor.at cursor.machine }
+    requires tree { IsFresh D.digest_of cursor.tree cursor.machine.mem }
+    ensures at { IfOk result (λ c. c.at ≡ goal) }
+    ensures machine { IfOk result (λ c. IsMachineOf D.digest_of run.now goal c.machine) }
+    ensures tree { IfOk result (λ c. IsFresh D.digest_of c.tree c.machine.mem) }
+{
+    tampered_runs();
+    let _bound = run.bound();
+    let mut moved = cursor;
+    'steps: while moved.at < goal {
+        moved = go_on(d, run, moved)?;
+    }
+    let Cursor {
+        at,
+        machine,
+        mut tree,
+    } = moved;
+    tree.refresh(&machine.mem)?;
+    Ok(Cursor { at, machine, tree })
+}
+
+/// The cursor of a step, up to the one from which the run stands still: the cursor at hand moved on, where no checkpoint lies
+/// between it and the step, else a new one from the last checkpoint up to the step. An `Err` is out of memory.
+fn cursor_at<D: Digester + Send + Sync, R: Threads + Sync>(
+    rt: &R,
+    alloc: Global,
+    d: D,
+    run: &Run,
+    at_hand: Option<Cursor<D>>,
+    goal: u64,
+) -> Result<Cursor<D>, Memory>
+    requires goal { goal ≤ still_of run.now }
+    requires chained { AreChained D.digest_of run.now }
+    requires machine { IfSome at_hand (λ c. IsMachineOf D.digest_of run.now c.at c.machine) }
+    requires tree { IfSome at_hand (λ c. IsFresh D.digest_of c.tree c.machine.mem) }
+    ensures at { IfOk result (λ c. c.at ≡ goal) }
+    ensures machine { IfOk result (λ c. IsMachineOf D.digest_of run.now goal c.machine) }
+    ensures tree { IfOk result (λ c. IsFresh D.digest_of c.tree c.machine.mem) }
+{
+    let every = u64::from(run.every());
+    if let Some(cursor) = at_hand {
+        if cursor.at <= goal && goal / every == cursor.at / every {
+            return moved_on(d, run, cursor, goal);
+        }
+    }
+    let machine = machine_up_to(d, run, goal)?;
+    let tree = MemTree::build(rt, alloc, d, &machine.mem)?;
+    Ok(Cursor {
+        at: goal,
+        machine,
+        tree,
+    })
+}
+
+/// The root of a machine's state, from the digest of its memory.
+fn root_over<D: Digester>(d: D, memory: Digest32, machine: &Machine) -> Digest32
+    requires chained { IsChained D.digest_of machine.now }
+    requires memory { memory.0 ≡ memory_digest D.digest_of (state_of machine.now) }
+    ensures { result.0 ≡ state_root D.digest_of (state_of machine.now) }
+{
+    let _out_len = machine.ctl.out_len;
+    let registers = d.digest(registers_text(&machine.regs).as_slice());
+    parts_root(d, memory, registers, &machine.ctl)
+}
+
+/// The root of a step, and a cursor for the next one. An `Err` is out of memory.
+pub fn root_of_step<D: Digester + Send + Sync, R: Threads + Sync>(
+    rt: &R,
+    alloc: Global,
+    d: D,
+    run: &Run,
+    at_hand: Option<Cursor<D>>,
+    step: u64,
+) -> Result<(Cursor<D>, Digest32), Memory>
+    requires chained { AreChained D.digest_of run.now }
+    requires machine { IfSome at_hand (λ c. IsMachineOf D.digest_of run.now c.at c.machine) }
+    requires tree { IfSome at_hand (λ c. IsFresh D.digest_of c.tree c.machine.mem) }
+    ensures machine { IfOk result (λ r. IsMachineOf D.digest_of run.now r.0.at r.0.machine) }
+    ensures tree { IfOk result (λ r. IsFresh D.digest_of r.0.tree r.0.machine.mem) }
+    ensures root { IfOk result (λ r. r.1.0 ≡ root_at D.digest_of run.now step) }
+{
+    let goal = goal_of(run, step);
+    let cursor = cursor_at(rt, alloc, d, run, at_hand, goal)?;
+    let root = root_over(d, cursor.tree.root(), &cursor.machine);
+    Ok((cursor, root))
+}

@@ -1,0 +1,93 @@
+ghost use Rattle.std.specs.Prelude.{◌≡◌, ◌<◌, ◌≤◌, ◌*◌, ℕ, IfOk, List, length, map, min};
+ghost use Rattle.checkpoint_run.specs.Recorded.{AreChained, state_of_step};
+ghost use Rattle.segment_replay.specs.Roots.{root_at, digests};
+ghost use Rattle.segment_replay.specs.Pieces.{ArePieces};
+
+use crate::cursor::{Cursor, machine_of_step, root_of_step};
+use checkpoint_run::Run;
+use digest_core::Digester;
+use rd_base::{Digest32, Memory};
+use state_commit::Committed;
+use std::alloc::Global;
+use std::thread;
+use std::thread::Threads;
+
+/// The roots of steps, in their order, by one worker. An `Err` is out of memory.
+fn replayed<D: Digester + Send + Sync, R: Threads + Sync>(
+    rt: &R,
+    alloc: Global,
+    d: D,
+    run: &Run,
+    steps: &[u64],
+) -> Result<Vec<Digest32>, Memory>
+    requires { AreChained D.digest_of run.now }
+    ensures { IfOk result (λ v. digests v.items ≡ map (root_at D.digest_of run.now) steps.now) }
+{
+    let mut roots = Vec::new(alloc);
+    let mut cursor: Option<Cursor<D>> = None;
+    'steps: for step in steps {
+        let (moved, root) = root_of_step(rt, alloc, d, run, cursor, *step)?;
+        roots.push(root)?;
+        cursor = Some(moved);
+    }
+    Ok(roots)
+}
+
+/// What the workers made, one behind the other. An `Err` is out of memory, here or in one of the pieces.
+fn joined(alloc: Global, pieces: &[Result<Vec<Digest32>, Memory>]) -> Result<Vec<Digest32>, Memory>
+    ensures { (wanted : List (List ℕ)) (size : ℕ) → ArePieces wanted size pieces.now → length wanted ≤ length pieces.now * size → IfOk result (λ v. digests v.items ≡ wanted) }
+{
+    let mut all = Vec::new(alloc);
+    'pieces: for piece in pieces {
+        match piece {
+            Ok(roots) => all.extend_from_slice(roots)?,
+            Err(memory) => return Err(*memory),
+        }
+    }
+    Ok(all)
+}
+
+/// The roots of the run's states of some steps, in the order asked; a step may be asked more than once, and above the bound
+/// the state of the bound stands for it. The steps are cut into at most `workers` (at least 1) pieces of consecutive
+/// entries, and each piece is replayed by a thread of its own, where one can be made. The chain of each of the run's
+/// checkpoints is that of its output by this digester, as `record_run` makes it. An `Err` is out of memory.
+pub fn roots<D: Digester + Send + Sync, R: Threads + Sync>(
+    rt: &R,
+    alloc: Global,
+    d: D,
+    run: &Run,
+    steps: &[u64],
+    workers: u32,
+) -> Result<Vec<Digest32>, Memory>
+    requires workers { 0 < workers }
+    requires chained { AreChained D.digest_of run.now }
+    ensures { IfOk result (λ v. digests v.items ≡ map (root_at D.digest_of run.now) steps.now) }
+{
+    if steps.is_empty() {
+        return Ok(Vec::new(alloc));
+    }
+    let size = steps.len().div_ceil(workers as usize);
+    let worker = |_start: usize, piece: &[u64]| -> Result<Vec<Digest32>, Memory>
+        requires { AreChained D.digest_of run.now }
+        ensures { IfOk result (λ v. digests v.items ≡ map (root_at D.digest_of run.entry.now) piece.now) }
+    { replayed(rt, alloc, d, run, piece) };
+    let pieces = thread::map_chunks(rt, alloc, steps, size, &worker)?;
+    joined(alloc, &pieces)
+}
+
+/// The machine of the run's state of a step, with the tree of its memory; above the bound the state of the bound stands for
+/// it. The chain of each of the run's checkpoints is that of its output by this digester, as `record_run` makes it. An `Err`
+/// is out of memory.
+pub fn committed_at<D: Digester + Send + Sync, R: Threads + Sync>(
+    rt: &R,
+    alloc: Global,
+    d: D,
+    run: &Run,
+    step: u64,
+) -> Result<Committed<D>, Memory>
+    requires { AreChained D.digest_of run.now }
+    ensures { IfOk result (λ c. c ≡ state_of_step run.now (min step run.now.bound)) }
+{
+    let machine = machine_of_step(d, run, step)?;
+    Committed::new(rt, alloc, d, machine)
+}
