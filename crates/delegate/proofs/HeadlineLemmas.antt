@@ -71,7 +71,7 @@ accepted final number (script ∷ scripts) (suc k) stands =
 outcome-case : (words : List (List ℕ)) (bytes : List ℕ) (c : CaseData) (image : Image) → IsCase words bytes c image → outcome words bytes ≡ reported c (final_state c image)
 outcome-case words bytes c image is =
     sym (outcome-ok words bytes _ (all_steps words bytes Judge c image (ap (λ o. ok_or o usage) is.asked)
-    (ap (λ b. cond b (Err too_long) (Ok tt)) (le-ltb 16777216 _ is.short)) (ap (or_refusal case_refusal) is.reads) (ap (or_refusal image_refusal) is.loads)))
+    (ap (λ b. cond b (Err too_long) (Ok tt)) (le-ltb 16777216 _ is.short)) (ap (or_refusal case_refusal) is.reads) refl (ap (or_refusal image_refusal) is.loads)))
 
 -- what is reported for a truthful prover
 reported-headline : (c : CaseData) (final : State) (number : ℕ) → IsTruthful c final number → Headline (reported c final) c final number

@@ -4,6 +4,7 @@ use Rattle.std.specs.Option.{ok_or}
 use Rattle.std.proofs.lemmas.Bool.{false≢true}
 use Rattle.std.proofs.lemmas.List.{length-replicate}
 use Rattle.rd_base.specs.Results.{◌>>=◌}
+use Rattle.sha2.specs.Sha256.{sha256}
 use Rattle.rv_step.specs.State.{State}
 use Rattle.case_reader.specs.Case.{CaseData, case_at}
 use Rattle.image_reader.specs.Image.{Image}
@@ -11,12 +12,12 @@ use Rattle.transcript_text.specs.declared.record.Verdict.{Verdict}
 use Rattle.transcript_text.specs.declared.record.Verdict.TheVariants.{Accept, NoneLeft}
 use Rattle.delegate.specs.Answered.{is_outcome, is_of_a_command}
 use Rattle.delegate.specs.Match.{record_of, verdict_of, end_of_run}
-use Rattle.delegate.specs.Outcome.{within_limit, image_at, start_of, answered_by, ended, carried_out, either_way, outcome}
-use Rattle.delegate.specs.Refusal.{usage, too_long, case_refusal, image_refusal, or_refusal}
+use Rattle.delegate.specs.Outcome.{within_limit, within_bound, image_at, start_of, answered_by, ended, carried_out, either_way, outcome}
+use Rattle.delegate.specs.Refusal.{usage, too_long, bound_refusal, case_refusal, image_refusal, or_refusal}
 use Rattle.delegate.specs.Visible.{MayBe, ForItsBytes}
 use Rattle.delegate.specs.Words.{chosen}
 use Rattle.delegate.specs.declared.words.Command.{Command}
-use Rattle.delegate.specs.declared.words.Command.TheVariants.{Judge, Run}
+use Rattle.delegate.specs.declared.words.Command.TheVariants.{Judge, Run, Roots}
 use Rattle.delegate.specs.declared.response.Response.{Response}
 use Rattle.delegate.specs.declared.answered.Answered.{Answered}
 use Rattle.delegate.specs.declared.answered.Answered.TheVariants.{Done, Usage, Case, Image as BadImage, ReadFault, WriteFault, AuditRefused, Memory, NoneLeft as NobodyLeft, Collision, TooLong}
@@ -42,15 +43,20 @@ pub no_case : (words : List (List ℕ)) (bytes : List ℕ) (command : Command) (
 unfolding carried_out
 no_case words bytes command response taken short is = goes_on _ _ _ taken ∙ (goes_on _ _ _ short ∙ stops _ _ _ is)
 
-pub no_image : (words : List (List ℕ)) (bytes : List ℕ) (command : Command) (c : CaseData) (response : Response) → ok_or (chosen words) usage ≡ Ok command → within_limit bytes ≡ Ok tt
-    → or_refusal case_refusal (case_at bytes) ≡ Ok c → or_refusal image_refusal (image_at c) ≡ Err response → carried_out words bytes ≡ Err response
+pub no_bound : (words : List (List ℕ)) (bytes : List ℕ) (command : Command) (c : CaseData) (response : Response) → ok_or (chosen words) usage ≡ Ok command → within_limit bytes ≡ Ok tt
+    → or_refusal case_refusal (case_at bytes) ≡ Ok c → within_bound command c ≡ Err response → carried_out words bytes ≡ Err response
 unfolding carried_out
-no_image words bytes command c response taken short reads is = goes_on _ _ _ taken ∙ (goes_on _ _ _ short ∙ (goes_on _ _ _ reads ∙ stops _ _ _ is))
+no_bound words bytes command c response taken short reads is = goes_on _ _ _ taken ∙ (goes_on _ _ _ short ∙ (goes_on _ _ _ reads ∙ stops _ _ _ is))
+
+pub no_image : (words : List (List ℕ)) (bytes : List ℕ) (command : Command) (c : CaseData) (response : Response) → ok_or (chosen words) usage ≡ Ok command → within_limit bytes ≡ Ok tt
+    → or_refusal case_refusal (case_at bytes) ≡ Ok c → within_bound command c ≡ Ok tt → or_refusal image_refusal (image_at c) ≡ Err response → carried_out words bytes ≡ Err response
+unfolding carried_out
+no_image words bytes command c response taken short reads few is = goes_on _ _ _ taken ∙ (goes_on _ _ _ short ∙ (goes_on _ _ _ reads ∙ (goes_on _ _ _ few ∙ stops _ _ _ is)))
 
 pub all_steps : (words : List (List ℕ)) (bytes : List ℕ) (command : Command) (c : CaseData) (image : Image) → ok_or (chosen words) usage ≡ Ok command → within_limit bytes ≡ Ok tt
-    → or_refusal case_refusal (case_at bytes) ≡ Ok c → or_refusal image_refusal (image_at c) ≡ Ok image → carried_out words bytes ≡ Ok (ended command c (start_of c image))
+    → or_refusal case_refusal (case_at bytes) ≡ Ok c → within_bound command c ≡ Ok tt → or_refusal image_refusal (image_at c) ≡ Ok image → carried_out words bytes ≡ Ok (ended sha256 command c (start_of c image))
 unfolding carried_out
-all_steps words bytes command c image taken short reads loads = goes_on _ _ _ taken ∙ (goes_on _ _ _ short ∙ (goes_on _ _ _ reads ∙ goes_on _ _ _ loads))
+all_steps words bytes command c image taken short reads few loads = goes_on _ _ _ taken ∙ (goes_on _ _ _ short ∙ (goes_on _ _ _ reads ∙ (goes_on _ _ _ few ∙ goes_on _ _ _ loads)))
 
 -- there are bytes that a source may have had
 pub some_bytes : (left : Option (List ℕ)) (P : List ℕ → Type 0) → ((bytes : List ℕ) → P bytes) → ForItsBytes left P
@@ -94,20 +100,26 @@ refused : {A E : Type 0} (P : Response → Type 0) (refusal : E → Response) (r
 refused P refusal (Ok x) holds e is = absurd (cc)
 refused P refusal (Err fault) holds e is = subst P (cc is) (holds fault)
 
-abbrev limit : Bool → Result (Unit {0}) Response
-limit b = cond b (Err too_long) (Ok tt)
+abbrev limit : Response → Bool → Result (Unit {0}) Response
+limit refusal b = cond b (Err refusal) (Ok tt)
 
-limited : (b : Bool) (e : Response) → limit b ≡ Err e → e ≡ too_long
-limited true e is = cc
-limited false e is = absurd (cc)
+limited : (refusal : Response) (b : Bool) (e : Response) → limit refusal b ≡ Err e → e ≡ refusal
+limited refusal true e is = cc
+limited refusal false e is = absurd (cc)
+
+bounded : (command : Command) (c : CaseData) (e : Response) → within_bound command c ≡ Err e → e ≡ bound_refusal
+bounded Judge c e is = absurd (cc)
+bounded Run c e is = absurd (cc)
+bounded Roots c e is = limited bound_refusal _ e is
 
 verdict-kind : (verdict : Verdict) → answers_bytes (answered_by verdict) ≡ true
 verdict-kind (Accept number) = refl
 verdict-kind NoneLeft = refl
 
-ended-kind : (command : Command) (c : CaseData) (start : State) → answers_bytes (ended command c start).answered ≡ true
+ended-kind : (command : Command) (c : CaseData) (start : State) → answers_bytes (ended sha256 command c start).answered ≡ true
 ended-kind Judge c start = verdict-kind (verdict_of (record_of c (end_of_run c start)).claims)
 ended-kind Run c start = refl
+ended-kind Roots c start = refl
 
 abbrev AnswersBytes : Response → Type 0
 AnswersBytes response = answers_bytes response.answered ≡ true
@@ -117,10 +129,11 @@ taken-kind : (words : List (List ℕ)) (bytes : List ℕ) (command : Command) �
 unfolding outcome carried_out
 taken-kind words bytes command is =
     step AnswersBytes _ _ (λ e none. absurd (named is none))
-    (λ command. step AnswersBytes (within_limit bytes) _ (λ e long. subst AnswersBytes (sym (limited _ e long)) refl)
+    (λ command. step AnswersBytes (within_limit bytes) _ (λ e long. subst AnswersBytes (sym (limited too_long _ e long)) refl)
     (λ short. step AnswersBytes _ _ (refused AnswersBytes case_refusal (case_at bytes) (λ fault. refl))
-    (λ c. step AnswersBytes _ _ (refused AnswersBytes image_refusal (image_at c) (λ fault. refl))
-    (λ image. ended-kind command c (start_of c image)))))
+    (λ c. step AnswersBytes (within_bound command c) _ (λ e many. subst AnswersBytes (sym (bounded command c e many)) refl)
+    (λ few. step AnswersBytes _ _ (refused AnswersBytes image_refusal (image_at c) (λ fault. refl))
+    (λ image. ended-kind command c (start_of c image))))))
   where
     named : {e : Response} → chosen words ≡ Some command → ok_or (chosen words) usage ≡ Err e → ⊥
     named some none = let is = sym (ap (λ o. ok_or o usage) some) ∙ none in cc

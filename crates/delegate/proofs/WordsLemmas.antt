@@ -16,7 +16,7 @@ use Rattle.std.specs.Box.{box_value}
 use Rattle.clap.proofs.OnLiterals.{clap_on_literals}
 use Rattle.delegate.specs.Words.{command_line, is_faultless, is_taken, command_of, named, name_of, chosen}
 use Rattle.delegate.specs.declared.words.Command.{Command}
-use Rattle.delegate.specs.declared.words.Command.TheVariants.{Judge, Run}
+use Rattle.delegate.specs.declared.words.Command.TheVariants.{Judge, Run, Roots}
 
 pub command_line-is-simple : is_simple command_line ≡ true
 unfolding command_line
@@ -56,6 +56,10 @@ judge_is_taken program = refl
 pub run_is_taken : (program : Text) → chosen (program ∷ codes "run" ∷ []) ≡ Some Run
 unfolding clap_on_literals command_line is_taken command_of
 run_is_taken program = refl
+
+pub roots_is_taken : (program : Text) → chosen (program ∷ codes "roots" ∷ []) ≡ Some Roots
+unfolding clap_on_literals command_line is_taken command_of
+roots_is_taken program = refl
 
 -- a parse that succeeds gives the command
 pub chosen-of-parse : (a : App) (words : List Text) (m : ArgMatches) (command : Option Command) → a ≡ command_line

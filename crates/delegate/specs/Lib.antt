@@ -2,10 +2,12 @@ pub use Rattle.io_edge.specs.Device
 pub use Rattle.rv_step.specs.State
 pub use Rattle.rv_step.specs.Step
 pub use Rattle.rv_step.specs.Loaded
+pub use Rattle.state_commit.specs.StateRoot
 pub use Rattle.case_reader.specs.Case
 pub use Rattle.image_reader.specs.Image
 pub use Rattle.image_reader.specs.Elf
 pub use Rattle.transcript_text.specs.Report
+pub use Rattle.transcript_text.specs.Roots
 pub mod Answered
 pub mod Words
 pub mod Match

@@ -1,21 +1,25 @@
 -- To believe. What the program answers and writes: a function of its arguments and of the bytes that it reads.
-use Rattle.std.specs.Prelude.{ℕ, List, length, nat_lt, Result, Ok, Err, if◌then◌else◌}
+use Rattle.std.specs.Prelude.{ℕ, ◌+◌, List, length, nat_lt, Result, Ok, Err, if◌then◌else◌}
 use Rattle.std.specs.Option.{ok_or}
 use Rattle.rd_base.specs.Results.{◌>>=◌}
+use Rattle.sha2.specs.Sha256.{sha256}
 use Rattle.rv_step.specs.State.{State}
+use Rattle.rv_step.specs.Step.{state_at}
 use Rattle.rv_step.specs.Loaded.{started}
+use Rattle.state_commit.specs.StateRoot.{state_root}
 use Rattle.case_reader.specs.Case.{CaseData, case_at}
 use Rattle.image_reader.specs.Image.{Image, flat_at}
 use Rattle.image_reader.specs.Elf.{elf_at}
 use Rattle.image_reader.specs.declared.fault.ImageFault.{ImageFault}
 use Rattle.transcript_text.specs.Report.{report_text, answer_line_text}
+use Rattle.transcript_text.specs.Roots.{root_lines}
 use Rattle.transcript_text.specs.declared.record.Verdict.{Verdict}
 use Rattle.transcript_text.specs.declared.record.Verdict.TheVariants.{Accept, NoneLeft}
 use Rattle.delegate.specs.Words.{chosen}
 use Rattle.delegate.specs.declared.words.Command.{Command}
-use Rattle.delegate.specs.declared.words.Command.TheVariants.{Judge, Run}
+use Rattle.delegate.specs.declared.words.Command.TheVariants.{Judge, Run, Roots}
 use Rattle.delegate.specs.Match.{end_of_run, record_of, verdict_of, head_of}
-use Rattle.delegate.specs.Refusal.{usage, too_long, case_refusal, image_refusal, or_refusal}
+use Rattle.delegate.specs.Refusal.{usage, too_long, bound_refusal, case_refusal, image_refusal, or_refusal}
 use Rattle.delegate.specs.declared.response.Response.{Response}
 use Rattle.delegate.specs.declared.answered.Answered.{Answered}
 use Rattle.delegate.specs.declared.answered.Answered.TheVariants as answered
@@ -23,6 +27,11 @@ use Rattle.delegate.specs.declared.answered.Answered.TheVariants as answered
 -- not more than the most bytes that are read
 abbrev pub within_limit : List ℕ → Result (Unit {0}) Response
 within_limit bytes = if nat_lt 16777216 (length bytes) then Err too_long else Ok tt
+
+-- for roots, not more than the most steps whose roots are written
+abbrev pub within_bound : Command → CaseData → Result (Unit {0}) Response
+within_bound Roots c = if nat_lt 4096 c.bound then Err bound_refusal else Ok tt
+within_bound _ c = Ok tt
 
 -- the image of a case, flat or ELF, or the first rule of images that is broken
 abbrev pub image_at : CaseData → Result Image ImageFault
@@ -46,10 +55,15 @@ reported c final =
 abbrev pub run_answer : State → Response
 run_answer final = record { answered = answered.Done; text = answer_line_text final.status final.output }
 
+-- the root of each state from the first to that at the bound, by a digest function
+abbrev pub roots_answer : (List ℕ → List ℕ) → CaseData → State → Response
+roots_answer digest c start = record { answered = answered.Done; text = root_lines (λ i. state_root digest (state_at start i)) (c.bound + 1) }
+
 -- a command on a case whose run starts in this state
-abbrev pub ended : Command → CaseData → State → Response
-ended Judge c start = reported c (end_of_run c start)
-ended Run c start = run_answer (end_of_run c start)
+abbrev pub ended : (List ℕ → List ℕ) → Command → CaseData → State → Response
+ended digest Judge c start = reported c (end_of_run c start)
+ended digest Run c start = run_answer (end_of_run c start)
+ended digest Roots c start = roots_answer digest c start
 
 -- the steps in their order, of which the first that is refused is the last
 unfoldable pub carried_out : List (List ℕ) → List ℕ → Result Response Response
@@ -57,8 +71,9 @@ carried_out words bytes = do
   command ← ok_or (chosen words) usage
   short ← within_limit bytes
   c ← or_refusal case_refusal (case_at bytes)
+  few ← within_bound command c
   image ← or_refusal image_refusal (image_at c)
-  Ok (ended command c (start_of c image))
+  Ok (ended sha256 command c (start_of c image))
 
 -- the response, of a command that is carried out or refused
 abbrev pub either_way : Result Response Response → Response

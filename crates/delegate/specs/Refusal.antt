@@ -1,6 +1,7 @@
 -- To believe. The responses to what is refused: each names the first rule that is broken.
 use Rattle.std.specs.Prelude.{ℕ, List, [], ◌++◌, codes, decimal, Result, Ok, Err, Option, Some, None}
 use Rattle.case_reader.specs.Key.{key_text}
+use Rattle.case_reader.specs.declared.fault.Key.TheVariants.{Bound}
 use Rattle.case_reader.specs.declared.fault.CaseFault.{CaseFault}
 use Rattle.case_reader.specs.declared.fault.CaseFault.TheVariants.{NotJson, NotObject, Missing, WrongType, BadHex, OutOfRange, BadProver, Memory}
 use Rattle.image_reader.specs.Fault.{rule_of}
@@ -29,6 +30,10 @@ case_fault_text Memory = []
 
 abbrev pub case_refusal : CaseFault → Response
 case_refusal fault = record { answered = answered.Case; text = case_fault_text fault }
+
+-- a bound above the most steps whose roots are written
+abbrev pub bound_refusal : Response
+bound_refusal = case_refusal (OutOfRange Bound)
 
 -- the rule of an image that is broken
 abbrev pub rule_text : Option ℕ → List ℕ

@@ -8,7 +8,7 @@ use Rattle.clap.specs.Walk.{Row, Text}
 use Rattle.clap.specs.Simple.{App, Shape, new_app, new_shape, on_top, subcommand_of, with_subcommand}
 use Rattle.clap.specs.Faults.{fault_of}
 use Rattle.delegate.specs.declared.words.Command.{Command}
-use Rattle.delegate.specs.declared.words.Command.TheVariants.{Judge, Run}
+use Rattle.delegate.specs.declared.words.Command.TheVariants.{Judge, Run, Roots}
 
 -- arguments as their bytes
 abbrev pub texts : List (String Global) → List Text
@@ -17,9 +17,11 @@ texts words = map string_bytes words
 abbrev pub with_required_subcommand : Shape → Shape
 with_required_subcommand shape = record shape { subcommand_required = true }
 
--- the command line: one of the commands `judge` and `run`, which have no options
+-- the command line: one of the commands `judge`, `run` and `roots`, which have no options
 unfoldable pub command_line : App
-command_line = with_subcommand (with_subcommand (on_top with_required_subcommand (new_app (codes "refcli"))) (new_shape (codes "judge"))) (new_shape (codes "run"))
+command_line =
+    with_subcommand (with_subcommand (with_subcommand (on_top with_required_subcommand (new_app (codes "refcli"))) (new_shape (codes "judge"))) (new_shape (codes "run")))
+    (new_shape (codes "roots"))
 
 -- there is no fault among those that may be found
 abbrev pub is_faultless : Kinds → Bool
@@ -35,6 +37,7 @@ abbrev pub command_of_name : List ℕ → Option Command
 command_of_name name =
     if bytes_eq name (codes "judge") then Some Judge
     else if bytes_eq name (codes "run") then Some Run
+    else if bytes_eq name (codes "roots") then Some Roots
     else None
 
 abbrev pub named : Option Text → Option Command

@@ -3,7 +3,7 @@
 //! `run` is the top call. Its clauses say what it answers and writes as a function of the arguments and of the bytes
 //! that its source had, and carry the headline: a prover whose claim is the run's own is never put out, and where there
 //! is one the verdict is the sequential run's status and output. Read `program` first, then `responding`, whose steps
-//! stand in `stages`, `judging` and `running`. `run_process` is what a program's `main` calls.
+//! stand in `stages`, `judging`, `running` and `rooting`. `run_process` is what a program's `main` calls.
 #![tactic(auto)]
 
 mod answered;
@@ -15,6 +15,7 @@ mod process;
 mod program;
 mod responding;
 mod response;
+mod rooting;
 mod running;
 mod stages;
 mod words;

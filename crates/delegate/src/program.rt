@@ -22,7 +22,7 @@ use std::thread::Threads;
 /// The answer and the text are the outcome of the arguments and of the bytes that the source had, or a fault of a
 /// device, or out of memory. Nothing is written before the whole text is made, and writing takes no memory.
 pub fn run<R: Threads + Sync, S: Source, K: Sink>(
-    _rt: &R,
+    rt: &R,
     alloc: Global,
     words: &[String],
     source: &mut S,
@@ -62,7 +62,7 @@ pub fn run<R: Threads + Sync, S: Source, K: Sink>(
         (text : List ℕ) × Headline (record { answered = result; text = text }) c (final_state c image) number
         × Appends (K.held sink.old) (K.held sink.new) text) }
 {
-    let response = match respond(alloc, words, source) {
+    let response = match respond(rt, alloc, words, source) {
         Ok(response) => response,
         Err(Halt::ReadFault) => return Answered::ReadFault,
         Err(Halt::Memory) => return Answered::Memory,

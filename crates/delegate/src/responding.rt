@@ -12,8 +12,9 @@ ghost use Rattle.delegate.specs.declared.response.Response.{Response};
 use crate::answered::Answered;
 use crate::judging::judge;
 use crate::response::{Halt, Response, Stop};
+use crate::rooting::roots;
 use crate::running::run_program;
-use crate::stages::{bytes_in, case_in, command_in, image_in};
+use crate::stages::{bound_in, bytes_in, case_in, command_in, image_in};
 use crate::words::Command;
 use case_reader::Case;
 use digest_core::{Digester, Sha256};
@@ -21,26 +22,36 @@ use io_edge::Source;
 use rd_base::Memory;
 use rv_step::Machine;
 use std::alloc::Global;
+use std::thread::Threads;
 
 /// Carries out a command on a case whose run starts in this machine. The machine's chain is that of the digester `d`.
-fn end<D: Digester>(
+fn end<R: Threads + Sync, D: Digester>(
+    rt: &R,
     alloc: Global,
     d: D,
     command: Command,
     case: &Case,
     start: Machine,
 ) -> Result<Response, Memory>
+where
+    D: Send + Sync,
     requires { IsChained D.digest_of start }
-    ensures { IfOk result (λ response. response ≡ ended command (data_of case.now) (state_of start)) }
+    ensures { IfOk result (λ response. response ≡ ended D.digest_of command (data_of case.now) (state_of start)) }
 {
     match command {
         Command::Judge => judge(alloc, d, case, start),
         Command::Run => run_program(alloc, d, case, start),
+        Command::Roots => roots(rt, alloc, d, case, start),
     }
 }
 
 /// Carries out what the arguments ask for, step by step.
-fn carry_out<S: Source>(alloc: Global, words: &[String], source: &mut S) -> Result<Response, Stop>
+fn carry_out<R: Threads + Sync, S: Source>(
+    rt: &R,
+    alloc: Global,
+    words: &[String],
+    source: &mut S,
+) -> Result<Response, Stop>
     ensures done { IfOk result (λ response. ForItsBytes (S.left source.old) (λ bytes. carried_out (texts words.now) bytes ≡ Ok response)) }
     ensures refused { (response : Response) → result ≡ Err (Stop.Refused response) →
         ForItsBytes (S.left source.old) (λ bytes. carried_out (texts words.now) bytes ≡ Err response) }
@@ -54,13 +65,19 @@ fn carry_out<S: Source>(alloc: Global, words: &[String], source: &mut S) -> Resu
     let command = command_in(alloc, words)?;
     let bytes = bytes_in(alloc, source)?;
     let case = case_in(alloc, bytes.as_slice())?;
+    bound_in(alloc, command, &case)?;
     let loaded = image_in(alloc, &case)?;
     let start = Machine::new(alloc, loaded.mem, loaded.entry, case.input.as_slice())?;
-    Ok(end(alloc, Sha256, command, &case, start)?)
+    Ok(end(rt, alloc, Sha256, command, &case, start)?)
 }
 
 /// The response to the arguments and to what the source has, which is read only where the arguments name a command.
-pub fn respond<S: Source>(alloc: Global, words: &[String], source: &mut S) -> Result<Response, Halt>
+pub fn respond<R: Threads + Sync, S: Source>(
+    rt: &R,
+    alloc: Global,
+    words: &[String],
+    source: &mut S,
+) -> Result<Response, Halt>
     ensures outcome { IfOk result (λ response. ForItsBytes (S.left source.old) (λ bytes. response ≡ outcome (texts words.now) bytes)) }
     ensures kind { IfOk result (λ response. is_outcome response.answered ≡ true) }
     ensures of_a_command { IfOk result (λ response. is_of_a_command response.answered ≡ true) }
@@ -71,7 +88,7 @@ pub fn respond<S: Source>(alloc: Global, words: &[String], source: &mut S) -> Re
     ensures fault { IsErrOf result Halt.ReadFault → Rises (S.faults source.old) (S.faults source.new) }
     ensures count { ¬ (IsErrOf result Halt.ReadFault) → S.faults source.new ≡ S.faults source.old }
 {
-    match carry_out(alloc, words, source) {
+    match carry_out(rt, alloc, words, source) {
         Ok(response) => Ok(response),
         Err(Stop::Refused(response)) => Ok(response),
         Err(Stop::Halted(halt)) => Err(halt),

@@ -5,7 +5,7 @@ ghost use Rattle.io_edge.specs.Device.{Rises, IsLaterIn};
 ghost use Rattle.rd_base.specs.Results.{Gives};
 ghost use Rattle.case_reader.specs.Case.{data_of, case_at};
 ghost use Rattle.image_reader.specs.Image.{loaded_of};
-ghost use Rattle.delegate.specs.Outcome.{within_limit, image_at};
+ghost use Rattle.delegate.specs.Outcome.{within_limit, within_bound, image_at};
 ghost use Rattle.delegate.specs.Refusal.{usage, too_long, case_refusal, image_refusal, or_refusal};
 ghost use Rattle.delegate.specs.Stages.{Stands};
 ghost use Rattle.delegate.specs.Visible.{MayBe};
@@ -15,13 +15,16 @@ ghost use Rattle.delegate.specs.Words.{texts, chosen};
 use crate::faults;
 use crate::response::{Halt, Stop};
 use crate::words::{Command, command_given};
-use case_reader::{Case, CaseFault, read_case};
+use case_reader::{Case, CaseFault, Key, read_case};
 use image_reader::{ImageFault, Loaded, load_elf, load_flat};
 use io_edge::{ReadAll, Source, read_all};
 use std::alloc::Global;
 
 /// The most bytes that are read.
 pub const MAX_CASE_BYTES: usize = 16_777_216;
+
+/// The most steps of a case whose roots are written.
+pub const MAX_ROOTS_BOUND: u64 = 4_096;
 
 /// The command that the arguments name.
 pub fn command_in(alloc: Global, words: &[String]) -> Result<Command, Stop>
@@ -62,6 +65,24 @@ pub fn case_in(alloc: Global, bytes: &[u8]) -> Result<Case, Stop>
         Ok(case) => Ok(case),
         Err(CaseFault::Memory) => Err(Stop::Halted(Halt::Memory)),
         Err(fault) => Err(Stop::Refused(faults::case_refusal(alloc, fault)?)),
+    }
+}
+
+/// That the command takes the case's bound.
+pub fn bound_in(alloc: Global, command: Command, case: &Case) -> Result<(), Stop>
+    ensures stands { Stands (λ few. few) result (within_bound command (data_of case.now)) }
+    ensures no_read { ¬ (result ≡ Err (Stop.Halted Halt.ReadFault)) }
+{
+    match command {
+        Command::Judge => Ok(()),
+        Command::Run => Ok(()),
+        Command::Roots => {
+            if case.bound > MAX_ROOTS_BOUND {
+                let fault = CaseFault::OutOfRange(Key::Bound);
+                return Err(Stop::Refused(faults::case_refusal(alloc, fault)?));
+            }
+            Ok(())
+        }
     }
 }
 

@@ -28,6 +28,68 @@ const OUTPUTS: &str = "1305a0029308100037930100730000001303f3ffe31c03fe130500009
 const INPUT: &str =
     "93081000b702004003a502001355050173000000370310400345330073000000130500009308d00573000000";
 
+/// The roots of `ANSWER` at bound 8. These and those below are by `checks/roots.py`.
+const ANSWER_ROOTS: [&str; 9] = [
+    "0 183959fe9e2293200e53fc93acb41f25f4341e8f6a99a6caa23193d901d2cd6d",
+    "1 e45ff7c5b4c6f88e1a646d853148ad652183e1f4880a6c0553ba0154bd33793c",
+    "2 c46e891ba0a4281759720b616b7a090487df81ef5fff50e14aac4a62cfb2cfe4",
+    "3 ac20116a59ff9b02b34dea22c3562a6bbd6eb965f2358427635b2b2ce8054803",
+    "4 591d8c752c1eed7041874849627ea737243c9086008c2d13dc4c3e803a14d8f5",
+    "5 a6f7b33b170c0d9b081a027f00d4a3c4f3f0ba0739e712476385c4ed42e841f8",
+    "6 078add20bc2c812fcaf74f520828c1a827c468f504d583b65992e27624179d46",
+    "7 078add20bc2c812fcaf74f520828c1a827c468f504d583b65992e27624179d46",
+    "8 078add20bc2c812fcaf74f520828c1a827c468f504d583b65992e27624179d46",
+];
+
+/// The roots of `DIVISION` at bound 16.
+const DIVISION_ROOTS: [&str; 17] = [
+    "0 d8df3418ada36861096da7caf8cf979a89572ebbed1a193ec3ad14dcb0cdbd89",
+    "1 03ff6ed9ead7ee21aa46977b3926b6080bd8c71c39a4070e35a147a26fe00153",
+    "2 5d6c9863de0ae1481f7f2363da8d786a09fdf0f80dba72f4f6ff99d5356e179d",
+    "3 8ce3058f4e9a38c4d4c622d22b62195438257b4da0d27fb32f75f127c559878c",
+    "4 f6e3f18125b2aad795974cbbbed135aee98aa3c2a51bb5d364b97343a263ef5f",
+    "5 1f801a125bf475f14c7a3b82ed695a89d498ef2fcfd7afc8e38752a73bb843a5",
+    "6 c83e9b73d0f9db005ee9ed54c1be1043ca0c30b58b6a39f615d73ebb0f8b6d6c",
+    "7 9017a4e69d145eda18daff9cc2376b8d486f1834862c84edbfea5bcee6c9aac4",
+    "8 e1f08bc54422c921d75e0f375614d8e1656725a0749a1b5abc28d9367c305855",
+    "9 7840d581fedc351f05926a3394f8cf81cec158337044a6ff5ef14c87fec2841f",
+    "10 d69f9e2df4ad09e3b23ad663faf9878030c73b4151039203537068e2c2e32728",
+    "11 8e32d4b3a820ba42aa211fa9f0e797f5cd2cc058967496e786facb9f20da1e63",
+    "12 8e32d4b3a820ba42aa211fa9f0e797f5cd2cc058967496e786facb9f20da1e63",
+    "13 8e32d4b3a820ba42aa211fa9f0e797f5cd2cc058967496e786facb9f20da1e63",
+    "14 8e32d4b3a820ba42aa211fa9f0e797f5cd2cc058967496e786facb9f20da1e63",
+    "15 8e32d4b3a820ba42aa211fa9f0e797f5cd2cc058967496e786facb9f20da1e63",
+    "16 8e32d4b3a820ba42aa211fa9f0e797f5cd2cc058967496e786facb9f20da1e63",
+];
+
+/// The roots of `STORE` at bound 8.
+const STORE_ROOTS: [&str; 9] = [
+    "0 8d82837f5857b213a5461e2dc0c78bebab6101f7760256d4329757ace94c46ec",
+    "1 997e9ec1b44cdfc55100a49f969d401261031da53949c8439d734687962f0dce",
+    "2 eeb445d3899ca41e01ddb2412beccae92e11a1c289155893b9ff50692864665f",
+    "3 65f2d6f4da5cf31bee0c274fbbaf4718a361d339050256e17e93ed66871b8a85",
+    "4 c196fbf76493e42fbd7b62c4b3cba22ffcbdd0668d4e1c0c30af5207d1034f6b",
+    "5 477e0161893eef544c2726f3d31214af57adb4df11e0e1cfff74831820644e02",
+    "6 7ff5ec3a7f836b5718fea9aafb276ab4fcd10dbd17185ad5482e4db66e4dabc3",
+    "7 9c7be817570613a38df764f3cbd4d8f2d9419685ee9df5bf2c1362b857c2c7af",
+    "8 82f8464036cd320e37cdf36ab3d9a0e4cfca19169a7b9c1ada0daa1ad40145f6",
+];
+
+/// The roots of `LOOP` at bound 3: its state stays the same.
+const LOOP_ROOTS: [&str; 4] = [
+    "0 23dde85a1763aa963d7fd8e9d852681fcf8a6a55641276c2e78bcfc3a63eed36",
+    "1 23dde85a1763aa963d7fd8e9d852681fcf8a6a55641276c2e78bcfc3a63eed36",
+    "2 23dde85a1763aa963d7fd8e9d852681fcf8a6a55641276c2e78bcfc3a63eed36",
+    "3 23dde85a1763aa963d7fd8e9d852681fcf8a6a55641276c2e78bcfc3a63eed36",
+];
+
+/// The roots of an empty image at bound 2: it traps at the first step.
+const EMPTY_ROOTS: [&str; 3] = [
+    "0 ef52070d4b25c00e88eab5dd057abc505c3c6f0790123e73c505075c241ef45b",
+    "1 c1bcd2329ef43b4976fac4d81431fbe0ca48ce57498b5fe494f06ba96531ac47",
+    "2 c1bcd2329ef43b4976fac4d81431fbe0ca48ce57498b5fe494f06ba96531ac47",
+];
+
 /// The header of a file with one program header, which is entered at 0x10054.
 const HEADER: &str =
     "7f454c460101010000000000000000000200f3000100000054000100340000000000000000000000340020000100280000000000";
@@ -103,7 +165,7 @@ fn answer_to<R: Threads + Sync>(
 ) -> Result<(Answered, Vec<u8>), Fail> {
     let words = words_of(alloc, ["refcli", command].as_slice())?;
     let mut source = MemSource::new(bytes, 65536, Vec::new(alloc));
-    let mut sink = MemSink::new(alloc, 262144, 4096, Vec::new(alloc))?;
+    let mut sink = MemSink::new(alloc, 524288, 4096, Vec::new(alloc))?;
     let answered = run(rt, alloc, words.as_slice(), &mut source, &mut sink);
     Ok((answered, sink.as_slice().to_vec(alloc)?))
 }
@@ -236,6 +298,87 @@ fn a_run_answers_with_its_status_and_output_at_the_bound(rt: HostRuntime) -> Res
         let (answered, text) = answer_to(&rt, alloc, "run", bytes)?;
         assert_eq!(rt; answered, Answered::Done, "{image} at {bound}");
         assert_eq!(rt; text.as_slice(), want.as_bytes(), "{image} at {bound}");
+    }
+    Ok(())
+}
+
+/// The lines, each with a line feed.
+fn lines_of(alloc: Global, lines: &[&str]) -> Result<String, AllocError> {
+    let mut text = String::new(alloc);
+    for line in lines {
+        text.push_str(line)?;
+        text.push_str("\n")?;
+    }
+    Ok(text)
+}
+
+#[test]
+fn the_root_of_each_state_is_written(rt: HostRuntime) -> Result<(), Fail> {
+    let alloc = rt.alloc();
+    for (image, bound, lines) in [
+        (ANSWER, "8", ANSWER_ROOTS.as_slice()),
+        (DIVISION, "16", &DIVISION_ROOTS),
+        (STORE, "8", &STORE_ROOTS),
+        (LOOP, "3", &LOOP_ROOTS),
+        ("", "2", &EMPTY_ROOTS),
+    ] {
+        let bytes = case_of(alloc, "flat", image, "", bound, "[{}]")?;
+        let want = lines_of(alloc, lines)?;
+        let (answered, text) = answer_to(&rt, alloc, "roots", bytes)?;
+        assert_eq!(rt; answered, Answered::Done, "{image}");
+        assert_eq!(rt; text.as_slice(), want.as_bytes(), "{image}");
+    }
+    Ok(())
+}
+
+#[test]
+fn roots_has_a_bound_of_its_own_which_is_tested_before_the_image(
+    rt: HostRuntime,
+) -> Result<(), Fail> {
+    let alloc = rt.alloc();
+    for (format, image, bound, answered, length, end) in [
+        // The roots of 4,097 states, the last of which is that of `ANSWER_ROOTS`.
+        (
+            "flat",
+            ANSWER,
+            "4096",
+            Answered::Done,
+            285_680,
+            "\n4096 078add20bc2c812fcaf74f520828c1a827c468f504d583b65992e27624179d46\n",
+        ),
+        (
+            "flat",
+            ANSWER,
+            "4097",
+            Answered::Case,
+            19,
+            "fault case 6 bound\n",
+        ),
+        (
+            "elf",
+            "7f454c46",
+            "4097",
+            Answered::Case,
+            19,
+            "fault case 6 bound\n",
+        ),
+        (
+            "elf",
+            "7f454c46",
+            "4096",
+            Answered::Image,
+            14,
+            "fault image 1\n",
+        ),
+    ] {
+        let bytes = case_of(alloc, format, image, "", bound, "[{}]")?;
+        let (given, text) = answer_to(&rt, alloc, "roots", bytes)?;
+        assert_eq!(rt; given, answered, "{format} at {bound}");
+        assert_eq!(rt; text.len(), length, "{format} at {bound}");
+        assert!(rt;
+            text.as_slice().ends_with(end.as_bytes()),
+            "{format} at {bound}"
+        );
     }
     Ok(())
 }
@@ -526,7 +669,7 @@ fn arguments_that_name_no_command_are_usage_and_nothing_is_read(
         &["refcli", "run", "judge"],
         &["refcli", "judge", "--posters", "17"],
         &["refcli", "judge", "--posters"],
-        &["refcli", "roots"],
+        &["refcli", "roots", "run"],
         &["refcli", "--help"],
         &["refcli", "-h"],
         &["refcli", "--version"],

@@ -14,6 +14,8 @@ pub enum Command {
     Judge,
     /// To run a case's program, and to write what its run answers.
     Run,
+    /// To run a case's program, and to write the root of each of its states.
+    Roots,
 }
 
 /// The command line: one of the commands, which have no options.
@@ -23,10 +25,12 @@ fn command_line<'a>(alloc: Global) -> Result<Parser<'a>, AllocError>
 {
     let judge = Parser::new(alloc, "judge");
     let run = Parser::new(alloc, "run");
+    let roots = Parser::new(alloc, "roots");
     Parser::new(alloc, "refcli")
         .subcommand_required(true)
         .subcommand(judge)?
-        .subcommand(run)
+        .subcommand(run)?
+        .subcommand(roots)
 }
 
 fn command_named(name: Option<&str>) -> Option<Command>
@@ -35,6 +39,7 @@ fn command_named(name: Option<&str>) -> Option<Command>
     match name {
         Some("judge") => Some(Command::Judge),
         Some("run") => Some(Command::Run),
+        Some("roots") => Some(Command::Roots),
         _ => None,
     }
 }

@@ -13,7 +13,7 @@ use Rattle.out_chain.specs.Soundness.{claim_check, says_sound, is_in_range, is_s
 use Rattle.out_chain.specs.Collision.{links_after, links_of, opened_by_claim, collides, first_collision, claim_collision, IsClaimCollision}
 
 -- the test for a collision, both ways
-collides-true : (digest : List ℕ → List ℕ) (x y : List ℕ) → collides digest x y ≡ true → (x ≢ y) × (digest x ≡ digest y)
+pub collides-true : (digest : List ℕ → List ℕ) (x y : List ℕ) → collides digest x y ≡ true → (x ≢ y) × (digest x ≡ digest y)
 collides-true digest x y test = go (bytes_eq x y) (bytes_eq (digest x) (digest y)) refl refl test
   where
     go : (a b : Bool) → bytes_eq x y ≡ a → bytes_eq (digest x) (digest y) ≡ b → (not a && b) ≡ true → (x ≢ y) × (digest x ≡ digest y)
@@ -21,7 +21,7 @@ collides-true digest x y test = go (bytes_eq x y) (bytes_eq (digest x) (digest y
     go false true e f t = (λ same. true≢false (sym ((bytes_eq-Decides x y).1 same) ∙ e), (bytes_eq-Decides (digest x) (digest y)).0 f)
     go false false e f t = absurd (true≢false (sym t))
 
-collides-false : (digest : List ℕ → List ℕ) (x y : List ℕ) → collides digest x y ≡ false → digest x ≡ digest y → x ≡ y
+pub collides-false : (digest : List ℕ → List ℕ) (x y : List ℕ) → collides digest x y ≡ false → digest x ≡ digest y → x ≡ y
 collides-false digest x y test one = go (bytes_eq x y) (bytes_eq (digest x) (digest y)) refl ((bytes_eq-Decides (digest x) (digest y)).1 one) test
   where
     go : (a b : Bool) → bytes_eq x y ≡ a → b ≡ true → (not a && b) ≡ false → x ≡ y
@@ -32,13 +32,13 @@ collides-false digest x y test one = go (bytes_eq x y) (bytes_eq (digest x) (dig
 collides-same : (digest : List ℕ → List ℕ) (x : List ℕ) → collides digest x x ≡ false
 collides-same digest x = ap (λ a. not a && bytes_eq (digest x) (digest x)) ((bytes_eq-Decides x x).1 refl)
 
-collision-cons : (digest : List ℕ → List ℕ) (x y : List ℕ) (xs ys : List (List ℕ))
+pub collision-cons : (digest : List ℕ → List ℕ) (x y : List ℕ) (xs ys : List (List ℕ))
     → first_collision digest (x ∷ xs) (y ∷ ys) ≡ (if collides digest x y then Some (x, y) else first_collision digest xs ys)
 unfolding first_collision
 collision-cons digest x y xs ys = refl
 
 -- where nothing collides, strings of one digest at the head are one, and nothing collides behind them
-collision-none : (digest : List ℕ → List ℕ) (x y : List ℕ) (xs ys : List (List ℕ)) → first_collision digest (x ∷ xs) (y ∷ ys) ≡ None
+pub collision-none : (digest : List ℕ → List ℕ) (x y : List ℕ) (xs ys : List (List ℕ)) → first_collision digest (x ∷ xs) (y ∷ ys) ≡ None
     → (digest x ≡ digest y → x ≡ y) × (first_collision digest xs ys ≡ None)
 collision-none digest x y xs ys none = go (collides digest x y) refl (sym (collision-cons digest x y xs ys) ∙ none)
   where
@@ -52,14 +52,14 @@ unfolding first_collision
 collision_of_same digest [] = refl
 collision_of_same digest (x ∷ xs) = ap (λ t. if t then Some (x, x) else first_collision digest xs xs) (collides-same digest x) ∙ collision_of_same digest xs
 
-contains-head : (x : List ℕ) (xs : List (List ℕ)) → Contains (x ∷ xs) x
+pub contains-head : (x : List ℕ) (xs : List (List ℕ)) → Contains (x ∷ xs) x
 contains-head x xs = (0, omega arith, refl)
 
-contains-tail : (x y : List ℕ) (xs : List (List ℕ)) → Contains xs x → Contains (y ∷ xs) x
+pub contains-tail : (x y : List ℕ) (xs : List (List ℕ)) → Contains xs x → Contains (y ∷ xs) x
 contains-tail x y xs (k, below, is) = (suc k, omega arith, is)
 
 -- two strings that collide, each in its list
-first-collides : (digest : List ℕ → List ℕ) (xs ys : List (List ℕ)) (pair : List ℕ × List ℕ) → first_collision digest xs ys ≡ Some pair
+pub first-collides : (digest : List ℕ → List ℕ) (xs ys : List (List ℕ)) (pair : List ℕ × List ℕ) → first_collision digest xs ys ≡ Some pair
     → (pair.0 ≢ pair.1) × (digest pair.0 ≡ digest pair.1) × Contains xs pair.0 × Contains ys pair.1
 unfolding first_collision
 first-collides digest [] ys pair some = absurd cc

@@ -1,5 +1,5 @@
 -- A truthful prover's settled answers are given and true, whoever moves in whatever order.
-use Rattle.std.proofs.Common.{◌≡◌, ◌≢◌, ℕ, zero, suc, ◌+◌, ◌-◌, ◌<◌, ◌≤◌, Bool, true, false, not, ◌&&◌, ◌||◌, ◌==◌, if◌then◌else◌, List, [], ◌∷◌, ◌++◌, length, replicate, slice_get, slice_set, ◌⊎◌, inl, inr, Option, Some, None, is_some, is_none, refl, sym, ◌∙◌, ap, arith}
+use Rattle.std.proofs.Common.{◌≡◌, ◌≢◌, ℕ, zero, suc, ◌+◌, ◌-◌, ◌<◌, ◌≤◌, Bool, true, false, ◌||◌, ◌==◌, if◌then◌else◌, List, [], ◌∷◌, ◌++◌, length, replicate, slice_get, slice_set, inl, inr, Option, Some, None, refl, sym, ◌∙◌, ap, arith}
 use Rattle.std.proofs.lemmas.Bool.Decides.{nat_tests}
 use Rattle.rd_base.specs.declared.answer.Answer.{Answer}
 use Rattle.rd_base.specs.declared.answer.Answer.TheVariants as answer
@@ -14,26 +14,26 @@ use Rattle.bisect_game.specs.declared.settled.Settled.TheVariants.{Given, Faulty
 use Rattle.bisect_game.specs.declared.side.Side.{Side}
 use Rattle.bisect_game.specs.declared.side.Side.TheVariants.{First, Second}
 use Rattle.bisect_game.specs.Says.{Says}
-use Rattle.bisect_game.specs.Ruling.{Ruling, IsFair}
+use Rattle.bisect_game.specs.Ruling.{Ruling}
 use Rattle.bisect_game.specs.Rules.{Play, Rules, is_fit, judged}
 use Rattle.bisect_game.specs.Closing.{close_of}
 use Rattle.bisect_game.specs.Bisection.{Bisection, kind_over, question_of, ended, went_on, closed_or, decided, advanced, settle_first, settle_second}
-use Rattle.bisect_game.specs.Truth.{Truth, IsRun, IsTrueAnswer, IsTrueSettled, IsTrueSoFar, IsFit, AllTrue, IsTruthful, own_answer, own_open}
+use Rattle.bisect_game.specs.Truth.{Truth, IsRun, IsTrueAnswer, IsTrueSettled, IsFit, AllTrue, IsTruthful, own_answer, own_open}
 use Rattle.bisect_game.specs.Laws.{BisectionLaws}
-use Rattle.tournament.specs.Bracket.{Record, claim_question, claim_missing, asks_first, asks_second, question_in, open_question, disputes_of, last_stage, pairs, is_due, opened, settled_in, put, settle, nothing_settled, bracket, is_complete}
+use Rattle.tournament.specs.Bracket.{Record, claim_question, claim_missing, asks_first, asks_second, question_in, open_question, disputes_of, last_stage, pairs, is_due, opened, settled_in, put, settle, nothing_settled, bracket}
 use Rattle.tournament.specs.Settling.{after}
-use Rattle.tournament.specs.Moves.{State, begun, passes_of, settled_by, moved}
-use Rattle.tournament.specs.Journals.{turn, turns, Legal, said, settled_after, answers_of}
+use Rattle.tournament.specs.Moves.{State, begun}
+use Rattle.tournament.specs.Journals.{turn, turns, said, settled_after, answers_of}
 use Rattle.tournament.specs.Asked.{asked}
-use Rattle.tournament.specs.Theorem.{AllFit, HasTrueClaim, HasTrueClaimSoFar, TrueIn, AllTrueIn, AreTrue}
-use Rattle.tournament.specs.Truthful.{AnswersTruly, IsTruthfulProver, IsSafe, TruthfulProversAreSafe}
+use Rattle.tournament.specs.Theorem.{AllFit, HasTrueClaimSoFar, TrueIn, AllTrueIn, AreTrue}
+use Rattle.tournament.specs.Truthful.{AnswersTruly, IsTruthfulProver, TruthfulProversAreSafe}
 use Rattle.tournament.proofs.ReachLemmas.{either}
 use Rattle.tournament.proofs.OpenedLemmas.{opened-not, opened-due}
-use Rattle.tournament.proofs.OnceLemmas.{both, is-eqb, not-eqb}
+use Rattle.tournament.proofs.OnceLemmas.{both, is-eqb}
 use Rattle.tournament.proofs.SidesLemmas.{SameSides, sides-first, sides-second}
 use Rattle.tournament.proofs.MatchLemmas.{truthful_stay}
 use Rattle.tournament.proofs.VerdictLemmas.{verdict_is_right}
-use Rattle.tournament.proofs.JournalLemmas.{AreCounts, Turned, Passed, Settles, turned, turns-keep}
+use Rattle.tournament.proofs.JournalLemmas.{Turned, Passed, Settles, turned, turns-keep}
 use Rattle.tournament.proofs.AskedLemmas.{IsOnWay, way-begun, way-turn, way-asked}
 
 -- a side that has answered truly so far is truthful after a round was decided

@@ -1,11 +1,9 @@
 -- What an ask and a wait tell of the open question.
-use Rattle.std.proofs.Common.{◌≡◌, ℕ, Bool, true, false, if◌then◌else◌, Option, Some, None, is_none, refl, sym, ◌∙◌, ap}
+use Rattle.std.proofs.Common.{◌≡◌, ℕ, Bool, true, Option, Some, None, is_none, refl, ◌∙◌, ap}
 use Rattle.rd_base.specs.declared.answer.Answer.{Answer}
 use Rattle.bisect_game.specs.declared.question.Question.{Question}
 use Rattle.bisect_game.specs.Says.{Says}
-use Rattle.tournament.specs.Bracket.{is_complete}
 use Rattle.tournament.specs.Moves.{State, passes_of}
-use Rattle.board_book.specs.declared.entry.Ask.{Ask}
 use Rattle.board_book.specs.declared.entry.Ask.TheVariants as ask
 use Rattle.board_book.specs.Asking.{ask_on, waits_on}
 

@@ -2,3 +2,4 @@ pub use Rattle.rd_base.specs.Status
 pub use Rattle.hex.specs.Hex
 pub mod Digest
 pub mod Report
+pub mod Roots

@@ -1,4 +1,4 @@
-use Rattle.std.proofs.Common.{◌≡◌, ◌*◌, ◌^◌, ◌<◌, ◌≤◌, ◌-◌}
+use Rattle.std.proofs.Common.{◌≡◌, ◌*◌, ◌^◌, ◌<◌, ◌-◌}
 use Rattle.board_book.proofs.room.most_rounds.Given as goal
 
 abbrev pub invariant-loop-power : goal.invariant-loop-power

@@ -1,5 +1,6 @@
 use Rattle.std.proofs.Common.{◌≡◌, ◌<◌, Ok, Err, ap, sym, ◌∙◌, length}
 use Rattle.std.proofs.lemmas.Result.{err_from_is_err_and}
+use Rattle.sha2.specs.Sha256.{sha256}
 use Rattle.rv_step.specs.Loaded.{started}
 use Rattle.case_reader.specs.Case.{data_of, case_at}
 use Rattle.image_reader.specs.Image.{loaded_of}
@@ -7,7 +8,7 @@ use Rattle.delegate.specs.Outcome.{carried_out, ended}
 use Rattle.delegate.specs.Refusal.{case_refusal, or_refusal}
 use Rattle.delegate.specs.Words.{texts}
 use Rattle.delegate.specs.declared.response.Stop.TheVariants.{Refused}
-use Rattle.delegate.proofs.OutcomeLemmas.{no_command, too_many, no_case, no_image, all_steps, some_bytes, many_bytes, for_its_bytes, over_limit}
+use Rattle.delegate.proofs.OutcomeLemmas.{no_command, too_many, no_case, no_bound, no_image, all_steps, some_bytes, many_bytes, for_its_bytes, over_limit}
 use Rattle.delegate.proofs.responding.carry_out.Goals as goal
 
 pub returns-in_err-command-clause-refused : goal.returns-in_err-command-clause-refused
@@ -37,6 +38,18 @@ returns-in_err-case-clause-refused g c = λ response is.
           (ap (λ bytes. or_refusal case_refusal (case_at bytes)) (sym c.as_slice.ensures.value) ∙ c.in_err-case.ensures.stands response same),
     )
 
+pub returns-in_err-bound_in-clause-refused : goal.returns-in_err-bound_in-clause-refused
+returns-in_err-bound_in-clause-refused g c = λ response is.
+    let p = err_from_is_err_and c.from_residual-in_err-bound_in.result c.from_residual-in_err-bound_in.ensures.1 in
+    let same : c.in_err-bound_in.field-0.0 ≡ Refused response = cc (is, p.1, p.2) in
+    let bytes = c.in_ok-bytes.bytes.items in (
+      bytes,
+      c.in_ok-bytes.ensures.bytes,
+      no_bound (texts c.args.words.now) bytes c.in_ok-command.command (data_of c.in_ok-case.case) response c.in_ok-command.ensures.stands c.in_ok-bytes.ensures.short
+          (ap (λ bytes. or_refusal case_refusal (case_at bytes)) (sym c.as_slice.ensures.value) ∙ c.in_ok-case.ensures.stands)
+          (c.in_err-bound_in.ensures.stands response same),
+    )
+
 pub returns-in_err-loaded-clause-refused : goal.returns-in_err-loaded-clause-refused
 returns-in_err-loaded-clause-refused g c = λ response is.
     let p = err_from_is_err_and c.from_residual-in_err-loaded.result c.from_residual-in_err-loaded.ensures.1 in
@@ -46,6 +59,7 @@ returns-in_err-loaded-clause-refused g c = λ response is.
       c.in_ok-bytes.ensures.bytes,
       no_image (texts c.args.words.now) bytes c.in_ok-command.command (data_of c.in_ok-case.case) response c.in_ok-command.ensures.stands c.in_ok-bytes.ensures.short
           (ap (λ bytes. or_refusal case_refusal (case_at bytes)) (sym c.as_slice.ensures.value) ∙ c.in_ok-case.ensures.stands)
+          c.in_ok-bound_in.ensures.stands
           (c.in_err-loaded.ensures.stands response same),
     )
 
@@ -54,6 +68,7 @@ returns-clause-done g c =
     let bytes = c.in_ok-bytes.bytes.items in
     let steps = all_steps (texts c.args.words.now) bytes c.in_ok-command.command (data_of c.in_ok-case.case) (loaded_of c.in_ok-loaded.loaded) c.in_ok-command.ensures.stands c.in_ok-bytes.ensures.short
     (ap (λ bytes. or_refusal case_refusal (case_at bytes)) (sym c.as_slice.ensures.value) ∙ c.in_ok-case.ensures.stands)
+    c.in_ok-bound_in.ensures.stands
     c.in_ok-loaded.ensures.stands in
-    let input = ap (λ input. ended c.in_ok-command.command (data_of c.in_ok-case.case) (started c.in_ok-loaded.loaded.mem c.in_ok-loaded.loaded.entry input)) (sym c.as_slice-2.ensures) in
-    (bytes, c.in_ok-bytes.ensures.bytes, steps ∙ ap Ok (input ∙ (ap (ended c.in_ok-command.command (data_of c.in_ok-case.case)) (sym c.in_ok-start.ensures.state) ∙ sym c.in_ok-end.ensures)))
+    let input = ap (λ input. ended sha256 c.in_ok-command.command (data_of c.in_ok-case.case) (started c.in_ok-loaded.loaded.mem c.in_ok-loaded.loaded.entry input)) (sym c.as_slice-2.ensures) in
+    (bytes, c.in_ok-bytes.ensures.bytes, steps ∙ ap Ok (input ∙ (ap (ended sha256 c.in_ok-command.command (data_of c.in_ok-case.case)) (sym c.in_ok-start.ensures.state) ∙ sym c.in_ok-end.ensures)))

@@ -1,4 +1,4 @@
-use Rattle.std.proofs.Common.{◌≡◌, ◌∙◌, refl, sym, ap, arith, ℕ, List, length, ◌+◌, ◌-◌, ◌<◌, ◌≤◌, slice_index_or, slice_set}
+use Rattle.std.proofs.Common.{◌≡◌, ◌∙◌, refl, arith, ◌+◌, ◌-◌}
 use Rattle.board_book.proofs.BookLemmas.{answers_at, answers_set, prefix_more, set_length}
 use Rattle.board_book.proofs.book.Book.finish_alone.Goals as goal
 

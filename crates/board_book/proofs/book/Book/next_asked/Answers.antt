@@ -1,4 +1,4 @@
-use Rattle.std.proofs.Common.{◌≡◌, ◌∙◌, sym, ap, arith, ℕ, ◌<◌, ◌≤◌, None}
+use Rattle.std.proofs.Common.{◌≡◌, ap, arith, ℕ, ◌<◌, ◌≤◌, None}
 use Rattle.tournament.specs.Bracket.{open_question}
 use Rattle.tournament.specs.Posting.{rules_of}
 use Rattle.tournament.specs.declared.setup.Setup.{Setup}

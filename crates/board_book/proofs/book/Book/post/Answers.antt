@@ -1,4 +1,4 @@
-use Rattle.std.proofs.Common.{◌≡◌, ◌∙◌, sym, refl, arith, [], ◌∷◌, ◌++◌, length, ◌≤◌, length-append}
+use Rattle.std.proofs.Common.{◌∙◌, sym, refl, arith, [], ◌∷◌, ◌++◌, length, ◌≤◌, length-append}
 use Rattle.tournament.specs.Posting.{rules_of, answer_of}
 use Rattle.board_book.specs.declared.entry.Entry.{Entry}
 use Rattle.board_book.specs.Booking.{IsBook}

@@ -1,4 +1,4 @@
-use Rattle.std.proofs.Common.{◌≡◌, arith, length, ◌≤◌}
+use Rattle.std.proofs.Common.{arith, length, ◌≤◌}
 use Rattle.board_book.proofs.BookLemmas.{book-few}
 use Rattle.board_book.proofs.book.Book.spare.Goals as goal
 
