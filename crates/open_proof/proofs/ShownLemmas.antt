@@ -1,8 +1,6 @@
 -- What an opened chunk shows of a memory whose digest it opens.
-use Rattle.std.proofs.Common.{◌≡◌, ◌↔◌, ℕ, zero, suc, ◌+◌, ◌*◌, ◌-◌, ◌/◌, ◌%◌, ◌^◌, ◌<◌, ◌≤◌, ◌⊎◌, inl, inr, List, [], length, Option, Some, None, is_some, Bool, true, false, cond, eqb, ◌&&◌, Contains, refl, sym, ap, ◌∙◌, subst, arith, ⊎_elim}
-use Rattle.std.proofs.Math.Nat.{div-div-eq-div-mul, pow-suc, div-lt_iff_lt-mul}
-use Rattle.std.proofs.lemmas.Nat.{pow-add, pow_pos}
-use Rattle.std.proofs.lemmas.Bool.{eq-eqb, ne_eqb, cases_eq, eqb-true}
+use Rattle.std.proofs.Common.{◌≡◌, ◌↔◌, ℕ, zero, suc, ◌+◌, ◌/◌, ◌%◌, ◌^◌, ◌<◌, ◌≤◌, ◌⊎◌, inl, inr, List, [], length, Option, Some, None, is_some, Bool, true, false, cond, eqb, ◌&&◌, Contains, refl, sym, ap, ◌∙◌, arith, ⊎_elim}
+use Rattle.std.proofs.lemmas.Bool.{cases_eq, eqb-true}
 use Rattle.std.proofs.lemmas.List.FromFn.{get_or-map-range_with_len}
 use Rattle.rd_base.specs.Status.{is_running}
 use Rattle.rd_base.specs.declared.ctl.Ctl.{Ctl}
@@ -11,10 +9,10 @@ use Rattle.rd_base.specs.declared.proof.Opening.{Opening}
 use Rattle.rv_decode.specs.Reading.{reading_of}
 use Rattle.rv_decode.specs.declared.instr.Instr.{Instr}
 use Rattle.mem_plain.specs.Contents.{Contents, chunk_at}
-use Rattle.digest_core.specs.Text.{leaf_text, node_text}
+use Rattle.digest_core.specs.Text.{leaf_text}
 use Rattle.digest_core.specs.TextLaws.{cons_parts}
 use Rattle.merkle_nodes.specs.Node.{node, beside, digest_at}
-use Rattle.merkle_nodes.specs.Opening.{joined, Opens, opened, AreSiblings}
+use Rattle.merkle_nodes.specs.Opening.{Opens, opened, AreSiblings}
 use Rattle.merkle_nodes.specs.Split.{IsSplit, IsSplitAt}
 use Rattle.mem_tree.specs.Memory.{memory_leaf, memory_node}
 use Rattle.rv_step.specs.State.{State}
@@ -22,7 +20,6 @@ use Rattle.rv_step.specs.Parts.{needed, IsAligned}
 use Rattle.rv_step.specs.declared.asked.Need.{Need}
 use Rattle.rv_step.specs.declared.asked.Need.TheVariants as need
 use Rattle.state_commit.specs.Strings.{IsStringOf}
-use Rattle.state_commit.specs.Strings.IsStringOf.{is_leaf, is_node}
 use Rattle.open_proof.specs.Held.{path_text}
 use Rattle.open_proof.specs.Leads.{ChunkOpens, OpensAt, fetch_address, fetched_in, address_needed, operand_address}
 use Rattle.open_proof.specs.Opened.{texts_from, chunk_texts}
@@ -40,6 +37,8 @@ pub record PathLaws : Type 0 where
       → ((a ≡ b) × ((l : ℕ) → l < n → s l ≡ t l)) ⊎ ((l : ℕ) × (l ≤ n) × IsSplitAt digest a s b t k l)
   pub nodes : (digest : List ℕ → List ℕ) (m : Contents) (siblings : ℕ → List ℕ) (n k : ℕ) → AreSiblings digest (memory_leaf m) n k siblings
       → digest (opened digest (leaf_text (chunk_at m k)) siblings n k) ≡ memory_node digest m n (k / 2 ^ n)
+  pub strings : (digest : List ℕ → List ℕ) (s : State) (siblings : ℕ → List ℕ) (l k : ℕ) → l ≤ 27 → k < 2 ^ 27 → AreSiblings digest (memory_leaf s.memory) l k siblings
+      → IsStringOf digest s (opened digest (memory_leaf s.memory k) siblings l k)
 
 -- an address that is below 2^32, and one that is a multiple of 4 besides
 abbrev pub IsLowAt : Option ℕ → Type 0
@@ -100,41 +99,6 @@ module _ (laws : PathLaws) (digest : List ℕ → List ℕ) where
   shown-opens m (Some o) None low shown = tt
   shown-opens m None None low shown = tt
 
-  -- the string of the node above two neighbours
-  node-text : (m : Contents) (l q : ℕ)
-      → joined (q % 2) (memory_node digest m l q) (memory_node digest m l (beside q)) ≡ node_text (memory_node digest m l (2 * (q / 2))) (memory_node digest m l (2 * (q / 2) + 1))
-  node-text m l q = ⊎_elim
-      (λ even.
-      let left : q ≡ 2 * (q / 2) = omega arith in
-      let right : q + 1 ≡ 2 * (q / 2) + 1 = omega arith in
-      let test = eq-eqb (q % 2) 0 even in
-      ap (λ b. cond b (node_text (memory_node digest m l q) (memory_node digest m l (cond b (q + 1) (q - 1)))) (node_text (memory_node digest m l (cond b (q + 1) (q - 1))) (memory_node digest m l q))) test
-      ∙ (ap (λ p. node_text (memory_node digest m l p) (memory_node digest m l (q + 1))) left ∙ ap (λ p. node_text (memory_node digest m l (2 * (q / 2))) (memory_node digest m l p)) right))
-      (λ odd.
-      let left : q - 1 ≡ 2 * (q / 2) = omega arith in
-      let right : q ≡ 2 * (q / 2) + 1 = omega arith in
-      let test = ne_eqb (q % 2) 0 odd in
-      ap (λ b. cond b (node_text (memory_node digest m l q) (memory_node digest m l (cond b (q + 1) (q - 1)))) (node_text (memory_node digest m l (cond b (q + 1) (q - 1))) (memory_node digest m l q))) test
-      ∙ (ap (λ p. node_text (memory_node digest m l p) (memory_node digest m l q)) left ∙ ap (λ p. node_text (memory_node digest m l (2 * (q / 2))) (memory_node digest m l p)) right))
-      (cases_eq (q % 2) 0)
-
-  few-above : (k l : ℕ) → l < 27 → k < 2 ^ 27 → k / 2 ^ suc l < 2 ^ (26 - l)
-  few-above k l below low =
-      let whole : 26 - l + suc l ≡ 27 = omega arith in
-      (div-lt_iff_lt-mul {k = 2 ^ suc l} {x = k} {y = 2 ^ (26 - l)} (pow_pos (suc l))).1
-      (subst (λ n. k < n) (ap (λ n. 2 ^ n) (sym whole) ∙ pow-add 2 (26 - l) (suc l)) low)
-
-  -- the strings of a memory along a path are strings of the state
-  string-along : (s : State) (k l : ℕ) → l ≤ 27 → k < 2 ^ 27 → IsStringOf digest s (opened digest (leaf_text (chunk_at s.memory k)) (λ j. memory_node digest s.memory j (beside (k / 2 ^ j))) l k)
-  unfolding opened memory_leaf
-  string-along s k zero levels low = is_leaf k low refl
-  string-along s k (suc l) levels low =
-      let m = s.memory in
-      let level : k / 2 ^ suc l ≡ k / 2 ^ l / 2 = ap (λ n. k / n) (pow-suc 2 l) ∙ sym (div-div-eq-div-mul k (2 ^ l) 2) in
-      is_node l (k / 2 ^ suc l) (omega arith) (few-above k l (omega arith) low)
-      (ap (λ d. joined (k / 2 ^ l % 2) d (memory_node digest m l (beside (k / 2 ^ l)))) (laws.nodes digest m (λ j. memory_node digest m j (beside (k / 2 ^ j))) l k (λ j below. refl))
-      ∙ (node-text m l (k / 2 ^ l) ∙ ap (λ q. node_text (memory_node digest m l (2 * q)) (memory_node digest m l (2 * q + 1))) (sym level)))
-
   module _ (is_digest : (bytes : List ℕ) → length (digest bytes) ≡ 32) where
     pub node-size : (m : Contents) (l k : ℕ) → length (memory_node digest m l k) ≡ 32
     unfolding node
@@ -144,6 +108,7 @@ module _ (laws : PathLaws) (digest : List ℕ → List ℕ) where
     -- a chunk that opens the memory's digest is shown, or one of its strings and another one of the state have one digest
     shown-or-split : (s : State) (o : Opening) (addr : ℕ) → addr < 2 ^ 32 → IsPathInRange o → memory_node digest s.memory 27 0 ≡ digest (path_text digest o addr 27)
         → IsShown digest s.memory o addr ⊎ ((l : ℕ) × (l ≤ 27) × (text : List ℕ) × IsSplit digest (path_text digest o addr l) text × IsStringOf digest s text)
+    unfolding memory_leaf
     shown-or-split s o addr low range climbs =
         let m = s.memory in
         let k = addr / 32 in
@@ -152,7 +117,7 @@ module _ (laws : PathLaws) (digest : List ℕ → List ℕ) where
         let meet = sym climbs ∙ (ap (memory_node digest m 27) (sym top) ∙ sym (laws.nodes digest m truth 27 k (λ j below. refl))) in
         ⊎_elim
         (λ whole. inl (record { chunk = (cons_parts 0 0 _ _ whole.0).1; path = whole.1 }))
-        (λ split. inr (split.0, split.1, opened digest (leaf_text (chunk_at m k)) truth split.0 k, split.2, string-along s k split.0 split.1 (omega arith)))
+        (λ split. inr (split.0, split.1, opened digest (leaf_text (chunk_at m k)) truth split.0 k, split.2, laws.strings digest s truth split.0 k split.1 (omega arith) (λ j below. refl)))
         (laws.paths digest is_digest (leaf_text o.chunk) (leaf_text (chunk_at m k)) (digest_at o.path.0) truth k 27
         (λ l below. range.sizes l below ∙ sym (node-size m l (beside (k / 2 ^ l)))) meet)
 

@@ -17,7 +17,7 @@ use Rattle.state_commit.specs.Strings.{IsStringOf}
 use Rattle.state_commit.specs.Strings.IsStringOf.{is_state, is_registers, is_control}
 use Rattle.open_proof.specs.Held.{Held, held_of, held_by, held_step, root_of_held, text_of_held}
 use Rattle.open_proof.specs.Leads.{Leads, OpensAt, fetch_address, fetched, fetched_in, fetch_called, operand_address, operand_called}
-use Rattle.open_proof.specs.Opened.{part_texts, fetch_texts, operand_texts, opened_by_step}
+use Rattle.open_proof.specs.Opened.{opened_by_step}
 use Rattle.open_proof.specs.PlainProof.{IsShownAt, fetched_at, fetch_of_state, operand_of_state, opening_at, plain_proof}
 use Rattle.open_proof.specs.StateCollision.{IsStateCollision}
 use Rattle.open_proof.proofs.RangeLemmas.{IsInRange, range-of-state}

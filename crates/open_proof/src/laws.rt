@@ -20,6 +20,7 @@ use mem_plain::numbers_lie_in_chunks;
 use mem_tree::memory_nodes;
 use merkle_nodes::{climbing_is_opening, two_paths_agree_or_split};
 use rv_step::two_parts_are_the_step;
+use state_commit::paths_open_strings_of_the_state;
 
 /// What is held of the state after a step is the step on what is held of the state, from the opened chunks alone.
 pub fn steps_need_opened_parts_alone()
@@ -48,6 +49,7 @@ pub fn leading_is_decided()
     climbing_is_opening();
     memory_nodes();
     two_paths_agree_or_split();
+    paths_open_strings_of_the_state();
 }
 
 /// Two proofs that lead from one root have no collision exactly where they are equal (`equal`, `without`), and so they have
@@ -67,6 +69,7 @@ pub fn proofs_from_one_root()
     climbing_is_opening();
     memory_nodes();
     two_paths_agree_or_split();
+    paths_open_strings_of_the_state();
 }
 
 /// A proof that leads from the root of a valid state to a root: this is the root of the next state, or a string that the
@@ -83,6 +86,7 @@ pub fn proofs_lead_to_the_next_state()
     chain_grows();
     climbing_is_opening();
     two_paths_agree_or_split();
+    paths_open_strings_of_the_state();
 }
 
 /// The plain proof of a valid state leads from the state's root to the root of the next state.
@@ -96,4 +100,5 @@ pub fn plain_proofs_lead()
     chain_grows();
     climbing_is_opening();
     two_paths_agree_or_split();
+    paths_open_strings_of_the_state();
 }

@@ -33,6 +33,7 @@ returns c =
       climbs = c.climbing_is_opening.ensures.climbs;
       paths = c.two_paths_agree_or_split.ensures.paths;
       nodes = c.memory_nodes.ensures.climbs;
+      strings = c.paths_open_strings_of_the_state.ensures.strings;
     } in
     record {
       equal = no-collision-of-equal;

@@ -19,5 +19,6 @@ returns c = λ digest is_digest proof s a b range.
       climbs = c.climbing_is_opening.ensures.climbs;
       paths = c.two_paths_agree_or_split.ensures.paths;
       nodes = c.memory_nodes.ensures.climbs;
+      strings = c.paths_open_strings_of_the_state.ensures.strings;
     } in
     leads-or-found steps laws digest is_digest proof s a b (range-of proof range)
