@@ -1,0 +1,70 @@
+"""Measures the processor time and the peak memory of commands whose answers are known, for `run` beside this file."""
+import ctypes
+import os
+import subprocess
+import sys
+
+RUNS = 10
+
+
+class Wrong(Exception):
+    """An answer isn't the expected one."""
+
+
+# Makes a process that becomes the command once there is a line on standard input; prints its id, and ends.
+SHELL = 'source=$1 sink=$2; shift 2; exec 3<&0; { read -r go <&3 && exec "$@" <"$source" 3<&-; } >"$sink" & echo $!'
+PR_SET_CHILD_SUBREAPER = 36
+
+
+def adopt_orphans():
+    """Makes this process the parent of those whose parent has ended, as `measured` takes it."""
+    if ctypes.CDLL(None, use_errno=True).prctl(PR_SET_CHILD_SUBREAPER, 1, 0, 0, 0) != 0:
+        sys.exit(f"bench: prctl: {os.strerror(ctypes.get_errno())}")
+
+
+def measured(command, source, sink, answer):
+    """The processor time of a command in seconds, and its peak memory in bytes. `answer` is how many lines it prints, and the last.
+
+    Linux counts what a process held before it became the command too. Python's child would hold more than the command
+    does, so the process is made by a shell, which then ends and leaves it to this process to wait for. It becomes the
+    command only after that: the shell might wait for a command that is over soon.
+    """
+    gate, opening = os.pipe()
+    shell = subprocess.run(["sh", "-c", SHELL, "sh", source, sink, *command], stdin=gate, stdout=subprocess.PIPE, check=True)
+    os.close(gate)
+    os.write(opening, b"\n")
+    _, status, usage = os.wait4(int(shell.stdout), 0)
+    os.close(opening)
+    lines = sink.read_bytes().splitlines(keepends=True)
+    last = lines[-1] if lines else b""
+    if status != 0 or (len(lines), last) != answer:
+        ended = f"exit status {os.waitstatus_to_exitcode(status)}, {len(lines)} lines and at last {last[:80]!r}"
+        raise Wrong(f"{ended} instead of 0, {answer[0]} and {answer[1][:80]!r}")
+    return usage.ru_utime + usage.ru_stime, usage.ru_maxrss * 1024
+
+
+class Figure:
+    """What a command takes from a short to a long run, in which it does so many things more, and the long one's peak memory."""
+
+    def __init__(self, count, short, long):
+        self.shortest, self.longest = float("inf"), float("inf")
+        self.peak = 0
+        # In turn, so that other work on the machine weighs on both alike.
+        for _ in range(RUNS):
+            took, _ = measured(*short)
+            self.shortest = min(self.shortest, took)
+            took, peak = measured(*long)
+            self.longest = min(self.longest, took)
+            self.peak = max(self.peak, peak)
+        self.took = self.longest - self.shortest
+        self.count = count
+
+    def speed(self, things):
+        if self.took <= 0:
+            return "too short to be timed"
+        return f"{self.count / self.took / 1e6:8.3f} million {things} a second"
+
+    def __str__(self):
+        if self.took <= 0:
+            return "too short to be timed"
+        return f"{self.count / self.took / 1e6:8.1f} million steps a second {self.peak / 1e6:6.1f} MB"
