@@ -13,9 +13,6 @@ pub trait Judge {
     /// Its decisions, as functions.
     ghost ruling: { Self.Names → Ruling };
 
-    /// Its laws.
-    ghost is_fair: { (n : Self.Names) → IsFair (ruling n) };
-
     /// Whether a claim agrees with itself.
     fn sound(&self, claim: &Claim) -> bool
         ensures { result ≡ (ruling (names self.now)).is_sound claim.now };
@@ -41,4 +38,7 @@ pub trait Judge {
         second: &StepProof,
     ) -> Option<(OpenText, OpenText)>
         ensures { result ≡ (ruling (names self.now)).step_collision from first.now second.now };
+
+    /// Its laws.
+    ghost is_fair: { (n : Self.Names) → IsFair (ruling n) };
 }

@@ -7,6 +7,7 @@ use Rattle.serde_json.specs.Find.{get, as_str, as_object}
 use Rattle.rd_base.specs.Results.{◌>>=◌}
 use Rattle.rd_base.specs.declared.script.Script.{Script}
 use Rattle.rd_base.specs.declared.script.Manner.{Manner}
+use Rattle.rd_base.specs.declared.tamper.Tamper.TheVariants.{Untouched}
 use Rattle.rd_base.specs.declared.script.Manner.TheVariants.{Plain, Output}
 use Rattle.case_reader.specs.Fields.{hex_of}
 use Rattle.case_reader.specs.declared.fault.CaseFault.{CaseFault}
@@ -35,7 +36,7 @@ manner_or_plain None = Some Plain
 unfoldable pub script_in : Data → Option Script
 script_in prover =
     if is_some (as_object prover) && not (is_some (get (codes "tamper") prover))
-    then option_map (λ manner. record { manner = manner }) (manner_or_plain (get (codes "manner") prover))
+    then option_map (λ manner. record { tamper = Untouched; manner = manner }) (manner_or_plain (get (codes "manner") prover))
     else None
 
 -- the scripts of provers, the first of which has this number

@@ -7,7 +7,7 @@ ghost use Rattle.case_reader.specs.Provers.{manner_in, script_in, scripts_in};
 
 use crate::fault::CaseFault;
 use crate::field::hex_bytes;
-use rd_base::{ClaimOutput, Listed, Manner, Script};
+use rd_base::{ClaimOutput, Listed, Manner, Script, Tamper};
 use serde_json::Value;
 use std::alloc::Global;
 
@@ -46,11 +46,15 @@ fn script_of(alloc: Global, prover: &Value) -> Result<Option<Script>, CaseFault>
     }
     let Some(manner) = prover.get("manner") else {
         return Ok(Some(Script {
+            tamper: Tamper::Untouched,
             manner: Manner::Plain,
         }));
     };
     match manner_of(alloc, manner)? {
-        Some(manner) => Ok(Some(Script { manner })),
+        Some(manner) => Ok(Some(Script {
+            tamper: Tamper::Untouched,
+            manner,
+        })),
         None => Ok(None),
     }
 }

@@ -248,7 +248,7 @@ fn a_case_is_read_whole(rt: HostRuntime) -> Result<(), Fail> {
         (
             BASE,
             "Case { image: Listed { items: [19, 5, 160, 2] }, flat: true, input: Listed { items: [] }, \
-             bound: 8, patience: 0, version: 1, fan: 2, provers: Listed { items: [Script { manner: Plain }] } }",
+             bound: 8, patience: 0, version: 1, fan: 2, provers: Listed { items: [Script { tamper: Untouched, manner: Plain }] } }",
         ),
         // Keys come in any order, the last of two counts, digits are of either case, and other keys are ignored.
         (
@@ -257,8 +257,8 @@ fn a_case_is_read_whole(rt: HostRuntime) -> Result<(), Fail> {
              \"note\":{\"bound\":0},\"format\":\"elf\"}",
             "Case { image: Listed { items: [] }, flat: false, input: Listed { items: [0, 255] }, \
              bound: 16777216, patience: 100, version: 1, fan: 2, provers: Listed { items: [\
-             Script { manner: Plain }, \
-             Script { manner: Output(ClaimOutput { bytes: Listed { items: [171] } }) }] } }",
+             Script { tamper: Untouched, manner: Plain }, \
+             Script { tamper: Untouched, manner: Output(ClaimOutput { bytes: Listed { items: [171] } }) }] } }",
         ),
     ] {
         let case = read_case(alloc, text.as_bytes())?;

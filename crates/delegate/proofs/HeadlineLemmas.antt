@@ -7,7 +7,7 @@ use Rattle.std.specs.Option.{ok_or, option_map}
 use Rattle.std.specs.Cmp.Lexicographic.{bytes_decides}
 use Rattle.rd_base.specs.declared.script.Script.{Script}
 use Rattle.rd_base.specs.declared.script.Manner.{Manner}
-use Rattle.rd_base.specs.declared.script.Manner.TheVariants.{Plain, Output}
+use Rattle.rd_base.specs.declared.script.Manner.TheVariants.{Plain, Late, Silent, Output}
 use Rattle.rv_step.specs.State.{State}
 use Rattle.case_reader.specs.Case.{CaseData}
 use Rattle.image_reader.specs.Image.{Image}
@@ -32,6 +32,8 @@ settled-run final = rw (bytes_eq_same final.output) refl
 -- a claim that stands is the run's own
 claim_is_run : (final : State) (manner : Manner) → bytes_eq (claim_by_manner final manner).output final.output ≡ true → claim_by_manner final manner ≡ claim_of_run final
 claim_is_run final Plain same = refl
+claim_is_run final (Late passes) same = refl
+claim_is_run final (Silent from) same = refl
 claim_is_run final (Output bytes) same = ap (λ (o : List ℕ). record { status = final.status; output = o }) ((bytes_decides bytes final.output).0 same)
 
 -- a truthful prover's claim is settled as the run's own

@@ -3,7 +3,7 @@ use Rattle.std.specs.Prelude.{ℕ, ◌+◌, List, [], ◌∷◌, length, map, if
 use Rattle.std.specs.Str.{bytes_eq}
 use Rattle.rd_base.specs.declared.script.Script.{Script}
 use Rattle.rd_base.specs.declared.script.Manner.{Manner}
-use Rattle.rd_base.specs.declared.script.Manner.TheVariants.{Plain, Output}
+use Rattle.rd_base.specs.declared.script.Manner.TheVariants.{Output}
 use Rattle.rv_step.specs.State.{State}
 use Rattle.rv_step.specs.Step.{state_at}
 use Rattle.case_reader.specs.Case.{CaseData}
@@ -26,8 +26,8 @@ claim_of_run final = record { status = final.status; output = final.output }
 
 -- what a prover claims: the run's status, and the run's output or the bytes of its manner
 abbrev pub claim_by_manner : State → Manner → Claim
-claim_by_manner final Plain = claim_of_run final
 claim_by_manner final (Output bytes) = record { status = final.status; output = bytes }
+claim_by_manner final _ = claim_of_run final
 
 abbrev pub claim_by : State → Script → Claim
 claim_by final script = claim_by_manner final script.manner

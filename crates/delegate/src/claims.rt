@@ -12,7 +12,7 @@ fn claim_by(alloc: Global, end: &Machine, script: &Script) -> Result<Claim, Memo
     ensures { IfOk result (λ claim. claim ≡ claim_by (state_of end.now) script.now) }
 {
     let output = match &script.manner {
-        Manner::Plain => end.output.as_slice(),
+        Manner::Plain | Manner::Late(_) | Manner::Silent(_) => end.output.as_slice(),
         Manner::Output(bytes) => bytes.as_slice(),
     };
     Ok(Claim {

@@ -5,7 +5,7 @@ ghost use Rattle.image_reader.specs.declared.fault.ImageFault.TheVariants.{Memor
 use std::alloc::{AllocError, AllocFailed};
 use thiserror::Error;
 
-/// Why a file is no image that is loaded: the first rule that it breaks, or want of memory.
+/// Why a file is no image that is loaded: the first rule that it breaks, or out of memory.
 ///
 /// The size is tested first (`ImageTooLarge`), then the other rules in the order in which they stand here, each over
 /// all program headers before the next. A load is a program header of type `PT_LOAD`. Sections are those of TIS ELF
@@ -51,7 +51,7 @@ pub enum ImageFault {
 }
 
 impl ImageFault {
-    /// The number of the rule that is broken, from 1 to 11 as the variants stand, and `None` for want of memory.
+    /// The number of the rule that is broken, from 1 to 11 as the variants stand, and `None` for out of memory.
     pub fn rule(self) -> Option<u32>
         ensures { result ≡ rule_of self }
     {

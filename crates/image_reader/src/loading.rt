@@ -29,7 +29,7 @@ pub struct Loaded {
 
 /// Loads a flat file: its byte `k` is at `IMAGE_BASE + k`, and its first byte is the entry.
 ///
-/// `ImageTooLarge` is a file of more than `MAX_IMAGE_BYTES` bytes, and `Memory` want of memory.
+/// `ImageTooLarge` is a file of more than `MAX_IMAGE_BYTES` bytes, and `Memory` out of memory.
 #[tactic(auto, unfolding(crate::specs::Image::flat_at))]
 pub fn load_flat(alloc: Global, bytes: &[u8]) -> Result<Loaded, ImageFault>
     ensures { Gives ImageFault.Memory loaded_of result (flat_at bytes.now) }
@@ -81,7 +81,7 @@ fn lay_loads(alloc: Global, bytes: &[u8], loads: &[ProgramHeader]) -> Result<Pla
 ///
 /// A fault is the first rule that the file breaks: first `ImageTooLarge`, more than `MAX_IMAGE_BYTES` bytes; then
 /// `Short` to `EntryMisaligned` in the order of the variants of `ImageFault`, each tested over all program headers
-/// before the next. `Memory` is want of memory.
+/// before the next. `Memory` is out of memory.
 #[tactic(auto, unfolding(crate::specs::Elf::elf_at))]
 pub fn load_elf(alloc: Global, bytes: &[u8]) -> Result<Loaded, ImageFault>
     ensures { Gives ImageFault.Memory loaded_of result (elf_at bytes.now) }

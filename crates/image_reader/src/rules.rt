@@ -60,7 +60,7 @@ fn any_past_end(loads: &[ProgramHeader]) -> bool
     loads.iter().any(|load| load.is_past_end())
 }
 
-/// Tests rules 6 to 9, each over all loads before the next. An `Err` is the first that is broken, or want of memory.
+/// Tests rules 6 to 9, each over all loads before the next. An `Err` is the first that is broken, or out of memory.
 #[tactic(auto, unfolding(crate::specs::Elf::checked_in))]
 pub fn check_loads(
     alloc: Global,

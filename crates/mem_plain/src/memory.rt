@@ -88,7 +88,7 @@ impl PlainMem {
         next_used(&self.pages, from)
     }
 
-    /// Memory with the same bytes, which goes its own way from now on. An `Err` is want of memory.
+    /// Memory with the same bytes, which goes its own way from now on. An `Err` is out of memory.
     pub fn copy(&self) -> Result<PlainMem, Memory>
         ensures { IfOk result (λ m. m ≡ self.now) }
     {
@@ -98,7 +98,7 @@ impl PlainMem {
         })
     }
 
-    /// The page with a number below 2^20: the 4,096 bytes from address 4,096 * `number` on. An `Err` is want of memory.
+    /// The page with a number below 2^20: the 4,096 bytes from address 4,096 * `number` on. An `Err` is out of memory.
     pub fn page(&self, number: u32) -> Result<Page, Memory>
         requires { number < 2 ^ 20 }
         ensures { IfOk result (λ page. (at : ℕ) → at < 4096 → slice_index page.bytes.items at ≡ byte_at self.now (number * 4096 + at)) }
@@ -128,7 +128,7 @@ impl PlainMem {
     }
 
     /// Stores the low `width` bytes of `value` at an address, the least byte first. The width is 1, 2 or 4,
-    /// and the address a multiple of it. An `Err` is want of memory for a page in which every byte is 0, and changes
+    /// and the address a multiple of it. An `Err` is out of memory for a page in which every byte is 0, and changes
     /// nothing.
     pub fn store(&mut self, addr: u32, width: u8, value: u32) -> Result<(), Memory>
         requires width { (width ≡ 1) ⊎ (width ≡ 2) ⊎ (width ≡ 4) }
@@ -153,7 +153,7 @@ impl PlainMem {
     }
 
     /// Lays bytes over what is there, from an address on. They don't reach beyond the end of the addresses. An
-    /// `Err` is want of memory, and drops all.
+    /// `Err` is out of memory, and drops all.
     pub fn lay(self, addr: u32, bytes: &[u8]) -> Result<PlainMem, Memory>
         requires { addr + length bytes.now ≤ 2 ^ 32 }
         ensures { IfOk result (λ m. m ≡ laid self addr bytes.now) }

@@ -10,7 +10,9 @@ use std::alloc::Global;
 /// Which question of a match is meant: the claim is dispute 0, round 0; in a dispute rounds count from 1.
 #[derive(Clone, Copy, Debug, PartialEq, Eq)]
 pub struct Qid {
+    /// The dispute's number, from 1; 0 is the claim.
     pub dispute: u32,
+    /// The round of the dispute, from 1; 0 is the claim.
     pub round: u32,
 }
 
@@ -26,7 +28,7 @@ pub enum Answer {
 }
 
 impl Answer {
-    /// The same answer once more. An `Err` is want of memory.
+    /// The same answer once more. An `Err` is out of memory.
     pub fn copy(&self, alloc: Global) -> Result<Answer, Memory>
         ensures { IfOk result (λ a. a ≡ self.now) }
     {

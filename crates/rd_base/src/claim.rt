@@ -58,7 +58,7 @@ impl ClaimOutput {
         self.bytes.as_slice()
     }
 
-    /// The same output once more. An `Err` is want of memory.
+    /// The same output once more. An `Err` is out of memory.
     pub fn copy(&self, alloc: Global) -> Result<ClaimOutput, Memory>
         ensures { IfOk result (λ o. o ≡ self.now) }
     {
@@ -72,14 +72,18 @@ impl ClaimOutput {
 /// the output itself.
 #[derive(Debug, Drop)]
 pub struct Claim {
+    /// The digest of memory: the root of its Merkle tree.
     pub mem: Digest32,
+    /// The digest of the registers.
     pub regs: Digest32,
+    /// The control fields.
     pub ctl: Ctl,
+    /// The whole output.
     pub output: ClaimOutput,
 }
 
 impl Claim {
-    /// The same claim once more. An `Err` is want of memory.
+    /// The same claim once more. An `Err` is out of memory.
     pub fn copy(&self, alloc: Global) -> Result<Claim, Memory>
         ensures { IfOk result (λ c. c ≡ self.now) }
     {

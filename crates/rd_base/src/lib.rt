@@ -2,7 +2,8 @@
 //!
 //! The layers above may rely on what the types say by themselves: a register file never holds anything in
 //! `x0`, a claimed output is never longer than its length field can say, a tampered register is one of `x1` to `x31`,
-//! and a byte string is seen in contracts as the list of its bytes. Read `regs` first, then `answer`.
+//! a late prover passes at most 1,000 times, and a byte string is seen in contracts as the list of its bytes. Read
+//! `regs` first, then `answer`.
 #![tactic(auto)]
 
 mod answer;
@@ -36,7 +37,7 @@ pub use memory::Memory;
 pub use open_text::{MAX_TEXT_BYTES, OpenText};
 pub use proof::{Opening, Path, StepProof};
 pub use regs::Regs;
-pub use script::{Manner, Script};
+pub use script::{FirstSilentRound, Manner, PassCount, Script};
 pub use status::Status;
 pub use steps::Steps;
 pub use tamper::{RegisterNumber, Tamper};

@@ -9,7 +9,9 @@ pub struct Path(pub [Digest32; 27]);
 /// An opened chunk of memory: its 32 bytes, and its Merkle path.
 #[derive(Clone, Copy, Debug)]
 pub struct Opening {
+    /// The chunk's bytes, the lowest address first.
     pub chunk: [u8; 32],
+    /// Its siblings up to the root of memory.
     pub path: Path,
 }
 
@@ -18,7 +20,9 @@ pub struct Opening {
 pub struct StepProof {
     /// The digest of memory.
     pub mem: Digest32,
+    /// The registers.
     pub regs: Regs,
+    /// The control fields.
     pub ctl: Ctl,
     /// The chunk that holds the word at `pc`.
     pub fetch: Option<Opening>,

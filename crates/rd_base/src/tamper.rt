@@ -52,18 +52,25 @@ pub enum Tamper {
     Untouched,
     /// At the state `step` the byte at `addr` is xored with `mask`, and the steps follow from there.
     Flip {
+        /// The state's number.
         step: u32,
+        /// The byte's address.
         addr: u32,
+        /// What the byte is xored with.
         mask: u8,
     },
     /// At the state `step` register `reg` holds `value`, and the steps follow from there.
     Register {
+        /// The state's number.
         step: u32,
+        /// Which register.
         reg: RegisterNumber,
+        /// What it holds.
         value: u32,
     },
     /// The run stands still from the state `steps` on.
     Early {
+        /// How many steps are made.
         steps: u32,
     },
 }

@@ -85,7 +85,7 @@ fn carry_out<D: Digester>(machine: &mut Machine, d: &D, instr: &Instr) -> Result
 
 /// One step: carries out the word at `pc`. A machine that has stopped stays as it is. One whose `pc` isn't a multiple
 /// of 4, whose word is no instruction or whose instruction can't be carried out traps, which changes the status
-/// alone. The machine's chain is its output's by the digester `d`, before and after. An `Err` is want of memory, and
+/// alone. The machine's chain is its output's by the digester `d`, before and after. An `Err` is out of memory, and
 /// changes nothing; it comes only where the step stores to a page in which every byte is 0, or puts out a byte.
 pub fn step<D: Digester>(machine: &mut Machine, d: &D) -> Result<(), Memory>
     requires { IsChained D.digest_of machine.old }
