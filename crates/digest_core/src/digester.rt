@@ -8,14 +8,17 @@ use sha2::Digest;
 
 /// A digest function, which the type alone names: two values of one type give the same digests.
 pub trait Digester: Copy {
+    /// The digest of a list of bytes.
     ghost digest_of: { List ℕ → List ℕ };
 
     /// The digest of the bytes. It takes no memory.
     fn digest(&self, bytes: &[u8]) -> Digest32
         ensures { result.0 ≡ digest_of bytes.now };
 
+    /// A digest has 32 bytes.
     ghost is_digest: { (bytes : List ℕ) → length (digest_of bytes) ≡ 32 };
 
+    /// Each of them is below 256.
     ghost is_bytes: { (bytes : List ℕ) (k : ℕ) → slice_index (digest_of bytes) k < 256 };
 }
 

@@ -1,4 +1,4 @@
--- Derived, tied to the step by the law `one_page_changes`: the page that a step stores to.
+-- To believe: the page that a step stores to. The law `one_page_changes` ties it to the step.
 use Rattle.std.specs.Prelude.{ℕ, ◌/◌, ◌%◌, ◌==◌, Option, Some, None, if◌then◌else◌}
 use Rattle.rd_base.specs.Status.{is_running}
 use Rattle.rv_decode.specs.Reading.{reading_of}

@@ -5,14 +5,14 @@ use Rattle.std.proofs.Math.Nat.{mod-add-mod}
 use Rattle.atomic_table.specs.Table.{Me, step, keeps, Allows}
 use Rattle.atomic_table.proofs.Lists.{at_longer, at_last}
 use Rattle.seat_lock.specs.declared.view.View.{View}
-use Rattle.seat_lock.specs.History.{Entry, log_of}
+use Rattle.seat_lock.specs.History.{LogEntry, log_of}
 use Rattle.seat_lock.specs.Rule.{word_size, weight, holds_ticket, Fits}
 use Rattle.seat_lock.specs.Views.{with_ticket, Draws}
 use Rattle.seat_lock.proofs.Histories.{some-injective_or, some≢none}
 use Rattle.seat_lock.proofs.Totals.{total-set}
 use Rattle.seat_lock.proofs.Views.{Rule, each-set, not_in_turn, none_before, counts-set, places-set}
 
-module _ {T H : Type 0} (head : T → H) (log : T → List Entry) where
+module _ {T H : Type 0} (head : T → H) (log : T → List LogEntry) where
   -- whoever draws a ticket stands last in the queue
   pub draws : (slots id : ℕ) (me : Me (Option T) (View H)) (h : H) → me.0.ticket ≡ None → me.0.head ≡ Some h → Allows (Rule head log) slots id me 0 (λ n. (n + 1) % word_size) (Draws (step slots 0 1 0 none) me)
   draws slots id me h no_ticket has_head s r _ at _ = let n : ℕ = get_or s.words 0 0 in let w = with_ticket n me.0 in let old = r.each id me.0 at in

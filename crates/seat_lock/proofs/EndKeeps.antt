@@ -6,7 +6,7 @@ use lib.ListN.{get_elem?}
 use Rattle.atomic_table.specs.Table.{rest, Me, step, gives, stepped, Allows}
 use Rattle.atomic_table.proofs.Lists.{set_here, drop_at}
 use Rattle.seat_lock.specs.declared.view.View.{View}
-use Rattle.seat_lock.specs.History.{Entry, Turn, History, log_of, GrowsByAtMostOne, Begins, times, with_receipt, NoneTwice}
+use Rattle.seat_lock.specs.History.{LogEntry, Turn, History, log_of, GrowsByAtMostOne, Begins, times, with_receipt, NoneTwice}
 use Rattle.seat_lock.specs.Rule.{word_size, weight, holds_ticket, Fits}
 use Rattle.seat_lock.specs.Views.{InTurn, after_turn, Ends}
 use Rattle.seat_lock.proofs.Histories.{some≢none, begins-itself, begins-append, log_of-adds, log_of-idle}
@@ -20,7 +20,7 @@ later_place : (id : ℕ) (queue : List ℕ) (serving j : ℕ) → j ≢ id → (
 later_place id queue serving j other zero u e f = absurd (other (sym (some-injective id j e)))
 later_place id queue serving j other (suc k) u e f = (k, e, f ∙ next_place serving k)
 
-module _ {T H : Type 0} (head : T → H) (log : T → List Entry) where
+module _ {T H : Type 0} (head : T → H) (log : T → List LogEntry) where
   abbrev Mine : Type 0
   Mine = Me (Option T) (View H)
 
@@ -75,7 +75,7 @@ module _ {T H : Type 0} (head : T → H) (log : T → List Entry) where
         kept,
         (x, mine, inl (same, ap (λ c. (after_turn None me.0, rest c)) mine), none_twice None kept),
       ))
-      (λ (more : (e : Entry) × (log x ≡ log_of me.0.seen ++ e ∷ [])). let kept = keeps_as (Some more.0) (more.1 ∙ sym (log_of-adds me.0.seen more.0)) in (
+      (λ (more : (e : LogEntry) × (log x ≡ log_of me.0.seen ++ e ∷ [])). let kept = keeps_as (Some more.0) (more.1 ∙ sym (log_of-adds me.0.seen more.0)) in (
         after_turn (Some more.0) me.0,
         gives,
         tt,

@@ -1,7 +1,7 @@
 -- Histories, their logs, and lists that begin with lists.
 use Rattle.std.proofs.Common.{◌≡◌, ℕ, zero, suc, List, [], ◌∷◌, ◌++◌, length, Option, Some, None, Bool, true, false, leb, sym, refl, ap, ◌∙◌, subst, arith, length-append, append_assoc, append-nil}
 use Rattle.std.specs.Prelude.{slice_get, if◌then◌else◌}
-use Rattle.seat_lock.specs.History.{Entry, Turn, History, log_of, turns_of, Begins, longer_of}
+use Rattle.seat_lock.specs.History.{LogEntry, Turn, History, log_of, turns_of, Begins, longer_of}
 
 pub some-injective_or : {A : Type 0} (d a b : A) → Some a ≡ Some b → a ≡ b
 some-injective_or {A} d a b e = ap (λ (o : Option A). value_or o) e
@@ -39,7 +39,7 @@ module _ {A : Type 0} where
   slice_get-last [] a = refl
   slice_get-last (x ∷ xs) a = slice_get-last xs a
 
-pub log_of-turns_of : (log : List Entry) → log_of (turns_of log) ≡ log
+pub log_of-turns_of : (log : List LogEntry) → log_of (turns_of log) ≡ log
 log_of-turns_of [] = refl
 log_of-turns_of (e ∷ es) = ap (λ l. e ∷ l) (log_of-turns_of es)
 
@@ -48,7 +48,7 @@ log_of-append [] us = refl
 log_of-append (Some e ∷ ts) us = ap (λ l. e ∷ l) (log_of-append ts us)
 log_of-append (None ∷ ts) us = log_of-append ts us
 
-pub log_of-adds : (ts : History) (e : Entry) → log_of (ts ++ Some e ∷ []) ≡ log_of ts ++ e ∷ []
+pub log_of-adds : (ts : History) (e : LogEntry) → log_of (ts ++ Some e ∷ []) ≡ log_of ts ++ e ∷ []
 log_of-adds ts e = log_of-append ts (Some e ∷ [])
 
 pub log_of-idle : (ts : History) → log_of (ts ++ None ∷ []) ≡ log_of ts
@@ -57,7 +57,7 @@ log_of-idle ts = log_of-append ts (None ∷ []) ∙ append-nil (log_of ts)
 pub logs_begin : (earlier later : History) → Begins earlier later → Begins (log_of earlier) (log_of later)
 logs_begin earlier later h = (log_of h.0, ap log_of h.1 ∙ log_of-append earlier h.0)
 
-pub places_keep_entries : (earlier later : History) (place : ℕ) (e : Entry) → Begins earlier later → slice_get (log_of earlier) place ≡ Some e → slice_get (log_of later) place ≡ Some e
+pub places_keep_entries : (earlier later : History) (place : ℕ) (e : LogEntry) → Begins earlier later → slice_get (log_of earlier) place ≡ Some e → slice_get (log_of later) place ≡ Some e
 places_keep_entries earlier later place e h = slice_get-begins (log_of earlier) (log_of later) place e (logs_begin earlier later h)
 
 abbrev last_or : {A : Type 0} → A → List A → A
@@ -69,7 +69,7 @@ last_or-append d [] e = refl
 last_or-append d (x ∷ xs) e = last_or-append x xs e
 
 -- a turn that adds an entry is that entry
-pub turn-adds : (turn : Turn) (ts : History) (e : Entry) → log_of (ts ++ turn ∷ []) ≡ log_of ts ++ e ∷ [] → turn ≡ Some e
+pub turn-adds : (turn : Turn) (ts : History) (e : LogEntry) → log_of (ts ++ turn ∷ []) ≡ log_of ts ++ e ∷ [] → turn ≡ Some e
 turn-adds None ts e h = let n : length (log_of ts) ≡ length (log_of ts ++ e ∷ []) = ap length (sym (log_of-idle ts) ∙ h) in absurd (omega (arith, length-append (log_of ts) (e ∷ [])))
 turn-adds (Some f) ts e h = ap Some (sym (last_or-append [] (log_of ts) f) ∙ ap (last_or []) (sym (log_of-adds ts f) ∙ h) ∙ last_or-append [] (log_of ts) e)
 

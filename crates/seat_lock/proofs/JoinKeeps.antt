@@ -6,7 +6,7 @@ use Rattle.std.proofs.lemmas.List.Elements.{All-cons, All-append}
 use Rattle.atomic_table.specs.Table.{Joins}
 use Rattle.atomic_table.proofs.Lists.{set_here, set_else}
 use Rattle.seat_lock.specs.declared.view.View.{View}
-use Rattle.seat_lock.specs.History.{Entry, History, Begins, times}
+use Rattle.seat_lock.specs.History.{LogEntry, History, Begins, times}
 use Rattle.seat_lock.specs.Rule.{word_size, weight, total, lives, holds_ticket, Fits}
 use Rattle.seat_lock.specs.Views.{with_joined, spent}
 use Rattle.seat_lock.proofs.Histories.{some≢none, begins-longer_of}
@@ -14,7 +14,7 @@ use Rattle.seat_lock.proofs.Totals.{total-set, total-set_same, two-le-total, bel
 use Rattle.seat_lock.proofs.Receipts.{times-append}
 use Rattle.seat_lock.proofs.Views.{Rule, each-set, not_in_turn, none_before}
 
-module _ {T H : Type 0} (head : T → H) (log : T → List Entry) where
+module _ {T H : Type 0} (head : T → H) (log : T → List LogEntry) where
   pub joins : (v : View H) (other : ℕ) (u : View H) (h : H) → v.ticket ≡ None → v.served ≡ None → u.ticket ≡ None → u.served ≡ None → u.head ≡ Some h → Joins (Rule head log) 0 v other u (with_joined v u) spent
   joins v other u h no_ticket no_served its_ticket its_served has_head s r at apart there =
       let w = with_joined v u in let vs : List (View H) = set s.views 0 w in

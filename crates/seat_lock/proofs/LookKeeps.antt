@@ -9,7 +9,7 @@ use Rattle.std.proofs.lemmas.List.Elements.{All-nil}
 use Rattle.atomic_table.specs.Table.{Me, step, keeps, takes, stepped, Allows}
 use Rattle.atomic_table.proofs.Lists.{set_here}
 use Rattle.seat_lock.specs.declared.view.View.{View}
-use Rattle.seat_lock.specs.History.{Entry, log_of, Begins}
+use Rattle.seat_lock.specs.History.{LogEntry, log_of, Begins}
 use Rattle.seat_lock.specs.Rule.{word_size, holds_ticket, NoneInTurn, Fits}
 use Rattle.seat_lock.specs.Views.{InTurn, with_served, at_turn, LooksAt}
 use Rattle.seat_lock.proofs.Histories.{some-injective_or, some≢none, begins-itself}
@@ -17,7 +17,7 @@ use Rattle.seat_lock.proofs.Totals.{total-set_same, below-length}
 use Rattle.seat_lock.proofs.Receipts.{all_below}
 use Rattle.seat_lock.proofs.Views.{Table, Rule, each-set, same_view, none_before, counts-set, places-set, own_places, served_is, at_front}
 
-module _ {T H : Type 0} (head : T → H) (log : T → List Entry) where
+module _ {T H : Type 0} (head : T → H) (log : T → List LogEntry) where
   abbrev D : Type 0
   D = View H
 

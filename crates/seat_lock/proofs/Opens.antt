@@ -8,7 +8,7 @@ use Rattle.std.specs.List.{All}
 use Rattle.std.proofs.lemmas.List.Elements.{All-nil}
 use Rattle.atomic_table.specs.Table.{opening, Final, Seen}
 use Rattle.seat_lock.specs.declared.view.View.{View}
-use Rattle.seat_lock.specs.History.{Entry, History, log_of, turns_of, Begins}
+use Rattle.seat_lock.specs.History.{LogEntry, History, log_of, turns_of, Begins}
 use Rattle.seat_lock.specs.Rule.{weight, total, lives, NoneInTurn, Fits}
 use Rattle.seat_lock.specs.Seats.{LockId, Known}
 use Rattle.seat_lock.specs.Views.{starting, known_as}
@@ -17,7 +17,7 @@ use Rattle.seat_lock.proofs.Totals.{two-le-total}
 use Rattle.seat_lock.proofs.Views.{Table, Rule, same_view}
 
 -- what a seat knows of the value of a lock that is closed with it
-pub record IsLast {T H : Type 0} (head : T → H) (log : T → List Entry) (k : Known H) (value : T) : Type 0 where
+pub record IsLast {T H : Type 0} (head : T → H) (log : T → List LogEntry) (k : Known H) (value : T) : Type 0 where
   pub has_head : k.head ≡ Some (head value)
   pub history : History
   pub has_log : log value ≡ log_of history
@@ -26,7 +26,7 @@ pub record IsLast {T H : Type 0} (head : T → H) (log : T → List Entry) (k : 
   pub saw_log : Begins (log_of k.seen) (log value)
   pub saw_joined_logs : All (λ seen. Begins (log_of seen) (log value)) k.joined
 
-module _ {T H : Type 0} (head : T → H) (log : T → List Entry) where
+module _ {T H : Type 0} (head : T → H) (log : T → List LogEntry) where
   pub opens : (x : T) → Rule head log (opening (0 ∷ 0 ∷ []) (Some x ∷ []) (starting (head x) (log x)))
   opens x = record {
     at = head x;

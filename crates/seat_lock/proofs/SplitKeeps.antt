@@ -5,14 +5,14 @@ use lib.ListN.{get_elem?}
 use Rattle.atomic_table.specs.Table.{Splits}
 use Rattle.atomic_table.proofs.Lists.{at_snoc, at_longer, set_here}
 use Rattle.seat_lock.specs.declared.view.View.{View}
-use Rattle.seat_lock.specs.History.{Entry, times}
+use Rattle.seat_lock.specs.History.{LogEntry, times}
 use Rattle.seat_lock.specs.Rule.{word_size, weight, total, lives, holds_ticket, Fits}
 use Rattle.seat_lock.specs.Views.{with_one_more_out, newcomer}
 use Rattle.seat_lock.proofs.Histories.{some≢none}
 use Rattle.seat_lock.proofs.Totals.{total-set_same, total-append_one, below-length}
 use Rattle.seat_lock.proofs.Views.{Rule, each-set, not_in_turn, none_before}
 
-module _ {T H : Type 0} (head : T → H) (log : T → List Entry) where
+module _ {T H : Type 0} (head : T → H) (log : T → List LogEntry) where
   pub splits : (v : View H) (h : H) → v.ticket ≡ None → v.served ≡ None → v.head ≡ Some h → v.out + 2 < word_size → Splits (Rule head log) 0 v (with_one_more_out v) (newcomer v)
   splits v h no_ticket no_served has_head few s r at =
       let w = with_one_more_out v in let n = newcomer v in let old = r.each 0 v at in let vs : List (View H) = set s.views 0 w in

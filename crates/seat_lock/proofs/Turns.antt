@@ -4,13 +4,13 @@ use Rattle.std.specs.Prelude.{slice_get}
 use Rattle.std.specs.List.{All}
 use Rattle.atomic_table.specs.Table.{rest, Me}
 use Rattle.seat_lock.specs.declared.view.View.{View}
-use Rattle.seat_lock.specs.History.{Entry, Turn, History, log_of, Begins, with_receipt, NoneTwice}
+use Rattle.seat_lock.specs.History.{LogEntry, Turn, History, log_of, Begins, with_receipt, NoneTwice}
 use Rattle.seat_lock.specs.Seats.{LockId}
 use Rattle.seat_lock.specs.Turned.{Turned}
 use Rattle.seat_lock.specs.Views.{known_as, with_ticket, at_turn, after_turn, StillWaits, BeginsTurn, EndsTurn}
 use Rattle.seat_lock.proofs.Histories.{some-injective_or, log_of-adds, log_of-idle, logs_begin, turn-adds, turn-idle, slice_get-last}
 
-module _ {T H : Type 0} (head : T → H) (log : T → List Entry) where
+module _ {T H : Type 0} (head : T → H) (log : T → List LogEntry) where
   abbrev Mine : Type 0
   Mine = Me (Option T) (View H)
 
@@ -80,5 +80,5 @@ module _ {T H : Type 0} (head : T → H) (log : T → List Entry) where
       } in
       ⊎_elim
       (λ (p : (log y ≡ log_of m₂.0.seen) × (m₃ ≡ (after_turn None m₂.0, []))). made None p.1 (p.0 ∙ ap log_of seen_is ∙ sym (log_of-idle history)))
-      (λ (p : (e : Entry) × (log y ≡ log_of m₂.0.seen ++ e ∷ []) × (m₃ ≡ (after_turn (Some e) m₂.0, []))). made (Some p.0) p.2 (p.1 ∙ ap (λ l. log_of l ++ p.0 ∷ []) seen_is ∙ sym (log_of-adds history p.0)))
+      (λ (p : (e : LogEntry) × (log y ≡ log_of m₂.0.seen ++ e ∷ []) × (m₃ ≡ (after_turn (Some e) m₂.0, []))). made (Some p.0) p.2 (p.1 ∙ ap (λ l. log_of l ++ p.0 ∷ []) seen_is ∙ sym (log_of-adds history p.0)))
       ended

@@ -7,13 +7,13 @@ use lib.ListN.{get_elem?}
 use Rattle.atomic_table.specs.Table.{State}
 use Rattle.atomic_table.proofs.Lists.{at_set, set_here, set_else}
 use Rattle.seat_lock.specs.declared.view.View.{View}
-use Rattle.seat_lock.specs.History.{Entry, log_of, times}
+use Rattle.seat_lock.specs.History.{LogEntry, log_of, times}
 use Rattle.seat_lock.specs.Rule.{word_size, weight, total, once_below, lives, holds_ticket, NoneInTurn, CountsTheOthers, Kept}
 use Rattle.seat_lock.specs.Views.{InTurn}
 use Rattle.seat_lock.proofs.Histories.{some≢none}
 use Rattle.seat_lock.proofs.Totals.{total-set_same, one-le-total, total-le-total, weight-le-weight, below-length, first_place}
 
-module _ {T H : Type 0} (head : T → H) (log : T → List Entry) where
+module _ {T H : Type 0} (head : T → H) (log : T → List LogEntry) where
   abbrev D : Type 0
   D = View H
 

@@ -1,32 +1,32 @@
--- The turns at a lock, in their order, and the log that they leave. To believe: the contracts of the lock speak of both.
+-- To believe: the turns at a lock, in their order, and the log that they leave.
 use Rattle.std.specs.Prelude.{◌≡◌, ◌⊎◌, ℕ, ◌+◌, ◌≤◌, ◌==◌, if◌then◌else◌, leb, List, [], ◌∷◌, ◌++◌, length, Option, Some, None}
 
 -- an entry of a log: plain numbers
-abbrev pub Entry : Type 0
-Entry = List ℕ
+abbrev pub LogEntry : Type 0
+LogEntry = List ℕ
 
 -- a turn adds one entry to the log, or none
 abbrev pub Turn : Type 0
-Turn = Option Entry
+Turn = Option LogEntry
 
 -- all turns so far, the first one first
 abbrev pub History : Type 0
 History = List Turn
 
 -- the log that the turns leave: the entries that they added, in their order
-abbrev pub log_of : History → List Entry
+abbrev pub log_of : History → List LogEntry
 log_of [] = []
 log_of (Some entry ∷ turns) = entry ∷ log_of turns
 log_of (None ∷ turns) = log_of turns
 
 -- turns that leave this log, each of which added an entry
-abbrev pub turns_of : List Entry → History
+abbrev pub turns_of : List LogEntry → History
 turns_of [] = []
 turns_of (entry ∷ log) = Some entry ∷ turns_of log
 
 -- in one turn a log stays as it was, or gains one entry at its end
-abbrev pub GrowsByAtMostOne : List Entry → List Entry → Type 0
-GrowsByAtMostOne before after = (after ≡ before) ⊎ ((entry : Entry) × (after ≡ before ++ entry ∷ []))
+abbrev pub GrowsByAtMostOne : List LogEntry → List LogEntry → Type 0
+GrowsByAtMostOne before after = (after ≡ before) ⊎ ((entry : LogEntry) × (after ≡ before ++ entry ∷ []))
 
 -- the second list begins with the first
 abbrev pub Begins : {A : Type 0} → List A → List A → Type 0

@@ -1,4 +1,4 @@
--- The rule of a lock's table. Derived: `SeatLock::new` establishes it, each kind of step keeps it, and the clauses of the lock follow from it.
+-- Derived. The rule of a lock's table: `SeatLock::new` establishes it, each kind of step keeps it, and the clauses of the lock follow from it.
 -- Word 0 is the next ticket and word 1 the number served, both modulo 2^64. Slot 0 holds the value.
 use Rattle.std.specs.Prelude.{◌≡◌, ℕ, suc, ◌+◌, ◌%◌, ◌<◌, ◌≤◌, nat_lt, if◌then◌else◌, List, [], ◌∷◌, length, Option, Some, None}
 use Rattle.std.specs.List.{All}
@@ -7,7 +7,7 @@ use mathlib.Core.Option as maybe
 use lib.ListN.{get_elem?}
 use Rattle.atomic_table.specs.Table.{State}
 use Rattle.seat_lock.specs.declared.view.View.{View}
-use Rattle.seat_lock.specs.History.{Entry, History, log_of, Begins, times}
+use Rattle.seat_lock.specs.History.{LogEntry, History, log_of, Begins, times}
 use Rattle.seat_lock.specs.Views.{InTurn}
 
 -- how many numbers a word has, so 2^64
@@ -59,7 +59,7 @@ module _ {H : Type 0} where
     -- in its turn it is the one served, has seen the whole history, and the slot is lent
     pub turn : (ticket : ℕ) → v.ticket ≡ Some ticket → v.served ≡ Some ticket → (ticket ≡ serving) × (v.seen ≡ history) × (homes ≡ none ∷ [])
 
-  pub record Kept {T : Type 0} (head : T → H) (log : T → List Entry) (s : State (Option T) (View H)) : Type 0 where
+  pub record Kept {T : Type 0} (head : T → H) (log : T → List LogEntry) (s : State (Option T) (View H)) : Type 0 where
     pub at : H
     pub queue : List ℕ
     pub history : History

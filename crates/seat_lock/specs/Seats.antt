@@ -1,7 +1,7 @@
--- What contracts see of a lock and of a seat, and of a seat after `new`, `split` and `join`. To believe.
+-- To believe: what contracts see of a lock and of a seat, and of a seat after `new`, `split` and `join`.
 use Rattle.std.specs.Prelude.{ℕ, suc, ◌-◌, List, [], ◌∷◌, ◌++◌, Option, Some}
 use Rattle.atomic_table.specs.Seated.{TableId}
-use Rattle.seat_lock.specs.History.{Entry, History, turns_of, longer_of}
+use Rattle.seat_lock.specs.History.{LogEntry, History, turns_of, longer_of}
 
 -- what tells one lock from another
 abbrev pub LockId : Type 0
@@ -24,7 +24,7 @@ pub record Known (H : Type 0) : Type 0 where
 
 module _ {H : Type 0} where
   -- the first seat of a lock whose value has this head and this log
-  abbrev pub first_seat : LockId → H → List Entry → Known H
+  abbrev pub first_seat : LockId → H → List LogEntry → Known H
   first_seat lock head log = record { lock = lock; number = 0; head = Some head; out = 0; seen = turns_of log; joined = []; receipts = [] }
 
   -- the first seat after one was split off it

@@ -1,7 +1,7 @@
--- One turn of a seat. To believe: it is what the lock promises of a turn.
+-- To believe: one turn of a seat, which is what the lock promises of a turn.
 use Rattle.std.specs.Prelude.{◌≡◌, ◌<◌, List, [], ◌∷◌, ◌++◌, length, slice_get, Some, None}
 use Rattle.std.specs.List.{All}
-use Rattle.seat_lock.specs.History.{Entry, Turn, History, log_of, Begins, with_receipt, NoneTwice}
+use Rattle.seat_lock.specs.History.{LogEntry, Turn, History, log_of, Begins, with_receipt, NoneTwice}
 use Rattle.seat_lock.specs.Seats.{Known}
 
 -- what no turn changes of a seat
@@ -12,7 +12,7 @@ pub record SameSeat {H : Type 0} (before after : Known H) : Type 0 where
   pub out : after.out ≡ before.out
 
 -- where the seat found this value under the lock and left that one
-pub record Turned {T H : Type 0} (head : T → H) (log : T → List Entry) (before : Known H) (found left : T) (after : Known H) : Type 0 where
+pub record Turned {T H : Type 0} (head : T → H) (log : T → List LogEntry) (before : Known H) (found left : T) (after : Known H) : Type 0 where
   -- all turns before this one, and what this one added
   pub shown : History
   pub turn : Turn
@@ -32,10 +32,10 @@ pub record Turned {T H : Type 0} (head : T → H) (log : T → List Entry) (befo
   pub none_joined : after.joined ≡ []
   -- a turn that leaves the log as it was is idle, and one that adds an entry is that entry
   pub idle : log left ≡ log found → turn ≡ None
-  pub adds : (entry : Entry) → log left ≡ log found ++ entry ∷ [] → turn ≡ Some entry
+  pub adds : (entry : LogEntry) → log left ≡ log found ++ entry ∷ [] → turn ≡ Some entry
   -- the place of an entry that was added is the length of the log before it: there the entry stands, behind all places
   -- that the seat had, and no place stands twice
   pub receipts : after.receipts ≡ with_receipt turn (length (log found)) before.receipts
-  pub stands : (entry : Entry) → turn ≡ Some entry → slice_get (log left) (length (log found)) ≡ Some entry
+  pub stands : (entry : LogEntry) → turn ≡ Some entry → slice_get (log left) (length (log found)) ≡ Some entry
   pub later : All (λ place. place < length (log found)) before.receipts
   pub none_twice : NoneTwice after.receipts

@@ -1,10 +1,10 @@
--- What a seat's view says after each step, and what a step tells its seat. Derived: `Turned`, `split_off` and `after_join` say what comes of it.
+-- Derived. What a seat's view says after each step, and what a step tells its seat: `Turned`, `split_off` and `after_join` say what comes of it.
 use Rattle.std.specs.Prelude.{◌≡◌, ◌≢◌, ◌⊎◌, ℕ, suc, ◌-◌, ◌<◌, List, [], ◌∷◌, ◌++◌, length, Option, Some, None}
 use Rattle.std.specs.List.{All}
 use Rattle.atomic_table.specs.Table.{Me, Step}
 use Rattle.atomic_table.specs.declared.shared.Seat.{Seat}
 use Rattle.seat_lock.specs.declared.view.View.{View}
-use Rattle.seat_lock.specs.History.{Entry, Turn, History, log_of, turns_of, Begins, longer_of, with_receipt, NoneTwice}
+use Rattle.seat_lock.specs.History.{LogEntry, Turn, History, log_of, turns_of, Begins, longer_of, with_receipt, NoneTwice}
 use Rattle.seat_lock.specs.Seats.{LockId, Known}
 
 module _ {H : Type 0} where
@@ -13,7 +13,7 @@ module _ {H : Type 0} where
   InTurn v = (ticket : ℕ) × (v.ticket ≡ Some ticket) × (v.served ≡ Some ticket)
 
   -- the view of a lock's first seat
-  abbrev pub starting : H → List Entry → View H
+  abbrev pub starting : H → List LogEntry → View H
   starting head log = record { head = Some head; ticket = None; served = None; out = 0; seen = turns_of log; joined = []; receipts = [] }
 
   -- the first seat's view, after a split
@@ -84,7 +84,7 @@ module _ {T H : Type 0} where
     pub not_yet : after.0.served ≢ Some ticket
 
   -- a turn begins: the slot is lent to the seat, with a value of the seat's head, whose log is that of the history
-  pub record BeginsTurn (head : T → H) (log : T → List Entry) (before : Me (Option T) (View H)) (ticket : ℕ) (after : Me (Option T) (View H)) : Type 0 where
+  pub record BeginsTurn (head : T → H) (log : T → List LogEntry) (before : Me (Option T) (View H)) (ticket : ℕ) (after : Me (Option T) (View H)) : Type 0 where
     pub value : T
     pub history : History
     pub seat : after ≡ (at_turn ticket history before.0, (0, Some value) ∷ [])
@@ -95,17 +95,17 @@ module _ {T H : Type 0} where
     pub later : All (λ place. place < length (log_of history)) before.0.receipts
 
   -- the number served was looked at: it is the seat's ticket, or another
-  abbrev pub LooksAt : (T → H) → (T → List Entry) → Step (Option T) → Me (Option T) (View H) → ℕ → Me (Option T) (View H) → Type 0
+  abbrev pub LooksAt : (T → H) → (T → List LogEntry) → Step (Option T) → Me (Option T) (View H) → ℕ → Me (Option T) (View H) → Type 0
   LooksAt head log step before found after =
       (before.0.ticket ≡ Some found → BeginsTurn head log before found after)
       × (before.0.ticket ≢ Some found → after ≡ (with_served (Some found) before.0, []))
 
   -- the turn ends, with an entry or without one: the log of the value that was given back tells which
-  abbrev pub EndsTurn : (T → List Entry) → Me (Option T) (View H) → T → Me (Option T) (View H) → Type 0
+  abbrev pub EndsTurn : (T → List LogEntry) → Me (Option T) (View H) → T → Me (Option T) (View H) → Type 0
   EndsTurn log before value after =
       ((log value ≡ log_of before.0.seen) × (after ≡ (after_turn None before.0, [])))
-      ⊎ ((entry : Entry) × (log value ≡ log_of before.0.seen ++ entry ∷ []) × (after ≡ (after_turn (Some entry) before.0, [])))
+      ⊎ ((entry : LogEntry) × (log value ≡ log_of before.0.seen ++ entry ∷ []) × (after ≡ (after_turn (Some entry) before.0, [])))
 
   -- the number served was raised, while the slot held this value
-  abbrev pub Ends : (T → List Entry) → Step (Option T) → Me (Option T) (View H) → ℕ → Me (Option T) (View H) → Type 0
+  abbrev pub Ends : (T → List LogEntry) → Step (Option T) → Me (Option T) (View H) → ℕ → Me (Option T) (View H) → Type 0
   Ends log step before found after = (value : T) × (before.1 ≡ (0, Some value) ∷ []) × EndsTurn log before value after × NoneTwice after.0.receipts

@@ -1,6 +1,6 @@
 //! Laws: each function has an empty body, and its clause holds of all histories.
 ghost use Rattle.std.specs.Prelude.{◌≡◌, ℕ, slice_get, Some};
-ghost use Rattle.seat_lock.specs.History.{Entry, History, Begins, log_of};
+ghost use Rattle.seat_lock.specs.History.{LogEntry, History, Begins, log_of};
 
 /// Where one history begins with another, so does its log.
 #[tactic(auto, using(crate::proofs::Histories::logs_begin))]
@@ -11,5 +11,5 @@ pub fn later_logs_begin_with_earlier_ones()
 /// What stands at a place of the log stands there in the log of each longer history.
 #[tactic(auto, using(crate::proofs::Histories::places_keep_entries))]
 pub fn places_keep_their_entries()
-    ensures { (earlier later : History) (place : ℕ) (entry : Entry) → Begins earlier later → slice_get (log_of earlier) place ≡ Some entry → slice_get (log_of later) place ≡ Some entry }
+    ensures { (earlier later : History) (place : ℕ) (entry : LogEntry) → Begins earlier later → slice_get (log_of earlier) place ≡ Some entry → slice_get (log_of later) place ≡ Some entry }
 {}

@@ -1,13 +1,13 @@
 //! What lies under a lock, and what is done to it in a turn.
 ghost use Rattle.std.specs.Prelude.{◌≡◌, List};
-ghost use Rattle.seat_lock.specs.History.{Entry, GrowsByAtMostOne};
+ghost use Rattle.seat_lock.specs.History.{LogEntry, GrowsByAtMostOne};
 
 /// A value with a log, which turns make longer, and a head, which no turn changes.
 pub trait Logged {
     /// Plain data, of which no value need be made.
     type Head;
 
-    ghost log: { Self → List Entry };
+    ghost log: { Self → List LogEntry };
 
     ghost head: { Self → Self.Head };
 }
