@@ -54,6 +54,6 @@ module _ (digest : List ℕ → List ℕ) (is_digest : (bytes : List ℕ) → le
       let regs = (Decides-eqb (length s.regs) 32).1 valid.regs.thirty_two in
       let words = words_are s.regs held.words in
       let ctl = and-true _ _ (and-true _ _ (and-true _ _ ((Decides-ltb s.pc (2 ^ 32)).1 held.pc_fits) ((Decides-ltb (status_code s.status) (2 ^ 32)).1 held.code_fits))
-          ((Decides-ltb (ctl_of digest s).out_len (2 ^ 64)).1 held.length_fits)) ((Decides-eqb (length (chain_of digest s.output)) 32).1 (chained s.output)) in
+      ((Decides-ltb (ctl_of digest s).out_len (2 ^ 64)).1 held.length_fits)) ((Decides-eqb (length (chain_of digest s.output)) 32).1 (chained s.output)) in
       and-true _ _ (and-true _ _ (and-true _ _ (and-true _ _ (and-true _ _ mem regs) words) ctl)
       (opening-in-range s.memory (fetch_of_state digest s))) (opening-in-range s.memory (operand_of_state digest s))
