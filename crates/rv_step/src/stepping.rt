@@ -101,10 +101,8 @@ pub fn step<D: Digester>(machine: &mut Machine, d: &D) -> Result<(), Memory>
         machine.ctl.status = Status::Trapped(MISALIGNED_JUMP);
         return Ok(());
     }
-    // Lent, since moving it out of the option would wait for each of its fields to be written.
-    let read = decode(machine.mem.word(machine.ctl.pc));
-    match &read {
-        Some(instr) => carry_out(machine, d, instr),
+    match decode(machine.mem.word(machine.ctl.pc)) {
+        Some(instr) => carry_out(machine, d, &instr),
         None => {
             machine.ctl.status = Status::Trapped(ILLEGAL_INSTRUCTION);
             Ok(())
