@@ -17,7 +17,7 @@ mod verdict;
 
 pub use laws::{
     a_match_has_few_disputes_and_rounds, a_number_names_one_question, nobody_asked_means_over,
-    one_record_of_a_case, open_questions_stay, order_does_not_matter, spare_is_enough,
+    one_record_of_a_case, open_questions_stay, order_does_not_matter, posts_settle_what_fits, spare_is_enough,
     the_verdict_is_right, truthful_provers_are_safe, truthful_provers_stay,
 };
 pub use playing::Match;
