@@ -1,5 +1,5 @@
 -- A prover whose claim is settled and whom no dispute has put out is in the list of the live ones.
-use Rattle.std.proofs.Common.{◌≡◌, ℕ, zero, suc, ◌+◌, ◌-◌, ◌<◌, Bool, true, false, List, [], ◌∷◌, length, slice_get, ◌⊎◌, inl, inr, Option, Some, None, refl, ap, arith, Contains}
+use Rattle.std.proofs.Common.{◌≡◌, ℕ, zero, suc, ◌+◌, ◌-◌, ◌<◌, Bool, true, false, List, [], ◌∷◌, slice_get, ◌⊎◌, inl, inr, Option, Some, None, refl, arith, Contains}
 use Rattle.std.specs.Prelude.{if◌then◌else◌}
 use Rattle.rd_base.specs.declared.claim.Claim.{Claim}
 use Rattle.rd_base.specs.declared.answer.Answer.TheVariants as answer

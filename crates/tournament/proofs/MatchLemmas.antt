@@ -303,11 +303,11 @@ module _ (laws : BisectionLaws) where
   proved-all : (rules : Rules) (t : Truth) (claims : List (Option Settled)) (p : ℕ) (ds : List Bisection) → IsRun rules t → AllGood rules t claims p ds → AllTrueIn rules t p ds → AllRightIn t p ds → AllProvedIn rules p ds
   proved-all rules t claims p [] run g true_ right = tt
   proved-all rules t claims p (d ∷ ds) run g true_ right = (
-      record {
-        first = λ same. laws.proofs rules t First d run g.0.play (true_.0.first same) (right.0.first same);
-        second = λ same. laws.proofs rules t Second d run g.0.play (true_.0.second same) (right.0.second same);
-      },
-      proved-all rules t claims p ds run g.1 true_.1 right.1,
+    record {
+      first = λ same. laws.proofs rules t First d run g.0.play (true_.0.first same) (right.0.first same);
+      second = λ same. laws.proofs rules t Second d run g.0.play (true_.0.second same) (right.0.second same);
+    },
+    proved-all rules t claims p ds run g.1 true_.1 right.1,
   )
 
   stays-from : (rules : Rules) (t : Truth) (p : ℕ) (r : Record) → 0 < p → IsRun rules t → IsKept rules t p r → AllTrueIn rules t p r.disputes → is_out_in r.disputes p ≡ false → AllRightIn t p r.disputes → Stays rules t p r

@@ -200,6 +200,6 @@ module _ (laws : BisectionLaws) where
   pub over-after : (rules : Rules) (es : List (ℕ × Settled)) →
       ((p : ℕ) → 0 < p → p ≤ rules.provers → open_question rules (after rules es (nothing_settled rules)) p ≡ None) ↔ (is_complete (after rules es (nothing_settled rules)) ≡ true)
   over-after rules es = (
-      (λ none. complete-is rules (after rules es (nothing_settled rules)) (λ p. apart-after rules p es (nothing_settled rules) (apart-nothing rules p)) (moves-after rules es (nothing_settled rules) tt) none),
-      (λ over p some le. complete-none rules (after rules es (nothing_settled rules)) p over),
+    (λ none. complete-is rules (after rules es (nothing_settled rules)) (λ p. apart-after rules p es (nothing_settled rules) (apart-nothing rules p)) (moves-after rules es (nothing_settled rules) tt) none),
+    (λ over p some le. complete-none rules (after rules es (nothing_settled rules)) p over),
   )

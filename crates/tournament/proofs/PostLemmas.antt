@@ -47,10 +47,10 @@ settled-moved rules st p q None some asked fits i = i
 settled-moved rules st p q (Some s) some asked fits i = record {
   list = i.list ++ (p, s) ∷ [];
   fit = fit-last rules i.list p s (nothing_settled rules) i.fit (record {
-      question = q;
-      numbered = some;
-      asked = ap (λ (r : Record). open_question rules r p) i.comes ∙ asked;
-      fits = fits s refl;
+    question = q;
+    numbered = some;
+    asked = ap (λ (r : Record). open_question rules r p) i.comes ∙ asked;
+    fits = fits s refl;
   });
   comes = after-last rules i.list p s (nothing_settled rules) ∙ ap (settle rules p s) i.comes;
 }

@@ -13,7 +13,6 @@ use Rattle.tournament.specs.Keeping.{Sheet, IsReached, IsMove, IsMatch}
 use Rattle.tournament.specs.Moves.{State, begun, passes_of, settled_by, moved}
 use Rattle.tournament.specs.Posting.{rules_of, same_qid, posted, posted_on, Post, after_posts, record_after, NobodyAskedIsOver}
 use Rattle.tournament.specs.Theorem.{AreTrue, Stays, TruthfulStay, IsRightVerdict, VerdictIsRight, FewDisputes, AllShort, FewRounds}
-use Rattle.tournament.specs.Settling.{after}
 
 -- a move on the open question is a post
 
@@ -34,10 +33,11 @@ after-posts-last rules [] x st = refl
 after-posts-last rules (y ∷ xs) x st = after-posts-last rules xs x (posted rules st y.prover y.qid y.answer)
 
 pub reached-move : (rules : Rules) (st : State) (p : ℕ) (o : Option Settled) → 0 < p → IsReached rules st → IsMove rules st p o → IsReached rules (moved rules st p o)
-reached-move rules st p o some r m =
-    (r.0 ++ record { prover = p; numbered = some; qid = m.question.qid; answer = m.answer } ∷ [],
-        after-posts-last rules r.0 (record { prover = p; numbered = some; qid = m.question.qid; answer = m.answer }) (begun rules)
-        ∙ (ap (λ (u : State). posted rules u p m.question.qid m.answer) r.1 ∙ posted-is rules st p o m))
+reached-move rules st p o some r m = (
+  r.0 ++ record { prover = p; numbered = some; qid = m.question.qid; answer = m.answer } ∷ [],
+  after-posts-last rules r.0 (record { prover = p; numbered = some; qid = m.question.qid; answer = m.answer }) (begun rules)
+      ∙ (ap (λ (u : State). posted rules u p m.question.qid m.answer) r.1 ∙ posted-is rules st p o m),
+)
 
 -- a match that was reached has few disputes after one answer more
 

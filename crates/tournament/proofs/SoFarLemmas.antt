@@ -1,7 +1,6 @@
 -- A record of a match is the bracket over the answers that it holds.
-use Rattle.std.proofs.Common.{◌≡◌, ◌≢◌, ℕ, zero, suc, ◌+◌, ◌-◌, ◌<◌, ◌≤◌, Bool, true, false, ◌&&◌, ◌||◌, ◌==◌, if◌then◌else◌, List, [], ◌∷◌, ◌++◌, length, map, slice_get, slice_set, inl, inr, Option, Some, None, is_some, refl, sym, ◌∙◌, ap, arith}
+use Rattle.std.proofs.Common.{◌≡◌, ◌≢◌, ℕ, zero, suc, ◌+◌, ◌-◌, ◌<◌, ◌≤◌, Bool, true, false, ◌||◌, ◌==◌, if◌then◌else◌, List, [], ◌∷◌, ◌++◌, length, map, slice_get, slice_set, inl, inr, Option, Some, None, is_some, refl, sym, ◌∙◌, ap, arith}
 use Rattle.std.proofs.lemmas.Bool.Decides.{nat_tests}
-use Rattle.std.specs.Fn.{iterate}
 use Rattle.rd_base.specs.declared.answer.Answer.TheVariants as answer
 use Rattle.rd_base.specs.declared.answer.Qid.{Qid}
 use Rattle.rd_base.specs.declared.claim.Claim.{Claim}
@@ -27,12 +26,12 @@ use Rattle.tournament.specs.SoFar.{settled_after_rounds, settled_in_round, settl
 use Rattle.tournament.proofs.AskedLemmas.{Numbered, numbered-settle}
 use Rattle.tournament.proofs.BracketLemmas.{bracket-is}
 use Rattle.tournament.proofs.CountLemmas.{few_disputes}
-use Rattle.tournament.proofs.MatchLemmas.{HasClaim, ArePaired, AllPaired, pairs-right, live-right}
-use Rattle.tournament.proofs.OnceLemmas.{IsOpen, opens, not-eqb, is-eqb, get-other}
+use Rattle.tournament.proofs.MatchLemmas.{ArePaired, AllPaired, pairs-right, live-right}
+use Rattle.tournament.proofs.OnceLemmas.{IsOpen, opens, not-eqb, is-eqb}
 use Rattle.tournament.proofs.OpenedLemmas.{opened-not, opened-due}
 use Rattle.tournament.proofs.OverLemmas.{Moves, AllMove, moves-after}
 use Rattle.tournament.proofs.PostLemmas.{IsSettled, settled-begun}
-use Rattle.tournament.proofs.ReachLemmas.{either, Reaches, reach_back, iterate-fixed}
+use Rattle.tournament.proofs.ReachLemmas.{either, reach_back, iterate-fixed}
 use Rattle.tournament.proofs.SidesLemmas.{SameSides, sides-first, sides-second, round-closed, round-open}
 use Rattle.tournament.proofs.StageLemmas.{IsPlayed, Ends, played-settle, played-nothing, steps-settle}
 
@@ -457,15 +456,15 @@ module _ (laws : BisectionLaws) where
       ((p : ℕ) (q : Question) (s : Settled) → answers_in (after rules es t) p q ≡ Some s → f p q ≡ Some s) → Fits rules f es t
   fits-own rules f [] t more long i fit below = tt
   fits-own rules f (e ∷ es) t more long i fit below = (
-      record {
-        question = fit.0.question;
-        numbered = fit.0.numbered;
-        asked = fit.0.asked;
-        is = below e.0 fit.0.question e.1
-            (held (settle rules e.0 e.1 t) (after rules es (settle rules e.0 e.1 t)) e.0 fit.0.question e.1 (holds-after rules es (settle rules e.0 e.1 t))
-            (answer-settled rules e.0 e.1 fit.0.question t i.numbered i.apart fit.0.asked));
-      },
-      fits-own rules f es (settle rules e.0 e.1 t) more long (kept-settle rules e.0 e.1 t more long i) fit.1 below,
+    record {
+      question = fit.0.question;
+      numbered = fit.0.numbered;
+      asked = fit.0.asked;
+      is = below e.0 fit.0.question e.1
+          (held (settle rules e.0 e.1 t) (after rules es (settle rules e.0 e.1 t)) e.0 fit.0.question e.1 (holds-after rules es (settle rules e.0 e.1 t))
+          (answer-settled rules e.0 e.1 fit.0.question t i.numbered i.apart fit.0.asked));
+    },
+    fits-own rules f es (settle rules e.0 e.1 t) more long (kept-settle rules e.0 e.1 t more long i) fit.1 below,
   )
 
   ends-own : (rules : Rules) (f : Answers) (es : List (ℕ × Settled)) (t : Record) → 1 < rules.play.fan → 0 < rules.bound → IsPlayed rules t →

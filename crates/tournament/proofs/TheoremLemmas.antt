@@ -1,10 +1,7 @@
 -- The dispute theorem over lists of posts.
-use Rattle.std.proofs.Common.{◌≡◌, ◌↔◌, ℕ, ◌<◌, ◌≤◌, true, List, length, None}
 use Rattle.bisect_game.specs.Laws.{BisectionLaws}
-use Rattle.bisect_game.specs.Rules.{Rules}
-use Rattle.tournament.specs.Bracket.{Record, open_question, is_complete}
-use Rattle.tournament.specs.Posting.{Post, record_after, NobodyAskedIsOver}
-use Rattle.tournament.specs.Theorem.{AreTrue, TruthfulStay, VerdictIsRight, FewDisputes, AllShort, FewRounds}
+use Rattle.tournament.specs.Posting.{record_after, NobodyAskedIsOver}
+use Rattle.tournament.specs.Theorem.{TruthfulStay, VerdictIsRight, FewDisputes, FewRounds}
 use Rattle.tournament.proofs.CountLemmas.{few_disputes}
 use Rattle.tournament.proofs.FewLemmas.{few_rounds}
 use Rattle.tournament.proofs.MatchLemmas.{settled_stay}

@@ -25,7 +25,7 @@ use Rattle.tournament.specs.Settling.{after}
 use Rattle.tournament.specs.Moves.{State, begun}
 use Rattle.tournament.specs.Journals.{turn, turns, said, settled_after, answers_of}
 use Rattle.tournament.specs.Asked.{asked}
-use Rattle.tournament.specs.Fitting.{MaySettle, AllFit}
+use Rattle.tournament.specs.Fitting.{AllFit}
 use Rattle.tournament.specs.Theorem.{HasTrueClaimSoFar, TrueIn, AllTrueIn, AreTrue, Stays}
 use Rattle.tournament.specs.Truthful.{AnswersTruly, IsTruthfulProver, TruthfulProversAreSafe}
 use Rattle.tournament.proofs.ReachLemmas.{either}
@@ -287,10 +287,10 @@ module _ (laws : BisectionLaws) where
         answers = rw same (true-settle rules t p other s q st.record_ some far asked_ mine i.answers);
         settled = i.settled ++ (other, s) ∷ [];
         fit = fit-last rules i.settled other s (nothing_settled rules) i.fit (record {
-            question = q;
-            numbered = far;
-            asked = ap (λ (r : Record). open_question rules r other) i.reaches ∙ asked_;
-            fits = fit-answers rules says other q s is;
+          question = q;
+          numbered = far;
+          asked = ap (λ (r : Record). open_question rules r other) i.reaches ∙ asked_;
+          fits = fit-answers rules says other q s is;
         });
         reaches = after-last rules i.settled other s (nothing_settled rules) ∙ (ap (settle rules other s) i.reaches ∙ sym same);
       }

@@ -3,6 +3,7 @@ ghost use Rattle.tournament.specs.Fitting.{PostsSettle};
 ghost use Rattle.tournament.specs.Posting.{NobodyAskedIsOver};
 ghost use Rattle.tournament.specs.Theorem.{TruthfulStay, VerdictIsRight, FewDisputes, FewRounds};
 ghost use Rattle.tournament.specs.Journals.{OrderDoesNotMatter, RecordOfCase};
+ghost use Rattle.tournament.specs.SoFar.{RecordIsBracket};
 ghost use Rattle.tournament.specs.Length.{SpareIsEnough};
 ghost use Rattle.tournament.specs.Truthful.{TruthfulProversAreSafe};
 ghost use Rattle.tournament.specs.Asked.{AskedByTheCase, QuestionsStay};
@@ -65,6 +66,13 @@ pub fn order_does_not_matter()
 /// settled as.
 pub fn one_record_of_a_case()
     ensures { RecordOfCase }
+{
+    bisection_laws();
+}
+
+/// Whatever was posted, the record is the bracket over the answers that it holds: what is settled so far fixes it.
+pub fn a_record_is_the_bracket_over_its_answers()
+    ensures { RecordIsBracket }
 {
     bisection_laws();
 }
