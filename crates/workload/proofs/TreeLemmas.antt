@@ -1,5 +1,5 @@
 -- The tree of the workload: it has no float, it isn't deep, and it is a case.
-use Rattle.std.proofs.Common.{◌≡◌, ℕ, zero, suc, ◌+◌, ◌*◌, ◌/◌, ◌%◌, ◌^◌, ◌<◌, ◌≤◌, ◌==◌, List, [], ◌∷◌, length, map, slice_index, Bool, true, false, ◌&&◌, Result, Ok, Option, Some, refl, sym, ap, ◌∙◌, arith}
+use Rattle.std.proofs.Common.{◌≡◌, ℕ, zero, suc, ◌+◌, ◌*◌, ◌%◌, ◌<◌, ◌≤◌, ◌==◌, List, [], ◌∷◌, length, map, slice_index, Bool, true, false, ◌&&◌, Result, Ok, Some, refl, ap, ◌∙◌, arith}
 use Rattle.std.specs.Prelude.{IsUtf8, if◌then◌else◌}
 use Rattle.std.specs.List.{range_with_len}
 use Rattle.std.specs.Result.{result_ok}
