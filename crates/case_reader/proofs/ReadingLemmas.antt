@@ -15,7 +15,8 @@ use Rattle.case_reader.specs.declared.fault.CaseFault.{CaseFault}
 use Rattle.case_reader.specs.declared.fault.CaseFault.TheVariants.{BadProver}
 use Rattle.rd_base.specs.Results.{◌>>=◌}
 use Rattle.case_reader.specs.Fields.{listed}
-use Rattle.case_reader.specs.Provers.{script_in, scripts_in}
+use Rattle.case_reader.specs.Scripts.{script_in}
+use Rattle.case_reader.specs.Provers.{scripts_in}
 use Rattle.case_reader.specs.Case.{tree_of}
 
 -- what was read so far, before the rest

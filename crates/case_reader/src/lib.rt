@@ -8,8 +8,11 @@
 mod case;
 mod fault;
 mod field;
+mod manner;
+mod member;
 mod parsing;
 mod prover;
+mod tamper;
 #[cfg(test)]
 mod tests;
 

@@ -1,60 +1,49 @@
-ghost use Rattle.std.specs.Prelude.{◌≡◌, ◌≤◌, length, map, IfOk};
-ghost use Rattle.std.specs.Option.{option_map, option_and_then};
-ghost use Rattle.serde_json.specs.Find.{get, as_str};
+ghost use Rattle.std.specs.Prelude.{◌≡◌, ◌≤◌, length, map, IfOk, Ok, codes};
+ghost use Rattle.serde_json.specs.Find.{get};
 ghost use Rattle.serde_json.specs.View.{view};
 ghost use Rattle.rd_base.specs.Results.{Gives};
-ghost use Rattle.case_reader.specs.Provers.{manner_in, script_in, scripts_in};
+ghost use Rattle.case_reader.specs.Scripts.{tamper_or_untouched, manner_or_plain, script_in};
+ghost use Rattle.case_reader.specs.Provers.{scripts_in};
 
 use crate::fault::CaseFault;
-use crate::field::hex_bytes;
-use rd_base::{ClaimOutput, Listed, Manner, Script, Tamper};
+use crate::manner::manner_of;
+use crate::tamper::tamper_of;
+use rd_base::{Listed, Manner, Script, Tamper};
 use serde_json::Value;
 use std::alloc::Global;
 
-/// The text of a name in an object.
-fn text_at<'v>(tree: &'v Value, name: &str) -> Option<&'v str>
-    ensures { option_map (λ text. text.now) result ≡ option_and_then as_str (get name.now (view tree.now)) }
+/// The tamper of a prover, where it is known or there is none.
+fn tamper_in(prover: &Value) -> Option<Tamper>
+    ensures { result ≡ tamper_or_untouched (get (codes "tamper") (view prover.now)) }
 {
-    tree.get(name).and_then(Value::as_str)
-}
-
-#[tactic(auto, unfolding(crate::specs::Provers::manner_in))]
-fn manner_of(alloc: Global, manner: &Value) -> Result<Option<Manner>, CaseFault>
-    ensures { Gives CaseFault.Memory (λ known. known) result (Ok (manner_in (view manner.now))) }
-{
-    let Some(kind) = text_at(manner, "kind") else {
-        return Ok(None);
-    };
-    if kind != "output" {
-        return Ok(None);
-    }
-    let Some(text) = text_at(manner, "bytes") else {
-        return Ok(None);
-    };
-    match hex_bytes(alloc, text)? {
-        Some(bytes) => Ok(ClaimOutput::new(bytes.into_vec()).map(Manner::Output)),
-        None => Ok(None),
+    match prover.get("tamper") {
+        Some(tamper) => tamper_of(tamper),
+        None => Some(Tamper::Untouched),
     }
 }
 
-#[tactic(auto, unfolding(crate::specs::Provers::script_in))]
+/// The manner of a prover, where it is known or there is none.
+fn manner_in(alloc: Global, prover: &Value) -> Result<Option<Manner>, CaseFault>
+    ensures { Gives CaseFault.Memory (λ known. known) result (Ok (manner_or_plain (get (codes "manner") (view prover.now)))) }
+{
+    match prover.get("manner") {
+        Some(manner) => manner_of(alloc, manner),
+        None => Ok(Some(Manner::Plain)),
+    }
+}
+
+#[tactic(auto, unfolding(crate::specs::Scripts::script_in))]
 fn script_of(alloc: Global, prover: &Value) -> Result<Option<Script>, CaseFault>
     ensures { Gives CaseFault.Memory (λ known. known) result (Ok (script_in (view prover.now))) }
 {
-    if !prover.is_object() || prover.get("tamper").is_some() {
+    if !prover.is_object() {
         return Ok(None);
     }
-    let Some(manner) = prover.get("manner") else {
-        return Ok(Some(Script {
-            tamper: Tamper::Untouched,
-            manner: Manner::Plain,
-        }));
+    let Some(tamper) = tamper_in(prover) else {
+        return Ok(None);
     };
-    match manner_of(alloc, manner)? {
-        Some(manner) => Ok(Some(Script {
-            tamper: Tamper::Untouched,
-            manner,
-        })),
+    match manner_in(alloc, prover)? {
+        Some(manner) => Ok(Some(Script { tamper, manner })),
         None => Ok(None),
     }
 }

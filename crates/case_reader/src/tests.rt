@@ -1,5 +1,5 @@
 use crate::{CaseFault, Key, read_case};
-use std::alloc::Global;
+use std::alloc::{AllocError, Global};
 use std::test::Fail;
 
 /// A case that is read, from which each table makes its texts.
@@ -166,26 +166,163 @@ fn of_two_faults_the_earlier_rule_names_the_fault(rt: HostRuntime) -> Result<(),
 fn a_prover_that_is_not_known_is_named_by_its_number(rt: HostRuntime) -> Result<(), Fail> {
     let alloc = rt.alloc();
     for (provers, number) in [
-        ("[{\"tamper\":{\"step\":3}}]", 1),
-        ("[{\"tamper\":null}]", 1),
-        ("[{\"manner\":{}}]", 1),
-        ("[{\"manner\":{\"bytes\":\"2a\"}}]", 1),
-        ("[{\"manner\":{\"kind\":\"none\"}}]", 1),
-        ("[{\"manner\":{\"kind\":\"plain\",\"bytes\":\"2a\"}}]", 1),
-        ("[{\"manner\":{\"kind\":5,\"bytes\":\"2a\"}}]", 1),
-        ("[{\"manner\":{\"kind\":\"output\"}}]", 1),
-        ("[{\"manner\":{\"kind\":\"output\",\"bytes\":42}}]", 1),
-        ("[{\"manner\":{\"kind\":\"output\",\"bytes\":\"2\"}}]", 1),
-        ("[{\"manner\":{\"kind\":\"output\",\"bytes\":\"2g\"}}]", 1),
-        ("[{\"manner\":\"output\"}]", 1),
-        ("[{\"manner\":null}]", 1),
         ("[[]]", 1),
         ("[{},5]", 2),
         ("[{},{},{\"tamper\":0}]", 3),
+        ("[{},{\"manner\":{\"kind\":\"tape\",\"answers\":[]}},5]", 2),
+        ("[{\"tamper\":{\"kind\":\"early\"},\"manner\":{}},{}]", 1),
     ] {
         let text = BASE.replace(alloc, "[{}]", provers)?;
         let want = CaseFault::BadProver(number);
         assert_eq!(rt; fault_of(alloc, text.as_str()), Some(want), "{text}");
+    }
+    Ok(())
+}
+
+/// The fault of a case of one prover with this member, in which each ' stands for a quotation mark.
+fn fault_with(alloc: Global, member: &str) -> Result<Option<CaseFault>, AllocError> {
+    let member = member.replace(alloc, "'", "\"")?;
+    let provers = format!(in alloc; "[{{{member}}}]")?;
+    let text = BASE.replace(alloc, "[{}]", provers.as_str())?;
+    Ok(fault_of(alloc, text.as_str()))
+}
+
+#[test]
+fn a_tamper_is_known_by_its_kind_and_its_keys_in_their_ranges(rt: HostRuntime) -> Result<(), Fail> {
+    for (member, known) in [
+        ("'tamper':{'kind':'flip','step':0,'addr':0,'mask':0}", true),
+        (
+            "'tamper':{'mask':255,'addr':4294967295,'step':4294967295,'kind':'flip','x':[]}",
+            true,
+        ),
+        (
+            "'tamper':{'kind':'flip','step':0,'addr':0,'mask':256}",
+            false,
+        ),
+        (
+            "'tamper':{'kind':'flip','step':4294967296,'addr':0,'mask':1}",
+            false,
+        ),
+        (
+            "'tamper':{'kind':'flip','step':0,'addr':4294967296,'mask':1}",
+            false,
+        ),
+        ("'tamper':{'kind':'flip','step':0,'addr':0}", false),
+        ("'tamper':{'kind':'flip','step':0,'mask':1}", false),
+        ("'tamper':{'kind':'flip','addr':0,'mask':1}", false),
+        (
+            "'tamper':{'kind':'flip','step':'0','addr':0,'mask':1}",
+            false,
+        ),
+        (
+            "'tamper':{'kind':'flip','step':0,'addr':-1,'mask':1}",
+            false,
+        ),
+        (
+            "'tamper':{'kind':'flip','step':0,'addr':0,'mask':1.0}",
+            false,
+        ),
+        ("'tamper':{'kind':'reg','step':0,'reg':1,'value':0}", true),
+        (
+            "'tamper':{'kind':'reg','step':4294967295,'reg':31,'value':4294967295}",
+            true,
+        ),
+        ("'tamper':{'kind':'reg','step':0,'reg':0,'value':0}", false),
+        ("'tamper':{'kind':'reg','step':0,'reg':32,'value':0}", false),
+        (
+            "'tamper':{'kind':'reg','step':0,'reg':257,'value':0}",
+            false,
+        ),
+        (
+            "'tamper':{'kind':'reg','step':4294967296,'reg':1,'value':0}",
+            false,
+        ),
+        (
+            "'tamper':{'kind':'reg','step':0,'reg':1,'value':4294967296}",
+            false,
+        ),
+        ("'tamper':{'kind':'reg','step':0,'reg':1}", false),
+        ("'tamper':{'kind':'reg','step':0,'value':0}", false),
+        ("'tamper':{'kind':'reg','reg':1,'value':0}", false),
+        (
+            "'tamper':{'kind':'reg','step':0,'reg':null,'value':0}",
+            false,
+        ),
+        ("'tamper':{'kind':'early','steps':0}", true),
+        ("'tamper':{'kind':'early','steps':4294967295}", true),
+        ("'tamper':{'kind':'early','steps':4294967296}", false),
+        (
+            "'tamper':{'kind':'early','steps':18446744073709551616}",
+            false,
+        ),
+        ("'tamper':{'kind':'early','step':3}", false),
+        (
+            "'tamper':{'kind':'early','steps':3},'tamper':{'kind':'late','passes':3}",
+            false,
+        ),
+        ("'tamper':{'kind':'none'}", false),
+        ("'tamper':{'kind':'Flip','step':0,'addr':0,'mask':0}", false),
+        ("'tamper':{'kind':5,'steps':0}", false),
+        ("'tamper':{'steps':0}", false),
+        ("'tamper':{}", false),
+        ("'tamper':null", false),
+        ("'tamper':['early',3]", false),
+        ("'tamper':'early'", false),
+    ] {
+        let want = if known {
+            None
+        } else {
+            Some(CaseFault::BadProver(1))
+        };
+        assert_eq!(rt; fault_with(rt.alloc(), member)?, want, "{member}");
+    }
+    Ok(())
+}
+
+#[test]
+fn a_manner_is_known_by_its_kind_and_its_key_in_its_range(rt: HostRuntime) -> Result<(), Fail> {
+    for (member, known) in [
+        ("", true),
+        ("'manner':{'kind':'late','passes':0}", true),
+        ("'manner':{'kind':'late','passes':1000}", true),
+        ("'manner':{'kind':'late','passes':1001}", false),
+        ("'manner':{'kind':'late','passes':'1'}", false),
+        ("'manner':{'kind':'late','from':1}", false),
+        ("'manner':{'kind':'silent','from':0}", true),
+        ("'manner':{'kind':'silent','from':64}", true),
+        ("'manner':{'kind':'silent','from':65}", false),
+        ("'manner':{'kind':'silent','from':4294967296}", false),
+        ("'manner':{'kind':'silent','from':true}", false),
+        ("'manner':{'kind':'silent','passes':1}", false),
+        ("'manner':{'kind':'output','bytes':''}", true),
+        ("'manner':{'kind':'output','bytes':'aB'}", true),
+        ("'manner':{'kind':'output','bytes':'2'}", false),
+        ("'manner':{'kind':'output','bytes':'2g'}", false),
+        ("'manner':{'kind':'output','bytes':42}", false),
+        ("'manner':{'kind':'output'}", false),
+        (
+            "'manner':{'kind':'forge','step':0,'reg':1,'value':0}",
+            false,
+        ),
+        ("'manner':{'kind':'noise','seed':0}", false),
+        ("'manner':{'kind':'tape','answers':[]}", false),
+        ("'manner':{'kind':'none'}", false),
+        ("'manner':{'kind':'','bytes':'2a'}", false),
+        ("'manner':{'kind':5,'bytes':'2a'}", false),
+        ("'manner':{'bytes':'2a'}", false),
+        ("'manner':{}", false),
+        ("'manner':null", false),
+        ("'manner':[{'kind':'late','passes':0}]", false),
+        ("'manner':'late'", false),
+        ("'manner':{'kind':'late','passes':0},'tamper':{}", false),
+        ("'Manner':null,'Tamper':null", true),
+    ] {
+        let want = if known {
+            None
+        } else {
+            Some(CaseFault::BadProver(1))
+        };
+        assert_eq!(rt; fault_with(rt.alloc(), member)?, want, "{member}");
     }
     Ok(())
 }
@@ -259,6 +396,18 @@ fn a_case_is_read_whole(rt: HostRuntime) -> Result<(), Fail> {
              bound: 16777216, patience: 100, version: 1, fan: 2, provers: Listed { items: [\
              Script { tamper: Untouched, manner: Plain }, \
              Script { tamper: Untouched, manner: Output(ClaimOutput { bytes: Listed { items: [171] } }) }] } }",
+        ),
+        // Each tamper and each manner has the numbers of its own keys.
+        (
+            "{\"format\":\"flat\",\"image\":\"\",\"input\":\"\",\"bound\":1,\"patience\":0,\"provers\":[\
+             {\"tamper\":{\"kind\":\"flip\",\"step\":1,\"addr\":2,\"mask\":3},\"manner\":{\"kind\":\"late\",\"passes\":4}},\
+             {\"tamper\":{\"kind\":\"reg\",\"step\":5,\"reg\":6,\"value\":7},\"manner\":{\"kind\":\"silent\",\"from\":8}},\
+             {\"tamper\":{\"kind\":\"early\",\"steps\":9}}]}",
+            "Case { image: Listed { items: [] }, flat: true, input: Listed { items: [] }, \
+             bound: 1, patience: 0, version: 1, fan: 2, provers: Listed { items: [\
+             Script { tamper: Flip { step: 1, addr: 2, mask: 3 }, manner: Late(PassCount { count: 4 }) }, \
+             Script { tamper: Register { step: 5, reg: RegisterNumber { number: 6 }, value: 7 }, manner: Silent(FirstSilentRound { round: 8 }) }, \
+             Script { tamper: Early { steps: 9 }, manner: Plain }] } }",
         ),
     ] {
         let case = read_case(alloc, text.as_bytes())?;

@@ -36,23 +36,38 @@ fn output_of(alloc: Global, byte: u8) -> Result<Option<ClaimOutput>, AllocError>
     Ok(ClaimOutput::new(vec![in alloc; byte]?))
 }
 
-/// The manner of this name, with its number.
-fn manner_of(alloc: Global, name: &str, number: u32) -> Result<Manner, AllocError> {
-    let manner = match name {
-        "late" => PassCount::new(number).map(Manner::Late),
-        "silent" => FirstSilentRound::new(number).map(Manner::Silent),
-        "output" => output_of(alloc, 0x2b)?.map(Manner::Output),
-        _ => None,
+/// A manner, by its numbers.
+#[derive(Clone, Copy, Debug)]
+enum Named {
+    Plain,
+    Late(u32),
+    Silent(u32),
+    Output,
+}
+
+fn manner_of(alloc: Global, named: Named) -> Result<Manner, AllocError> {
+    let manner = match named {
+        Named::Plain => None,
+        Named::Late(passes) => PassCount::new(passes).map(Manner::Late),
+        Named::Silent(from) => FirstSilentRound::new(from).map(Manner::Silent),
+        Named::Output => output_of(alloc, 0x2b)?.map(Manner::Output),
     };
     Ok(manner.unwrap_or(Manner::Plain))
 }
 
-/// An answerer that claims the output `2a`, gives a root, or passes.
-fn inner_of(alloc: Global, name: &str) -> Result<Fixed, AllocError> {
-    let answer = match name {
-        "root" => Some(Answer::Root(Digest32([7; 32]))),
-        "claim" => output_of(alloc, 0x2a)?.map(claim_of),
-        _ => None,
+/// What an answerer without a manner gives: a claim of the output `2a`, a root, or a pass.
+#[derive(Clone, Copy, Debug, PartialEq, Eq)]
+enum Gives {
+    Claim,
+    Root,
+    Pass,
+}
+
+fn inner_of(alloc: Global, gives: Gives) -> Result<Fixed, AllocError> {
+    let answer = match gives {
+        Gives::Claim => output_of(alloc, 0x2a)?.map(claim_of),
+        Gives::Root => Some(Answer::Root(Digest32([7; 32]))),
+        Gives::Pass => None,
     };
     Ok(Fixed { alloc, answer })
 }
@@ -71,65 +86,78 @@ fn claim_of(output: ClaimOutput) -> Answer {
     })
 }
 
-/// What was answered, and the first byte of a claimed output.
-fn heard(answer: &Option<Answer>) -> (&'static str, Option<u8>) {
+/// What was answered; of a claim the first byte of its output.
+#[derive(Clone, Copy, Debug, PartialEq, Eq)]
+enum Heard {
+    Pass,
+    Root,
+    Step,
+    Claim(Option<u8>),
+}
+
+fn what_was_heard(answer: &Option<Answer>) -> Heard {
     match answer {
-        None => ("pass", None),
-        Some(Answer::Root(_)) => ("root", None),
-        Some(Answer::Step(_)) => ("step", None),
-        Some(Answer::Claim(claim)) => ("claim", claim.output.as_slice().first().copied()),
+        None => Heard::Pass,
+        Some(Answer::Root(_)) => Heard::Root,
+        Some(Answer::Step(_)) => Heard::Step,
+        Some(Answer::Claim(claim)) => Heard::Claim(claim.output.as_slice().first().copied()),
     }
 }
+
+/// The claim as it is without a manner, and with another output.
+const TRUE_CLAIM: Heard = Heard::Claim(Some(0x2a));
+
+const OTHER_CLAIM: Heard = Heard::Claim(Some(0x2b));
 
 #[test]
 fn each_manner_passes_and_answers_as_it_says(rt: HostRuntime) -> Result<(), Fail> {
     let alloc = rt.alloc();
     let claim = Kind::Claim;
     let root = Kind::Root(4);
-    for (name, number, inner, round, kind, passes, want, byte) in [
-        ("plain", 0, "claim", 0, claim, 0, "claim", Some(0x2a)),
-        ("plain", 0, "pass", 0, claim, 0, "pass", None),
+    for (named, gives, round, kind, passes, want) in [
+        (Named::Plain, Gives::Claim, 0, claim, 0, TRUE_CLAIM),
+        (Named::Plain, Gives::Pass, 0, claim, 0, Heard::Pass),
         // so many passes on each question, whatever its round, and then the answer
-        ("late", 0, "root", 1, root, 0, "root", None),
-        ("late", 3, "root", 1, root, 0, "pass", None),
-        ("late", 3, "root", 1, root, 2, "pass", None),
-        ("late", 3, "root", 1, root, 3, "root", None),
-        ("late", 3, "root", 2, root, 0, "pass", None),
-        ("late", 3, "claim", 0, claim, 3, "claim", Some(0x2a)),
-        ("late", 1000, "root", 1, root, 999, "pass", None),
-        ("late", 1000, "root", 1, root, 1000, "root", None),
+        (Named::Late(0), Gives::Root, 1, root, 0, Heard::Root),
+        (Named::Late(3), Gives::Root, 1, root, 0, Heard::Pass),
+        (Named::Late(3), Gives::Root, 1, root, 2, Heard::Pass),
+        (Named::Late(3), Gives::Root, 1, root, 3, Heard::Root),
+        (Named::Late(3), Gives::Root, 2, root, 0, Heard::Pass),
+        (Named::Late(3), Gives::Claim, 0, claim, 3, TRUE_CLAIM),
+        (Named::Late(1000), Gives::Root, 1, root, 999, Heard::Pass),
+        (Named::Late(1000), Gives::Root, 1, root, 1000, Heard::Root),
         // every question from a round on, of which the claim has round 0
-        ("silent", 0, "claim", 0, claim, 0, "pass", None),
-        ("silent", 2, "claim", 0, claim, 0, "claim", Some(0x2a)),
-        ("silent", 2, "root", 1, root, 0, "root", None),
-        ("silent", 2, "root", 2, root, 0, "pass", None),
-        ("silent", 2, "root", 3, root, 4294967295, "pass", None),
+        (Named::Silent(0), Gives::Claim, 0, claim, 0, Heard::Pass),
+        (Named::Silent(2), Gives::Claim, 0, claim, 0, TRUE_CLAIM),
+        (Named::Silent(2), Gives::Root, 1, root, 0, Heard::Root),
+        (Named::Silent(2), Gives::Root, 2, root, 0, Heard::Pass),
+        (
+            Named::Silent(2),
+            Gives::Root,
+            3,
+            root,
+            4294967295,
+            Heard::Pass,
+        ),
         // the claim alone has another output
-        ("output", 0, "claim", 0, claim, 0, "claim", Some(0x2b)),
-        ("output", 0, "root", 0, claim, 0, "root", None),
-        ("output", 0, "root", 1, root, 0, "root", None),
-        ("output", 0, "claim", 1, root, 0, "claim", Some(0x2a)),
-        ("output", 0, "pass", 0, claim, 0, "pass", None),
+        (Named::Output, Gives::Claim, 0, claim, 0, OTHER_CLAIM),
+        (Named::Output, Gives::Root, 0, claim, 0, Heard::Root),
+        (Named::Output, Gives::Root, 1, root, 0, Heard::Root),
+        (Named::Output, Gives::Claim, 1, root, 0, TRUE_CLAIM),
+        (Named::Output, Gives::Pass, 0, claim, 0, Heard::Pass),
     ] {
         let dispute = if round == 0 { 0 } else { 1 };
         let question = Question {
             qid: Qid { dispute, round },
             kind,
         };
-        let manner = manner_of(alloc, name, number)?;
+        let manner = manner_of(alloc, named)?;
         let passed = waits(&manner, &question, passes);
-        let mut scripted = Scripted::new(alloc, inner_of(alloc, inner)?, manner);
-        let answer = scripted.answer(&rt, &question, passes)?;
-        assert_eq!(rt;
-            heard(&answer),
-            (want, byte),
-            "{name} {number} {inner} {round} {passes}"
-        );
-        assert_eq!(rt;
-            passed,
-            want == "pass" && inner != "pass",
-            "{name} {number} {round} {passes}"
-        );
+        let mut scripted = Scripted::new(alloc, inner_of(alloc, gives)?, manner);
+        let answer = what_was_heard(&scripted.answer(&rt, &question, passes)?);
+        assert_eq!(rt; answer, want, "{named:?} {gives:?} {round} {passes}");
+        let waits = want == Heard::Pass && gives != Gives::Pass;
+        assert_eq!(rt; passed, waits, "{named:?} {round} {passes}");
     }
     Ok(())
 }

@@ -1,0 +1,104 @@
+-- To believe. The script of a prover: what is wrong with its run, and how it answers. Each key of a kind is there, of its
+-- type and in its range; keys of other names are ignored.
+use Rattle.std.specs.Prelude.{ℕ, ◌&&◌, List, length, codes, nat_le, Option, Some, None, if◌then◌else◌}
+use Rattle.std.specs.Option.{option_map, option_and_then}
+use Rattle.std.specs.Str.{bytes_eq}
+use Rattle.serde_json.specs.Data.{Data}
+use Rattle.serde_json.specs.Find.{get, as_str, as_object, as_number, as_u64}
+use Rattle.rd_base.specs.declared.script.Script.{Script}
+use Rattle.rd_base.specs.declared.script.Manner.{Manner}
+use Rattle.rd_base.specs.declared.script.Manner.TheVariants.{Plain, Late, Silent, Output}
+use Rattle.rd_base.specs.declared.tamper.Tamper.{Tamper}
+use Rattle.rd_base.specs.declared.tamper.Tamper.TheVariants.{Untouched, Flip, Register, Early}
+use Rattle.case_reader.specs.Fields.{hex_of}
+
+-- the `?` of an option: the second step where the first gave a value
+infixl 10 ◌>>=◌
+abbrev pub ◌>>=◌ : {A B : Type 0} → Option A → (A → Option B) → Option B
+x >>= f = option_and_then f x
+
+-- the text of a key
+abbrev pub text_at : List ℕ → Data → Option (List ℕ)
+text_at key tree = option_and_then as_str (get key tree)
+
+-- the number of a key, one that reads as an unsigned number of 64 bits, in a range
+unfoldable pub number_at : List ℕ → ℕ → ℕ → Data → Option ℕ
+number_at key low high tree = do
+  value ← get key tree
+  number ← option_and_then as_u64 (as_number value)
+  if nat_le low number && nat_le number high then Some number else None
+
+-- the number of a key, below 2^32
+abbrev pub word_at : List ℕ → Data → Option ℕ
+word_at key tree = number_at key 0 4294967295 tree
+
+-- the keys of the kind `flip`
+unfoldable pub flip_in : Data → Option Tamper
+flip_in tamper = do
+  step ← word_at (codes "step") tamper
+  addr ← word_at (codes "addr") tamper
+  mask ← number_at (codes "mask") 0 255 tamper
+  Some (Flip step addr mask)
+
+-- the keys of the kind `reg`
+unfoldable pub register_in : Data → Option Tamper
+register_in tamper = do
+  step ← word_at (codes "step") tamper
+  reg ← number_at (codes "reg") 1 31 tamper
+  value ← word_at (codes "value") tamper
+  Some (Register step reg value)
+
+-- the keys of the kind `early`
+unfoldable pub early_in : Data → Option Tamper
+early_in tamper = option_map Early (word_at (codes "steps") tamper)
+
+abbrev pub tamper_of_kind : Data → List ℕ → Option Tamper
+tamper_of_kind tamper kind =
+    if bytes_eq kind (codes "flip") then flip_in tamper
+    else if bytes_eq kind (codes "reg") then register_in tamper
+    else if bytes_eq kind (codes "early") then early_in tamper
+    else None
+
+-- a tamper that is known
+unfoldable pub tamper_in : Data → Option Tamper
+tamper_in tamper = option_and_then (tamper_of_kind tamper) (text_at (codes "kind") tamper)
+
+-- bytes that a claim's output may be: at most 4,294,967,295
+abbrev pub output_of : List ℕ → Option (List ℕ)
+output_of bytes = if nat_le (length bytes) 4294967295 then Some bytes else None
+
+-- the bytes of the kind `output`
+unfoldable pub output_in : Data → Option (List ℕ)
+output_in manner = do
+  text ← text_at (codes "bytes") manner
+  bytes ← hex_of text
+  output_of bytes
+
+abbrev pub manner_of_kind : Data → List ℕ → Option Manner
+manner_of_kind manner kind =
+    if bytes_eq kind (codes "late") then option_map Late (number_at (codes "passes") 0 1000 manner)
+    else if bytes_eq kind (codes "silent") then option_map Silent (number_at (codes "from") 0 64 manner)
+    else if bytes_eq kind (codes "output") then option_map Output (output_in manner)
+    else None
+
+-- a manner that is known
+unfoldable pub manner_in : Data → Option Manner
+manner_in manner = option_and_then (manner_of_kind manner) (text_at (codes "kind") manner)
+
+-- the tamper of a prover that has the key; one that hasn't is untouched
+abbrev pub tamper_or_untouched : Option Data → Option Tamper
+tamper_or_untouched (Some tamper) = tamper_in tamper
+tamper_or_untouched None = Some Untouched
+
+-- the manner of a prover that has the key; one that hasn't is plain
+abbrev pub manner_or_plain : Option Data → Option Manner
+manner_or_plain (Some manner) = manner_in manner
+manner_or_plain None = Some Plain
+
+-- a prover that is known: an object whose tamper and manner are known, where they are there
+unfoldable pub script_in : Data → Option Script
+script_in prover = do
+  members ← as_object prover
+  tamper ← tamper_or_untouched (get (codes "tamper") prover)
+  manner ← manner_or_plain (get (codes "manner") prover)
+  Some (record { tamper = tamper; manner = manner })

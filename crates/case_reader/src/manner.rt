@@ -1,0 +1,59 @@
+ghost use Rattle.std.specs.Prelude.{◌≡◌, Ok, codes};
+ghost use Rattle.std.specs.Option.{option_map};
+ghost use Rattle.serde_json.specs.View.{view};
+ghost use Rattle.rd_base.specs.Results.{Gives};
+ghost use Rattle.rd_base.specs.declared.script.Manner.TheVariants.{Late, Silent, Output};
+ghost use Rattle.case_reader.specs.Scripts.{number_at, output_in, manner_in};
+
+use crate::fault::CaseFault;
+use crate::field::hex_bytes;
+use crate::member::{number_at, text_at};
+use rd_base::{ClaimOutput, FirstSilentRound, Manner, PassCount};
+use serde_json::Value;
+use std::alloc::Global;
+
+/// The key of the kind `late`.
+fn late_of(manner: &Value) -> Option<Manner>
+    ensures { result ≡ option_map Late (number_at (codes "passes") 0 1000 (view manner.now)) }
+{
+    let passes = number_at(manner, "passes", 0, 1000)?;
+    Some(Manner::Late(PassCount::new(passes as u32)?))
+}
+
+/// The key of the kind `silent`.
+fn silent_of(manner: &Value) -> Option<Manner>
+    ensures { result ≡ option_map Silent (number_at (codes "from") 0 64 (view manner.now)) }
+{
+    let from = number_at(manner, "from", 0, 64)?;
+    Some(Manner::Silent(FirstSilentRound::new(from as u32)?))
+}
+
+/// The key of the kind `output`.
+#[tactic(auto, unfolding(crate::specs::Scripts::output_in))]
+fn output_of(alloc: Global, manner: &Value) -> Result<Option<Manner>, CaseFault>
+    ensures { Gives CaseFault.Memory (λ known. known) result (Ok (option_map Output (output_in (view manner.now)))) }
+{
+    let Some(text) = text_at(manner, "bytes") else {
+        return Ok(None);
+    };
+    match hex_bytes(alloc, text)? {
+        Some(bytes) => Ok(ClaimOutput::new(bytes.into_vec()).map(Manner::Output)),
+        None => Ok(None),
+    }
+}
+
+/// The manner of a value, where it is one that is known.
+#[tactic(auto, unfolding(crate::specs::Scripts::manner_in))]
+pub fn manner_of(alloc: Global, manner: &Value) -> Result<Option<Manner>, CaseFault>
+    ensures { Gives CaseFault.Memory (λ known. known) result (Ok (manner_in (view manner.now))) }
+{
+    let Some(kind) = text_at(manner, "kind") else {
+        return Ok(None);
+    };
+    match kind {
+        "late" => Ok(late_of(manner)),
+        "silent" => Ok(silent_of(manner)),
+        "output" => output_of(alloc, manner),
+        _ => Ok(None),
+    }
+}
