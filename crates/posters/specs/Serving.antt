@@ -1,5 +1,5 @@
 -- Derived: what stays of a poster while it serves, and what a seat must be for it. `play` says what comes of it.
-use Rattle.std.specs.Prelude.{◌≡◌, ℕ, ◌+◌, List, [], Option, Some}
+use Rattle.std.specs.Prelude.{◌≡◌, [], Some}
 use Rattle.seat_lock.specs.Seats.{LockId, Known}
 
 module _ {H : Type 0} where

@@ -13,3 +13,8 @@ mod serving;
 
 pub use gate::{Gate, OpenGate};
 pub use playing::play;
+
+#[cfg(test)]
+mod board_tests;
+#[cfg(test)]
+mod tests;

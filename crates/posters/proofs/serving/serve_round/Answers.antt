@@ -1,4 +1,4 @@
-use Rattle.std.proofs.Common.{rules, ◌≡◌, ℕ, ◌+◌, ◌<◌, ◌≤◌, slice_index_or, map, ap, ◌∙◌, arith}
+use Rattle.std.proofs.Common.{rules, ◌≡◌, ℕ, ◌+◌, ◌<◌, slice_index_or, map, ap, ◌∙◌, arith}
 use Rattle.posters.specs.Serving.{kept_of}
 use Rattle.posters.proofs.Answering.{said_at, said_again}
 use Rattle.posters.proofs.Seats.{seat_again}

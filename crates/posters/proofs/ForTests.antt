@@ -1,0 +1,38 @@
+-- What the tests' players may post.
+use Rattle.std.proofs.Common.{◌≡◌, ℕ, Bool, true, false, if◌then◌else◌, Option, Some, None, is_none, refl, sym, ap, ◌∙◌}
+use Rattle.rd_base.specs.declared.answer.Answer.{Answer}
+use Rattle.rd_base.specs.declared.answer.Qid.{Qid}
+use Rattle.bisect_game.specs.declared.question.Kind.TheVariants as kind
+use Rattle.bisect_game.specs.declared.question.Question.{Question}
+use Rattle.bisect_game.specs.Says.{Says}
+use Rattle.bisect_game.specs.Rules.{Rules}
+use Rattle.tournament.specs.Bracket.{claim_question, bracket}
+use Rattle.tournament.specs.Journals.{answers_of}
+use Rattle.tournament.specs.Asked.{asked}
+use Rattle.dispute_board.specs.Replies.{MayPost}
+use Rattle.toy_game.specs.Toy.{answers}
+use Rattle.toy_game.specs.declared.player.Player.{Player}
+use Rattle.posters.proofs.Seats.{some_is, same_question}
+
+none_is : (o : Option Answer) → is_none o ≡ true → None ≡ o
+none_is None e = refl
+none_is (Some a) e = absurd (cc)
+
+-- a pass may be posted always
+pub passes_may : (rules : Rules) (says : Says) (p : ℕ) (qid : Qid) → MayPost rules says p qid None None
+passes_may rules says p qid q same of_case n e = none_is (says p q n) e
+
+steady_if : (b c : Bool) (g a : Answer) → Some a ≡ (if c then None else Some g) → is_none (if b then None else Some g) ≡ false → Some a ≡ (if b then None else Some g)
+steady_if true c g a e f = absurd (cc)
+steady_if false true g a e f = absurd (cc)
+steady_if false false g a e f = e
+
+steady : (player : Player) (q : Question) (n k : ℕ) (a : Answer) → Some a ≡ answers player q k → is_none (answers player q n) ≡ false → Some a ≡ answers player q n
+steady player q n k a e f = steady_if _ _ _ a e f
+
+-- a player's claim may be posted
+pub claims_may : (rules : Rules) (says : Says) (p : ℕ) (player : Player) (a : Answer) (n : ℕ) → says p ≡ answers player → Some a ≡ answers player claim_question n → MayPost rules says p claim_question.qid None (Some a)
+claims_may rules says p player a n same said q number of_case k e =
+    let claim : claim_question ≡ q = same_question claim_question q (sym number) (some_is kind.Claim q.kind (sym (ap (asked rules (bracket rules (answers_of rules says)) p) number) ∙ of_case)) in
+    steady player q k n a (said ∙ ap (λ (x : Question). answers player x n) claim) (ap (λ (f : Question → ℕ → Option Answer). is_none (f q k)) (sym same) ∙ e)
+    ∙ ap (λ (f : Question → ℕ → Option Answer). f q k) (sym same)

@@ -1,0 +1,246 @@
+ghost use Rattle.std.specs.Prelude.{◌≡◌, ◌<◌};
+
+use crate::{Gate, OpenGate, play};
+use bisect_game::{Answerer, Close, Dispute, Question, Side};
+use board_book::Book;
+use rd_base::{Answer, Memory, Qid};
+use std::alloc::Global;
+use std::sync::Wait;
+use std::sync::atomic::{AtomicBool, AtomicU32, Ordering};
+use std::test::Fail;
+use std::thread::Threads;
+use tournament::{Record, Verdict};
+use toy_game::{Cast, HONEST, LIAR, Player, SILENT, Seated, ToyJudge, root};
+
+/// A dispute in short: stage, number, sides, rounds that went on, and who is out.
+type Line = (u32, u32, u32, u32, usize, bool, bool);
+
+/// A player that passes once on each question.
+const LATE: Player = Player { late: 1, ..HONEST };
+
+/// A player that lies from step 5 on and passes for ever from round 2 on.
+const SILENT_LIAR: Player = Player {
+    silent_from: 2,
+    from: 5,
+    ..LIAR
+};
+
+/// The match of a late, a lying and a silent prover, in short.
+const LINES: [Line; 2] = [(1, 1, 1, 2, 3, true, false), (2, 2, 2, 3, 1, false, true)];
+
+fn line(dispute: &Dispute) -> Line {
+    let (first, second) = match dispute.closed() {
+        Some(Close::Out { first, second }) => (first, second),
+        _ => (false, false),
+    };
+    (
+        dispute.stage(),
+        dispute.number(),
+        dispute.prover(Side::First),
+        dispute.prover(Side::Second),
+        dispute.rounds().len(),
+        first,
+        second,
+    )
+}
+
+fn lines(alloc: Global, record: &Record) -> Result<Vec<Line>, Memory> {
+    let mut lines = Vec::new(alloc);
+    for dispute in record.disputes() {
+        lines.push(line(dispute))?;
+    }
+    Ok(lines)
+}
+
+fn accepts(verdict: Option<Verdict>, p: u32) -> bool {
+    match verdict {
+        Some(Verdict::Accept(accepted)) => accepted == p,
+        _ => false,
+    }
+}
+
+/// An answerer that finds no memory at some of its calls.
+#[derive(Clone, Copy, Debug)]
+struct Forgetful {
+    seated: Seated,
+    calls: u32,
+    /// The first call that finds none, and the first after that which finds some.
+    fails_from: u32,
+    fails_to: u32,
+}
+
+impl Answerer for Forgetful {
+    ghost use Rattle.toy_game.specs.Toy.{answers};
+
+    ghost answers = { λ f. answers f.seated.player };
+
+    fn answer<R: Threads + Sync>(
+        &mut self,
+        rt: &R,
+        question: &Question,
+        passes: u32,
+    ) -> Result<Option<Answer>, Memory> {
+        self.calls = self.calls.wrapping_add(1);
+        if self.fails_from <= self.calls && self.calls < self.fails_to {
+            return Err(Memory);
+        }
+        self.seated.answer(rt, question, passes)
+    }
+}
+
+// An answerer of this player.
+fn answerer_of(alloc: Global, player: Player, fails_from: u32, fails_to: u32) -> Forgetful
+    ensures { result.seated.player ≡ player }
+{
+    Forgetful {
+        seated: Seated { player, alloc },
+        calls: 0,
+        fails_from,
+        fails_to,
+    }
+}
+
+// The book of the match of a late, a lying and a silent prover, of which the late one's answerer fails at some of its calls.
+fn played<R: Threads + Wait + Sync>(
+    rt: &R,
+    alloc: Global,
+    posters: u32,
+    fails_from: u32,
+    fails_to: u32,
+) -> Result<Book<ToyJudge, Cast>, Memory>
+    requires { 0 < posters }
+{
+    let mut players = [SILENT; 16];
+    players[0] = LIAR;
+    players[1] = LATE;
+    players[2] = SILENT_LIAR;
+    let cast = Cast { players, count: 3 };
+    let book = Book::open(alloc, ToyJudge { name: 0 }, cast, 8, 1, root(0))?;
+    let mut answerers = [
+        answerer_of(alloc, LIAR, 0, 0),
+        answerer_of(alloc, LATE, fails_from, fails_to),
+        answerer_of(alloc, SILENT_LIAR, 0, 0),
+    ];
+    play(rt, alloc, book, &mut answerers, posters, &OpenGate)
+}
+
+/// However many posters there are, the match is the one that is played alone: 23 entries, and one record.
+#[test]
+fn all_numbers_of_posters_give_one_match(rt: HostRuntime) -> Result<(), Fail> {
+    for posters in [1, 2, 3, 16] {
+        let book = played(&rt, rt.alloc(), posters, 0, 0)?;
+        assert_eq!(rt; book.journal().len(), 23);
+        assert_eq!(rt;
+            lines(rt.alloc(), book.record())?.as_slice(),
+            LINES.as_slice()
+        );
+        assert!(rt; accepts(book.verdict(), 2));
+    }
+    Ok(())
+}
+
+/// A thousand plays of one small match with sixteen posters give one record.
+#[test]
+fn a_thousand_plays_give_one_record(rt: HostRuntime) -> Result<(), Fail> {
+    for _ in 0..1000 {
+        let book = played(&rt, rt.alloc(), 16, 0, 0)?;
+        assert_eq!(rt;
+            lines(rt.alloc(), book.record())?.as_slice(),
+            LINES.as_slice()
+        );
+    }
+    Ok(())
+}
+
+/// An answerer that finds no memory ends its poster; what is left is played alone. Where it never finds memory again, there is
+/// no book.
+#[test]
+fn an_answerer_without_memory_ends_its_poster(rt: HostRuntime) -> Result<(), Fail> {
+    for posters in [1, 2, 16] {
+        for call in 1..6 {
+            let book = played(&rt, rt.alloc(), posters, call, call + 1)?;
+            assert_eq!(rt; book.journal().len(), 23);
+            assert_eq!(rt;
+                lines(rt.alloc(), book.record())?.as_slice(),
+                LINES.as_slice()
+            );
+            assert!(rt; played(&rt, rt.alloc(), posters, call, u32::MAX).is_err());
+        }
+    }
+    Ok(())
+}
+
+/// How often a prover looks whether the other one came, at most.
+const LOOKS: u32 = 1_000_000_000;
+
+/// A gate at which each of two provers waits until the other one comes with the same question's number.
+#[derive(Drop)]
+struct Meeting {
+    /// Who came: the first prover's five questions, then the second's.
+    came: [AtomicBool; 10],
+    met: AtomicU32,
+}
+
+impl Gate for Meeting {
+    fn before_post(&self, p: u32, qid: Qid) {
+        let question = (qid.round % 5) as usize;
+        let (mine, other) = if p == 1 {
+            (question, question + 5)
+        } else {
+            (question + 5, question)
+        };
+        self.came[mine].store(true, Ordering::SeqCst);
+        for _ in 0..LOOKS {
+            if self.came[other].load(Ordering::SeqCst) {
+                self.met.fetch_add(1, Ordering::SeqCst);
+                return;
+            }
+        }
+    }
+}
+
+// A gate to which nobody came.
+fn empty_meeting() -> Meeting {
+    Meeting {
+        came: [
+            AtomicBool::new(false),
+            AtomicBool::new(false),
+            AtomicBool::new(false),
+            AtomicBool::new(false),
+            AtomicBool::new(false),
+            AtomicBool::new(false),
+            AtomicBool::new(false),
+            AtomicBool::new(false),
+            AtomicBool::new(false),
+            AtomicBool::new(false),
+        ],
+        met: AtomicU32::new(0),
+    }
+}
+
+/// Two posters are at work at once on each of the five questions of a dispute, and neither has the board from its question to its post:
+/// before each post the poster waits until the other prover's post on the same question is about to come.
+#[test]
+fn posters_side_by_side(rt: HostRuntime) -> Result<(), Fail> {
+    let mut players = [SILENT; 16];
+    players[0] = HONEST;
+    players[1] = LIAR;
+    let cast = Cast { players, count: 2 };
+    let book = Book::open(rt.alloc(), ToyJudge { name: 0 }, cast, 8, 0, root(0))?;
+    let mut answerers = [
+        Seated {
+            player: HONEST,
+            alloc: rt.alloc(),
+        },
+        Seated {
+            player: LIAR,
+            alloc: rt.alloc(),
+        },
+    ];
+    let gate = empty_meeting();
+    let played = play(&rt, rt.alloc(), book, &mut answerers, 2, &gate)?;
+    assert_eq!(rt; gate.met.load(Ordering::SeqCst), 10);
+    assert_eq!(rt; played.journal().len(), 10);
+    assert!(rt; accepts(played.verdict(), 1));
+    Ok(())
+}
