@@ -1,4 +1,4 @@
--- The root to which a proof leads is decided by tests.
+-- Derived: the root to which a proof leads is decided by tests. The law `leading_is_decided` has the same as clauses.
 use Rattle.std.proofs.Common.{◌≡◌, ◌↔◌, ℕ, List, Option, Some, None, is_some, Bool, true, false, true≢false, ◌&&◌, refl, sym, ap, ◌∙◌}
 use Rattle.std.specs.Prelude.{bytes_eq, if◌then◌else◌}
 use Rattle.std.proofs.lemmas.Slice.Eq.{bytes_eq-Decides}
@@ -9,21 +9,21 @@ use Rattle.open_proof.specs.Held.{held_by, root_of_held, path_text}
 use Rattle.open_proof.specs.Leads.{Leads, OpensAt, fetch_called, operand_called, root_after}
 use Rattle.open_proof.specs.InRange.{is_in_range}
 use Rattle.open_proof.specs.LeadsTo.{is_called, climbs_at, is_leading, leads_to}
-use Rattle.open_proof.proofs.RangeLemmas.{both-true, and-true}
-use Rattle.open_proof.proofs.CollisionLemmas.{same-digest}
-use Rattle.open_proof.proofs.ShownLemmas.{PathLaws, chunk-climbs}
+use Rattle.open_proof.specs.RangeLaws.{both-true, and-true}
+use Rattle.open_proof.specs.CollisionLaws.{same-digest}
+use Rattle.open_proof.specs.ClimbLaws.{chunk-climbs}
 
-called-shape : (chunk : Option Opening) (address : Option ℕ) → (is_called chunk address ≡ true) ↔ (is_some chunk ≡ is_some address)
+pub called-shape : (chunk : Option Opening) (address : Option ℕ) → (is_called chunk address ≡ true) ↔ (is_some chunk ≡ is_some address)
 called-shape (Some o) (Some addr) = (λ test. refl, λ shape. refl)
 called-shape None None = (λ test. refl, λ shape. refl)
 called-shape (Some o) None = (λ test. absurd (true≢false (sym test)), λ shape. absurd (true≢false shape))
 called-shape None (Some addr) = (λ test. absurd (true≢false (sym test)), λ shape. absurd (true≢false (sym shape)))
 
-module _ (laws : PathLaws) (digest : List ℕ → List ℕ) where
-  climbs-opens : (mem : List ℕ) (chunk : Option Opening) (address : Option ℕ) → (climbs_at digest mem chunk address ≡ true) ↔ OpensAt digest mem chunk address
+module _ (digest : List ℕ → List ℕ) where
+  pub climbs-opens : (mem : List ℕ) (chunk : Option Opening) (address : Option ℕ) → (climbs_at digest mem chunk address ≡ true) ↔ OpensAt digest mem chunk address
   climbs-opens mem (Some o) (Some addr) =
       let decides = bytes_eq-Decides mem (digest (path_text digest o addr 27)) in
-      let climbs = chunk-climbs laws digest mem o addr in
+      let climbs = chunk-climbs digest mem o addr in
       (λ test. climbs.1 (decides.0 test), λ opens. decides.1 (climbs.0 opens))
   climbs-opens mem None None = (λ test. tt, λ opens. refl)
   climbs-opens mem (Some o) None = (λ test. tt, λ opens. refl)

@@ -1,4 +1,5 @@
--- Two different proofs that lead from one root have two different strings of one digest.
+-- Derived: two different proofs that lead from one root have two different strings of one digest. The law
+-- `proofs_from_one_root` has the same as clauses.
 use Rattle.std.proofs.Common.{◌≡◌, ℕ, zero, suc, ◌+◌, ◌/◌, ◌<◌, ◌≤◌, ◌⊎◌, inl, inr, List, [], length, Option, Some, None, is_some, Bool, true, false, ◌&&◌, Contains, refl, sym, ap, ◌∙◌, subst, arith, ⊎_elim}
 use Rattle.std.specs.Prelude.{bytes_eq, if◌then◌else◌}
 use Rattle.std.proofs.lemmas.Bool.{cases_eq}
@@ -11,6 +12,7 @@ use Rattle.rd_base.specs.declared.proof.StepProof.{StepProof}
 use Rattle.digest_core.specs.Text.{leaf_text, registers_text}
 use Rattle.digest_core.specs.TextLaws.{cons_parts}
 use Rattle.merkle_nodes.specs.Node.{digest_at}
+use Rattle.merkle_nodes.specs.PathLaws.{one_opening}
 use Rattle.out_chain.specs.Root.{control_text_of}
 use Rattle.out_chain.specs.Collision.{first_collision}
 use Rattle.out_chain.specs.ClaimLaws.{collision-none, collision_of_same, first-collides}
@@ -18,9 +20,9 @@ use Rattle.open_proof.specs.Held.{Held, held_by, root_of_held, text_of_held, pat
 use Rattle.open_proof.specs.Leads.{Leads, OpensAt, fetch_address, fetched_in, fetch_called, operand_address, operand_called}
 use Rattle.open_proof.specs.Opened.{texts_from, chunk_texts, part_texts, fetch_texts, operand_texts, opened_by_step}
 use Rattle.open_proof.specs.Collision.{first_there, opened_collision, step_collision, IsStepCollision}
-use Rattle.open_proof.proofs.RangeLemmas.{IsInRange, IsPathInRange, IsOpeningInRange}
-use Rattle.open_proof.proofs.PartsLemmas.{state-parts, parts-same}
-use Rattle.open_proof.proofs.ShownLemmas.{PathLaws, chunk-climbs}
+use Rattle.open_proof.specs.RangeLaws.{IsInRange, IsPathInRange, IsOpeningInRange}
+use Rattle.open_proof.specs.PartsLaws.{state-parts, parts-same}
+use Rattle.open_proof.specs.ClimbLaws.{chunk-climbs}
 
 -- neither of two is there
 none-there : {A : Type 0} (first other : Option A) → first_there first other ≡ None → (first ≡ None) × (other ≡ None)
@@ -42,7 +44,7 @@ texts-agree digest f g m (suc n) none l low high one =
 pub same-digest : (x y : Digest32) → x.0 ≡ y.0 → x ≡ y
 same-digest x y same = λ i. record { 0 = same i }
 
-module _ (laws : PathLaws) (digest : List ℕ → List ℕ) (is_digest : (bytes : List ℕ) → length (digest bytes) ≡ 32) where
+module _ (digest : List ℕ → List ℕ) (is_digest : (bytes : List ℕ) → length (digest bytes) ≡ 32) where
   openings-same : (mem : List ℕ) (x y : Opening) (addr : ℕ) → IsPathInRange x → IsPathInRange y
       → mem ≡ digest (path_text digest x addr 27) → mem ≡ digest (path_text digest y addr 27)
       → first_collision digest (texts_from (path_text digest x addr) 0 28) (texts_from (path_text digest y addr) 0 28) ≡ None → x ≡ y
@@ -54,7 +56,7 @@ module _ (laws : PathLaws) (digest : List ℕ → List ℕ) (is_digest : (bytes 
       λ i. record { chunk = chunk i; path = record { 0 = path i } })
       (λ split. absurd (split.2.differ
       (texts-agree digest (path_text digest x addr) (path_text digest y addr) 0 28 none split.0 (omega arith) (omega arith) split.2.agree)))
-      (laws.paths digest is_digest (leaf_text x.chunk) (leaf_text y.chunk) (digest_at x.path.0) (digest_at y.path.0) (addr / 32) 27
+      (one_opening digest is_digest (leaf_text x.chunk) (leaf_text y.chunk) (digest_at x.path.0) (digest_at y.path.0) (addr / 32) 27
       (λ l below. x_range.sizes l below ∙ sym (y_range.sizes l below)) (sym x_climbs ∙ y_climbs))
 
   chunks-same : (mem : List ℕ) (x y : Option Opening) (address : Option ℕ) → IsOpeningInRange x → IsOpeningInRange y
@@ -68,7 +70,7 @@ module _ (laws : PathLaws) (digest : List ℕ → List ℕ) (is_digest : (bytes 
   chunks-same mem (Some x) None (Some addr) x_range y_range x_shape y_shape x_opens y_opens none = absurd cc
   chunks-same mem (Some x) (Some y) None x_range y_range x_shape y_shape x_opens y_opens none = absurd cc
   chunks-same mem (Some x) (Some y) (Some addr) x_range y_range x_shape y_shape x_opens y_opens none =
-      ap Some (openings-same mem x y addr x_range y_range ((chunk-climbs laws digest mem x addr).0 x_opens) ((chunk-climbs laws digest mem y addr).0 y_opens) none)
+      ap Some (openings-same mem x y addr x_range y_range ((chunk-climbs digest mem x addr).0 x_opens) ((chunk-climbs digest mem y addr).0 y_opens) none)
 
   proof-same : (x y : StepProof) → held_by x ≡ held_by y → x.fetch ≡ y.fetch → x.operand ≡ y.operand → x ≡ y
   proof-same x y held fetch operand =

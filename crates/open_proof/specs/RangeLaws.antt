@@ -1,4 +1,4 @@
--- What the ranges of a proof's types say.
+-- Derived: what the ranges of a proof's types say.
 use Rattle.std.proofs.Common.{◌≡◌, ℕ, zero, suc, ◌^◌, ◌<◌, ltb, List, [], ◌∷◌, length, slice_index, Bool, true, false, true≢false, ◌&&◌, Option, Some, None, eqb, refl, sym, arith}
 use Rattle.std.proofs.lemmas.Bool.Decides.{Decides-eqb, Decides-ltb}
 use Rattle.rd_base.specs.declared.digest.Digest32.{Digest32}

@@ -1,10 +1,10 @@
--- Parts with the same strings are the same.
+-- Derived: parts with the same strings are the same.
 use Rattle.std.proofs.Common.{◌≡◌, ℕ, List, length, sym, ◌∙◌}
 use Rattle.digest_core.specs.Text.{registers_text}
 use Rattle.digest_core.specs.TextLaws.{cons_parts, registers_text_same, control_text_same, state_text_same}
 use Rattle.out_chain.specs.Root.{control_text_of}
 use Rattle.open_proof.specs.Held.{Held, text_of_held}
-use Rattle.open_proof.proofs.RangeLemmas.{IsHeldInRange}
+use Rattle.open_proof.specs.RangeLaws.{IsHeldInRange}
 
 held-same : (p q : Held) → p.mem ≡ q.mem → p.regs ≡ q.regs → p.ctl.pc ≡ q.ctl.pc → p.ctl.status ≡ q.ctl.status
     → p.ctl.out_len ≡ q.ctl.out_len → p.ctl.chain.0 ≡ q.ctl.chain.0 → p ≡ q

@@ -1,11 +1,24 @@
--- Two paths to one digest agree, or two different strings have one digest.
+-- Derived: opening from above is climbing from below, and two paths to one digest agree, or two different strings have one
+-- digest. The laws `climbing_is_opening` and `two_paths_agree_or_split` have the same as clauses.
 use Rattle.std.proofs.Common.{◌≡◌, ℕ, zero, suc, ◌/◌, ◌%◌, ◌^◌, ◌<◌, ◌≤◌, ◌⊎◌, inl, inr, List, [], ◌∷◌, ◌++◌, length, Bool, true, false, true≢false, refl, sym, ap, ◌∙◌, subst, arith, ⊎_elim}
 use Rattle.std.specs.Prelude.{bytes_eq}
 use Rattle.std.proofs.lemmas.Bool.{eq-eqb, ne_eqb, cases_eq}
 use Rattle.std.proofs.lemmas.Slice.Eq.{bytes_eq-Decides}
 use Rattle.digest_core.specs.Text.{node_text}
-use Rattle.merkle_nodes.specs.Opening.{joined, opened}
+use Rattle.merkle_nodes.specs.Opening.{joined, Opens, opened}
 use Rattle.merkle_nodes.specs.Split.{IsSplitAt}
+
+module _ (digest : List ℕ → List ℕ) (leaf : List ℕ) (siblings : ℕ → List ℕ) where
+  -- climbing from below is opening from above
+  pub opens-climbs : (n k : ℕ) (d : List ℕ) → Opens digest leaf siblings n k d → d ≡ digest (opened digest leaf siblings n k)
+  unfolding Opens opened
+  opens-climbs zero k d opens = opens
+  opens-climbs (suc l) k d opens = opens.1 ∙ ap (λ c. digest (joined (k / 2 ^ l % 2) c (siblings l))) (opens-climbs l k opens.0 opens.2)
+
+  pub climbs-opens : (n k : ℕ) (d : List ℕ) → d ≡ digest (opened digest leaf siblings n k) → Opens digest leaf siblings n k d
+  unfolding Opens opened
+  climbs-opens zero k d climbs = climbs
+  climbs-opens (suc l) k d climbs = (digest (opened digest leaf siblings l k), climbs, climbs-opens l k _ refl)
 
 append-left : (a b c d : List ℕ) → length a ≡ length c → a ++ b ≡ c ++ d → (a ≡ c) × (b ≡ d)
 append-left [] b [] d len e = (refl, e)

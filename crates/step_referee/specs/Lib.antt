@@ -1,0 +1,6 @@
+pub mod HeldParts
+pub mod Checked
+pub mod Refusal
+pub mod MachineRuling
+pub mod MachineTruth
+pub mod MachineFair
