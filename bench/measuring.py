@@ -1,8 +1,10 @@
 """Measures the processor time and the peak memory of commands whose answers are known, for `run` beside this file."""
+import collections
 import ctypes
 import os
 import subprocess
 import sys
+import time
 
 RUNS = 10
 
@@ -22,8 +24,12 @@ def adopt_orphans():
         sys.exit(f"bench: prctl: {os.strerror(ctypes.get_errno())}")
 
 
-def measured(command, source, sink, answer):
-    """The processor time of a command in seconds, and its peak memory in bytes. `answer` is how many lines it prints, and the last.
+# How a command ended: its exit status, processor time and time by the clock in seconds, peak memory in bytes.
+Ended = collections.namedtuple("Ended", "status processor clock peak")
+
+
+def ended(command, source, sink):
+    """Runs a command, its standard input from one file and its standard output to another.
 
     Linux counts what a process held before it became the command too. Python's child would hold more than the command
     does, so the process is made by a shell, which then ends and leaves it to this process to wait for. It becomes the
@@ -32,15 +38,29 @@ def measured(command, source, sink, answer):
     gate, opening = os.pipe()
     shell = subprocess.run(["sh", "-c", SHELL, "sh", source, sink, *command], stdin=gate, stdout=subprocess.PIPE, check=True)
     os.close(gate)
+    start = time.monotonic()
     os.write(opening, b"\n")
     _, status, usage = os.wait4(int(shell.stdout), 0)
+    clock = time.monotonic() - start
     os.close(opening)
+    return Ended(os.waitstatus_to_exitcode(status), usage.ru_utime + usage.ru_stime, clock, usage.ru_maxrss * 1024)
+
+
+def answered(command, source, sink, answer):
+    """How a command ended that has to end in status 0 and print so many lines, and this one last."""
+    end = ended(command, source, sink)
     lines = sink.read_bytes().splitlines(keepends=True)
     last = lines[-1] if lines else b""
-    if status != 0 or (len(lines), last) != answer:
-        ended = f"exit status {os.waitstatus_to_exitcode(status)}, {len(lines)} lines and at last {last[:80]!r}"
-        raise Wrong(f"{ended} instead of 0, {answer[0]} and {answer[1][:80]!r}")
-    return usage.ru_utime + usage.ru_stime, usage.ru_maxrss * 1024
+    if end.status != 0 or (len(lines), last) != answer:
+        found = f"exit status {end.status}, {len(lines)} lines and at last {last[:80]!r}"
+        raise Wrong(f"{found} instead of 0, {answer[0]} and {answer[1][:80]!r}")
+    return end
+
+
+def measured(command, source, sink, answer):
+    """The processor time of a command in seconds, and its peak memory in bytes. `answer` is how many lines it prints, and the last."""
+    end = answered(command, source, sink, answer)
+    return end.processor, end.peak
 
 
 class Figure:

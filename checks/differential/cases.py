@@ -36,6 +36,45 @@ def output_manner(value):
     return '[{"manner": {"kind": "output", "bytes": %s}}]' % value
 
 
+# Scripts ('Provers'): the key of a prover, the kind, and for each of the kind's keys the least and the greatest number.
+MOST = 2**32 - 1
+SCRIPTS = [
+    ("tamper", "flip", {"step": (0, MOST), "addr": (0, MOST), "mask": (0, 255)}),
+    ("tamper", "reg", {"step": (0, MOST), "reg": (1, 31), "value": (0, MOST)}),
+    ("tamper", "early", {"steps": (0, MOST)}),
+    ("manner", "late", {"passes": (0, 1000)}),
+    ("manner", "silent", {"from": (0, 64)}),
+]
+
+
+def script_text(what, kind, keys):
+    """A good case with this script; a value is JSON text, and None leaves its key out."""
+    pairs = [f'"kind": "{kind}"', *(f'"{key}": {value}' for key, value in keys.items() if value is not None)]
+    return text_with(provers='[{"%s": {%s}}]' % (what, ", ".join(pairs)))
+
+
+def script_rows():
+    for what, kind, ranges in SCRIPTS:
+        for place, word in enumerate(("least", "greatest")):
+            keys = {key: str(ends[place]) for key, ends in ranges.items()}
+            yield f"{kind} with the {word} numbers", script_text(what, kind, keys), ANSWER
+            yield f"{kind} with another key", script_text(what, kind, {**keys, "note": "[]"}), ANSWER
+        for key, (least, greatest) in ranges.items():
+            for value in (None, "null", '"1"', "1.0", "1e0", "-1", "-0", "[]", str(greatest + 1), str(2**64)):
+                bad = script_text(what, kind, {**keys, key: value})
+                yield f"{kind} with {key} {value}", bad, "fault case 7 1"
+            if least > 0:
+                yield f"{kind} with {key} {least - 1}", script_text(what, kind, {**keys, key: str(least - 1)}), "fault case 7 1"
+        yield f"{kind} under the other key", script_text("manner" if what == "tamper" else "tamper", kind, keys), "fault case 7 1"
+        yield f"{kind} in upper case", script_text(what, kind.upper(), keys), "fault case 7 1"
+    early, late = '"tamper": {"kind": "early", "steps": 3}', '"manner": {"kind": "late", "passes": 2}'
+    yield "a tamper and a manner", text_with(provers="[{%s, %s}]" % (early, late)), ANSWER
+    yield "a good tamper and a bad manner", text_with(provers='[{}, {%s, "manner": 1}]' % early), "fault case 7 2"
+    yield "a bad tamper and a good manner", text_with(provers='[{}, {}, {"tamper": 1, %s}]' % late), "fault case 7 3"
+    yield "a bad tamper, then none", text_with(provers='[{"tamper": 1, %s}]' % early), ANSWER
+    yield "the first of two bad provers", text_with(provers='[{}, {"tamper": {}}, 5]'), "fault case 7 2"
+
+
 # What it is, the text or bytes, the answer
 ROWS = [
     # Taken
@@ -109,11 +148,13 @@ ROWS = [
     *[
         (f"prover {value}", text_with(provers=f"[{value}]"), "fault case 7 1")
         for value in (
-            "null", "[]", '{"tamper": null}', '{"manner": null}', '{"manner": {}}', '{"manner": "output"}',
+            "null", "[]", '{"tamper": null}', '{"tamper": []}', '{"tamper": {}}', '{"tamper": {"kind": "flop", "step": 1}}',
+            '{"tamper": {"kind": 1, "steps": 1}}', '{"manner": null}', '{"manner": {}}', '{"manner": "output"}',
             '{"manner": {"kind": "output"}}', '{"manner": {"kind": "Output", "bytes": "2b"}}',
             '{"manner": {"kind": "none"}}',
         )
     ],
+    *script_rows(),
     *[
         (f"claimed {value}", text_with(provers=output_manner(value)), "fault case 7 1")
         for value in ("42", '"2"', '"2g"')

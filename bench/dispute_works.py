@@ -1,0 +1,114 @@
+"""The cases by which `run` beside this file tells how long a match takes."""
+import json
+import struct
+
+from measuring import Wrong, answered
+
+RUNS = 3
+BOUNDS = [2**10, 2**16, 2**20, 2**24]
+PROVERS_BOUND = 2**20
+PROVERS = 16
+POSTERS, WORKERS = [1, 2, 4, 16], [1, 4]
+BIG_POSTERS = [1, 2, 4, 8]
+BIG_LINE = b"big 0 provers 8 disputes 7 rounds 112 accept exited 0 output f504\n"
+RUNNING = b"accept running output\n"
+
+# A flat image, as in `run`. It never ends, so that each bound is a run of so many steps.
+STORING_ON = [
+    0x00020337,  #       lui  x6, 0x20        # the page at 0x00020000
+    0x000013B7,  #       lui  x7, 0x1
+    0xFFC38393,  #       addi x7, x7, -4      # 0x00000ffc: the offset of a word in a page
+    0x00229E13,  # loop: slli x28, x5, 2
+    0x007E7E33,  #       and  x28, x28, x7
+    0x006E0E33,  #       add  x28, x28, x6
+    0x005E2023,  #       sw   x5, 0(x28)
+    0x00128293,  #       addi x5, x5, 1
+    0xFEDFF06F,  #       jal  x0, loop
+]
+COUNT_REGISTER = 5
+
+
+def liar(step, number):
+    """A prover whose count is another one from a step on, and another one than that of every other liar."""
+    return {"tamper": {"kind": "reg", "step": step, "reg": COUNT_REGISTER, "value": 2**31 + number * 2**25}}
+
+
+def case(bound, provers):
+    image = b"".join(struct.pack("<I", word) for word in STORING_ON)
+    return {"format": "flat", "image": image.hex(), "input": "", "bound": bound, "patience": 0, "provers": provers}
+
+
+def rounds(bound):
+    """Of a power of two; a dispute has so many lines more, and two others: its own and that of the proof."""
+    return bound.bit_length() - 1
+
+
+class Timing:
+    """The least time by the clock and of the processors of some runs, and the most memory."""
+
+    def __init__(self, words, source, folder, answer):
+        self.clock, self.processor, self.peak = float("inf"), float("inf"), 0
+        for _ in range(RUNS):
+            end = answered(words, source, folder / "answer", answer)
+            self.clock = min(self.clock, end.clock)
+            self.processor = min(self.processor, end.processor)
+            self.peak = max(self.peak, end.peak)
+
+    def __str__(self):
+        return f"{self.clock:9.3f} s   {self.processor:9.3f} s of processors   {self.peak / 1e6:8.1f} MB"
+
+
+def written(folder, name, tree):
+    source = folder / name
+    source.write_text(json.dumps(tree))
+    return source
+
+
+def two_provers(program, folder):
+    """A dispute at each bound, beside one plain run."""
+    for bound in BOUNDS:
+        name = f"dispute, bound 2^{rounds(bound)}"
+        source = written(folder, f"dispute_{bound}.json", case(bound, [{}, liar(2 * bound // 3, 1)]))
+        lines = 1 + 2 + 1 + rounds(bound) + 2 + 1
+        try:
+            match = Timing([program, "judge"], source, folder, (lines, RUNNING))
+            run = Timing([program, "run"], source, folder, (1, b"answer running output\n"))
+            yield f"{name:32} {match}   one run: {run.clock:7.3f} s"
+        except Wrong as error:
+            yield f"{name:32} WRONG: {error}"
+
+
+def shared(name, command, source, folder, answer, posters):
+    """The same match with other numbers of posters and workers."""
+    first = None
+    for workers in WORKERS:
+        for count in posters:
+            line = f"{name}, K {count}, W {workers}"
+            try:
+                timing = Timing([*command, "--posters", str(count), "--workers", str(workers)], source, folder, answer)
+            except Wrong as error:
+                yield f"{line:32} WRONG: {error}"
+                continue
+            first = first or timing.clock
+            yield f"{line:32} {timing}   {first / timing.clock:5.2f} times as fast as the first"
+
+
+def many_provers(program, folder):
+    """Sixteen provers of sixteen roots: eight disputes side by side, then four, two and one."""
+    bound = PROVERS_BOUND
+    provers = [liar(bound // PROVERS * (number - 1) + 9, number) for number in range(1, PROVERS)] + [{}]
+    source = written(folder, "provers.json", case(bound, provers))
+    lines = 1 + PROVERS + (PROVERS.bit_length() - 1) + (PROVERS - 1) * (rounds(bound) + 2) + 1
+    return shared("16 provers, 2^20", [program, "judge"], source, folder, (lines, RUNNING), POSTERS)
+
+
+def large_workload(program, folder):
+    source = folder / "nothing"
+    source.write_bytes(b"")
+    return shared("big 0", [program, "big", "0"], source, folder, (1, BIG_LINE), BIG_POSTERS)
+
+
+def dispute_lines(program, folder):
+    """The lines about matches."""
+    for lines in two_provers, many_provers, large_workload:
+        yield from lines(program, folder)
