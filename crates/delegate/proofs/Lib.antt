@@ -1,3 +1,4 @@
+pub mod EndingLemmas
 pub mod HeadlineLemmas
 pub mod OutcomeLemmas
 pub mod ProcessLemmas

@@ -1,4 +1,4 @@
-ghost use Rattle.std.specs.Prelude.{◌≡◌, ℕ, List, [], ◌∷◌, Some, codes};
+ghost use Rattle.std.specs.Prelude.{◌≡◌, ℕ, List, [], ◌∷◌, Some, None, codes};
 ghost use Rattle.delegate.specs.Words.{chosen};
 
 use crate::words::Command;
@@ -9,4 +9,15 @@ pub fn plain_words()
     ensures judge { (program : List ℕ) → chosen (program ∷ codes "judge" ∷ []) ≡ Some Command.Judge }
     ensures run { (program : List ℕ) → chosen (program ∷ codes "run" ∷ []) ≡ Some Command.Run }
     ensures roots { (program : List ℕ) → chosen (program ∷ codes "roots" ∷ []) ≡ Some Command.Roots }
+{}
+
+/// The options of `judge` are taken at the ends of their ranges, in any order, and refused beyond them.
+#[tactic(auto, using(crate::proofs::WordsLemmas::least_numbers_are_taken, crate::proofs::WordsLemmas::most_numbers_are_taken, crate::proofs::WordsLemmas::no_workers_are_refused, crate::proofs::WordsLemmas::more_workers_are_refused, crate::proofs::WordsLemmas::more_posters_are_refused, crate::proofs::WordsLemmas::more_steps_are_refused))]
+pub fn plain_options()
+    ensures least { (program : List ℕ) → chosen (program ∷ codes "judge" ∷ codes "--workers" ∷ codes "1" ∷ codes "--posters" ∷ codes "1" ∷ codes "--every" ∷ codes "1" ∷ []) ≡ Some Command.Judge }
+    ensures most { (program : List ℕ) → chosen (program ∷ codes "judge" ∷ codes "--every" ∷ codes "65536" ∷ codes "--posters" ∷ codes "16" ∷ codes "--workers" ∷ codes "64" ∷ []) ≡ Some Command.Judge }
+    ensures no_workers { (program : List ℕ) → chosen (program ∷ codes "judge" ∷ codes "--workers" ∷ codes "0" ∷ []) ≡ None }
+    ensures more_workers { (program : List ℕ) → chosen (program ∷ codes "judge" ∷ codes "--workers" ∷ codes "65" ∷ []) ≡ None }
+    ensures more_posters { (program : List ℕ) → chosen (program ∷ codes "judge" ∷ codes "--posters" ∷ codes "17" ∷ []) ≡ None }
+    ensures more_steps { (program : List ℕ) → chosen (program ∷ codes "judge" ∷ codes "--every" ∷ codes "65537" ∷ []) ≡ None }
 {}

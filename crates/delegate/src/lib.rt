@@ -10,6 +10,7 @@ mod answered;
 mod claims;
 mod faults;
 mod judging;
+mod playing;
 mod laws;
 mod process;
 mod program;
@@ -21,10 +22,10 @@ mod stages;
 mod words;
 
 pub use answered::Answered;
-pub use laws::plain_words;
+pub use laws::{plain_options, plain_words};
 pub use process::{arguments, run_process};
 pub use program::run;
-pub use words::Command;
+pub use words::{Command, Options};
 
 #[cfg(test)]
 mod tests;

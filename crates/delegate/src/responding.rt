@@ -15,7 +15,7 @@ use crate::response::{Halt, Response, Stop};
 use crate::rooting::roots;
 use crate::running::run_program;
 use crate::stages::{bound_in, bytes_in, case_in, command_in, image_in};
-use crate::words::Command;
+use crate::words::{Command, Request};
 use case_reader::Case;
 use digest_core::{Digester, Sha256};
 use io_edge::Source;
@@ -29,16 +29,16 @@ fn end<R: Threads + Sync, D: Digester>(
     rt: &R,
     alloc: Global,
     d: D,
-    command: Command,
+    request: Request,
     case: &Case,
     start: Machine,
 ) -> Result<Response, Memory>
 where
     D: Send + Sync,
     requires { IsChained D.digest_of start }
-    ensures { IfOk result (λ response. response ≡ ended D.digest_of command (data_of case.now) (state_of start)) }
+    ensures { IfOk result (λ response. response ≡ ended D.digest_of request.command (data_of case.now) (state_of start)) }
 {
-    match command {
+    match request.command {
         Command::Judge => judge(alloc, d, case, start),
         Command::Run => run_program(alloc, d, case, start),
         Command::Roots => roots(rt, alloc, d, case, start),
@@ -62,13 +62,13 @@ fn carry_out<R: Threads + Sync, S: Source>(
     ensures fault { result ≡ Err (Stop.Halted Halt.ReadFault) → Rises (S.faults source.old) (S.faults source.new) }
     ensures count { ¬ (result ≡ Err (Stop.Halted Halt.ReadFault)) → S.faults source.new ≡ S.faults source.old }
 {
-    let command = command_in(alloc, words)?;
+    let request = command_in(alloc, words)?;
     let bytes = bytes_in(alloc, source)?;
     let case = case_in(alloc, bytes.as_slice())?;
-    bound_in(alloc, command, &case)?;
+    bound_in(alloc, request.command, &case)?;
     let loaded = image_in(alloc, &case)?;
     let start = Machine::new(alloc, loaded.mem, loaded.entry, case.input.as_slice())?;
-    Ok(end(rt, alloc, Sha256, command, &case, start)?)
+    Ok(end(rt, alloc, Sha256, request, &case, start)?)
 }
 
 /// The response to the arguments and to what the source has, which is read only where the arguments name a command.
