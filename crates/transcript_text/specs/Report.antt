@@ -1,15 +1,14 @@
 -- To believe. The report of a match, and the line that answers with a run. Numbers are decimal, bytes hexadecimal in lower case, and each line ends with a line feed.
-use Rattle.std.specs.Prelude.{ℕ, zero, suc, ◌+◌, List, [], ◌∷◌, ◌++◌, Option, Some, None, codes, decimal, slice_get}
+use Rattle.std.specs.Prelude.{ℕ, List, Bool, true, false, [], ◌∷◌, ◌++◌, Option, Some, None, codes, decimal}
 use Rattle.hex.specs.Hex.{encode_lower}
 use Rattle.rd_base.specs.Status.{status_text}
 use Rattle.rd_base.specs.declared.status.Status.{Status}
+use Rattle.tournament.specs.declared.verdict.Verdict.{Verdict}
+use Rattle.tournament.specs.Bracket.{Record}
 use Rattle.transcript_text.specs.Digest.{digest_text}
-use Rattle.transcript_text.specs.declared.record.Head.{Head}
-use Rattle.transcript_text.specs.declared.record.Settled.{Settled}
-use Rattle.transcript_text.specs.declared.record.Settled.TheVariants.{Given, Faulty}
-use Rattle.transcript_text.specs.declared.record.Record.{Record}
-use Rattle.transcript_text.specs.declared.record.Verdict.{Verdict}
-use Rattle.transcript_text.specs.declared.record.Verdict.TheVariants.{Accept, NoneLeft}
+use Rattle.transcript_text.specs.Words.{word_text}
+use Rattle.transcript_text.specs.Lines.{Said, Line, claim_line, out_line, stage_line, dispute_line, compared_line, round_line, step_line, accept_line, none_left_line, collision_line, lines_of_record, line_of_verdict}
+use Rattle.transcript_text.specs.declared.head.Head.{Head}
 
 -- a space and the bytes, where there are any
 abbrev pub output_text : List ℕ → List ℕ
@@ -34,32 +33,42 @@ committed_text head = codes " version " ++ decimal head.version ++ codes " fan "
 abbrev pub head_line : Head → List ℕ
 head_line head = played_text head ++ patience_text head ++ committed_text head ++ codes "\n"
 
--- the line of a prover: what it claims, or that it is out
-abbrev pub claim_line : ℕ → Settled → List ℕ
-claim_line prover (Given claim) = codes "p" ++ decimal prover ++ codes " claims " ++ answer_text claim.status claim.output ++ codes "\n"
-claim_line prover (Faulty claim) = codes "out p" ++ decimal prover ++ codes " faulty\n"
+-- the rest of a line that says something of both sides
+abbrev pub said_text : Said → List ℕ
+said_text said =
+    codes " p" ++ (decimal said.first ++ (codes " " ++ (word_text said.of_first ++ (codes " p" ++ (decimal said.second ++ (codes " " ++ (word_text said.of_second ++ codes "\n")))))))
 
--- the lines of provers, the first of which has this number
-abbrev pub claim_lines : ℕ → List Settled → List ℕ
-claim_lines number [] = []
-claim_lines number (settled ∷ others) = claim_line number settled ++ claim_lines (number + 1) others
+-- the rest of a line that compares two roots
+abbrev pub compared_text : Bool → List ℕ
+compared_text true = codes " same\n"
+compared_text false = codes " differ\n"
 
--- the line of a claim that is accepted; there is none for a claim that wasn't given
-abbrev pub accept_line : Option Settled → List ℕ
-accept_line (Some (Given claim)) = codes "accept " ++ answer_text claim.status claim.output ++ codes "\n"
-accept_line _ = []
+-- where a round asks for a root
+abbrev pub round_text : ℕ → ℕ → List ℕ
+round_text number mid = codes "round " ++ (decimal number ++ (codes " at " ++ decimal mid))
 
--- what is settled of a prover, by its number from 1
-abbrev pub settled_at : List Settled → ℕ → Option Settled
-settled_at claims zero = None
-settled_at claims (suc before) = slice_get claims before
+abbrev pub line_text : Line → List ℕ
+line_text (claim_line p status output) = codes "p" ++ (decimal p ++ (codes " claims " ++ (answer_text status output ++ codes "\n")))
+line_text (out_line p word) = codes "out p" ++ (decimal p ++ (codes " " ++ (word_text word ++ codes "\n")))
+line_text (stage_line stage) = codes "stage " ++ (decimal stage ++ codes "\n")
+line_text (dispute_line number first second) = codes "dispute " ++ (decimal number ++ (codes " p" ++ (decimal first ++ (codes " p" ++ (decimal second ++ codes "\n")))))
+line_text (compared_line number mid same) = round_text number mid ++ compared_text same
+line_text (round_line number mid said) = round_text number mid ++ said_text said
+line_text (step_line lo said) = codes "step " ++ (decimal lo ++ said_text said)
+line_text (accept_line status output) = codes "accept " ++ (answer_text status output ++ codes "\n")
+line_text none_left_line = codes "none left\n"
+line_text (collision_line x y) = codes "collision " ++ (encode_lower x ++ (codes " " ++ (encode_lower y ++ codes "\n")))
 
-abbrev pub verdict_line : List Settled → Verdict → List ℕ
-verdict_line claims (Accept number) = accept_line (settled_at claims number)
-verdict_line claims NoneLeft = codes "none left\n"
+abbrev pub text_if_there : Option Line → List ℕ
+text_if_there (Some line) = line_text line
+text_if_there None = []
+
+abbrev pub lines_text : List (Option Line) → List ℕ
+lines_text [] = []
+lines_text (l ∷ ls) = text_if_there l ++ lines_text ls
 
 abbrev pub report_text : Head → Record → Verdict → List ℕ
-report_text head match_record verdict = head_line head ++ claim_lines 1 match_record.claims ++ verdict_line match_record.claims verdict
+report_text head match_record verdict = head_line head ++ (lines_text (lines_of_record match_record) ++ text_if_there (line_of_verdict match_record.claims verdict))
 
 -- the line that answers with the status and the output of a run
 abbrev pub answer_line_text : Status → List ℕ → List ℕ

@@ -1,7 +1,6 @@
 ghost use Rattle.std.specs.Prelude.{Some};
 ghost use Rattle.transcript_text.specs.Digest.{digest_text};
 
-use rd_base::{Bytes, Listed, Status};
 use std::fmt;
 
 /// The digest of a match's commitments.
@@ -35,35 +34,4 @@ pub struct Head {
     /// Into how many parts a round cuts its interval.
     pub fan: u32,
     pub digest: DigestName,
-}
-
-/// What a prover claims: the status at the bound, and the output.
-#[derive(Debug, Drop)]
-pub struct Claim {
-    pub status: Status,
-    pub output: Bytes,
-}
-
-/// An answer that is settled.
-#[derive(Debug, Drop)]
-pub enum Settled {
-    /// A claim that stands.
-    Given(Claim),
-    /// A claim that puts its prover out.
-    Faulty(Claim),
-}
-
-/// What is settled in a match: the claims, the first of which is that of prover 1.
-#[derive(Debug, Drop)]
-pub struct Record {
-    pub claims: Listed<Settled>,
-}
-
-/// How a match ends.
-#[derive(Clone, Copy, Debug, PartialEq, Eq)]
-pub enum Verdict {
-    /// The claim of this prover stands.
-    Accept(u32),
-    /// Every prover is out.
-    NoneLeft,
 }

@@ -1,15 +1,20 @@
 //! The texts that a match leaves.
 //!
-//! The layers above may rely on this: the report is the text `report_text` of the match's head, record and verdict, and the
-//! line of a root is `root_line`. Read `record` first, then `reporting`.
+//! The layers above may rely on this: the report is the text `report_text` of the match's head, record and verdict, whose
+//! lines are listed by `lines_of_record` and `line_of_verdict`, so that what a report says of a prover can be read off them;
+//! and the line of a root is `root_line`. Read `specs/Lines.antt` and `specs/Report.antt` first, then `reporting`.
 #![tactic(auto)]
 
-mod record;
+mod answer;
+mod claims;
+mod disputes;
+mod head;
 mod reporting;
 mod roots;
-#[cfg(test)]
-mod tests;
+mod word;
 
-pub use record::{Claim, DigestName, Head, Record, Settled, Verdict};
-pub use reporting::{answer_line, report};
+pub use answer::answer_line;
+pub use head::{DigestName, Head};
+pub use reporting::report;
 pub use roots::add_root_line;
+pub use word::Word;

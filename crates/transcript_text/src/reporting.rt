@@ -1,28 +1,17 @@
-ghost use Rattle.std.specs.Prelude.{◌≡◌, ◌++◌, ◌+◌, string_bytes, IfOk, OnOk};
-ghost use Rattle.transcript_text.specs.Report.{answer_text, played_text, patience_text, committed_text, head_line, claim_line, claim_lines, settled_at, verdict_line, report_text, answer_line_text};
+ghost use Rattle.std.specs.Prelude.{◌≡◌, ◌++◌, string_bytes, IfOk, OnOk};
 ghost use Rattle.std.specs.Option.{option_copied};
+ghost use Rattle.transcript_text.specs.Lines.{settled_at, line_of_accepted, line_of_verdict, collision_line, lines_of_record};
+ghost use Rattle.transcript_text.specs.Report.{played_text, patience_text, committed_text, head_line, line_text, text_if_there, lines_text, report_text};
 
-use crate::record::{Head, Record, Settled, Verdict};
-use rd_base::{Memory, Status};
+use crate::answer::add_answer;
+use crate::claims::add_claims;
+use crate::disputes::add_disputes;
+use crate::head::Head;
+use bisect_game::Settled;
+use rd_base::{Answer, Memory};
 use std::alloc::{AllocError, Global};
 use std::fmt::Write;
-
-/// Adds a status and an output, in hexadecimal where it isn't empty.
-fn add_answer(
-    text: &mut String,
-    alloc: Global,
-    status: Status,
-    output: &[u8],
-) -> Result<(), AllocError>
-    ensures { OnOk result (string_bytes text.new ≡ string_bytes text.old ++ answer_text status output.now) }
-{
-    write!(text, "{status} output")?;
-    if output.is_empty() {
-        return Ok(());
-    }
-    let digits = hex::encode(alloc, output)?;
-    write!(text, " {digits}")
-}
+use tournament::{Record, Verdict};
 
 #[tactic(auto, unfolding(crate::specs::Report::played_text))]
 fn add_played(text: &mut String, head: &Head) -> Result<(), AllocError>
@@ -60,64 +49,74 @@ fn add_head(text: &mut String, head: &Head) -> Result<(), AllocError>
     text.push_str("\n")
 }
 
-fn add_claim(
-    text: &mut String,
-    alloc: Global,
-    prover: usize,
-    settled: &Settled,
-) -> Result<(), AllocError>
-    ensures { OnOk result (string_bytes text.new ≡ string_bytes text.old ++ claim_line prover settled.now) }
+/// What is settled of a prover's claim, by its number from 1.
+fn settled_at(claims: &[Option<Settled>], number: u32) -> Option<&Option<Settled>>
+    ensures { option_copied result ≡ settled_at claims.now number }
 {
-    match settled {
-        Settled::Given(claim) => {
-            write!(text, "p{prover} claims ")?;
-            add_answer(text, alloc, claim.status, claim.output.as_slice())?;
-            text.push_str("\n")
-        }
-        Settled::Faulty(_) => write!(text, "out p{prover} faulty\n"),
-    }
+    claims.get((number as usize).checked_sub(1)?)
 }
 
-fn add_claims(text: &mut String, alloc: Global, claims: &[Settled]) -> Result<(), AllocError>
-    ensures { OnOk result (string_bytes text.new ≡ string_bytes text.old ++ claim_lines 1 claims.now) }
-{
-    'claims: for (i, settled) in claims.iter().enumerate() {
-        add_claim(text, alloc, i + 1, settled)?;
-    }
-    Ok(())
-}
-
-fn add_verdict(
+/// Adds the line of a claim that is accepted.
+fn add_accepted(
     text: &mut String,
     alloc: Global,
-    claims: &[Settled],
-    verdict: &Verdict,
+    claims: &[Option<Settled>],
+    number: u32,
 ) -> Result<(), AllocError>
-    ensures { OnOk result (string_bytes text.new ≡ string_bytes text.old ++ verdict_line claims.now verdict.now) }
+    ensures { OnOk result (string_bytes text.new ≡ string_bytes text.old ++ text_if_there (line_of_accepted (settled_at claims.now number))) }
 {
-    let number = match verdict {
-        Verdict::NoneLeft => return text.push_str("none left\n"),
-        Verdict::Accept(number) => *number,
-    };
     match settled_at(claims, number) {
-        Some(Settled::Given(claim)) => {
+        Some(Some(Settled::Given(Answer::Claim(claim)))) => {
             text.push_str("accept ")?;
-            add_answer(text, alloc, claim.status, claim.output.as_slice())?;
+            add_answer(text, alloc, claim.ctl.status, claim.output.as_slice())?;
             text.push_str("\n")
         }
         _ => Ok(()),
     }
 }
 
-/// What is settled of a prover, by its number from 1.
-fn settled_at(claims: &[Settled], number: u32) -> Option<&Settled>
-    ensures { option_copied result ≡ settled_at claims.now number }
+/// Adds the line of two strings of one digest.
+fn add_collision(
+    text: &mut String,
+    alloc: Global,
+    first: &[u8],
+    second: &[u8],
+) -> Result<(), AllocError>
+    ensures { OnOk result (string_bytes text.new ≡ string_bytes text.old ++ line_text (collision_line first.now second.now)) }
 {
-    claims.get((number as usize).checked_sub(1)?)
+    let first = hex::encode(alloc, first)?;
+    let second = hex::encode(alloc, second)?;
+    write!(text, "collision {first} {second}\n")
 }
 
-/// The report of a match: a line for its head, one for each prover, and the verdict's. Each line ends with a line feed.
-/// An `Err` comes where memory ran out.
+fn add_verdict(
+    text: &mut String,
+    alloc: Global,
+    claims: &[Option<Settled>],
+    verdict: &Verdict,
+) -> Result<(), AllocError>
+    ensures { OnOk result (string_bytes text.new ≡ string_bytes text.old ++ text_if_there (line_of_verdict claims.now verdict.now)) }
+{
+    match verdict {
+        Verdict::Accept(number) => add_accepted(text, alloc, claims, *number),
+        Verdict::NoneLeft => text.push_str("none left\n"),
+        Verdict::Collision(x, y) => add_collision(text, alloc, x.as_slice(), y.as_slice()),
+    }
+}
+
+/// Adds the lines of what was settled.
+#[tactic(auto, using(crate::proofs::LineLemmas::added_lines))]
+fn add_record(text: &mut String, alloc: Global, match_record: &Record) -> Result<(), AllocError>
+    ensures { OnOk result (string_bytes text.new ≡ string_bytes text.old ++ lines_text (lines_of_record match_record.now)) }
+{
+    add_claims(text, alloc, match_record.claims())?;
+    add_disputes(text, match_record.disputes())
+}
+
+/// The report of a match: the line of its head, one line for each prover, the disputes with their rounds, and the line of
+/// the verdict. Each line ends with a line feed.
+///
+/// What isn't settled yet has no line, and neither has an accepted claim that wasn't given. An `Err` is out of memory.
 pub fn report(
     alloc: Global,
     head: &Head,
@@ -127,19 +126,8 @@ pub fn report(
     ensures { IfOk result (λ text. text.items ≡ report_text head.now match_record.now verdict.now) }
 {
     let mut text = String::new(alloc);
-    let claims = match_record.claims.as_slice();
     add_head(&mut text, head)?;
-    add_claims(&mut text, alloc, claims)?;
-    add_verdict(&mut text, alloc, claims, verdict)?;
-    Ok(text.into_bytes())
-}
-
-/// The line that answers with the status and the output of a run. An `Err` comes where memory ran out.
-pub fn answer_line(alloc: Global, status: Status, output: &[u8]) -> Result<Vec<u8>, Memory>
-    ensures { IfOk result (λ text. text.items ≡ answer_line_text status output.now) }
-{
-    let mut text = String::from_str(alloc, "answer ")?;
-    add_answer(&mut text, alloc, status, output)?;
-    text.push_str("\n")?;
+    add_record(&mut text, alloc, match_record)?;
+    add_verdict(&mut text, alloc, match_record.claims(), verdict)?;
     Ok(text.into_bytes())
 }

@@ -1,0 +1,149 @@
+-- To believe. The lines of a report: which ones a record and a verdict have, and which speak against a prover. A line that a
+-- report leaves out, as of an answer that isn't settled, is None.
+use Rattle.std.specs.Prelude.{ℕ, zero, suc, ◌+◌, ◌-◌, ◌/◌, Bool, false, ◌&&◌, ◌||◌, ◌==◌, List, [], ◌∷◌, ◌++◌, length, slice_get, Option, Some, None, if◌then◌else◌}
+use Rattle.rd_base.specs.declared.status.Status.{Status}
+use Rattle.rd_base.specs.declared.answer.Answer.TheVariants as answer
+use Rattle.bisect_game.specs.declared.interval.Round.{Round}
+use Rattle.bisect_game.specs.declared.side.Side.TheVariants.{First, Second}
+use Rattle.bisect_game.specs.declared.settled.Settled.{Settled}
+use Rattle.bisect_game.specs.declared.settled.Settled.TheVariants as settled
+use Rattle.bisect_game.specs.declared.settled.Close.{Close}
+use Rattle.bisect_game.specs.Ruling.{same_digest}
+use Rattle.bisect_game.specs.Closing.{is_step}
+use Rattle.bisect_game.specs.Bisection.{Bisection}
+use Rattle.bisect_game.specs.Truth.{is_put_out}
+use Rattle.tournament.specs.declared.verdict.Verdict.{Verdict}
+use Rattle.tournament.specs.declared.verdict.Verdict.TheVariants.{Accept, NoneLeft, Collision}
+use Rattle.tournament.specs.Bracket.{Record}
+use Rattle.transcript_text.specs.declared.word.Word.{Word}
+use Rattle.transcript_text.specs.declared.word.Word.TheVariants as word
+use Rattle.transcript_text.specs.Words.{word_of, word_of_proof, speaks_against}
+
+-- what a line says of both sides of a dispute: `pA X pB Y`
+pub record Said : Type 0 where
+  pub first : ℕ
+  pub of_first : Word
+  pub second : ℕ
+  pub of_second : Word
+
+pub data Line : Type 0 where
+  -- `pI claims STATE output HEX`
+  claim_line : ℕ → Status → List ℕ → Line
+  -- `out pI X`
+  out_line : ℕ → Word → Line
+  -- `stage S`
+  stage_line : ℕ → Line
+  -- `dispute D pA pB`
+  dispute_line : ℕ → ℕ → ℕ → Line
+  -- `round R at MID same` or `round R at MID differ`
+  compared_line : ℕ → ℕ → Bool → Line
+  -- `round R at MID pA X pB Y`
+  round_line : ℕ → ℕ → Said → Line
+  -- `step LO pA X pB Y`
+  step_line : ℕ → Said → Line
+  -- `accept STATE output HEX`
+  accept_line : Status → List ℕ → Line
+  -- `none left`
+  none_left_line : Line
+  -- `collision HEX HEX`
+  collision_line : List ℕ → List ℕ → Line
+
+-- CLAIMS: what each prover claims, or that it is out
+
+abbrev pub line_of_claim : ℕ → Option Settled → Option Line
+line_of_claim p (Some (settled.Given (answer.Claim claim))) = Some (claim_line p claim.ctl.status claim.output)
+line_of_claim p (Some (settled.Faulty a)) = Some (out_line p word.Faulty)
+line_of_claim p (Some settled.Spent) = Some (out_line p word.Spent)
+line_of_claim p _ = None
+
+-- of provers the first of which has this number
+abbrev pub lines_of_claims : ℕ → List (Option Settled) → List (Option Line)
+lines_of_claims p [] = []
+lines_of_claims p (s ∷ ss) = line_of_claim p s ∷ lines_of_claims (p + 1) ss
+
+-- DISPUTES: a line for each, then one for each round
+
+abbrev pub said_in : Bisection → Word → Word → Said
+said_in d x y = record { first = d.first; of_first = x; second = d.second; of_second = y }
+
+-- the step between two, rounded down
+abbrev pub middle : ℕ → ℕ → ℕ
+middle lo hi = lo + (hi - lo) / 2
+
+-- a round in which a root is asked: whether both roots are the same, or what became of either side's answer
+abbrev pub line_of_round : Bisection → ℕ → ℕ → Settled → Settled → Line
+line_of_round d number mid (settled.Given (answer.Root x)) (settled.Given (answer.Root y)) = compared_line number mid (same_digest x y)
+line_of_round d number mid a b = round_line number mid (said_in d (word_of a) (word_of b))
+
+-- the rounds that went on, the first of which has this number
+abbrev pub lines_of_rounds : Bisection → ℕ → List Round → List (Option Line)
+lines_of_rounds d number [] = []
+lines_of_rounds d number (r ∷ rs) = Some (line_of_round d number (middle r.lo r.hi) r.first r.second) ∷ lines_of_rounds d (number + 1) rs
+
+-- the proof round: a side's proof is refuted where the side is out
+abbrev pub line_of_step : Bisection → Option Close → Settled → Settled → Option Line
+line_of_step d (Some c) a b = Some (step_line d.place.lo (said_in d (word_of_proof (is_put_out First (Some c)) a) (word_of_proof (is_put_out Second (Some c)) b)))
+line_of_step d None a b = None
+
+abbrev pub line_of_last : Bisection → Option Settled → Option Settled → Option Line
+line_of_last d (Some a) (Some b) = if is_step d.place then line_of_step d d.close a b else Some (line_of_round d (length d.past + 1) (middle d.place.lo d.place.hi) a b)
+line_of_last d (Some a) None = None
+line_of_last d None b = None
+
+-- each round, and the last one as far as it is settled
+abbrev pub lines_of_all_rounds : Bisection → List (Option Line)
+lines_of_all_rounds d = lines_of_rounds d 1 d.past ++ line_of_last d d.by_first d.by_second ∷ []
+
+-- a stage's line stands before its first dispute
+abbrev pub line_of_stage : ℕ → ℕ → Option Line
+line_of_stage before stage = if stage == before then None else Some (stage_line stage)
+
+-- a dispute, after one of this stage
+abbrev pub lines_of_dispute : ℕ → Bisection → List (Option Line)
+lines_of_dispute before d =
+    line_of_stage before d.stage ∷ (Some (dispute_line d.number d.first d.second) ∷ lines_of_all_rounds d)
+
+abbrev pub lines_of_disputes : ℕ → List Bisection → List (Option Line)
+lines_of_disputes before [] = []
+lines_of_disputes before (d ∷ ds) = lines_of_dispute before d ++ lines_of_disputes d.stage ds
+
+-- stages count from 1
+abbrev pub lines_of_record : Record → List (Option Line)
+lines_of_record t = lines_of_claims 1 t.claims ++ lines_of_disputes 0 t.disputes
+
+-- THE VERDICT
+
+-- what is settled of a prover's claim, by its number from 1
+abbrev pub settled_at : List (Option Settled) → ℕ → Option (Option Settled)
+settled_at claims zero = None
+settled_at claims (suc before) = slice_get claims before
+
+-- the line of a claim that is accepted
+abbrev pub line_of_accepted : Option (Option Settled) → Option Line
+line_of_accepted (Some (Some (settled.Given (answer.Claim claim)))) = Some (accept_line claim.ctl.status claim.output)
+line_of_accepted _ = None
+
+abbrev pub line_of_verdict : List (Option Settled) → Verdict → Option Line
+line_of_verdict claims (Accept p) = line_of_accepted (settled_at claims p)
+line_of_verdict claims NoneLeft = Some none_left_line
+line_of_verdict claims (Collision x y) = Some (collision_line x y)
+
+-- WHAT SPEAKS AGAINST A PROVER: a line that calls it faulty, spent or refuted
+
+abbrev pub is_said_against : ℕ → Said → Bool
+is_said_against p said = ((said.first == p) && speaks_against said.of_first) || ((said.second == p) && speaks_against said.of_second)
+
+abbrev pub is_against : ℕ → Line → Bool
+is_against p (out_line q w) = (q == p) && speaks_against w
+is_against p (round_line number mid said) = is_said_against p said
+is_against p (step_line lo said) = is_said_against p said
+is_against p _ = false
+
+abbrev pub is_against_if_there : ℕ → Option Line → Bool
+is_against_if_there p (Some line) = is_against p line
+is_against_if_there p None = false
+
+-- one of the lines is
+abbrev pub are_against : ℕ → List (Option Line) → Bool
+are_against p [] = false
+are_against p (l ∷ ls) = is_against_if_there p l || are_against p ls

@@ -1,0 +1,33 @@
+-- To believe. What a report calls the answers of a prover, and which of these words speak against it.
+use Rattle.std.specs.Prelude.{ℕ, List, Bool, true, false, codes, if◌then◌else◌}
+use Rattle.bisect_game.specs.declared.settled.Settled.{Settled}
+use Rattle.bisect_game.specs.declared.settled.Settled.TheVariants as settled
+use Rattle.transcript_text.specs.declared.word.Word.{Word}
+use Rattle.transcript_text.specs.declared.word.Word.TheVariants.{Given, Faulty, Spent, Proved, Refuted}
+
+abbrev pub word_text : Word → List ℕ
+word_text Given = codes "given"
+word_text Faulty = codes "faulty"
+word_text Spent = codes "spent"
+word_text Proved = codes "proved"
+word_text Refuted = codes "refuted"
+
+-- of an answer to a question for a root
+abbrev pub word_of : Settled → Word
+word_of (settled.Given a) = Given
+word_of (settled.Faulty a) = Faulty
+word_of settled.Spent = Spent
+
+-- of an answer to a question for a proof, of a side that is out or not
+abbrev pub word_of_proof : Bool → Settled → Word
+word_of_proof out (settled.Given a) = if out then Refuted else Proved
+word_of_proof out (settled.Faulty a) = Faulty
+word_of_proof out settled.Spent = Spent
+
+-- the words faulty, spent and refuted
+abbrev pub speaks_against : Word → Bool
+speaks_against Given = false
+speaks_against Faulty = true
+speaks_against Spent = true
+speaks_against Proved = false
+speaks_against Refuted = true

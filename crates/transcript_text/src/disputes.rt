@@ -1,0 +1,166 @@
+ghost use Rattle.std.specs.Prelude.{◌≡◌, ◌++◌, string_bytes, OnOk, Some};
+ghost use Rattle.bisect_game.specs.Truth.{is_put_out};
+ghost use Rattle.transcript_text.specs.Lines.{dispute_line, lines_of_all_rounds, said_in, middle, line_of_round, lines_of_rounds, line_of_step, line_of_last, line_of_stage, lines_of_dispute, lines_of_disputes};
+ghost use Rattle.transcript_text.specs.Report.{said_text, line_text, text_if_there, lines_text};
+
+use crate::word::{Word, word_of, word_of_proof};
+use bisect_game::{Close, Dispute, Interval, Settled, Side, same_digest};
+use rd_base::Answer;
+use std::alloc::AllocError;
+use std::fmt::Write;
+
+/// Adds what a line says of both sides, and ends the line.
+fn add_said(
+    text: &mut String,
+    dispute: &Dispute,
+    of_first: Word,
+    of_second: Word,
+) -> Result<(), AllocError>
+    ensures { OnOk result (string_bytes text.new ≡ string_bytes text.old ++ said_text (said_in dispute.now of_first of_second)) }
+{
+    let first = dispute.prover(Side::First);
+    let second = dispute.prover(Side::Second);
+    write!(text, " p{first} {of_first}")?;
+    write!(text, " p{second} {of_second}\n")
+}
+
+/// The step between two, rounded down.
+fn middle(lo: u64, hi: u64) -> u64
+    ensures { result ≡ middle lo hi }
+{
+    lo + hi.saturating_sub(lo) / 2
+}
+
+/// Adds the line of a round in which a root was asked.
+fn add_round(
+    text: &mut String,
+    dispute: &Dispute,
+    number: usize,
+    mid: u64,
+    first: &Settled,
+    second: &Settled,
+) -> Result<(), AllocError>
+    ensures { OnOk result (string_bytes text.new ≡ string_bytes text.old ++ line_text (line_of_round dispute.now number mid first.now second.now)) }
+{
+    write!(text, "round {number} at {mid}")?;
+    match (first, second) {
+        (Settled::Given(Answer::Root(x)), Settled::Given(Answer::Root(y))) => {
+            if same_digest(x, y) {
+                text.push_str(" same\n")
+            } else {
+                text.push_str(" differ\n")
+            }
+        }
+        _ => add_said(text, dispute, word_of(first), word_of(second)),
+    }
+}
+
+/// Adds the lines of the rounds that went on.
+fn add_rounds(text: &mut String, dispute: &Dispute) -> Result<(), AllocError>
+    ensures { OnOk result (string_bytes text.new ≡ string_bytes text.old ++ lines_text (lines_of_rounds dispute.now 1 dispute.now.past)) }
+{
+    let rounds = dispute.rounds();
+    'rounds: for (i, round) in rounds.iter().enumerate() {
+        let mid = middle(round.lo, round.hi);
+        add_round(text, dispute, i + 1, mid, &round.first, &round.second)?;
+    }
+    Ok(())
+}
+
+/// Whether a close puts a side out.
+fn is_put_out(side: Side, close: &Close) -> bool
+    ensures { result ≡ is_put_out side (Some close.now) }
+{
+    match (side, close) {
+        (Side::First, Close::Out { first, .. }) => *first,
+        (Side::Second, Close::Out { second, .. }) => *second,
+        _ => false,
+    }
+}
+
+/// Adds the line of the proof round, where the dispute has closed.
+fn add_step(
+    text: &mut String,
+    dispute: &Dispute,
+    first: &Settled,
+    second: &Settled,
+) -> Result<(), AllocError>
+    ensures { OnOk result (string_bytes text.new ≡ string_bytes text.old ++ text_if_there (line_of_step dispute.now dispute.now.close first.now second.now)) }
+{
+    let Some(close) = dispute.closed() else {
+        return Ok(());
+    };
+    let Interval { lo, .. } = dispute.interval();
+    let of_first = word_of_proof(is_put_out(Side::First, &close), first);
+    let of_second = word_of_proof(is_put_out(Side::Second, &close), second);
+    write!(text, "step {lo}")?;
+    add_said(text, dispute, of_first, of_second)
+}
+
+/// Adds the line of the last round, where both sides are settled.
+fn add_last(text: &mut String, dispute: &Dispute) -> Result<(), AllocError>
+    ensures { OnOk result (string_bytes text.new ≡ string_bytes text.old ++ text_if_there (line_of_last dispute.now dispute.now.by_first dispute.now.by_second)) }
+{
+    let Some(first) = dispute.last_answer(Side::First) else {
+        return Ok(());
+    };
+    let Some(second) = dispute.last_answer(Side::Second) else {
+        return Ok(());
+    };
+    let Interval { lo, hi, .. } = dispute.interval();
+    if hi.saturating_sub(lo) <= 1 {
+        return add_step(text, dispute, first, second);
+    }
+    let number = dispute.rounds().len() + 1;
+    add_round(text, dispute, number, middle(lo, hi), first, second)
+}
+
+/// Adds the line of a stage, where it isn't that of the dispute before.
+fn add_stage(text: &mut String, before: u32, stage: u32) -> Result<(), AllocError>
+    ensures { OnOk result (string_bytes text.new ≡ string_bytes text.old ++ text_if_there (line_of_stage before stage)) }
+{
+    if stage == before {
+        return Ok(());
+    }
+    write!(text, "stage {stage}\n")
+}
+
+/// Adds the line of a dispute.
+fn add_sides(text: &mut String, dispute: &Dispute) -> Result<(), AllocError>
+    ensures { OnOk result (string_bytes text.new ≡ string_bytes text.old ++ line_text (dispute_line dispute.now.number dispute.now.first dispute.now.second)) }
+{
+    let number = dispute.number();
+    let first = dispute.prover(Side::First);
+    let second = dispute.prover(Side::Second);
+    write!(text, "dispute {number} p{first} p{second}\n")
+}
+
+/// Adds the lines of a dispute's rounds.
+#[tactic(auto, using(crate::proofs::LineLemmas::added_last))]
+fn add_all_rounds(text: &mut String, dispute: &Dispute) -> Result<(), AllocError>
+    ensures { OnOk result (string_bytes text.new ≡ string_bytes text.old ++ lines_text (lines_of_all_rounds dispute.now)) }
+{
+    add_rounds(text, dispute)?;
+    add_last(text, dispute)
+}
+
+/// Adds the lines of a dispute, after one of the stage `before`.
+fn add_dispute(text: &mut String, before: u32, dispute: &Dispute) -> Result<(), AllocError>
+    ensures { OnOk result (string_bytes text.new ≡ string_bytes text.old ++ lines_text (lines_of_dispute before dispute.now)) }
+{
+    add_stage(text, before, dispute.stage())?;
+    add_sides(text, dispute)?;
+    add_all_rounds(text, dispute)
+}
+
+/// Adds the lines of disputes, the first of which begins a stage.
+pub(crate) fn add_disputes(text: &mut String, disputes: &[Dispute]) -> Result<(), AllocError>
+    ensures { OnOk result (string_bytes text.new ≡ string_bytes text.old ++ lines_text (lines_of_disputes 0 disputes.now)) }
+{
+    let mut before = 0;
+    'disputes: for dispute in disputes {
+        add_dispute(text, before, dispute)?;
+        before = dispute.stage();
+    }
+    Ok(())
+}
