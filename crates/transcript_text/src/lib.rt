@@ -9,12 +9,14 @@ mod answer;
 mod claims;
 mod disputes;
 mod head;
+mod laws;
 mod reporting;
 mod roots;
 mod word;
 
 pub use answer::answer_line;
 pub use head::{DigestName, Head};
+pub use laws::nothing_is_said_against_the_truthful;
 pub use reporting::report;
 pub use roots::add_root_line;
 pub use word::Word;
