@@ -88,6 +88,7 @@ fn stored<D: Digester, L: Ledger>(
 ) -> Digest32
     requires { addr % 32 + width ≤ 32 }
     ensures digest { result.0 ≡ mem_after D.digest_of operand.now mem.0 (effects.Store addr width value) }
+    ensures more { steps.old ≤ steps.new }
     ensures most { steps.new ≤ steps.old + 28 }
     ensures none { is_some operand.now ≡ false → steps.new ≤ steps.old }
 {
@@ -113,6 +114,7 @@ fn carry_out<D: Digester, L: Ledger>(
 ) -> Parts
     ensures held { held_in result ≡ held_after D.digest_of operand.now (held_in parts)
         (effect parts.regs parts.ctl.pc (shown operand.now) instr.now) }
+    ensures more { steps.old ≤ steps.new }
     ensures most { steps.new ≤ steps.old + 28 }
     ensures none { is_some operand.now ≡ false → steps.new ≤ steps.old + 1 }
 {
@@ -147,6 +149,7 @@ pub(crate) fn step_on<D: Digester, L: Ledger>(
     steps: &mut Steps<L>,
 ) -> Parts
     ensures held { held_in result ≡ held_step D.digest_of fetch.now operand.now (held_in parts) }
+    ensures counted { steps.old + 1 ≤ steps.new }
     ensures most { steps.new ≤ steps.old + 29 }
     ensures none { is_some operand.now ≡ false → steps.new ≤ steps.old + 2 }
 {

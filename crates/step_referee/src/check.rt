@@ -1,4 +1,4 @@
-ghost use Rattle.std.specs.Prelude.{◌≡◌, ◌⊎◌, ◌↔◌, ◌+◌, ◌≤◌, ℕ, List, false, is_some};
+ghost use Rattle.std.specs.Prelude.{◌≡◌, ◌⊎◌, ◌↔◌, ◌+◌, ◌*◌, ◌≤◌, ℕ, List, false, is_some};
 ghost use Rattle.rd_base.specs.declared.digest.Digest32.{Digest32};
 ghost use Rattle.rv_step.specs.State.{State};
 ghost use Rattle.rv_step.specs.Step.{step};
@@ -8,6 +8,7 @@ ghost use Rattle.open_proof.specs.Leads.{Leads};
 ghost use Rattle.open_proof.specs.StateCollision.{IsStateCollision};
 ghost use Rattle.step_referee.specs.Checked.{checked};
 ghost use Rattle.step_referee.specs.Refusal.{FailsOpen, FailsShape};
+ghost use Rattle.step_referee.specs.Ticks.{chunks_of};
 
 use crate::carrying::{Parts, step_on};
 use crate::opening::{climbs_at, is_called, root_of, same_digest};
@@ -38,6 +39,8 @@ fn check<D: Digester, L: Ledger>(
     steps: &mut Steps<L>,
 ) -> StepCheck
     ensures value { result ≡ checked D.digest_of a proof.now }
+    ensures least { (b : Digest32) → result ≡ StepCheck.Leads b →
+        steps.old + 7 + 28 * chunks_of proof.now ≤ steps.new }
     ensures few { steps.new ≤ steps.old + 91 }
     ensures alone { is_some proof.now.operand ≡ false → steps.new ≤ steps.old + 36 }
 {
@@ -78,8 +81,8 @@ fn check<D: Digester, L: Ledger>(
 /// From the root of a valid state it leads to the root of the next state, or a string that the proof opens and a different
 /// string of the state have one digest (`next`).
 ///
-/// `steps` ticks once for each digest and once for the step of the machine: at most 91 times, and at most 36 times where
-/// there is no data chunk.
+/// `steps` ticks once for each digest and once for the step of the machine: at most 91 times (`few`), and at most 36 times
+/// where there is no data chunk (`alone`). Where it leads, that is at least 7 times, and 28 times for each chunk (`least`).
 pub fn check_step<D: Digester, L: Ledger>(
     d: D,
     a: Digest32,
@@ -92,6 +95,8 @@ pub fn check_step<D: Digester, L: Ledger>(
     ensures next { (s : State) (b : Digest32) → IsValid s → a.0 ≡ state_root D.digest_of s → result ≡ StepCheck.Leads b →
         (b.0 ≡ state_root D.digest_of (step s))
         ⊎ ((pair : List ℕ × List ℕ) × IsStateCollision D.digest_of proof.now s pair) }
+    ensures least { (b : Digest32) → result ≡ StepCheck.Leads b →
+        steps.old + 7 + 28 * chunks_of proof.now ≤ steps.new }
     ensures few { steps.new ≤ steps.old + 91 }
     ensures alone { is_some proof.now.operand ≡ false → steps.new ≤ steps.old + 36 }
 {

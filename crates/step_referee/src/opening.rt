@@ -1,8 +1,9 @@
 //! Roots and paths, with each digest counted.
-ghost use Rattle.std.specs.Prelude.{◌≡◌, ◌+◌, ◌≤◌, false, is_some, bytes_eq};
+ghost use Rattle.std.specs.Prelude.{◌≡◌, ◌+◌, ◌*◌, ◌≤◌, true, false, is_some, bytes_eq};
 ghost use Rattle.open_proof.specs.Held.{path_text, root_of_held};
 ghost use Rattle.open_proof.specs.LeadsTo as leads;
 ghost use Rattle.step_referee.specs.HeldParts.{held_in};
+ghost use Rattle.step_referee.specs.Ticks.{chunk_count};
 
 use crate::carrying::Parts;
 use digest_core::{Digester, control_text, leaf_text, registers_text, state_text};
@@ -62,7 +63,7 @@ pub(crate) fn is_called(chunk: &Option<Opening>, address: Option<u32>) -> bool
     }
 }
 
-/// Whether a chunk that is there and called for climbs to the digest of memory, by at most 28 digests.
+/// Whether a chunk, which is there exactly where it is called for, climbs to the digest of memory, by 28 digests.
 pub(crate) fn climbs_at<D: Digester, L: Ledger>(
     d: D,
     mem: &Digest32,
@@ -70,7 +71,9 @@ pub(crate) fn climbs_at<D: Digester, L: Ledger>(
     address: Option<u32>,
     steps: &mut Steps<L>,
 ) -> bool
+    requires { leads.is_called chunk.now address ≡ true }
     ensures value { result ≡ leads.climbs_at D.digest_of mem.now.0 chunk.now address }
+    ensures steps { steps.new ≡ steps.old + 28 * chunk_count chunk.now }
     ensures most { steps.new ≤ steps.old + 28 }
     ensures none { is_some chunk.now ≡ false → steps.new ≤ steps.old }
 {

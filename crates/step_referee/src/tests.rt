@@ -1,12 +1,11 @@
-ghost use Rattle.std.specs.Prelude.{◌≡◌, ◌<◌, ◌≤◌, ℕ, List, length, IfOk};
-ghost use Rattle.rv_step.specs.State.{IsChained};
+ghost use Rattle.std.specs.Prelude.{◌≡◌, ◌<◌, ◌≤◌, length};
 
 use crate::{MachineJudge, StepCheck, check_step};
 use bisect_game::Judge;
-use digest_core::{Digester, Sha256};
+use digest_core::{Digester, Sha256, registers_text};
 use mem_plain::PlainMem;
 use open_proof::make_proof;
-use rd_base::{Bytes, Claim, ClaimOutput, Digest32, Memory, Opening, Status, StepProof, Steps};
+use rd_base::{Claim, ClaimOutput, Digest32, Memory, Opening, Status, StepProof, Steps};
 use rv_step::Machine;
 use state_commit::Committed;
 use std::alloc::Global;
@@ -248,6 +247,53 @@ fn stopped_states_stay(rt: HostRuntime) -> Result<(), Fail> {
         checked(Digest32::ZERO, &added),
         StepCheck::NotOpen,
         "the root is tested first"
+    );
+    Ok(())
+}
+
+/// Whether the judge finds the claim of a state with this byte as output sound or not, as wanted, of this root, and without a
+/// collision with itself.
+fn is_judged(
+    alloc: Global,
+    proof: &StepProof,
+    byte: u8,
+    sound: bool,
+    root: Digest32,
+) -> Option<bool> {
+    let judge = MachineJudge::new(Sha256);
+    let bytes = [byte].to_vec(alloc).ok()?;
+    let claim = Claim {
+        mem: proof.mem,
+        regs: Sha256.digest(registers_text(&proof.regs).as_slice()),
+        ctl: proof.ctl,
+        output: ClaimOutput::new(bytes)?,
+    };
+    Some(
+        judge.sound(&claim) == sound
+            && judge.root_of(&claim).0 == root.0
+            && judge.claim_collision(&claim, &claim).is_none()
+            && judge.step_collision(root, proof, proof).is_none(),
+    )
+}
+
+#[test]
+fn claims_are_judged(rt: HostRuntime) -> Result<(), Fail> {
+    let alloc = rt.alloc();
+    let mut committed = committed_of(&rt, alloc, PUTS)?;
+    for _step in 0..6 {
+        committed = committed.step()?;
+    }
+    let proof = make_proof(&committed);
+    let root = committed.root();
+    assert_eq!(rt;
+        is_judged(alloc, &proof, 0x2a, true, root),
+        Some(true),
+        "the true output"
+    );
+    assert_eq!(rt;
+        is_judged(alloc, &proof, 0x2b, false, root),
+        Some(true),
+        "another output"
     );
     Ok(())
 }
