@@ -40,11 +40,6 @@ question_of (ask.Question q n) = Some q
 question_of ask.Nothing = None
 question_of ask.Over = None
 
-abbrev passes_told : Ask → ℕ
-passes_told (ask.Question q n) = n
-passes_told ask.Nothing = 0
-passes_told ask.Over = 0
-
 none_told : (b : Bool) → question_of (if b then ask.Over else ask.Nothing) ≡ None
 none_told true = refl
 none_told false = refl
@@ -55,13 +50,6 @@ question_told st p None = none_told (is_complete st.record_)
 
 pub open_is : (st : State) (p : ℕ) (o : Option Question) (q : Question) (n : ℕ) → ask_on st p o ≡ ask.Question q n → o ≡ Some q
 open_is st p o q n e = sym (question_told st p o) ∙ ap question_of e
-
-passes_are-on : (st : State) (p : ℕ) (o : Option Question) (q : Question) (n : ℕ) → o ≡ Some q → ask_on st p o ≡ ask.Question q n → n ≡ passes_of st p
-passes_are-on st p None q n f e = absurd (cc)
-passes_are-on st p (Some r) q n f e = sym (ap passes_told e)
-
-pub passes_are : (st : State) (p : ℕ) (o : Option Question) (q : Question) (n : ℕ) → ask_on st p o ≡ ask.Question q n → n ≡ passes_of st p
-passes_are st p o q n e = passes_are-on st p o q n (open_is st p o q n e) e
 
 -- a move that is due
 
@@ -82,25 +70,6 @@ pub due_says : (says : Says) (st : State) (p : ℕ) (after : Option ℕ) (m : Op
 due_says says st p (Some n) m q due on = on ∙ ap (says p q) (is-eq n (passes_of st p) due)
 due_says says st p None m q due on = on (passes_of st p) (alike (is_none m) (is_none (says p q (passes_of st p))) due)
 
-due_if : (b : Bool) (qid : Qid) → (if b then None else Some qid) ≡ None → b ≡ true
-due_if true qid e = refl
-due_if false qid e = absurd (cc)
-
-undue_if : (b : Bool) (a qid : Qid) (r : Reply) → (if b then None else Some a) ≡ Some qid → (if b then r else Stale (Some a)) ≡ Stale (Some qid)
-undue_if true a qid r e = absurd (cc)
-undue_if false a qid r e = ap Stale e
-
-pub due_here : (says : Says) (st : State) (p : ℕ) (after : Option ℕ) (m : Option Answer) (o : Option Question) (q : Question) → undue says st p after m o ≡ None → o ≡ Some q → is_due says st p after m q ≡ true
-due_here says st p after m o q none is = due_if (is_due says st p after m q) q.qid (sym (ap (undue says st p after m) is) ∙ none)
-
-pub undue_reply : (rules : Rules) (says : Says) (st : State) (p : ℕ) (qid : Qid) (after : Option ℕ) (m : Option Answer) (o : Option Question) (shown : Qid) → undue says st p after m o ≡ Some shown → reply_on_board rules says st p qid after m o ≡ Stale (Some shown)
-undue_reply rules says st p qid after m None shown e = absurd (cc)
-undue_reply rules says st p qid after m (Some q) shown e = undue_if (is_due says st p after m q) q.qid shown (reply_to rules st p qid m) e
-
-pub due_reply : (rules : Rules) (says : Says) (st : State) (p : ℕ) (qid : Qid) (after : Option ℕ) (m : Option Answer) (o : Option Question) → open_question rules st.record_ p ≡ o → undue says st p after m o ≡ None → reply_on_board rules says st p qid after m o ≡ reply_to rules st p qid m
-due_reply rules says st p qid after m None is e = sym (ap (reply_on rules st p qid m) is)
-due_reply rules says st p qid after m (Some q) is e = ap (λ (b : Bool). if b then reply_to rules st p qid m else Stale (Some q.qid)) (due_if (is_due says st p after m q) q.qid e)
-
 both : (a b : Bool) → (a && b) ≡ true → (a ≡ true) × (b ≡ true)
 both true b e = (refl, e)
 both false b e = absurd (cc)
@@ -111,12 +80,6 @@ same_qid-is a b e =
     let d : a.dispute ≡ b.dispute = is-eq a.dispute b.dispute two.0 in
     let n : a.round ≡ b.round = is-eq a.round b.round two.1 in
     rw (d, n) refl
-
--- a move that may be posted and is due is what the prover says there
-pub may_say : (rules : Rules) (says : Says) (st : State) (p : ℕ) (qid : Qid) (after : Option ℕ) (m : Option Answer) → MayPost rules says p qid after m → AsksTheCase rules says st p →
-    undue says st p after m (open_question rules st.record_ p) ≡ None → (q : Question) → open_question rules st.record_ p ≡ Some q → same_qid q.qid qid ≡ true → m ≡ says p q (passes_of st p)
-may_say rules says st p qid after m may case none q is same =
-    due_says says st p after m q (due_here says st p after m (open_question rules st.record_ p) q none is) (may q (same_qid-is q.qid qid same) (case q is))
 
 -- the reply in the provers' own words
 
@@ -149,44 +112,6 @@ noted_is es e = noted_if (is_stale e.reply) es e
 
 pub log_with : (es : List Entry) (e : Entry) → log_of_journal (es ++ e ∷ []) ≡ log_of_journal es ++ numbers_of e ∷ []
 log_with es e = map-append numbers_of es (e ∷ [])
-
-grows_if : (b : Bool) (es : List Entry) (e : Entry) → GrowsByAtMostOne (log_of_journal es) (log_of_journal (if b then es else es ++ e ∷ []))
-grows_if true es e = inl refl
-grows_if false es e = inr (numbers_of e, log_with es e)
-
-pub grows : (es left : List Entry) (e : Entry) → left ≡ noted es e → GrowsByAtMostOne (log_of_journal es) (log_of_journal left)
-grows es left e is = subst (λ l. GrowsByAtMostOne (log_of_journal es) (log_of_journal l)) (sym is) (grows_if (is_stale e.reply) es e)
-
--- a turn at the book
-
-pub asks_at : (rules : Rules) (says : Says) (es : List Entry) (st : State) (p : ℕ) (a : Ask) → IsJournal rules says es (begun rules) → state_of rules says es ≡ st → AsksTheCase rules says st p → a ≡ ask_in rules st p → Asks rules says es p a
-asks_at rules says es st p a legal state asked is = record {
-  legal = legal;
-  answer = is ∙ ap (λ s. ask_in rules s p) (sym state);
-  asked = subst (λ s. AsksTheCase rules says s p) (sym state) asked;
-}
-
-pub posts_nothing : (rules : Rules) (says : Says) (es : List Entry) (st : State) (p : ℕ) (qid : Qid) (after : Option ℕ) (m : Option Answer) (number : Qid) → IsJournal rules says es (begun rules) → state_of rules says es ≡ st → AsksTheCase rules says st p →
-    undue says st p after m (open_question rules st.record_ p) ≡ Some number → Posts rules says es p qid after m (record { reply = Stale (Some number); receipt = None }) es
-posts_nothing rules says es st p qid after m number legal state asked late = record {
-  legal = legal;
-  legal_after = legal;
-  reply = sym (undue_reply rules says st p qid after m (open_question rules st.record_ p) number late) ∙ ap (λ s. reply_in rules says s p qid after m) (sym state);
-  notes = refl;
-  receipt = refl;
-  asked = subst (λ s. AsksTheCase rules says s p) (sym state) asked;
-}
-
-pub posts_move : (rules : Rules) (says : Says) (es left : List Entry) (st : State) (p : ℕ) (qid : Qid) (after : Option ℕ) (m : Option Answer) (r : Reply) (receipt : Option ℕ) → IsJournal rules says es (begun rules) → IsJournal rules says left (begun rules) → state_of rules says es ≡ st → AsksTheCase rules says st p →
-    undue says st p after m (open_question rules st.record_ p) ≡ None → r ≡ reply_to rules st p qid m → left ≡ noted es (record { p = p; qid = qid; pass = is_none m; reply = r }) → receipt ≡ receipt_of r (length es) → Posts rules says es p qid after m (record { reply = r; receipt = receipt }) left
-posts_move rules says es left st p qid after m r receipt legal legal_after state asked due is notes place = record {
-  legal = legal;
-  legal_after = legal_after;
-  reply = is ∙ sym (due_reply rules says st p qid after m (open_question rules st.record_ p) refl due) ∙ ap (λ s. reply_in rules says s p qid after m) (sym state);
-  notes = notes;
-  receipt = place;
-  asked = subst (λ s. AsksTheCase rules says s p) (sym state) asked;
-}
 
 -- a turn of a seat, where it stands
 
