@@ -12,6 +12,8 @@ mod head;
 mod laws;
 mod reporting;
 mod roots;
+#[cfg(test)]
+mod tests;
 mod word;
 
 pub use answer::answer_line;

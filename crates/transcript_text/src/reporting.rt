@@ -40,7 +40,7 @@ fn add_committed(text: &mut String, head: &Head) -> Result<(), AllocError>
     write!(text, " version {version} fan {fan} digest {digest}")
 }
 
-fn add_head(text: &mut String, head: &Head) -> Result<(), AllocError>
+pub(crate) fn add_head(text: &mut String, head: &Head) -> Result<(), AllocError>
     ensures { OnOk result (string_bytes text.new ≡ string_bytes text.old ++ head_line head.now) }
 {
     add_played(text, head)?;
@@ -89,7 +89,7 @@ fn add_collision(
     write!(text, "collision {first} {second}\n")
 }
 
-fn add_verdict(
+pub(crate) fn add_verdict(
     text: &mut String,
     alloc: Global,
     claims: &[Option<Settled>],
