@@ -1,18 +1,20 @@
 -- Every match can be played out, whatever its provers say, so what holds of each legal complete list of moves holds of the
 -- record of the case.
-use Rattle.std.proofs.Common.{◌≡◌, ℕ, zero, suc, ◌+◌, ◌*◌, ◌^◌, ◌<◌, ◌≤◌, nat_lt, true, false, List, [], ◌∷◌, ◌++◌, length, ◌⊎◌, inl, inr, Option, Some, None, refl, sym, subst, arith, length-append}
+use Rattle.std.proofs.Common.{◌≡◌, ℕ, zero, suc, ◌+◌, ◌*◌, ◌^◌, ◌<◌, ◌≤◌, nat_lt, true, false, List, [], ◌∷◌, ◌++◌, length, ◌⊎◌, inl, inr, Option, Some, None, refl, sym, subst, arith, length-append, ap, ◌∙◌, cond}
 use Rattle.std.proofs.lemmas.Bool.Decides.{nat_tests}
 use Rattle.std.proofs.lemmas.Bool.{cases_Bool}
 use Rattle.std.proofs.Math.Nat.{pow-succ'}
 use Rattle.std.proofs.Math.Pow.{pow_mono}
+use Rattle.rd_base.specs.declared.answer.Qid.{Qid}
 use Rattle.bisect_game.specs.declared.question.Question.{Question}
 use Rattle.bisect_game.specs.Says.{Says}
 use Rattle.bisect_game.specs.Ruling.{IsFair}
 use Rattle.bisect_game.specs.Rules.{Rules, ArePlayable}
 use Rattle.bisect_game.specs.Truth.{Truth, IsRun}
 use Rattle.tournament.specs.Bracket.{Record, open_question, is_complete, bracket}
-use Rattle.tournament.specs.Moves.{State, begun}
-use Rattle.tournament.specs.Journals.{turn_on, turns, IsAskedOf, Legal, answers_of, RecordOfCase, NobodyAskedIsOver}
+use Rattle.tournament.specs.Moves.{State, begun, passes_of}
+use Rattle.tournament.specs.Journals.{turn, turn_on, turns, IsAskedOf, Legal, answers_of, RecordOfCase}
+use Rattle.tournament.specs.Posting.{same_qid, posted, posted_on, Post, after_posts, NobodyAskedIsOver}
 use Rattle.tournament.specs.Length.{IsMost, most_entries, SpareIsEnough}
 use Rattle.tournament.specs.Truthful.{IsTruthfulProver, IsSafe, TruthfulProversAreSafe}
 
@@ -25,6 +27,33 @@ turns-last rules says (q ∷ ps) p st = turns-last rules says ps p _
 legal-last : (rules : Rules) (says : Says) (ps : List ℕ) (p : ℕ) (st : State) → Legal rules says ps st → IsAskedOf rules (turns rules says ps st) p → Legal rules says (ps ++ p ∷ []) st
 legal-last rules says [] p st legal asked = (asked, tt)
 legal-last rules says (q ∷ ps) p st legal asked = (legal.0, legal-last rules says ps p _ legal.1 asked)
+
+-- moves are posts
+
+same-number : (a : Qid) → same_qid a a ≡ true
+same-number a = grind (arith, nat_tests)
+
+posted-turn : (rules : Rules) (says : Says) (st : State) (p : ℕ) (q : Question) → open_question rules st.record_ p ≡ Some q
+    → posted rules st p q.qid (says p q (passes_of st p)) ≡ turn_on rules says st p (open_question rules st.record_ p)
+posted-turn rules says st p q asked =
+    ap (posted_on rules st p q.qid (says p q (passes_of st p))) asked
+    ∙ (ap (λ b. cond b (turn rules says st p q) st) (same-number q.qid) ∙ sym (ap (turn_on rules says st p) asked))
+
+posts-of : (rules : Rules) (says : Says) (ps : List ℕ) (st : State) → Legal rules says ps st → (xs : List Post) × (after_posts rules xs st ≡ turns rules says ps st)
+posts-of rules says [] st legal = ([], refl)
+posts-of rules says (p ∷ ps) st legal =
+    let q = legal.0.question in
+    let rest = posts-of rules says ps _ legal.1 in
+    let post : Post = record { prover = p; numbered = legal.0.numbered; qid = q.qid; answer = says p q (passes_of st p) } in
+    (post ∷ rest.0, ap (after_posts rules rest.0) (posted-turn rules says st p q legal.0.asked) ∙ rest.1)
+
+over-after : NobodyAskedIsOver → (rules : Rules) (says : Says) (ps : List ℕ) → ArePlayable rules → Legal rules says ps (begun rules)
+    → ((p : ℕ) → 0 < p → p ≤ rules.provers → open_question rules (turns rules says ps (begun rules)).record_ p ≡ None)
+    → is_complete (turns rules says ps (begun rules)).record_ ≡ true
+over-after over rules says ps playable legal nobody =
+    let posts = posts-of rules says ps (begun rules) legal in
+    subst (λ (st : State). is_complete st.record_ ≡ true) posts.1
+    ((over rules posts.0 playable).0 (λ p some few. subst (λ (st : State). open_question rules st.record_ p ≡ None) (sym posts.1) (nobody p some few)))
 
 -- somebody of the first n provers is asked, or nobody is
 
@@ -59,7 +88,7 @@ ends-from enough over rules says k playable most (suc fuel) ps legal spare =
     by : ((p : ℕ) → IsAskedOf rules (turns rules says ps (begun rules)) p → (qs : List ℕ) × IsEnding rules says qs)
         → (((p : ℕ) × IsAskedOf rules (turns rules says ps (begun rules)) p) ⊎ NobodyAsked rules (turns rules says ps (begun rules)) rules.provers) → (qs : List ℕ) × IsEnding rules says qs
     by further (inl asked) = further asked.0 asked.1
-    by further (inr nobody) = (ps, record { legal = legal; complete = over rules says ps playable legal nobody })
+    by further (inr nobody) = (ps, record { legal = legal; complete = over-after over rules says ps playable legal nobody })
 
 -- there is a greatest k with 2^k < m, where 1 < m
 

@@ -1,7 +1,14 @@
 ghost use Rattle.std.specs.Prelude.{◌≡◌, ℕ, List, [], ◌∷◌, Some, None, codes};
+ghost use Rattle.delegate.specs.Headline.{HeadlineOfCases};
 ghost use Rattle.delegate.specs.Words.{chosen};
 
 use crate::words::Command;
+use digest_core::Sha256;
+use step_referee::machine_runs_are_true;
+use tournament::{
+    nobody_asked_means_over, one_record_of_a_case, spare_is_enough, truthful_provers_are_safe,
+};
+use transcript_text::nothing_is_said_against_the_truthful;
 
 /// The program's name, whatever it is, and the name of a command are arguments that name it.
 #[tactic(auto, using(crate::proofs::WordsLemmas::judge_is_taken, crate::proofs::WordsLemmas::run_is_taken, crate::proofs::WordsLemmas::roots_is_taken))]
@@ -21,3 +28,17 @@ pub fn plain_options()
     ensures more_posters { (program : List ℕ) → chosen (program ∷ codes "judge" ∷ codes "--posters" ∷ codes "17" ∷ []) ≡ None }
     ensures more_steps { (program : List ℕ) → chosen (program ∷ codes "judge" ∷ codes "--every" ∷ codes "65537" ∷ []) ≡ None }
 {}
+
+/// The headline, of each case whose numbers are in range and whose run starts in a valid state without output: a prover that
+/// claims and answers as the machine's definition says, within its patience, is not eliminated, and the report accepts the
+/// sequential run's status and output or shows a collision.
+pub fn the_headline()
+    ensures { HeadlineOfCases }
+{
+    spare_is_enough();
+    nobody_asked_means_over();
+    one_record_of_a_case();
+    truthful_provers_are_safe();
+    machine_runs_are_true::<Sha256>();
+    nothing_is_said_against_the_truthful();
+}

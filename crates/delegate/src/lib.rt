@@ -7,7 +7,6 @@
 #![tactic(auto)]
 
 mod answered;
-mod claims;
 mod faults;
 mod judging;
 mod playing;
@@ -22,7 +21,8 @@ mod stages;
 mod words;
 
 pub use answered::Answered;
-pub use laws::{plain_options, plain_words};
+pub use judging::verdict_of_case;
+pub use laws::{plain_options, plain_words, the_headline};
 pub use process::{arguments, run_process};
 pub use program::run;
 pub use words::{Command, Options};

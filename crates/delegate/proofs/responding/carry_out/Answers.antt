@@ -1,13 +1,16 @@
-use Rattle.std.proofs.Common.{◌≡◌, ◌<◌, Ok, Err, ap, sym, ◌∙◌, length}
+use Rattle.std.proofs.Common.{◌≡◌, ◌<◌, Ok, Err, ap, subst, sym, ◌∙◌, length}
 use Rattle.std.proofs.lemmas.Result.{err_from_is_err_and}
 use Rattle.sha2.specs.Sha256.{sha256}
 use Rattle.rv_step.specs.Loaded.{started}
+use Rattle.rv_step.specs.State.{state_of}
+use Rattle.rv_step.specs.Valid.{IsValid}
 use Rattle.case_reader.specs.Case.{data_of, case_at}
 use Rattle.image_reader.specs.Image.{loaded_of}
 use Rattle.delegate.specs.Outcome.{carried_out, ended}
 use Rattle.delegate.specs.Refusal.{case_refusal, or_refusal}
 use Rattle.delegate.specs.Words.{texts}
 use Rattle.delegate.specs.declared.response.Stop.TheVariants.{Refused}
+use Rattle.delegate.proofs.HeadlineLemmas.{case-in-range}
 use Rattle.delegate.proofs.OutcomeLemmas.{no_command, too_many, no_case, no_bound, no_image, all_steps, some_bytes, many_bytes, for_its_bytes, over_limit}
 use Rattle.delegate.proofs.responding.carry_out.Goals as goal
 
@@ -66,9 +69,18 @@ returns-in_err-loaded-clause-refused g c = λ response is.
 pub returns-clause-done : goal.returns-clause-done
 returns-clause-done g c =
     let bytes = c.in_ok-bytes.bytes.items in
+    let reads = ap (λ bytes. or_refusal case_refusal (case_at bytes)) (sym c.as_slice.ensures.value) ∙ c.in_ok-case.ensures.stands in
     let steps = all_steps (texts c.args.words.now) bytes c.in_ok-request.request.command (data_of c.in_ok-case.case) (loaded_of c.in_ok-loaded.loaded) c.in_ok-request.ensures.stands c.in_ok-bytes.ensures.short
-    (ap (λ bytes. or_refusal case_refusal (case_at bytes)) (sym c.as_slice.ensures.value) ∙ c.in_ok-case.ensures.stands)
+    reads
     c.in_ok-bound_in.ensures.stands
     c.in_ok-loaded.ensures.stands in
-    let input = ap (λ input. ended sha256 c.in_ok-request.request.command (data_of c.in_ok-case.case) (started c.in_ok-loaded.loaded.mem c.in_ok-loaded.loaded.entry input)) (sym c.as_slice-2.ensures) in
-    (bytes, c.in_ok-bytes.ensures.bytes, steps ∙ ap Ok (input ∙ (ap (ended sha256 c.in_ok-request.request.command (data_of c.in_ok-case.case)) (sym c.in_ok-start.ensures.state) ∙ sym c.in_ok-end.ensures)))
+    let starts : started c.in_ok-loaded.loaded.mem c.in_ok-loaded.loaded.entry c.in_ok-case.case.input ≡ state_of c.in_ok-start.start =
+    ap (λ input. started c.in_ok-loaded.loaded.mem c.in_ok-loaded.loaded.entry input) (sym c.as_slice-2.ensures) ∙ sym c.in_ok-start.ensures.state in
+    (
+      bytes,
+      c.in_ok-bytes.ensures.bytes,
+      (
+        steps ∙ ap Ok (ap (ended sha256 c.in_ok-request.request.command (data_of c.in_ok-case.case)) starts ∙ sym c.in_ok-end.ensures),
+        case-in-range (texts c.args.words.now) bytes c.in_ok-case.case (loaded_of c.in_ok-loaded.loaded) reads c.in_ok-loaded.ensures.stands (subst (λ s. IsValid s) (sym starts) c.machines_are_valid.ensures),
+      ),
+    )
