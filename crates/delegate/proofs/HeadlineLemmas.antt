@@ -1,6 +1,6 @@
 -- The headline, over definitions alone.
-use Rattle.std.proofs.Common.{◌≡◌, ℕ, zero, suc, ◌+◌, ◌-◌, ◌<◌, ◌≤◌, ◌^◌, List, [], ◌∷◌, length, ◌⊎◌, inl, inr, Option, Some, None, Result, Ok, Err, Bool, true, false, cond, slice_get, ◌++◌, refl, sym, ap, subst, ◌∙◌, arith}
-use Rattle.std.proofs.lemmas.Bool.{cases_Bool, le-ltb}
+use Rattle.std.proofs.Common.{◌≡◌, ℕ, zero, suc, ◌+◌, ◌<◌, ◌≤◌, ◌^◌, List, [], ◌∷◌, length, ◌⊎◌, inl, inr, Option, Some, None, Result, Ok, Err, Bool, true, false, cond, slice_get, refl, sym, ap, subst, ◌∙◌, arith}
+use Rattle.std.proofs.lemmas.Bool.{le-ltb}
 use Rattle.std.specs.Option.{ok_or}
 use Rattle.sha2.specs.Sha256.{sha256}
 use Rattle.rd_base.specs.declared.claim.Claim.{Claim}
@@ -8,15 +8,14 @@ use Rattle.rd_base.specs.declared.answer.Answer.TheVariants as answer
 use Rattle.bisect_game.specs.declared.settled.Settled.{Settled}
 use Rattle.bisect_game.specs.declared.settled.Settled.TheVariants as settled
 use Rattle.bisect_game.specs.Ruling.{IsFair}
-use Rattle.bisect_game.specs.Rules.{Rules, ArePlayable}
+use Rattle.bisect_game.specs.Rules.{Rules}
 use Rattle.bisect_game.specs.Bisection.{Bisection}
 use Rattle.bisect_game.specs.Truth.{Truth, IsRun}
 use Rattle.tournament.specs.declared.verdict.Verdict.{Verdict}
 use Rattle.tournament.specs.declared.verdict.Verdict.TheVariants.{Accept, NoneLeft, Collision}
-use Rattle.tournament.specs.Bracket.{Record, live_from, lowest, or_lowest, is_out_in, claim_in, also, all_there, is_complete, verdict_of}
-use Rattle.tournament.specs.Theorem.{HasTrueClaim, HasTrueClaimSoFar, IsRightVerdict}
+use Rattle.tournament.specs.Bracket.{Record, live_from, lowest, or_lowest, is_out_in, claim_in, also, verdict_of}
+use Rattle.tournament.specs.Theorem.{HasTrueClaim, IsRightVerdict}
 use Rattle.rv_step.specs.State.{State}
-use Rattle.rv_step.specs.Step.{state_at}
 use Rattle.rv_step.specs.Valid.{IsValid}
 use Rattle.state_commit.specs.StateRoot.{state_root}
 use Rattle.step_referee.specs.MachineRuling.{machine_ruling}
@@ -24,16 +23,16 @@ use Rattle.step_referee.specs.MachineTruth.{machine_truth}
 use Rattle.case_reader.specs.Case.{CaseData, case_at, data_of}
 use Rattle.case_reader.specs.declared.case.Case.{Case}
 use Rattle.image_reader.specs.Image.{Image}
-use Rattle.transcript_text.specs.Lines.{Line, accept_line, line_of_accepted, line_of_verdict, settled_at}
-use Rattle.transcript_text.specs.Report.{line_text, text_if_there}
+use Rattle.transcript_text.specs.Lines.{accept_line, line_of_accepted, line_of_verdict}
+use Rattle.transcript_text.specs.Report.{text_if_there}
 use Rattle.transcript_text.specs.Laws.{NothingIsSaidAgainstTheTruthful}
-use Rattle.delegate.specs.Match.{rules_of_case, says_of_case, record_of_case, verdict_of_case, truth_of_case, head_of}
+use Rattle.delegate.specs.Match.{rules_of_case, says_of_case, record_of_case, verdict_of_case, truth_of_case}
 use Rattle.delegate.specs.Outcome.{carried_out, outcome, reported, answered_by, image_at, start_of}
 use Rattle.delegate.specs.Refusal.{usage, case_refusal, image_refusal, or_refusal, too_long}
 use Rattle.delegate.specs.Stages.{CasesAreInRange}
 use Rattle.delegate.specs.declared.response.Response.{Response}
 use Rattle.delegate.specs.declared.words.Command.TheVariants.{Judge}
-use Rattle.delegate.specs.Headline.{IsCase, IsTruthful, IsNotEliminated, Headline, AcceptsTheRun, ShowsCollision, IsInRange, HeadlineOfCases, before_verdict, final_state}
+use Rattle.delegate.specs.Headline.{IsCase, AcceptsTheRun, ShowsCollision, IsInRange, HeadlineOfCases, before_verdict}
 use Rattle.delegate.proofs.EndingLemmas.{AreLaws, IsSafeCase, case-is-safe}
 use Rattle.delegate.proofs.OutcomeLemmas.{all_steps, outcome-ok}
 
