@@ -1,4 +1,6 @@
+pub mod EndingLemmas
 pub mod HeadlineLemmas
 pub mod OutcomeLemmas
+pub mod PlayLemmas
 pub mod ProcessLemmas
 pub mod WordsLemmas

@@ -8,10 +8,10 @@ use Rattle.sha2.specs.Sha256.{sha256}
 use Rattle.rv_step.specs.State.{State}
 use Rattle.case_reader.specs.Case.{CaseData, case_at}
 use Rattle.image_reader.specs.Image.{Image}
-use Rattle.transcript_text.specs.declared.record.Verdict.{Verdict}
-use Rattle.transcript_text.specs.declared.record.Verdict.TheVariants.{Accept, NoneLeft}
+use Rattle.tournament.specs.declared.verdict.Verdict.{Verdict}
+use Rattle.tournament.specs.declared.verdict.Verdict.TheVariants.{Accept, NoneLeft, Collision as Collided}
 use Rattle.delegate.specs.Answered.{is_outcome, is_of_a_command}
-use Rattle.delegate.specs.Match.{record_of, verdict_of, end_of_run}
+use Rattle.delegate.specs.Match.{record_of_case, verdict_of_case}
 use Rattle.delegate.specs.Outcome.{within_limit, within_bound, image_at, start_of, answered_by, ended, carried_out, either_way, outcome}
 use Rattle.delegate.specs.Refusal.{usage, too_long, bound_refusal, case_refusal, image_refusal, or_refusal}
 use Rattle.delegate.specs.Visible.{MayBe, ForItsBytes}
@@ -115,9 +115,10 @@ bounded Roots c e is = limited bound_refusal _ e is
 verdict-kind : (verdict : Verdict) → answers_bytes (answered_by verdict) ≡ true
 verdict-kind (Accept number) = refl
 verdict-kind NoneLeft = refl
+verdict-kind (Collided x y) = refl
 
 ended-kind : (command : Command) (c : CaseData) (start : State) → answers_bytes (ended sha256 command c start).answered ≡ true
-ended-kind Judge c start = verdict-kind (verdict_of (record_of c (end_of_run c start)).claims)
+ended-kind Judge c start = verdict-kind (verdict_of_case sha256 c start (record_of_case sha256 c start))
 ended-kind Run c start = refl
 ended-kind Roots c start = refl
 

@@ -1,20 +1,18 @@
 -- What the clauses of `clap` say of our command line.
-use Rattle.std.proofs.Common.{Box, ◌≡◌, ◌≢◌, inl, inr, subst, ◌∙◌, List, [], ◌∷◌, true, Option, Some, None, option_map, codes, refl, sym, ap, cond}
+use Rattle.std.proofs.Common.{ℕ, max, Result, Ok, Err, arith, ◌≡◌, ◌≢◌, inl, inr, subst, ◌∙◌, List, [], ◌∷◌, true, Option, Some, None, option_map, codes, refl, sym, ap, cond}
+use Rattle.std.specs.Str.Parse.{ParsesUnsigned, digits_value, without_leading_plus}
 use Rattle.clap.specs.Walk.{Text}
-use Rattle.clap.specs.Simple.{App, HasMatchesOf, is_simple, subcommand_of, subcommand_rows, subcommand_rows_of}
-use Rattle.clap.specs.Matches.{subcommand_name_of}
+use Rattle.clap.specs.Matches.{ReadsOne}
+use Rattle.clap.specs.Simple.{App, HasMatchesOf, is_simple, subcommand_of, subcommand_rows_of}
 use Rattle.clap.specs.Kinds.{HasKind, IsAmong, Kinds}
-use Rattle.clap.specs.Values.{kind_of}
+use Rattle.clap.specs.Values.{IsUnsignedIn, kind_of}
 use Rattle.clap.specs.declared.error.Error.{Error}
 use Rattle.clap.specs.declared.error.kind.ErrorKind.TheVariants.{OutOfMemory}
 use Rattle.clap.specs.Faults.{fault_of, is_simple_and_free}
 use Rattle.clap.specs.declared.error.kind.ErrorKind.{ErrorKind}
 use Rattle.clap.specs.declared.parser.matches.ArgMatches.{ArgMatches}
-use Rattle.clap.specs.declared.parser.matches.ArgMatches.TheViews.{out-ArgMatches, out-SubCommand}
-use Rattle.clap.specs.declared.parser.matches.SubCommand.{SubCommand}
-use Rattle.std.specs.Box.{box_value}
 use Rattle.clap.proofs.OnLiterals.{clap_on_literals}
-use Rattle.delegate.specs.Words.{command_line, is_faultless, is_taken, command_of, named, name_of, chosen}
+use Rattle.delegate.specs.Words.{command_line, is_faultless, is_taken, command_of, named, name_of, chosen, rows_given, given_options, IsNumberOf}
 use Rattle.delegate.specs.declared.words.Command.{Command}
 use Rattle.delegate.specs.declared.words.Command.TheVariants.{Judge, Run, Roots}
 
@@ -39,15 +37,6 @@ pub chosen-refused : (words : List Text) (k : ErrorKind) → IsAmong k (fault_of
 unfolding is_taken
 chosen-refused words k among = untaken (command_of words) (fault_of command_line words) k among
 
--- the name that a parse gives is that of the definition's subcommand
-names-of-rows : {Z : Type 0} (entered : Option (Box SubCommand Z)) → option_map (λ b. (out-SubCommand (box_value b)).name.now) entered ≡ option_map name_of (subcommand_rows entered)
-names-of-rows None = refl
-names-of-rows (Some b) = refl
-
-pub name-of-rows : (m : ArgMatches) (words : List Text) → subcommand_rows_of m ≡ subcommand_of command_line words → named (subcommand_name_of m) ≡ command_of words
-unfolding command_of
-name-of-rows m words rows = ap named (names-of-rows (out-ArgMatches m).subcommand ∙ ap (option_map name_of) rows)
-
 -- plain arguments: the program's name and a command
 pub judge_is_taken : (program : Text) → chosen (program ∷ codes "judge" ∷ []) ≡ Some Judge
 unfolding clap_on_literals command_line is_taken command_of
@@ -61,14 +50,56 @@ pub roots_is_taken : (program : Text) → chosen (program ∷ codes "roots" ∷ 
 unfolding clap_on_literals command_line is_taken command_of
 roots_is_taken program = refl
 
--- a parse that succeeds gives the command
-pub chosen-of-parse : (a : App) (words : List Text) (m : ArgMatches) (command : Option Command) → a ≡ command_line
-    → (is_simple_and_free a ≡ true → fault_of a words ≡ []) → HasMatchesOf a words m → command ≡ named (subcommand_name_of m)
+-- and these with options, at the ends of their ranges
+
+pub least_numbers_are_taken : (program : Text) → chosen (program ∷ codes "judge" ∷ codes "--workers" ∷ codes "1" ∷ codes "--posters" ∷ codes "1" ∷ codes "--every" ∷ codes "1" ∷ []) ≡ Some Judge
+unfolding clap_on_literals command_line is_taken command_of
+least_numbers_are_taken program = refl
+
+pub most_numbers_are_taken : (program : Text) → chosen (program ∷ codes "judge" ∷ codes "--every" ∷ codes "65536" ∷ codes "--posters" ∷ codes "16" ∷ codes "--workers" ∷ codes "64" ∷ []) ≡ Some Judge
+unfolding clap_on_literals command_line is_taken command_of
+most_numbers_are_taken program = refl
+
+abbrev IsRefused : Text → Text → Type 0
+IsRefused name number = (program : Text) → chosen (program ∷ codes "judge" ∷ name ∷ number ∷ []) ≡ None
+
+pub no_workers_are_refused : IsRefused (codes "--workers") (codes "0")
+unfolding clap_on_literals command_line is_taken command_of
+no_workers_are_refused program = refl
+
+pub more_workers_are_refused : IsRefused (codes "--workers") (codes "65")
+unfolding clap_on_literals command_line is_taken command_of
+more_workers_are_refused program = refl
+
+pub more_posters_are_refused : IsRefused (codes "--posters") (codes "17")
+unfolding clap_on_literals command_line is_taken command_of
+more_posters_are_refused program = refl
+
+pub more_steps_are_refused : IsRefused (codes "--every") (codes "65537")
+unfolding clap_on_literals command_line is_taken command_of
+more_steps_are_refused program = refl
+
+-- a parse that succeeds gives the command and its options
+
+abbrev Parsed : App → List Text → ArgMatches → Type 0
+Parsed a words m = (a ≡ command_line) × (is_simple_and_free a ≡ true → fault_of a words ≡ []) × HasMatchesOf a words m
+
+rows-of-parse : (a : App) (words : List Text) (m : ArgMatches) → Parsed a words m → subcommand_rows_of m ≡ subcommand_of command_line words
+rows-of-parse a words m parsed = subst (λ x. subcommand_rows_of m ≡ subcommand_of x words) parsed.0 (parsed.2 (ap is_simple parsed.0 ∙ command_line-is-simple)).1
+
+command-of-rows : (m : ArgMatches) (words : List Text) → subcommand_rows_of m ≡ subcommand_of command_line words → named (option_map name_of (subcommand_rows_of m)) ≡ command_of words
+unfolding command_of
+command-of-rows m words rows = ap (λ entered. named (option_map name_of entered)) rows
+
+pub chosen-of-parse : (a : App) (words : List Text) (m : ArgMatches) (command : Option Command) → Parsed a words m → command ≡ named (option_map name_of (subcommand_rows_of m))
     → command ≡ chosen words
-chosen-of-parse a words m command app free has is =
-    let none = subst (λ x. fault_of x words ≡ []) app (free (ap is_simple_and_free app ∙ command_line-is-free)) in
-    let rows = subst (λ x. subcommand_rows_of m ≡ subcommand_of x words) app (has (ap is_simple app ∙ command_line-is-simple)).1 in
-    is ∙ name-of-rows m words rows ∙ sym (chosen-taken words none)
+chosen-of-parse a words m command parsed is =
+    let none = subst (λ x. fault_of x words ≡ []) parsed.0 (parsed.1 (ap is_simple_and_free parsed.0 ∙ command_line-is-free)) in
+    is ∙ command-of-rows m words (rows-of-parse a words m parsed) ∙ sym (chosen-taken words none)
+
+pub options-of-parse : (a : App) (words : List Text) (m : ArgMatches) → Parsed a words m → rows_given (subcommand_rows_of m) ≡ given_options words
+unfolding given_options
+options-of-parse a words m parsed = ap rows_given (rows-of-parse a words m parsed)
 
 -- a parse that fails, and not because memory ran out, refuses the arguments
 pub chosen-of-fault : (a : App) (words : List Text) (e : Error) → a ≡ command_line
@@ -79,3 +110,29 @@ chosen-of-fault a words e app free other =
     refused : HasKind (fault_of command_line words) e → None ≡ chosen words
     refused (inl memory) = absurd (other memory)
     refused (inr among) = sym (chosen-refused words (kind_of e) among)
+
+-- the number that an option's text gives
+
+abbrev Parses : (E : Type 0) → (List ℕ → Result ℕ E → Type 0) → Type 0
+Parses E gives = (bs : List ℕ) (r : Result ℕ E) → gives bs r → ParsesUnsigned 32 10 bs r
+
+pub some-number : {E : Type 0} {gives : List ℕ → Result ℕ E → Type 0} (read given : Option Text) (default v n : ℕ) → Parses E gives → read ≡ given
+    → (read ≡ None → Some v ≡ None) → ((t : Text) → read ≡ Some t → ReadsOne gives t (Some v)) → n ≡ max v 1 → IsNumberOf given default n
+some-number None None default v n parses same none value is = absurd (cc (none refl))
+some-number None (Some text) default v n parses same none value is = absurd (cc (none refl))
+some-number (Some t) None default v n parses same none value is = absurd (cc)
+some-number (Some t) (Some text) default v n parses same none value is = λ within.
+    let t_is : t ≡ text = cc in
+    let parsed = parses t (Ok v) (value t refl) in
+    let number : v ≡ digits_value 10 (without_leading_plus text) = subst (λ w. v ≡ digits_value 10 (without_leading_plus w)) t_is parsed.1 in
+    omega (arith, is, number, within.2)
+
+pub no-number : {E : Type 0} {gives : List ℕ → Result ℕ E → Type 0} (read given : Option Text) (default : ℕ) → Parses E gives → read ≡ given
+    → ((t : Text) → read ≡ Some t → ReadsOne gives t None) → IsNumberOf given default default
+no-number read None default parses same value = refl
+no-number None (Some text) default parses same value = absurd (cc)
+no-number (Some t) (Some text) default parses same value = λ within.
+    let t_is : t ≡ text = cc in
+    let failed = value t refl in
+    let within_t = subst (λ w. IsUnsignedIn 1 4294967295 w) (sym t_is) within in
+    absurd (parses t (Err failed.0) failed.1 (within_t.0, omega (arith, within_t.3)))

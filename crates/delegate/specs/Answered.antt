@@ -26,7 +26,6 @@ is_outcome _ = true
 -- such an answer of one of the commands, or to arguments that name none
 abbrev pub is_of_a_command : Answered → Bool
 is_of_a_command AuditRefused = false
-is_of_a_command Collision = false
 is_of_a_command answered = is_outcome answered
 
 -- an answer for which the source is read to its end

@@ -1,18 +1,23 @@
--- To believe. The headline: a prover whose claim is the run's own is never put out, and where there is one the verdict is
--- the sequential run's status and output.
-use Rattle.std.specs.Prelude.{◌≡◌, ℕ, zero, suc, ◌≤◌, List, ◌++◌, length, codes, Option, Some, None, Ok, slice_get}
-use Rattle.rd_base.specs.declared.script.Script.{Script}
+-- To believe. The headline: a prover that claims and answers as the machine's definition says, within its patience, is not
+-- eliminated, and the report accepts the sequential run's status and output or shows a collision.
+use Rattle.std.specs.Prelude.{◌≡◌, ℕ, ◌<◌, ◌≤◌, ◌⊎◌, false, List, [], ◌++◌, length, Contains, Some, Ok}
+use Rattle.sha2.specs.Sha256.{sha256}
 use Rattle.rv_step.specs.State.{State}
+use Rattle.rv_step.specs.Valid.{IsValid}
+use Rattle.rv_step.specs.Step.{state_at}
 use Rattle.case_reader.specs.Case.{CaseData, case_at}
 use Rattle.image_reader.specs.Image.{Image}
-use Rattle.transcript_text.specs.Report.{head_line, claim_lines, settled_at, answer_text}
-use Rattle.transcript_text.specs.declared.record.Settled.TheVariants.{Given}
+use Rattle.tournament.specs.Truthful.{IsTruthfulProver}
+use Rattle.tournament.specs.Bracket.{live}
+use Rattle.tournament.specs.Theorem.{AreTrue, Stays, IsCollisionIn}
+use Rattle.transcript_text.specs.Lines.{accept_line, collision_line, lines_of_record, are_against}
+use Rattle.transcript_text.specs.Report.{head_line, lines_text, line_text}
 use Rattle.delegate.specs.Words.{chosen}
 use Rattle.delegate.specs.declared.words.Command.TheVariants.{Judge}
-use Rattle.delegate.specs.Match.{end_of_run, claim_by, claim_of_run, claims_of, head_of}
-use Rattle.delegate.specs.Outcome.{image_at, start_of}
+use Rattle.delegate.specs.Match.{rules_of_case, says_of_case, record_of_case, truth_of_case, head_of}
+use Rattle.delegate.specs.Outcome.{image_at, reported}
 use Rattle.delegate.specs.declared.response.Response.{Response}
-use Rattle.delegate.specs.declared.answered.Answered.TheVariants.{Done}
+use Rattle.delegate.specs.declared.answered.Answered.TheVariants.{Done, Collision}
 
 -- the arguments ask for a match to be decided, and the bytes are this case with this image
 pub record IsCase (words : List (List ℕ)) (bytes : List ℕ) (c : CaseData) (image : Image) : Type 0 where
@@ -21,28 +26,56 @@ pub record IsCase (words : List (List ℕ)) (bytes : List ℕ) (c : CaseData) (i
   pub reads : case_at bytes ≡ Ok c
   pub loads : image_at c ≡ Ok image
 
--- the state in which the sequential run of a case ends
-abbrev pub final_state : CaseData → Image → State
-final_state c image = end_of_run c (start_of c image)
+-- THE PREMISE: a prover of the case that claims and answers as the machine's definition says. On each question that the record
+-- of the case asks it, it passes no more often than the patience allows, and then gives the true answer.
+pub record IsTruthful (c : CaseData) (start : State) (p : ℕ) : Type 0 where
+  pub some : 0 < p
+  pub there : p ≤ length c.provers
+  pub answers : IsTruthfulProver (rules_of_case sha256 c start) (says_of_case sha256 c start) (truth_of_case sha256 c start) p
 
--- the script of a prover, by its number from 1
-abbrev pub script_at : List Script → ℕ → Option Script
-script_at scripts zero = None
-script_at scripts (suc before) = slice_get scripts before
+-- IT IS NOT ELIMINATED: it is live at the end, with the true claim; its answers in each of its disputes are given and true; and
+-- no line of the report calls it faulty, spent or refuted
+pub record IsNotEliminated (c : CaseData) (start : State) (p : ℕ) : Type 0 where
+  pub is_live : Contains (live (record_of_case sha256 c start)) (p, (truth_of_case sha256 c start).claim)
+  pub answers : AreTrue (rules_of_case sha256 c start) (truth_of_case sha256 c start) p (record_of_case sha256 c start)
+  pub stays : Stays (rules_of_case sha256 c start) (truth_of_case sha256 c start) p (record_of_case sha256 c start)
+  pub spared : are_against p (lines_of_record (record_of_case sha256 c start)) ≡ false
 
--- a prover of the case whose claim is the run's own
-pub record IsTruthful (c : CaseData) (final : State) (number : ℕ) : Type 0 where
-  pub script : Script
-  pub plays : script_at c.provers number ≡ Some script
-  pub truthful : claim_by final script ≡ claim_of_run final
+-- the state at the bound, in which the sequential run ends
+abbrev pub final_state : CaseData → State → State
+final_state c start = state_at start c.bound
 
--- the line that accepts the run's status and output
-abbrev pub accepts_the_run : State → List ℕ
-accepts_the_run final = codes "accept " ++ answer_text final.status final.output ++ codes "\n"
+-- the lines of the report before the verdict's
+abbrev pub before_verdict : CaseData → State → List ℕ → List ℕ
+before_verdict c start verdict_text = head_line (head_of c) ++ (lines_text (lines_of_record (record_of_case sha256 c start)) ++ verdict_text)
 
--- what holds of a response for a truthful prover: its claim stands, so that no line of the report puts it out, and the
--- report ends by accepting the run
-pub record Headline (response : Response) (c : CaseData) (final : State) (number : ℕ) : Type 0 where
+-- EITHER the verdict's line accepts the status and the output of the sequential run
+pub record AcceptsTheRun (response : Response) (c : CaseData) (start : State) : Type 0 where
   pub done : response.answered ≡ Done
-  pub stays : settled_at (claims_of final c.provers) number ≡ Some (Given (claim_of_run final))
-  pub accepts : response.text ≡ head_line (head_of c) ++ claim_lines 1 (claims_of final c.provers) ++ accepts_the_run final
+  pub text : response.text ≡ before_verdict c start (line_text (accept_line (final_state c start).status (final_state c start).output))
+
+-- OR it shows two different strings with one digest, each opened by an answer of the record
+pub record ShowsCollision (response : Response) (c : CaseData) (start : State) : Type 0 where
+  pub pair : List ℕ × List ℕ
+  pub collision : IsCollisionIn (rules_of_case sha256 c start) (record_of_case sha256 c start) pair
+  pub answered : response.answered ≡ Collision
+  pub text : response.text ≡ before_verdict c start (line_text (collision_line (pair.0) (pair.1)))
+
+-- what holds of the response to a case with a truthful prover
+pub record Headline (response : Response) (c : CaseData) (start : State) (p : ℕ) : Type 0 where
+  pub stays : IsNotEliminated c start p
+  pub ends : AcceptsTheRun response c start ⊎ ShowsCollision response c start
+
+-- a case with numbers in the ranges that are read, whose run starts in a valid state, with no output
+pub record IsInRange (c : CaseData) (start : State) : Type 0 where
+  pub some : 0 < length c.provers
+  pub few : length c.provers ≤ 16
+  pub steps : 0 < c.bound
+  pub short : c.bound ≤ 16777216
+  pub patience : c.patience ≤ 100
+  pub valid : IsValid start
+  pub silent : start.output ≡ []
+
+-- the headline holds of the report of each such case
+abbrev pub HeadlineOfCases : Type 0
+HeadlineOfCases = (c : CaseData) (start : State) (p : ℕ) → IsInRange c start → IsTruthful c start p → Headline (reported sha256 c start) c start p

@@ -2,6 +2,7 @@ pub use Rattle.io_edge.specs.Device
 pub use Rattle.rv_step.specs.State
 pub use Rattle.rv_step.specs.Step
 pub use Rattle.rv_step.specs.Loaded
+pub use Rattle.rv_step.specs.Valid
 pub use Rattle.state_commit.specs.StateRoot
 pub use Rattle.case_reader.specs.Case
 pub use Rattle.image_reader.specs.Image
@@ -14,6 +15,6 @@ pub mod Match
 pub mod Refusal
 pub mod Outcome
 pub mod Visible
-pub mod Stages
 pub mod Headline
+pub mod Stages
 pub mod Process

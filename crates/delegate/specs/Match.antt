@@ -1,57 +1,46 @@
--- To believe. The match: the referee runs the program itself, and a claim is faulty where its output isn't the run's.
-use Rattle.std.specs.Prelude.{ℕ, ◌+◌, List, [], ◌∷◌, length, map, if◌then◌else◌}
-use Rattle.std.specs.Str.{bytes_eq}
-use Rattle.rd_base.specs.declared.script.Script.{Script}
-use Rattle.rd_base.specs.declared.script.Manner.{Manner}
-use Rattle.rd_base.specs.declared.script.Manner.TheVariants.{Output}
+-- To believe. The match of a case: by what it is played, what its provers say, and what comes of it. The referee sees no state
+-- but the first, of which it makes the root, and decides about claims and proofs of single steps.
+use Rattle.std.specs.Prelude.{ℕ, List, length}
+use Rattle.bisect_game.specs.Says.{Says}
+use Rattle.bisect_game.specs.Rules.{Rules}
+use Rattle.bisect_game.specs.Truth.{Truth}
 use Rattle.rv_step.specs.State.{State}
-use Rattle.rv_step.specs.Step.{state_at}
+use Rattle.state_commit.specs.StateRoot.{state_root}
+use Rattle.tournament.specs.declared.setup.Setup.{Setup}
+use Rattle.tournament.specs.declared.verdict.Verdict.{Verdict}
+use Rattle.tournament.specs.Bracket.{Record, bracket, verdict_of}
+use Rattle.tournament.specs.Journals.{answers_of}
+use Rattle.tournament.specs.Posting.{rules_of}
+use Rattle.step_referee.specs.MachineRuling.{machine_ruling}
+use Rattle.step_referee.specs.MachineTruth.{machine_truth}
+use Rattle.prover_run.specs.CaseScripts.{case_says}
 use Rattle.case_reader.specs.Case.{CaseData}
-use Rattle.transcript_text.specs.declared.record.Claim.{Claim}
-use Rattle.transcript_text.specs.declared.record.Settled.{Settled}
-use Rattle.transcript_text.specs.declared.record.Settled.TheVariants.{Given, Faulty}
-use Rattle.transcript_text.specs.declared.record.Record.{Record}
-use Rattle.transcript_text.specs.declared.record.Head.{Head}
-use Rattle.transcript_text.specs.declared.record.DigestName.TheVariants.{Sha256}
-use Rattle.transcript_text.specs.declared.record.Verdict.{Verdict}
-use Rattle.transcript_text.specs.declared.record.Verdict.TheVariants.{Accept, NoneLeft}
+use Rattle.transcript_text.specs.declared.head.Head.{Head}
+use Rattle.transcript_text.specs.declared.head.DigestName.TheVariants.{Sha256}
 
--- the state in which the run of a case from this state ends: that at the bound
-abbrev pub end_of_run : CaseData → State → State
-end_of_run c start = state_at start c.bound
+-- the numbers of the match of a case whose run starts in this state; the root at step 0 is that state's
+abbrev pub setup_of : (List ℕ → List ℕ) → CaseData → State → Setup
+setup_of digest c start = record { provers = length c.provers; bound = c.bound; patience = c.patience; start = record { 0 = state_root digest start } }
 
--- what the run claims in the state that it ends in: its status and output
-abbrev pub claim_of_run : State → Claim
-claim_of_run final = record { status = final.status; output = final.output }
+-- the judge of the machine decides, and the match has these numbers
+abbrev pub rules_of_case : (List ℕ → List ℕ) → CaseData → State → Rules
+rules_of_case digest c start = rules_of (machine_ruling digest) (setup_of digest c start)
 
--- what a prover claims: the run's status, and the run's output or the bytes of its manner
-abbrev pub claim_by_manner : State → Manner → Claim
-claim_by_manner final (Output bytes) = record { status = final.status; output = bytes }
-claim_by_manner final _ = claim_of_run final
+-- what the provers of the case say, each by its script
+abbrev pub says_of_case : (List ℕ → List ℕ) → CaseData → State → Says
+says_of_case digest c start = case_says digest start c.bound c.provers
 
-abbrev pub claim_by : State → Script → Claim
-claim_by final script = claim_by_manner final script.manner
+-- the record of the case: claims and stages of disputes over what each question is settled as
+abbrev pub record_of_case : (List ℕ → List ℕ) → CaseData → State → Record
+record_of_case digest c start = bracket (rules_of_case digest c start) (answers_of (rules_of_case digest c start) (says_of_case digest c start))
 
--- a claim is faulty where its output isn't the run's
-abbrev pub settled_claim : State → Claim → Settled
-settled_claim final claim = if bytes_eq claim.output final.output then Given claim else Faulty claim
+-- the verdict of a record of the case
+abbrev pub verdict_of_case : (List ℕ → List ℕ) → CaseData → State → Record → Verdict
+verdict_of_case digest c start settled = verdict_of (rules_of_case digest c start) settled
 
--- what is settled of each prover
-abbrev pub claims_of : State → List Script → List Settled
-claims_of final scripts = map (λ script. settled_claim final (claim_by final script)) scripts
-
--- the record of a case whose run ends in this state
-abbrev pub record_of : CaseData → State → Record
-record_of c final = record { claims = claims_of final c.provers }
-
--- the lowest prover whose claim was given, of provers the first of which has this number; else nobody is left
-abbrev pub verdict_from : ℕ → List Settled → Verdict
-verdict_from number [] = NoneLeft
-verdict_from number (Given claim ∷ others) = Accept number
-verdict_from number (Faulty claim ∷ others) = verdict_from (number + 1) others
-
-abbrev pub verdict_of : List Settled → Verdict
-verdict_of claims = verdict_from 1 claims
+-- the roots, the proofs and the claim of the sequential run
+abbrev pub truth_of_case : (List ℕ → List ℕ) → CaseData → State → Truth
+truth_of_case digest c start = machine_truth digest start c.bound
 
 -- what the match is played over
 abbrev pub head_of : CaseData → Head

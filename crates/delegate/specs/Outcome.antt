@@ -13,12 +13,12 @@ use Rattle.image_reader.specs.Elf.{elf_at}
 use Rattle.image_reader.specs.declared.fault.ImageFault.{ImageFault}
 use Rattle.transcript_text.specs.Report.{report_text, answer_line_text}
 use Rattle.transcript_text.specs.Roots.{root_lines}
-use Rattle.transcript_text.specs.declared.record.Verdict.{Verdict}
-use Rattle.transcript_text.specs.declared.record.Verdict.TheVariants.{Accept, NoneLeft}
+use Rattle.tournament.specs.declared.verdict.Verdict.{Verdict}
+use Rattle.tournament.specs.declared.verdict.Verdict.TheVariants.{Accept, NoneLeft, Collision}
 use Rattle.delegate.specs.Words.{chosen}
 use Rattle.delegate.specs.declared.words.Command.{Command}
 use Rattle.delegate.specs.declared.words.Command.TheVariants.{Judge, Run, Roots}
-use Rattle.delegate.specs.Match.{end_of_run, record_of, verdict_of, head_of}
+use Rattle.delegate.specs.Match.{record_of_case, verdict_of_case, head_of}
 use Rattle.delegate.specs.Refusal.{usage, too_long, bound_refusal, case_refusal, image_refusal, or_refusal}
 use Rattle.delegate.specs.declared.response.Response.{Response}
 use Rattle.delegate.specs.declared.answered.Answered.{Answered}
@@ -44,16 +44,20 @@ start_of c image = started image.memory image.entry c.input
 abbrev pub answered_by : Verdict → Answered
 answered_by (Accept number) = answered.Done
 answered_by NoneLeft = answered.NoneLeft
+answered_by (Collision x y) = answered.Collision
 
--- the verdict of a match and its report, from the state in which the case's run ends
-abbrev pub reported : CaseData → State → Response
-reported c final =
-    let verdict = verdict_of (record_of c final).claims in
-    record { answered = answered_by verdict; text = report_text (head_of c) (record_of c final) verdict }
+-- the verdict of a case and its report: they depend on nothing but the case and the digest function
+abbrev pub reported : (List ℕ → List ℕ) → CaseData → State → Response
+reported digest c start =
+    let settled = record_of_case digest c start in
+    let verdict = verdict_of_case digest c start settled in
+    record { answered = answered_by verdict; text = report_text (head_of c) settled verdict }
 
--- the run's status and output, from the state in which it ends
-abbrev pub run_answer : State → Response
-run_answer final = record { answered = answered.Done; text = answer_line_text final.status final.output }
+-- the run's status and output, in the state at the bound
+abbrev pub run_answer : CaseData → State → Response
+run_answer c start =
+    let final = state_at start c.bound in
+    record { answered = answered.Done; text = answer_line_text final.status final.output }
 
 -- the root of each state from the first to that at the bound, by a digest function
 abbrev pub roots_answer : (List ℕ → List ℕ) → CaseData → State → Response
@@ -61,8 +65,8 @@ roots_answer digest c start = record { answered = answered.Done; text = root_lin
 
 -- a command on a case whose run starts in this state
 abbrev pub ended : (List ℕ → List ℕ) → Command → CaseData → State → Response
-ended digest Judge c start = reported c (end_of_run c start)
-ended digest Run c start = run_answer (end_of_run c start)
+ended digest Judge c start = reported digest c start
+ended digest Run c start = run_answer c start
 ended digest Roots c start = roots_answer digest c start
 
 -- the steps in their order, of which the first that is refused is the last

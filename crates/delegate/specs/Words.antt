@@ -1,14 +1,18 @@
 -- To believe. The arguments of the command line, as `clap` takes them.
-use Rattle.std.specs.Prelude.{ℕ, List, [], ◌∷◌, Bool, true, false, codes, map, option_map, Option, Some, None, if◌then◌else◌, String, string_bytes}
+use Rattle.std.specs.Prelude.{◌≡◌, ℕ, pos, List, [], ◌∷◌, Bool, true, false, codes, map, option_map, Option, Some, None, if◌then◌else◌, String, string_bytes}
 use Rattle.std.specs.declared.alloc.Global.{Global}
-use Rattle.std.specs.Option.{option_and_then}
+use Rattle.std.specs.Option.{option_and_then, option_map_or}
 use Rattle.std.specs.Str.{bytes_eq}
+use Rattle.std.specs.Str.Parse.{digits_value, without_leading_plus}
 use Rattle.clap.specs.Kinds.{Kinds}
-use Rattle.clap.specs.Walk.{Row, Text}
-use Rattle.clap.specs.Simple.{App, Shape, new_app, new_shape, on_top, subcommand_of, with_subcommand}
+use Rattle.clap.specs.Values.{IsUnsignedIn}
+use Rattle.clap.specs.Walk.{Row, Rule, Text, one_of}
+use Rattle.clap.specs.Simple.{App, Shape, new_app, new_rule, new_shape, on_top, subcommand_of, with_rule, with_subcommand}
 use Rattle.clap.specs.Faults.{fault_of}
+use Rattle.clap.specs.declared.builder.value_parser.ValueParser.TheVariants as vp
 use Rattle.delegate.specs.declared.words.Command.{Command}
 use Rattle.delegate.specs.declared.words.Command.TheVariants.{Judge, Run, Roots}
+use Rattle.delegate.specs.declared.words.Options.{Options}
 
 -- arguments as their bytes
 abbrev pub texts : List (String Global) → List Text
@@ -17,10 +21,20 @@ texts words = map string_bytes words
 abbrev pub with_required_subcommand : Shape → Shape
 with_required_subcommand shape = record shape { subcommand_required = true }
 
--- the command line: one of the commands `judge`, `run` and `roots`, which have no options
+-- an option `--name` whose value is a number from 1 to the most, with its default
+abbrev pub number_option : Text → ℕ → Text → Rule
+number_option name most default = record (new_rule name) { long = Some name; parser = Some (vp.Signed (pos 1) (pos most)); defaults = default ∷ [] }
+
+-- the command `judge`: `--workers` from 1 to 64, `--posters` from 1 to 16, `--every` from 1 to 65,536
+abbrev pub judge_line : App
+judge_line =
+    with_rule (with_rule (with_rule (new_app (codes "judge")) (number_option (codes "workers") 64 (codes "1"))) (number_option (codes "posters") 16 (codes "1")))
+    (number_option (codes "every") 65536 (codes "1024"))
+
+-- the command line: one of the commands `judge`, `run` and `roots`, the last two without options
 unfoldable pub command_line : App
 command_line =
-    with_subcommand (with_subcommand (with_subcommand (on_top with_required_subcommand (new_app (codes "refcli"))) (new_shape (codes "judge"))) (new_shape (codes "run")))
+    with_subcommand (with_subcommand (with_subcommand (on_top with_required_subcommand (new_app (codes "refcli"))) judge_line.top) (new_shape (codes "run")))
     (new_shape (codes "roots"))
 
 -- there is no fault among those that may be found
@@ -53,3 +67,21 @@ command_of words = named (option_map name_of (subcommand_of command_line words))
 -- the command, where the arguments are taken
 abbrev pub chosen : List Text → Option Command
 chosen words = if is_taken words then command_of words else None
+
+-- what the arguments give the options of their command, defaults among it
+abbrev pub rows_given : Option (Text × List Row) → List Row
+rows_given entered = option_map_or (λ e. e.1) entered []
+
+unfoldable pub given_options : List Text → List Row
+given_options words = rows_given (subcommand_of command_line words)
+
+-- the number of an option: that of its text where it is one of 1 to 2^32 - 1, and a default where there is no text
+abbrev pub IsNumberOf : Option Text → ℕ → ℕ → Type 0
+IsNumberOf (Some text) default n = IsUnsignedIn 1 4294967295 text → n ≡ digits_value 10 (without_leading_plus text)
+IsNumberOf None default n = n ≡ default
+
+-- the numbers of the options
+pub record AreGiven (rows : List Row) (options : Options) : Type 0 where
+  pub workers : IsNumberOf (one_of (codes "workers") rows) 1 options.workers
+  pub posters : IsNumberOf (one_of (codes "posters") rows) 1 options.posters
+  pub every : IsNumberOf (one_of (codes "every") rows) 1024 options.every

@@ -1,49 +1,97 @@
-ghost use Rattle.std.specs.Prelude.{◌≡◌, IfOk};
+ghost use denote.Param.Send.{IsSync};
+ghost use Rattle.std.specs.Prelude.{◌≡◌, ◌<◌, [], IfOk};
 ghost use Rattle.rv_step.specs.State.{state_of, IsChained};
 ghost use Rattle.case_reader.specs.Case.{data_of};
-ghost use Rattle.delegate.specs.Match.{end_of_run, record_of, verdict_of, head_of};
+ghost use Rattle.delegate.specs.Match.{record_of_case, verdict_of_case as verdict_of_record, head_of};
 ghost use Rattle.delegate.specs.Outcome.{answered_by, reported};
 
 use crate::answered::Answered;
-use crate::claims::{decide, settle_claims};
+use crate::playing::play_out;
 use crate::response::Response;
+use crate::words::Options;
 use case_reader::Case;
-use digest_core::Digester;
+use prover_run::{CaseProvers, answerers_of};
 use rd_base::{Bytes, Memory};
-use rv_step::{Machine, advance};
+use rv_step::Machine;
+use segment_replay::Replays;
+use state_commit::state_root;
 use std::alloc::Global;
-use transcript_text::{DigestName, Head, Record, Verdict, report};
+use std::sync::Wait;
+use std::thread::Threads;
+use step_referee::MachineJudge;
+use tournament::{Record, Setup, Verdict};
+use transcript_text::{DigestName, Head, report};
 
-/// The match of a case whose run starts in this machine: what is settled in it, and how it ends. The machine's chain is
-/// that of the digester `d`.
-pub fn verdict_of_case<D: Digester>(
+/// The match of a case whose run starts in this machine: what is settled in it, and how it ends. The machine has put out
+/// nothing, and its chain is that of no output by the digester `d`; each option is at least 1, and none changes the answer.
+///
+/// The referee makes the root of this state and decides about claims and proofs of single steps; it never runs the program.
+/// An `Err` is out of memory.
+pub fn verdict_of_case<R: Threads + Wait + Sync, D: Replays>(
+    rt: &R,
     alloc: Global,
     d: D,
     case: &Case,
     start: Machine,
+    options: Options,
 ) -> Result<(Record, Verdict), Memory>
-    requires { IsChained D.digest_of start }
-    ensures record_kept { IfOk result (λ played. played.0 ≡ record_of (data_of case.now) (end_of_run (data_of case.now) (state_of start))) }
-    ensures verdict { IfOk result (λ played. played.1 ≡ verdict_of played.0.claims) }
+where
+    D: Send + Sync,
+    requires chained { IsChained D.digest_of start }
+    requires silent { start.output.items ≡ [] }
+    requires workers { 0 < options.workers }
+    requires posters { 0 < options.posters }
+    requires every { 0 < options.every }
+    ensures record_kept { IfOk result (λ played. played.0 ≡ record_of_case D.digest_of (data_of case.now) (state_of start)) }
+    ensures verdict { IfOk result (λ played. played.1 ≡ verdict_of_record D.digest_of (data_of case.now) (state_of start) played.0) }
 {
-    let mut machine = start;
-    advance(&mut machine, &d, case.bound)?;
-    let claims = settle_claims(alloc, &machine, case.provers.as_slice())?;
-    let verdict = decide(claims.as_slice());
-    Ok((Record { claims }, verdict))
+    let scripts = case.provers.as_slice();
+    let setup = Setup {
+        provers: scripts.len() as u32,
+        bound: case.bound,
+        patience: case.patience,
+        start: state_root(d, &start),
+    };
+    let provers = CaseProvers::new(alloc, d, scripts, &start, case.bound)?;
+    let mut answerers = answerers_of(
+        alloc,
+        d,
+        scripts,
+        &start,
+        case.bound,
+        options.every,
+        options.workers,
+    )?;
+    play_out(
+        rt,
+        alloc,
+        MachineJudge::new(d),
+        provers,
+        setup,
+        answerers.as_mut_slice(),
+        options.posters,
+    )
 }
 
-/// Plays the match of a case, and reports it. The machine's chain is that of the digester `d`.
-pub fn judge<D: Digester>(
+/// Plays the match of a case, and reports it. The machine and the options are as for `verdict_of_case`.
+pub fn judge<R: Threads + Wait + Sync, D: Replays>(
+    rt: &R,
     alloc: Global,
     d: D,
     case: &Case,
     start: Machine,
+    options: Options,
 ) -> Result<Response, Memory>
-    requires { IsChained D.digest_of start }
-    ensures { IfOk result (λ response. response ≡ reported (data_of case.now) (end_of_run (data_of case.now) (state_of start))) }
+where
+    D: Send + Sync,
+    requires chained { IsChained D.digest_of start }
+    requires silent { start.output.items ≡ [] }
+    requires workers { 0 < options.workers }
+    requires posters { 0 < options.posters }
+    requires every { 0 < options.every }
+    ensures { IfOk result (λ response. response ≡ reported D.digest_of (data_of case.now) (state_of start)) }
 {
-    let (match_record, verdict) = verdict_of_case(alloc, d, case, start)?;
+    let (match_record, verdict) = verdict_of_case(rt, alloc, d, case, start, options)?;
     let text = report(alloc, &head_of(case), &match_record, &verdict)?;
     Ok(Response {
         answered: answered_by(&verdict),
@@ -71,5 +119,6 @@ fn answered_by(verdict: &Verdict) -> Answered
     match verdict {
         Verdict::Accept(_) => Answered::Done,
         Verdict::NoneLeft => Answered::NoneLeft,
+        Verdict::Collision(_, _) => Answered::Collision,
     }
 }

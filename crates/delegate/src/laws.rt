@@ -1,7 +1,14 @@
-ghost use Rattle.std.specs.Prelude.{◌≡◌, ℕ, List, [], ◌∷◌, Some, codes};
+ghost use Rattle.std.specs.Prelude.{◌≡◌, ℕ, List, [], ◌∷◌, Some, None, codes};
+ghost use Rattle.delegate.specs.Headline.{HeadlineOfCases};
 ghost use Rattle.delegate.specs.Words.{chosen};
 
 use crate::words::Command;
+use digest_core::Sha256;
+use step_referee::machine_runs_are_true;
+use tournament::{
+    nobody_asked_means_over, one_record_of_a_case, spare_is_enough, truthful_provers_are_safe,
+};
+use transcript_text::nothing_is_said_against_the_truthful;
 
 /// The program's name, whatever it is, and the name of a command are arguments that name it.
 #[tactic(auto, using(crate::proofs::WordsLemmas::judge_is_taken, crate::proofs::WordsLemmas::run_is_taken, crate::proofs::WordsLemmas::roots_is_taken))]
@@ -10,3 +17,28 @@ pub fn plain_words()
     ensures run { (program : List ℕ) → chosen (program ∷ codes "run" ∷ []) ≡ Some Command.Run }
     ensures roots { (program : List ℕ) → chosen (program ∷ codes "roots" ∷ []) ≡ Some Command.Roots }
 {}
+
+/// The options of `judge` are taken at the ends of their ranges, in any order, and refused beyond them.
+#[tactic(auto, using(crate::proofs::WordsLemmas::least_numbers_are_taken, crate::proofs::WordsLemmas::most_numbers_are_taken, crate::proofs::WordsLemmas::no_workers_are_refused, crate::proofs::WordsLemmas::more_workers_are_refused, crate::proofs::WordsLemmas::more_posters_are_refused, crate::proofs::WordsLemmas::more_steps_are_refused))]
+pub fn plain_options()
+    ensures least { (program : List ℕ) → chosen (program ∷ codes "judge" ∷ codes "--workers" ∷ codes "1" ∷ codes "--posters" ∷ codes "1" ∷ codes "--every" ∷ codes "1" ∷ []) ≡ Some Command.Judge }
+    ensures most { (program : List ℕ) → chosen (program ∷ codes "judge" ∷ codes "--every" ∷ codes "65536" ∷ codes "--posters" ∷ codes "16" ∷ codes "--workers" ∷ codes "64" ∷ []) ≡ Some Command.Judge }
+    ensures no_workers { (program : List ℕ) → chosen (program ∷ codes "judge" ∷ codes "--workers" ∷ codes "0" ∷ []) ≡ None }
+    ensures more_workers { (program : List ℕ) → chosen (program ∷ codes "judge" ∷ codes "--workers" ∷ codes "65" ∷ []) ≡ None }
+    ensures more_posters { (program : List ℕ) → chosen (program ∷ codes "judge" ∷ codes "--posters" ∷ codes "17" ∷ []) ≡ None }
+    ensures more_steps { (program : List ℕ) → chosen (program ∷ codes "judge" ∷ codes "--every" ∷ codes "65537" ∷ []) ≡ None }
+{}
+
+/// The headline, of each case whose numbers are in range and whose run starts in a valid state without output: a prover that
+/// claims and answers as the machine's definition says, within its patience, is not eliminated, and the report accepts the
+/// sequential run's status and output or shows a collision.
+pub fn the_headline()
+    ensures { HeadlineOfCases }
+{
+    spare_is_enough();
+    nobody_asked_means_over();
+    one_record_of_a_case();
+    truthful_provers_are_safe();
+    machine_runs_are_true::<Sha256>();
+    nothing_is_said_against_the_truthful();
+}

@@ -7,9 +7,9 @@
 #![tactic(auto)]
 
 mod answered;
-mod claims;
 mod faults;
 mod judging;
+mod playing;
 mod laws;
 mod process;
 mod program;
@@ -21,10 +21,11 @@ mod stages;
 mod words;
 
 pub use answered::Answered;
-pub use laws::plain_words;
+pub use judging::verdict_of_case;
+pub use laws::{plain_options, plain_words, the_headline};
 pub use process::{arguments, run_process};
 pub use program::run;
-pub use words::Command;
+pub use words::{Command, Options};
 
 #[cfg(test)]
 mod tests;

@@ -13,6 +13,7 @@ use io_edge::{Sink, Source};
 use std::alloc::{AllocGlobal, Global};
 use std::env::Env;
 use std::process::ExitCode;
+use std::sync::Wait;
 use std::thread::Threads;
 use std::{env, io};
 
@@ -28,7 +29,7 @@ pub fn arguments(rt: &(impl Env + AllocGlobal)) -> io::Result<Vec<String>> {
 /// Where an argument isn't UTF-8 there are no arguments, which name no command. Where memory ran out nothing is read or
 /// written.
 #[tactic(auto, using(crate::proofs::ProcessLemmas::status_facts))]
-pub fn run_process<R: Threads + Sync, S: Source, K: Sink>(
+pub fn run_process<R: Threads + Wait + Sync, S: Source, K: Sink>(
     rt: &R,
     alloc: Global,
     arguments: io::Result<Vec<String>>,

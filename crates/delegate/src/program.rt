@@ -4,16 +4,19 @@ ghost use Rattle.io_edge.specs.Device.{Rises, IsLaterIn, AppendsPart};
 ghost use Rattle.case_reader.specs.Case.{CaseData};
 ghost use Rattle.image_reader.specs.Image.{Image};
 ghost use Rattle.delegate.specs.Answered.{is_outcome, is_of_a_command, reads_all};
-ghost use Rattle.delegate.specs.Outcome.{outcome};
-ghost use Rattle.delegate.specs.Headline.{IsCase, IsTruthful, Headline, final_state};
+ghost use Rattle.sha2.specs.Sha256.{sha256};
+ghost use Rattle.delegate.specs.Outcome.{outcome, reported, start_of};
+ghost use Rattle.delegate.specs.Headline.{IsCase, IsTruthful, Headline};
 ghost use Rattle.delegate.specs.Visible.{ForItsBytes};
 ghost use Rattle.delegate.specs.Words.{texts, chosen};
 
 use crate::answered::Answered;
+use crate::laws::the_headline;
 use crate::responding::respond;
 use crate::response::Halt;
 use io_edge::{Sink, Source, write_all};
 use std::alloc::Global;
+use std::sync::Wait;
 use std::thread::Threads;
 
 /// Runs the program: reads a case from the source where the arguments name a command, carries the command out, and
@@ -21,7 +24,7 @@ use std::thread::Threads;
 ///
 /// The answer and the text are the outcome of the arguments and of the bytes that the source had, or a fault of a
 /// device, or out of memory. Nothing is written before the whole text is made, and writing takes no memory.
-pub fn run<R: Threads + Sync, S: Source, K: Sink>(
+pub fn run<R: Threads + Wait + Sync, S: Source, K: Sink>(
     rt: &R,
     alloc: Global,
     words: &[String],
@@ -55,13 +58,20 @@ pub fn run<R: Threads + Sync, S: Source, K: Sink>(
     ensures nothing_read_fault { result ≡ Answered.ReadFault → K.held sink.new ≡ K.held sink.old }
     ensures nothing_memory { result ≡ Answered.Memory → K.held sink.new ≡ K.held sink.old }
 
-    // The headline: a prover whose claim is the run's own is never put out, and where there is one the verdict is the
-    // sequential run's status and output.
+    // Completeness: each case is answered by the verdict of its record, and its report is written whole.
+    ensures completeness { is_outcome result ≡ true → IfSome (S.left source.old) (λ bytes.
+        (c : CaseData) (image : Image) → IsCase (texts words.now) bytes c image →
+        (result ≡ (reported sha256 c (start_of c image)).answered)
+        × Appends (K.held sink.old) (K.held sink.new) (reported sha256 c (start_of c image)).text) }
+
+    // The headline: a prover that claims and answers as the machine's definition says, within its patience, is not
+    // eliminated, and the report accepts the sequential run's status and output or shows a collision. No option is named.
     ensures headline { is_outcome result ≡ true → IfSome (S.left source.old) (λ bytes.
-        (c : CaseData) (image : Image) (number : ℕ) → IsCase (texts words.now) bytes c image → IsTruthful c (final_state c image) number →
-        (text : List ℕ) × Headline (record { answered = result; text = text }) c (final_state c image) number
+        (c : CaseData) (image : Image) (p : ℕ) → IsCase (texts words.now) bytes c image → IsTruthful c (start_of c image) p →
+        (text : List ℕ) × Headline (record { answered = result; text = text }) c (start_of c image) p
         × Appends (K.held sink.old) (K.held sink.new) text) }
 {
+    the_headline();
     let response = match respond(rt, alloc, words, source) {
         Ok(response) => response,
         Err(Halt::ReadFault) => return Answered::ReadFault,

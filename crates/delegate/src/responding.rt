@@ -1,10 +1,11 @@
-ghost use Rattle.std.specs.Prelude.{◌≡◌, ◌↔◌, true, None, Ok, Err, IfOk, IfSome, IsErrOf};
+ghost use Rattle.std.specs.Prelude.{◌≡◌, ◌↔◌, ◌<◌, [], true, None, Ok, Err, IfOk, IfSome, IsErrOf};
 ghost use Rattle.std.specs.Io.KnownBytes.{IsAtEnd};
 ghost use Rattle.io_edge.specs.Device.{Rises, IsLaterIn};
 ghost use Rattle.rv_step.specs.State.{state_of, IsChained};
 ghost use Rattle.case_reader.specs.Case.{data_of};
 ghost use Rattle.delegate.specs.Answered.{is_outcome, is_of_a_command, reads_all};
 ghost use Rattle.delegate.specs.Outcome.{ended, carried_out, outcome};
+ghost use Rattle.delegate.specs.Stages.{CasesAreInRange};
 ghost use Rattle.delegate.specs.Visible.{ForItsBytes};
 ghost use Rattle.delegate.specs.Words.{texts, chosen};
 ghost use Rattle.delegate.specs.declared.response.Response.{Response};
@@ -15,44 +16,50 @@ use crate::response::{Halt, Response, Stop};
 use crate::rooting::roots;
 use crate::running::run_program;
 use crate::stages::{bound_in, bytes_in, case_in, command_in, image_in};
-use crate::words::Command;
+use crate::words::{Command, Request};
 use case_reader::Case;
-use digest_core::{Digester, Sha256};
+use digest_core::Sha256;
 use io_edge::Source;
 use rd_base::Memory;
-use rv_step::Machine;
+use rv_step::{Machine, machines_are_valid};
+use segment_replay::Replays;
 use std::alloc::Global;
+use std::sync::Wait;
 use std::thread::Threads;
 
 /// Carries out a command on a case whose run starts in this machine. The machine's chain is that of the digester `d`.
-fn end<R: Threads + Sync, D: Digester>(
+fn end<R: Threads + Wait + Sync, D: Replays>(
     rt: &R,
     alloc: Global,
     d: D,
-    command: Command,
+    request: Request,
     case: &Case,
     start: Machine,
 ) -> Result<Response, Memory>
 where
     D: Send + Sync,
-    requires { IsChained D.digest_of start }
-    ensures { IfOk result (λ response. response ≡ ended D.digest_of command (data_of case.now) (state_of start)) }
+    requires chained { IsChained D.digest_of start }
+    requires silent { start.output.items ≡ [] }
+    requires workers { 0 < request.options.workers }
+    requires posters { 0 < request.options.posters }
+    requires every { 0 < request.options.every }
+    ensures { IfOk result (λ response. response ≡ ended D.digest_of request.command (data_of case.now) (state_of start)) }
 {
-    match command {
-        Command::Judge => judge(alloc, d, case, start),
+    match request.command {
+        Command::Judge => judge(rt, alloc, d, case, start, request.options),
         Command::Run => run_program(alloc, d, case, start),
         Command::Roots => roots(rt, alloc, d, case, start),
     }
 }
 
 /// Carries out what the arguments ask for, step by step.
-fn carry_out<R: Threads + Sync, S: Source>(
+fn carry_out<R: Threads + Wait + Sync, S: Source>(
     rt: &R,
     alloc: Global,
     words: &[String],
     source: &mut S,
 ) -> Result<Response, Stop>
-    ensures done { IfOk result (λ response. ForItsBytes (S.left source.old) (λ bytes. carried_out (texts words.now) bytes ≡ Ok response)) }
+    ensures done { IfOk result (λ response. ForItsBytes (S.left source.old) (λ bytes. (carried_out (texts words.now) bytes ≡ Ok response) × CasesAreInRange (texts words.now) bytes)) }
     ensures refused { (response : Response) → result ≡ Err (Stop.Refused response) →
         ForItsBytes (S.left source.old) (λ bytes. carried_out (texts words.now) bytes ≡ Err response) }
     ensures unread { chosen (texts words.now) ≡ None → S.left source.new ≡ S.left source.old }
@@ -62,23 +69,25 @@ fn carry_out<R: Threads + Sync, S: Source>(
     ensures fault { result ≡ Err (Stop.Halted Halt.ReadFault) → Rises (S.faults source.old) (S.faults source.new) }
     ensures count { ¬ (result ≡ Err (Stop.Halted Halt.ReadFault)) → S.faults source.new ≡ S.faults source.old }
 {
-    let command = command_in(alloc, words)?;
+    let request = command_in(alloc, words)?;
     let bytes = bytes_in(alloc, source)?;
     let case = case_in(alloc, bytes.as_slice())?;
-    bound_in(alloc, command, &case)?;
+    bound_in(alloc, request.command, &case)?;
     let loaded = image_in(alloc, &case)?;
     let start = Machine::new(alloc, loaded.mem, loaded.entry, case.input.as_slice())?;
-    Ok(end(rt, alloc, Sha256, command, &case, start)?)
+    machines_are_valid(&start);
+    Ok(end(rt, alloc, Sha256, request, &case, start)?)
 }
 
 /// The response to the arguments and to what the source has, which is read only where the arguments name a command.
-pub fn respond<R: Threads + Sync, S: Source>(
+pub fn respond<R: Threads + Wait + Sync, S: Source>(
     rt: &R,
     alloc: Global,
     words: &[String],
     source: &mut S,
 ) -> Result<Response, Halt>
     ensures outcome { IfOk result (λ response. ForItsBytes (S.left source.old) (λ bytes. response ≡ outcome (texts words.now) bytes)) }
+    ensures cases { IfOk result (λ response. ForItsBytes (S.left source.old) (λ bytes. (response ≡ outcome (texts words.now) bytes) × CasesAreInRange (texts words.now) bytes)) }
     ensures kind { IfOk result (λ response. is_outcome response.answered ≡ true) }
     ensures of_a_command { IfOk result (λ response. is_of_a_command response.answered ≡ true) }
     ensures usage { IfOk result (λ response. (response.answered ≡ Answered.Usage) ↔ (chosen (texts words.now) ≡ None)) }

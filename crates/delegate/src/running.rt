@@ -1,7 +1,6 @@
 ghost use Rattle.std.specs.Prelude.{◌≡◌, IfOk};
 ghost use Rattle.rv_step.specs.State.{state_of, IsChained};
 ghost use Rattle.case_reader.specs.Case.{data_of};
-ghost use Rattle.delegate.specs.Match.{end_of_run};
 ghost use Rattle.delegate.specs.Outcome.{run_answer};
 
 use crate::answered::Answered;
@@ -22,7 +21,7 @@ pub fn run_program<D: Digester>(
     start: Machine,
 ) -> Result<Response, Memory>
     requires { IsChained D.digest_of start }
-    ensures { IfOk result (λ response. response ≡ run_answer (end_of_run (data_of case.now) (state_of start))) }
+    ensures { IfOk result (λ response. response ≡ run_answer (data_of case.now) (state_of start)) }
 {
     let mut machine = start;
     advance(&mut machine, &d, case.bound)?;

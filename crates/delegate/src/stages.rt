@@ -10,11 +10,11 @@ ghost use Rattle.delegate.specs.Refusal.{usage, too_long, case_refusal, image_re
 ghost use Rattle.delegate.specs.Stages.{Stands};
 ghost use Rattle.delegate.specs.Visible.{MayBe};
 ghost use Rattle.delegate.specs.declared.response.Response.{Response};
-ghost use Rattle.delegate.specs.Words.{texts, chosen};
+ghost use Rattle.delegate.specs.Words.{texts, chosen, given_options, AreGiven};
 
 use crate::faults;
 use crate::response::{Halt, Stop};
-use crate::words::{Command, command_given};
+use crate::words::{Command, Request, command_given};
 use case_reader::{Case, CaseFault, Key, read_case};
 use image_reader::{ImageFault, Loaded, load_elf, load_flat};
 use io_edge::{ReadAll, Source, read_all};
@@ -26,13 +26,17 @@ pub const MAX_CASE_BYTES: usize = 16_777_216;
 /// The most steps of a case whose roots are written.
 pub const MAX_ROOTS_BOUND: u64 = 4_096;
 
-/// The command that the arguments name.
-pub fn command_in(alloc: Global, words: &[String]) -> Result<Command, Stop>
-    ensures stands { Stands (λ command. command) result (ok_or (chosen (texts words.now)) usage) }
+/// The command that the arguments name, with its options.
+pub fn command_in(alloc: Global, words: &[String]) -> Result<Request, Stop>
+    ensures stands { Stands (λ request. request.command) result (ok_or (chosen (texts words.now)) usage) }
+    ensures workers { IfOk result (λ request. 0 < request.options.workers) }
+    ensures posters { IfOk result (λ request. 0 < request.options.posters) }
+    ensures every { IfOk result (λ request. 0 < request.options.every) }
+    ensures options { IfOk result (λ request. AreGiven (given_options (texts words.now)) request.options) }
     ensures no_read { ¬ (result ≡ Err (Stop.Halted Halt.ReadFault)) }
 {
     match command_given(alloc, words)? {
-        Some(command) => Ok(command),
+        Some(request) => Ok(request),
         None => Err(Stop::Refused(faults::usage(alloc)?)),
     }
 }

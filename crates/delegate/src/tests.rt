@@ -2,6 +2,7 @@ use crate::{Answered, run};
 use io_edge::{MemSink, MemSource};
 use std::alloc::{AllocError, Global};
 use std::test::Fail;
+use std::sync::Wait;
 use std::thread::Threads;
 
 /// It puts the byte 42 and exits with status 0, in six steps.
@@ -17,17 +18,6 @@ const DIVISION: &str =
 /// It stores a word, changes one of its bytes, puts that byte, and traps at a misaligned load.
 const STORE: &str = "b70202001303a007a381620003a5020013558501930810007300000003a51200";
 
-/// It stores 3000 down to 1 to as many pages, puts the low byte of the first and of the last, and exits.
-const PAGES: &str =
-    "b7020020b71300001303c05d1313130023a06200b38272001303f3ffe31a03fe93081000b702002003a50200730000003774bb200325040073000000130500009308d00573000000";
-
-/// It puts the byte 42 102,400 times, and exits.
-const OUTPUTS: &str = "1305a0029308100037930100730000001303f3ffe31c03fe130500009308d00573000000";
-
-/// It puts the third byte of the input's length and the last of 1,048,576 bytes of input, and exits.
-const INPUT: &str =
-    "93081000b702004003a502001355050173000000370310400345330073000000130500009308d00573000000";
-
 /// The roots of `ANSWER` at bound 8. These and those below are by `checks/roots.py`.
 const ANSWER_ROOTS: [&str; 9] = [
     "0 183959fe9e2293200e53fc93acb41f25f4341e8f6a99a6caa23193d901d2cd6d",
@@ -39,27 +29,6 @@ const ANSWER_ROOTS: [&str; 9] = [
     "6 078add20bc2c812fcaf74f520828c1a827c468f504d583b65992e27624179d46",
     "7 078add20bc2c812fcaf74f520828c1a827c468f504d583b65992e27624179d46",
     "8 078add20bc2c812fcaf74f520828c1a827c468f504d583b65992e27624179d46",
-];
-
-/// The roots of `DIVISION` at bound 16.
-const DIVISION_ROOTS: [&str; 17] = [
-    "0 d8df3418ada36861096da7caf8cf979a89572ebbed1a193ec3ad14dcb0cdbd89",
-    "1 03ff6ed9ead7ee21aa46977b3926b6080bd8c71c39a4070e35a147a26fe00153",
-    "2 5d6c9863de0ae1481f7f2363da8d786a09fdf0f80dba72f4f6ff99d5356e179d",
-    "3 8ce3058f4e9a38c4d4c622d22b62195438257b4da0d27fb32f75f127c559878c",
-    "4 f6e3f18125b2aad795974cbbbed135aee98aa3c2a51bb5d364b97343a263ef5f",
-    "5 1f801a125bf475f14c7a3b82ed695a89d498ef2fcfd7afc8e38752a73bb843a5",
-    "6 c83e9b73d0f9db005ee9ed54c1be1043ca0c30b58b6a39f615d73ebb0f8b6d6c",
-    "7 9017a4e69d145eda18daff9cc2376b8d486f1834862c84edbfea5bcee6c9aac4",
-    "8 e1f08bc54422c921d75e0f375614d8e1656725a0749a1b5abc28d9367c305855",
-    "9 7840d581fedc351f05926a3394f8cf81cec158337044a6ff5ef14c87fec2841f",
-    "10 d69f9e2df4ad09e3b23ad663faf9878030c73b4151039203537068e2c2e32728",
-    "11 8e32d4b3a820ba42aa211fa9f0e797f5cd2cc058967496e786facb9f20da1e63",
-    "12 8e32d4b3a820ba42aa211fa9f0e797f5cd2cc058967496e786facb9f20da1e63",
-    "13 8e32d4b3a820ba42aa211fa9f0e797f5cd2cc058967496e786facb9f20da1e63",
-    "14 8e32d4b3a820ba42aa211fa9f0e797f5cd2cc058967496e786facb9f20da1e63",
-    "15 8e32d4b3a820ba42aa211fa9f0e797f5cd2cc058967496e786facb9f20da1e63",
-    "16 8e32d4b3a820ba42aa211fa9f0e797f5cd2cc058967496e786facb9f20da1e63",
 ];
 
 /// The roots of `STORE` at bound 8.
@@ -75,21 +44,6 @@ const STORE_ROOTS: [&str; 9] = [
     "8 82f8464036cd320e37cdf36ab3d9a0e4cfca19169a7b9c1ada0daa1ad40145f6",
 ];
 
-/// The roots of `LOOP` at bound 3: its state stays the same.
-const LOOP_ROOTS: [&str; 4] = [
-    "0 23dde85a1763aa963d7fd8e9d852681fcf8a6a55641276c2e78bcfc3a63eed36",
-    "1 23dde85a1763aa963d7fd8e9d852681fcf8a6a55641276c2e78bcfc3a63eed36",
-    "2 23dde85a1763aa963d7fd8e9d852681fcf8a6a55641276c2e78bcfc3a63eed36",
-    "3 23dde85a1763aa963d7fd8e9d852681fcf8a6a55641276c2e78bcfc3a63eed36",
-];
-
-/// The roots of an empty image at bound 2: it traps at the first step.
-const EMPTY_ROOTS: [&str; 3] = [
-    "0 ef52070d4b25c00e88eab5dd057abc505c3c6f0790123e73c505075c241ef45b",
-    "1 c1bcd2329ef43b4976fac4d81431fbe0ca48ce57498b5fe494f06ba96531ac47",
-    "2 c1bcd2329ef43b4976fac4d81431fbe0ca48ce57498b5fe494f06ba96531ac47",
-];
-
 /// The header of a file with one program header, which is entered at 0x10054.
 const HEADER: &str =
     "7f454c460101010000000000000000000200f3000100000054000100340000000000000000000000340020000100280000000000";
@@ -98,15 +52,14 @@ const HEADER: &str =
 const HEADER_OF_TWO: &str =
     "7f454c460101010000000000000000000200f3000100000054000100340000000000000000000000340020000200280000000000";
 
-/// The same with 301 program headers, which is entered at 0x10000.
-const HEADER_OF_301: &str =
-    "7f454c460101010000000000000000000200f3000100000000000100340000000000000000000000340020002d01280000000000";
-
 /// A load of 108 bytes, from the file's first on, at 0x10000.
 const LOAD: &str = "010000000000000000000100000001006c0000006c0000000500000000100000";
 
-/// A load of 24 bytes at 0x10000, which follow 301 program headers.
-const FIRST_OF_301: &str = "01000000d4250000000001000000000018000000180000000000000000000000";
+/// A prover whose run has 43 in `x10` from step 2 on: it puts another byte.
+const LIAR: &str = "{\"tamper\":{\"kind\":\"reg\",\"step\":2,\"reg\":10,\"value\":43}}";
+
+/// The rounds of a dispute over it, where the liar is the second side.
+const ROUNDS: &str = "round 1 at 4 differ\nround 2 at 2 differ\nround 3 at 1 same\n";
 
 /// The arguments of a command.
 fn words_of(alloc: Global, words: &[&str]) -> Result<Vec<String>, AllocError> {
@@ -117,187 +70,267 @@ fn words_of(alloc: Global, words: &[&str]) -> Result<Vec<String>, AllocError> {
     Ok(all)
 }
 
-/// A case with no patience.
+/// A case without input, in which each `LIAR` stands for that prover.
 fn case_of(
     alloc: Global,
     format: &str,
     image: &str,
-    input: &str,
     bound: &str,
+    patience: &str,
     provers: &str,
 ) -> Result<Vec<u8>, AllocError> {
-    let mut text = String::from_str(alloc, "{\"patience\":0,\"format\":\"")?;
+    let provers = provers.replace(alloc, "LIAR", LIAR)?;
+    let mut text = String::from_str(alloc, "{\"input\":\"\",\"format\":\"")?;
     for part in [
         format,
         "\",\"image\":\"",
         image,
-        "\",\"input\":\"",
-        input,
         "\",\"bound\":",
         bound,
-        ",\"provers\":",
-        provers,
-        "}",
+        ",\"patience\":",
+        patience,
+        ",\"provers\":[",
+        provers.as_str(),
+        "]}",
     ] {
         text.push_str(part)?;
     }
     Ok(text.into_bytes())
 }
 
-/// A long text, of which the proof of a test sees nothing.
-fn repeated(alloc: Global, piece: &str, count: usize) -> Result<String, AllocError> {
-    piece.repeat(alloc, count)
-}
-
-/// A case followed by spaces, so many bytes in all.
-fn padded(alloc: Global, length: usize) -> Result<Vec<u8>, AllocError> {
-    let mut bytes = case_of(alloc, "flat", ANSWER, "", "8", "[{}]")?;
-    bytes.resize(length, b' ')?;
-    Ok(bytes)
-}
-
-/// What a command answers and writes, over memory.
-fn answer_to<R: Threads + Sync>(
+/// What the arguments and bytes are answered with, over memory.
+fn answer_to<R: Threads + Wait + Sync>(
     rt: &R,
     alloc: Global,
-    command: &str,
+    words: &[&str],
     bytes: Vec<u8>,
 ) -> Result<(Answered, Vec<u8>), Fail> {
-    let words = words_of(alloc, ["refcli", command].as_slice())?;
+    let words = words_of(alloc, words)?;
     let mut source = MemSource::new(bytes, 65536, Vec::new(alloc));
-    let mut sink = MemSink::new(alloc, 524288, 4096, Vec::new(alloc))?;
+    let mut sink = MemSink::new(alloc, 16384, 4096, Vec::new(alloc))?;
     let answered = run(rt, alloc, words.as_slice(), &mut source, &mut sink);
     Ok((answered, sink.as_slice().to_vec(alloc)?))
 }
 
+/// The worked rows: image, bound, patience, number of provers, provers, answer, and the report after its first line, in
+/// which `ROUNDS` stands for those rounds.
 #[test]
-fn the_worked_rows_give_their_texts(rt: HostRuntime) -> Result<(), Fail> {
+fn the_worked_rows_give_their_reports(rt: HostRuntime) -> Result<(), Fail> {
     let alloc = rt.alloc();
-    let honest = "[{}]";
-    let done = "p1 claims exited 0 output 2a\naccept exited 0 output 2a\n";
-    for (image, bound, provers, count, answered, lines) in [
-        (ANSWER, "8", honest, 1, Answered::Done, done),
-        (ANSWER, "16777216", honest, 1, Answered::Done, done),
+    for (image, bound, patience, count, provers, answered, lines) in [
+        (ANSWER, "8", "0", "1", "{}", Answered::Done, "p1 claims exited 0 output 2a\naccept exited 0 output 2a\n"),
+        (LOOP, "1000", "0", "1", "{}", Answered::Done, "p1 claims running output\naccept running output\n"),
+        ("", "8", "0", "1", "{}", Answered::Done, "p1 claims trapped 2 output\naccept trapped 2 output\n"),
+        (DIVISION, "16", "0", "1", "{}", Answered::Done, "p1 claims exited 0 output 80ff\naccept exited 0 output 80ff\n"),
+        (STORE, "8", "0", "1", "{}", Answered::Done, "p1 claims trapped 4 output 7a\naccept trapped 4 output 7a\n"),
+        // A false output is faulty, and the run's own is the true claim.
         (
             ANSWER,
             "8",
-            "[{},{\"manner\":{\"kind\":\"output\",\"bytes\":\"2b\"}}]",
-            2,
+            "0",
+            "2",
+            "{},{\"manner\":{\"kind\":\"output\",\"bytes\":\"2b\"}}",
             Answered::Done,
             "p1 claims exited 0 output 2a\nout p2 faulty\naccept exited 0 output 2a\n",
         ),
         (
             ANSWER,
             "8",
-            "[{\"manner\":{\"kind\":\"output\",\"bytes\":\"2b\"}},{}]",
-            2,
+            "0",
+            "2",
+            "{\"manner\":{\"kind\":\"output\",\"bytes\":\"\"}},{\"manner\":{\"kind\":\"output\",\"bytes\":\"2A\"}}",
             Answered::Done,
             "out p1 faulty\np2 claims exited 0 output 2a\naccept exited 0 output 2a\n",
         ),
+        // A liar is bisected.
         (
             ANSWER,
             "8",
-            "[{},{\"manner\":{\"kind\":\"output\",\"bytes\":\"2A\"}}]",
-            2,
+            "0",
+            "2",
+            "{},LIAR",
+            Answered::Done,
+            "p1 claims exited 0 output 2a\np2 claims exited 0 output 2b\nstage 1\ndispute 1 p1 p2\nROUNDSstep 1 p1 proved p2 refuted\naccept exited 0 output 2a\n",
+        ),
+        // The bound is one step: there is no round before the proofs.
+        (
+            ANSWER,
+            "1",
+            "0",
+            "2",
+            "{},{\"tamper\":{\"kind\":\"flip\",\"step\":1,\"addr\":131072,\"mask\":1}}",
+            Answered::Done,
+            "p1 claims running output\np2 claims running output\nstage 1\ndispute 1 p1 p2\nstep 0 p1 proved p2 refuted\naccept running output\n",
+        ),
+        // The disputed state had already stopped.
+        (
+            ANSWER,
+            "7",
+            "0",
+            "2",
+            "{},{\"tamper\":{\"kind\":\"reg\",\"step\":7,\"reg\":5,\"value\":1}}",
+            Answered::Done,
+            "p1 claims exited 0 output 2a\np2 claims exited 0 output 2a\nstage 1\ndispute 1 p1 p2\nround 1 at 3 same\nround 2 at 5 same\nround 3 at 6 same\nstep 6 p1 proved p2 refuted\naccept exited 0 output 2a\n",
+        ),
+        // A step above the bound changes nothing, and so does a flip of no bit.
+        (
+            ANSWER,
+            "7",
+            "0",
+            "2",
+            "{\"tamper\":{\"kind\":\"reg\",\"step\":8,\"reg\":5,\"value\":1}},{\"tamper\":{\"kind\":\"flip\",\"step\":3,\"addr\":65536,\"mask\":0}}",
             Answered::Done,
             "p1 claims exited 0 output 2a\np2 claims exited 0 output 2a\naccept exited 0 output 2a\n",
         ),
-        // All outputs are false.
+        // Two liars and one honest prover: two stages.
         (
             ANSWER,
             "8",
-            "[{\"manner\":{\"kind\":\"output\",\"bytes\":\"2b\"}}]",
-            1,
-            Answered::NoneLeft,
-            "out p1 faulty\nnone left\n",
+            "0",
+            "3",
+            "LIAR,LIAR,{}",
+            Answered::Done,
+            "p1 claims exited 0 output 2b\np2 claims exited 0 output 2b\np3 claims exited 0 output 2a\nstage 1\ndispute 1 p1 p3\nROUNDSstep 1 p1 refuted p3 proved\nstage 2\ndispute 2 p2 p3\nROUNDSstep 1 p2 refuted p3 proved\naccept exited 0 output 2a\n",
+        ),
+        // Where nobody is honest nothing is promised: the referee doesn't run the program.
+        (
+            ANSWER,
+            "8",
+            "0",
+            "2",
+            "LIAR,LIAR",
+            Answered::Done,
+            "p1 claims exited 0 output 2b\np2 claims exited 0 output 2b\naccept exited 0 output 2b\n",
         ),
         (
             ANSWER,
             "8",
-            "[{\"manner\":{\"kind\":\"output\",\"bytes\":\"\"}}]",
-            1,
+            "0",
+            "2",
+            "{\"manner\":{\"kind\":\"silent\",\"from\":0}},{\"manner\":{\"kind\":\"silent\",\"from\":0}}",
             Answered::NoneLeft,
-            "out p1 faulty\nnone left\n",
+            "out p1 spent\nout p2 spent\nnone left\n",
+        ),
+        // Late by exactly the patience on each question, and by one pass more.
+        (
+            ANSWER,
+            "8",
+            "2",
+            "2",
+            "{\"manner\":{\"kind\":\"late\",\"passes\":2}},LIAR",
+            Answered::Done,
+            "p1 claims exited 0 output 2a\np2 claims exited 0 output 2b\nstage 1\ndispute 1 p1 p2\nROUNDSstep 1 p1 proved p2 refuted\naccept exited 0 output 2a\n",
         ),
         (
-            LOOP,
-            "1000",
-            honest,
-            1,
+            ANSWER,
+            "8",
+            "1",
+            "2",
+            "{\"manner\":{\"kind\":\"late\",\"passes\":2}},LIAR",
             Answered::Done,
-            "p1 claims running output\naccept running output\n",
+            "out p1 spent\np2 claims exited 0 output 2b\naccept exited 0 output 2b\n",
         ),
+        // Silent in a dispute.
         (
-            DIVISION,
-            "16",
-            honest,
-            1,
-            Answered::Done,
-            "p1 claims exited 0 output 80ff\naccept exited 0 output 80ff\n",
+            ANSWER,
+            "8",
+            "0",
+            "2",
+            "{\"manner\":{\"kind\":\"silent\",\"from\":2}},{\"tamper\":{\"kind\":\"reg\",\"step\":2,\"reg\":10,\"value\":43},\"manner\":{\"kind\":\"silent\",\"from\":2}}",
+            Answered::NoneLeft,
+            "p1 claims exited 0 output 2a\np2 claims exited 0 output 2b\nstage 1\ndispute 1 p1 p2\nround 1 at 4 differ\nround 2 at 2 p1 spent p2 spent\nnone left\n",
         ),
+        // A store is disputed.
         (
             STORE,
             "8",
-            honest,
-            1,
+            "0",
+            "2",
+            "{},{\"tamper\":{\"kind\":\"flip\",\"step\":3,\"addr\":131075,\"mask\":1}}",
             Answered::Done,
-            "p1 claims trapped 4 output 7a\naccept trapped 4 output 7a\n",
+            "p1 claims trapped 4 output 7a\np2 claims trapped 4 output 7b\nstage 1\ndispute 1 p1 p2\nround 1 at 4 differ\nround 2 at 2 same\nround 3 at 3 differ\nstep 2 p1 proved p2 refuted\naccept trapped 4 output 7a\n",
+        ),
+        // A run that ends early.
+        (
+            ANSWER,
+            "8",
+            "0",
+            "2",
+            "{},{\"tamper\":{\"kind\":\"early\",\"steps\":3}}",
+            Answered::Done,
+            "p1 claims exited 0 output 2a\np2 claims running output 2a\nstage 1\ndispute 1 p1 p2\nround 1 at 4 differ\nround 2 at 2 same\nround 3 at 3 same\nstep 3 p1 proved p2 refuted\naccept exited 0 output 2a\n",
+        ),
+        // Tampers at step 0 and at the bound.
+        (
+            ANSWER,
+            "8",
+            "0",
+            "2",
+            "{},{\"tamper\":{\"kind\":\"reg\",\"step\":0,\"reg\":10,\"value\":1}}",
+            Answered::Done,
+            "p1 claims exited 0 output 2a\np2 claims exited 0 output 2a\naccept exited 0 output 2a\n",
+        ),
+        (
+            ANSWER,
+            "8",
+            "0",
+            "2",
+            "{},{\"tamper\":{\"kind\":\"reg\",\"step\":8,\"reg\":5,\"value\":1}}",
+            Answered::Done,
+            "p1 claims exited 0 output 2a\np2 claims exited 0 output 2a\nstage 1\ndispute 1 p1 p2\nround 1 at 4 same\nround 2 at 6 same\nround 3 at 7 same\nstep 7 p1 proved p2 refuted\naccept exited 0 output 2a\n",
         ),
     ] {
-        let bytes = case_of(alloc, "flat", image, "", bound, provers)?;
+        let bytes = case_of(alloc, "flat", image, bound, patience, provers)?;
+        let lines = lines.replace(alloc, "ROUNDS", ROUNDS)?;
         let want = format!(in alloc;
-            "match provers {count} bound {bound} patience 0 version 1 fan 2 digest sha256\n{lines}"
+            "match provers {count} bound {bound} patience {patience} version 1 fan 2 digest sha256\n{lines}"
         )?;
-        let (given, text) = answer_to(&rt, alloc, "judge", bytes)?;
+        let (given, text) = answer_to(&rt, alloc, ["refcli", "judge"].as_slice(), bytes)?;
         assert_eq!(rt; given, answered, "{image} {provers}");
         assert_eq!(rt; text.as_slice(), want.as_bytes(), "{image} {provers}");
     }
     Ok(())
 }
 
-#[test]
-fn an_image_traps_with_its_code(rt: HostRuntime) -> Result<(), Fail> {
-    let alloc = rt.alloc();
-    for (image, code) in [
-        ("", 2),
-        ("00000000", 2),
-        // JALR to 2, and BEQ x0, x0, +2.
-        ("e7002000", 0),
-        ("63010000", 0),
-        // BNE x0, x0, +2 isn't taken, and an illegal word follows.
-        ("63110000", 2),
-        // EBREAK, SW x0, 2(x0), and ECALL with x17 = 0.
-        ("73001000", 3),
-        ("23210000", 6),
-        ("73000000", 8),
-    ] {
-        let bytes = case_of(alloc, "flat", image, "", "8", "[{}]")?;
-        let want = format!(in alloc;
-            "match provers 1 bound 8 patience 0 version 1 fan 2 digest sha256\np1 claims trapped {code} output\naccept trapped {code} output\n"
-        )?;
-        let (answered, text) = answer_to(&rt, alloc, "judge", bytes)?;
-        assert_eq!(rt; answered, Answered::Done, "{image}");
-        assert_eq!(rt; text.as_slice(), want.as_bytes(), "{image}");
+/// The report of fifteen liars and one honest prover.
+fn report_of_sixteen(alloc: Global) -> Result<String, AllocError> {
+    let mut want = String::from_str(
+        alloc,
+        "match provers 16 bound 8 patience 0 version 1 fan 2 digest sha256\n",
+    )?;
+    for number in 1..16 {
+        let line = format!(in alloc; "p{number} claims exited 0 output 2b\n")?;
+        want.push_str(line.as_str())?;
     }
-    Ok(())
+    want.push_str("p16 claims exited 0 output 2a\n")?;
+    for number in 1..16 {
+        let lines = format!(in alloc; "stage {number}\ndispute {number} p{number} p16\n")?;
+        want.push_str(lines.as_str())?;
+        want.push_str(ROUNDS)?;
+        let line = format!(in alloc; "step 1 p{number} refuted p16 proved\n")?;
+        want.push_str(line.as_str())?;
+    }
+    want.push_str("accept exited 0 output 2a\n")?;
+    Ok(want)
 }
 
 #[test]
-fn a_run_answers_with_its_status_and_output_at_the_bound(rt: HostRuntime) -> Result<(), Fail> {
+fn no_option_changes_the_report_of_sixteen_provers(rt: HostRuntime) -> Result<(), Fail> {
     let alloc = rt.alloc();
-    for (image, bound, want) in [
-        (ANSWER, "8", "answer exited 0 output 2a\n"),
-        (ANSWER, "6", "answer exited 0 output 2a\n"),
-        (ANSWER, "5", "answer running output 2a\n"),
-        (ANSWER, "3", "answer running output 2a\n"),
-        (ANSWER, "2", "answer running output\n"),
-        (STORE, "8", "answer trapped 4 output 7a\n"),
-    ] {
-        let provers = "[{\"manner\":{\"kind\":\"output\",\"bytes\":\"2b\"}}]";
-        let bytes = case_of(alloc, "flat", image, "", bound, provers)?;
-        let (answered, text) = answer_to(&rt, alloc, "run", bytes)?;
-        assert_eq!(rt; answered, Answered::Done, "{image} at {bound}");
-        assert_eq!(rt; text.as_slice(), want.as_bytes(), "{image} at {bound}");
+    let liars = "LIAR,".repeat(alloc, 15)?;
+    let provers = format!(in alloc; "{liars}{{}}")?;
+    let want = report_of_sixteen(alloc)?;
+    let tables: [&[&str]; 4] = [
+        &["refcli", "judge"],
+        &["refcli", "judge", "--posters", "2", "--workers", "7"],
+        &["refcli", "judge", "--every=1", "--posters", "16"],
+        &["refcli", "judge", "--workers", "64", "--every", "65536"],
+    ];
+    for words in tables {
+        let bytes = case_of(alloc, "flat", ANSWER, "8", "0", provers.as_str())?;
+        let (answered, text) = answer_to(&rt, alloc, words, bytes)?;
+        assert_eq!(rt; answered, Answered::Done, "{words:?}");
+        assert_eq!(rt; text.as_slice(), want.as_bytes(), "{words:?}");
     }
     Ok(())
 }
@@ -313,72 +346,26 @@ fn lines_of(alloc: Global, lines: &[&str]) -> Result<String, AllocError> {
 }
 
 #[test]
-fn the_root_of_each_state_is_written(rt: HostRuntime) -> Result<(), Fail> {
+fn runs_and_roots_are_answered_up_to_the_bound(rt: HostRuntime) -> Result<(), Fail> {
     let alloc = rt.alloc();
-    for (image, bound, lines) in [
-        (ANSWER, "8", ANSWER_ROOTS.as_slice()),
-        (DIVISION, "16", &DIVISION_ROOTS),
-        (STORE, "8", &STORE_ROOTS),
-        (LOOP, "3", &LOOP_ROOTS),
-        ("", "2", &EMPTY_ROOTS),
+    for (command, image, bound, lines) in [
+        ("run", ANSWER, "6", ["answer exited 0 output 2a"].as_slice()),
+        ("run", ANSWER, "5", &["answer running output 2a"]),
+        ("run", ANSWER, "2", &["answer running output"]),
+        ("run", STORE, "8", &["answer trapped 4 output 7a"]),
+        // JALR to 2, EBREAK, SW x0, 2(x0), and ECALL with x17 = 0.
+        ("run", "e7002000", "8", &["answer trapped 0 output"]),
+        ("run", "73001000", "8", &["answer trapped 3 output"]),
+        ("run", "23210000", "8", &["answer trapped 6 output"]),
+        ("run", "73000000", "8", &["answer trapped 8 output"]),
+        ("roots", ANSWER, "8", &ANSWER_ROOTS),
+        ("roots", STORE, "8", &STORE_ROOTS),
     ] {
-        let bytes = case_of(alloc, "flat", image, "", bound, "[{}]")?;
+        let bytes = case_of(alloc, "flat", image, bound, "0", "LIAR")?;
         let want = lines_of(alloc, lines)?;
-        let (answered, text) = answer_to(&rt, alloc, "roots", bytes)?;
-        assert_eq!(rt; answered, Answered::Done, "{image}");
-        assert_eq!(rt; text.as_slice(), want.as_bytes(), "{image}");
-    }
-    Ok(())
-}
-
-#[test]
-fn roots_has_a_bound_of_its_own_which_is_tested_before_the_image(
-    rt: HostRuntime,
-) -> Result<(), Fail> {
-    let alloc = rt.alloc();
-    for (format, image, bound, answered, length, end) in [
-        // The roots of 4,097 states, the last of which is that of `ANSWER_ROOTS`.
-        (
-            "flat",
-            ANSWER,
-            "4096",
-            Answered::Done,
-            285_680,
-            "\n4096 078add20bc2c812fcaf74f520828c1a827c468f504d583b65992e27624179d46\n",
-        ),
-        (
-            "flat",
-            ANSWER,
-            "4097",
-            Answered::Case,
-            19,
-            "fault case 6 bound\n",
-        ),
-        (
-            "elf",
-            "7f454c46",
-            "4097",
-            Answered::Case,
-            19,
-            "fault case 6 bound\n",
-        ),
-        (
-            "elf",
-            "7f454c46",
-            "4096",
-            Answered::Image,
-            14,
-            "fault image 1\n",
-        ),
-    ] {
-        let bytes = case_of(alloc, format, image, "", bound, "[{}]")?;
-        let (given, text) = answer_to(&rt, alloc, "roots", bytes)?;
-        assert_eq!(rt; given, answered, "{format} at {bound}");
-        assert_eq!(rt; text.len(), length, "{format} at {bound}");
-        assert!(rt;
-            text.as_slice().ends_with(end.as_bytes()),
-            "{format} at {bound}"
-        );
+        let (answered, text) = answer_to(&rt, alloc, ["refcli", command].as_slice(), bytes)?;
+        assert_eq!(rt; answered, Answered::Done, "{command} {image}");
+        assert_eq!(rt; text.as_slice(), want.as_bytes(), "{command} {image}");
     }
     Ok(())
 }
@@ -402,40 +389,14 @@ fn each_change_of_an_executable_is_answered(rt: HostRuntime) -> Result<(), Fail>
     let one = format!(in alloc; "{HEADER}{LOAD}{ANSWER}")?;
     let two = format!(in alloc; "{HEADER_OF_TWO}{LOAD}{LOAD}{ANSWER}")?;
     for (file, length, at, new, answered, want) in [
-        (
-            &one,
-            108,
-            0,
-            "",
-            Answered::Done,
-            "answer exited 0 output 2a\n",
-        ),
+        (&one, 108, 0, "", Answered::Done, "answer exited 0 output 2a\n"),
         (&one, 51, 0, "", Answered::Image, "fault image 1\n"),
         (&one, 60, 0, "", Answered::Image, "fault image 5\n"),
         (&two, 140, 0, "", Answered::Image, "fault image 9\n"),
-        (&one, 108, 0, "00", Answered::Image, "fault image 2\n"),
-        (&one, 108, 16, "03", Answered::Image, "fault image 3\n"),
-        (&one, 108, 18, "3e", Answered::Image, "fault image 4\n"),
         (&one, 108, 24, "56", Answered::Image, "fault image 10\n"),
         (&one, 108, 68, "6d", Answered::Image, "fault image 6\n"),
         (&one, 108, 72, "6b", Answered::Image, "fault image 7\n"),
-        (
-            &one,
-            108,
-            60,
-            "ffffffff",
-            Answered::Image,
-            "fault image 8\n",
-        ),
-        // With no program header nothing is loaded.
-        (
-            &one,
-            108,
-            44,
-            "00",
-            Answered::Done,
-            "answer trapped 2 output\n",
-        ),
+        (&one, 108, 60, "ffffffff", Answered::Image, "fault image 8\n"),
         // Entered and loaded at 0x40000000, where the input's length lies over the first four bytes of the file.
         (
             &one,
@@ -447,14 +408,10 @@ fn each_change_of_an_executable_is_answered(rt: HostRuntime) -> Result<(), Fail>
         ),
     ] {
         let file = changed(alloc, file.as_str(), length, at, new)?;
-        let bytes = case_of(alloc, "elf", file.as_str(), "", "8", "[{}]")?;
-        let (given, text) = answer_to(&rt, alloc, "run", bytes)?;
+        let bytes = case_of(alloc, "elf", file.as_str(), "8", "0", "{}")?;
+        let (given, text) = answer_to(&rt, alloc, ["refcli", "run"].as_slice(), bytes)?;
         assert_eq!(rt; given, answered, "{length} bytes, {new} at {at}");
-        assert_eq!(rt;
-            text.as_slice(),
-            want.as_bytes(),
-            "{length} bytes, {new} at {at}"
-        );
+        assert_eq!(rt; text.as_slice(), want.as_bytes(), "{length} bytes, {new} at {at}");
     }
     Ok(())
 }
@@ -462,196 +419,24 @@ fn each_change_of_an_executable_is_answered(rt: HostRuntime) -> Result<(), Fail>
 #[test]
 fn a_case_that_breaks_a_rule_is_named(rt: HostRuntime) -> Result<(), Fail> {
     let alloc = rt.alloc();
-    let image = repeated(alloc, "01", 4_194_305)?;
-    for (text, want) in [
-        ("", "fault case 1\n"),
-        ("[]", "fault case 2\n"),
-        ("{}", "fault case 3 format\n"),
+    for (command, format, image, bound, provers, answered, want) in [
+        ("judge", "flat", "00", "\"\"", "{}", Answered::Case, "fault case 4 bound\n"),
+        ("judge", "flat", "1g", "8", "{}", Answered::Case, "fault case 5 image\n"),
+        ("judge", "flat", "00", "0", "{}", Answered::Case, "fault case 6 bound\n"),
+        ("judge", "flat", "00", "16777217", "{}", Answered::Case, "fault case 6 bound\n"),
+        ("judge", "flat", "00", "8", "", Answered::Case, "fault case 6 provers\n"),
+        ("judge", "flat", "00", "8", "{},5", Answered::Case, "fault case 7 2\n"),
+        ("judge", "elf", "7f454c46", "0", "{}", Answered::Case, "fault case 6 bound\n"),
+        ("judge", "elf", "7f454c46", "8", "{}", Answered::Image, "fault image 1\n"),
+        // Roots have a bound of their own, which is tested before the image.
+        ("roots", "elf", "7f454c46", "4097", "{}", Answered::Case, "fault case 6 bound\n"),
+        ("roots", "elf", "7f454c46", "4096", "{}", Answered::Image, "fault image 1\n"),
     ] {
-        let bytes = text.as_bytes().to_vec(alloc)?;
-        let (given, text) = answer_to(&rt, alloc, "judge", bytes)?;
-        assert_eq!(rt; given, Answered::Case, "{want}");
-        assert_eq!(rt; text.as_slice(), want.as_bytes());
-    }
-    for (format, image, bound, provers, answered, want) in [
-        (
-            "flat",
-            "00",
-            "\"\"",
-            "[{}]",
-            Answered::Case,
-            "fault case 4 bound\n",
-        ),
-        (
-            "flat",
-            "1g",
-            "8",
-            "[{}]",
-            Answered::Case,
-            "fault case 5 image\n",
-        ),
-        (
-            "flat",
-            "130",
-            "8",
-            "[{}]",
-            Answered::Case,
-            "fault case 5 image\n",
-        ),
-        (
-            "flat",
-            "00",
-            "0",
-            "[{}]",
-            Answered::Case,
-            "fault case 6 bound\n",
-        ),
-        (
-            "flat",
-            "00",
-            "16777217",
-            "[{}]",
-            Answered::Case,
-            "fault case 6 bound\n",
-        ),
-        (
-            "flat",
-            "00",
-            "8",
-            "[]",
-            Answered::Case,
-            "fault case 6 provers\n",
-        ),
-        (
-            "flat",
-            "00",
-            "8",
-            "[{},5]",
-            Answered::Case,
-            "fault case 7 2\n",
-        ),
-        (
-            "elf",
-            "7f454c46",
-            "0",
-            "[{}]",
-            Answered::Case,
-            "fault case 6 bound\n",
-        ),
-        (
-            "elf",
-            "7f454c46",
-            "8",
-            "[{}]",
-            Answered::Image,
-            "fault image 1\n",
-        ),
-        (
-            "flat",
-            image.as_str(),
-            "8",
-            "[{}]",
-            Answered::Image,
-            "fault image 11\n",
-        ),
-        (
-            "elf",
-            image.as_str(),
-            "8",
-            "[{}]",
-            Answered::Image,
-            "fault image 11\n",
-        ),
-    ] {
-        let bytes = case_of(alloc, format, image, "", bound, provers)?;
-        let (given, text) = answer_to(&rt, alloc, "judge", bytes)?;
+        let bytes = case_of(alloc, format, image, bound, "0", provers)?;
+        let (given, text) = answer_to(&rt, alloc, ["refcli", command].as_slice(), bytes)?;
         assert_eq!(rt; given, answered, "{want}");
         assert_eq!(rt; text.as_slice(), want.as_bytes());
     }
-    Ok(())
-}
-
-/// A file with the load of `ANSWER` and three hundred loads of one byte.
-fn three_hundred_loads(alloc: Global) -> Result<String, AllocError> {
-    let mut file = format!(in alloc; "{HEADER_OF_301}{FIRST_OF_301}")?;
-    for third in [
-        "2f", "2e", "2d", "2c", "2b", "2a", "29", "28", "27", "26", "25", "24", "23", "22", "21",
-        "20", "1f", "1e", "1d", "1c",
-    ] {
-        for second in [
-            "0", "1", "2", "3", "4", "5", "6", "7", "8", "9", "a", "b", "c", "d", "e",
-        ] {
-            file.push_str("0100000000000000")?;
-            for part in ["00", second, "0", third, "00"] {
-                file.push_str(part)?;
-            }
-            file.push_str("000000000100000001000000")?;
-            file.push_str("0000000000000000")?;
-        }
-    }
-    file.push_str(ANSWER)?;
-    Ok(file)
-}
-
-#[test]
-fn each_limit_is_reached(rt: HostRuntime) -> Result<(), Fail> {
-    let alloc = rt.alloc();
-    let image = repeated(alloc, "01", 4_194_304)?;
-    let input = repeated(alloc, "07", 1_048_576)?;
-    let loads = three_hundred_loads(alloc)?;
-    let outputs = repeated(alloc, "2a", 102_400)?;
-    let outputs = format!(in alloc; "answer exited 0 output {outputs}\n")?;
-    for (format, image, input, bound, want) in [
-        (
-            "flat",
-            image.as_str(),
-            "",
-            "16777216",
-            "answer trapped 2 output\n",
-        ),
-        (
-            "flat",
-            INPUT,
-            input.as_str(),
-            "16",
-            "answer exited 0 output 1007\n",
-        ),
-        (
-            "elf",
-            loads.as_str(),
-            "",
-            "8",
-            "answer exited 0 output 2a\n",
-        ),
-        ("flat", PAGES, "", "20000", "answer exited 0 output b801\n"),
-        ("flat", OUTPUTS, "", "400000", outputs.as_str()),
-    ] {
-        let bytes = case_of(alloc, format, image, input, bound, "[{}]")?;
-        let (answered, text) = answer_to(&rt, alloc, "run", bytes)?;
-        assert_eq!(rt; answered, Answered::Done, "bound {bound}");
-        assert_eq!(rt; text.as_slice(), want.as_bytes(), "bound {bound}");
-    }
-    Ok(())
-}
-
-#[test]
-fn sixteen_provers_are_reported(rt: HostRuntime) -> Result<(), Fail> {
-    let alloc = rt.alloc();
-    let others = repeated(alloc, ",{}", 15)?;
-    let provers = format!(in alloc; "[{{}}{others}]")?;
-    let bytes = case_of(alloc, "flat", ANSWER, "", "8", provers.as_str())?;
-    let mut want = String::from_str(
-        alloc,
-        "match provers 16 bound 8 patience 0 version 1 fan 2 digest sha256\n",
-    )?;
-    for number in 1..17 {
-        let line = format!(in alloc; "p{number} claims exited 0 output 2a\n")?;
-        want.push_str(line.as_str())?;
-    }
-    want.push_str("accept exited 0 output 2a\n")?;
-    let (answered, text) = answer_to(&rt, alloc, "judge", bytes)?;
-    assert_eq!(rt; answered, Answered::Done);
-    assert_eq!(rt; text.as_slice(), want.as_bytes());
     Ok(())
 }
 
@@ -659,7 +444,7 @@ fn sixteen_provers_are_reported(rt: HostRuntime) -> Result<(), Fail> {
 fn arguments_that_name_no_command_are_usage_and_nothing_is_read(
     rt: HostRuntime,
 ) -> Result<(), Fail> {
-    let tables: [&[&str]; 14] = [
+    let tables: [&[&str]; 18] = [
         &[],
         &["refcli"],
         &["refcli", ""],
@@ -668,6 +453,10 @@ fn arguments_that_name_no_command_are_usage_and_nothing_is_read(
         &["refcli", "judge", "judge"],
         &["refcli", "run", "judge"],
         &["refcli", "judge", "--posters", "17"],
+        &["refcli", "judge", "--workers", "0"],
+        &["refcli", "judge", "--every", "65537"],
+        &["refcli", "judge", "--every", "1", "--every", "1"],
+        &["refcli", "run", "--workers", "1"],
         &["refcli", "judge", "--posters"],
         &["refcli", "roots", "run"],
         &["refcli", "--help"],
@@ -701,7 +490,7 @@ fn a_device_that_fails_leaves_a_prefix_of_the_text(rt: HostRuntime) -> Result<()
         (99, 3, Answered::WriteFault, "match provers 1 boun"),
     ] {
         let words = words_of(alloc, ["refcli", "judge"].as_slice())?;
-        let bytes = case_of(alloc, "flat", ANSWER, "", "8", "[{}]")?;
+        let bytes = case_of(alloc, "flat", ANSWER, "8", "0", "{}")?;
         let mut source = MemSource::new(bytes, 16, vec![in alloc; read]?);
         let mut sink = MemSink::new(alloc, 4096, 10, vec![in alloc; written]?)?;
         assert_eq!(rt;
@@ -709,21 +498,6 @@ fn a_device_that_fails_leaves_a_prefix_of_the_text(rt: HostRuntime) -> Result<()
             answered
         );
         assert_eq!(rt; sink.as_slice(), want.as_bytes());
-    }
-    Ok(())
-}
-
-#[test]
-fn a_case_of_the_most_bytes_is_read_and_one_more_is_too_long(rt: HostRuntime) -> Result<(), Fail> {
-    let alloc = rt.alloc();
-    for (length, answered, want) in [
-        (16_777_216, Answered::Done, "answer exited 0 output 2a\n"),
-        (16_777_217, Answered::TooLong, "fault too long\n"),
-    ] {
-        let bytes = padded(alloc, length)?;
-        let (given, text) = answer_to(&rt, alloc, "run", bytes)?;
-        assert_eq!(rt; given, answered);
-        assert_eq!(rt; text.as_slice(), want.as_bytes());
     }
     Ok(())
 }

@@ -1,9 +1,14 @@
-ghost use Rattle.std.specs.Prelude.{◌≡◌, IfOk, option_map};
-ghost use Rattle.clap.specs.Simple.{app_of};
-ghost use Rattle.delegate.specs.Words.{texts, named, chosen, command_line as the_command_line};
+ghost use Rattle.std.specs.Prelude.{◌≡◌, ◌<◌, ℕ, pos, false, codes, IfOk, IfSome, option_map, Option};
+ghost use Rattle.clap.specs.Matches.{found_of};
+ghost use Rattle.clap.specs.Walk.{one_of, rows_of, rule_of};
+ghost use Rattle.clap.specs.Simple.{app_of, subcommand_rows_of};
+ghost use Rattle.clap.specs.declared.builder.command.Command.TheViews.{out-Command as fields_of};
+ghost use Rattle.clap.specs.declared.builder.value_parser.ValueParser.TheVariants as parsers;
+ghost use Rattle.delegate.specs.Words.{texts, named, chosen, number_option as the_number_option, judge_line as the_judge_line, command_line as the_command_line, rows_given, given_options, IsNumberOf, AreGiven};
 
-use clap::Command as Parser;
+use clap::builder::ValueParser;
 use clap::error::ErrorKind;
+use clap::{Arg, ArgMatches, Command as Parser, value_parser};
 use rd_base::Memory;
 use std::alloc::{AllocError, Global};
 
@@ -18,12 +23,84 @@ pub enum Command {
     Roots,
 }
 
-/// The command line: one of the commands, which have no options.
+/// How a match is played. No option changes what is answered.
+#[derive(Clone, Copy, Debug, PartialEq, Eq)]
+pub struct Options {
+    /// Among how many threads a prover replays its run, at least 1.
+    pub workers: u32,
+    /// How many threads post the provers' answers, at least 1.
+    pub posters: u32,
+    /// How many steps lie between two checkpoints of a prover's run, at least 1.
+    pub every: u32,
+}
+
+/// A command with its options.
+#[derive(Clone, Copy, Debug, PartialEq, Eq)]
+pub struct Request {
+    pub command: Command,
+    pub options: Options,
+}
+
+/// An option `--name` with a number, and its default.
+fn number_option<'a>(
+    alloc: Global,
+    name: &'a str,
+    numbers: ValueParser<'a>,
+    default: &'a str,
+) -> Arg<'a>
+    ensures rule { (most : ℕ) → numbers.entry ≡ parsers.Signed (pos 1) (pos most) → rule_of result ≡ the_number_option name.entry.now most default.entry.now }
+    ensures own { result.global ≡ false }
+{
+    Arg::new(alloc, name)
+        .long(name)
+        .value_parser(numbers)
+        .default_value(default)
+}
+
+/// `--workers`, from 1 to 64.
+fn workers_option<'a>(alloc: Global) -> Arg<'a>
+    ensures rule { rule_of result ≡ the_number_option (codes "workers") 64 (codes "1") }
+    ensures own { result.global ≡ false }
+{
+    number_option(alloc, "workers", value_parser!(u32).range(1..=64), "1")
+}
+
+/// `--posters`, from 1 to 16.
+fn posters_option<'a>(alloc: Global) -> Arg<'a>
+    ensures rule { rule_of result ≡ the_number_option (codes "posters") 16 (codes "1") }
+    ensures own { result.global ≡ false }
+{
+    number_option(alloc, "posters", value_parser!(u32).range(1..=16), "1")
+}
+
+/// `--every`, from 1 to 65,536.
+fn every_option<'a>(alloc: Global) -> Arg<'a>
+    ensures rule { rule_of result ≡ the_number_option (codes "every") 65536 (codes "1024") }
+    ensures own { result.global ≡ false }
+{
+    number_option(alloc, "every", value_parser!(u32).range(1..=65_536), "1024")
+}
+
+/// The command `judge` with its options.
+fn judge_line<'a>(alloc: Global) -> Result<Parser<'a>, AllocError>
+    ensures app { IfOk result (λ parser. app_of parser ≡ the_judge_line) }
+    ensures local { IfOk result (λ parser. (fields_of parser).has_globals ≡ false) }
+{
+    let workers = workers_option(alloc);
+    let posters = posters_option(alloc);
+    let every = every_option(alloc);
+    Parser::new(alloc, "judge")
+        .arg(workers)?
+        .arg(posters)?
+        .arg(every)
+}
+
+/// The command line: one of the commands.
 #[tactic(auto, unfolding(crate::specs::Words::command_line))]
 fn command_line<'a>(alloc: Global) -> Result<Parser<'a>, AllocError>
     ensures { IfOk result (λ parser. app_of parser ≡ the_command_line) }
 {
-    let judge = Parser::new(alloc, "judge");
+    let judge = judge_line(alloc)?;
     let run = Parser::new(alloc, "run");
     let roots = Parser::new(alloc, "roots");
     Parser::new(alloc, "refcli")
@@ -33,23 +110,74 @@ fn command_line<'a>(alloc: Global) -> Result<Parser<'a>, AllocError>
         .subcommand(roots)
 }
 
-fn command_named(name: Option<&str>) -> Option<Command>
-    ensures { result ≡ named (option_map (λ text. text.now) name.entry) }
+fn command_named(name: &str) -> Option<Command>
+    ensures { result ≡ named (Option.Some name.now) }
 {
     match name {
-        Some("judge") => Some(Command::Judge),
-        Some("run") => Some(Command::Run),
-        Some("roots") => Some(Command::Roots),
+        "judge" => Some(Command::Judge),
+        "run" => Some(Command::Run),
+        "roots" => Some(Command::Roots),
         _ => None,
     }
 }
 
-/// The command that the arguments name, of which the first is the program's name; `None` where they name none.
-pub fn command_given(alloc: Global, words: &[String]) -> Result<Option<Command>, Memory>
-    ensures { IfOk result (λ command. command ≡ chosen (texts words.now)) }
+/// The number of an option, at least 1.
+fn number(given: &ArgMatches<'_>, name: &str, default: u32) -> u32
+    requires { 0 < default }
+    ensures some { 0 < result }
+    ensures value { IsNumberOf (one_of name.now (rows_of (found_of given.now))) default result }
+{
+    match given.get_one::<u32>(name) {
+        Some(number) => number.max(1),
+        None => default,
+    }
+}
+
+/// The numbers of the options.
+fn options_in(given: &ArgMatches<'_>) -> Options
+    ensures workers { 0 < result.workers }
+    ensures posters { 0 < result.posters }
+    ensures every { 0 < result.every }
+    ensures given { AreGiven (rows_of (found_of given.now)) result }
+{
+    Options {
+        workers: number(given, "workers", 1),
+        posters: number(given, "posters", 1),
+        every: number(given, "every", 1_024),
+    }
+}
+
+/// The command that was parsed, with its options.
+fn request_in(matches: &ArgMatches<'_>) -> Option<Request>
+    ensures command { option_map (λ request. request.command) result ≡ named (option_map (λ entered. entered.0) (subcommand_rows_of matches.now)) }
+    ensures workers { IfSome result (λ request. 0 < request.options.workers) }
+    ensures posters { IfSome result (λ request. 0 < request.options.posters) }
+    ensures every { IfSome result (λ request. 0 < request.options.every) }
+    ensures given { IfSome result (λ request. AreGiven (rows_given (subcommand_rows_of matches.now)) request.options) }
+{
+    match matches.subcommand() {
+        Some((name, given)) => match command_named(name) {
+            Some(command) => Some(Request {
+                command,
+                options: options_in(given),
+            }),
+            None => None,
+        },
+        None => None,
+    }
+}
+
+/// The command that the arguments name, of which the first is the program's name, and its options; `None` where they name
+/// none.
+pub fn command_given(alloc: Global, words: &[String]) -> Result<Option<Request>, Memory>
+    ensures command { IfOk result (λ given. option_map (λ request. request.command) given ≡ chosen (texts words.now)) }
+    ensures workers { IfOk result (λ given. IfSome given (λ request. 0 < request.options.workers)) }
+    ensures posters { IfOk result (λ given. IfSome given (λ request. 0 < request.options.posters)) }
+    ensures every { IfOk result (λ given. IfSome given (λ request. 0 < request.options.every)) }
+    ensures options { IfOk result (λ given. IfSome given (λ request. AreGiven (given_options (texts words.now)) request.options)) }
 {
     match command_line(alloc)?.try_get_matches_from(words) {
-        Ok(matches) => Ok(command_named(matches.subcommand_name())),
+        Ok(matches) => Ok(request_in(&matches)),
         Err(error) => match error.kind() {
             ErrorKind::OutOfMemory => Err(Memory),
             _ => Ok(None),

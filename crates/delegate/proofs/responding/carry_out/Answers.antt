@@ -1,21 +1,24 @@
-use Rattle.std.proofs.Common.{◌≡◌, ◌<◌, Ok, Err, ap, sym, ◌∙◌, length}
+use Rattle.std.proofs.Common.{◌≡◌, ◌<◌, Ok, Err, ap, subst, sym, ◌∙◌, length}
 use Rattle.std.proofs.lemmas.Result.{err_from_is_err_and}
 use Rattle.sha2.specs.Sha256.{sha256}
 use Rattle.rv_step.specs.Loaded.{started}
+use Rattle.rv_step.specs.State.{state_of}
+use Rattle.rv_step.specs.Valid.{IsValid}
 use Rattle.case_reader.specs.Case.{data_of, case_at}
 use Rattle.image_reader.specs.Image.{loaded_of}
 use Rattle.delegate.specs.Outcome.{carried_out, ended}
 use Rattle.delegate.specs.Refusal.{case_refusal, or_refusal}
 use Rattle.delegate.specs.Words.{texts}
 use Rattle.delegate.specs.declared.response.Stop.TheVariants.{Refused}
+use Rattle.delegate.proofs.HeadlineLemmas.{case-in-range}
 use Rattle.delegate.proofs.OutcomeLemmas.{no_command, too_many, no_case, no_bound, no_image, all_steps, some_bytes, many_bytes, for_its_bytes, over_limit}
 use Rattle.delegate.proofs.responding.carry_out.Goals as goal
 
-pub returns-in_err-command-clause-refused : goal.returns-in_err-command-clause-refused
-returns-in_err-command-clause-refused g c = λ response is.
+pub returns-in_err-request-clause-refused : goal.returns-in_err-request-clause-refused
+returns-in_err-request-clause-refused g c = λ response is.
     let p = err_from_is_err_and c.from_residual.result c.from_residual.ensures.1 in
-    let same : c.in_err-command.field-0.0 ≡ Refused response = cc (is, p.1, p.2) in
-    some_bytes (g.S.Source.left c.args.source.now) _ (λ bytes. no_command (texts c.args.words.now) bytes response (c.in_err-command.ensures.stands response same))
+    let same : c.in_err-request.field-0.0 ≡ Refused response = cc (is, p.1, p.2) in
+    some_bytes (g.S.Source.left c.args.source.now) _ (λ bytes. no_command (texts c.args.words.now) bytes response (c.in_err-request.ensures.stands response same))
 
 pub returns-in_err-bytes-clause-refused : goal.returns-in_err-bytes-clause-refused
 returns-in_err-bytes-clause-refused g c = λ response is.
@@ -23,7 +26,7 @@ returns-in_err-bytes-clause-refused g c = λ response is.
     let same : c.in_err-bytes.field-0.0 ≡ Refused response = cc (is, p.1, p.2) in
     let long = c.in_err-bytes.ensures in
     for_its_bytes (g.S.Source.left c.args.source.now) (λ bytes. 16777216 < length bytes) (λ bytes. carried_out (texts c.args.words.now) bytes ≡ Err response)
-    (λ bytes more. too_many (texts c.args.words.now) bytes c.in_ok-command.command response c.in_ok-command.ensures.stands
+    (λ bytes more. too_many (texts c.args.words.now) bytes c.in_ok-request.request.command response c.in_ok-request.ensures.stands
     (over_limit bytes more ∙ ap Err (sym (long.refusal response (ap Err same)))))
     (many_bytes (g.S.Source.left c.args.source.now) 16777216 (long.long response (ap Err same)))
 
@@ -34,7 +37,7 @@ returns-in_err-case-clause-refused g c = λ response is.
     let bytes = c.in_ok-bytes.bytes.items in (
       bytes,
       c.in_ok-bytes.ensures.bytes,
-      no_case (texts c.args.words.now) bytes c.in_ok-command.command response c.in_ok-command.ensures.stands c.in_ok-bytes.ensures.short
+      no_case (texts c.args.words.now) bytes c.in_ok-request.request.command response c.in_ok-request.ensures.stands c.in_ok-bytes.ensures.short
           (ap (λ bytes. or_refusal case_refusal (case_at bytes)) (sym c.as_slice.ensures.value) ∙ c.in_err-case.ensures.stands response same),
     )
 
@@ -45,7 +48,7 @@ returns-in_err-bound_in-clause-refused g c = λ response is.
     let bytes = c.in_ok-bytes.bytes.items in (
       bytes,
       c.in_ok-bytes.ensures.bytes,
-      no_bound (texts c.args.words.now) bytes c.in_ok-command.command (data_of c.in_ok-case.case) response c.in_ok-command.ensures.stands c.in_ok-bytes.ensures.short
+      no_bound (texts c.args.words.now) bytes c.in_ok-request.request.command (data_of c.in_ok-case.case) response c.in_ok-request.ensures.stands c.in_ok-bytes.ensures.short
           (ap (λ bytes. or_refusal case_refusal (case_at bytes)) (sym c.as_slice.ensures.value) ∙ c.in_ok-case.ensures.stands)
           (c.in_err-bound_in.ensures.stands response same),
     )
@@ -57,7 +60,7 @@ returns-in_err-loaded-clause-refused g c = λ response is.
     let bytes = c.in_ok-bytes.bytes.items in (
       bytes,
       c.in_ok-bytes.ensures.bytes,
-      no_image (texts c.args.words.now) bytes c.in_ok-command.command (data_of c.in_ok-case.case) response c.in_ok-command.ensures.stands c.in_ok-bytes.ensures.short
+      no_image (texts c.args.words.now) bytes c.in_ok-request.request.command (data_of c.in_ok-case.case) response c.in_ok-request.ensures.stands c.in_ok-bytes.ensures.short
           (ap (λ bytes. or_refusal case_refusal (case_at bytes)) (sym c.as_slice.ensures.value) ∙ c.in_ok-case.ensures.stands)
           c.in_ok-bound_in.ensures.stands
           (c.in_err-loaded.ensures.stands response same),
@@ -66,9 +69,18 @@ returns-in_err-loaded-clause-refused g c = λ response is.
 pub returns-clause-done : goal.returns-clause-done
 returns-clause-done g c =
     let bytes = c.in_ok-bytes.bytes.items in
-    let steps = all_steps (texts c.args.words.now) bytes c.in_ok-command.command (data_of c.in_ok-case.case) (loaded_of c.in_ok-loaded.loaded) c.in_ok-command.ensures.stands c.in_ok-bytes.ensures.short
-    (ap (λ bytes. or_refusal case_refusal (case_at bytes)) (sym c.as_slice.ensures.value) ∙ c.in_ok-case.ensures.stands)
+    let reads = ap (λ bytes. or_refusal case_refusal (case_at bytes)) (sym c.as_slice.ensures.value) ∙ c.in_ok-case.ensures.stands in
+    let steps = all_steps (texts c.args.words.now) bytes c.in_ok-request.request.command (data_of c.in_ok-case.case) (loaded_of c.in_ok-loaded.loaded) c.in_ok-request.ensures.stands c.in_ok-bytes.ensures.short
+    reads
     c.in_ok-bound_in.ensures.stands
     c.in_ok-loaded.ensures.stands in
-    let input = ap (λ input. ended sha256 c.in_ok-command.command (data_of c.in_ok-case.case) (started c.in_ok-loaded.loaded.mem c.in_ok-loaded.loaded.entry input)) (sym c.as_slice-2.ensures) in
-    (bytes, c.in_ok-bytes.ensures.bytes, steps ∙ ap Ok (input ∙ (ap (ended sha256 c.in_ok-command.command (data_of c.in_ok-case.case)) (sym c.in_ok-start.ensures.state) ∙ sym c.in_ok-end.ensures)))
+    let starts : started c.in_ok-loaded.loaded.mem c.in_ok-loaded.loaded.entry c.in_ok-case.case.input ≡ state_of c.in_ok-start.start =
+    ap (λ input. started c.in_ok-loaded.loaded.mem c.in_ok-loaded.loaded.entry input) (sym c.as_slice-2.ensures) ∙ sym c.in_ok-start.ensures.state in
+    (
+      bytes,
+      c.in_ok-bytes.ensures.bytes,
+      (
+        steps ∙ ap Ok (ap (ended sha256 c.in_ok-request.request.command (data_of c.in_ok-case.case)) starts ∙ sym c.in_ok-end.ensures),
+        case-in-range (texts c.args.words.now) bytes c.in_ok-case.case (loaded_of c.in_ok-loaded.loaded) reads c.in_ok-loaded.ensures.stands (subst (λ s. IsValid s) (sym starts) c.machines_are_valid.ensures),
+      ),
+    )
