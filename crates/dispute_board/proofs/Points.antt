@@ -1,5 +1,5 @@
 -- What is asked and answered at a point of the journal.
-use Rattle.std.proofs.Common.{◌≡◌, ◌≢◌, ◌⊎◌, inl, inr, ℕ, ◌+◌, ◌<◌, ◌==◌, Bool, true, false, not, ◌&&◌, if◌then◌else◌, List, [], ◌∷◌, ◌++◌, length, map, Option, Some, None, is_none, refl, sym, ap, ap₂, ◌∙◌, subst, arith, All}
+use Rattle.std.proofs.Common.{◌≡◌, ℕ, ◌<◌, ◌==◌, Bool, true, false, not, ◌&&◌, if◌then◌else◌, List, [], ◌∷◌, ◌++◌, length, Option, Some, None, is_none, refl, sym, ap, ap₂, ◌∙◌, subst, arith, All}
 use Rattle.std.proofs.lemmas.Bool.Decides.{nat_tests}
 use Rattle.std.proofs.lemmas.List.{length-map}
 use mathlib.Core.List.{map-append}
@@ -18,14 +18,14 @@ use Rattle.board_book.specs.declared.entry.Ask.{Ask}
 use Rattle.board_book.specs.declared.entry.Ask.TheVariants as ask
 use Rattle.board_book.specs.Entries.{IsJournal, state_of, is_stale, noted}
 use Rattle.board_book.specs.Asking.{ask_on}
-use Rattle.seat_lock.specs.History.{Turn, Begins, log_of, with_receipt, GrowsByAtMostOne}
+use Rattle.seat_lock.specs.History.{Turn, Begins, log_of, with_receipt}
 use Rattle.seat_lock.specs.Seats.{Known}
 use Rattle.seat_lock.specs.Turned.{Turned}
 use Rattle.dispute_board.specs.declared.turns.Posted.{Posted}
 use Rattle.dispute_board.specs.Logs.{numbers_of, log_of_journal, with_entry, turn_of}
-use Rattle.dispute_board.specs.Replies.{ask_in, IsOfTheCase, IsMoveOn, MayPost, is_due, reply_on_board, reply_in, IsReply}
-use Rattle.dispute_board.specs.OneHistory.{Stands, AsksOnBoard, PostsOnBoard, entry_unless_stale, receipt_of}
-use Rattle.dispute_board.specs.Turns.{undue, AsksTheCase, Asks, Posts}
+use Rattle.dispute_board.specs.Replies.{IsMoveOn, MayPost, is_due, reply_on_board, reply_in, IsReply}
+use Rattle.dispute_board.specs.OneHistory.{Stands, AsksOnBoard, PostsOnBoard, entry_unless_stale}
+use Rattle.dispute_board.specs.Turns.{AsksTheCase, Asks, Posts}
 
 some≢none : {A : Type 0} (a : A) → Some a ≡ None → ⊥
 some≢none a e = absurd (cc)
