@@ -2,7 +2,7 @@
 //!
 //! The layers above may rely on this: what `read_case` reads is the case of the bytes, by the definition `case_at`, which
 //! tests keys in one order, and a refusal other than out of memory is that definition's. Read `case` first, then
-//! `parsing`.
+//! `parsing`; `prover` reads a prover's script, by `tamper` and `manner`.
 #![tactic(auto)]
 
 mod case;

@@ -1,5 +1,5 @@
 -- No line speaks against a prover whose answers are given and true and that isn't put out.
-use Rattle.std.proofs.Common.{◌≡◌, ℕ, zero, suc, ◌+◌, ◌-◌, Bool, true, false, ◌&&◌, ◌||◌, ◌==◌, ◌⊎◌, inl, inr, List, [], ◌∷◌, ◌++◌, length, slice_get, Option, Some, None, if◌then◌else◌, refl, sym, ap, ◌∙◌, arith}
+use Rattle.std.proofs.Common.{◌≡◌, ℕ, suc, ◌+◌, ◌-◌, Bool, true, false, ◌&&◌, ◌||◌, ◌==◌, ◌⊎◌, inl, inr, List, [], ◌∷◌, ◌++◌, length, slice_get, Option, Some, None, if◌then◌else◌, refl, arith}
 use Rattle.std.proofs.lemmas.Bool.Decides.{nat_tests}
 use Rattle.rd_base.specs.declared.answer.Answer.TheVariants as answer
 use Rattle.bisect_game.specs.declared.interval.Round.{Round}
@@ -18,7 +18,7 @@ use Rattle.tournament.specs.Truthful.{IsSafe}
 use Rattle.transcript_text.specs.declared.word.Word.{Word}
 use Rattle.transcript_text.specs.declared.word.Word.TheVariants as word
 use Rattle.transcript_text.specs.Words.{word_of, word_of_proof, speaks_against}
-use Rattle.transcript_text.specs.Lines.{Line, Said, stage_line, said_in, middle, is_said_against, is_against, is_against_if_there, are_against, line_of_claim, lines_of_claims, line_of_round, lines_of_rounds, line_of_step, line_of_last, lines_of_all_rounds, line_of_stage, lines_of_dispute, lines_of_disputes, lines_of_record}
+use Rattle.transcript_text.specs.Lines.{Line, stage_line, said_in, middle, is_said_against, is_against, is_against_if_there, are_against, line_of_claim, lines_of_claims, line_of_round, lines_of_rounds, line_of_step, line_of_last, lines_of_dispute, lines_of_disputes, lines_of_record}
 
 either : (b : Bool) → (b ≡ true) ⊎ (b ≡ false)
 either true = inl refl

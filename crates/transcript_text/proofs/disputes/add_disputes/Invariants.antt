@@ -1,4 +1,4 @@
-use Rattle.std.proofs.Common.{◌≡◌, ◌++◌, ◌+◌, drop, string_bytes}
+use Rattle.std.proofs.Common.{◌≡◌, ◌++◌, drop, string_bytes}
 use Rattle.transcript_text.specs.Lines.{lines_of_disputes}
 use Rattle.transcript_text.specs.Report.{lines_text}
 use Rattle.transcript_text.proofs.disputes.add_disputes.Given as goal
