@@ -12,8 +12,8 @@ use Rattle.bisect_game.specs.declared.question.Kind.TheVariants as kind
 use Rattle.bisect_game.specs.declared.question.Question.{Question}
 
 -- the claim of a state: the digests of its memory and registers, its control fields and its output
-abbrev pub claim_of : (List ℕ → List ℕ) → State → Claim
-claim_of digest s = record {
+abbrev pub plain_claim : (List ℕ → List ℕ) → State → Claim
+plain_claim digest s = record {
   mem = record { 0 = memory_digest digest s };
   regs = record { 0 = digest (registers_text s.regs) };
   ctl = ctl_of digest s;
@@ -23,7 +23,7 @@ claim_of digest s = record {
 -- the plain answer to what is asked, of a run up to a bound: the claim of the last state, or the root or the proof of the
 -- state of a step; the last state stands for a step above the bound
 abbrev pub plain : (List ℕ → List ℕ) → (ℕ → State) → ℕ → Kind → Answer
-plain digest run bound kind.Claim = answer.Claim (claim_of digest (run bound))
+plain digest run bound kind.Claim = answer.Claim (plain_claim digest (run bound))
 plain digest run bound (kind.Root i) = answer.Root (record { 0 = state_root digest (run (min i bound)) })
 plain digest run bound (kind.Proof i) = answer.Step (plain_proof digest (run (min i bound)))
 

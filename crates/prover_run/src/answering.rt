@@ -78,9 +78,9 @@ fn root<D: Replays, R: Threads + Sync>(
 }
 
 /// The claim of a machine's state, whose output is at most 4,294,967,295 bytes long. An `Err` is out of memory.
-fn claim_of<D: Digester>(alloc: Global, d: D, committed: &Committed<D>) -> Result<Claim, Memory>
+fn plain_claim<D: Digester>(alloc: Global, d: D, committed: &Committed<D>) -> Result<Claim, Memory>
     requires { length committed.now.output ≤ 4294967295 }
-    ensures { IfOk result (λ c. c ≡ plain.claim_of D.digest_of committed.now) }
+    ensures { IfOk result (λ c. c ≡ plain.plain_claim D.digest_of committed.now) }
 {
     let machine = committed.machine();
     let _out_len = machine.ctl.out_len;
@@ -122,7 +122,7 @@ pub fn plain_answer<D: Replays, R: Threads + Sync>(
         }
         Kind::Claim => {
             let last = d.committed_of(rt, alloc, run, run.bound())?;
-            let claim = claim_of(alloc, d, &last)?;
+            let claim = plain_claim(alloc, d, &last)?;
             Ok(Answer::Claim(claim))
         }
         Kind::Proof(step) => {

@@ -17,6 +17,8 @@ mod laws;
 mod middles;
 mod prover;
 mod provers;
+#[cfg(test)]
+mod tests;
 
 pub use answerers::answerers_of;
 pub use laws::{outputs_grow_slowly, untouched_provers};
