@@ -1,24 +1,14 @@
 -- To believe: the plain answers of a run, which are the answers of a prover that answers what its run gives.
 use Rattle.std.specs.Prelude.{ℕ, List, min, Option, Some}
-use Rattle.digest_core.specs.Text.{registers_text}
 use Rattle.rd_base.specs.declared.answer.Answer.{Answer}
 use Rattle.rd_base.specs.declared.answer.Answer.TheVariants as answer
-use Rattle.rd_base.specs.declared.claim.Claim.{Claim}
 use Rattle.rv_step.specs.State.{State}
-use Rattle.state_commit.specs.StateRoot.{ctl_of, memory_digest, state_root}
+use Rattle.state_commit.specs.StateRoot.{state_root}
 use Rattle.open_proof.specs.PlainProof.{plain_proof}
+use Rattle.step_referee.specs.MachineTruth.{plain_claim}
 use Rattle.bisect_game.specs.declared.question.Kind.{Kind}
 use Rattle.bisect_game.specs.declared.question.Kind.TheVariants as kind
 use Rattle.bisect_game.specs.declared.question.Question.{Question}
-
--- the claim of a state: the digests of its memory and registers, its control fields and its output
-abbrev pub plain_claim : (List ℕ → List ℕ) → State → Claim
-plain_claim digest s = record {
-  mem = record { 0 = memory_digest digest s };
-  regs = record { 0 = digest (registers_text s.regs) };
-  ctl = ctl_of digest s;
-  output = s.output;
-}
 
 -- the plain answer to what is asked, of a run up to a bound: the claim of the last state, or the root or the proof of the
 -- state of a step; the last state stands for a step above the bound

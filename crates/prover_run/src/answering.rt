@@ -4,6 +4,7 @@ ghost use Rattle.std.specs.Prelude.{◌≡◌, ◌<◌, ◌≤◌, ℕ, IfOk, Li
 ghost use Rattle.checkpoint_run.specs.Recorded.{AreChained, state_of_step};
 ghost use Rattle.segment_replay.specs.Roots.{root_at, digests};
 ghost use Rattle.prover_run.specs.Plain as plain;
+ghost use Rattle.step_referee.specs.MachineTruth.{plain_claim};
 ghost use Rattle.prover_run.specs.Prover.{Prover, IsRunOf, AreKept, run_of, root_of};
 
 use crate::middles::asked_with;
@@ -80,7 +81,7 @@ fn root<D: Replays, R: Threads + Sync>(
 /// The claim of a machine's state, whose output is at most 4,294,967,295 bytes long. An `Err` is out of memory.
 fn plain_claim<D: Digester>(alloc: Global, d: D, committed: &Committed<D>) -> Result<Claim, Memory>
     requires { length committed.now.output ≤ 4294967295 }
-    ensures { IfOk result (λ c. c ≡ plain.plain_claim D.digest_of committed.now) }
+    ensures { IfOk result (λ c. c ≡ plain_claim D.digest_of committed.now) }
 {
     let machine = committed.machine();
     let _out_len = machine.ctl.out_len;
