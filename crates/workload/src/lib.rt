@@ -1,0 +1,17 @@
+//! The large workload: a case that is made of a seed, with a run of 32,781 steps and eight provers of whom seven lie.
+//!
+//! The layers above may rely on this: what `big_case` gives is the compact JSON text of one tree, a definition, and
+//! `case_reader`'s definition of reading takes it to one case, for every seed. That each dispute of this case has 16
+//! rounds and puts out one prover is tested and not proved. Read `big` first, then `draws`.
+#![tactic(auto)]
+
+mod big;
+mod draws;
+mod laws;
+mod program;
+mod provers;
+#[cfg(test)]
+mod tests;
+
+pub use big::big_case;
+pub use laws::workload_is_a_case;
