@@ -3,6 +3,7 @@ use Rattle.std.proofs.Common.{◌≡◌, ℕ, zero, suc, ◌+◌, ◌-◌, ◌*�
 use Rattle.std.proofs.lemmas.Bool.Decides.{nat_tests}
 use Rattle.std.proofs.Math.Nat.{mul-le-mul_left, pow-succ'}
 use Rattle.bisect_game.specs.declared.interval.Interval.{Interval}
+use Rattle.bisect_game.specs.declared.interval.Round.{Round}
 use Rattle.bisect_game.specs.declared.settled.Settled.{Settled}
 use Rattle.bisect_game.specs.declared.settled.Close.{Close}
 use Rattle.rd_base.specs.declared.digest.Digest32.{Digest32}
@@ -10,10 +11,10 @@ use Rattle.bisect_game.specs.declared.side.Side.{Side}
 use Rattle.bisect_game.specs.declared.side.Side.TheVariants.{First, Second}
 use Rattle.bisect_game.proofs.CutLemmas.{either, tight}
 use Rattle.bisect_game.proofs.RoundLemmas.{close_of-none}
-use Rattle.bisect_game.specs.Bisection.{Bisection, cut, kept, parts_of, went_on, closed_or, decided, advanced, roots_of, agreeing, settle_first, settle_second, settle_side}
+use Rattle.bisect_game.specs.Bisection.{Bisection, rounds_of, proof_rounds_in, cut, kept, parts_of, went_on, closed_or, decided, advanced, roots_of, agreeing, settle_first, settle_second, settle_side}
 use Rattle.bisect_game.specs.Closing.{is_step, close_of}
-use Rattle.bisect_game.specs.Laws.{IsFew, rounds_of, RoundsAreFew}
-use Rattle.bisect_game.specs.Rules.{Rules}
+use Rattle.bisect_game.specs.Laws.{IsFew, RoundsAreFew}
+use Rattle.bisect_game.specs.Rules.{Play, Rules}
 
 none-more : (l m : ℕ) → 1 < l → l * m ≤ l - 1 → m ≡ 0
 none-more l zero long le = refl
@@ -94,5 +95,32 @@ few-side rules Second s d more f = few-second rules s d more f
 few-rounds : (rules : Rules) (d : Bisection) → 1 < rules.play.fan → IsFew rules.play.fan rules.bound d.place (length d.past) → rules.play.fan ^ rounds_of d < rules.play.fan * rules.bound
 few-rounds rules d more f = rounds-few rules d (is_step d.place) refl more f
 
+-- a round that goes on is no proof round
+
+none-first : (b : Bool) (n : ℕ) → (if b then 1 else 0) + n ≡ 0 → (b ≡ false) × (n ≡ 0)
+none-first true n e = absurd (omega (arith, e))
+none-first false n e = (refl, omega (arith, e))
+
+last-more : (rs : List Round) (r : Round) → proof_rounds_in rs ≡ 0 → nat_le (r.hi - r.lo) 1 ≡ false → proof_rounds_in (rs ++ r ∷ []) ≡ 0
+last-more [] r none long = rw long refl
+last-more (x ∷ rs) r none long =
+    let two : (nat_le (x.hi - x.lo) 1 ≡ false) × (proof_rounds_in rs ≡ 0) = none-first (nat_le (x.hi - x.lo) 1) (proof_rounds_in rs) none in
+    rw (two.0, last-more rs r two.1 long) refl
+
+last-by : (play : Play) (d : Bisection) (a b : Settled) (o : Option Close) → close_of play.ruling d.place a b ≡ o → proof_rounds_in d.past ≡ 0 → proof_rounds_in (closed_or d (went_on play.fan d a b) o).past ≡ 0
+last-by play d a b (Some c) e none = none
+last-by play d a b None e none = last-more d.past (record { lo = d.place.lo; hi = d.place.hi; first = a; second = b }) none (close_of-none play.ruling d.place a b e)
+
+last-advanced : (play : Play) (d : Bisection) (a b : Option Settled) → proof_rounds_in d.past ≡ 0 → proof_rounds_in (advanced play d a b).past ≡ 0
+unfolding decided
+last-advanced play d (Some a) (Some b) none = last-by play d a b (close_of play.ruling d.place a b) refl none
+last-advanced play d (Some a) None none = none
+last-advanced play d None b none = none
+
+last-side : (play : Play) (by : Side) (s : Settled) (d : Bisection) → proof_rounds_in d.past ≡ 0 → proof_rounds_in (settle_side play by s d).past ≡ 0
+unfolding settle_first settle_second
+last-side play First s d none = last-advanced play (record d { by_first = Some s }) (Some s) d.by_second none
+last-side play Second s d none = last-advanced play (record d { by_second = Some s }) d.by_first (Some s) none
+
 pub rounds_are_few : RoundsAreFew
-rounds_are_few = record { kept = few-side; few = few-rounds }
+rounds_are_few = record { kept = few-side; few = few-rounds; last = last-side }

@@ -15,13 +15,13 @@ use Rattle.bisect_game.specs.declared.settled.Close.{Close}
 use Rattle.bisect_game.specs.declared.settled.Close.TheVariants.{Out}
 use Rattle.bisect_game.proofs.CutLemmas.{IsPart, part, below}
 use Rattle.bisect_game.proofs.RoundLemmas.{close_of-none}
-use Rattle.bisect_game.proofs.TruthLemmas.{same-is, HasRoots, kept-first, kept-second, not-out, kept-apart}
+use Rattle.bisect_game.proofs.TruthLemmas.{same-is, HasRoots, kept-first, kept-second, not-out, kept-apart, proved}
 use Rattle.bisect_game.specs.Bisection.{Bisection, cut, kept, kind_over, parts_of, ended, went_on, closed_or, decided, advanced, roots_of, agreeing, settle_first, settle_second, settle_side, asks}
 use Rattle.bisect_game.specs.Closing.{is_step, is_out, is_proved, is_root, both_proved, closed_by, close_of}
-use Rattle.bisect_game.specs.Laws.{IsPlay, KeepsRight, InvariantIsKept}
+use Rattle.bisect_game.specs.Laws.{IsPlay, KeepsRight, InvariantIsKept, TrueProofsProve}
 use Rattle.bisect_game.specs.Rules.{Rules}
 use Rattle.bisect_game.specs.Ruling.{Ruling, IsFair}
-use Rattle.bisect_game.specs.Truth.{Truth, IsRun, IsFit, IsTrueSettled, IsTrueSoFar, own_answer, own_open, is_put_out, AllTrue, IsRight}
+use Rattle.bisect_game.specs.Truth.{Truth, IsRun, IsFit, IsTrueSettled, IsTrueSoFar, own_root, own_answer, own_open, is_put_out, AllTrue, IsRight, IsProvedBy}
 
 -- run's roots.
 
@@ -286,3 +286,17 @@ right-side rules t Second s d side two fair run open_ fit g keeps =
 
 pub invariant_is_kept : InvariantIsKept
 invariant_is_kept = record { play = play-side; right = right-side }
+
+-- a proof of a side with true answers proves
+
+proved-by : (rules : Rules) (t : Truth) (i : Interval) (own : Digest32) (o : Option Settled) → IsRun rules t → i.lo < i.hi → i.hi ≤ rules.bound →
+    i.agreed ≡ t.root i.lo → own ≡ t.root i.hi → IsTrueSoFar t (kind_over rules.play.fan i.lo i.hi) o → IsProvedBy rules.play.ruling i own o
+proved-by rules t i own (Some (Given a)) run some short agreed mine is = λ (step : is_step i ≡ true).
+    proved rules.play.ruling t i a own step some agreed mine (run.leads i.lo (omega (arith, some, short))) (rw step at is)
+proved-by rules t i own (Some (Faulty a)) run some short agreed mine is = tt
+proved-by rules t i own (Some Spent) run some short agreed mine is = tt
+proved-by rules t i own None run some short agreed mine is = tt
+
+pub true_proofs_prove : TrueProofsProve
+true_proofs_prove rules t side d run play truthful right =
+    proved-by rules t d.place (own_root side d.place) (own_open side d) run play.sound.some play.sound.short right.agreed right.own truthful.open_

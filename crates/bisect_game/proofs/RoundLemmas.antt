@@ -8,7 +8,7 @@ use Rattle.rd_base.specs.declared.digest.Digest32.{Digest32}
 use Rattle.bisect_game.proofs.CutLemmas.{IsPart, part}
 use Rattle.bisect_game.specs.Bisection.{Bisection, cut, kept, parts_of, went_on, closed_or, decided, roots_of, agreeing}
 use Rattle.bisect_game.specs.Closing.{is_step, both_proved, close_of}
-use Rattle.bisect_game.specs.Laws.{IsNarrower, HasClosed, RoundsNarrow}
+use Rattle.bisect_game.specs.Laws.{IsNarrower, HasClosed, RoundsNarrow, ProofRoundCloses}
 use Rattle.bisect_game.specs.Rules.{Play}
 use Rattle.bisect_game.specs.Ruling.{Ruling}
 
@@ -38,3 +38,15 @@ decided-by play d a b None more h = inr (kept-narrows play.fan d.place (roots_of
 pub rounds_narrow : RoundsNarrow
 unfolding decided
 rounds_narrow rules d a b more = decided-by rules d a b (close_of rules.ruling d.place a b) more (close_of-none rules.ruling d.place a b)
+
+-- the proof round closes its dispute
+
+proof-by : (play : Play) (d : Bisection) (a b : Settled) (x step : Bool) (c m : Close) → step ≡ true →
+    HasClosed d (closed_or d (went_on play.fan d a b) (if x then Some c else if step then Some m else None))
+proof-by play d a b true step c m e = record { closed = refl; stays = refl }
+proof-by play d a b false true c m e = record { closed = refl; stays = refl }
+proof-by play d a b false false c m e = absurd (cc)
+
+pub proof_round_closes : ProofRoundCloses
+unfolding decided close_of
+proof_round_closes play d a b step = proof-by play d a b _ (is_step d.place) _ (both_proved play.ruling d.place.agreed a b) step

@@ -155,7 +155,7 @@ kept-second t fan i a b more long some is h =
     }
 
 -- a true proof proves
-proved : (r : Ruling) (t : Truth) (i : Interval) (a : Answer) (own : Digest32) → is_step i ≡ true → i.lo < i.hi → i.agreed ≡ t.root i.lo → own ≡ t.root i.hi →
+pub proved : (r : Ruling) (t : Truth) (i : Interval) (a : Answer) (own : Digest32) → is_step i ≡ true → i.lo < i.hi → i.agreed ≡ t.root i.lo → own ≡ t.root i.hi →
     r.leads (t.root i.lo) (t.proof i.lo) ≡ Some (t.root (i.lo + 1)) → IsTrueAnswer t (kind.Proof i.lo) a → is_proved r i.agreed own a ≡ true
 proved r t i (answer.Step p) own step some a o leads is =
     let short : i.lo + 1 ≡ i.hi = grind (arith, nat_tests) in

@@ -15,7 +15,7 @@ use Rattle.bisect_game.specs.declared.side.Side.{Side}
 use Rattle.bisect_game.specs.declared.side.Side.TheVariants.{First, Second}
 use Rattle.bisect_game.specs.Ruling.{same_digest}
 use Rattle.bisect_game.specs.Rules.{Play}
-use Rattle.bisect_game.specs.Closing.{close_of}
+use Rattle.bisect_game.specs.Closing.{is_step, close_of}
 
 -- a dispute: its stage and number, its sides, the interval where it stands, the rounds that went on, what is settled of the
 -- last round, and how it closed
@@ -114,6 +114,18 @@ is_closed d = is_some d.close
 abbrev pub asks : Side → Bisection → Bool
 asks First d = is_none d.by_first && not (is_closed d)
 asks Second d = is_none d.by_second && not (is_closed d)
+
+-- the bisection rounds of a dispute: those that went on, and the one that is asked or closed it
+abbrev pub rounds_of : Bisection → ℕ
+rounds_of d = length d.past + (if is_step d.place then 0 else 1)
+
+-- the proof rounds among rounds that went on, and those of a dispute
+abbrev pub proof_rounds_in : List Round → ℕ
+proof_rounds_in [] = 0
+proof_rounds_in (r ∷ rs) = (if nat_le (r.hi - r.lo) 1 then 1 else 0) + proof_rounds_in rs
+
+abbrev pub proof_rounds_of : Bisection → ℕ
+proof_rounds_of d = proof_rounds_in d.past + (if is_step d.place then 1 else 0)
 
 -- one side's answer is settled
 unfoldable pub settle_first : Play → Settled → Bisection → Bisection

@@ -23,11 +23,13 @@ pub record IsCollision (ruling : Ruling) (opened_first opened_second : List (Lis
   pub first_opened : Contains opened_first pair.0
   pub second_opened : Contains opened_second pair.1
 
--- the laws of a judge: two sound different claims of one root have a collision, two proofs that lead from one root to
--- different ones have a collision, and each pair that is called a collision is one
+-- the laws of a judge: two sound different claims of one root have a collision, claims of two roots and equal claims have
+-- none, two proofs that lead from one root to different ones have a collision, and each pair that is called a collision is one
 pub record IsFair (ruling : Ruling) : Type 0 where
   pub claims_collide : (x y : Claim) → ruling.is_sound x ≡ true → ruling.is_sound y ≡ true → ruling.root_of x ≡ ruling.root_of y →
       ruling.claim_collision x y ≡ None → x ≡ y
+  pub claims_apart : (x y : Claim) → ruling.root_of x ≢ ruling.root_of y → ruling.claim_collision x y ≡ None
+  pub claims_equal : (x : Claim) → ruling.claim_collision x x ≡ None
   pub claim_collisions : (x y : Claim) (pair : List ℕ × List ℕ) → ruling.claim_collision x y ≡ Some pair →
       IsCollision ruling (ruling.opened_by_claim x) (ruling.opened_by_claim y) pair
   pub steps_collide : (from : Digest32) (x y : StepProof) (b c : Digest32) → ruling.leads from x ≡ Some b → ruling.leads from y ≡ Some c → b ≢ c →

@@ -17,6 +17,7 @@ use Rattle.bisect_game.specs.declared.side.Side.{Side}
 use Rattle.bisect_game.specs.declared.side.Side.TheVariants.{First, Second}
 use Rattle.bisect_game.specs.Ruling.{Ruling}
 use Rattle.bisect_game.specs.Rules.{Rules, is_fit}
+use Rattle.bisect_game.specs.Closing.{is_step, is_proved}
 use Rattle.bisect_game.specs.Bisection.{Bisection, kind_over}
 
 -- the roots of a run by step, the proof of each step, and the claim
@@ -77,6 +78,14 @@ abbrev pub is_put_out : Side → Option Close → Bool
 is_put_out First (Some (Out a b)) = a
 is_put_out Second (Some (Out a b)) = b
 is_put_out side _ = false
+
+-- what was given to a question for a proof leads from the agreed root to the side's own
+abbrev pub IsProvedBy : Ruling → Interval → Digest32 → Option Settled → Type 0
+IsProvedBy ruling i own (Some (Given a)) = is_step i ≡ true → is_proved ruling i.agreed own a ≡ true
+IsProvedBy ruling i own _ = Unit {0}
+
+abbrev pub IsProved : Ruling → Side → Bisection → Type 0
+IsProved ruling side d = IsProvedBy ruling d.place (own_root side d.place) (own_open side d)
 
 -- each answer of a side in these rounds is given and true
 abbrev pub AllTrue : Truth → ℕ → Side → List Round → Type 0

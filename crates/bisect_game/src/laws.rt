@@ -1,8 +1,8 @@
 ghost use Rattle.bisect_game.specs.Laws.{BisectionLaws, OrderOfSidesIsFree};
 
-/// What every dispute keeps, whatever is settled: a round closes it or narrows its interval; a side whose answers so far
-/// are given and true has the run's roots and is not out (bisection's invariant); and with k bisection rounds
-/// `2^k < 2N` for the bound N.
+/// What every dispute keeps, whatever is settled: a round closes it or narrows its interval, and the proof round closes it;
+/// a side whose answers so far are given and true has the run's roots and is not out (bisection's invariant), and its proof
+/// proves; with k bisection rounds `2^k < 2N` for the bound N, and no proof round goes on.
 pub fn bisection_laws()
     ensures { BisectionLaws }
 {}

@@ -16,5 +16,6 @@ pub enum Kind {
 pub struct Question {
     /// Its number: dispute and round, both 0 for the claim.
     pub qid: Qid,
+    /// What is asked for.
     pub kind: Kind,
 }

@@ -1,5 +1,5 @@
 -- A book as it is kept.
-use Rattle.std.proofs.Common.{◌≡◌, ℕ, zero, suc, ◌+◌, ◌*◌, ◌^◌, ◌<◌, ◌≤◌, nat_le, Bool, true, false, ◌&&◌, ◌==◌, if◌then◌else◌, List, [], ◌∷◌, ◌++◌, length, slice_index_or, slice_set, ◌⊎◌, inl, inr, Option, Some, None, is_none, refl, sym, ◌∙◌, ap, arith, add-one, length-append, append_assoc}
+use Rattle.std.proofs.Common.{◌≡◌, ◌↔◌, ℕ, zero, suc, ◌+◌, ◌*◌, ◌^◌, ◌<◌, ◌≤◌, nat_le, Bool, true, false, ◌&&◌, ◌==◌, if◌then◌else◌, List, [], ◌∷◌, ◌++◌, length, slice_index_or, slice_set, ◌⊎◌, inl, inr, Option, Some, None, is_none, refl, sym, ◌∙◌, ap, arith, add-one, length-append, append_assoc}
 use Rattle.std.proofs.lemmas.Bool.Decides.{nat_tests}
 use Rattle.std.proofs.Math.Nat.{mul-le-mul_left, pow-succ', pow-le-pow_right}
 use Rattle.std.proofs.Math.Pow.{pow_mono}
@@ -12,7 +12,7 @@ use Rattle.tournament.specs.declared.posting.Reply.{Reply}
 use Rattle.tournament.specs.declared.posting.Reply.TheVariants.{Stale}
 use Rattle.tournament.specs.Bracket.{open_question, is_complete, bracket}
 use Rattle.tournament.specs.Moves.{State, begun, passes_of, settled_by, moved}
-use Rattle.tournament.specs.Journals.{turn, turn_on, turns, IsAskedOf, Legal, answers_of, NobodyAskedIsOver, RecordOfCase}
+use Rattle.tournament.specs.Journals.{turn, turn_on, turns, IsAskedOf, Legal, answers_of, RecordOfCase}
 use Rattle.tournament.specs.Length.{IsMost, most_entries, SpareIsEnough}
 use Rattle.tournament.specs.Posting.{same_qid, posted, posted_on, reply_by, reply_on, reply_to}
 use Rattle.tournament.specs.Asked.{asked, AskedByTheCase}
@@ -147,13 +147,6 @@ book-posted rules says count es st u room capacity wide p qid m e b some moves e
       capacity_ = rw ew b.capacity_;
     }
 
--- a book in which nobody is asked is complete
-pub book-complete : NobodyAskedIsOver → (rules : Rules) (says : Says) (count : ℕ) (es : List Entry) (st : State) (room capacity : ℕ) → IsBook rules says count es st room capacity →
-    ((p : ℕ) → 0 < p → p ≤ rules.provers → open_question rules st.record_ p ≡ None) → is_complete st.record_ ≡ true
-book-complete over rules says count es st room capacity b none =
-    let legal : Legal rules says (who es) (begun rules) = journal-legal rules says es (begun rules) b.legal in
-    rw b.state at (over rules says (who es) b.playable legal (rw (← b.state) at none))
-
 -- a journal that is as long as it can be leaves nobody asked
 
 legal-last : (rules : Rules) (says : Says) (ps : List ℕ) (p : ℕ) (st : State) → Legal rules says ps st → IsAskedOf rules (turns rules says ps st) p → Legal rules says (ps ++ p ∷ []) st
@@ -169,9 +162,10 @@ full-none enough rules says count es st room capacity k p (Some q) b m full some
     let few : length (who es ++ p ∷ []) ≤ most_entries rules k = enough rules says (who es ++ p ∷ []) k b.playable m legal in
     absurd (omega (arith, few, length-append (who es) (p ∷ []), who-length es, full))
 
-pub book-full : SpareIsEnough → NobodyAskedIsOver → (rules : Rules) (says : Says) (count : ℕ) (es : List Entry) (st : State) (room capacity k : ℕ) → IsBook rules says count es st room capacity → IsMost rules.play.fan rules.bound k → length es ≡ most_entries rules k → is_complete st.record_ ≡ true
-book-full enough over rules says count es st room capacity k b m full =
-    book-complete over rules says count es st room capacity b (λ p some le. full-none enough rules says count es st room capacity k p (open_question rules st.record_ p) b m full some refl)
+pub book-full : SpareIsEnough → (rules : Rules) (says : Says) (count : ℕ) (es : List Entry) (st : State) (room capacity k : ℕ) → IsBook rules says count es st room capacity → IsMost rules.play.fan rules.bound k → length es ≡ most_entries rules k →
+    ((p : ℕ) → 0 < p → p ≤ rules.provers → open_question rules st.record_ p ≡ None) ↔ (is_complete st.record_ ≡ true) → is_complete st.record_ ≡ true
+book-full enough rules says count es st room capacity k b m full over =
+    over.0 (λ p some le. full-none enough rules says count es st room capacity k p (open_question rules st.record_ p) b m full some refl)
 
 -- answerers at their places
 

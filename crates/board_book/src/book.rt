@@ -1,5 +1,5 @@
 ghost use denote.Param.Send.{IsSync};
-ghost use Rattle.std.specs.Prelude.{◌≡◌, ◌+◌, ◌-◌, ◌*◌, ◌<◌, ◌≤◌, ◌^◌, ◌∷◌, ◌++◌, [], ℕ, List, Some, None, IfOk, IfErr, IfSome, IfNone, length, true, is_none, if◌then◌else◌};
+ghost use Rattle.std.specs.Prelude.{◌≡◌, ◌↔◌, ◌+◌, ◌-◌, ◌*◌, ◌<◌, ◌≤◌, ◌^◌, ◌∷◌, ◌++◌, [], ℕ, List, Some, None, IfOk, IfErr, IfSome, IfNone, length, true, is_none, if◌then◌else◌};
 ghost use Rattle.bisect_game.specs.declared.question.Question.{Question};
 ghost use Rattle.tournament.specs.declared.setup.Setup.{Setup};
 ghost use Rattle.tournament.specs.Bracket.{open_question, is_complete, verdict_of, bracket};
@@ -8,6 +8,7 @@ ghost use Rattle.tournament.specs.Journals.{answers_of};
 ghost use Rattle.tournament.specs.Posting.{rules_of, answer_of, same_qid, posted, reply_to};
 ghost use Rattle.bisect_game.specs.Truth.{Truth, IsRun};
 ghost use Rattle.tournament.specs.Asked.{asked};
+ghost use Rattle.tournament.specs.Theorem.{AreTrue, Stays, IsRightVerdict, AllShort};
 ghost use Rattle.tournament.specs.Truthful.{IsTruthfulProver, IsSafe};
 ghost use Rattle.tournament.specs.Length.{IsMost, most_entries};
 ghost use Rattle.board_book.specs.declared.entry.Entry.{Entry};
@@ -22,8 +23,8 @@ use std::alloc::Global;
 use std::marker::Model;
 use std::thread::Threads;
 use tournament::{
-    Match, Move, Record, Reply, Setup, Verdict, a_number_names_one_question,
-    nobody_asked_means_over, one_record_of_a_case, spare_is_enough, truthful_provers_are_safe,
+    Match, Move, Record, Reply, Setup, Verdict, a_number_names_one_question, one_record_of_a_case,
+    spare_is_enough, truthful_provers_are_safe,
 };
 
 /// Whether a reply says that nothing changed.
@@ -222,8 +223,7 @@ impl<J: Judge + Drop, P: Provers + Drop> Book<J, P> {
                 return Some((i + 1, question, self.game.passes(i + 1)));
             }
         }
-        nobody_asked_means_over();
-        let _ = &self.room;
+        self.game.asks_nobody_once_over();
         None
     }
 
@@ -284,8 +284,7 @@ impl<J: Judge + Drop, P: Provers + Drop> Book<J, P> {
         ensures { is_complete self.now.2.record_ ≡ true }
     {
         spare_is_enough();
-        nobody_asked_means_over();
-        let _ = &self.room;
+        self.game.asks_nobody_once_over();
     }
 
     /// Order does not matter: once the match is over its record is that of the case, the bracket over what each question is
@@ -305,8 +304,33 @@ impl<J: Judge + Drop, P: Provers + Drop> Book<J, P> {
         let _ = &self.room;
     }
 
+    /// The dispute theorem, whoever posted what: a prover whose settled answers so far are all given and true stays (`stay`),
+    /// and where there is one the verdict of a match that is over is right (`verdict`).
+    pub fn keeps_true_provers(&self)
+        ensures stay { let rules = rules_of (J.ruling self.now.0.0) self.now.0.2 in (t : Truth) (p : ℕ) → IsRun rules t → 0 < p → AreTrue rules t p self.now.2.record_ → Stays rules t p self.now.2.record_ }
+        ensures verdict { let rules = rules_of (J.ruling self.now.0.0) self.now.0.2 in (t : Truth) (p : ℕ) → IsRun rules t → 0 < p → AreTrue rules t p self.now.2.record_ → is_complete self.now.2.record_ ≡ true → IsRightVerdict rules t self.now.2.record_ (verdict_of rules self.now.2.record_) }
+    {
+        self.game.keeps_true_provers();
+    }
+
+    /// Few rounds: fewer disputes than provers, and in each k bisection rounds with `2^k < 2N` for the bound N and at most one
+    /// proof round.
+    pub fn has_few_disputes_and_rounds(&self)
+        ensures disputes { length self.now.2.record_.disputes < self.now.0.2.provers }
+        ensures rounds { AllShort (rules_of (J.ruling self.now.0.0) self.now.0.2) self.now.2.record_.disputes }
+    {
+        self.game.has_few_disputes_and_rounds();
+    }
+
+    /// Nobody is asked exactly where the match is over.
+    pub fn asks_nobody_once_over(&self)
+        ensures { let rules = rules_of (J.ruling self.now.0.0) self.now.0.2 in ((p : ℕ) → 0 < p → p ≤ rules.provers → open_question rules self.now.2.record_ p ≡ None) ↔ (is_complete self.now.2.record_ ≡ true) }
+    {
+        self.game.asks_nobody_once_over();
+    }
+
     /// The dispute theorem: a prover that answers truly within its patience each question that the record of the case asks it
-    /// is not put out, its settled answers are true, and once the match is over the verdict is right.
+    /// stays, its settled answers are given and true, and once the match is over it is live and the verdict is right.
     pub fn keeps_truthful_provers(&self)
         ensures { let rules = rules_of (J.ruling self.now.0.0) self.now.0.2 in (t : Truth) (p : ℕ) → IsRun rules t → 0 < p → p ≤ self.now.0.2.provers → IsTruthfulProver rules (P.says self.now.0.1) t p → IsSafe rules t p self.now.2.record_ }
     {

@@ -7,9 +7,11 @@ use tournament::Reply;
 pub struct Entry {
     /// The prover's number, from 1.
     pub p: u32,
+    /// The question on which it was.
     pub qid: Qid,
     /// Whether it was a pass.
     pub pass: bool,
+    /// The reply to it, never `Stale`.
     pub reply: Reply,
 }
 

@@ -1,4 +1,3 @@
 pub mod EmptyLemmas
 pub mod NodeLemmas
 pub mod OpeningLemmas
-pub mod SplitLemmas

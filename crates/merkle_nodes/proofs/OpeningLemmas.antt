@@ -3,20 +3,8 @@ use Rattle.std.proofs.Common.{◌≡◌, ◌≢◌, ℕ, zero, suc, ◌+◌, ◌
 use Rattle.std.proofs.lemmas.Bool.{eq-eqb, ne_eqb, cases_eq}
 use Rattle.digest_core.specs.Text.{node_text}
 use Rattle.merkle_nodes.specs.Node.{node, beside}
-use Rattle.merkle_nodes.specs.Opening.{joined, Opens, opened, AreSiblings}
+use Rattle.merkle_nodes.specs.Opening.{joined, opened, AreSiblings}
 use Rattle.merkle_nodes.proofs.NodeLemmas.{div-level, div-ground, node-zero, node-suc, node-same}
-
-module _ (digest : List ℕ → List ℕ) (leaf : List ℕ) (siblings : ℕ → List ℕ) where
-  -- climbing from below is opening from above
-  pub opens-climbs : (n k : ℕ) (d : List ℕ) → Opens digest leaf siblings n k d → d ≡ digest (opened digest leaf siblings n k)
-  unfolding Opens opened
-  opens-climbs zero k d opens = opens
-  opens-climbs (suc l) k d opens = opens.1 ∙ ap (λ c. digest (joined (k / 2 ^ l % 2) c (siblings l))) (opens-climbs l k opens.0 opens.2)
-
-  pub climbs-opens : (n k : ℕ) (d : List ℕ) → d ≡ digest (opened digest leaf siblings n k) → Opens digest leaf siblings n k d
-  unfolding Opens opened
-  climbs-opens zero k d climbs = climbs
-  climbs-opens (suc l) k d climbs = (digest (opened digest leaf siblings l k), climbs, climbs-opens l k _ refl)
 
 -- one level further up
 pub opened-next : (digest : List ℕ → List ℕ) (leaf : List ℕ) (siblings : ℕ → List ℕ) (l k : ℕ) → opened digest leaf siblings (l + 1) k ≡ joined (k / 2 ^ l % 2) (digest (opened digest leaf siblings l k)) (siblings l)

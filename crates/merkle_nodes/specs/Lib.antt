@@ -1,3 +1,4 @@
 pub mod Node
 pub mod Opening
 pub mod Split
+pub mod PathLaws

@@ -8,7 +8,7 @@ use std::marker::Brand;
 use std::sync::ledger::{Blank, Ledger};
 
 /// The string of the node above a child and its sibling, at a bit of the index.
-pub(crate) fn joined_text(bit: u32, child: &Digest32, sibling: &Digest32) -> OpenText
+pub fn joined_text(bit: u32, child: &Digest32, sibling: &Digest32) -> OpenText
     ensures { result ≡ joined bit child.now.0 sibling.now.0 }
 {
     if bit == 0 {

@@ -1,4 +1,4 @@
-use crate::{climb, fill_empty_nodes, first_split};
+use crate::{climb, fill_empty_nodes};
 use digest_core::{Digester, Sha256, leaf_text, node_text};
 use rd_base::Digest32;
 
@@ -69,27 +69,4 @@ fn each_path_climbs_to_the_root(rt: HostRuntime) {
         let other = climb(Sha256, k ^ 2, &leaf_text(&[k as u8; 32]), &path);
         assert!(rt; other.0 != root.0, "leaf {k} at another place");
     }
-}
-
-#[test]
-fn equal_paths_have_no_split(rt: HostRuntime) {
-    let path = [leaf(1), leaf(2)];
-    let split = first_split(
-        Sha256,
-        1,
-        leaf_text(&[0; 32]),
-        &path,
-        leaf_text(&[0; 32]),
-        &path,
-    );
-    assert!(rt; split.is_none());
-    let split = first_split(
-        Sha256,
-        1,
-        leaf_text(&[0; 32]),
-        &path,
-        leaf_text(&[3; 32]),
-        &path,
-    );
-    assert!(rt; split.is_none());
 }

@@ -19,7 +19,7 @@ use Rattle.open_proof.specs.Held.{held_by, held_of, path_text}
 use Rattle.open_proof.specs.Opened.{texts_from}
 use Rattle.open_proof.specs.Collision.{first_there}
 use Rattle.open_proof.specs.PlainProof.{siblings_of, opening_of, opening_at, fetch_of_state, operand_of_state, plain_proof}
-use Rattle.open_proof.proofs.CollisionLemmas.{same-digest}
+use Rattle.open_proof.specs.CollisionLaws.{same-digest}
 
 -- one string after another
 pub collision-after : (digest : List ℕ → List ℕ) (x y : List ℕ) (xs ys : List (List ℕ))

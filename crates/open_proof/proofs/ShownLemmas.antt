@@ -12,8 +12,9 @@ use Rattle.mem_plain.specs.Contents.{Contents, chunk_at}
 use Rattle.digest_core.specs.Text.{leaf_text}
 use Rattle.digest_core.specs.TextLaws.{cons_parts}
 use Rattle.merkle_nodes.specs.Node.{node, beside, digest_at}
-use Rattle.merkle_nodes.specs.Opening.{Opens, opened, AreSiblings}
-use Rattle.merkle_nodes.specs.Split.{IsSplit, IsSplitAt}
+use Rattle.merkle_nodes.specs.Opening.{opened, AreSiblings}
+use Rattle.merkle_nodes.specs.Split.{IsSplit}
+use Rattle.merkle_nodes.specs.PathLaws.{one_opening}
 use Rattle.mem_tree.specs.Memory.{memory_leaf, memory_node}
 use Rattle.rv_step.specs.State.{State}
 use Rattle.rv_step.specs.Parts.{needed, IsAligned}
@@ -21,20 +22,15 @@ use Rattle.rv_step.specs.declared.asked.Need.{Need}
 use Rattle.rv_step.specs.declared.asked.Need.TheVariants as need
 use Rattle.state_commit.specs.Strings.{IsStringOf}
 use Rattle.open_proof.specs.Held.{path_text}
-use Rattle.open_proof.specs.Leads.{ChunkOpens, OpensAt, fetch_address, fetched_in, address_needed, operand_address}
+use Rattle.open_proof.specs.Leads.{OpensAt, fetch_address, fetched_in, address_needed, operand_address}
 use Rattle.open_proof.specs.Opened.{texts_from, chunk_texts}
 use Rattle.open_proof.specs.PlainProof.{siblings_of, opening_at, fetched_at, IsShown, IsShownAt}
-use Rattle.open_proof.proofs.RangeLemmas.{IsPathInRange, IsOpeningInRange}
+use Rattle.open_proof.specs.ClimbLaws.{chunk-climbs}
+use Rattle.open_proof.specs.RangeLaws.{IsPathInRange, IsOpeningInRange}
 use Rattle.open_proof.proofs.HeldLemmas.{StepLaws, shown-number}
 
--- the laws of paths
+-- the laws of paths in memory
 pub record PathLaws : Type 0 where
-  pub climbs : (digest : List ℕ → List ℕ) (leaf : List ℕ) (siblings : ℕ → List ℕ) (n k : ℕ) (d : List ℕ)
-      → Opens digest leaf siblings n k d ↔ (d ≡ digest (opened digest leaf siblings n k))
-  pub paths : (digest : List ℕ → List ℕ) → ((bytes : List ℕ) → length (digest bytes) ≡ 32)
-      → (a b : List ℕ) (s t : ℕ → List ℕ) (k n : ℕ) → ((l : ℕ) → l < n → length (s l) ≡ length (t l))
-      → digest (opened digest a s n k) ≡ digest (opened digest b t n k)
-      → ((a ≡ b) × ((l : ℕ) → l < n → s l ≡ t l)) ⊎ ((l : ℕ) × (l ≤ n) × IsSplitAt digest a s b t k l)
   pub nodes : (digest : List ℕ → List ℕ) (m : Contents) (siblings : ℕ → List ℕ) (n k : ℕ) → AreSiblings digest (memory_leaf m) n k siblings
       → digest (opened digest (leaf_text (chunk_at m k)) siblings n k) ≡ memory_node digest m n (k / 2 ^ n)
   pub strings : (digest : List ℕ → List ℕ) (s : State) (siblings : ℕ → List ℕ) (l k : ℕ) → l ≤ 27 → k < 2 ^ 27 → AreSiblings digest (memory_leaf s.memory) l k siblings
@@ -81,10 +77,6 @@ texts-contain f m (suc n) l low high = ⊎_elim
     (cases_eq l m)
 
 module _ (laws : PathLaws) (digest : List ℕ → List ℕ) where
-  -- a chunk opens a digest exactly where it climbs to it
-  pub chunk-climbs : (mem : List ℕ) (o : Opening) (addr : ℕ) → ChunkOpens digest mem o addr ↔ (mem ≡ digest (path_text digest o addr 27))
-  chunk-climbs mem o addr = laws.climbs digest (leaf_text o.chunk) (digest_at o.path.0) 27 (addr / 32) mem
-
   -- a chunk that is shown opens the memory's digest
   shown-climbs : (m : Contents) (o : Opening) (addr : ℕ) → addr < 2 ^ 32 → IsShown digest m o addr → memory_node digest m 27 0 ≡ digest (path_text digest o addr 27)
   shown-climbs m o addr low shown =
@@ -94,7 +86,7 @@ module _ (laws : PathLaws) (digest : List ℕ → List ℕ) where
       ∙ ap (λ bytes. digest (opened digest (leaf_text bytes) (digest_at o.path.0) 27 (addr / 32))) (sym shown.chunk))
 
   pub shown-opens : (m : Contents) (chunk : Option Opening) (address : Option ℕ) → IsLowAt address → IsShownAt digest m chunk address → OpensAt digest (memory_node digest m 27 0) chunk address
-  shown-opens m (Some o) (Some addr) low shown = (chunk-climbs (memory_node digest m 27 0) o addr).1 (shown-climbs m o addr low shown)
+  shown-opens m (Some o) (Some addr) low shown = (chunk-climbs digest (memory_node digest m 27 0) o addr).1 (shown-climbs m o addr low shown)
   shown-opens m None (Some addr) low shown = tt
   shown-opens m (Some o) None low shown = tt
   shown-opens m None None low shown = tt
@@ -118,7 +110,7 @@ module _ (laws : PathLaws) (digest : List ℕ → List ℕ) where
         ⊎_elim
         (λ whole. inl (record { chunk = (cons_parts 0 0 _ _ whole.0).1; path = whole.1 }))
         (λ split. inr (split.0, split.1, opened digest (leaf_text (chunk_at m k)) truth split.0 k, split.2, laws.strings digest s truth split.0 k split.1 (omega arith) (λ j below. refl)))
-        (laws.paths digest is_digest (leaf_text o.chunk) (leaf_text (chunk_at m k)) (digest_at o.path.0) truth k 27
+        (one_opening digest is_digest (leaf_text o.chunk) (leaf_text (chunk_at m k)) (digest_at o.path.0) truth k 27
         (λ l below. range.sizes l below ∙ sym (node-size m l (beside (k / 2 ^ l)))) meet)
 
     pub shown-or-found : (s : State) (chunk : Option Opening) (address : Option ℕ) → IsLowAt address → IsOpeningInRange chunk
@@ -132,7 +124,7 @@ module _ (laws : PathLaws) (digest : List ℕ → List ℕ) where
     shown-or-found s (Some o) (Some addr) low range shape opens = ⊎_elim
         (λ shown. inl shown)
         (λ found. inr (path_text digest o addr found.0, found.2, found.3, texts-contain (path_text digest o addr) 0 28 found.0 (omega arith) (omega arith), found.4))
-        (shown-or-split s o addr low range ((chunk-climbs (memory_node digest s.memory 27 0) o addr).0 opens))
+        (shown-or-split s o addr low range ((chunk-climbs digest (memory_node digest s.memory 27 0) o addr).0 opens))
 
 -- the instruction that is fetched
 pub fetched-same : (laws : StepLaws) (digest : List ℕ → List ℕ) (m : Contents) (chunk : Option Opening) (address : Option ℕ) → IsWordAt address
@@ -145,7 +137,7 @@ fetched-same laws digest m (Some o) None word shown = refl
 fetched-same laws digest m None None word shown = refl
 
 -- the plain openings are shown
-siblings-along : (digest : List ℕ → List ℕ) (m : Contents) (k l : ℕ) → l < 27 → digest_at (siblings_of digest m k) l ≡ memory_node digest m l (beside (k / 2 ^ l))
+pub siblings-along : (digest : List ℕ → List ℕ) (m : Contents) (k l : ℕ) → l < 27 → digest_at (siblings_of digest m k) l ≡ memory_node digest m l (beside (k / 2 ^ l))
 unfolding siblings_of
 siblings-along digest m k l below =
     ap (λ (d : Digest32). d.0) (get_or-map-range_with_len (λ j. record { 0 = memory_node digest m j (beside (k / 2 ^ j)) }) 0 27 l l (record { 0 = [] }) below (omega arith))

@@ -20,10 +20,10 @@ use Rattle.open_proof.specs.Leads.{Leads, OpensAt, fetch_address, fetched, fetch
 use Rattle.open_proof.specs.Opened.{opened_by_step}
 use Rattle.open_proof.specs.PlainProof.{IsShownAt, fetched_at, fetch_of_state, operand_of_state, opening_at, plain_proof}
 use Rattle.open_proof.specs.StateCollision.{IsStateCollision}
-use Rattle.open_proof.proofs.RangeLemmas.{IsInRange, range-of-state}
-use Rattle.open_proof.proofs.PartsLemmas.{state-parts, parts-same}
+use Rattle.open_proof.specs.RangeLaws.{IsInRange, range-of-state}
+use Rattle.open_proof.specs.PartsLaws.{state-parts, parts-same}
 use Rattle.open_proof.proofs.HeldLemmas.{StepLaws, held-step}
-use Rattle.open_proof.proofs.CollisionLemmas.{opened-part, opened-fetch, opened-operand}
+use Rattle.open_proof.specs.CollisionLaws.{opened-part, opened-fetch, opened-operand}
 use Rattle.open_proof.proofs.ShownLemmas.{PathLaws, node-size, shown-opens, shown-or-found, fetched-same, word-fetched, low-word, low-operand, plain-shown, plain-shape}
 
 -- strings of one digest are one, or such a pair

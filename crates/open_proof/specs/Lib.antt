@@ -6,3 +6,9 @@ pub mod StateCollision
 pub mod InRange
 pub mod LeadsTo
 pub mod PlainProof
+pub mod RangeLaws
+pub mod PartsLaws
+pub mod ClimbLaws
+pub mod CollisionLaws
+pub mod LeadsLaws
+pub mod ApartLaws

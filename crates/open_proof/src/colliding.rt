@@ -1,12 +1,12 @@
 ghost use Rattle.std.specs.Prelude.{◌≡◌, ◌&&◌, [], ◌∷◌, not, bytes_eq};
-ghost use Rattle.merkle_nodes.specs.Opening.{joined};
 ghost use Rattle.out_chain.specs.Collision.{first_collision};
 ghost use Rattle.open_proof.specs.Held.{held_by, path_text, text_of_held};
 ghost use Rattle.open_proof.specs.Opened.{chunk_texts, part_texts, texts_from};
 ghost use Rattle.open_proof.specs.Collision as collision;
 
 use crate::called::{fetch_address, operand_called};
-use digest_core::{Digester, control_text, leaf_text, node_text, registers_text, state_text};
+use digest_core::{Digester, control_text, leaf_text, registers_text, state_text};
+use merkle_nodes::joined_text;
 use rd_base::{Digest32, OpenText, Opening, StepProof};
 
 /// Whether two digests have the same bytes.
@@ -62,17 +62,6 @@ fn part_collision<D: Digester>(
         return registers;
     }
     text_collision(d, control_text(&first.ctl), control_text(&second.ctl))
-}
-
-/// The string of the node above a child and its sibling, at a bit of the index.
-fn joined_text(bit: u32, child: &Digest32, sibling: &Digest32) -> OpenText
-    ensures { result ≡ joined bit child.now.0 sibling.now.0 }
-{
-    if bit == 0 {
-        node_text(child, sibling)
-    } else {
-        node_text(sibling, child)
-    }
 }
 
 /// The first two different strings of one digest on the paths of two opened chunks, from the leaf strings up. Each chunk

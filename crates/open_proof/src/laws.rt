@@ -18,7 +18,6 @@ ghost use Rattle.open_proof.specs.StateCollision.{IsStateCollision};
 use digest_core::chain_grows;
 use mem_plain::numbers_lie_in_chunks;
 use mem_tree::memory_nodes;
-use merkle_nodes::{climbing_is_opening, two_paths_agree_or_split};
 use rv_step::two_parts_are_the_step;
 use state_commit::paths_open_strings_of_the_state;
 
@@ -45,12 +44,7 @@ pub fn leading_is_decided()
         is_in_range proof ≡ true → Leads digest a proof b → leads_to digest a proof ≡ Some b }
     ensures nowhere { (digest : List ℕ → List ℕ) (a : Digest32) (proof : StepProof) →
         ((b : Digest32) → ¬ Leads digest a proof b) → leads_to digest a proof ≡ None }
-{
-    climbing_is_opening();
-    memory_nodes();
-    two_paths_agree_or_split();
-    paths_open_strings_of_the_state();
-}
+{}
 
 /// Two proofs that lead from one root have no collision exactly where they are equal (`equal`, `without`), and so they have
 /// one where they lead to different roots (`apart`). What is called their collision is one (`collision`).
@@ -65,12 +59,7 @@ pub fn proofs_from_one_root()
         (pair : List ℕ × List ℕ) × (step_collision digest a x y ≡ Some pair) }
     ensures collision { (digest : List ℕ → List ℕ) (a : Digest32) (x y : StepProof) (pair : List ℕ × List ℕ) →
         step_collision digest a x y ≡ Some pair → IsStepCollision digest x y pair }
-{
-    climbing_is_opening();
-    memory_nodes();
-    two_paths_agree_or_split();
-    paths_open_strings_of_the_state();
-}
+{}
 
 /// A proof that leads from the root of a valid state to a root: this is the root of the next state, or a string that the
 /// proof opens and a different string of the state have one digest.
@@ -84,8 +73,6 @@ pub fn proofs_lead_to_the_next_state()
     numbers_lie_in_chunks();
     memory_nodes();
     chain_grows();
-    climbing_is_opening();
-    two_paths_agree_or_split();
     paths_open_strings_of_the_state();
 }
 
@@ -98,7 +85,13 @@ pub fn plain_proofs_lead()
     numbers_lie_in_chunks();
     memory_nodes();
     chain_grows();
-    climbing_is_opening();
-    two_paths_agree_or_split();
     paths_open_strings_of_the_state();
+}
+
+/// The plain proof of a valid state is in the ranges of its types, where digests have 32 bytes.
+pub fn plain_proofs_are_in_range()
+    ensures { (digest : List ℕ → List ℕ) → ((bytes : List ℕ) → length (digest bytes) ≡ 32) →
+        (s : State) → IsValid s → is_in_range (plain_proof digest s) ≡ true }
+{
+    chain_grows();
 }

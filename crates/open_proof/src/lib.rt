@@ -23,8 +23,8 @@ pub use called::{fetch_address, fetched_in, operand_address, operand_called};
 pub use climbing::climb;
 pub use colliding::step_collision;
 pub use laws::{
-    leading_is_decided, plain_proofs_lead, proofs_from_one_root, proofs_lead_to_the_next_state,
-    steps_need_opened_parts_alone,
+    leading_is_decided, plain_proofs_are_in_range, plain_proofs_lead, proofs_from_one_root,
+    proofs_lead_to_the_next_state, steps_need_opened_parts_alone,
 };
 pub use proving::make_proof;
 pub use ranges::proofs_are_in_range;

@@ -34,7 +34,7 @@ fn ctls_are_in_range(ctl: &Ctl)
 }
 
 /// Registers hold words.
-#[tactic(auto, using(crate::proofs::RangeLemmas::words_are))]
+#[tactic(auto, using(crate::specs::RangeLaws::words_are))]
 fn registers_are_in_range(regs: &Regs)
     ensures count { length regs.now ≡ 32 }
     ensures words { are_words regs.now ≡ true }

@@ -5,7 +5,8 @@ use Rattle.std.proofs.lemmas.List.{get_or-take, get_or-drop, get_or_default}
 use Rattle.std.proofs.lemmas.List.Edits.{length-swap, swapped_from_swap}
 use native.Mathlib.Decide.{dec_le, ℕ_discrete}
 use mathlib.Core.Logic.{dite}
-use Rattle.round_robin.specs.Classes.{IsByClass, HaveClasses, Suits}
+use Rattle.round_robin.specs.Classes.{HaveClasses}
+use Rattle.round_robin.specs.ByClass.{IsByClass, Suits}
 use Rattle.round_robin.specs.Arranging.{IsArranging}
 
 -- a number that was read

@@ -1,4 +1,4 @@
--- Numbers that are being put into the order of their classes, class after class. Derived: `arrange` ends with `IsByClass`.
+-- Derived: numbers that are being put into the order of their classes, class after class. `arrange` ends with `IsByClass`.
 use Rattle.std.specs.Prelude.{ℕ, ◌%◌, ◌<◌, ◌≤◌, List, length, slice_index}
 
 -- the first `done` numbers are in order, and none after them is of a lower class; all others are of this class or a higher one, and those before place i of a higher one

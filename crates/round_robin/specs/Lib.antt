@@ -1,3 +1,4 @@
 pub mod Classes
+pub mod ByClass
 pub mod Swaps
 pub mod Arranging

@@ -1,4 +1,4 @@
--- Lists after swaps. Derived: `serve_all` takes all its swaps back.
+-- Derived: lists after swaps, of which `serve_all` takes all back.
 use Rattle.std.specs.Prelude.{ℕ, suc, List, [], ◌∷◌}
 use Rattle.std.specs.List.{swap}
 

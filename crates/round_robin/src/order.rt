@@ -1,7 +1,7 @@
 //! The order of the classes: items are put into it by swaps, and taken out of it by the same swaps.
 ghost use Rattle.std.specs.Prelude.{◌≡◌, ℕ, ◌%◌, ◌<◌, ◌≤◌, All, [], length, slice_index};
 ghost use Rattle.round_robin.specs.Swaps.{swapped, swapped_back};
-ghost use Rattle.round_robin.specs.Classes.{IsByClass};
+ghost use Rattle.round_robin.specs.ByClass.{IsByClass};
 
 /// The numbers of items, in the order of their classes.
 #[derive(Drop)]

@@ -2,7 +2,8 @@
 ghost use Rattle.std.specs.Prelude.{◌≡◌, ℕ, ◌+◌, ◌%◌, ◌^◌, ◌<◌, ◌≤◌, All, length, map, take, drop};
 ghost use Rattle.std.specs.List.{range_with_len};
 ghost use Rattle.std.specs.Thread.{IsSync};
-ghost use Rattle.round_robin.specs.Classes.{HaveClasses, Suits};
+ghost use Rattle.round_robin.specs.Classes.{HaveClasses};
+ghost use Rattle.round_robin.specs.ByClass.{Suits};
 
 use crate::order::{Order, arrange, count_below, restore};
 use crate::worker::Worker;
@@ -19,6 +20,7 @@ fn serve_alone<B, A, W: Worker<B, A>, R: Threads + Wait + Sync>(
     workers: &mut [W],
     items: &mut [A],
 )
+    requires sync { IsSync R.row }
     requires ready { (says : ℕ → W.Meaning) × All (λ w. W.ready board.now (W.stays w) says) workers.old × (map W.meaning items.old ≡ map says numbers.now) }
     requires class { All (λ w. All (λ n. n % classes ≡ W.class_of (W.stays w)) numbers.now) workers.old }
     ensures workers { map W.stays workers.new ≡ map W.stays workers.old }

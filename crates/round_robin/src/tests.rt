@@ -22,9 +22,11 @@ struct Server {
 }
 
 impl Worker<u32, Item> for Server {
-    type Kept = u32;
+    ghost use Rattle.std.specs.Prelude.{ℕ};
 
-    type Meaning = ();
+    ghost Kept = { ℕ };
+
+    ghost Meaning = { Unit {0} };
 
     ghost stays = { λ server. server.class };
 

@@ -1,15 +1,16 @@
 //! What serves items.
-ghost use Rattle.std.specs.Prelude.{◌≡◌, ℕ, ◌%◌, ◌<◌, All, length, map};
+ghost use Rattle.std.specs.Prelude.{◌≡◌, ℕ, ◌%◌, All, map};
+ghost use Rattle.std.specs.Thread.{IsSync};
 
 use std::sync::Wait;
 use std::thread::Threads;
 
 /// Serves items of type A at a board of type B.
 pub trait Worker<B, A> {
-    /// What stays of a worker, and of an item. Plain data, of which no value need be made.
-    type Kept;
+    // What stays of a worker, and of an item.
+    ghost Kept: { Type 0 };
 
-    type Meaning;
+    ghost Meaning: { Type 0 };
 
     ghost stays: { Self → Self.Kept };
 
@@ -34,6 +35,7 @@ pub trait Worker<B, A> {
         numbers: &[u32],
         items: &mut [A],
     )
+        requires sync { IsSync R.row }
         requires ready { (says : ℕ → Self.Meaning) × ready board.now (stays self.old) says × (map meaning items.old ≡ map says numbers.now) }
         requires class { All (λ n. n % classes ≡ class_of (stays self.old)) numbers.now }
         ensures worker { stays self.new ≡ stays self.old }

@@ -9,7 +9,9 @@
 
 mod cursor;
 mod replaying;
+mod replays;
 #[cfg(test)]
 mod tests;
 
 pub use replaying::{committed_at, roots};
+pub use replays::Replays;

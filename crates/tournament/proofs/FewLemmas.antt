@@ -1,27 +1,33 @@
 -- Each dispute of a match has few rounds.
-use Rattle.std.proofs.Common.{◌≡◌, ℕ, ◌+◌, ◌-◌, ◌*◌, ◌^◌, ◌<◌, ◌≤◌, Bool, true, false, List, [], ◌∷◌, ◌++◌, length, inl, inr, Some, arith, slice_get, slice_set, if◌then◌else◌}
+use Rattle.std.proofs.Common.{◌≡◌, ℕ, ◌+◌, ◌-◌, ◌*◌, ◌^◌, ◌<◌, ◌≤◌, Bool, true, false, List, [], ◌∷◌, ◌++◌, length, inl, inr, Some, refl, arith, slice_get, slice_set, if◌then◌else◌}
 use Rattle.std.proofs.Math.Nat.{mul-le-mul_left, pow-zero}
 use Rattle.bisect_game.specs.declared.side.Side.TheVariants.{First, Second}
 use Rattle.bisect_game.specs.declared.settled.Settled.{Settled}
 use Rattle.rd_base.specs.declared.claim.Claim.{Claim}
-use Rattle.bisect_game.specs.Bisection.{Bisection, settle_first, settle_second}
+use Rattle.bisect_game.specs.Closing.{is_step}
+use Rattle.bisect_game.specs.Bisection.{Bisection, proof_rounds_in, settle_first, settle_second}
 use Rattle.bisect_game.specs.Laws.{IsFew}
-use Rattle.bisect_game.specs.Rules.{Rules}
+use Rattle.bisect_game.specs.Rules.{Rules, ArePlayable}
 use Rattle.tournament.proofs.OpenedLemmas.{opened-not, opened-due}
 use Rattle.tournament.proofs.ReachLemmas.{either}
 use Rattle.tournament.specs.Bracket.{Record, pairs, last_stage, disputes_of, is_due, opened, nothing_settled, asks_first, asks_second, claim_missing, settled_in, put, settle}
-use Rattle.tournament.specs.Settling.{after, HaveFewRounds, FewRounds}
+use Rattle.tournament.specs.Settling.{after}
+use Rattle.tournament.specs.Theorem.{AllShort}
 use Rattle.bisect_game.specs.Laws.{BisectionLaws}
+
+pub record IsFewIn (rules : Rules) (d : Bisection) : Type 0 where
+  pub few : IsFew rules.play.fan rules.bound d.place (length d.past)
+  pub last : proof_rounds_in d.past ≡ 0
 
 abbrev pub AllFew : Rules → List Bisection → Type 0
 AllFew rules [] = Unit {0}
-AllFew rules (d ∷ ds) = IsFew rules.play.fan rules.bound d.place (length d.past) × AllFew rules ds
+AllFew rules (d ∷ ds) = IsFewIn rules d × AllFew rules ds
 
 module _ (laws : BisectionLaws) where
   few-choice : (rules : Rules) (p : ℕ) (s : Settled) (d : Bisection) (ds : List Bisection) (x y : Bool) → 1 < rules.play.fan → AllFew rules (d ∷ ds) → AllFew rules (settled_in rules p s ds) →
       AllFew rules (if x then settle_first rules.play s d ∷ ds else if y then settle_second rules.play s d ∷ ds else d ∷ settled_in rules p s ds)
-  few-choice rules p s d ds true y more h r = (laws.few.kept rules First s d more h.0, h.1)
-  few-choice rules p s d ds false true more h r = (laws.few.kept rules Second s d more h.0, h.1)
+  few-choice rules p s d ds true y more h r = (record { few = laws.few.kept rules First s d more h.0.few; last = laws.few.last rules.play First s d h.0.last }, h.1)
+  few-choice rules p s d ds false true more h r = (record { few = laws.few.kept rules Second s d more h.0.few; last = laws.few.last rules.play Second s d h.0.last }, h.1)
   few-choice rules p s d ds false false more h r = (h.0, r)
 
   few-settled : (rules : Rules) (p : ℕ) (s : Settled) (ds : List Bisection) → 1 < rules.play.fan → AllFew rules ds → AllFew rules (settled_in rules p s ds)
@@ -33,7 +39,7 @@ module _ (laws : BisectionLaws) where
   few-new rules g n (p ∷ ps) more long =
       let one : rules.play.fan ^ 0 ≡ 1 = pow-zero rules.play.fan in
       let t : rules.play.fan * 1 ≤ rules.play.fan * rules.bound = mul-le-mul_left rules.play.fan long in
-      (record { few = rw one (omega arith); asked = rw one (omega (arith, t)) }, few-new rules g (n + 1) ps more long)
+      (record { few = record { few = rw one (omega arith); asked = rw one (omega (arith, t)) }; last = refl }, few-new rules g (n + 1) ps more long)
 
   few-both : (rules : Rules) (ds es : List Bisection) → AllFew rules ds → AllFew rules es → AllFew rules (ds ++ es)
   few-both rules [] es h k = k
@@ -61,11 +67,15 @@ module _ (laws : BisectionLaws) where
   few-after rules (e ∷ es) t more long h =
       few-after rules es (settle rules e.0 e.1 t) more long (few-opened rules (put rules e.0 e.1 t) more long (few-put rules e.0 e.1 t (claim_missing (slice_get t.claims (e.0 - 1))) more h))
 
-  all-rounds : (rules : Rules) (ds : List Bisection) → 1 < rules.play.fan → AllFew rules ds → HaveFewRounds rules ds
-  all-rounds rules [] more h = tt
-  all-rounds rules (d ∷ ds) more h = (laws.few.few rules d more h.0, all-rounds rules ds more h.1)
+  one-last : (d : Bisection) (b : Bool) → proof_rounds_in d.past ≡ 0 → proof_rounds_in d.past + (if b then 1 else 0) ≤ 1
+  one-last d true e = omega (arith, e)
+  one-last d false e = omega (arith, e)
 
-  pub few_rounds : FewRounds
+  all-rounds : (rules : Rules) (ds : List Bisection) → 1 < rules.play.fan → AllFew rules ds → AllShort rules ds
+  all-rounds rules [] more h = tt
+  all-rounds rules (d ∷ ds) more h = (record { bisections = laws.few.few rules d more h.0.few; proofs = one-last d (is_step d.place) h.0.last }, all-rounds rules ds more h.1)
+
+  pub few_rounds : (rules : Rules) (es : List (ℕ × Settled)) → ArePlayable rules → AllShort rules (after rules es (nothing_settled rules)).disputes
   few_rounds rules es playable =
       let more : 1 < rules.play.fan = omega (arith, playable.halves) in
       let long : 0 < rules.bound = playable.steps in

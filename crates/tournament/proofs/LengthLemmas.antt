@@ -155,7 +155,7 @@ module _ (laws : BisectionLaws) where
   few-rounds : (rules : Rules) (k : ℕ) (ds : List Bisection) → IsMost rules.play.fan rules.bound k → AllFew rules ds → answered ds + awaited ds ≤ (2 * (k + 1)) * length ds
   few-rounds rules k [] m h = omega arith
   few-rounds rules k (d ∷ ds) m h =
-      omega (arith, m.most (length d.past) h.0.asked, one-side d.by_first (not (is_closed d)), one-side d.by_second (not (is_closed d)), few-rounds rules k ds m h.1)
+      omega (arith, m.most (length d.past) h.0.few.asked, one-side d.by_first (not (is_closed d)), one-side d.by_second (not (is_closed d)), few-rounds rules k ds m h.1)
 
   -- the passes on open questions are few
 

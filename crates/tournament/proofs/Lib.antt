@@ -5,6 +5,7 @@ pub mod RoundLemmas
 pub mod StageLemmas
 pub mod OnceLemmas
 pub mod CountLemmas
+pub mod LiveLemmas
 pub mod MatchLemmas
 pub mod VerdictLemmas
 pub mod FewLemmas
@@ -15,5 +16,8 @@ pub mod LengthLemmas
 pub mod AskedLemmas
 pub mod OverLemmas
 pub mod KeepingLemmas
+pub mod PostLemmas
 pub mod PostedLemmas
 pub mod TruthfulLemmas
+pub mod TheoremLemmas
+pub mod SoFarLemmas

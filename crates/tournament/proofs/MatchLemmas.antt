@@ -13,15 +13,17 @@ use Rattle.bisect_game.specs.declared.settled.Close.{Close}
 use Rattle.bisect_game.specs.declared.settled.Close.TheVariants.{Out, Collision}
 use Rattle.bisect_game.specs.Bisection.{Bisection, question_of, kind_over, settle_first, settle_second}
 use Rattle.bisect_game.specs.Laws.{IsPlay, KeepsRight}
-use Rattle.bisect_game.specs.Rules.{Rules}
+use Rattle.bisect_game.specs.Rules.{Rules, ArePlayable}
 use Rattle.bisect_game.specs.Ruling.{Ruling, IsFair, same_digest}
 use Rattle.bisect_game.specs.Truth.{Truth, IsRun, IsFit, IsFitSoFar, IsRight, is_put_out}
+use Rattle.tournament.proofs.LiveLemmas.{live-contains}
 use Rattle.tournament.proofs.OpenedLemmas.{opened-not, opened-due}
 use Rattle.tournament.proofs.ReachLemmas.{either, same-not}
 use Rattle.tournament.proofs.SidesLemmas.{SameSides, sides-first, sides-second}
-use Rattle.tournament.specs.Bracket.{Record, claim_question, is_out_by, is_out_in, claim_in, also, live_from, live, Taken, passed_over, take_other, pairs_of, pairs, last_stage, disputes_of, all_there, is_due, opened, nothing_settled, asks_first, asks_second, question_in, claim_missing, settled_in, put, settle, is_complete}
+use Rattle.tournament.specs.Bracket.{Record, claim_question, is_out_by, is_out_in, claim_in, also, live_from, live, Taken, passed_over, take_other, pairs_of, pairs, last_stage, disputes_of, all_there, is_due, opened, nothing_settled, asks_first, asks_second, question_in, claim_missing, open_question, settled_in, put, settle, is_complete}
 use Rattle.tournament.specs.Settling.{after}
-use Rattle.tournament.specs.Theorem.{Stays, HasTrueClaimSoFar, HasTrueClaim, TrueIn, AllTrueIn, RightIn, AllRightIn, AllFit, TruthfulStay}
+use Rattle.tournament.specs.Fitting.{MaySettle, AllFit}
+use Rattle.tournament.specs.Theorem.{Stays, HasTrueClaimSoFar, HasTrueClaim, TrueIn, AllTrueIn, AreTrue, RightIn, AllRightIn, AllProvedIn}
 use Rattle.bisect_game.specs.Laws.{BisectionLaws}
 
 -- a dispute in play, in which one prover, whose claim is true, is right so long as its answers are true
@@ -144,7 +146,7 @@ module _ (laws : BisectionLaws) where
   paired r claims n x xs None h i none some = none
   paired r claims n x xs (Some u) h i none some = (record { first = h; second = i.has; differ = λ same. i.differ (sym same) }, some u.1 i.rest)
 
-  pairs-right : (r : Ruling) (claims : List (Option Settled)) (n : ℕ) (xs : List (ℕ × Claim)) → AllClaim claims xs → AllPaired r claims (pairs_of r n xs)
+  pub pairs-right : (r : Ruling) (claims : List (Option Settled)) (n : ℕ) (xs : List (ℕ × Claim)) → AllClaim claims xs → AllPaired r claims (pairs_of r n xs)
   pairs-right r claims zero xs h = tt
   pairs-right r claims (suc n) [] h = tt
   pairs-right r claims (suc n) (x ∷ xs) h =
@@ -242,6 +244,11 @@ module _ (laws : BisectionLaws) where
         | inr not_due ↦ rw (opened-not rules r not_due) k
       ]
 
+  fit-asked : (rules : Rules) (r : Record) (p : ℕ) (s : Settled) → MaySettle rules r p s → (q : Question) → open_question rules r p ≡ Some q → IsFit rules.play.ruling q.kind s
+  fit-asked rules r p s m q e =
+      let one : m.question ≡ q = let both_ : ◌≡◌ {A = Option Question} (Some m.question) (Some q) = sym m.asked ∙ e in cc in
+      rw (← one) m.fits
+
   kept-after : (rules : Rules) (t : Truth) (p : ℕ) (es : List (ℕ × Settled)) (r : Record) → rules.play.fan ≡ 2 → 0 < rules.bound → IsFair rules.play.ruling → IsRun rules t →
       AllFit rules es r → IsKept rules t p r → IsKept rules t p (after rules es r)
   unfolding settle
@@ -249,7 +256,7 @@ module _ (laws : BisectionLaws) where
   kept-after rules t p (e ∷ es) r more long fair run fit k =
       kept-after rules t p es (settle rules e.0 e.1 r) more long fair run fit.1
       (kept-opened rules t p (put rules e.0 e.1 r) long run
-      (kept-put rules t p e.0 e.1 r (claim_missing (slice_get r.claims (e.0 - 1))) refl more fair run fit.0 k))
+      (kept-put rules t p e.0 e.1 r (claim_missing (slice_get r.claims (e.0 - 1))) refl more fair run (fit-asked rules r e.0 e.1 fit.0) k))
 
   -- truthful provers stay
 
@@ -293,20 +300,39 @@ module _ (laws : BisectionLaws) where
   kept-start rules t p es more long fair run fit =
       kept-after rules t p es (nothing_settled rules) more long fair run fit (record { good = tt; begun = λ _. refl; fit = fit-none rules.play.ruling rules.provers })
 
-  stays-none : (t : Truth) (p : ℕ) (r : Record) → r.disputes ≡ [] → Stays t p r
-  stays-none t p r e = record { live = rw e refl; right = rw e tt }
+  proved-all : (rules : Rules) (t : Truth) (claims : List (Option Settled)) (p : ℕ) (ds : List Bisection) → IsRun rules t → AllGood rules t claims p ds → AllTrueIn rules t p ds → AllRightIn t p ds → AllProvedIn rules p ds
+  proved-all rules t claims p [] run g true_ right = tt
+  proved-all rules t claims p (d ∷ ds) run g true_ right = (
+    record {
+      first = λ same. laws.proofs rules t First d run g.0.play (true_.0.first same) (right.0.first same);
+      second = λ same. laws.proofs rules t Second d run g.0.play (true_.0.second same) (right.0.second same);
+    },
+    proved-all rules t claims p ds run g.1 true_.1 right.1,
+  )
 
-  pub truthful_stay : TruthfulStay
-  truthful_stay rules t es p playable fair run numbered fit true_ =
+  stays-from : (rules : Rules) (t : Truth) (p : ℕ) (r : Record) → 0 < p → IsRun rules t → IsKept rules t p r → AllTrueIn rules t p r.disputes → is_out_in r.disputes p ≡ false → AllRightIn t p r.disputes → Stays rules t p r
+  stays-from rules t p r some run k true_ out right = record {
+    is_live = λ claim. live-contains t p r some claim out;
+    not_out = out;
+    right = right;
+    proved = proved-all rules t r.claims p r.disputes run k.good true_ right;
+  }
+
+  stays-none : (rules : Rules) (t : Truth) (p : ℕ) (r : Record) → 0 < p → IsRun rules t → IsKept rules t p r → AllTrueIn rules t p r.disputes → r.disputes ≡ [] → Stays rules t p r
+  stays-none rules t p r some run k true_ e = stays-from rules t p r some run k true_ (rw e refl) (rw e tt)
+
+  pub settled_stay : (rules : Rules) (t : Truth) (es : List (ℕ × Settled)) (p : ℕ) → ArePlayable rules → IsFair rules.play.ruling → IsRun rules t → 0 < p →
+      AllFit rules es (nothing_settled rules) → AreTrue rules t p (after rules es (nothing_settled rules)) → Stays rules t p (after rules es (nothing_settled rules))
+  settled_stay rules t es p playable fair run numbered fit true_ =
       let more : rules.play.fan ≡ 2 = playable.halves in
       let long : 0 < rules.bound = playable.steps in
       let k : IsKept rules t p (after rules es (nothing_settled rules)) = kept-start rules t p es more long fair run fit in
       elim true_.claim [
-        | inl missing ↦ stays-none t p (after rules es (nothing_settled rules)) (k.begun (missing-there (after rules es (nothing_settled rules)).claims (p - 1) (ap claim_missing missing)))
+        | inl missing ↦ stays-none rules t p (after rules es (nothing_settled rules)) numbered run k true_.disputes (k.begun (missing-there (after rules es (nothing_settled rules)).claims (p - 1) (ap claim_missing missing)))
         | inr claim ↦
             let s : (_ ≡ false) × AllRightIn t p (after rules es (nothing_settled rules)).disputes =
             stays-all rules t (after rules es (nothing_settled rules)).claims p (after rules es (nothing_settled rules)).disputes claim k.good true_.disputes in
-            record { live = s.0; right = s.1 }
+            stays-from rules t p (after rules es (nothing_settled rules)) numbered run k true_.disputes s.0 s.1
       ]
 
   -- once nothing is open, the claim is there

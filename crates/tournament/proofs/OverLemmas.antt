@@ -1,21 +1,18 @@
 -- A match in which nobody is asked is complete.
-use Rattle.std.proofs.Common.{◌≡◌, ℕ, zero, suc, ◌+◌, ◌-◌, ◌<◌, ◌≤◌, Bool, true, false, ◌&&◌, ◌||◌, ◌==◌, if◌then◌else◌, List, [], ◌∷◌, ◌++◌, length, slice_get, slice_set, inl, inr, Option, Some, None, is_some, refl, arith}
+use Rattle.std.proofs.Common.{◌≡◌, ◌↔◌, ℕ, zero, suc, ◌+◌, ◌-◌, ◌<◌, ◌≤◌, Bool, true, false, ◌&&◌, ◌||◌, ◌==◌, if◌then◌else◌, List, [], ◌∷◌, ◌++◌, length, slice_get, slice_set, inl, inr, Option, Some, None, is_some, is_none, refl, arith}
 use Rattle.std.proofs.lemmas.Bool.Decides.{nat_tests}
 use Rattle.bisect_game.specs.declared.question.Question.{Question}
 use Rattle.bisect_game.specs.declared.settled.Settled.{Settled}
 use Rattle.rd_base.specs.declared.claim.Claim.{Claim}
 use Rattle.bisect_game.specs.declared.settled.Close.{Close}
-use Rattle.bisect_game.specs.Bisection.{Bisection, question_of, settle_first, settle_second, advanced, decided, closed_or, went_on}
+use Rattle.bisect_game.specs.Bisection.{Bisection, is_closed, question_of, settle_first, settle_second, advanced, decided, closed_or, went_on}
 use Rattle.bisect_game.specs.Closing.{close_of}
 use Rattle.bisect_game.specs.Rules.{Play, Rules}
-use Rattle.bisect_game.specs.Says.{Says}
-use Rattle.tournament.proofs.JournalLemmas.{AreCounts, counts-begun, turned, counts-turn, turns-keep}
-use Rattle.tournament.proofs.OnceLemmas.{IsApart, engaged-asked, is-prover, or-left, or-right}
+use Rattle.tournament.proofs.OnceLemmas.{IsApart, both, apart-nothing, apart-settle, engaged-asked, is-prover, or-left, or-right}
 use Rattle.tournament.proofs.OpenedLemmas.{opened-not, opened-due}
 use Rattle.tournament.proofs.ReachLemmas.{either}
-use Rattle.tournament.specs.Bracket.{Record, claim_question, pairs, last_stage, disputes_of, is_due, opened, asks_first, asks_second, question_in, claim_missing, open_question, settled_in, put, settle, all_there, all_closed, is_complete}
-use Rattle.tournament.specs.Journals.{turn, turns, NobodyAskedIsOver}
-use Rattle.tournament.specs.Moves.{State, begun, passes_of, settled_by, moved}
+use Rattle.tournament.specs.Bracket.{Record, claim_question, pairs, last_stage, disputes_of, is_due, opened, nothing_settled, asks_first, asks_second, question_in, claim_missing, open_question, settled_in, put, settle, all_there, all_closed, is_complete}
+use Rattle.tournament.specs.Settling.{after}
 use Rattle.bisect_game.specs.Laws.{BisectionLaws}
 
 -- an open dispute waits for one of its sides
@@ -34,10 +31,6 @@ pub record IsAsked (fan : ℕ) (ds : List Bisection) : Type 0 where
   pub prover : ℕ
   pub question : Question
   pub asked : question_in fan prover ds ≡ Some question
-
-record IsMoving (rules : Rules) (says : Says) (n : ℕ) (st : State) : Type 0 where
-  counts : AreCounts rules says st
-  moves : AllMove st.record_.disputes
 
 module _ (laws : BisectionLaws) where
   moves-closed : (a b : Option Settled) (c : Close) → Moves a b (Some c)
@@ -96,6 +89,17 @@ module _ (laws : BisectionLaws) where
   moves-settle : (rules : Rules) (p : ℕ) (s : Settled) (t : Record) → AllMove t.disputes → AllMove (settle rules p s t).disputes
   unfolding settle
   moves-settle rules p s t a = moves-opened rules (put rules p s t) (moves-put rules p s t (claim_missing (slice_get t.claims (p - 1))) a)
+
+  no-side : (a b c d : Bool) → ((a && (b && false)) || (c && (d && false))) ≡ false
+  no-side true true true true = refl
+  no-side true true true false = refl
+  no-side true true false d = refl
+  no-side true false true true = refl
+  no-side true false true false = refl
+  no-side true false false d = refl
+  no-side false b true true = refl
+  no-side false b true false = refl
+  no-side false b false d = refl
 
   eqb-same : (n : ℕ) → (n == n) ≡ true
   eqb-same n = grind (arith, nat_tests)
@@ -167,21 +171,35 @@ module _ (laws : BisectionLaws) where
             ]
       ]
 
-  -- what a journal keeps
+  -- what every record keeps
 
-  moves-moved : (rules : Rules) (p : ℕ) (st : State) (o : Option Settled) → AllMove st.record_.disputes → AllMove (moved rules st p o).record_.disputes
-  moves-moved rules p st None a = a
-  moves-moved rules p st (Some s) a = moves-settle rules p s st.record_ a
+  pub moves-after : (rules : Rules) (es : List (ℕ × Settled)) (t : Record) → AllMove t.disputes → AllMove (after rules es t).disputes
+  moves-after rules [] t a = a
+  moves-after rules (e ∷ es) t a = moves-after rules es (settle rules e.0 e.1 t) (moves-settle rules e.0 e.1 t a)
 
-  moving-turn : (rules : Rules) (says : Says) (n : ℕ) (st : State) (p : ℕ) (q : Question) → 0 < p → open_question rules st.record_ p ≡ Some q → IsMoving rules says n st → IsMoving rules says (suc n) (turn rules says st p q)
-  moving-turn rules says n st p q some e i = record {
-    counts = (counts-turn laws) rules says st p q (turn rules says st p q) ((turned laws) rules says st p q some e i.counts);
-    moves = moves-moved rules p st (settled_by rules q (passes_of st p) (says p q (passes_of st p))) i.moves;
-  }
+  pub apart-after : (rules : Rules) (p : ℕ) (es : List (ℕ × Settled)) (t : Record) → IsApart rules p t → IsApart rules p (after rules es t)
+  apart-after rules p [] t a = a
+  apart-after rules p (e ∷ es) t a = apart-after rules p es (settle rules e.0 e.1 t) (apart-settle rules p e.0 e.1 t a)
 
-  -- where nobody is asked the match is over
-  pub nobody_asked_is_over : NobodyAskedIsOver
-  nobody_asked_is_over rules says ps playable legal none =
-      let i : IsMoving rules says (0 + length ps) (turns rules says ps (begun rules)) =
-      (turns-keep laws) rules says (IsMoving rules says) (moving-turn rules says) ps 0 (begun rules) legal (record { counts = (counts-begun laws) rules says; moves = tt }) in
-      complete-is rules (turns rules says ps (begun rules)).record_ i.counts.apart i.moves none
+  -- once it is over, nobody is asked
+
+  closed-not : (p : ℕ) (d : Bisection) → is_closed d ≡ true → (asks_first p d || asks_second p d) ≡ false
+  closed-not p d e = rw e (no-side (d.first == p) (is_none d.by_first) (d.second == p) (is_none d.by_second))
+
+  closed-none : (fan p : ℕ) (ds : List Bisection) → all_closed ds ≡ true → question_in fan p ds ≡ None
+  closed-none fan p [] e = refl
+  closed-none fan p (d ∷ ds) e =
+      let two : (is_closed d ≡ true) × (all_closed ds ≡ true) = both (is_closed d) (all_closed ds) e in
+      rw (closed-not p d two.0) (closed-none fan p ds two.1)
+
+  complete-none : (rules : Rules) (t : Record) (p : ℕ) → is_complete t ≡ true → open_question rules t p ≡ None
+  complete-none rules t p e =
+      let two : (all_there t.claims ≡ true) × (all_closed t.disputes ≡ true) = both (all_there t.claims) (all_closed t.disputes) e in
+      rw (there-at t.claims (p - 1) two.0) (closed-none rules.play.fan p t.disputes two.1)
+
+  pub over-after : (rules : Rules) (es : List (ℕ × Settled)) →
+      ((p : ℕ) → 0 < p → p ≤ rules.provers → open_question rules (after rules es (nothing_settled rules)) p ≡ None) ↔ (is_complete (after rules es (nothing_settled rules)) ≡ true)
+  over-after rules es = (
+    (λ none. complete-is rules (after rules es (nothing_settled rules)) (λ p. apart-after rules p es (nothing_settled rules) (apart-nothing rules p)) (moves-after rules es (nothing_settled rules) tt) none),
+    (λ over p some le. complete-none rules (after rules es (nothing_settled rules)) p over),
+  )

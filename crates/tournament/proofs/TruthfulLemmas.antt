@@ -25,15 +25,18 @@ use Rattle.tournament.specs.Settling.{after}
 use Rattle.tournament.specs.Moves.{State, begun}
 use Rattle.tournament.specs.Journals.{turn, turns, said, settled_after, answers_of}
 use Rattle.tournament.specs.Asked.{asked}
-use Rattle.tournament.specs.Theorem.{AllFit, HasTrueClaimSoFar, TrueIn, AllTrueIn, AreTrue}
+use Rattle.tournament.specs.Fitting.{AllFit}
+use Rattle.tournament.specs.Theorem.{HasTrueClaimSoFar, TrueIn, AllTrueIn, AreTrue, Stays}
 use Rattle.tournament.specs.Truthful.{AnswersTruly, IsTruthfulProver, TruthfulProversAreSafe}
 use Rattle.tournament.proofs.ReachLemmas.{either}
 use Rattle.tournament.proofs.OpenedLemmas.{opened-not, opened-due}
 use Rattle.tournament.proofs.OnceLemmas.{both, is-eqb}
 use Rattle.tournament.proofs.SidesLemmas.{SameSides, sides-first, sides-second}
-use Rattle.tournament.proofs.MatchLemmas.{truthful_stay}
-use Rattle.tournament.proofs.VerdictLemmas.{verdict_is_right}
+use Rattle.tournament.proofs.LiveLemmas.{live-contains}
+use Rattle.tournament.proofs.MatchLemmas.{settled_stay, claim-there}
+use Rattle.tournament.proofs.VerdictLemmas.{settled_right}
 use Rattle.tournament.proofs.JournalLemmas.{Turned, Passed, Settles, turned, turns-keep}
+use Rattle.tournament.proofs.PostLemmas.{fit-judged, fit-last, after-last}
 use Rattle.tournament.proofs.AskedLemmas.{IsOnWay, way-begun, way-turn, way-asked}
 
 -- a side that has answered truly so far is truthful after a round was decided
@@ -236,10 +239,6 @@ answers-true rules says t p q s a sound e =
 
 -- what a legal list of moves keeps
 
-fit-judged : (r : Ruling) (k : Kind) (a : Answer) (b : Bool) → is_fit r k a ≡ b → IsFit r k (if b then Given a else Faulty a)
-fit-judged r k a true e = e
-fit-judged r k a false e = tt
-
 fit-said : (rules : Rules) (q : Question) (o : Option Answer) (s : Settled) → IsFit rules.play.ruling q.kind s → IsFit rules.play.ruling q.kind (said rules q o s)
 fit-said rules q (Some a) s h = fit-judged rules.play.ruling q.kind a (is_fit rules.play.ruling q.kind a) refl
 fit-said rules q None s h = h
@@ -252,14 +251,6 @@ fit-after rules says p q (suc left) n = fit-said rules q (says p q n) _ (fit-aft
 fit-answers : (rules : Rules) (says : Says) (p : ℕ) (q : Question) (s : Settled) → answers_of rules says p q ≡ Some s → IsFit rules.play.ruling q.kind s
 unfolding answers_of
 fit-answers rules says p q s e = let same : settled_after rules says p q rules.patience 0 ≡ s = cc in rw (← same) (fit-after rules says p q rules.patience 0)
-
-fit-last : (rules : Rules) (es : List (ℕ × Settled)) (p : ℕ) (s : Settled) (r : Record) → AllFit rules es r → ((q : Question) → open_question rules (after rules es r) p ≡ Some q → IsFit rules.play.ruling q.kind s) → AllFit rules (es ++ (p, s) ∷ []) r
-fit-last rules [] p s r h is = (is, tt)
-fit-last rules (e ∷ es) p s r h is = (h.0, fit-last rules es p s (settle rules e.0 e.1 r) h.1 is)
-
-after-last : (rules : Rules) (es : List (ℕ × Settled)) (p : ℕ) (s : Settled) (r : Record) → after rules (es ++ (p, s) ∷ []) r ≡ settle rules p s (after rules es r)
-after-last rules [] p s r = refl
-after-last rules (e ∷ es) p s r = after-last rules es p s (settle rules e.0 e.1 r)
 
 none-yet : (n k : ℕ) (o : Option Settled) → k < n → slice_get (replicate n o) k ≡ Some o
 none-yet zero k o lt = absurd (omega arith)
@@ -295,9 +286,12 @@ module _ (laws : BisectionLaws) where
         way = way;
         answers = rw same (true-settle rules t p other s q st.record_ some far asked_ mine i.answers);
         settled = i.settled ++ (other, s) ∷ [];
-        fit = fit-last rules i.settled other s (nothing_settled rules) i.fit (λ x e.
-            let one : q ≡ x = let both_ : ◌≡◌ {A = Option Question} (Some q) (Some x) = sym asked_ ∙ (sym (ap (λ (r : Record). open_question rules r other) i.reaches) ∙ e) in cc in
-            rw (← one) (fit-answers rules says other q s is));
+        fit = fit-last rules i.settled other s (nothing_settled rules) i.fit (record {
+          question = q;
+          numbered = far;
+          asked = ap (λ (r : Record). open_question rules r other) i.reaches ∙ asked_;
+          fits = fit-answers rules says other q s is;
+        });
         reaches = after-last rules i.settled other s (nothing_settled rules) ∙ (ap (settle rules other s) i.reaches ∙ sym same);
       }
 
@@ -312,8 +306,10 @@ module _ (laws : BisectionLaws) where
       let more : 1 < rules.play.fan = omega (arith, playable.halves) in
       let i : IsTold rules says t p (0 + length ps) (turns rules says ps (begun rules)) =
       (turns-keep laws) rules says (IsTold rules says t p) (told-turn rules says t p playable.some more playable.steps numbered run truthful) ps 0 (begun rules) legal (told-begun rules says t p playable.some numbered within) in
+      let stays : Stays rules t p (turns rules says ps (begun rules)).record_ = rw i.reaches at ((settled_stay laws) rules t i.settled p playable fair run numbered i.fit (rw (← i.reaches) at i.answers)) in
       record {
         answers = i.answers;
-        stays = rw i.reaches at ((truthful_stay laws) rules t i.settled p playable fair run numbered i.fit (rw (← i.reaches) at i.answers));
-        verdict = λ c. rw i.reaches at ((verdict_is_right laws) rules t i.settled p playable fair run numbered i.fit (rw (← i.reaches) at i.answers) (rw i.reaches c));
+        stays = stays;
+        live_at_end = λ c. live-contains t p (turns rules says ps (begun rules)).record_ numbered ((claim-there laws) t p (turns rules says ps (begun rules)).record_ c i.answers.claim) stays.not_out;
+        verdict = λ c. rw i.reaches at ((settled_right laws) rules t i.settled p playable fair run numbered i.fit (rw (← i.reaches) at i.answers) (rw i.reaches c));
       }

@@ -13,16 +13,18 @@ use Rattle.bisect_game.specs.declared.settled.Close.TheVariants.{Out, Collision}
 use Rattle.tournament.specs.declared.verdict.Verdict.TheVariants.{Collision}
 use Rattle.bisect_game.specs.Bisection.{Bisection, is_closed, settle_first, settle_second, closed_or, ended, went_on, decided, advanced}
 use Rattle.bisect_game.specs.Closing.{both_proved, closed_by, close_of, is_out, is_step}
-use Rattle.bisect_game.specs.Rules.{Play, Rules}
+use Rattle.bisect_game.specs.Rules.{Play, Rules, ArePlayable}
 use Rattle.bisect_game.specs.Ruling.{Ruling, IsFair, IsCollision, same_digest}
 use Rattle.bisect_game.specs.Truth.{Truth, IsRun}
-use Rattle.tournament.proofs.MatchLemmas.{HasClaim, AllClaim, live-right, truthful_stay, claim-there, IsKept, kept-start, FitClaims}
+use Rattle.tournament.proofs.LiveLemmas.{IsIn, live-in}
+use Rattle.tournament.proofs.MatchLemmas.{HasClaim, AllClaim, live-right, settled_stay, claim-there, IsKept, kept-start, FitClaims}
 use Rattle.tournament.proofs.OpenedLemmas.{opened-not, opened-due, opened-twice}
 use Rattle.tournament.proofs.ReachLemmas.{either, same-is}
 use Rattle.tournament.proofs.StageLemmas.{IsPlayed, played-nothing}
-use Rattle.tournament.specs.Bracket.{Record, is_out_in, claim_in, also, live_from, live, first_of, collision_with, claims_collision, Taken, passed_over, take_other, pairs_of, pairs, last_stage, disputes_of, all_there, all_out, put_out, all_closed, is_due, opened, nothing_settled, asks_first, asks_second, claim_missing, settled_in, put, settle, is_complete, collided, disputes_collision, lowest, or_lowest}
+use Rattle.tournament.specs.Bracket.{Record, is_out_in, claim_in, also, live_from, live, first_of, collision_with, claims_collision, Taken, passed_over, take_other, pairs_of, pairs, last_stage, disputes_of, all_there, all_out, put_out, all_closed, is_due, opened, nothing_settled, asks_first, asks_second, claim_missing, settled_in, put, settle, is_complete, collided, disputes_collision, lowest, or_lowest, verdict_of}
 use Rattle.tournament.specs.Settling.{after}
-use Rattle.tournament.specs.Theorem.{HasTrueClaim, Stays, IsInClaims, IsInDisputes, IsCollisionIn, IsRightVerdict, VerdictIsRight}
+use Rattle.tournament.specs.Fitting.{AllFit}
+use Rattle.tournament.specs.Theorem.{HasTrueClaim, AreTrue, Stays, IsInClaims, IsInDisputes, IsCollisionIn, IsRightVerdict}
 use Rattle.bisect_game.specs.Laws.{BisectionLaws}
 
 record MetBy (r : Ruling) (d : Bisection) (pair : List ℕ × List ℕ) : Type 0 where
@@ -40,10 +42,6 @@ IsMet r d None = Unit {0}
 abbrev AllMet : Ruling → List Bisection → Type 0
 AllMet r [] = Unit {0}
 AllMet r (d ∷ ds) = IsMet r d d.close × AllMet r ds
-
-abbrev IsIn : ℕ → Claim → List (ℕ × Claim) → Type 0
-IsIn p c [] = ⊥
-IsIn p c (x ∷ xs) = (x ≡ (p, c)) ⊎ IsIn p c xs
 
 module _ (laws : BisectionLaws) where
   -- a collision of a dispute is that of its proofs
@@ -191,28 +189,6 @@ module _ (laws : BisectionLaws) where
       claims-choice rules r x xs pair (collision_with rules.play.ruling x.1 xs) refl e
       (λ here. meets-collision rules r x xs pair fair h.0 h.1 here) (λ further. claims-collision rules r xs pair fair h.1 further)
 
-  -- a live prover is in the list of the live ones
-
-  in-also : (q p : ℕ) (c : Claim) (o : Option Claim) (xs : List (ℕ × Claim)) → IsIn p c xs → IsIn p c (also q o xs)
-  in-also q p c (Some d) xs i = inr i
-  in-also q p c None xs i = i
-
-  in-choice : (q p : ℕ) (c : Claim) (s : Option Settled) (xs : List (ℕ × Claim)) (b : Bool) → IsIn p c xs → IsIn p c (if b then xs else also q (claim_in s) xs)
-  in-choice q p c s xs true i = i
-  in-choice q p c s xs false i = in-also q p c (claim_in s) xs i
-
-  live-in : (ds : List Bisection) (q k : ℕ) (c : Claim) (ss : List (Option Settled)) → slice_get ss k ≡ Some (Some (Given (answer.Claim c))) → is_out_in ds (q + k) ≡ false → IsIn (q + k) c (live_from ds q ss)
-  live-in ds q k c [] e stays = absurd (cc)
-  live-in ds q zero c (s ∷ ss) e stays =
-      let same : s ≡ Some (Given (answer.Claim c)) = cc in
-      let at : q + 0 ≡ q = omega arith in
-      let here : is_out_in ds q ≡ false = rw at at stays in
-      rw (at, here, same) (inl refl)
-  live-in ds q (suc k) c (s ∷ ss) e stays =
-      let at : q + suc k ≡ q + 1 + k = omega arith in
-      let there : is_out_in ds (q + 1 + k) ≡ false = rw at at stays in
-      rw at (in-choice q (q + 1 + k) c s (live_from ds (q + 1) ss) (is_out_in ds q) (live-in ds (q + 1) k c ss e there))
-
   -- without a collision of the claims, live ones of one root are the same
 
   first-none : (a b : Option (List ℕ × List ℕ)) → first_of a b ≡ None → (a ≡ None) × (b ≡ None)
@@ -352,11 +328,13 @@ module _ (laws : BisectionLaws) where
       lowest-right rules t r p (live r) fair some k.fit ((live-right laws) r.claims r.disputes 0 r.claims (λ j. ap (slice_get r.claims) (omega arith))) run.sound i
       (collide-sub rules.play.ruling r.disputes 1 r.claims ea) (no-pair-left rules r due rests)
 
-  pub verdict_is_right : VerdictIsRight
-  verdict_is_right rules t es p playable fair run numbered fit true_ c =
+  pub settled_right : (rules : Rules) (t : Truth) (es : List (ℕ × Settled)) (p : ℕ) → ArePlayable rules → IsFair rules.play.ruling → IsRun rules t → 0 < p →
+      AllFit rules es (nothing_settled rules) → AreTrue rules t p (after rules es (nothing_settled rules)) → is_complete (after rules es (nothing_settled rules)) ≡ true →
+      IsRightVerdict rules t (after rules es (nothing_settled rules)) (verdict_of rules (after rules es (nothing_settled rules)))
+  settled_right rules t es p playable fair run numbered fit true_ c =
       let some : 0 < rules.provers = playable.some in
       let more : rules.play.fan ≡ 2 = playable.halves in
       let long : 0 < rules.bound = playable.steps in
-      let s : Stays t p (after rules es (nothing_settled rules)) = (truthful_stay laws) rules t es p playable fair run numbered fit true_ in
+      let s : Stays rules t p (after rules es (nothing_settled rules)) = (settled_stay laws) rules t es p playable fair run numbered fit true_ in
       verdict-by rules t (after rules es (nothing_settled rules)) p _ _ some fair run numbered ((kept-start laws) rules t p es more long fair run fit)
-      (met-after rules es (nothing_settled rules) fair tt) (rests-after rules es (nothing_settled rules) (rests-nothing rules some)) c ((claim-there laws) t p (after rules es (nothing_settled rules)) c true_.claim) s.live refl refl
+      (met-after rules es (nothing_settled rules) fair tt) (rests-after rules es (nothing_settled rules) (rests-nothing rules some)) c ((claim-there laws) t p (after rules es (nothing_settled rules)) c true_.claim) s.not_out refl refl

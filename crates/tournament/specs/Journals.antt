@@ -1,5 +1,5 @@
 -- To believe: moves by the provers' own scripts, in any order, and the record to which they come.
-use Rattle.std.specs.Prelude.{◌≡◌, ℕ, zero, suc, ◌+◌, ◌<◌, ◌≤◌, true, List, [], ◌∷◌, Option, Some, None}
+use Rattle.std.specs.Prelude.{◌≡◌, ℕ, zero, suc, ◌+◌, ◌<◌, true, List, [], ◌∷◌, Option, Some, None}
 use Rattle.rd_base.specs.declared.answer.Answer.{Answer}
 use Rattle.bisect_game.specs.declared.question.Question.{Question}
 use Rattle.bisect_game.specs.declared.settled.Settled.{Settled}
@@ -61,10 +61,3 @@ RecordOfCase =
     (rules : Rules) (says : Says) (ps : List ℕ) → ArePlayable rules →
     Legal rules says ps (begun rules) → is_complete (turns rules says ps (begun rules)).record_ ≡ true →
     (turns rules says ps (begun rules)).record_ ≡ bracket rules (answers_of rules says)
-
--- where nobody has an open question, the match is over
-abbrev pub NobodyAskedIsOver : Type 0
-NobodyAskedIsOver =
-    (rules : Rules) (says : Says) (ps : List ℕ) → ArePlayable rules → Legal rules says ps (begun rules) →
-    ((p : ℕ) → 0 < p → p ≤ rules.provers → open_question rules (turns rules says ps (begun rules)).record_ p ≡ None) →
-    is_complete (turns rules says ps (begun rules)).record_ ≡ true

@@ -2,6 +2,8 @@
 use Rattle.std.specs.Prelude.{◌≡◌, ℕ, zero, suc, ◌+◌, ◌^◌, ◌<◌, ◌≤◌, Bool, List, [], ◌∷◌, ◌++◌, length, Option, Some, None, if◌then◌else◌}
 use Rattle.rd_base.specs.declared.digest.Digest32.{Digest32}
 use Rattle.rd_base.specs.declared.claim.Claim.{Claim}
+use Rattle.rd_base.specs.declared.answer.Answer.{Answer}
+use Rattle.bisect_game.specs.declared.question.Question.{Question}
 use Rattle.bisect_game.specs.declared.settled.Settled.{Settled}
 use Rattle.bisect_game.specs.declared.side.Side.{Side}
 use Rattle.bisect_game.specs.declared.side.Side.TheVariants.{First, Second}
@@ -9,9 +11,9 @@ use Rattle.bisect_game.specs.Ruling.{Ruling, same_digest}
 use Rattle.bisect_game.specs.Rules.{Rules}
 use Rattle.bisect_game.specs.Bisection.{Bisection}
 use Rattle.tournament.specs.declared.setup.Setup.{Setup}
-use Rattle.tournament.specs.Bracket.{Record, side_of, asks_first, asks_second, last_stage, nothing_settled}
-use Rattle.tournament.specs.Settling.{after}
-use Rattle.tournament.specs.Posting.{rules_of}
+use Rattle.tournament.specs.Bracket.{Record, side_of, asks_first, asks_second, last_stage, open_question}
+use Rattle.tournament.specs.Moves.{State, begun, passes_of, settled_by}
+use Rattle.tournament.specs.Posting.{rules_of, Post, after_posts}
 
 -- the side of a prover that has an open question
 abbrev pub asks_of : Side → ℕ → Bisection → Bool
@@ -91,12 +93,20 @@ pub record IsSheet (t : Setup) (r : Record) (rooms : List ℕ) (free : ℕ) : Ty
   pub rooms_ : AllRooms t.bound rooms
   pub room : length r.disputes + free + 1 ≡ t.provers
 
--- some settled answers, in some order, come to the record
-abbrev pub IsReached : Rules → Record → Type 0
-IsReached rules t = (es : List (ℕ × Settled)) × (after rules es (nothing_settled rules) ≡ t)
+-- some posts, in some order, come to the state
+abbrev pub IsReached : Rules → State → Type 0
+IsReached rules st = (xs : List Post) × (after_posts rules xs (begun rules) ≡ st)
+
+-- a move of a prover on its open question settles this, or nothing
+pub record IsMove (rules : Rules) (st : State) (p : ℕ) (o : Option Settled) : Type 0 where
+  pub question : Question
+  pub answer : Option Answer
+  pub asked : open_question rules st.record_ p ≡ Some question
+  pub settles : settled_by rules question (passes_of st p) answer ≡ o
 
 pub record IsMatch (r : Ruling) (s : Sheet) (passed : List ℕ) (room : ℕ) : Type 0 where
   pub some : 0 < s.table.provers
+  pub steps : 0 < s.table.bound
   pub counts : length passed ≡ s.table.provers
-  pub reached : IsReached (rules_of r s.table) s.record_
+  pub reached : IsReached (rules_of r s.table) (record { record_ = s.record_; passed = passed })
   pub room_ : s.table.provers ≤ room

@@ -2,9 +2,11 @@ pub mod Bracket
 pub mod Settling
 pub mod Moves
 pub mod Posting
+pub mod Fitting
 pub mod Journals
 pub mod Theorem
 pub mod Asked
+pub mod SoFar
 pub mod Length
 pub mod Truthful
 pub mod Keeping

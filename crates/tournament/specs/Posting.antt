@@ -1,19 +1,19 @@
--- To believe: a post. The tests in their order, the state after it, and the reply to it.
-use Rattle.std.specs.Prelude.{ℕ, Bool, ◌&&◌, ◌==◌, Option, Some, None, is_some, if◌then◌else◌}
+-- To believe: a post. The tests in their order, the state after it, and the reply to it; and lists of posts.
+use Rattle.std.specs.Prelude.{◌≡◌, ◌↔◌, ℕ, ◌<◌, ◌≤◌, Bool, true, ◌&&◌, ◌==◌, List, [], ◌∷◌, Option, Some, None, is_some, if◌then◌else◌}
 use Rattle.rd_base.specs.declared.answer.Answer.{Answer}
 use Rattle.rd_base.specs.declared.answer.Qid.{Qid}
 use Rattle.bisect_game.specs.declared.question.Question.{Question}
 use Rattle.bisect_game.specs.declared.settled.Settled.{Settled}
 use Rattle.bisect_game.specs.declared.settled.Settled.TheVariants as settled
 use Rattle.bisect_game.specs.Ruling.{Ruling}
-use Rattle.bisect_game.specs.Rules.{Rules}
+use Rattle.bisect_game.specs.Rules.{Rules, ArePlayable}
 use Rattle.tournament.specs.declared.setup.Setup.{Setup}
 use Rattle.tournament.specs.declared.posting.Move.{Move}
 use Rattle.tournament.specs.declared.posting.Move.TheVariants.{Pass, Give}
 use Rattle.tournament.specs.declared.posting.Reply.{Reply}
 use Rattle.tournament.specs.declared.posting.Reply.TheVariants as reply
-use Rattle.tournament.specs.Bracket.{open_question}
-use Rattle.tournament.specs.Moves.{State, passes_of, settled_by, moved}
+use Rattle.tournament.specs.Bracket.{Record, open_question, is_complete}
+use Rattle.tournament.specs.Moves.{State, begun, passes_of, settled_by, moved}
 
 -- what a match is played by: a judge, halves, and the numbers
 abbrev pub rules_of : Ruling → Setup → Rules
@@ -52,3 +52,27 @@ reply_to rules st p qid m = reply_on rules st p qid m (open_question rules st.re
 -- the passes on the open question; none without one
 abbrev pub passes_on : Rules → State → ℕ → ℕ
 passes_on rules st p = if is_some (open_question rules st.record_ p) then passes_of st p else 0
+
+-- LISTS OF POSTS, by anybody and with any contents
+
+-- a post of a prover, whose number counts from 1, on the question of a number: an answer, or None for a pass
+pub record Post : Type 0 where
+  pub prover : ℕ
+  pub numbered : 0 < prover
+  pub qid : Qid
+  pub answer : Option Answer
+
+-- the state after these posts, one after another
+abbrev pub after_posts : Rules → List Post → State → State
+after_posts rules [] st = st
+after_posts rules (x ∷ xs) st = after_posts rules xs (posted rules st x.prover x.qid x.answer)
+
+-- the record of a match after these posts
+abbrev pub record_after : Rules → List Post → Record
+record_after rules xs = (after_posts rules xs (begun rules)).record_
+
+-- nobody has an open question exactly where the match is over
+abbrev pub NobodyAskedIsOver : Type 0
+NobodyAskedIsOver =
+    (rules : Rules) (xs : List Post) → ArePlayable rules →
+    ((p : ℕ) → 0 < p → p ≤ rules.provers → open_question rules (record_after rules xs) p ≡ None) ↔ (is_complete (record_after rules xs) ≡ true)

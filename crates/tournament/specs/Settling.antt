@@ -1,11 +1,9 @@
--- To believe: lists of settled answers in the order in which they came, and what holds of each such list.
-use Rattle.std.specs.Prelude.{◌≡◌, ℕ, ◌*◌, ◌^◌, ◌<◌, true, List, [], ◌∷◌, length, Some}
+-- To believe: lists of settled answers in the order in which they came, and that their order does not matter.
+use Rattle.std.specs.Prelude.{◌≡◌, ℕ, ◌<◌, true, List, [], ◌∷◌, Some}
 use Rattle.bisect_game.specs.declared.question.Question.{Question}
 use Rattle.bisect_game.specs.declared.settled.Settled.{Settled}
 use Rattle.bisect_game.specs.Rules.{Rules, ArePlayable}
-use Rattle.bisect_game.specs.Bisection.{Bisection}
 use Rattle.bisect_game.specs.Disputes.{Answers}
-use Rattle.bisect_game.specs.Laws.{rounds_of}
 use Rattle.tournament.specs.Bracket.{Record, open_question, settle, nothing_settled, is_complete}
 
 -- the record after these answers were settled, each of the prover with this number
@@ -31,15 +29,3 @@ OneRecord =
     Fits rules f es (nothing_settled rules) → Fits rules f gs (nothing_settled rules) →
     is_complete (after rules es (nothing_settled rules)) ≡ true → is_complete (after rules gs (nothing_settled rules)) ≡ true →
     after rules es (nothing_settled rules) ≡ after rules gs (nothing_settled rules)
-
--- m provers play at most m - 1 disputes
-abbrev pub FewDisputes : Type 0
-FewDisputes = (rules : Rules) (es : List (ℕ × Settled)) → 0 < rules.provers → length (after rules es (nothing_settled rules)).disputes < rules.provers
-
-abbrev pub HaveFewRounds : Rules → List Bisection → Type 0
-HaveFewRounds rules [] = Unit {0}
-HaveFewRounds rules (d ∷ ds) = (rules.play.fan ^ rounds_of d < rules.play.fan * rules.bound) × HaveFewRounds rules ds
-
--- a dispute has k bisection rounds with F^k < F * N, where F is 2
-abbrev pub FewRounds : Type 0
-FewRounds = (rules : Rules) (es : List (ℕ × Settled)) → ArePlayable rules → HaveFewRounds rules (after rules es (nothing_settled rules)).disputes

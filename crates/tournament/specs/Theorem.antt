@@ -1,25 +1,19 @@
--- To believe: the dispute theorem. Truthful provers stay, and the verdict is right.
-use Rattle.std.specs.Prelude.{◌≡◌, ℕ, ◌-◌, ◌<◌, false, true, ◌⊎◌, List, [], ◌∷◌, slice_get, Option, Some, None}
+-- To believe: the dispute theorem, over lists of posts by anybody and with any contents. Truthful provers stay, the verdict is
+-- right, and rounds are few.
+use Rattle.std.specs.Prelude.{◌≡◌, ℕ, ◌-◌, ◌*◌, ◌^◌, ◌<◌, ◌≤◌, false, true, ◌⊎◌, List, [], ◌∷◌, length, slice_get, Option, Some, None, Contains}
 use Rattle.rd_base.specs.declared.answer.Answer.{Answer}
 use Rattle.rd_base.specs.declared.answer.Answer.TheVariants as answer
-use Rattle.bisect_game.specs.declared.question.Question.{Question}
 use Rattle.bisect_game.specs.declared.settled.Settled.{Settled}
 use Rattle.bisect_game.specs.declared.settled.Settled.TheVariants.{Given}
 use Rattle.bisect_game.specs.declared.side.Side.TheVariants.{First, Second}
 use Rattle.bisect_game.specs.Ruling.{Ruling, IsFair, IsCollision}
 use Rattle.bisect_game.specs.Rules.{Rules, ArePlayable}
-use Rattle.bisect_game.specs.Bisection.{Bisection}
-use Rattle.bisect_game.specs.Truth.{Truth, IsRun, IsFit, IsTruthful, IsRight}
+use Rattle.bisect_game.specs.Bisection.{Bisection, rounds_of, proof_rounds_of}
+use Rattle.bisect_game.specs.Truth.{Truth, IsRun, IsTruthful, IsRight, IsProved}
 use Rattle.tournament.specs.declared.verdict.Verdict.{Verdict}
 use Rattle.tournament.specs.declared.verdict.Verdict.TheVariants.{Accept, NoneLeft, Collision}
-use Rattle.tournament.specs.Bracket.{Record, open_question, settle, nothing_settled, is_out_in, is_complete, verdict_of}
-use Rattle.tournament.specs.Settling.{after}
-
--- settled answers, in any order and of any content; what was taken as given fits what was asked
-abbrev pub AllFit : Rules → List (ℕ × Settled) → Record → Type 0
-AllFit rules [] r = Unit {0}
-AllFit rules (e ∷ es) r =
-    ((q : Question) → open_question rules r e.0 ≡ Some q → IsFit rules.play.ruling q.kind e.1) × AllFit rules es (settle rules e.0 e.1 r)
+use Rattle.tournament.specs.Bracket.{Record, live, is_out_in, is_complete, verdict_of}
+use Rattle.tournament.specs.Posting.{Post, record_after}
 
 -- THE PREMISE: the settled answers of a prover so far are all given and true
 
@@ -43,7 +37,8 @@ pub record AreTrue (rules : Rules) (t : Truth) (p : ℕ) (r : Record) : Type 0 w
   pub claim : HasTrueClaimSoFar t r.claims p
   pub disputes : AllTrueIn rules t p r.disputes
 
--- TRUTHFUL PROVERS STAY: no dispute has put it out, and in each of its disputes the agreed root and its own are the run's
+-- TRUTHFUL PROVERS STAY: it is live once its claim is settled, no dispute has put it out, in each of its disputes the agreed
+-- root and its own are the run's, and each proof that it gave is proved
 
 pub record RightIn (t : Truth) (p : ℕ) (d : Bisection) : Type 0 where
   pub first : d.first ≡ p → IsRight t First d
@@ -53,14 +48,24 @@ abbrev pub AllRightIn : Truth → ℕ → List Bisection → Type 0
 AllRightIn t p [] = Unit {0}
 AllRightIn t p (d ∷ ds) = RightIn t p d × AllRightIn t p ds
 
-pub record Stays (t : Truth) (p : ℕ) (r : Record) : Type 0 where
-  pub live : is_out_in r.disputes p ≡ false
+pub record ProvedIn (rules : Rules) (p : ℕ) (d : Bisection) : Type 0 where
+  pub first : d.first ≡ p → IsProved rules.play.ruling First d
+  pub second : d.second ≡ p → IsProved rules.play.ruling Second d
+
+abbrev pub AllProvedIn : Rules → ℕ → List Bisection → Type 0
+AllProvedIn rules p [] = Unit {0}
+AllProvedIn rules p (d ∷ ds) = ProvedIn rules p d × AllProvedIn rules p ds
+
+pub record Stays (rules : Rules) (t : Truth) (p : ℕ) (r : Record) : Type 0 where
+  pub is_live : HasTrueClaim t r.claims p → Contains (live r) (p, t.claim)
+  pub not_out : is_out_in r.disputes p ≡ false
   pub right : AllRightIn t p r.disputes
+  pub proved : AllProvedIn rules p r.disputes
 
 abbrev pub TruthfulStay : Type 0
 TruthfulStay =
-    (rules : Rules) (t : Truth) (es : List (ℕ × Settled)) (p : ℕ) → ArePlayable rules → IsFair rules.play.ruling → IsRun rules t → 0 < p →
-    AllFit rules es (nothing_settled rules) → AreTrue rules t p (after rules es (nothing_settled rules)) → Stays t p (after rules es (nothing_settled rules))
+    (rules : Rules) (t : Truth) (xs : List Post) (p : ℕ) → ArePlayable rules → IsFair rules.play.ruling → IsRun rules t → 0 < p →
+    AreTrue rules t p (record_after rules xs) → Stays rules t p (record_after rules xs)
 
 -- THE VERDICT IS RIGHT: the true claim is accepted, or two strings collide
 
@@ -94,6 +99,24 @@ IsRightVerdict rules t r NoneLeft = ⊥
 
 abbrev pub VerdictIsRight : Type 0
 VerdictIsRight =
-    (rules : Rules) (t : Truth) (es : List (ℕ × Settled)) (p : ℕ) → ArePlayable rules → IsFair rules.play.ruling → IsRun rules t → 0 < p →
-    AllFit rules es (nothing_settled rules) → AreTrue rules t p (after rules es (nothing_settled rules)) → is_complete (after rules es (nothing_settled rules)) ≡ true →
-    IsRightVerdict rules t (after rules es (nothing_settled rules)) (verdict_of rules (after rules es (nothing_settled rules)))
+    (rules : Rules) (t : Truth) (xs : List Post) (p : ℕ) → ArePlayable rules → IsFair rules.play.ruling → IsRun rules t → 0 < p →
+    AreTrue rules t p (record_after rules xs) → is_complete (record_after rules xs) ≡ true →
+    IsRightVerdict rules t (record_after rules xs) (verdict_of rules (record_after rules xs))
+
+-- FEW ROUNDS
+
+-- m provers play at most m - 1 disputes
+abbrev pub FewDisputes : Type 0
+FewDisputes = (rules : Rules) (xs : List Post) → 0 < rules.provers → length (record_after rules xs).disputes < rules.provers
+
+-- k bisection rounds with F^k < F * N, where F is 2, and at most one proof round
+pub record IsShort (rules : Rules) (d : Bisection) : Type 0 where
+  pub bisections : rules.play.fan ^ rounds_of d < rules.play.fan * rules.bound
+  pub proofs : proof_rounds_of d ≤ 1
+
+abbrev pub AllShort : Rules → List Bisection → Type 0
+AllShort rules [] = Unit {0}
+AllShort rules (d ∷ ds) = IsShort rules d × AllShort rules ds
+
+abbrev pub FewRounds : Type 0
+FewRounds = (rules : Rules) (xs : List Post) → ArePlayable rules → AllShort rules (record_after rules xs).disputes

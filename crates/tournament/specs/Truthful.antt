@@ -1,12 +1,12 @@
 -- To believe: a prover that answers a case truthfully, and what the dispute theorem says of it.
-use Rattle.std.specs.Prelude.{◌≡◌, ℕ, ◌<◌, ◌≤◌, true, List, Some, None}
+use Rattle.std.specs.Prelude.{◌≡◌, ℕ, ◌<◌, ◌≤◌, true, List, Some, None, Contains}
 use Rattle.rd_base.specs.declared.answer.Answer.{Answer}
 use Rattle.bisect_game.specs.declared.question.Question.{Question}
 use Rattle.bisect_game.specs.Says.{Says}
 use Rattle.bisect_game.specs.Ruling.{IsFair}
 use Rattle.bisect_game.specs.Rules.{Rules, ArePlayable}
 use Rattle.bisect_game.specs.Truth.{Truth, IsRun, IsTrueAnswer}
-use Rattle.tournament.specs.Bracket.{Record, is_complete, verdict_of, bracket}
+use Rattle.tournament.specs.Bracket.{Record, live, is_complete, verdict_of, bracket}
 use Rattle.tournament.specs.Moves.{begun}
 use Rattle.tournament.specs.Journals.{turns, Legal, answers_of}
 use Rattle.tournament.specs.Asked.{asked}
@@ -26,10 +26,11 @@ abbrev pub IsTruthfulProver : Rules → Says → Truth → ℕ → Type 0
 IsTruthfulProver rules says t p =
     (q : Question) → asked rules (bracket rules (answers_of rules says)) p q.qid ≡ Some q.kind → AnswersTruly says rules.patience t p q
 
--- its settled answers so far are given and true, it is not put out, and once nothing is open the verdict is right
+-- its settled answers so far are given and true, it stays, and once nothing is open it is live and the verdict is right
 pub record IsSafe (rules : Rules) (t : Truth) (p : ℕ) (r : Record) : Type 0 where
   pub answers : AreTrue rules t p r
-  pub stays : Stays t p r
+  pub stays : Stays rules t p r
+  pub live_at_end : is_complete r ≡ true → Contains (live r) (p, t.claim)
   pub verdict : is_complete r ≡ true → IsRightVerdict rules t r (verdict_of rules r)
 
 -- whoever moves in whatever order, a truthful prover is safe

@@ -1,14 +1,26 @@
-ghost use Rattle.tournament.specs.Settling.{OneRecord, FewDisputes, FewRounds};
-ghost use Rattle.tournament.specs.Theorem.{TruthfulStay, VerdictIsRight};
-ghost use Rattle.tournament.specs.Journals.{OrderDoesNotMatter, RecordOfCase, NobodyAskedIsOver};
+ghost use Rattle.tournament.specs.Settling.{OneRecord};
+ghost use Rattle.tournament.specs.Fitting.{PostsSettle};
+ghost use Rattle.tournament.specs.Posting.{NobodyAskedIsOver};
+ghost use Rattle.tournament.specs.Theorem.{TruthfulStay, VerdictIsRight, FewDisputes, FewRounds};
+ghost use Rattle.tournament.specs.Journals.{OrderDoesNotMatter, RecordOfCase};
+ghost use Rattle.tournament.specs.SoFar.{RecordIsBracket};
 ghost use Rattle.tournament.specs.Length.{SpareIsEnough};
 ghost use Rattle.tournament.specs.Truthful.{TruthfulProversAreSafe};
 ghost use Rattle.tournament.specs.Asked.{AskedByTheCase, QuestionsStay};
 
 use bisect_game::bisection_laws;
 
-/// Truthful provers stay: whatever is settled in whatever order, a prover whose settled answers so far are all given and
-/// true is not put out, and in each of its disputes the agreed root and its own are the run's.
+/// Every list of posts, by anybody and with any contents, settles a list of answers of which each that was taken as given
+/// fits what was asked.
+pub fn posts_settle_what_fits()
+    ensures { PostsSettle }
+{
+    bisection_laws();
+}
+
+/// Truthful provers stay: whatever is posted in whatever order, a prover whose settled answers so far are all given and
+/// true is live once its claim is settled, no dispute has put it out, in each of its disputes the agreed root and its own are
+/// the run's, and each proof that it gave leads to its own root.
 pub fn truthful_provers_stay()
     ensures { TruthfulStay }
 {
@@ -32,7 +44,8 @@ pub fn truthful_provers_are_safe()
     bisection_laws();
 }
 
-/// Few rounds: m provers play at most m - 1 disputes, and a dispute has k bisection rounds with `2^k < 2N`.
+/// Few rounds: whatever is posted, m provers play at most m - 1 disputes, and a dispute has k bisection rounds with
+/// `2^k < 2N` and at most one proof round.
 pub fn a_match_has_few_disputes_and_rounds()
     ensures disputes { FewDisputes }
     ensures rounds { FewRounds }
@@ -53,6 +66,13 @@ pub fn order_does_not_matter()
 /// settled as.
 pub fn one_record_of_a_case()
     ensures { RecordOfCase }
+{
+    bisection_laws();
+}
+
+/// Whatever was posted, the record is the bracket over the answers that it holds: what is settled so far fixes it.
+pub fn a_record_is_the_bracket_over_its_answers()
+    ensures { RecordIsBracket }
 {
     bisection_laws();
 }
@@ -79,7 +99,7 @@ pub fn open_questions_stay()
     bisection_laws();
 }
 
-/// Where nobody has an open question, the match is over.
+/// Nobody has an open question exactly where the match is over, whatever was posted.
 pub fn nobody_asked_means_over()
     ensures { NobodyAskedIsOver }
 {

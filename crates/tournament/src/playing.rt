@@ -1,9 +1,16 @@
-ghost use Rattle.std.specs.Prelude.{◌≡◌, ◌+◌, ◌-◌, ◌<◌, ◌≤◌, ◌^◌, Some, None, IfOk, replicate, if◌then◌else◌};
+ghost use Rattle.std.specs.Prelude.{◌≡◌, ◌↔◌, ℕ, ◌+◌, ◌-◌, ◌<◌, ◌≤◌, ◌^◌, true, List, length, Some, None, IfOk, replicate, if◌then◌else◌};
+ghost use Rattle.bisect_game.specs.Truth.{Truth, IsRun};
 ghost use Rattle.tournament.specs.declared.setup.Setup.{Setup};
 ghost use Rattle.tournament.specs.Bracket.{open_question, is_complete, verdict_of};
 ghost use Rattle.tournament.specs.Moves.{passes_of, settled_by, moved, begun};
-ghost use Rattle.tournament.specs.Posting.{rules_of, answer_of, posted, reply_by, reply_to, passes_on};
+ghost use Rattle.tournament.specs.Posting.{rules_of, answer_of, posted, reply_by, reply_to, passes_on, Post, after_posts};
+ghost use Rattle.tournament.specs.Keeping.{IsMove};
+ghost use Rattle.tournament.specs.Theorem.{AreTrue, Stays, IsRightVerdict, AllShort};
 
+use crate::laws::{
+    a_match_has_few_disputes_and_rounds, nobody_asked_means_over, the_verdict_is_right,
+    truthful_provers_stay,
+};
 use crate::posting::{Move, Reply, judged, reply_by, same_qid};
 use crate::record::Record;
 use crate::setup::Setup;
@@ -129,6 +136,7 @@ impl<J: Judge + Drop> Match<J> {
         requires some { 0 < p }
         requires few { p ≤ self.old.1.provers }
         requires room { passes_of self.old.2 p + 1 < 2 ^ 32 }
+        requires moves { IsMove (rules_of (J.ruling self.old.0) self.old.1) self.old.2 p None }
         ensures names { self.new.0 ≡ self.old.0 }
         ensures setup { self.new.1 ≡ self.old.1 }
         ensures state { self.new.2 ≡ moved (rules_of (J.ruling self.old.0) self.old.1) self.old.2 p None }
@@ -140,6 +148,7 @@ impl<J: Judge + Drop> Match<J> {
     fn settle(&mut self, p: u32, settled: Settled)
         requires some { 0 < p }
         requires few { p ≤ self.old.1.provers }
+        requires moves { IsMove (rules_of (J.ruling self.old.0) self.old.1) self.old.2 p (Some settled) }
         ensures names { self.new.0 ≡ self.old.0 }
         ensures setup { self.new.1 ≡ self.old.1 }
         ensures state { self.new.2 ≡ moved (rules_of (J.ruling self.old.0) self.old.1) self.old.2 p (Some settled) }
@@ -159,6 +168,7 @@ impl<J: Judge + Drop> Match<J> {
     fn take(&mut self, p: u32, question: Question, turn: Move) -> Reply
         requires some { 0 < p }
         requires few { p ≤ self.old.1.provers }
+        requires asked { open_question (rules_of (J.ruling self.old.0) self.old.1) self.old.2.record_ p ≡ Some question }
         ensures names { self.new.0 ≡ self.old.0 }
         ensures setup { self.new.1 ≡ self.old.1 }
         ensures state { let rules = rules_of (J.ruling self.old.0) self.old.1 in self.new.2 ≡ moved rules self.old.2 p (settled_by rules question (passes_of self.old.2 p) (answer_of turn)) }
@@ -203,6 +213,42 @@ impl<J: Judge + Drop> Match<J> {
             return Reply::Stale(Some(question.qid));
         }
         self.take(p, question, turn)
+    }
+
+    /// Its state is that after some posts: the laws over lists of posts hold of it.
+    pub fn is_after_posts(&self)
+        ensures { (xs : List Post) × (after_posts (rules_of (J.ruling self.now.0) self.now.1) xs (begun (rules_of (J.ruling self.now.0) self.now.1)) ≡ self.now.2) }
+    {
+        let _ = &self.live;
+    }
+
+    /// The dispute theorem, whoever posted what: a prover whose settled answers so far are all given and true stays (`stay`),
+    /// and where there is one the verdict of a match that is over is right (`verdict`).
+    pub fn keeps_true_provers(&self)
+        ensures stay { let rules = rules_of (J.ruling self.now.0) self.now.1 in (t : Truth) (p : ℕ) → IsRun rules t → 0 < p → AreTrue rules t p self.now.2.record_ → Stays rules t p self.now.2.record_ }
+        ensures verdict { let rules = rules_of (J.ruling self.now.0) self.now.1 in (t : Truth) (p : ℕ) → IsRun rules t → 0 < p → AreTrue rules t p self.now.2.record_ → is_complete self.now.2.record_ ≡ true → IsRightVerdict rules t self.now.2.record_ (verdict_of rules self.now.2.record_) }
+    {
+        truthful_provers_stay();
+        the_verdict_is_right();
+        let _ = &self.live;
+    }
+
+    /// Few rounds: fewer disputes than provers, and in each k bisection rounds with `2^k < 2N` for the bound N and at most one
+    /// proof round.
+    pub fn has_few_disputes_and_rounds(&self)
+        ensures disputes { length self.now.2.record_.disputes < self.now.1.provers }
+        ensures rounds { AllShort (rules_of (J.ruling self.now.0) self.now.1) self.now.2.record_.disputes }
+    {
+        a_match_has_few_disputes_and_rounds();
+        let _ = &self.live;
+    }
+
+    /// Nobody is asked exactly where it is over.
+    pub fn asks_nobody_once_over(&self)
+        ensures { let rules = rules_of (J.ruling self.now.0) self.now.1 in ((p : ℕ) → 0 < p → p ≤ rules.provers → open_question rules self.now.2.record_ p ≡ None) ↔ (is_complete self.now.2.record_ ≡ true) }
+    {
+        nobody_asked_means_over();
+        let _ = &self.live;
     }
 
     /// What is settled so far.

@@ -8,7 +8,9 @@ use rd_base::{Answer, Qid};
 /// What a prover does about its open question.
 #[derive(Debug, Drop)]
 pub enum Move {
+    /// It passes: it has no answer yet.
     Pass,
+    /// It answers.
     Give(Answer),
 }
 

@@ -53,6 +53,18 @@ marks-same true m n e none = by-test (m == n) refl none
     by-test false t none = absurd (cc)
 marks-same false m n e none = absurd (cc)
 
+no-marks : (same : Bool) (m n : ℕ) → (same ≡ true → ⊥) → (if same && not (m == n) then Some collision else None) ≡ None
+no-marks true m n apart = absurd (apart refl)
+no-marks false m n apart = refl
+
+same-marks : (same : Bool) (n : ℕ) → (if same && not (n == n) then Some collision else None) ≡ None
+same-marks true n = by-test (n == n) refl
+  where
+    by-test : (t : Bool) → (n == n) ≡ t → (if not t then Some collision else None) ≡ None
+    by-test true e = refl
+    by-test false e = absurd (grind (arith, nat_tests))
+same-marks false n = refl
+
 one-pair : (r : Ruling) (b : Bool) (p : List ℕ × List ℕ) → (if b then Some collision else None) ≡ Some p → p ≡ collision
 one-pair r true p e = let same : Some collision ≡ Some p = e in cc
 one-pair r false p e = absurd (cc)
@@ -86,6 +98,8 @@ toy_is_fair n = record {
   claims_collide = λ x y sx sy same none.
       let marks : x.ctl.pc ≡ y.ctl.pc = marks-same (same_digest x.mem y.mem) x.ctl.pc y.ctl.pc (same-digests x.mem y.mem same) none in
       plain-is x sx ∙ (ap (λ (m : Digest32). claim_of m x.ctl.pc) same ∙ (ap (claim_of y.mem) marks ∙ sym (plain-is y sy)));
+  claims_apart = λ x y apart. no-marks (same_digest x.mem y.mem) x.ctl.pc y.ctl.pc (λ same. apart (same-is x.mem y.mem same));
+  claims_equal = λ x. same-marks (same_digest x.mem x.mem) x.ctl.pc;
   claim_collisions = λ x y p e. rw (one-pair (toy_ruling n) (same_digest x.mem y.mem && not (x.ctl.pc == y.ctl.pc)) p e) (collides n);
   steps_collide = λ from x y b c ex ey differ. steps-by n from x y b c (x.ctl.pc == y.ctl.pc) refl ex ey differ;
   step_collisions = λ from x y p e. rw (other-pair (x.ctl.pc == y.ctl.pc) p e) (collides n);

@@ -81,6 +81,7 @@ pub(crate) fn passes_now(player: &Player, question: &Question, passes: u32) -> b
 /// The players of a match, by number.
 #[derive(Clone, Copy, Debug)]
 pub struct Cast {
+    /// The players; prover 1 is the first.
     pub players: [Player; 16],
     /// How many of them play.
     pub count: u32,
@@ -110,7 +111,9 @@ impl Provers for Cast {
 /// One player at the table.
 #[derive(Clone, Copy, Debug)]
 pub struct Seated {
+    /// Who sits there.
     pub player: Player,
+    /// Where its answers take their memory.
     pub alloc: Global,
 }
 

@@ -1,4 +1,4 @@
-use Rattle.merkle_nodes.proofs.OpeningLemmas.{opens-climbs, climbs-opens}
+use Rattle.merkle_nodes.specs.PathLaws.{opens-climbs, climbs-opens}
 use Rattle.merkle_nodes.proofs.laws.climbing_is_opening.Goals as goal
 
 pub returns : goal.returns

@@ -1,4 +1,4 @@
-use Rattle.merkle_nodes.proofs.SplitLemmas.{one_opening}
+use Rattle.merkle_nodes.specs.PathLaws.{one_opening}
 use Rattle.merkle_nodes.proofs.laws.two_paths_agree_or_split.Goals as goal
 
 pub returns : goal.returns

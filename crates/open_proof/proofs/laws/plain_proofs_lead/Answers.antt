@@ -15,8 +15,6 @@ returns c = λ digest s a b valid.
       more = c.chain_grows.ensures.more;
     } in
     let laws : PathLaws = record {
-      climbs = c.climbing_is_opening.ensures.climbs;
-      paths = c.two_paths_agree_or_split.ensures.paths;
       nodes = c.memory_nodes.ensures.climbs;
       strings = c.paths_open_strings_of_the_state.ensures.strings;
     } in

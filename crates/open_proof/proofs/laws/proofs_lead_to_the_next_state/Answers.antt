@@ -1,6 +1,6 @@
 use Rattle.open_proof.proofs.HeldLemmas.{StepLaws}
 use Rattle.open_proof.proofs.ShownLemmas.{PathLaws}
-use Rattle.open_proof.proofs.RangeLemmas.{range-of}
+use Rattle.open_proof.specs.RangeLaws.{range-of}
 use Rattle.open_proof.proofs.StateLemmas.{leads-or-found}
 use Rattle.open_proof.proofs.laws.proofs_lead_to_the_next_state.Goals as goal
 
@@ -16,8 +16,6 @@ returns c = λ digest is_digest proof s a b range.
       more = c.chain_grows.ensures.more;
     } in
     let laws : PathLaws = record {
-      climbs = c.climbing_is_opening.ensures.climbs;
-      paths = c.two_paths_agree_or_split.ensures.paths;
       nodes = c.memory_nodes.ensures.climbs;
       strings = c.paths_open_strings_of_the_state.ensures.strings;
     } in

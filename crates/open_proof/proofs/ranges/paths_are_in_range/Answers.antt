@@ -1,5 +1,5 @@
 use Rattle.std.proofs.Common.{◌<◌, arith}
-use Rattle.open_proof.proofs.RangeLemmas.{digests_are}
+use Rattle.open_proof.specs.RangeLaws.{digests_are}
 use Rattle.open_proof.proofs.ranges.paths_are_in_range.Goals as goal
 
 pub returns-clause-digests : goal.returns-clause-digests

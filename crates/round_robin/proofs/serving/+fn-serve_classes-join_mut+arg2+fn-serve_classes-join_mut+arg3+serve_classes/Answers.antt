@@ -40,20 +40,14 @@ join_mut-requires-after_bounds g t c κs within =
               (
                 λ a e. e,
                 (
-                  λ a e. e,
                   (
-                    λ a e. e,
-                    (
-                      (
-                        search rules,
-                        (ready.0, All-take may half workers left by_half.front by_half.front_len (omega arith) ready.1, said_near meaning ready.0 items near numbers place from ready.2 by_place.front near_long (omega arith)),
-                        c.requires.few.0,
-                        omega arith,
-                        suits-near class classes numbers from (length items) half place c.class.result workers left block middle suits by_half.front by_half.front_len (omega arith) block_is (omega arith) mid cut.below (length near) near_long,
-                      ),
-                      (search rules, search rules, search rules, search rules),
-                    ),
+                    search rules,
+                    (ready.0, All-take may half workers left by_half.front by_half.front_len (omega arith) ready.1, said_near meaning ready.0 items near numbers place from ready.2 by_place.front near_long (omega arith)),
+                    c.requires.few.0,
+                    omega arith,
+                    suits-near class classes numbers from (length items) half place c.class.result workers left block middle suits by_half.front by_half.front_len (omega arith) block_is (omega arith) mid cut.below (length near) near_long,
                   ),
+                  (search rules, search rules, search rules, search rules),
                 ),
               ),
             ),
@@ -71,20 +65,14 @@ join_mut-requires-after_bounds g t c κs within =
               (
                 λ a e. e,
                 (
-                  λ a e. e,
                   (
-                    λ a e. e,
-                    (
-                      (
-                        search rules,
-                        (ready.0, All-drop may half workers right by_half.back by_half.back_len ready.1, said_far meaning ready.0 items far numbers place from _ ready.2 by_place.back far_long refl),
-                        c.requires.few.0,
-                        omega arith,
-                        suits-far class classes numbers from (length items) half place c.class.result workers right block middle suits by_half.back by_half.back_len (omega arith) block_is block_long few mid cut.at _ (length far) refl far_long,
-                      ),
-                      (search rules, search rules, search rules, search rules),
-                    ),
+                    search rules,
+                    (ready.0, All-drop may half workers right by_half.back by_half.back_len ready.1, said_far meaning ready.0 items far numbers place from _ ready.2 by_place.back far_long refl),
+                    c.requires.few.0,
+                    omega arith,
+                    suits-far class classes numbers from (length items) half place c.class.result workers right block middle suits by_half.back by_half.back_len (omega arith) block_is block_long few mid cut.at _ (length far) refl far_long,
                   ),
+                  (search rules, search rules, search rules, search rules),
                 ),
               ),
             ),

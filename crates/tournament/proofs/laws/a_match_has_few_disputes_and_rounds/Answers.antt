@@ -1,6 +1,5 @@
-use Rattle.tournament.proofs.CountLemmas.{few_disputes}
-use Rattle.tournament.proofs.FewLemmas as few
+use Rattle.tournament.proofs.TheoremLemmas as lemmas
 use Rattle.tournament.proofs.laws.a_match_has_few_disputes_and_rounds.Goals as goal
 
 pub returns : goal.returns
-returns c = record { disputes = few_disputes; rounds = few.few_rounds c.bisection_laws.ensures }
+returns c = record { disputes = lemmas.few_disputes_of_posts; rounds = lemmas.few_rounds_of_posts c.bisection_laws.ensures }

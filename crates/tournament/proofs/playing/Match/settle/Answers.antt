@@ -1,7 +1,7 @@
 use Rattle.std.proofs.Common.{ap, ◌-◌, slice_set}
 use Rattle.tournament.specs.Moves.{State}
 use Rattle.tournament.specs.Bracket.{Record}
-use Rattle.tournament.proofs.PostedLemmas.{put-few, match-settled, settled-record, count-length}
+use Rattle.tournament.proofs.PostedLemmas.{put-few, match-settled, settled-record}
 use Rattle.tournament.proofs.playing.Match.settle.Goals as goal
 
 pub open_due-requires-clause-few : goal.open_due-requires-clause-few
@@ -10,8 +10,8 @@ open_due-requires-clause-few g c =
 
 pub invariant_of-self : goal.invariant_of-self
 invariant_of-self g c =
-    match-settled (g.J.Judge.ruling (g.J.Judge.names c.self.inside.judge)) c.self.inside.sheet c.put.new.self c.open_due.new.self c.self.inside.passed.items _ _ _ c.args.p c.args.settled c.self.invariant c.put.ensures.table c.put.ensures.record_
-    c.open_due.ensures.table c.open_due.ensures.record_ (count-length c.self.inside.passed.items (c.args.p - 1) 0) c.open_due.ensures.capacity
+    match-settled (g.J.Judge.ruling (g.J.Judge.names c.self.inside.judge)) c.self.inside.sheet c.put.new.self c.open_due.new.self c.self.inside.passed.items _ _ c.args.p c.args.settled c.requires.some (rw (← c.self.view_is) at c.requires.moves) c.self.invariant c.put.ensures.table c.put.ensures.record_
+    c.open_due.ensures.table c.open_due.ensures.record_ c.open_due.ensures.capacity
 
 pub returns-clause-state : goal.returns-clause-state
 returns-clause-state g c =

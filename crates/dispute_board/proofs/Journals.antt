@@ -1,0 +1,51 @@
+-- Journals and their logs.
+use Rattle.std.proofs.Common.{◌≡◌, ℕ, ◌==◌, if◌then◌else◌, Bool, true, false, List, [], ◌∷◌, ◌++◌, length, map, Option, Some, None, refl, sym, ap, ap₂, ◌∙◌}
+use Rattle.rd_base.specs.declared.answer.Qid.{Qid}
+use Rattle.tournament.specs.declared.posting.Reply.{Reply}
+use Rattle.tournament.specs.declared.posting.Reply.TheVariants.{Taken, Faulty, Spent, Stale}
+use Rattle.board_book.specs.declared.entry.Entry.{Entry}
+use Rattle.dispute_board.specs.Logs.{number_of_pass, numbers_of_reply, numbers_of, log_of_journal, LogsTellJournals}
+
+-- the reply that was written
+abbrev open_of : List ℕ → Reply
+open_of (d ∷ r ∷ rest) = Stale (Some (record { dispute = d; round = r }))
+open_of _ = Stale None
+
+abbrev reply_of : List ℕ → Reply
+reply_of [] = Stale None
+reply_of (n ∷ rest) = if n == 0 then Taken else if n == 1 then Faulty else if n == 2 then Spent else if n == 4 then open_of rest else Stale None
+
+reply-back : (r : Reply) → reply_of (numbers_of_reply r) ≡ r
+reply-back Taken = refl
+reply-back Faulty = refl
+reply-back Spent = refl
+reply-back (Stale None) = refl
+reply-back (Stale (Some q)) = refl
+
+abbrev pass_of : ℕ → Bool
+pass_of n = n == 1
+
+pass-back : (b : Bool) → pass_of (number_of_pass b) ≡ b
+pass-back true = refl
+pass-back false = refl
+
+abbrev entry_of : Entry → List ℕ → Entry
+entry_of d (p ∷ dispute ∷ round ∷ pass ∷ reply) = record { p = p; qid = record { dispute = dispute; round = round }; pass = pass_of pass; reply = reply_of reply }
+entry_of d _ = d
+
+entry-back : (d e : Entry) → entry_of d (numbers_of e) ≡ e
+entry-back d e = ap₂ (λ (b : Bool) (r : Reply). record { p = e.p; qid = e.qid; pass = b; reply = r }) (pass-back e.pass) (reply-back e.reply)
+
+abbrev entries_of : Entry → List (List ℕ) → List Entry
+entries_of d [] = []
+entries_of d (x ∷ xs) = entry_of d x ∷ entries_of d xs
+
+journal-back : (d : Entry) (es : List Entry) → entries_of d (log_of_journal es) ≡ es
+journal-back d [] = refl
+journal-back d (e ∷ es) = ap₂ (λ (x : Entry) (xs : List Entry). x ∷ xs) (entry-back d e) (journal-back d es)
+
+abbrev nobody : Entry
+nobody = record { p = 0; qid = record { dispute = 0; round = 0 }; pass = false; reply = Taken }
+
+pub logs_tell : LogsTellJournals
+logs_tell es fs e = sym (journal-back nobody es) ∙ ap (entries_of nobody) e ∙ journal-back nobody fs

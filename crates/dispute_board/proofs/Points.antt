@@ -1,0 +1,177 @@
+-- What is asked and answered at a point of the journal.
+use Rattle.std.proofs.Common.{◌≡◌, ◌≢◌, ◌⊎◌, inl, inr, ℕ, ◌+◌, ◌<◌, ◌==◌, Bool, true, false, not, ◌&&◌, if◌then◌else◌, List, [], ◌∷◌, ◌++◌, length, map, Option, Some, None, is_none, refl, sym, ap, ap₂, ◌∙◌, subst, arith, All}
+use Rattle.std.proofs.lemmas.Bool.Decides.{nat_tests}
+use Rattle.std.proofs.lemmas.List.{length-map}
+use mathlib.Core.List.{map-append}
+use Rattle.rd_base.specs.declared.answer.Answer.{Answer}
+use Rattle.rd_base.specs.declared.answer.Qid.{Qid}
+use Rattle.bisect_game.specs.declared.question.Question.{Question}
+use Rattle.bisect_game.specs.Says.{Says}
+use Rattle.bisect_game.specs.Rules.{Rules}
+use Rattle.tournament.specs.declared.posting.Reply.{Reply}
+use Rattle.tournament.specs.declared.posting.Reply.TheVariants.{Stale}
+use Rattle.tournament.specs.Bracket.{open_question, is_complete}
+use Rattle.tournament.specs.Moves.{State, begun, passes_of, settled_by}
+use Rattle.tournament.specs.Posting.{same_qid, reply_by, reply_on, reply_to}
+use Rattle.board_book.specs.declared.entry.Entry.{Entry}
+use Rattle.board_book.specs.declared.entry.Ask.{Ask}
+use Rattle.board_book.specs.declared.entry.Ask.TheVariants as ask
+use Rattle.board_book.specs.Entries.{IsJournal, state_of, is_stale, noted}
+use Rattle.board_book.specs.Asking.{ask_on}
+use Rattle.seat_lock.specs.History.{Turn, Begins, log_of, with_receipt, GrowsByAtMostOne}
+use Rattle.seat_lock.specs.Seats.{Known}
+use Rattle.seat_lock.specs.Turned.{Turned}
+use Rattle.dispute_board.specs.declared.turns.Posted.{Posted}
+use Rattle.dispute_board.specs.Logs.{numbers_of, log_of_journal, with_entry, turn_of}
+use Rattle.dispute_board.specs.Replies.{ask_in, IsOfTheCase, IsMoveOn, MayPost, is_due, reply_on_board, reply_in, IsReply}
+use Rattle.dispute_board.specs.OneHistory.{Stands, AsksOnBoard, PostsOnBoard, entry_unless_stale, receipt_of}
+use Rattle.dispute_board.specs.Turns.{undue, AsksTheCase, Asks, Posts}
+
+some≢none : {A : Type 0} (a : A) → Some a ≡ None → ⊥
+some≢none a e = absurd (cc)
+
+some_is : {A : Type 0} (a b : A) → Some a ≡ Some b → a ≡ b
+some_is {A} a b e = ap (λ (o : Option A). elim o [ None ↦ a | Some x ↦ x ]) e
+
+-- what an answer of the board tells of the open question
+
+abbrev question_of : Ask → Option Question
+question_of (ask.Question q n) = Some q
+question_of ask.Nothing = None
+question_of ask.Over = None
+
+none_told : (b : Bool) → question_of (if b then ask.Over else ask.Nothing) ≡ None
+none_told true = refl
+none_told false = refl
+
+question_told : (st : State) (p : ℕ) (o : Option Question) → question_of (ask_on st p o) ≡ o
+question_told st p (Some q) = refl
+question_told st p None = none_told (is_complete st.record_)
+
+pub open_is : (st : State) (p : ℕ) (o : Option Question) (q : Question) (n : ℕ) → ask_on st p o ≡ ask.Question q n → o ≡ Some q
+open_is st p o q n e = sym (question_told st p o) ∙ ap question_of e
+
+-- a move that is due
+
+is-eq : (m n : ℕ) → (m == n) ≡ true → m ≡ n
+is-eq m n e = grind (arith, nat_tests)
+
+alike : (a b : Bool) → (if a then b else not b) ≡ true → b ≡ a
+alike true b e = e
+alike false true e = absurd (cc)
+alike false false e = refl
+
+alike-back : (a b : Bool) → b ≡ a → (if a then b else not b) ≡ true
+alike-back true b e = e
+alike-back false true e = absurd (cc)
+alike-back false false e = refl
+
+pub due_says : (says : Says) (st : State) (p : ℕ) (after : Option ℕ) (m : Option Answer) (q : Question) → is_due says st p after m q ≡ true → IsMoveOn says p q after m → m ≡ says p q (passes_of st p)
+due_says says st p (Some n) m q due on = on ∙ ap (says p q) (is-eq n (passes_of st p) due)
+due_says says st p None m q due on = on (passes_of st p) (alike (is_none m) (is_none (says p q (passes_of st p))) due)
+
+both : (a b : Bool) → (a && b) ≡ true → (a ≡ true) × (b ≡ true)
+both true b e = (refl, e)
+both false b e = absurd (cc)
+
+pub same_qid-is : (a b : Qid) → same_qid a b ≡ true → a ≡ b
+same_qid-is a b e =
+    let two : ((a.dispute == b.dispute) ≡ true) × ((a.round == b.round) ≡ true) = both _ _ e in
+    let d : a.dispute ≡ b.dispute = is-eq a.dispute b.dispute two.0 in
+    let n : a.round ≡ b.round = is-eq a.round b.round two.1 in
+    rw (d, n) refl
+
+-- the reply in the provers' own words
+
+other_if : (b : Bool) (r : Reply) (qid : Qid) → (b ≡ true → ⊥) → (if b then r else Stale (Some qid)) ≡ Stale (Some qid)
+other_if true r qid never = absurd (never refl)
+other_if false r qid _ = refl
+
+unsaid_if : (b : Bool) (r : Reply) (qid : Qid) → (b ≡ true → r ≡ Stale (Some qid)) → (if b then r else Stale (Some qid)) ≡ Stale (Some qid)
+unsaid_if true r qid f = f refl
+unsaid_if false r qid _ = refl
+
+pub is_reply : (rules : Rules) (says : Says) (st : State) (p : ℕ) (qid : Qid) (m : Option Answer) (r : Reply) → MayPost rules says p qid None m → AsksTheCase rules says st p → r ≡ reply_in rules says st p qid None m → IsReply rules says st p qid m r
+is_reply rules says st p qid m r may case is = record {
+  said = λ q shown say. is ∙ ap (reply_on_board rules says st p qid None m) shown
+      ∙ ap (λ (b : Bool). if b then reply_to rules st p qid m else Stale (Some q.qid)) (alike-back (is_none m) (is_none (says p q (passes_of st p))) (ap is_none (sym say)));
+  unsaid = λ q shown never. is ∙ ap (reply_on_board rules says st p qid None m) shown
+      ∙ unsaid_if (is_due says st p None m q) (reply_to rules st p qid m) q.qid (λ due. ap (reply_on rules st p qid m) shown
+      ∙ other_if (same_qid q.qid qid) (reply_by (settled_by rules q (passes_of st p) m)) q.qid (λ same. never (due_says says st p None m q due (may q (same_qid-is q.qid qid same) (case q shown)))));
+  unasked = λ shown. is ∙ ap (reply_on_board rules says st p qid None m) shown;
+}
+
+-- entries that are added
+
+noted_if : (b : Bool) (es : List Entry) (e : Entry) → with_entry es (if b then None else Some e) ≡ (if b then es else es ++ e ∷ [])
+noted_if true es e = refl
+noted_if false es e = refl
+
+pub noted_is : (es : List Entry) (e : Entry) → with_entry es (entry_unless_stale e) ≡ noted es e
+noted_is es e = noted_if (is_stale e.reply) es e
+
+pub log_with : (es : List Entry) (e : Entry) → log_of_journal (es ++ e ∷ []) ≡ log_of_journal es ++ numbers_of e ∷ []
+log_with es e = map-append numbers_of es (e ∷ [])
+
+-- a turn of a seat, where it stands
+
+module _ {T H : Type 0} (head : T → H) (log : T → List (List ℕ)) where
+  pub stands : (rules : Rules) (says : Says) (before after : Known H) (x y : T) (es left : List Entry) (added : Option Entry) → Turned {T = T} head log before x y after → log x ≡ log_of_journal es → log y ≡ log_of_journal left → left ≡ with_entry es added →
+      IsJournal rules says es (begun rules) → IsJournal rules says left (begun rules) → Stands rules says before es added after
+  stands rules says before after x y es left added t ex ey is legal legal_after =
+      let long : length (log x) ≡ length es = ap length ex ∙ length-map es numbers_of in
+      let turn : t.turn ≡ turn_of added = which added (ey ∙ ap log_of_journal is) in
+      record {
+        legal = legal;
+        legal_after = subst (λ l. IsJournal rules says l (begun rules)) is legal_after;
+        saw = subst (λ l. Begins (log_of before.seen) l) ex t.saw_log;
+        saw_joined = subst (λ l. All (λ seen. Begins (log_of seen) l) before.joined) ex t.saw_joined_logs;
+        sees = ap log_of t.sees ∙ sym t.log_left ∙ ey ∙ ap log_of_journal is;
+        none_joined = t.none_joined;
+        same = t.same;
+        receipts = t.receipts ∙ ap₂ (λ (u : Turn) (n : ℕ). with_receipt u n before.receipts) turn long;
+        later = subst (λ (n : ℕ). All (λ place. place < n) before.receipts) long t.later;
+        none_twice = t.none_twice;
+      }
+    where
+      which : (added : Option Entry) → log y ≡ log_of_journal (with_entry es added) → t.turn ≡ turn_of added
+      which None e = t.idle (e ∙ sym ex)
+      which (Some a) e = t.adds (numbers_of a) (e ∙ log_with es a ∙ ap (λ l. l ++ numbers_of a ∷ []) (sym ex))
+
+-- what a turn did to the book, where it stands
+
+module _ {T H : Type 0} (head : T → H) (log : T → List (List ℕ)) (journal : T → List Entry) (logged : (t : T) → log t ≡ log_of_journal (journal t)) where
+  pub asks_on_board : (rules : Rules) (says : Says) (before after : Known H) (x y : T) (p : ℕ) (a : Ask) → Turned {T = T} head log before x y after → y ≡ x → Asks rules says (journal x) p a → AsksOnBoard rules says before p a after
+  asks_on_board rules says before after x y p a t same asks =
+      let st : State = state_of rules says (journal x) in
+      record {
+        journal = journal x;
+        stands = stands head log rules says before after x y (journal x) (journal y) None t (logged x) (logged y) (ap journal same) asks.legal (subst (λ l. IsJournal rules says l (begun rules)) (sym (ap journal same)) asks.legal);
+        answer = asks.answer;
+        asked = λ q n is. asks.asked q (open_is st p (open_question rules st.record_ p) q n (sym asks.answer ∙ is));
+      }
+
+  pub posts_on_board : (rules : Rules) (says : Says) (before after : Known H) (x y : T) (p : ℕ) (qid : Qid) (passes : Option ℕ) (m : Option Answer) (posted : Posted) → Turned {T = T} head log before x y after →
+      Posts rules says (journal x) p qid passes m posted (journal y) → PostsOnBoard rules says before p qid passes m posted after
+  posts_on_board rules says before after x y p qid passes m posted t posts =
+      let e : Entry = record { p = p; qid = qid; pass = is_none m; reply = posted.reply } in
+      record {
+        journal = journal x;
+        stands = stands head log rules says before after x y (journal x) (journal y) (entry_unless_stale e) t (logged x) (logged y) (posts.notes ∙ sym (noted_is (journal x) e)) posts.legal posts.legal_after;
+        reply = posts.reply;
+        receipt = posts.receipt;
+      }
+
+  pub posts_and_replies : (rules : Rules) (says : Says) (before after : Known H) (x y : T) (p : ℕ) (qid : Qid) (m : Option Answer) (posted : Posted) → Turned {T = T} head log before x y after →
+      Posts rules says (journal x) p qid None m posted (journal y) → MayPost rules says p qid None m →
+      (here : PostsOnBoard rules says before p qid None m posted after) × IsReply rules says (state_of rules says here.journal) p qid m posted.reply
+  posts_and_replies rules says before after x y p qid m posted t posts may =
+      let e : Entry = record { p = p; qid = qid; pass = is_none m; reply = posted.reply } in (
+        record {
+          journal = journal x;
+          stands = stands head log rules says before after x y (journal x) (journal y) (entry_unless_stale e) t (logged x) (logged y) (posts.notes ∙ sym (noted_is (journal x) e)) posts.legal posts.legal_after;
+          reply = posts.reply;
+          receipt = posts.receipt;
+        },
+        is_reply rules says (state_of rules says (journal x)) p qid m posted.reply may posts.asked posts.reply,
+      )

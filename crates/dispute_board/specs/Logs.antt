@@ -1,0 +1,38 @@
+-- To believe: the journal of a book as the log of a lock. An entry is written as plain numbers, each entry as other ones.
+use Rattle.std.specs.Prelude.{◌≡◌, ℕ, Bool, true, false, List, [], ◌∷◌, ◌++◌, map, Option, Some, None}
+use Rattle.tournament.specs.declared.posting.Reply.{Reply}
+use Rattle.tournament.specs.declared.posting.Reply.TheVariants.{Taken, Faulty, Spent, Stale}
+use Rattle.board_book.specs.declared.entry.Entry.{Entry}
+use Rattle.seat_lock.specs.History.{Turn}
+
+abbrev pub number_of_pass : Bool → ℕ
+number_of_pass true = 1
+number_of_pass false = 0
+
+abbrev pub numbers_of_reply : Reply → List ℕ
+numbers_of_reply Taken = 0 ∷ []
+numbers_of_reply Faulty = 1 ∷ []
+numbers_of_reply Spent = 2 ∷ []
+numbers_of_reply (Stale None) = 3 ∷ []
+numbers_of_reply (Stale (Some qid)) = 4 ∷ qid.dispute ∷ qid.round ∷ []
+
+-- prover, number of the question, pass or answer, reply
+abbrev pub numbers_of : Entry → List ℕ
+numbers_of e = e.p ∷ e.qid.dispute ∷ e.qid.round ∷ number_of_pass e.pass ∷ numbers_of_reply e.reply
+
+abbrev pub log_of_journal : List Entry → List (List ℕ)
+log_of_journal = map numbers_of
+
+-- a journal after a turn that adds this entry, or none
+abbrev pub with_entry : List Entry → Option Entry → List Entry
+with_entry journal (Some e) = journal ++ e ∷ []
+with_entry journal None = journal
+
+-- the turn of the lock that adds it
+abbrev pub turn_of : Option Entry → Turn
+turn_of (Some e) = Some (numbers_of e)
+turn_of None = None
+
+-- different journals have different logs
+abbrev pub LogsTellJournals : Type 0
+LogsTellJournals = (es fs : List Entry) → log_of_journal es ≡ log_of_journal fs → es ≡ fs

@@ -1,0 +1,161 @@
+//! The board and its seats.
+ghost use Rattle.std.specs.Prelude.{◌≡◌, ◌+◌, ◌^◌, ◌<◌, ◌≤◌, Option, Some, None, IfOk};
+ghost use Rattle.std.specs.List.{All};
+ghost use Rattle.seat_lock.specs.History.{log_of, Begins};
+ghost use Rattle.seat_lock.specs.Seats.{first_seat, after_split, split_off, after_join};
+ghost use Rattle.tournament.specs.declared.setup.Setup.{Setup};
+ghost use Rattle.tournament.specs.Posting.{rules_of, answer_of};
+ghost use Rattle.board_book.specs.Entries.{state_of};
+ghost use Rattle.dispute_board.specs.Logs.{log_of_journal};
+ghost use Rattle.dispute_board.specs.Replies.{MayPost, IsReply};
+ghost use Rattle.dispute_board.specs.OneHistory.{AsksOnBoard, PostsOnBoard};
+
+use crate::turns::{Asking, Locked, Posted, Posting};
+use bisect_game::{Judge, Provers};
+use board_book::{Ask, Book};
+use rd_base::{Memory, Qid};
+use seat_lock::SeatLock;
+use std::alloc::Global;
+use std::marker::Model;
+use std::sync::Wait;
+use tournament::Move;
+
+/// A seat at a board, to ask and post with. It has no bytes. Contracts see the opening of the book (`head`), what the seat has seen
+/// of the journal, and the places of its own posts there (`receipts`).
+///
+/// A seat that is dropped stays out: the board can then only be dropped.
+pub type Seat<J, P> = seat_lock::Seat<Locked<J, P>>;
+
+/// A book under a lock, which threads share by reference. Contracts see which lock it is.
+#[derive(Drop)]
+pub struct Board<J: Judge + Drop, P: Provers + Drop> {
+    lock: SeatLock<Locked<J, P>>,
+}
+
+impl<J: Judge + Drop, P: Provers + Drop> Model for Board<J, P> {
+    ghost use Rattle.seat_lock.specs.Seats.{LockId};
+
+    ghost Value = { LockId };
+
+    ghost view = { λ board. board.lock };
+}
+
+impl<J: Judge + Drop, P: Provers + Drop> Board<J, P> {
+    /// A board over the book, and its first seat, which has seen the book's journal. An `Err` is out of memory; the book is then
+    /// dropped.
+    pub fn new(alloc: Global, book: Book<J, P>) -> Result<(Board<J, P>, Seat<J, P>), Memory>
+        ensures { IfOk result (λ made. made.1 ≡ first_seat made.0 book.0 (log_of_journal book.1)) }
+    {
+        let (lock, seat) = SeatLock::new(alloc, Locked { book })?;
+        Ok((Board { lock }, seat))
+    }
+
+    /// Asks in one turn what prover `p`, from 1 to their count, is asked. The answer is that of the book at that point of the
+    /// journal.
+    pub fn ask<R: Wait>(&self, rt: &R, seat: &mut Seat<J, P>, p: u32) -> Ask
+        requires lock { seat.old.lock ≡ self.now }
+        requires some { 0 < p }
+        requires few { (head : J.Names × P.Names × Setup) → seat.old.head ≡ Some head → p ≤ head.2.provers }
+        ensures { (head : J.Names × P.Names × Setup) × (seat.old.head ≡ Some head) × AsksOnBoard (rules_of (J.ruling head.0) head.2) (P.says head.1) seat.old p result seat.new }
+    {
+        self.lock.with_turn(rt, seat, Asking { p })
+    }
+
+    /// Posts in one turn a move of prover `p`, from 1 to their count, on the question of this number.
+    ///
+    /// Where the case asks the prover a question of that number, the move is what the prover says to it after every number of
+    /// passes after which it passes as the move does, or answers as the move does. The reply is that of the book where the
+    /// prover says this move after the passes that stand there, and else `Stale` with the open question, and nothing changes.
+    pub fn post<R: Wait>(
+        &self,
+        rt: &R,
+        seat: &mut Seat<J, P>,
+        p: u32,
+        qid: Qid,
+        turn: Move,
+    ) -> Posted
+        requires lock { seat.old.lock ≡ self.now }
+        requires some { 0 < p }
+        requires few { (head : J.Names × P.Names × Setup) → seat.old.head ≡ Some head → p ≤ head.2.provers }
+        requires may { (head : J.Names × P.Names × Setup) → seat.old.head ≡ Some head → MayPost (rules_of (J.ruling head.0) head.2) (P.says head.1) p qid None (answer_of turn) }
+        ensures { let m = answer_of turn in (head : J.Names × P.Names × Setup) × (seat.old.head ≡ Some head) × (let rules = rules_of (J.ruling head.0) head.2 in let says = P.says head.1 in (here : PostsOnBoard rules says seat.old p qid None m result seat.new) × IsReply rules says (state_of rules says here.journal) p qid m result.reply) }
+    {
+        self.lock.with_turn(
+            rt,
+            seat,
+            Posting {
+                p,
+                qid,
+                turn,
+                after: None,
+            },
+        )
+    }
+
+    /// Posts a move that prover `p` made after so many passes on the question of this number, as a poster does that was
+    /// asked before.
+    ///
+    /// The reply is that of the book where so many passes stand there, and else `Stale` with the open question, and nothing
+    /// changes.
+    pub fn post_after<R: Wait>(
+        &self,
+        rt: &R,
+        seat: &mut Seat<J, P>,
+        p: u32,
+        qid: Qid,
+        passes: u32,
+        turn: Move,
+    ) -> Posted
+        requires lock { seat.old.lock ≡ self.now }
+        requires some { 0 < p }
+        requires few { (head : J.Names × P.Names × Setup) → seat.old.head ≡ Some head → p ≤ head.2.provers }
+        requires may { (head : J.Names × P.Names × Setup) → seat.old.head ≡ Some head → MayPost (rules_of (J.ruling head.0) head.2) (P.says head.1) p qid (Some passes) (answer_of turn) }
+        ensures { (head : J.Names × P.Names × Setup) × (seat.old.head ≡ Some head) × PostsOnBoard (rules_of (J.ruling head.0) head.2) (P.says head.1) seat.old p qid (Some passes) (answer_of turn) result seat.new }
+    {
+        self.lock.with_turn(
+            rt,
+            seat,
+            Posting {
+                p,
+                qid,
+                turn,
+                after: Some(passes),
+            },
+        )
+    }
+
+    /// Splits a seat off the first one. It has seen the same and has no receipts. It takes no memory.
+    pub fn split(&self, seat: &mut Seat<J, P>) -> Seat<J, P>
+        requires lock { seat.old.lock ≡ self.now }
+        requires first { seat.old.number ≡ 0 }
+        requires few { seat.old.out + 2 < 2 ^ 64 }
+        ensures first { seat.new ≡ after_split seat.old }
+        ensures other { result ≡ split_off seat.old result.number }
+    {
+        self.lock.split(seat)
+    }
+
+    /// Joins a seat that was split off into the first one, which takes its receipts behind its own.
+    pub fn join(&self, seat: &mut Seat<J, P>, other: Seat<J, P>)
+        requires lock { (seat.old.lock ≡ self.now) × (other.lock ≡ self.now) }
+        requires first { seat.old.number ≡ 0 }
+        ensures { seat.new ≡ after_join seat.old other }
+    {
+        self.lock.join(seat, other);
+    }
+
+    /// The book, once every seat that was split off is joined in again. Its opening is that of the seat, and its journal begins with
+    /// all that was seen.
+    pub fn into_book(self, seat: Seat<J, P>) -> Book<J, P>
+        requires lock { seat.lock ≡ self }
+        requires first { seat.number ≡ 0 }
+        requires none_out { seat.out ≡ 0 }
+        ensures opening { seat.head ≡ Some result.0 }
+        ensures journal { Begins (log_of seat.seen) (log_of_journal result.1) }
+        ensures joined { All (λ seen. Begins (log_of seen) (log_of_journal result.1)) seat.joined }
+    {
+        let Board { lock } = self;
+        let Locked { book } = lock.close(seat);
+        book
+    }
+}

@@ -1,0 +1,209 @@
+//! What one poster does.
+ghost use Rattle.std.specs.Prelude.{◌≡◌, ℕ, ◌+◌, ◌<◌, ◌≤◌, Option, Some, map, length};
+ghost use Rattle.std.specs.Thread.{IsSync};
+ghost use Rattle.tournament.specs.declared.setup.Setup.{Setup};
+ghost use Rattle.tournament.specs.Posting.{answer_of};
+ghost use Rattle.posters.specs.Serving.{kept_of, IsSeatOf};
+
+use crate::gate::Gate;
+use bisect_game::{Answerer, Judge, Provers};
+use board_book::Ask;
+use dispute_board::{Board, Seat};
+use rd_base::Answer;
+use round_robin::Worker;
+use std::sync::Wait;
+use std::sync::atomic::{AtomicBool, Ordering};
+use std::thread;
+use std::thread::Threads;
+use tournament::Move;
+
+/// After so many turns in a row with nothing to do a poster ends.
+const MOST_IDLE_TURNS: u32 = 1_000_000;
+
+/// What the posters share.
+#[derive(Drop)]
+pub struct Hall<'g, J: Judge + Drop, P: Provers + Drop, G: Gate> {
+    pub board: Board<J, P>,
+    pub gate: &'g G,
+    /// How many provers there are.
+    pub provers: u32,
+    /// Whether a poster ended before the match was over. The others end then too.
+    pub ended_early: AtomicBool,
+}
+
+/// A poster: the class of its provers, and its seat.
+#[derive(Drop)]
+pub struct Poster<J: Judge + Drop, P: Provers + Drop> {
+    pub class: u32,
+    pub seat: Seat<J, P>,
+}
+
+/// What a turn of a poster came to.
+#[derive(Clone, Copy, Debug)]
+enum Turn {
+    /// The match is over.
+    Over,
+    /// A move was posted.
+    Posted,
+    /// The prover had nothing to do.
+    Idle,
+    /// The answerer found no memory.
+    OutOfMemory,
+}
+
+/// What a round of turns came to, one for each prover of the poster.
+#[derive(Clone, Copy, Debug)]
+enum Round {
+    /// The match is over.
+    Over,
+    /// It goes on; the last so many turns had nothing to do.
+    GoesOn(u32),
+    /// The answerer found no memory, or another poster ended early, or too many turns in a row had nothing to do.
+    EndsEarly,
+}
+
+// The move that gives this answer; a pass for none.
+fn move_of(answer: Option<Answer>) -> Move
+    ensures { answer_of result ≡ answer }
+{
+    match answer {
+        Some(answer) => Move::Give(answer),
+        None => Move::Pass,
+    }
+}
+
+// One turn for a prover: it is asked, and what it answers is posted. The answer is made between the two turns at the board.
+fn serve_prover<J: Judge + Drop, P: Provers + Drop, A: Answerer, G: Gate, R: Threads + Wait + Sync>(
+    rt: &R,
+    hall: &Hall<'_, J, P, G>,
+    seat: &mut Seat<J, P>,
+    p: u32,
+    answerer: &mut A,
+) -> Turn
+    requires sync { IsSync R.row }
+    requires seat { (head : J.Names × P.Names × Setup) × IsSeatOf hall.now.board head seat.old × (0 < p) × (p ≤ head.2.provers) × (A.answers answerer.old ≡ P.says head.1 p) }
+    ensures seat { kept_of seat.new ≡ kept_of seat.old }
+    ensures answerer { A.answers answerer.new ≡ A.answers answerer.old }
+{
+    match hall.board.ask(rt, seat, p) {
+        Ask::Over => Turn::Over,
+        Ask::Nothing => Turn::Idle,
+        Ask::Question(question, passes) => match answerer.answer(rt, &question, passes) {
+            Ok(answer) => {
+                hall.gate.before_post(p, question.qid);
+                hall.board
+                    .post_after(rt, seat, p, question.qid, passes, move_of(answer));
+                Turn::Posted
+            }
+            Err(_) => Turn::OutOfMemory,
+        },
+    }
+}
+
+// A turn for each prover of these numbers.
+fn serve_round<J: Judge + Drop, P: Provers + Drop, A: Answerer, G: Gate, R: Threads + Wait + Sync>(
+    rt: &R,
+    hall: &Hall<'_, J, P, G>,
+    seat: &mut Seat<J, P>,
+    numbers: &[u32],
+    answerers: &mut [A],
+    idle_before: u32,
+) -> Round
+    requires sync { IsSync R.row }
+    requires seat { (head : J.Names × P.Names × Setup) × IsSeatOf hall.now.board head seat.old × (hall.now.provers ≡ head.2.provers) × (map A.answers answerers.old ≡ map (λ n. P.says head.1 (n + 1)) numbers.now) }
+    ensures seat { kept_of seat.new ≡ kept_of seat.old }
+    ensures answerers { map A.answers answerers.new ≡ map A.answers answerers.old }
+{
+    let mut idle = idle_before;
+    let mut i = 0;
+    while i < numbers.len() {
+        if hall.ended_early.load(Ordering::SeqCst) || idle >= MOST_IDLE_TURNS {
+            return Round::EndsEarly;
+        }
+        if numbers[i] < hall.provers {
+            match serve_prover(rt, hall, seat, numbers[i] + 1, &mut answerers[i]) {
+                Turn::Over => return Round::Over,
+                Turn::Posted => idle = 0,
+                Turn::Idle => idle += 1,
+                Turn::OutOfMemory => return Round::EndsEarly,
+            }
+        }
+        i += 1;
+    }
+    Round::GoesOn(idle)
+}
+
+// Serves the provers of these numbers until the match is over, and says whether it is. A poster without provers has nothing to wait for.
+fn serve_all_rounds<
+    J: Judge + Drop,
+    P: Provers + Drop,
+    A: Answerer,
+    G: Gate,
+    R: Threads + Wait + Sync,
+>(
+    rt: &R,
+    hall: &Hall<'_, J, P, G>,
+    seat: &mut Seat<J, P>,
+    numbers: &[u32],
+    answerers: &mut [A],
+) -> bool
+    requires sync { IsSync R.row }
+    requires seat { (head : J.Names × P.Names × Setup) × IsSeatOf hall.now.board head seat.old × (hall.now.provers ≡ head.2.provers) × (map A.answers answerers.old ≡ map (λ n. P.says head.1 (n + 1)) numbers.now) }
+    ensures seat { kept_of seat.new ≡ kept_of seat.old }
+    ensures answerers { map A.answers answerers.new ≡ map A.answers answerers.old }
+{
+    if numbers.is_empty() {
+        return true;
+    }
+    let mut idle = 0;
+    for _ in rt.forever() {
+        match serve_round(rt, hall, seat, numbers, answerers, idle) {
+            Round::Over => return true,
+            Round::EndsEarly => return false,
+            Round::GoesOn(turns) => idle = turns,
+        }
+        if idle > 0 {
+            thread::yield_now();
+        }
+    }
+    unreachable!()
+}
+
+impl<'g, J: Judge + Drop, P: Provers + Drop, A: Answerer, G: Gate> Worker<Hall<'g, J, P, G>, A>
+    for Poster<J, P> {
+    ghost use Rattle.std.specs.Prelude.{◌≡◌, ℕ, ◌+◌, Option};
+    ghost use Rattle.rd_base.specs.declared.answer.Answer.{Answer};
+    ghost use Rattle.bisect_game.specs.declared.question.Question.{Question};
+    ghost use Rattle.tournament.specs.declared.setup.Setup.{Setup};
+    ghost use Rattle.seat_lock.specs.Seats.{Known};
+    ghost use Rattle.posters.specs.Serving.{kept_of, IsSeatOf};
+
+    ghost Kept = { Known (J.Names × P.Names × Setup) × ℕ };
+
+    ghost Meaning = { Question → ℕ → Option Answer };
+
+    ghost stays = { λ poster. (kept_of poster.seat, poster.class) };
+
+    ghost meaning = { A.answers };
+
+    ghost class_of = { λ kept. kept.1 };
+
+    ghost ready = { λ hall kept says. (head : J.Names × P.Names × Setup) × IsSeatOf hall.board head kept.0 × (hall.provers ≡ head.2.provers) × (says ≡ λ n. P.says head.1 (n + 1)) };
+
+    fn class(&self) -> u32 {
+        self.class
+    }
+
+    fn serve<R: Threads + Wait + Sync>(
+        &mut self,
+        rt: &R,
+        hall: &Hall<'g, J, P, G>,
+        _classes: u32,
+        numbers: &[u32],
+        answerers: &mut [A],
+    ) {
+        if !serve_all_rounds(rt, hall, &mut self.seat, numbers, answerers) {
+            hall.ended_early.store(true, Ordering::SeqCst);
+        }
+    }
+}

@@ -1,0 +1,59 @@
+-- A recorded run is a prover's, by its states and its bound.
+use Rattle.std.proofs.Common.{◌≡◌, ◌^◌, ◌≤◌, ◌<◌, ℕ, List, [], ◌∷◌, length, map, min, slice_index, slice_index_or, refl, sym, ap, ◌∙◌, arith}
+use Rattle.rd_base.specs.declared.digest.Digest32.{Digest32}
+use Rattle.rd_base.specs.declared.answer.Answer.TheVariants as answer
+use Rattle.rv_step.specs.State.{State}
+use Rattle.state_commit.specs.StateRoot.{state_root}
+use Rattle.checkpoint_run.specs.TamperedRun.{tampered, run_from}
+use Rattle.checkpoint_run.specs.Recorded.{Recorded, state_of_step}
+use Rattle.bisect_game.specs.declared.question.Kind.{Kind}
+use Rattle.bisect_game.specs.declared.question.Kind.TheVariants as kind
+use Rattle.segment_replay.specs.Roots.{root_at, digests}
+use Rattle.prover_run.specs.Growing.{OutputGrowsSlowly}
+use Rattle.prover_run.specs.Plain.{plain}
+use Rattle.prover_run.specs.Prover.{Prover, IsRunOf, run_of, root_of}
+
+-- as many roots as steps
+pub same_length : (root : ℕ → List ℕ) (steps : List ℕ) (roots : List Digest32) → digests roots ≡ map root steps → length steps ≡ length roots
+same_length root [] [] same = refl
+same_length root [] (r ∷ rs) same = absurd (cc)
+same_length root (x ∷ xs) [] same = absurd (cc)
+same_length root (x ∷ xs) (r ∷ rs) same = let rest = same_length root xs rs (cc) in omega arith
+
+-- the first of them
+pub first_root : (root : ℕ → List ℕ) (steps : List ℕ) (roots : List Digest32) (d : Digest32) → digests roots ≡ map root steps → 0 < length steps → (slice_index_or roots 0 d).0 ≡ root (slice_index steps 0)
+first_root root [] roots d same some = absurd (omega arith)
+first_root root (x ∷ xs) [] d same some = absurd (cc)
+first_root root (x ∷ xs) (r ∷ rs) d same some = cc
+
+-- the states of a recorded run, by its first state and its tamper
+pub states_of : (p : Prover) (r : Recorded) → r.first ≡ tampered p.tamper 0 p.start → r.tamper ≡ p.tamper → state_of_step r ≡ run_of p
+states_of p r first tamper = ap (λ t. run_from t r.first) tamper ∙ ap (run_from p.tamper) first
+
+-- the roots of the run are the prover's
+pub roots_of_run : (digest : List ℕ → List ℕ) (p : Prover) (r : Recorded) → IsRunOf digest p r → root_of digest p ≡ root_at digest r
+unfolding root_of
+roots_of_run digest p r is =
+    ap (λ (run : ℕ → State). let f : ℕ → List ℕ = λ i. state_root digest (run (min i p.bound)) in f) (sym is.states)
+    ∙ ap (λ (bound : ℕ). let f : ℕ → List ℕ = λ i. state_root digest (state_of_step r (min i bound)) in f) (sym is.bound)
+
+-- and so are the plain answers
+pub answers_of_run : (digest : List ℕ → List ℕ) (p : Prover) (r : Recorded) (k : Kind) → IsRunOf digest p r → plain digest (state_of_step r) r.bound k ≡ plain digest (run_of p) p.bound k
+answers_of_run digest p r k is =
+    ap (λ (run : ℕ → State). plain digest run r.bound k) is.states ∙ ap (λ (bound : ℕ). plain digest (run_of p) bound k) is.bound
+
+-- a root is the answer to the question for it
+pub root_answers : (digest : List ℕ → List ℕ) (p : Prover) (k : Kind) (step : ℕ) (r : Digest32) → k ≡ kind.Root step → r.0 ≡ root_of digest p step → answer.Root r ≡ plain digest (run_of p) p.bound k
+unfolding root_of
+root_answers digest p k step r asked is =
+    ap (λ (bytes : List ℕ). answer.Root (record { 0 = bytes })) is ∙ ap (plain digest (run_of p) p.bound) (sym asked)
+
+-- the last output of a run that began without one can be claimed
+pub last_output : OutputGrowsSlowly → (digest : List ℕ → List ℕ) (p : Prover) (r : Recorded) → IsRunOf digest p r → p.start.output ≡ [] → p.bound < 2 ^ 32
+    → length (state_of_step r r.bound).output ≤ 4294967295
+last_output grows digest p r is silent short =
+    let grown = grows p.tamper p.start p.bound in
+    let none : length p.start.output ≡ 0 = ap (length {A = ℕ}) silent in
+    let same : length (state_of_step r r.bound).output ≡ length (run_of p p.bound).output =
+    ap (λ (run : ℕ → State). length (run r.bound).output) is.states ∙ ap (λ (bound : ℕ). length (run_of p bound).output) is.bound in
+    omega arith

@@ -1,0 +1,52 @@
+-- To believe: what the provers of a case say, each by its script.
+use Rattle.std.specs.Prelude.{◌≡◌, ℕ, ◌+◌, ◌-◌, List, [], ◌∷◌, Option, Some, None, slice_get, refl}
+use Rattle.std.specs.Coded.{Coded, code_by, coded×, coded_ℕ, coded_list}
+use Rattle.rd_base.specs.declared.answer.Answer.{Answer}
+use Rattle.rd_base.specs.declared.script.Script.{Script}
+use Rattle.rd_base.specs.contracts.script.Script as scripts
+use Rattle.rd_base.specs.declared.status.Status.TheVariants.{Running}
+use Rattle.mem_plain.specs.Contents.{no_bytes}
+use Rattle.rv_step.specs.State.{State}
+use Rattle.checkpoint_run.specs.TamperedRun.{run_at}
+use Rattle.checkpoint_run.specs.Recorded.{state_code}
+use Rattle.bisect_game.specs.Says.{Says}
+use Rattle.bisect_game.specs.declared.question.Question.{Question}
+use Rattle.prover_script.specs.Manners.{says}
+use Rattle.prover_run.specs.Plain.{plain_says}
+
+-- what a prover with a script says: what its manner makes of the plain answers of its run
+abbrev pub script_says : (List ℕ → List ℕ) → State → ℕ → Script → Question → ℕ → Option Answer
+script_says digest start bound script = says script.manner (plain_says digest (run_at script.tamper start) bound)
+
+-- the same where there is a script; who isn't there passes for ever
+abbrev pub said_by : (List ℕ → List ℕ) → State → ℕ → Option Script → Question → ℕ → Option Answer
+said_by digest start bound (Some script) = script_says digest start bound script
+said_by digest start bound None = λ question passes. None
+
+-- what prover p of a case says, counted from 1: runs go from the state at the start up to the bound
+abbrev pub case_says : (List ℕ → List ℕ) → State → ℕ → List Script → Says
+case_says digest start bound scripts p = said_by digest start bound (slice_get scripts (p - 1))
+
+-- what fixes what the provers of a case say, beside the digest function
+pub record CaseScripts : Type 0 where
+  pub start : State
+  pub bound : ℕ
+  pub scripts : List Script
+
+-- a case of nobody, from nothing
+abbrev pub no_case : CaseScripts
+no_case = record { start = record { regs = []; pc = 0; memory = no_bytes; status = Running; output = [] }; bound = 0; scripts = [] }
+
+-- it is data, as the tuple of its parts
+abbrev pub case_scripts_code : Coded CaseScripts
+case_scripts_code =
+    code_by (State × (ℕ × List Script))
+    (coded× state_code (coded× coded_ℕ (coded_list scripts.the_row.coded)))
+    (λ c. (c.start, (c.bound, c.scripts)))
+    (λ t. record { start = t.0; bound = t.1.0; scripts = t.1.1 })
+    (λ _. refl)
+
+-- each of these answers as the prover of its number, from this one on
+abbrev pub AnswerInOrder : {A : Type 0} → (A → Question → ℕ → Option Answer) → Says → ℕ → List A → Type 0
+AnswerInOrder answers says p [] = Unit {0}
+AnswerInOrder answers says p (a ∷ rest) = (answers a ≡ says p) × AnswerInOrder answers says (p + 1) rest

@@ -1,0 +1,9 @@
+-- Derived: a run puts out one byte a step at most.
+use Rattle.std.specs.Prelude.{ℕ, ◌+◌, ◌≤◌, length}
+use Rattle.rd_base.specs.declared.tamper.Tamper.{Tamper}
+use Rattle.rv_step.specs.State.{State}
+use Rattle.checkpoint_run.specs.TamperedRun.{run_at}
+
+-- the output of each state of a run is at most so much longer than that of the first
+abbrev pub OutputGrowsSlowly : Type 0
+OutputGrowsSlowly = (t : Tamper) (s : State) (i : ℕ) → length (run_at t s i).output ≤ length s.output + i

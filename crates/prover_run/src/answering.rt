@@ -1,0 +1,134 @@
+//! The plain answers of a recorded run.
+ghost use denote.Param.Send.{IsSync};
+ghost use Rattle.std.specs.Prelude.{◌≡◌, ◌<◌, ◌≤◌, ℕ, IfOk, List, length, map, slice_index};
+ghost use Rattle.checkpoint_run.specs.Recorded.{AreChained, state_of_step};
+ghost use Rattle.segment_replay.specs.Roots.{root_at, digests};
+ghost use Rattle.prover_run.specs.Plain as plain;
+ghost use Rattle.prover_run.specs.Prover.{Prover, IsRunOf, AreKept, run_of, root_of};
+
+use crate::middles::asked_with;
+use bisect_game::Kind;
+use checkpoint_run::Run;
+use digest_core::{Digester, registers_text};
+use open_proof::make_proof;
+use rd_base::{Answer, Boxed, Claim, ClaimOutput, Digest32, Memory};
+use segment_replay::Replays;
+use state_commit::Committed;
+use std::alloc::Global;
+use std::collections::BTreeMap;
+use std::thread::Threads;
+
+/// Keeps roots by their steps. An `Err` is out of memory, after some were kept.
+fn keep(kept: &mut BTreeMap<u64, Digest32>, steps: &[u64], roots: &[Digest32]) -> Result<(), Memory>
+    requires { length steps.now ≡ length roots.now }
+    ensures { (root : ℕ → List ℕ) → digests roots.now ≡ map root steps.now → AreKept root kept.old.entries → AreKept root kept.new.entries }
+{
+    'roots: for k in 0..steps.len() {
+        kept.insert(steps[k], roots[k])?;
+    }
+    Ok(())
+}
+
+/// The root of the first of some steps, which are computed together and kept. An `Err` is out of memory, after some were
+/// kept.
+#[tactic(auto, using(crate::proofs::RunLemmas::same_length, crate::proofs::RunLemmas::first_root))]
+fn computed<D: Replays, R: Threads + Sync>(
+    rt: &R,
+    alloc: Global,
+    d: D,
+    run: &Run,
+    workers: u32,
+    kept: &mut BTreeMap<u64, Digest32>,
+    steps: &[u64],
+) -> Result<Digest32, Memory>
+    requires sync { IsSync R.row }
+    requires workers { 0 < workers }
+    requires some { 0 < length steps.now }
+    requires chained { AreChained D.digest_of run.now }
+    ensures kept { (root : ℕ → List ℕ) → root ≡ root_at D.digest_of run.now → AreKept root kept.old.entries → AreKept root kept.new.entries }
+    ensures root { IfOk result (λ r. (root : ℕ → List ℕ) → root ≡ root_at D.digest_of run.now → r.0 ≡ root (slice_index steps.now 0)) }
+{
+    let roots = d.roots_of(rt, alloc, run, steps, workers)?;
+    keep(kept, steps, &roots)?;
+    Ok(roots[0])
+}
+
+/// The root of a step, which is kept, or else is computed with those that the next rounds may ask for. An `Err` is out of
+/// memory, after some were kept.
+fn root<D: Replays, R: Threads + Sync>(
+    rt: &R,
+    alloc: Global,
+    d: D,
+    run: &Run,
+    workers: u32,
+    kept: &mut BTreeMap<u64, Digest32>,
+    step: u64,
+) -> Result<Digest32, Memory>
+    requires sync { IsSync R.row }
+    requires workers { 0 < workers }
+    requires chained { AreChained D.digest_of run.now }
+    ensures kept { (root : ℕ → List ℕ) → root ≡ root_at D.digest_of run.now → AreKept root kept.old.entries → AreKept root kept.new.entries }
+    ensures root { (root : ℕ → List ℕ) → root ≡ root_at D.digest_of run.now → AreKept root kept.old.entries → IfOk result (λ r. r.0 ≡ root step) }
+{
+    if let Some(root) = kept.get(&step) {
+        return Ok(*root);
+    }
+    let steps = asked_with(alloc, run.bound(), step)?;
+    computed(rt, alloc, d, run, workers, kept, &steps)
+}
+
+/// The claim of a machine's state, whose output is at most 4,294,967,295 bytes long. An `Err` is out of memory.
+fn claim_of<D: Digester>(alloc: Global, d: D, committed: &Committed<D>) -> Result<Claim, Memory>
+    requires { length committed.now.output ≤ 4294967295 }
+    ensures { IfOk result (λ c. c ≡ plain.claim_of D.digest_of committed.now) }
+{
+    let machine = committed.machine();
+    let _out_len = machine.ctl.out_len;
+    let Some(output) = ClaimOutput::new(machine.output.as_slice().to_vec(alloc)?) else {
+        unreachable!()
+    };
+    Ok(Claim {
+        mem: committed.memory_digest(),
+        regs: d.digest(registers_text(&machine.regs).as_slice()),
+        ctl: machine.ctl,
+        output,
+    })
+}
+
+/// The plain answer of a prover to what is asked, read off its recorded run. Its last output is at most 4,294,967,295 bytes
+/// long. An `Err` is out of memory.
+#[tactic(auto, using(crate::proofs::RunLemmas::roots_of_run, crate::proofs::RunLemmas::answers_of_run), unfolding(crate::specs::Prover::root_of))]
+pub fn plain_answer<D: Replays, R: Threads + Sync>(
+    rt: &R,
+    alloc: Global,
+    d: D,
+    run: &Run,
+    workers: u32,
+    kept: &mut BTreeMap<u64, Digest32>,
+    kind: Kind,
+) -> Result<Answer, Memory>
+    requires sync { IsSync R.row }
+    requires workers { 0 < workers }
+    requires chained { AreChained D.digest_of run.now }
+    requires short { length (state_of_step run.now run.now.bound).output ≤ 4294967295 }
+    ensures kept { (p : Prover) → IsRunOf D.digest_of p run.now → AreKept (root_of D.digest_of p) kept.old.entries → AreKept (root_of D.digest_of p) kept.new.entries }
+    ensures answer { (p : Prover) → IsRunOf D.digest_of p run.now → AreKept (root_of D.digest_of p) kept.old.entries →
+        IfOk result (λ a. a ≡ plain.plain D.digest_of (run_of p) p.bound kind) }
+{
+    match kind {
+        Kind::Root(step) => {
+            let root = root(rt, alloc, d, run, workers, kept, step)?;
+            Ok(Answer::Root(root))
+        }
+        Kind::Claim => {
+            let last = d.committed_of(rt, alloc, run, run.bound())?;
+            let claim = claim_of(alloc, d, &last)?;
+            Ok(Answer::Claim(claim))
+        }
+        Kind::Proof(step) => {
+            let committed = d.committed_of(rt, alloc, run, step)?;
+            let proof = make_proof(&committed);
+            Ok(Answer::Step(Boxed::new(Box::new(alloc, proof)?)))
+        }
+    }
+}

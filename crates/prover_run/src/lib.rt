@@ -1,0 +1,24 @@
+//! Provers that answer by their run.
+//!
+//! The layers above may rely on this: a `RunAnswerer` gives the plain answers of its run (`specs/Plain.antt`), the
+//! machine's own with what a tamper does to it, and no call changes what it answers, not even one that runs out of
+//! memory; `CaseProvers` tells what each prover of a case says, by its script (`specs/CaseScripts.antt`), and where it
+//! waits; `answerers_of` makes the answerers that say so. What an untouched script says in the words of the sequential run
+//! is in `laws`.
+//!
+//! Which roots are asked of a run in one go says `specs/Middles.antt`; no answer depends on it. That a run is recorded once
+//! and each root is computed once is read in `prover` and `answering`, and not proved. Read `specs/Plain.antt` first, then
+//! `prover`, then `provers`.
+#![tactic(auto)]
+
+mod answerers;
+mod answering;
+mod laws;
+mod middles;
+mod prover;
+mod provers;
+
+pub use answerers::answerers_of;
+pub use laws::{outputs_grow_slowly, untouched_provers};
+pub use prover::RunAnswerer;
+pub use provers::{CaseNames, CaseProvers};

@@ -1,0 +1,143 @@
+ghost use denote.Param.Send.{IsSync};
+ghost use Rattle.std.specs.Prelude.{◌≡◌, ◌<◌, ◌^◌, [], IfOk, IfSome};
+ghost use Rattle.rv_step.specs.State.{state_of, IsChained};
+ghost use Rattle.prover_run.specs.Prover.{IsRunOf};
+
+use crate::answering::plain_answer;
+use crate::laws::outputs_grow_slowly;
+use bisect_game::{Answerer, Question};
+use checkpoint_run::{Run, record_run};
+use digest_core::Digester;
+use rd_base::{Answer, Digest32, Memory, Tamper};
+use rv_step::Machine;
+use segment_replay::Replays;
+use std::alloc::Global;
+use std::collections::BTreeMap;
+use std::marker::Model;
+use std::thread::Threads;
+
+/// An answerer that reads its answers off its run, which its first answer records.
+///
+/// Contracts see it as the state from which the run starts, what is wrong with the run, and how far it goes.
+#[derive(Drop)]
+pub struct RunAnswerer<D: Replays> {
+    alloc: Global,
+    d: D,
+    start: Machine,
+    bound: u64,
+    every: u32,
+    tamper: Tamper,
+    workers: u32,
+    run: Option<Run>,
+    /// The roots that were asked for so far, and those that were asked with them, by their steps.
+    roots: BTreeMap<u64, Digest32>,
+}
+
+impl<D: Replays> Model for RunAnswerer<D> {
+    ghost use Rattle.prover_run.specs.Prover.{Prover, prover_code, IsReady};
+    ghost use Rattle.rv_step.specs.State.{state_of};
+
+    ghost Value = { Prover };
+
+    ghost coded = { prover_code };
+
+    ghost view = { λ p. record { start = state_of p.start; tamper = p.tamper; bound = p.bound } };
+
+    ghost invariant = { λ p. IsReady D.digest_of (record { start = state_of p.start; tamper = p.tamper; bound = p.bound }) p.start p.every p.workers p.run p.roots.entries };
+}
+
+impl<D: Replays> RunAnswerer<D> {
+    /// A prover whose run goes from a machine, with this tamper, up to the step `bound`, below 2^32. Its run is recorded with
+    /// a checkpoint at every `every` steps (at least 1), and its roots are computed by `workers` threads (at least 1). The
+    /// machine has put out nothing, and its chain is that of no output by the digester `d`. An `Err` is out of memory.
+    pub fn new(
+        alloc: Global,
+        d: D,
+        machine: &Machine,
+        bound: u64,
+        every: u32,
+        tamper: Tamper,
+        workers: u32,
+    ) -> Result<Self, Memory>
+        requires chained { IsChained D.digest_of machine.now }
+        requires silent { machine.now.output.items ≡ [] }
+        requires bound { bound < 2 ^ 32 }
+        requires every { 0 < every }
+        requires workers { 0 < workers }
+        ensures { IfOk result (λ p. p ≡ record { start = state_of machine.now; tamper = tamper; bound = bound }) }
+    {
+        let start = Machine {
+            regs: machine.regs,
+            ctl: machine.ctl,
+            mem: machine.mem.copy()?,
+            output: machine.output.clone()?,
+        };
+        Ok(RunAnswerer {
+            alloc,
+            d,
+            start,
+            bound,
+            every,
+            tamper,
+            workers,
+            run: None,
+            roots: BTreeMap::new(alloc),
+        })
+    }
+}
+
+/// The run at hand, or else the recorded run of a prover. An `Err` is out of memory.
+fn recorded<D: Digester>(
+    alloc: Global,
+    d: D,
+    start: &Machine,
+    bound: u64,
+    every: u32,
+    tamper: Tamper,
+    at_hand: Option<Run>,
+) -> Result<Run, Memory>
+    requires chained { IsChained D.digest_of start.now }
+    requires every { 0 < every }
+    requires recorded { IfSome at_hand (IsRunOf D.digest_of (record { start = state_of start.now; tamper = tamper; bound = bound })) }
+    ensures { IfOk result (IsRunOf D.digest_of (record { start = state_of start.now; tamper = tamper; bound = bound })) }
+{
+    match at_hand {
+        Some(run) => Ok(run),
+        None => record_run(alloc, d, start, bound, every, tamper),
+    }
+}
+
+impl<D: Replays> Answerer for RunAnswerer<D> {
+    ghost use Rattle.prover_run.specs.Prover.{prover_says};
+
+    ghost answers = { λ p. prover_says D.digest_of p };
+
+    fn answer<R: Threads + Sync>(
+        &mut self,
+        rt: &R,
+        question: &Question,
+        _passes: u32,
+    ) -> Result<Option<Answer>, Memory> {
+        outputs_grow_slowly();
+        let run = recorded(
+            self.alloc,
+            self.d,
+            &self.start,
+            self.bound,
+            self.every,
+            self.tamper,
+            self.run.take(),
+        )?;
+        let answer = plain_answer(
+            rt,
+            self.alloc,
+            self.d,
+            &run,
+            self.workers,
+            &mut self.roots,
+            question.kind,
+        );
+        self.run = Some(run);
+        Ok(Some(answer?))
+    }
+}

@@ -1,0 +1,65 @@
+ghost use denote.Param.Send.{IsSync};
+ghost use Rattle.std.specs.Prelude.{◌≡◌, ◌<◌, IfOk, map, min};
+ghost use Rattle.checkpoint_run.specs.Recorded.{AreChained, state_of_step};
+ghost use Rattle.segment_replay.specs.Roots.{root_at, digests};
+
+use crate::replaying::{committed_at, roots};
+use checkpoint_run::Run;
+use digest_core::{Digester, Sha256};
+use rd_base::{Digest32, Memory};
+use state_commit::Committed;
+use std::alloc::Global;
+use std::thread::Threads;
+
+/// A digester by which runs can be replayed in threads. A method of a trait can't hand a digester of a type parameter to
+/// threads, so each digester says by itself that it can: its methods are the functions of the same meaning.
+pub trait Replays: Digester {
+    /// `roots` by this digester.
+    fn roots_of<R: Threads + Sync>(
+        self,
+        rt: &R,
+        alloc: Global,
+        run: &Run,
+        steps: &[u64],
+        workers: u32,
+    ) -> Result<Vec<Digest32>, Memory>
+        requires sync { IsSync R.row }
+        requires workers { 0 < workers }
+        requires chained { AreChained Self.digest_of run.now }
+        ensures { IfOk result (λ v. digests v.items ≡ map (root_at Self.digest_of run.now) steps.now) };
+
+    /// `committed_at` by this digester.
+    fn committed_of<R: Threads + Sync>(
+        self,
+        rt: &R,
+        alloc: Global,
+        run: &Run,
+        step: u64,
+    ) -> Result<Committed<Self>, Memory>
+        requires sync { IsSync R.row }
+        requires chained { AreChained Self.digest_of run.now }
+        ensures { IfOk result (λ c. c ≡ state_of_step run.now (min step run.now.bound)) };
+}
+
+impl Replays for Sha256 {
+    fn roots_of<R: Threads + Sync>(
+        self,
+        rt: &R,
+        alloc: Global,
+        run: &Run,
+        steps: &[u64],
+        workers: u32,
+    ) -> Result<Vec<Digest32>, Memory> {
+        roots(rt, alloc, self, run, steps, workers)
+    }
+
+    fn committed_of<R: Threads + Sync>(
+        self,
+        rt: &R,
+        alloc: Global,
+        run: &Run,
+        step: u64,
+    ) -> Result<Committed<Self>, Memory> {
+        committed_at(rt, alloc, self, run, step)
+    }
+}

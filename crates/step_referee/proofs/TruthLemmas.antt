@@ -1,0 +1,124 @@
+-- A run of the machine is a true run for the game.
+use Rattle.std.proofs.Common.{◌≡◌, ℕ, zero, suc, ◌+◌, ◌%◌, ◌^◌, ◌<◌, ◌≤◌, eqb, ltb, cond, List, length, Option, Some, None, Bool, true, false, ◌&&◌, refl, sym, ap, ◌∙◌, subst, arith, add-one, length-append, []}
+use Rattle.std.specs.Prelude.{bytes_eq, if◌then◌else◌, ◌∷◌}
+use Rattle.std.proofs.lemmas.Bool.Decides.{Decides-eqb, Decides-ltb}
+use Rattle.std.proofs.lemmas.Slice.Eq.{bytes_eq-Decides}
+use Rattle.rd_base.specs.Status.{is_running}
+use Rattle.rd_base.specs.declared.claim.Claim.{Claim}
+use Rattle.rd_base.specs.declared.digest.Digest32.{Digest32}
+use Rattle.rd_base.specs.declared.proof.StepProof.{StepProof}
+use Rattle.rv_decode.specs.Reading.{reading_of}
+use Rattle.rv_decode.specs.declared.instr.Instr.{Instr}
+use Rattle.digest_core.specs.Chain.{chain_of}
+use Rattle.digest_core.specs.Text.{status_code, registers_text}
+use Rattle.mem_plain.specs.Contents.{number_at}
+use Rattle.out_chain.specs.Soundness.{is_sound, says_sound, claim_check}
+use Rattle.out_chain.specs.declared.checking.ClaimCheck.TheVariants.{Sound, WrongLength, WrongChain}
+use Rattle.rv_step.specs.State.{State}
+use Rattle.rv_step.specs.Step.{step, state_at, after_word, after_effect, output_after}
+use Rattle.rv_step.specs.Valid.{IsValid}
+use Rattle.rv_step.specs.declared.effect.Effect.{Effect}
+use Rattle.rv_step.specs.declared.effect.Effect.TheVariants.{Write, Jump, Branch, Next, Store, Put, Exit, Trap}
+use Rattle.state_commit.specs.StateRoot.{ctl_of, memory_digest, state_root}
+use Rattle.open_proof.specs.Held.{held_of}
+use Rattle.open_proof.specs.InRange.{is_in_range}
+use Rattle.open_proof.specs.Leads.{Leads}
+use Rattle.open_proof.specs.LeadsTo.{leads_to}
+use Rattle.open_proof.specs.PlainProof.{plain_proof}
+use Rattle.open_proof.specs.RangeLaws.{IsHeldInRange, range-of, and-true}
+use Rattle.bisect_game.specs.Ruling.{Ruling}
+use Rattle.bisect_game.specs.Rules.{Rules}
+use Rattle.bisect_game.specs.Truth.{IsRun}
+use Rattle.step_referee.specs.MachineRuling.{machine_ruling}
+use Rattle.step_referee.specs.MachineTruth.{plain_claim, machine_truth}
+
+-- a step puts out one byte at most
+effect-adds : (xs : List ℕ) (e : Effect) → length (output_after xs e) ≤ length xs + 1
+effect-adds xs (Write rd value) = omega arith
+effect-adds xs (Jump rd target) = omega arith
+effect-adds xs (Branch target) = omega arith
+effect-adds xs Next = omega arith
+effect-adds xs (Store addr width value) = omega arith
+effect-adds xs (Put byte) = let longer = length-append xs (byte ∷ []) in omega (arith, longer)
+effect-adds xs (Exit code) = omega arith
+effect-adds xs (Trap code) = omega arith
+
+word-adds : (s : State) (o : Option Instr) → length (after_word s o).output ≤ length s.output + 1
+word-adds s (Some i) = effect-adds s.output _
+word-adds s None = omega arith
+
+step-adds : (s : State) → length (step s).output ≤ length s.output + 1
+unfolding step
+step-adds s = go (is_running s.status) (eqb (s.pc % 4) 0)
+  where
+    go : (r b : Bool) → length (cond r (cond b (after_word s (reading_of (number_at s.memory s.pc 4))) (after_effect s (Trap 0))) s).output ≤ length s.output + 1
+    go true true = word-adds s (reading_of (number_at s.memory s.pc 4))
+    go true false = omega arith
+    go false b = omega arith
+
+output-at : (s : State) (i : ℕ) → length (state_at s i).output ≤ length s.output + i
+output-at s zero = omega arith
+output-at s (suc i) =
+    let before = output-at s i in
+    let more = step-adds (state_at s i) in
+    omega (arith, before, more)
+
+-- the laws of the crates below
+pub record RunLaws (digest : List ℕ → List ℕ) : Type 0 where
+  pub is_digest : (bytes : List ℕ) → length (digest bytes) ≡ 32
+  pub chained : (output : List ℕ) → length (chain_of digest output) ≡ 32
+  pub valid : (s : State) → IsValid s → IsValid (step s)
+  pub leads : (s : State) (a b : Digest32) → IsValid s → a.0 ≡ state_root digest s → b.0 ≡ state_root digest (step s) → Leads digest a (plain_proof digest s) b
+  pub in_range : (s : State) → IsValid s → is_in_range (plain_proof digest s) ≡ true
+  pub found : (a : Digest32) (proof : StepProof) (b : Digest32) → is_in_range proof ≡ true → Leads digest a proof b → leads_to digest a proof ≡ Some b
+
+module _ (digest : List ℕ → List ℕ) (laws : RunLaws digest) where
+  valid-at : (s : State) (i : ℕ) → IsValid s → IsValid (state_at s i)
+  valid-at s zero valid = valid
+  valid-at s (suc i) valid = laws.valid (state_at s i) (valid-at s i valid)
+
+  abbrev root-at : State → Digest32
+  root-at s = record { 0 = state_root digest s }
+
+  plain-leads : (s : State) → IsValid s → leads_to digest (root-at s) (plain_proof digest s) ≡ Some (root-at (step s))
+  plain-leads s valid = laws.found (root-at s) (plain_proof digest s) (root-at (step s)) (laws.in_range s valid) (laws.leads s (root-at s) (root-at (step s)) valid refl refl)
+
+  held-range : (s : State) → IsValid s → IsHeldInRange (held_of digest s)
+  unfolding plain_proof
+  held-range s valid = (range-of (plain_proof digest s) (laws.in_range s valid)).parts
+
+  -- the plain claim is sound
+  plain-checked : (s : State) → length s.output < 2 ^ 64 → says_sound (claim_check digest (plain_claim digest s)) ≡ true
+  plain-checked s low =
+      let n = length s.output in
+      let same : n % 2 ^ 64 ≡ n = omega (arith, low) in
+      ap (λ t. says_sound (if t then (if bytes_eq (chain_of digest s.output) (chain_of digest s.output) then Sound else WrongChain) else WrongLength)) ((Decides-eqb (n % 2 ^ 64) n).1 same)
+      ∙ ap (λ t. says_sound (if t then Sound else WrongChain)) ((bytes_eq-Decides (chain_of digest s.output) (chain_of digest s.output)).1 refl)
+
+  plain-sound : (s : State) → IsValid s → length s.output < 2 ^ 64 → is_sound digest (plain_claim digest s) ≡ true
+  unfolding is_sound
+  plain-sound s valid low =
+      let held = held-range s valid in
+      and-true _ _
+      (and-true _ _ (and-true _ _ (and-true _ _ (and-true _ _ (and-true _ _
+      ((Decides-eqb (length (memory_digest digest s)) 32).1 held.mem_size)
+      ((Decides-eqb (length (digest (registers_text s.regs))) 32).1 (laws.is_digest (registers_text s.regs))))
+      ((Decides-eqb (length (chain_of digest s.output)) 32).1 (laws.chained s.output)))
+      ((Decides-ltb s.pc (2 ^ 32)).1 held.pc_fits))
+      ((Decides-ltb (status_code s.status) (2 ^ 32)).1 held.code_fits))
+      ((Decides-ltb (ctl_of digest s).out_len (2 ^ 64)).1 held.length_fits))
+      (plain-checked s low)
+
+  pub machine-runs : (s : State) (rules : Rules) → IsValid s → length s.output + rules.bound < 2 ^ 64 → rules.play.ruling ≡ machine_ruling digest → rules.start.0 ≡ state_root digest s
+      → IsRun rules (machine_truth digest s rules.bound)
+  machine-runs s rules valid low is start =
+      let last = state_at s rules.bound in
+      let short = output-at s rules.bound in
+      let fits : length last.output < 2 ^ 64 = omega (arith, short, low) in
+      record {
+        begins = λ i. record { 0 = sym start i };
+        leads = λ i below. subst (λ (r : Ruling). r.leads (root-at (state_at s i)) (plain_proof digest (state_at s i)) ≡ Some (root-at (state_at s (i + 1)))) (sym is)
+            (plain-leads (state_at s i) (valid-at s i valid) ∙ ap (λ n. Some (root-at (state_at s n))) (sym (add-one i)));
+        sound = subst (λ (r : Ruling). r.is_sound (plain_claim digest last) ≡ true) (sym is) (plain-sound last (valid-at s rules.bound valid) fits);
+        ends = subst (λ (r : Ruling). r.root_of (plain_claim digest last) ≡ root-at last) (sym is) refl;
+      }

@@ -1,0 +1,16 @@
+use Rattle.step_referee.proofs.TruthLemmas.{RunLaws, machine-runs}
+use Rattle.step_referee.proofs.laws.machine_runs_are_true.Goals as goal
+
+pub returns : goal.returns
+returns g c =
+    let digest = g.D.Digester.digest_of in
+    let is_digest = g.met.D.Digester.is_digest in
+    let laws : RunLaws digest = record {
+      is_digest = is_digest;
+      chained = c.chain_grows.ensures.length digest is_digest;
+      valid = c.steps_keep_valid_states.ensures;
+      leads = c.plain_proofs_lead.ensures digest;
+      in_range = c.plain_proofs_are_in_range.ensures digest is_digest;
+      found = c.leading_is_decided.ensures.found digest;
+    } in
+    machine-runs digest laws

@@ -1,0 +1,167 @@
+//! The step on the parts that a proof opens.
+ghost use Rattle.std.specs.Prelude.{◌≡◌, ◌+◌, ◌%◌, ◌≤◌, ℕ, List, Option, None, false, is_some};
+ghost use Rattle.rd_base.specs.declared.proof.Opening.{Opening};
+ghost use Rattle.rv_step.specs.Effect.{effect};
+ghost use Rattle.rv_step.specs.declared.effect.Effect.TheVariants as effects;
+ghost use Rattle.open_proof.specs.Held.{held_after, held_step, mem_after, number_shown as shown};
+ghost use Rattle.step_referee.specs.HeldParts.{held_in, links_of_effect};
+
+use crate::chunk::{number_shown, with_number};
+use crate::opening::climb_path;
+use digest_core::{Digester, link_text};
+use merkle_nodes::digest_counted;
+use rd_base::{Ctl, Digest32, Opening, Regs, Status, Steps};
+use rv_decode::{Instr, decode};
+use rv_step::{Need, Outcome, finish, need, two_parts_are_the_step};
+use std::sync::ledger::Ledger;
+
+/// The code of the trap of a `pc` that isn't a multiple of 4.
+const MISALIGNED_JUMP: u32 = 0;
+
+/// The code of the trap of a word that is no instruction.
+const ILLEGAL_INSTRUCTION: u32 = 2;
+
+/// What a proof holds of a state: the digest of memory, the registers and the control fields.
+#[derive(Clone, Copy, Debug)]
+pub(crate) struct Parts {
+    pub mem: Digest32,
+    pub regs: Regs,
+    pub ctl: Ctl,
+}
+
+/// The parts after a trap with this code.
+fn trapped(parts: Parts, code: u32) -> Parts
+    ensures { (digest : List ℕ → List ℕ) (operand : Option Opening) →
+        held_in result ≡ held_after digest operand (held_in parts) (effects.Trap code) }
+{
+    let mut ctl = parts.ctl;
+    ctl.status = Status::Trapped(code);
+    Parts {
+        mem: parts.mem,
+        regs: parts.regs,
+        ctl,
+    }
+}
+
+/// Finishes an instruction for which memory has been read and written, with the number that was read. A byte that is put
+/// costs one digest.
+fn finish_on<D: Digester, L: Ledger>(
+    d: D,
+    parts: Parts,
+    instr: &Instr,
+    loaded: u32,
+    steps: &mut Steps<L>,
+) -> Parts
+    ensures held { held_in result ≡ held_after D.digest_of None (held_in parts)
+        (effect parts.regs parts.ctl.pc (λ _ _. loaded) instr.now) }
+    ensures steps { steps.new ≡ steps.old + links_of_effect (effect parts.regs parts.ctl.pc (λ _ _. loaded) instr.now) }
+    ensures most { steps.new ≤ steps.old + 1 }
+{
+    let mut regs = parts.regs;
+    let mut ctl = parts.ctl;
+    match finish(&mut regs, &mut ctl.pc, instr, loaded) {
+        Outcome::Next => {}
+        Outcome::Put(byte) => {
+            ctl.out_len = ctl.out_len.wrapping_add(1);
+            ctl.chain = digest_counted(d, &link_text(&ctl.chain, byte), steps);
+        }
+        Outcome::Exit(code) => ctl.status = Status::Exited(code),
+        Outcome::Trap(code) => ctl.status = Status::Trapped(code),
+    }
+    Parts {
+        mem: parts.mem,
+        regs,
+        ctl,
+    }
+}
+
+/// The digest of memory after a number was stored: its chunk, changed, climbed with the same siblings, by 28 digests. It
+/// stays where no chunk is there.
+fn stored<D: Digester, L: Ledger>(
+    d: D,
+    operand: &Option<Opening>,
+    mem: Digest32,
+    addr: u32,
+    width: u8,
+    value: u32,
+    steps: &mut Steps<L>,
+) -> Digest32
+    requires { addr % 32 + width ≤ 32 }
+    ensures digest { result.0 ≡ mem_after D.digest_of operand.now mem.0 (effects.Store addr width value) }
+    ensures more { steps.old ≤ steps.new }
+    ensures most { steps.new ≤ steps.old + 28 }
+    ensures none { is_some operand.now ≡ false → steps.new ≤ steps.old }
+{
+    match operand {
+        Some(opening) => {
+            let changed = Opening {
+                chunk: with_number(opening.chunk, (addr % 32) as usize, width, value),
+                path: opening.path,
+            };
+            climb_path(d, &changed, addr, steps)
+        }
+        None => mem,
+    }
+}
+
+/// Carries an instruction out, with the chunk that it reads or writes.
+fn carry_out<D: Digester, L: Ledger>(
+    d: D,
+    parts: Parts,
+    instr: &Instr,
+    operand: &Option<Opening>,
+    steps: &mut Steps<L>,
+) -> Parts
+    ensures held { held_in result ≡ held_after D.digest_of operand.now (held_in parts)
+        (effect parts.regs parts.ctl.pc (shown operand.now) instr.now) }
+    ensures more { steps.old ≤ steps.new }
+    ensures most { steps.new ≤ steps.old + 28 }
+    ensures none { is_some operand.now ≡ false → steps.new ≤ steps.old + 1 }
+{
+    two_parts_are_the_step();
+    match need(&parts.regs, parts.ctl.pc, instr) {
+        Need::Nothing => finish_on(d, parts, instr, 0, steps),
+        Need::Load { addr, width } => {
+            let loaded = number_shown(operand, addr, width);
+            finish_on(d, parts, instr, loaded, steps)
+        }
+        Need::Store { addr, width, value } => {
+            let mem = stored(d, operand, parts.mem, addr, width, value, steps);
+            let after = Parts {
+                mem,
+                regs: parts.regs,
+                ctl: parts.ctl,
+            };
+            finish_on(d, after, instr, 0, steps)
+        }
+        Need::Trap(code) => trapped(parts, code),
+    }
+}
+
+/// The step, from the chunk that holds the word at `pc` and the chunk that the instruction reads or writes. It ticks once
+/// for the step, and for its digests.
+#[tactic(auto, unfolding(open_proof::specs::Held::held_step))]
+pub(crate) fn step_on<D: Digester, L: Ledger>(
+    d: D,
+    parts: Parts,
+    fetch: &Option<Opening>,
+    operand: &Option<Opening>,
+    steps: &mut Steps<L>,
+) -> Parts
+    ensures held { held_in result ≡ held_step D.digest_of fetch.now operand.now (held_in parts) }
+    ensures counted { steps.old + 1 ≤ steps.new }
+    ensures most { steps.new ≤ steps.old + 29 }
+    ensures none { is_some operand.now ≡ false → steps.new ≤ steps.old + 2 }
+{
+    steps.tick();
+    if !parts.ctl.status.is_running() {
+        return parts;
+    }
+    if parts.ctl.pc % 4 != 0 {
+        return trapped(parts, MISALIGNED_JUMP);
+    }
+    match decode(number_shown(fetch, parts.ctl.pc, 4)) {
+        Some(instr) => carry_out(d, parts, &instr, operand, steps),
+        None => trapped(parts, ILLEGAL_INSTRUCTION),
+    }
+}

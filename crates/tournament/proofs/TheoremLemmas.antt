@@ -1,0 +1,36 @@
+-- The dispute theorem over lists of posts.
+use Rattle.bisect_game.specs.Laws.{BisectionLaws}
+use Rattle.tournament.specs.Posting.{record_after, NobodyAskedIsOver}
+use Rattle.tournament.specs.Theorem.{TruthfulStay, VerdictIsRight, FewDisputes, FewRounds}
+use Rattle.tournament.proofs.CountLemmas.{few_disputes}
+use Rattle.tournament.proofs.FewLemmas.{few_rounds}
+use Rattle.tournament.proofs.MatchLemmas.{settled_stay}
+use Rattle.tournament.proofs.VerdictLemmas.{settled_right}
+use Rattle.tournament.proofs.OverLemmas.{over-after}
+use Rattle.tournament.proofs.PostLemmas.{IsSettled, settled-begun}
+
+pub few_disputes_of_posts : FewDisputes
+few_disputes_of_posts rules xs some =
+    let i : IsSettled rules (record_after rules xs) = settled-begun rules xs in
+    rw i.comes at (few_disputes rules i.list some)
+
+module _ (laws : BisectionLaws) where
+  pub truthful_stay : TruthfulStay
+  truthful_stay rules t xs p playable fair run numbered true_ =
+      let i : IsSettled rules (record_after rules xs) = settled-begun rules xs in
+      rw i.comes at ((settled_stay laws) rules t i.list p playable fair run numbered i.fit (rw (← i.comes) at true_))
+
+  pub verdict_is_right : VerdictIsRight
+  verdict_is_right rules t xs p playable fair run numbered true_ complete =
+      let i : IsSettled rules (record_after rules xs) = settled-begun rules xs in
+      rw i.comes at ((settled_right laws) rules t i.list p playable fair run numbered i.fit (rw (← i.comes) at true_) (rw (← i.comes) at complete))
+
+  pub few_rounds_of_posts : FewRounds
+  few_rounds_of_posts rules xs playable =
+      let i : IsSettled rules (record_after rules xs) = settled-begun rules xs in
+      rw i.comes at ((few_rounds laws) rules i.list playable)
+
+  pub nobody_asked_is_over : NobodyAskedIsOver
+  nobody_asked_is_over rules xs playable =
+      let i : IsSettled rules (record_after rules xs) = settled-begun rules xs in
+      rw i.comes at ((over-after laws) rules i.list)
