@@ -292,22 +292,23 @@ fn the_worked_rows_give_their_reports(rt: HostRuntime) -> Result<(), Fail> {
     Ok(())
 }
 
-/// The report of fifteen liars and one honest prover.
-fn report_of_sixteen(alloc: Global) -> Result<String, AllocError> {
-    let mut want = String::from_str(
-        alloc,
-        "match provers 16 bound 8 patience 0 version 1 fan 2 digest sha256\n",
+/// The report of so many liars and one honest prover after them: a stage for each liar.
+fn report_of_liars(alloc: Global, liars: u32) -> Result<String, AllocError> {
+    let honest = liars.saturating_add(1);
+    let mut want = format!(in alloc;
+        "match provers {honest} bound 8 patience 0 version 1 fan 2 digest sha256\n"
     )?;
-    for number in 1..16 {
-        let line = format!(in alloc; "p{number} claims exited 0 output 2b\n")?;
+    for liar in 1..honest {
+        let line = format!(in alloc; "p{liar} claims exited 0 output 2b\n")?;
         want.push_str(line.as_str())?;
     }
-    want.push_str("p16 claims exited 0 output 2a\n")?;
-    for number in 1..16 {
-        let lines = format!(in alloc; "stage {number}\ndispute {number} p{number} p16\n")?;
+    let line = format!(in alloc; "p{honest} claims exited 0 output 2a\n")?;
+    want.push_str(line.as_str())?;
+    for liar in 1..honest {
+        let lines = format!(in alloc; "stage {liar}\ndispute {liar} p{liar} p{honest}\n")?;
         want.push_str(lines.as_str())?;
         want.push_str(ROUNDS)?;
-        let line = format!(in alloc; "step 1 p{number} refuted p16 proved\n")?;
+        let line = format!(in alloc; "step 1 p{liar} refuted p{honest} proved\n")?;
         want.push_str(line.as_str())?;
     }
     want.push_str("accept exited 0 output 2a\n")?;
@@ -315,19 +316,20 @@ fn report_of_sixteen(alloc: Global) -> Result<String, AllocError> {
 }
 
 #[test]
-fn no_option_changes_the_report_of_sixteen_provers(rt: HostRuntime) -> Result<(), Fail> {
+fn no_option_changes_a_report(rt: HostRuntime) -> Result<(), Fail> {
     let alloc = rt.alloc();
-    let liars = "LIAR,".repeat(alloc, 15)?;
-    let provers = format!(in alloc; "{liars}{{}}")?;
-    let want = report_of_sixteen(alloc)?;
-    let tables: [&[&str]; 4] = [
-        &["refcli", "judge"],
-        &["refcli", "judge", "--posters", "2", "--workers", "7"],
-        &["refcli", "judge", "--every=1", "--posters", "16"],
-        &["refcli", "judge", "--workers", "64", "--every", "65536"],
+    let tables: [(u32, &[&str]); 5] = [
+        (2, &["refcli", "judge"]),
+        (2, &["refcli", "judge", "--posters", "2", "--workers", "7"]),
+        (2, &["refcli", "judge", "--every=1", "--posters", "3"]),
+        (2, &["refcli", "judge", "--workers", "64", "--every", "65536"]),
+        (15, &["refcli", "judge", "--posters", "16"]),
     ];
-    for words in tables {
+    for (liars, words) in tables {
+        let provers = "LIAR,".repeat(alloc, liars as usize)?;
+        let provers = format!(in alloc; "{provers}{{}}")?;
         let bytes = case_of(alloc, "flat", ANSWER, "8", "0", provers.as_str())?;
+        let want = report_of_liars(alloc, liars)?;
         let (answered, text) = answer_to(&rt, alloc, words, bytes)?;
         assert_eq!(rt; answered, Answered::Done, "{words:?}");
         assert_eq!(rt; text.as_slice(), want.as_bytes(), "{words:?}");
