@@ -1,6 +1,5 @@
 -- The headline, over definitions alone.
 use Rattle.std.proofs.Common.{◌≡◌, ℕ, zero, suc, ◌+◌, ◌<◌, ◌≤◌, ◌^◌, List, [], ◌∷◌, length, ◌⊎◌, inl, inr, Option, Some, None, Result, Ok, Err, Bool, true, false, cond, slice_get, refl, sym, ap, subst, ◌∙◌, arith}
-use Rattle.std.proofs.lemmas.Bool.{le-ltb}
 use Rattle.std.specs.Option.{ok_or}
 use Rattle.sha2.specs.Sha256.{sha256}
 use Rattle.rd_base.specs.declared.claim.Claim.{Claim}
@@ -20,27 +19,45 @@ use Rattle.rv_step.specs.Valid.{IsValid}
 use Rattle.state_commit.specs.StateRoot.{state_root}
 use Rattle.step_referee.specs.MachineRuling.{machine_ruling}
 use Rattle.step_referee.specs.MachineTruth.{machine_truth}
-use Rattle.case_reader.specs.Case.{CaseData, case_at, data_of}
+use Rattle.case_reader.specs.Case.{CaseData, data_of}
 use Rattle.case_reader.specs.declared.case.Case.{Case}
 use Rattle.image_reader.specs.Image.{Image}
 use Rattle.transcript_text.specs.Lines.{accept_line, line_of_accepted, line_of_verdict}
 use Rattle.transcript_text.specs.Report.{text_if_there}
 use Rattle.transcript_text.specs.Laws.{NothingIsSaidAgainstTheTruthful}
 use Rattle.delegate.specs.Match.{rules_of_case, says_of_case, record_of_case, verdict_of_case, truth_of_case}
-use Rattle.delegate.specs.Outcome.{carried_out, outcome, reported, answered_by, image_at, start_of}
-use Rattle.delegate.specs.Refusal.{usage, case_refusal, image_refusal, or_refusal, too_long}
+use Rattle.delegate.specs.Outcome.{case_for, within_bound, match_text, ended, carried_out, outcome, reported, answered_by, image_at, start_of}
+use Rattle.delegate.specs.Words.{chosen, decides}
+use Rattle.delegate.specs.declared.words.Command.{Command}
+use Rattle.delegate.specs.Refusal.{usage, image_refusal, or_refusal}
 use Rattle.delegate.specs.Stages.{CasesAreInRange}
 use Rattle.delegate.specs.declared.response.Response.{Response}
-use Rattle.delegate.specs.declared.words.Command.TheVariants.{Judge}
+use Rattle.delegate.specs.declared.words.Command.TheVariants.{Judge, Run, Roots, Big}
 use Rattle.delegate.specs.Headline.{IsCase, AcceptsTheRun, ShowsCollision, IsInRange, HeadlineOfCases, before_verdict}
 use Rattle.delegate.proofs.EndingLemmas.{AreLaws, IsSafeCase, case-is-safe}
 use Rattle.delegate.proofs.OutcomeLemmas.{all_steps, outcome-ok}
 
+-- a command that decides takes every bound that is read
+any-bound : (command : Command) (c : CaseData) → decides command ≡ true → within_bound command c ≡ Ok tt
+any-bound Judge c is = refl
+any-bound (Big seed) c is = refl
+any-bound Run c is = absurd (cc)
+any-bound Roots c is = absurd (cc)
+
+ended-reported : (command : Command) (c : CaseData) (start : State) → decides command ≡ true → ended sha256 command c start ≡ reported sha256 command c start
+ended-reported Judge c start is = refl
+ended-reported (Big seed) c start is = refl
+ended-reported Run c start is = absurd (cc)
+ended-reported Roots c start is = absurd (cc)
+
+case-steps : (words : List (List ℕ)) (bytes : List ℕ) (command : Command) (c : CaseData) (image : Image) → IsCase words bytes command c image → carried_out words bytes ≡ Ok (ended sha256 command c (start_of c image))
+case-steps words bytes command c image is =
+    all_steps words bytes command c image (ap (λ o. ok_or o usage) is.asked) is.reads (any-bound command c is.decided) (ap (or_refusal image_refusal) is.loads)
+
 -- the outcome of a case with an image that loads
-pub outcome-case : (words : List (List ℕ)) (bytes : List ℕ) (c : CaseData) (image : Image) → IsCase words bytes c image → outcome words bytes ≡ reported sha256 c (start_of c image)
-outcome-case words bytes c image is =
-    sym (outcome-ok words bytes _ (all_steps words bytes Judge c image (ap (λ o. ok_or o usage) is.asked)
-    (ap (λ b. cond b (Err too_long) (Ok tt)) (le-ltb 16777216 _ is.short)) (ap (or_refusal case_refusal) is.reads) refl (ap (or_refusal image_refusal) is.loads)))
+pub outcome-case : (words : List (List ℕ)) (bytes : List ℕ) (command : Command) (c : CaseData) (image : Image) → IsCase words bytes command c image → outcome words bytes ≡ reported sha256 command c (start_of c image)
+outcome-case words bytes command c image is =
+    sym (outcome-ok words bytes _ (case-steps words bytes command c image is)) ∙ ended-reported command c (start_of c image) is.decided
 
 -- a prover whose claim is accepted has a number above 0
 
@@ -67,23 +84,31 @@ line-of-true t claims zero some claim = absurd (omega (arith, some))
 line-of-true t claims (suc k) some claim =
     ap line_of_accepted (subst (λ i. slice_get claims i ≡ Some (Some (settled.Given (answer.Claim t.claim)))) (omega arith) claim)
 
--- how the report ends where the verdict is right
-ends : (c : CaseData) (start : State) (verdict : Verdict) → verdict_of_case sha256 c start (record_of_case sha256 c start) ≡ verdict
+-- the text is what comes before the verdict's line, and that line
+text-before : (command : Command) (c : CaseData) (settled : Record) (verdict : Verdict) → match_text command c settled verdict ≡ before_verdict command c settled (text_if_there (line_of_verdict settled.claims verdict))
+text-before Judge c settled verdict = refl
+text-before (Big seed) c settled verdict = refl
+text-before Run c settled verdict = refl
+text-before Roots c settled verdict = refl
+
+-- how the text ends where the verdict is right
+ends : (command : Command) (c : CaseData) (start : State) (verdict : Verdict) → verdict_of_case sha256 c start (record_of_case sha256 c start) ≡ verdict
     → IsRightVerdict (rules_of_case sha256 c start) (truth_of_case sha256 c start) (record_of_case sha256 c start) verdict
-    → AcceptsTheRun (reported sha256 c start) c start ⊎ ShowsCollision (reported sha256 c start) c start
-ends c start (Accept n) is right = inl (record {
+    → AcceptsTheRun command (reported sha256 command c start) c start ⊎ ShowsCollision command (reported sha256 command c start) c start
+ends command c start (Accept n) is right = inl (record {
   done = ap answered_by is;
-  text = ap (λ v. before_verdict c start (text_if_there (line_of_verdict (record_of_case sha256 c start).claims v))) is
-      ∙ ap (λ line. before_verdict c start (text_if_there line))
-      (line-of-true (truth_of_case sha256 c start) (record_of_case sha256 c start).claims n (accepted-number (rules_of_case sha256 c start) (record_of_case sha256 c start) n is) right);
+  text = ap (match_text command c (record_of_case sha256 c start)) is
+      ∙ (text-before command c (record_of_case sha256 c start) (Accept n)
+      ∙ ap (λ line. before_verdict command c (record_of_case sha256 c start) (text_if_there line))
+      (line-of-true (truth_of_case sha256 c start) (record_of_case sha256 c start).claims n (accepted-number (rules_of_case sha256 c start) (record_of_case sha256 c start) n is) right));
 })
-ends c start (Collision x y) is right = inr (record {
+ends command c start (Collision x y) is right = inr (record {
   pair = (x, y);
   collision = right;
   answered = ap answered_by is;
-  text = ap (λ v. before_verdict c start (text_if_there (line_of_verdict (record_of_case sha256 c start).claims v))) is;
+  text = ap (match_text command c (record_of_case sha256 c start)) is ∙ text-before command c (record_of_case sha256 c start) (Collision x y);
 })
-ends c start NoneLeft is right = absurd right
+ends command c start NoneLeft is right = absurd right
 
 -- the runs of the machine are true runs
 abbrev RunsAreTrue : Type 0
@@ -92,7 +117,7 @@ RunsAreTrue =
     IsRun rules (machine_truth sha256 s rules.bound)
 
 pub headline-of-cases : AreLaws → RunsAreTrue → IsFair (machine_ruling sha256) → NothingIsSaidAgainstTheTruthful → HeadlineOfCases
-headline-of-cases laws runs fair spared c start p range truthful =
+headline-of-cases laws runs fair spared command c start p range truthful =
     let run : IsRun (rules_of_case sha256 c start) (truth_of_case sha256 c start) =
     runs start (rules_of_case sha256 c start) range.valid (let none : length start.output ≡ 0 = ap (λ (o : List ℕ). length o) range.silent in omega (arith, none, range.short)) refl refl in
     let safe : IsSafeCase (rules_of_case sha256 c start) (truth_of_case sha256 c start) p (record_of_case sha256 c start) =
@@ -105,7 +130,7 @@ headline-of-cases laws runs fair spared c start p range truthful =
         stays = safe.safe.stays;
         spared = spared (rules_of_case sha256 c start) (truth_of_case sha256 c start) p (record_of_case sha256 c start) safe.safe;
       };
-      ends = ends c start _ refl (safe.safe.verdict safe.complete);
+      ends = ends command c start _ refl (safe.safe.verdict safe.complete);
     }
 
 -- a case that was read, whose machine was made, is in range
@@ -117,10 +142,11 @@ or_refusal-ok refusal (Err e) x is = absurd (cc)
 same-ok : {X E : Type 0} (r : Result X E) (x y : X) → r ≡ Ok x → r ≡ Ok y → x ≡ y
 same-ok r x y one other = (let both = sym one ∙ other in cc)
 
-pub case-in-range : (words : List (List ℕ)) (bytes : List ℕ) (case : Case) (image : Image) → or_refusal case_refusal (case_at bytes) ≡ Ok (data_of case)
+pub case-in-range : (words : List (List ℕ)) (bytes : List ℕ) (command : Command) (case : Case) (image : Image) → chosen words ≡ Some command → case_for command bytes ≡ Ok (data_of case)
     → or_refusal image_refusal (image_at (data_of case)) ≡ Ok image → IsValid (start_of (data_of case) image) → CasesAreInRange words bytes
-case-in-range words bytes case image reads loads valid c found is =
-    let case_is : data_of case ≡ c = same-ok (case_at bytes) (data_of case) c (or_refusal-ok case_refusal (case_at bytes) (data_of case) reads) is.reads in
+case-in-range words bytes command case image asked reads loads valid other c found is =
+    let command_is : command ≡ other = (let both = sym asked ∙ is.asked in cc) in
+    let case_is : data_of case ≡ c = same-ok (case_for command bytes) (data_of case) c reads (subst (λ (x : Command). case_for x bytes ≡ Ok c) (sym command_is) is.reads) in
     let image_is : image ≡ found = same-ok (image_at (data_of case)) image found (or_refusal-ok image_refusal (image_at (data_of case)) image loads)
     (subst (λ (x : CaseData). image_at x ≡ Ok found) (sym case_is) is.loads) in
     subst (λ (x : CaseData). IsInRange x (start_of x found)) case_is (subst (λ (i : Image). IsInRange (data_of case) (start_of (data_of case) i)) image_is (record {
@@ -135,8 +161,6 @@ case-in-range words bytes case image reads loads valid c found is =
 
 -- what is refused is no case
 pub refused-in-range : (words : List (List ℕ)) (bytes : List ℕ) (response : Response) → carried_out words bytes ≡ Err response → CasesAreInRange words bytes
-refused-in-range words bytes response refused c image is =
-    let goes_on = all_steps words bytes Judge c image (ap (λ o. ok_or o usage) is.asked)
-    (ap (λ b. cond b (Err too_long) (Ok tt)) (le-ltb 16777216 _ is.short)) (ap (or_refusal case_refusal) is.reads) refl (ap (or_refusal image_refusal) is.loads) in
-    let both = sym refused ∙ goes_on in
+refused-in-range words bytes response refused command c image is =
+    let both = sym refused ∙ case-steps words bytes command c image is in
     absurd (cc)

@@ -1,23 +1,29 @@
 -- The steps of the program, and what every outcome is.
-use Rattle.std.proofs.Common.{◌≡◌, ℕ, suc, ◌<◌, List, length, Result, Ok, Err, Option, Some, None, Bool, true, false, cond, codes, IfSome, replicate, lt-ltb, refl, sym, ap, subst, ◌∙◌, ◌↔◌, arith}
+use Rattle.std.proofs.Common.{◌≡◌, ℕ, suc, ◌<◌, List, length, Result, Ok, Err, Option, Some, None, Bool, true, false, cond, codes, IfSome, IfOk, replicate, lt-ltb, refl, sym, ap, subst, ◌∙◌, ◌↔◌, arith}
 use Rattle.std.specs.Option.{ok_or}
 use Rattle.std.proofs.lemmas.Bool.{false≢true}
 use Rattle.std.proofs.lemmas.List.{length-replicate}
 use Rattle.rd_base.specs.Results.{◌>>=◌}
 use Rattle.sha2.specs.Sha256.{sha256}
 use Rattle.rv_step.specs.State.{State}
-use Rattle.case_reader.specs.Case.{CaseData, case_at}
+use Rattle.case_reader.specs.Case.{CaseData, case_at, data_of}
+use Rattle.case_reader.specs.declared.case.Case.{Case as TheCase}
 use Rattle.image_reader.specs.Image.{Image}
 use Rattle.tournament.specs.declared.verdict.Verdict.{Verdict}
 use Rattle.tournament.specs.declared.verdict.Verdict.TheVariants.{Accept, NoneLeft, Collision as Collided}
 use Rattle.delegate.specs.Answered.{is_outcome, is_of_a_command}
 use Rattle.delegate.specs.Match.{record_of_case, verdict_of_case}
-use Rattle.delegate.specs.Outcome.{within_limit, within_bound, image_at, start_of, answered_by, ended, carried_out, either_way, outcome}
+use Rattle.workload.specs.Workload.{big_data}
+use Rattle.case_reader.specs.declared.fault.CaseFault.{CaseFault}
+use Rattle.delegate.specs.Outcome.{within_limit, case_of_bytes, case_for, within_bound, image_at, start_of, answered_by, ended, carried_out, either_way, outcome}
 use Rattle.delegate.specs.Refusal.{usage, too_long, bound_refusal, case_refusal, image_refusal, or_refusal}
 use Rattle.delegate.specs.Visible.{MayBe, ForItsBytes}
+use Rattle.delegate.specs.Stages.{Stands}
+use Rattle.delegate.specs.declared.response.Stop.{Stop}
+use Rattle.delegate.specs.declared.response.Stop.TheVariants.{Refused}
 use Rattle.delegate.specs.Words.{chosen}
 use Rattle.delegate.specs.declared.words.Command.{Command}
-use Rattle.delegate.specs.declared.words.Command.TheVariants.{Judge, Run, Roots}
+use Rattle.delegate.specs.declared.words.Command.TheVariants.{Judge, Run, Roots, Big}
 use Rattle.delegate.specs.declared.response.Response.{Response}
 use Rattle.delegate.specs.declared.answered.Answered.{Answered}
 use Rattle.delegate.specs.declared.answered.Answered.TheVariants.{Done, Usage, Case, Image as BadImage, ReadFault, WriteFault, AuditRefused, Memory, NoneLeft as NobodyLeft, Collision, TooLong}
@@ -33,30 +39,39 @@ pub no_command : (words : List (List ℕ)) (bytes : List ℕ) (response : Respon
 unfolding carried_out
 no_command words bytes response is = stops _ _ _ is
 
-pub too_many : (words : List (List ℕ)) (bytes : List ℕ) (command : Command) (response : Response) → ok_or (chosen words) usage ≡ Ok command → within_limit bytes ≡ Err response
+pub no_case : (words : List (List ℕ)) (bytes : List ℕ) (command : Command) (response : Response) → ok_or (chosen words) usage ≡ Ok command → case_for command bytes ≡ Err response
     → carried_out words bytes ≡ Err response
 unfolding carried_out
-too_many words bytes command response taken is = goes_on _ _ _ taken ∙ stops _ _ _ is
+no_case words bytes command response taken is = goes_on _ _ _ taken ∙ stops _ _ _ is
 
-pub no_case : (words : List (List ℕ)) (bytes : List ℕ) (command : Command) (response : Response) → ok_or (chosen words) usage ≡ Ok command → within_limit bytes ≡ Ok tt
-    → or_refusal case_refusal (case_at bytes) ≡ Err response → carried_out words bytes ≡ Err response
+pub no_bound : (words : List (List ℕ)) (bytes : List ℕ) (command : Command) (c : CaseData) (response : Response) → ok_or (chosen words) usage ≡ Ok command → case_for command bytes ≡ Ok c
+    → within_bound command c ≡ Err response → carried_out words bytes ≡ Err response
 unfolding carried_out
-no_case words bytes command response taken short is = goes_on _ _ _ taken ∙ (goes_on _ _ _ short ∙ stops _ _ _ is)
+no_bound words bytes command c response taken reads is = goes_on _ _ _ taken ∙ (goes_on _ _ _ reads ∙ stops _ _ _ is)
 
-pub no_bound : (words : List (List ℕ)) (bytes : List ℕ) (command : Command) (c : CaseData) (response : Response) → ok_or (chosen words) usage ≡ Ok command → within_limit bytes ≡ Ok tt
-    → or_refusal case_refusal (case_at bytes) ≡ Ok c → within_bound command c ≡ Err response → carried_out words bytes ≡ Err response
+pub no_image : (words : List (List ℕ)) (bytes : List ℕ) (command : Command) (c : CaseData) (response : Response) → ok_or (chosen words) usage ≡ Ok command → case_for command bytes ≡ Ok c
+    → within_bound command c ≡ Ok tt → or_refusal image_refusal (image_at c) ≡ Err response → carried_out words bytes ≡ Err response
 unfolding carried_out
-no_bound words bytes command c response taken short reads is = goes_on _ _ _ taken ∙ (goes_on _ _ _ short ∙ (goes_on _ _ _ reads ∙ stops _ _ _ is))
+no_image words bytes command c response taken reads few is = goes_on _ _ _ taken ∙ (goes_on _ _ _ reads ∙ (goes_on _ _ _ few ∙ stops _ _ _ is))
 
-pub no_image : (words : List (List ℕ)) (bytes : List ℕ) (command : Command) (c : CaseData) (response : Response) → ok_or (chosen words) usage ≡ Ok command → within_limit bytes ≡ Ok tt
-    → or_refusal case_refusal (case_at bytes) ≡ Ok c → within_bound command c ≡ Ok tt → or_refusal image_refusal (image_at c) ≡ Err response → carried_out words bytes ≡ Err response
+pub all_steps : (words : List (List ℕ)) (bytes : List ℕ) (command : Command) (c : CaseData) (image : Image) → ok_or (chosen words) usage ≡ Ok command → case_for command bytes ≡ Ok c
+    → within_bound command c ≡ Ok tt → or_refusal image_refusal (image_at c) ≡ Ok image → carried_out words bytes ≡ Ok (ended sha256 command c (start_of c image))
 unfolding carried_out
-no_image words bytes command c response taken short reads few is = goes_on _ _ _ taken ∙ (goes_on _ _ _ short ∙ (goes_on _ _ _ reads ∙ (goes_on _ _ _ few ∙ stops _ _ _ is)))
+all_steps words bytes command c image taken reads few loads = goes_on _ _ _ taken ∙ (goes_on _ _ _ reads ∙ (goes_on _ _ _ few ∙ goes_on _ _ _ loads))
 
-pub all_steps : (words : List (List ℕ)) (bytes : List ℕ) (command : Command) (c : CaseData) (image : Image) → ok_or (chosen words) usage ≡ Ok command → within_limit bytes ≡ Ok tt
-    → or_refusal case_refusal (case_at bytes) ≡ Ok c → within_bound command c ≡ Ok tt → or_refusal image_refusal (image_at c) ≡ Ok image → carried_out words bytes ≡ Ok (ended sha256 command c (start_of c image))
-unfolding carried_out
-all_steps words bytes command c image taken short reads few loads = goes_on _ _ _ taken ∙ (goes_on _ _ _ short ∙ (goes_on _ _ _ reads ∙ (goes_on _ _ _ few ∙ goes_on _ _ _ loads)))
+-- the steps of reading a case
+
+pub too_many : (bytes : List ℕ) (response : Response) → within_limit bytes ≡ Err response → case_of_bytes bytes ≡ Err response
+unfolding case_of_bytes
+too_many bytes response is = stops _ _ _ is
+
+pub no_case_in : (bytes : List ℕ) (response : Response) → within_limit bytes ≡ Ok tt → or_refusal case_refusal (case_at bytes) ≡ Err response → case_of_bytes bytes ≡ Err response
+unfolding case_of_bytes
+no_case_in bytes response short is = goes_on _ _ _ short ∙ is
+
+pub case_in_bytes : (bytes : List ℕ) (c : CaseData) → within_limit bytes ≡ Ok tt → or_refusal case_refusal (case_at bytes) ≡ Ok c → case_of_bytes bytes ≡ Ok c
+unfolding case_of_bytes
+case_in_bytes bytes c short is = goes_on _ _ _ short ∙ is
 
 -- there are bytes that a source may have had
 pub some_bytes : (left : Option (List ℕ)) (P : List ℕ → Type 0) → ((bytes : List ℕ) → P bytes) → ForItsBytes left P
@@ -86,6 +101,23 @@ pub outcome-err : (words : List (List ℕ)) (bytes : List ℕ) (response : Respo
 unfolding outcome
 outcome-err words bytes response is = sym (ap either_way is)
 
+-- what became of reading a case
+
+pub case-done : (left : Option (List ℕ)) (bytes : List ℕ) (result : Result TheCase Stop) → MayBe left bytes → within_limit bytes ≡ Ok tt → Stands data_of result (or_refusal case_refusal (case_at bytes))
+    → IfOk result (λ case. ForItsBytes left (λ bytes. case_of_bytes bytes ≡ Ok (data_of case)))
+case-done left bytes (Ok case) may short stands = (bytes, may, case_in_bytes bytes (data_of case) short stands)
+case-done left bytes (Err stop) may short stands = tt
+
+pub case-refused : (left : Option (List ℕ)) (bytes : List ℕ) (result : Result TheCase Stop) → MayBe left bytes → within_limit bytes ≡ Ok tt → Stands data_of result (or_refusal case_refusal (case_at bytes))
+    → (response : Response) → result ≡ Err (Refused response) → ForItsBytes left (λ bytes. case_of_bytes bytes ≡ Err response)
+case-refused left bytes (Ok case) may short stands response is = absurd (cc)
+case-refused left bytes (Err stop) may short stands response is = (bytes, may, no_case_in bytes response short (stands response (cc)))
+
+pub workload-done : (left : Option (List ℕ)) (seed : ℕ) (result : Result TheCase Stop) → IfOk result (λ case. big_data seed ≡ data_of case)
+    → IfOk result (λ case. ForItsBytes left (λ bytes. case_for (Big seed) bytes ≡ Ok (data_of case)))
+workload-done left seed (Ok case) is = some_bytes left (λ bytes. case_for (Big seed) bytes ≡ Ok (data_of case)) (λ bytes. ap Ok is)
+workload-done left seed (Err stop) is = tt
+
 -- an answer to bytes that were read
 abbrev pub answers_bytes : Answered → Bool
 answers_bytes Usage = false
@@ -110,6 +142,7 @@ limited refusal false e is = absurd (cc)
 bounded : (command : Command) (c : CaseData) (e : Response) → within_bound command c ≡ Err e → e ≡ bound_refusal
 bounded Judge c e is = absurd (cc)
 bounded Run c e is = absurd (cc)
+bounded (Big seed) c e is = absurd (cc)
 bounded Roots c e is = limited bound_refusal _ e is
 
 verdict-kind : (verdict : Verdict) → answers_bytes (answered_by verdict) ≡ true
@@ -119,6 +152,7 @@ verdict-kind (Collided x y) = refl
 
 ended-kind : (command : Command) (c : CaseData) (start : State) → answers_bytes (ended sha256 command c start).answered ≡ true
 ended-kind Judge c start = verdict-kind (verdict_of_case sha256 c start (record_of_case sha256 c start))
+ended-kind (Big seed) c start = verdict-kind (verdict_of_case sha256 c start (record_of_case sha256 c start))
 ended-kind Run c start = refl
 ended-kind Roots c start = refl
 
@@ -126,15 +160,33 @@ abbrev AnswersBytes : Response → Type 0
 AnswersBytes response = answers_bytes response.answered ≡ true
 
 -- arguments that name a command are answered as it is, or the bytes are
+
+read-kind : (bytes : List ℕ) (next : CaseData → Result Response Response) → ((c : CaseData) → AnswersBytes (either_way (next c))) → AnswersBytes (either_way (case_of_bytes bytes >>= next))
+unfolding case_of_bytes
+read-kind bytes next further = by (within_limit bytes) refl
+  where
+    read : (r : Result CaseData CaseFault) → AnswersBytes (either_way (or_refusal case_refusal r >>= next))
+    read (Ok c) = further c
+    read (Err fault) = refl
+
+    by : (limited : Result (Unit {0}) Response) → within_limit bytes ≡ limited → AnswersBytes (either_way ((limited >>= (λ short. or_refusal case_refusal (case_at bytes))) >>= next))
+    by (Ok short) is = read (case_at bytes)
+    by (Err e) is = subst AnswersBytes (sym (limited too_long _ e is)) refl
+
+case-kind : (command : Command) (bytes : List ℕ) (next : CaseData → Result Response Response) → ((c : CaseData) → AnswersBytes (either_way (next c))) → AnswersBytes (either_way (case_for command bytes >>= next))
+case-kind (Big seed) bytes next further = further (big_data seed)
+case-kind Judge bytes next further = read-kind bytes next further
+case-kind Run bytes next further = read-kind bytes next further
+case-kind Roots bytes next further = read-kind bytes next further
+
 taken-kind : (words : List (List ℕ)) (bytes : List ℕ) (command : Command) → chosen words ≡ Some command → AnswersBytes (outcome words bytes)
 unfolding outcome carried_out
 taken-kind words bytes command is =
     step AnswersBytes _ _ (λ e none. absurd (named is none))
-    (λ command. step AnswersBytes (within_limit bytes) _ (λ e long. subst AnswersBytes (sym (limited too_long _ e long)) refl)
-    (λ short. step AnswersBytes _ _ (refused AnswersBytes case_refusal (case_at bytes) (λ fault. refl))
+    (λ command. case-kind command bytes _
     (λ c. step AnswersBytes (within_bound command c) _ (λ e many. subst AnswersBytes (sym (bounded command c e many)) refl)
     (λ few. step AnswersBytes _ _ (refused AnswersBytes image_refusal (image_at c) (λ fault. refl))
-    (λ image. ended-kind command c (start_of c image))))))
+    (λ image. ended-kind command c (start_of c image)))))
   where
     named : {e : Response} → chosen words ≡ Some command → ok_or (chosen words) usage ≡ Err e → ⊥
     named some none = let is = sym (ap (λ o. ok_or o usage) some) ∙ none in cc

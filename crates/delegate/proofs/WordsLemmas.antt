@@ -1,20 +1,24 @@
 -- What the clauses of `clap` say of our command line.
-use Rattle.std.proofs.Common.{ℕ, max, Result, Ok, Err, arith, ◌≡◌, ◌≢◌, inl, inr, subst, ◌∙◌, List, [], ◌∷◌, true, Option, Some, None, option_map, codes, refl, sym, ap, cond}
-use Rattle.std.specs.Str.Parse.{ParsesUnsigned, digits_value, without_leading_plus}
+use Rattle.std.proofs.Common.{ℕ, Bool, false, ◌<◌, ◌≤◌, ◌^◌, max, Result, Ok, Err, arith, ◌≡◌, ◌≢◌, inl, inr, subst, ◌∙◌, List, [], ◌∷◌, true, Option, Some, None, codes, refl, sym, ap, cond}
+use Rattle.std.specs.Option.{option_and_then}
+use Rattle.std.specs.Str.Parse.{IsNumeral, ParsesUnsigned, digits_value, without_leading_plus}
 use Rattle.clap.specs.Walk.{Text}
 use Rattle.clap.specs.Matches.{ReadsOne}
 use Rattle.clap.specs.Simple.{App, HasMatchesOf, is_simple, subcommand_of, subcommand_rows_of}
 use Rattle.clap.specs.Kinds.{HasKind, IsAmong, Kinds}
 use Rattle.clap.specs.Values.{IsUnsignedIn, kind_of}
+use Rattle.clap.specs.ValueTests.{is_unsigned_in}
+use Rattle.clap.specs.declared.builder.value_parser.ValueParser.TheVariants as vp
+use Rattle.clap.proofs.ValueTestLemmas.{accepts-Accepts, Accepts-accepts}
 use Rattle.clap.specs.declared.error.Error.{Error}
 use Rattle.clap.specs.declared.error.kind.ErrorKind.TheVariants.{OutOfMemory}
 use Rattle.clap.specs.Faults.{fault_of, is_simple_and_free}
 use Rattle.clap.specs.declared.error.kind.ErrorKind.{ErrorKind}
 use Rattle.clap.specs.declared.parser.matches.ArgMatches.{ArgMatches}
 use Rattle.clap.proofs.OnLiterals.{clap_on_literals}
-use Rattle.delegate.specs.Words.{command_line, is_faultless, is_taken, command_of, named, name_of, chosen, rows_given, given_options, IsNumberOf}
+use Rattle.delegate.specs.Words.{command_line, is_faultless, is_taken, command_of, named, seed_in, chosen, rows_given, given_options, IsNumberOf}
 use Rattle.delegate.specs.declared.words.Command.{Command}
-use Rattle.delegate.specs.declared.words.Command.TheVariants.{Judge, Run, Roots}
+use Rattle.delegate.specs.declared.words.Command.TheVariants.{Judge, Run, Roots, Big}
 
 pub command_line-is-simple : is_simple command_line ≡ true
 unfolding command_line
@@ -50,6 +54,14 @@ pub roots_is_taken : (program : Text) → chosen (program ∷ codes "roots" ∷ 
 unfolding clap_on_literals command_line is_taken command_of
 roots_is_taken program = refl
 
+pub least_seed_is_taken : (program : Text) → chosen (program ∷ codes "big" ∷ codes "0" ∷ []) ≡ Some (Big 0)
+unfolding clap_on_literals command_line is_taken command_of
+least_seed_is_taken program = refl
+
+pub most_seed_is_taken : (program : Text) → chosen (program ∷ codes "big" ∷ codes "4294967295" ∷ codes "--posters" ∷ codes "8" ∷ []) ≡ Some (Big 4294967295)
+unfolding clap_on_literals command_line is_taken command_of
+most_seed_is_taken program = refl
+
 -- and these with options, at the ends of their ranges
 
 pub least_numbers_are_taken : (program : Text) → chosen (program ∷ codes "judge" ∷ codes "--workers" ∷ codes "1" ∷ codes "--posters" ∷ codes "1" ∷ codes "--every" ∷ codes "1" ∷ []) ≡ Some Judge
@@ -79,6 +91,18 @@ pub more_steps_are_refused : IsRefused (codes "--every") (codes "65537")
 unfolding clap_on_literals command_line is_taken command_of
 more_steps_are_refused program = refl
 
+pub larger_seeds_are_refused : (program : Text) → chosen (program ∷ codes "big" ∷ codes "4294967296" ∷ []) ≡ None
+unfolding clap_on_literals command_line is_taken command_of
+larger_seeds_are_refused program = refl
+
+pub no_seed_is_refused : (program : Text) → chosen (program ∷ codes "big" ∷ []) ≡ None
+unfolding clap_on_literals command_line is_taken command_of
+no_seed_is_refused program = refl
+
+pub two_seeds_are_refused : (program : Text) → chosen (program ∷ codes "big" ∷ codes "0" ∷ codes "0" ∷ []) ≡ None
+unfolding clap_on_literals command_line is_taken command_of
+two_seeds_are_refused program = refl
+
 -- a parse that succeeds gives the command and its options
 
 abbrev Parsed : App → List Text → ArgMatches → Type 0
@@ -87,11 +111,11 @@ Parsed a words m = (a ≡ command_line) × (is_simple_and_free a ≡ true → fa
 rows-of-parse : (a : App) (words : List Text) (m : ArgMatches) → Parsed a words m → subcommand_rows_of m ≡ subcommand_of command_line words
 rows-of-parse a words m parsed = subst (λ x. subcommand_rows_of m ≡ subcommand_of x words) parsed.0 (parsed.2 (ap is_simple parsed.0 ∙ command_line-is-simple)).1
 
-command-of-rows : (m : ArgMatches) (words : List Text) → subcommand_rows_of m ≡ subcommand_of command_line words → named (option_map name_of (subcommand_rows_of m)) ≡ command_of words
+command-of-rows : (m : ArgMatches) (words : List Text) → subcommand_rows_of m ≡ subcommand_of command_line words → named (subcommand_rows_of m) ≡ command_of words
 unfolding command_of
-command-of-rows m words rows = ap (λ entered. named (option_map name_of entered)) rows
+command-of-rows m words rows = ap named rows
 
-pub chosen-of-parse : (a : App) (words : List Text) (m : ArgMatches) (command : Option Command) → Parsed a words m → command ≡ named (option_map name_of (subcommand_rows_of m))
+pub chosen-of-parse : (a : App) (words : List Text) (m : ArgMatches) (command : Option Command) → Parsed a words m → command ≡ named (subcommand_rows_of m)
     → command ≡ chosen words
 chosen-of-parse a words m command parsed is =
     let none = subst (λ x. fault_of x words ≡ []) parsed.0 (parsed.1 (ap is_simple_and_free parsed.0 ∙ command_line-is-free)) in
@@ -136,3 +160,25 @@ no-number (Some t) (Some text) default parses same value = λ within.
     let failed = value t refl in
     let within_t = subst (λ w. IsUnsignedIn 1 4294967295 w) (sym t_is) within in
     absurd (parses t (Err failed.0) failed.1 (within_t.0, omega (arith, within_t.3)))
+
+-- the seed that a text gives
+
+seed-of-number : (t : Text) (v : ℕ) → (IsNumeral 10 (without_leading_plus t) × (digits_value 10 (without_leading_plus t) < 2 ^ 32)) × (v ≡ digits_value 10 (without_leading_plus t)) → Some v ≡ seed_in t
+seed-of-number t v parsed =
+    let small : digits_value 10 (without_leading_plus t) < 2 ^ 64 = omega (arith, parsed.0.1) in
+    let fits : digits_value 10 (without_leading_plus t) ≤ 4294967295 = omega (arith, parsed.0.1) in
+    let zero_below : 0 ≤ digits_value 10 (without_leading_plus t) = omega arith in
+    let passes : is_unsigned_in 0 4294967295 t ≡ true = Accepts-accepts false (vp.Unsigned 0 4294967295) t (parsed.0.0, small, zero_below, fits) in
+    rw passes (ap Some parsed.1)
+
+no-seed : (t : Text) (passes : Bool) → is_unsigned_in 0 4294967295 t ≡ passes → ¬ (IsNumeral 10 (without_leading_plus t) × (digits_value 10 (without_leading_plus t) < 2 ^ 32)) → None ≡ seed_in t
+no-seed t true is failed =
+    let accepted = accepts-Accepts false (vp.Unsigned 0 4294967295) t is in
+    absurd (failed (accepted.0, omega (arith, accepted.3)))
+no-seed t false is failed = rw is refl
+
+pub seed-of-getter : {E : Type 0} {gives : List ℕ → Result ℕ E → Type 0} (read given : Option Text) (r : Option ℕ) → Parses E gives → read ≡ given
+    → (read ≡ None → r ≡ None) → ((t : Text) → read ≡ Some t → ReadsOne gives t r) → r ≡ option_and_then seed_in given
+seed-of-getter None given r parses same none value = rw (← same) (none refl)
+seed-of-getter (Some t) given (Some v) parses same none value = rw (← same) (seed-of-number t v (parses t (Ok v) (value t refl)))
+seed-of-getter (Some t) given None parses same none value = let failed = value t refl in rw (← same) (no-seed t _ refl (parses t (Err failed.0) failed.1))

@@ -13,11 +13,14 @@ use Rattle.image_reader.specs.Elf.{elf_at}
 use Rattle.image_reader.specs.declared.fault.ImageFault.{ImageFault}
 use Rattle.transcript_text.specs.Report.{report_text, answer_line_text}
 use Rattle.transcript_text.specs.Roots.{root_lines}
+use Rattle.transcript_text.specs.Summary.{summary_text}
+use Rattle.tournament.specs.Bracket.{Record}
+use Rattle.workload.specs.Workload.{big_data}
 use Rattle.tournament.specs.declared.verdict.Verdict.{Verdict}
 use Rattle.tournament.specs.declared.verdict.Verdict.TheVariants.{Accept, NoneLeft, Collision}
 use Rattle.delegate.specs.Words.{chosen}
 use Rattle.delegate.specs.declared.words.Command.{Command}
-use Rattle.delegate.specs.declared.words.Command.TheVariants.{Judge, Run, Roots}
+use Rattle.delegate.specs.declared.words.Command.TheVariants.{Judge, Run, Roots, Big}
 use Rattle.delegate.specs.Match.{record_of_case, verdict_of_case, head_of}
 use Rattle.delegate.specs.Refusal.{usage, too_long, bound_refusal, case_refusal, image_refusal, or_refusal}
 use Rattle.delegate.specs.declared.response.Response.{Response}
@@ -27,6 +30,17 @@ use Rattle.delegate.specs.declared.answered.Answered.TheVariants as answered
 -- not more than the most bytes that are read
 abbrev pub within_limit : List ℕ → Result (Unit {0}) Response
 within_limit bytes = if nat_lt 16777216 (length bytes) then Err too_long else Ok tt
+
+-- the case of bytes that are read
+unfoldable pub case_of_bytes : List ℕ → Result CaseData Response
+case_of_bytes bytes = do
+  short ← within_limit bytes
+  or_refusal case_refusal (case_at bytes)
+
+-- the case of a command: that of the bytes, or the large workload of a seed, for which nothing is read
+abbrev pub case_for : Command → List ℕ → Result CaseData Response
+case_for (Big seed) bytes = Ok (big_data seed)
+case_for command bytes = case_of_bytes bytes
 
 -- for roots, not more than the most steps whose roots are written
 abbrev pub within_bound : Command → CaseData → Result (Unit {0}) Response
@@ -46,12 +60,17 @@ answered_by (Accept number) = answered.Done
 answered_by NoneLeft = answered.NoneLeft
 answered_by (Collision x y) = answered.Collision
 
--- the verdict of a case and its report: they depend on nothing but the case and the digest function
-abbrev pub reported : (List ℕ → List ℕ) → CaseData → State → Response
-reported digest c start =
+-- the text of a match that is decided: its report, or the summary of a large workload
+abbrev pub match_text : Command → CaseData → Record → Verdict → List ℕ
+match_text (Big seed) c settled verdict = summary_text seed settled verdict
+match_text command c settled verdict = report_text (head_of c) settled verdict
+
+-- the verdict of a case and its text: they depend on nothing but the command, the case and the digest function
+abbrev pub reported : (List ℕ → List ℕ) → Command → CaseData → State → Response
+reported digest command c start =
     let settled = record_of_case digest c start in
     let verdict = verdict_of_case digest c start settled in
-    record { answered = answered_by verdict; text = report_text (head_of c) settled verdict }
+    record { answered = answered_by verdict; text = match_text command c settled verdict }
 
 -- the run's status and output, in the state at the bound
 abbrev pub run_answer : CaseData → State → Response
@@ -65,7 +84,8 @@ roots_answer digest c start = record { answered = answered.Done; text = root_lin
 
 -- a command on a case whose run starts in this state
 abbrev pub ended : (List ℕ → List ℕ) → Command → CaseData → State → Response
-ended digest Judge c start = reported digest c start
+ended digest Judge c start = reported digest Judge c start
+ended digest (Big seed) c start = reported digest (Big seed) c start
 ended digest Run c start = run_answer c start
 ended digest Roots c start = roots_answer digest c start
 
@@ -73,8 +93,7 @@ ended digest Roots c start = roots_answer digest c start
 unfoldable pub carried_out : List (List ℕ) → List ℕ → Result Response Response
 carried_out words bytes = do
   command ← ok_or (chosen words) usage
-  short ← within_limit bytes
-  c ← or_refusal case_refusal (case_at bytes)
+  c ← case_for command bytes
   few ← within_bound command c
   image ← or_refusal image_refusal (image_at c)
   Ok (ended sha256 command c (start_of c image))

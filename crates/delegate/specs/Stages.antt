@@ -2,6 +2,7 @@
 use Rattle.std.specs.Prelude.{◌≡◌, ℕ, List, Result, Ok, Err}
 use Rattle.case_reader.specs.Case.{CaseData}
 use Rattle.image_reader.specs.Image.{Image}
+use Rattle.delegate.specs.declared.words.Command.{Command}
 use Rattle.delegate.specs.Headline.{IsCase, IsInRange}
 use Rattle.delegate.specs.Outcome.{start_of}
 use Rattle.delegate.specs.declared.response.Response.{Response}
@@ -15,4 +16,4 @@ Stands view (Err stop) defined = (response : Response) → stop ≡ Refused resp
 
 -- the case of these arguments and bytes, where it is one, is in range
 abbrev pub CasesAreInRange : List (List ℕ) → List ℕ → Type 0
-CasesAreInRange words bytes = (c : CaseData) (image : Image) → IsCase words bytes c image → IsInRange c (start_of c image)
+CasesAreInRange words bytes = (command : Command) (c : CaseData) (image : Image) → IsCase words bytes command c image → IsInRange c (start_of c image)

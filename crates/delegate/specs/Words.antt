@@ -6,12 +6,13 @@ use Rattle.std.specs.Str.{bytes_eq}
 use Rattle.std.specs.Str.Parse.{digits_value, without_leading_plus}
 use Rattle.clap.specs.Kinds.{Kinds}
 use Rattle.clap.specs.Values.{IsUnsignedIn}
+use Rattle.clap.specs.ValueTests.{is_unsigned_in}
 use Rattle.clap.specs.Walk.{Row, Rule, Text, one_of}
 use Rattle.clap.specs.Simple.{App, Shape, new_app, new_rule, new_shape, on_top, subcommand_of, with_rule, with_subcommand}
 use Rattle.clap.specs.Faults.{fault_of}
 use Rattle.clap.specs.declared.builder.value_parser.ValueParser.TheVariants as vp
 use Rattle.delegate.specs.declared.words.Command.{Command}
-use Rattle.delegate.specs.declared.words.Command.TheVariants.{Judge, Run, Roots}
+use Rattle.delegate.specs.declared.words.Command.TheVariants.{Judge, Run, Roots, Big}
 use Rattle.delegate.specs.declared.words.Options.{Options}
 
 -- arguments as their bytes
@@ -25,17 +26,27 @@ with_required_subcommand shape = record shape { subcommand_required = true }
 abbrev pub number_option : Text → ℕ → Text → Rule
 number_option name most default = record (new_rule name) { long = Some name; parser = Some (vp.Signed (pos 1) (pos most)); defaults = default ∷ [] }
 
--- the command `judge`: `--workers` from 1 to 64, `--posters` from 1 to 16, `--every` from 1 to 65,536
-abbrev pub judge_line : App
-judge_line =
-    with_rule (with_rule (with_rule (new_app (codes "judge")) (number_option (codes "workers") 64 (codes "1"))) (number_option (codes "posters") 16 (codes "1")))
+-- a command with the options of a match: `--workers` from 1 to 64, `--posters` from 1 to 16, `--every` from 1 to 65,536
+abbrev pub with_match_options : App → App
+with_match_options app =
+    with_rule (with_rule (with_rule app (number_option (codes "workers") 64 (codes "1"))) (number_option (codes "posters") 16 (codes "1")))
     (number_option (codes "every") 65536 (codes "1024"))
 
--- the command line: one of the commands `judge`, `run` and `roots`, the last two without options
+abbrev pub judge_line : App
+judge_line = with_match_options (new_app (codes "judge"))
+
+-- the seed of `big`, from 0 to 4,294,967,295, which has to be given
+abbrev pub seed_rule : Rule
+seed_rule = record (new_rule (codes "N")) { parser = Some (vp.Signed (pos 0) (pos 4294967295)); required = true }
+
+abbrev pub big_line : App
+big_line = with_match_options (with_rule (new_app (codes "big")) seed_rule)
+
+-- the command line: one of the commands `judge`, `run`, `roots` and `big`, of which `run` and `roots` have no options
 unfoldable pub command_line : App
 command_line =
-    with_subcommand (with_subcommand (with_subcommand (on_top with_required_subcommand (new_app (codes "refcli"))) judge_line.top) (new_shape (codes "run")))
-    (new_shape (codes "roots"))
+    with_subcommand (with_subcommand (with_subcommand (with_subcommand (on_top with_required_subcommand (new_app (codes "refcli"))) judge_line.top)
+    (new_shape (codes "run"))) (new_shape (codes "roots"))) big_line.top
 
 -- there is no fault among those that may be found
 abbrev pub is_faultless : Kinds → Bool
@@ -46,23 +57,25 @@ is_faultless (kind ∷ kinds) = false
 unfoldable pub is_taken : List Text → Bool
 is_taken words = is_faultless (fault_of command_line words)
 
--- the command of a name
-abbrev pub command_of_name : List ℕ → Option Command
-command_of_name name =
+-- the seed of a text: a decimal number below 2^32
+abbrev pub seed_in : Text → Option ℕ
+seed_in text = if is_unsigned_in 0 4294967295 text then Some (digits_value 10 (without_leading_plus text)) else None
+
+-- the command of a name, by what was given to it
+abbrev pub command_of_name : Text → List Row → Option Command
+command_of_name name rows =
     if bytes_eq name (codes "judge") then Some Judge
     else if bytes_eq name (codes "run") then Some Run
     else if bytes_eq name (codes "roots") then Some Roots
+    else if bytes_eq name (codes "big") then option_map Big (option_and_then seed_in (one_of (codes "N") rows))
     else None
 
-abbrev pub named : Option Text → Option Command
-named name = option_and_then command_of_name name
-
-abbrev pub name_of : Text × List Row → Text
-name_of entered = entered.0
+abbrev pub named : Option (Text × List Row) → Option Command
+named entered = option_and_then (λ e. command_of_name e.0 e.1) entered
 
 -- the command of the subcommand that the arguments name
 unfoldable pub command_of : List Text → Option Command
-command_of words = named (option_map name_of (subcommand_of command_line words))
+command_of words = named (subcommand_of command_line words)
 
 -- the command, where the arguments are taken
 abbrev pub chosen : List Text → Option Command
@@ -85,3 +98,15 @@ pub record AreGiven (rows : List Row) (options : Options) : Type 0 where
   pub workers : IsNumberOf (one_of (codes "workers") rows) 1 options.workers
   pub posters : IsNumberOf (one_of (codes "posters") rows) 1 options.posters
   pub every : IsNumberOf (one_of (codes "every") rows) 1024 options.every
+
+-- the command reads a case from its source; no other arguments have anything read
+abbrev pub reads : Option Command → Bool
+reads None = false
+reads (Some (Big seed)) = false
+reads (Some command) = true
+
+-- the command decides a match
+abbrev pub decides : Command → Bool
+decides Judge = true
+decides (Big seed) = true
+decides command = false

@@ -3,12 +3,12 @@ ghost use Rattle.std.specs.Prelude.{◌≡◌, ◌<◌, [], IfOk};
 ghost use Rattle.rv_step.specs.State.{state_of, IsChained};
 ghost use Rattle.case_reader.specs.Case.{data_of};
 ghost use Rattle.delegate.specs.Match.{record_of_case, verdict_of_case as verdict_of_record, head_of};
-ghost use Rattle.delegate.specs.Outcome.{answered_by, reported};
+ghost use Rattle.delegate.specs.Outcome.{answered_by, match_text, reported};
 
 use crate::answered::Answered;
 use crate::playing::play_out;
 use crate::response::Response;
-use crate::words::Options;
+use crate::words::{Command, Options, Request};
 use case_reader::Case;
 use prover_run::{CaseProvers, answerers_of};
 use rd_base::{Bytes, Memory};
@@ -20,7 +20,7 @@ use std::sync::Wait;
 use std::thread::Threads;
 use step_referee::MachineJudge;
 use tournament::{Record, Setup, Verdict};
-use transcript_text::{DigestName, Head, report};
+use transcript_text::{DigestName, Head, report, summary};
 
 /// The match of a case whose run starts in this machine: what is settled in it, and how it ends. The machine has put out
 /// nothing, and its chain is that of no output by the digester `d`; each option is at least 1, and none changes the answer.
@@ -73,26 +73,44 @@ where
     )
 }
 
-/// Plays the match of a case, and reports it. The machine and the options are as for `verdict_of_case`.
+/// The text of a match that is decided: its report, or for a large workload its summary. An `Err` is out of memory.
+fn match_text(
+    alloc: Global,
+    command: Command,
+    case: &Case,
+    match_record: &Record,
+    verdict: &Verdict,
+) -> Result<Vec<u8>, Memory>
+    ensures { IfOk result (λ text. text.items ≡ match_text command (data_of case.now) match_record.now verdict.now) }
+{
+    match command {
+        Command::Big(seed) => summary(alloc, seed, match_record, verdict),
+        Command::Judge | Command::Run | Command::Roots => {
+            report(alloc, &head_of(case), match_record, verdict)
+        }
+    }
+}
+
+/// Plays the match of a case, and writes its report or summary. The machine and the options are as for `verdict_of_case`.
 pub fn judge<R: Threads + Wait + Sync, D: Replays>(
     rt: &R,
     alloc: Global,
     d: D,
+    request: Request,
     case: &Case,
     start: Machine,
-    options: Options,
 ) -> Result<Response, Memory>
 where
     D: Send + Sync,
     requires chained { IsChained D.digest_of start }
     requires silent { start.output.items ≡ [] }
-    requires workers { 0 < options.workers }
-    requires posters { 0 < options.posters }
-    requires every { 0 < options.every }
-    ensures { IfOk result (λ response. response ≡ reported D.digest_of (data_of case.now) (state_of start)) }
+    requires workers { 0 < request.options.workers }
+    requires posters { 0 < request.options.posters }
+    requires every { 0 < request.options.every }
+    ensures { IfOk result (λ response. response ≡ reported D.digest_of request.command (data_of case.now) (state_of start)) }
 {
-    let (match_record, verdict) = verdict_of_case(rt, alloc, d, case, start, options)?;
-    let text = report(alloc, &head_of(case), &match_record, &verdict)?;
+    let (match_record, verdict) = verdict_of_case(rt, alloc, d, case, start, request.options)?;
+    let text = match_text(alloc, request.command, case, &match_record, &verdict)?;
     Ok(Response {
         answered: answered_by(&verdict),
         text: Bytes::new(text),

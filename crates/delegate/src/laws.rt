@@ -18,6 +18,16 @@ pub fn plain_words()
     ensures roots { (program : List ℕ) → chosen (program ∷ codes "roots" ∷ []) ≡ Some Command.Roots }
 {}
 
+/// The seed of `big` is taken at the ends of its range, refused beyond it, and has to be given once.
+#[tactic(auto, using(crate::proofs::WordsLemmas::least_seed_is_taken, crate::proofs::WordsLemmas::most_seed_is_taken, crate::proofs::WordsLemmas::larger_seeds_are_refused, crate::proofs::WordsLemmas::no_seed_is_refused, crate::proofs::WordsLemmas::two_seeds_are_refused))]
+pub fn plain_seeds()
+    ensures least { (program : List ℕ) → chosen (program ∷ codes "big" ∷ codes "0" ∷ []) ≡ Some (Command.Big 0) }
+    ensures most { (program : List ℕ) → chosen (program ∷ codes "big" ∷ codes "4294967295" ∷ codes "--posters" ∷ codes "8" ∷ []) ≡ Some (Command.Big 4294967295) }
+    ensures larger { (program : List ℕ) → chosen (program ∷ codes "big" ∷ codes "4294967296" ∷ []) ≡ None }
+    ensures none { (program : List ℕ) → chosen (program ∷ codes "big" ∷ []) ≡ None }
+    ensures two { (program : List ℕ) → chosen (program ∷ codes "big" ∷ codes "0" ∷ codes "0" ∷ []) ≡ None }
+{}
+
 /// The options of `judge` are taken at the ends of their ranges, in any order, and refused beyond them.
 #[tactic(auto, using(crate::proofs::WordsLemmas::least_numbers_are_taken, crate::proofs::WordsLemmas::most_numbers_are_taken, crate::proofs::WordsLemmas::no_workers_are_refused, crate::proofs::WordsLemmas::more_workers_are_refused, crate::proofs::WordsLemmas::more_posters_are_refused, crate::proofs::WordsLemmas::more_steps_are_refused))]
 pub fn plain_options()

@@ -9,8 +9,8 @@
 mod answered;
 mod faults;
 mod judging;
-mod playing;
 mod laws;
+mod playing;
 mod process;
 mod program;
 mod responding;
@@ -22,7 +22,7 @@ mod words;
 
 pub use answered::Answered;
 pub use judging::verdict_of_case;
-pub use laws::{plain_options, plain_words, the_headline};
+pub use laws::{plain_options, plain_seeds, plain_words, the_headline};
 pub use process::{arguments, run_process};
 pub use program::run;
 pub use words::{Command, Options};

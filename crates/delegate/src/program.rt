@@ -1,4 +1,4 @@
-ghost use Rattle.std.specs.Prelude.{◌≡◌, ◌≢◌, ◌↔◌, ℕ, List, true, None, IfSome, codes};
+ghost use Rattle.std.specs.Prelude.{◌≡◌, ◌≢◌, ◌↔◌, ℕ, List, true, false, None, IfSome, codes};
 ghost use Rattle.std.specs.Io.KnownBytes.{Appends, IsAtEnd};
 ghost use Rattle.io_edge.specs.Device.{Rises, IsLaterIn, AppendsPart};
 ghost use Rattle.case_reader.specs.Case.{CaseData};
@@ -8,7 +8,8 @@ ghost use Rattle.sha2.specs.Sha256.{sha256};
 ghost use Rattle.delegate.specs.Outcome.{outcome, reported, start_of};
 ghost use Rattle.delegate.specs.Headline.{IsCase, IsTruthful, Headline};
 ghost use Rattle.delegate.specs.Visible.{ForItsBytes};
-ghost use Rattle.delegate.specs.Words.{texts, chosen};
+ghost use Rattle.delegate.specs.declared.words.Command.{Command};
+ghost use Rattle.delegate.specs.Words.{texts, chosen, reads};
 
 use crate::answered::Answered;
 use crate::laws::the_headline;
@@ -37,13 +38,13 @@ pub fn run<R: Threads + Wait + Sync, S: Source, K: Sink>(
         × Appends (K.held sink.old) (K.held sink.new) (outcome (texts words.now) bytes).text) }
     ensures of_a_command { is_outcome result ≡ true → is_of_a_command result ≡ true }
 
-    // Arguments that name no command are refused, and nothing is read.
+    // Arguments that name no command are refused, and nothing is read; nor is it for a large workload.
     ensures usage { is_outcome result ≡ true → (result ≡ Answered.Usage) ↔ (chosen (texts words.now) ≡ None) }
     ensures usage_text { result ≡ Answered.Usage → Appends (K.held sink.old) (K.held sink.new) (codes "fault usage\n") }
-    ensures unread { chosen (texts words.now) ≡ None → S.left source.new ≡ S.left source.old }
+    ensures unread { reads (chosen (texts words.now)) ≡ false → S.left source.new ≡ S.left source.old }
 
-    // Where the source stands: at its end, or after the bytes that it gave.
-    ensures read_whole { reads_all result ≡ true → IsAtEnd (S.left source.new) }
+    // Where the source of a command that reads stands: at its end, or after the bytes that it gave.
+    ensures read_whole { reads (chosen (texts words.now)) ≡ true → reads_all result ≡ true → IsAtEnd (S.left source.new) }
     ensures rest { IfSome (S.left source.old) (IsLaterIn (S.left source.new)) }
 
     // Faults of the devices come only where their counts rose, and nothing else raises those.
@@ -58,17 +59,17 @@ pub fn run<R: Threads + Wait + Sync, S: Source, K: Sink>(
     ensures nothing_read_fault { result ≡ Answered.ReadFault → K.held sink.new ≡ K.held sink.old }
     ensures nothing_memory { result ≡ Answered.Memory → K.held sink.new ≡ K.held sink.old }
 
-    // Completeness: each case is answered by the verdict of its record, and its report is written whole.
+    // Completeness: each case is answered by the verdict of its record, and its report or summary is written whole.
     ensures completeness { is_outcome result ≡ true → IfSome (S.left source.old) (λ bytes.
-        (c : CaseData) (image : Image) → IsCase (texts words.now) bytes c image →
-        (result ≡ (reported sha256 c (start_of c image)).answered)
-        × Appends (K.held sink.old) (K.held sink.new) (reported sha256 c (start_of c image)).text) }
+        (command : Command) (c : CaseData) (image : Image) → IsCase (texts words.now) bytes command c image →
+        (result ≡ (reported sha256 command c (start_of c image)).answered)
+        × Appends (K.held sink.old) (K.held sink.new) (reported sha256 command c (start_of c image)).text) }
 
     // The headline: a prover that claims and answers as the machine's definition says, within its patience, is not
     // eliminated, and the report accepts the sequential run's status and output or shows a collision. No option is named.
     ensures headline { is_outcome result ≡ true → IfSome (S.left source.old) (λ bytes.
-        (c : CaseData) (image : Image) (p : ℕ) → IsCase (texts words.now) bytes c image → IsTruthful c (start_of c image) p →
-        (text : List ℕ) × Headline (record { answered = result; text = text }) c (start_of c image) p
+        (command : Command) (c : CaseData) (image : Image) (p : ℕ) → IsCase (texts words.now) bytes command c image → IsTruthful c (start_of c image) p →
+        (text : List ℕ) × Headline command (record { answered = result; text = text }) c (start_of c image) p
         × Appends (K.held sink.old) (K.held sink.new) text) }
 {
     the_headline();

@@ -1,4 +1,4 @@
-ghost use Rattle.std.specs.Prelude.{◌≡◌, ◌↔◌, ◌<◌, [], true, None, Ok, Err, IfOk, IfSome, IsErrOf};
+ghost use Rattle.std.specs.Prelude.{◌≡◌, ◌↔◌, ◌<◌, [], true, false, None, Ok, Err, IfOk, IfSome, IsErrOf};
 ghost use Rattle.std.specs.Io.KnownBytes.{IsAtEnd};
 ghost use Rattle.io_edge.specs.Device.{Rises, IsLaterIn};
 ghost use Rattle.rv_step.specs.State.{state_of, IsChained};
@@ -7,7 +7,7 @@ ghost use Rattle.delegate.specs.Answered.{is_outcome, is_of_a_command, reads_all
 ghost use Rattle.delegate.specs.Outcome.{ended, carried_out, outcome};
 ghost use Rattle.delegate.specs.Stages.{CasesAreInRange};
 ghost use Rattle.delegate.specs.Visible.{ForItsBytes};
-ghost use Rattle.delegate.specs.Words.{texts, chosen};
+ghost use Rattle.delegate.specs.Words.{texts, chosen, reads};
 ghost use Rattle.delegate.specs.declared.response.Response.{Response};
 
 use crate::answered::Answered;
@@ -15,7 +15,7 @@ use crate::judging::judge;
 use crate::response::{Halt, Response, Stop};
 use crate::rooting::roots;
 use crate::running::run_program;
-use crate::stages::{bound_in, bytes_in, case_in, command_in, image_in};
+use crate::stages::{bound_in, case_for, command_in, image_in};
 use crate::words::{Command, Request};
 use case_reader::Case;
 use digest_core::Sha256;
@@ -46,7 +46,7 @@ where
     ensures { IfOk result (λ response. response ≡ ended D.digest_of request.command (data_of case.now) (state_of start)) }
 {
     match request.command {
-        Command::Judge => judge(rt, alloc, d, case, start, request.options),
+        Command::Judge | Command::Big(_) => judge(rt, alloc, d, request, case, start),
         Command::Run => run_program(alloc, d, case, start),
         Command::Roots => roots(rt, alloc, d, case, start),
     }
@@ -62,16 +62,15 @@ fn carry_out<R: Threads + Wait + Sync, S: Source>(
     ensures done { IfOk result (λ response. ForItsBytes (S.left source.old) (λ bytes. (carried_out (texts words.now) bytes ≡ Ok response) × CasesAreInRange (texts words.now) bytes)) }
     ensures refused { (response : Response) → result ≡ Err (Stop.Refused response) →
         ForItsBytes (S.left source.old) (λ bytes. carried_out (texts words.now) bytes ≡ Err response) }
-    ensures unread { chosen (texts words.now) ≡ None → S.left source.new ≡ S.left source.old }
-    ensures end { IfOk result (λ response. IsAtEnd (S.left source.new)) }
-    ensures end_refused { (response : Response) → result ≡ Err (Stop.Refused response) → reads_all response.answered ≡ true → IsAtEnd (S.left source.new) }
+    ensures unread { reads (chosen (texts words.now)) ≡ false → S.left source.new ≡ S.left source.old }
+    ensures end { IfOk result (λ response. reads (chosen (texts words.now)) ≡ true → IsAtEnd (S.left source.new)) }
+    ensures end_refused { (response : Response) → result ≡ Err (Stop.Refused response) → reads (chosen (texts words.now)) ≡ true → reads_all response.answered ≡ true → IsAtEnd (S.left source.new) }
     ensures rest { IfSome (S.left source.old) (IsLaterIn (S.left source.new)) }
     ensures fault { result ≡ Err (Stop.Halted Halt.ReadFault) → Rises (S.faults source.old) (S.faults source.new) }
     ensures count { ¬ (result ≡ Err (Stop.Halted Halt.ReadFault)) → S.faults source.new ≡ S.faults source.old }
 {
     let request = command_in(alloc, words)?;
-    let bytes = bytes_in(alloc, source)?;
-    let case = case_in(alloc, bytes.as_slice())?;
+    let case = case_for(alloc, request.command, source)?;
     bound_in(alloc, request.command, &case)?;
     let loaded = image_in(alloc, &case)?;
     let start = Machine::new(alloc, loaded.mem, loaded.entry, case.input.as_slice())?;
@@ -91,8 +90,8 @@ pub fn respond<R: Threads + Wait + Sync, S: Source>(
     ensures kind { IfOk result (λ response. is_outcome response.answered ≡ true) }
     ensures of_a_command { IfOk result (λ response. is_of_a_command response.answered ≡ true) }
     ensures usage { IfOk result (λ response. (response.answered ≡ Answered.Usage) ↔ (chosen (texts words.now) ≡ None)) }
-    ensures unread { chosen (texts words.now) ≡ None → S.left source.new ≡ S.left source.old }
-    ensures end { IfOk result (λ response. reads_all response.answered ≡ true → IsAtEnd (S.left source.new)) }
+    ensures unread { reads (chosen (texts words.now)) ≡ false → S.left source.new ≡ S.left source.old }
+    ensures end { IfOk result (λ response. reads (chosen (texts words.now)) ≡ true → reads_all response.answered ≡ true → IsAtEnd (S.left source.new)) }
     ensures rest { IfSome (S.left source.old) (IsLaterIn (S.left source.new)) }
     ensures fault { IsErrOf result Halt.ReadFault → Rises (S.faults source.old) (S.faults source.new) }
     ensures count { ¬ (IsErrOf result Halt.ReadFault) → S.faults source.new ≡ S.faults source.old }

@@ -1,8 +1,8 @@
 use crate::{Answered, run};
 use io_edge::{MemSink, MemSource};
 use std::alloc::{AllocError, Global};
-use std::test::Fail;
 use std::sync::Wait;
+use std::test::Fail;
 use std::thread::Threads;
 
 /// It puts the byte 42 and exits with status 0, in six steps.
@@ -118,11 +118,51 @@ fn answer_to<R: Threads + Wait + Sync>(
 fn the_worked_rows_give_their_reports(rt: HostRuntime) -> Result<(), Fail> {
     let alloc = rt.alloc();
     for (image, bound, patience, count, provers, answered, lines) in [
-        (ANSWER, "8", "0", "1", "{}", Answered::Done, "p1 claims exited 0 output 2a\naccept exited 0 output 2a\n"),
-        (LOOP, "1000", "0", "1", "{}", Answered::Done, "p1 claims running output\naccept running output\n"),
-        ("", "8", "0", "1", "{}", Answered::Done, "p1 claims trapped 2 output\naccept trapped 2 output\n"),
-        (DIVISION, "16", "0", "1", "{}", Answered::Done, "p1 claims exited 0 output 80ff\naccept exited 0 output 80ff\n"),
-        (STORE, "8", "0", "1", "{}", Answered::Done, "p1 claims trapped 4 output 7a\naccept trapped 4 output 7a\n"),
+        (
+            ANSWER,
+            "8",
+            "0",
+            "1",
+            "{}",
+            Answered::Done,
+            "p1 claims exited 0 output 2a\naccept exited 0 output 2a\n",
+        ),
+        (
+            LOOP,
+            "1000",
+            "0",
+            "1",
+            "{}",
+            Answered::Done,
+            "p1 claims running output\naccept running output\n",
+        ),
+        (
+            "",
+            "8",
+            "0",
+            "1",
+            "{}",
+            Answered::Done,
+            "p1 claims trapped 2 output\naccept trapped 2 output\n",
+        ),
+        (
+            DIVISION,
+            "16",
+            "0",
+            "1",
+            "{}",
+            Answered::Done,
+            "p1 claims exited 0 output 80ff\naccept exited 0 output 80ff\n",
+        ),
+        (
+            STORE,
+            "8",
+            "0",
+            "1",
+            "{}",
+            Answered::Done,
+            "p1 claims trapped 4 output 7a\naccept trapped 4 output 7a\n",
+        ),
         // A false output is faulty, and the run's own is the true claim.
         (
             ANSWER,
@@ -292,22 +332,23 @@ fn the_worked_rows_give_their_reports(rt: HostRuntime) -> Result<(), Fail> {
     Ok(())
 }
 
-/// The report of fifteen liars and one honest prover.
-fn report_of_sixteen(alloc: Global) -> Result<String, AllocError> {
-    let mut want = String::from_str(
-        alloc,
-        "match provers 16 bound 8 patience 0 version 1 fan 2 digest sha256\n",
+/// The report of so many liars and one honest prover after them: a stage for each liar.
+fn report_of_liars(alloc: Global, liars: u32) -> Result<String, AllocError> {
+    let honest = liars.saturating_add(1);
+    let mut want = format!(in alloc;
+        "match provers {honest} bound 8 patience 0 version 1 fan 2 digest sha256\n"
     )?;
-    for number in 1..16 {
-        let line = format!(in alloc; "p{number} claims exited 0 output 2b\n")?;
+    for liar in 1..honest {
+        let line = format!(in alloc; "p{liar} claims exited 0 output 2b\n")?;
         want.push_str(line.as_str())?;
     }
-    want.push_str("p16 claims exited 0 output 2a\n")?;
-    for number in 1..16 {
-        let lines = format!(in alloc; "stage {number}\ndispute {number} p{number} p16\n")?;
+    let line = format!(in alloc; "p{honest} claims exited 0 output 2a\n")?;
+    want.push_str(line.as_str())?;
+    for liar in 1..honest {
+        let lines = format!(in alloc; "stage {liar}\ndispute {liar} p{liar} p{honest}\n")?;
         want.push_str(lines.as_str())?;
         want.push_str(ROUNDS)?;
-        let line = format!(in alloc; "step 1 p{number} refuted p16 proved\n")?;
+        let line = format!(in alloc; "step 1 p{liar} refuted p{honest} proved\n")?;
         want.push_str(line.as_str())?;
     }
     want.push_str("accept exited 0 output 2a\n")?;
@@ -315,19 +356,23 @@ fn report_of_sixteen(alloc: Global) -> Result<String, AllocError> {
 }
 
 #[test]
-fn no_option_changes_the_report_of_sixteen_provers(rt: HostRuntime) -> Result<(), Fail> {
+fn no_option_changes_a_report(rt: HostRuntime) -> Result<(), Fail> {
     let alloc = rt.alloc();
-    let liars = "LIAR,".repeat(alloc, 15)?;
-    let provers = format!(in alloc; "{liars}{{}}")?;
-    let want = report_of_sixteen(alloc)?;
-    let tables: [&[&str]; 4] = [
-        &["refcli", "judge"],
-        &["refcli", "judge", "--posters", "2", "--workers", "7"],
-        &["refcli", "judge", "--every=1", "--posters", "16"],
-        &["refcli", "judge", "--workers", "64", "--every", "65536"],
+    let tables: [(u32, &[&str]); 5] = [
+        (2, &["refcli", "judge"]),
+        (2, &["refcli", "judge", "--posters", "2", "--workers", "7"]),
+        (2, &["refcli", "judge", "--every=1", "--posters", "3"]),
+        (
+            2,
+            &["refcli", "judge", "--workers", "64", "--every", "65536"],
+        ),
+        (15, &["refcli", "judge", "--posters", "16"]),
     ];
-    for words in tables {
+    for (liars, words) in tables {
+        let provers = "LIAR,".repeat(alloc, liars as usize)?;
+        let provers = format!(in alloc; "{provers}{{}}")?;
         let bytes = case_of(alloc, "flat", ANSWER, "8", "0", provers.as_str())?;
+        let want = report_of_liars(alloc, liars)?;
         let (answered, text) = answer_to(&rt, alloc, words, bytes)?;
         assert_eq!(rt; answered, Answered::Done, "{words:?}");
         assert_eq!(rt; text.as_slice(), want.as_bytes(), "{words:?}");
@@ -389,14 +434,28 @@ fn each_change_of_an_executable_is_answered(rt: HostRuntime) -> Result<(), Fail>
     let one = format!(in alloc; "{HEADER}{LOAD}{ANSWER}")?;
     let two = format!(in alloc; "{HEADER_OF_TWO}{LOAD}{LOAD}{ANSWER}")?;
     for (file, length, at, new, answered, want) in [
-        (&one, 108, 0, "", Answered::Done, "answer exited 0 output 2a\n"),
+        (
+            &one,
+            108,
+            0,
+            "",
+            Answered::Done,
+            "answer exited 0 output 2a\n",
+        ),
         (&one, 51, 0, "", Answered::Image, "fault image 1\n"),
         (&one, 60, 0, "", Answered::Image, "fault image 5\n"),
         (&two, 140, 0, "", Answered::Image, "fault image 9\n"),
         (&one, 108, 24, "56", Answered::Image, "fault image 10\n"),
         (&one, 108, 68, "6d", Answered::Image, "fault image 6\n"),
         (&one, 108, 72, "6b", Answered::Image, "fault image 7\n"),
-        (&one, 108, 60, "ffffffff", Answered::Image, "fault image 8\n"),
+        (
+            &one,
+            108,
+            60,
+            "ffffffff",
+            Answered::Image,
+            "fault image 8\n",
+        ),
         // Entered and loaded at 0x40000000, where the input's length lies over the first four bytes of the file.
         (
             &one,
@@ -411,7 +470,11 @@ fn each_change_of_an_executable_is_answered(rt: HostRuntime) -> Result<(), Fail>
         let bytes = case_of(alloc, "elf", file.as_str(), "8", "0", "{}")?;
         let (given, text) = answer_to(&rt, alloc, ["refcli", "run"].as_slice(), bytes)?;
         assert_eq!(rt; given, answered, "{length} bytes, {new} at {at}");
-        assert_eq!(rt; text.as_slice(), want.as_bytes(), "{length} bytes, {new} at {at}");
+        assert_eq!(rt;
+            text.as_slice(),
+            want.as_bytes(),
+            "{length} bytes, {new} at {at}"
+        );
     }
     Ok(())
 }
@@ -420,17 +483,97 @@ fn each_change_of_an_executable_is_answered(rt: HostRuntime) -> Result<(), Fail>
 fn a_case_that_breaks_a_rule_is_named(rt: HostRuntime) -> Result<(), Fail> {
     let alloc = rt.alloc();
     for (command, format, image, bound, provers, answered, want) in [
-        ("judge", "flat", "00", "\"\"", "{}", Answered::Case, "fault case 4 bound\n"),
-        ("judge", "flat", "1g", "8", "{}", Answered::Case, "fault case 5 image\n"),
-        ("judge", "flat", "00", "0", "{}", Answered::Case, "fault case 6 bound\n"),
-        ("judge", "flat", "00", "16777217", "{}", Answered::Case, "fault case 6 bound\n"),
-        ("judge", "flat", "00", "8", "", Answered::Case, "fault case 6 provers\n"),
-        ("judge", "flat", "00", "8", "{},5", Answered::Case, "fault case 7 2\n"),
-        ("judge", "elf", "7f454c46", "0", "{}", Answered::Case, "fault case 6 bound\n"),
-        ("judge", "elf", "7f454c46", "8", "{}", Answered::Image, "fault image 1\n"),
+        (
+            "judge",
+            "flat",
+            "00",
+            "\"\"",
+            "{}",
+            Answered::Case,
+            "fault case 4 bound\n",
+        ),
+        (
+            "judge",
+            "flat",
+            "1g",
+            "8",
+            "{}",
+            Answered::Case,
+            "fault case 5 image\n",
+        ),
+        (
+            "judge",
+            "flat",
+            "00",
+            "0",
+            "{}",
+            Answered::Case,
+            "fault case 6 bound\n",
+        ),
+        (
+            "judge",
+            "flat",
+            "00",
+            "16777217",
+            "{}",
+            Answered::Case,
+            "fault case 6 bound\n",
+        ),
+        (
+            "judge",
+            "flat",
+            "00",
+            "8",
+            "",
+            Answered::Case,
+            "fault case 6 provers\n",
+        ),
+        (
+            "judge",
+            "flat",
+            "00",
+            "8",
+            "{},5",
+            Answered::Case,
+            "fault case 7 2\n",
+        ),
+        (
+            "judge",
+            "elf",
+            "7f454c46",
+            "0",
+            "{}",
+            Answered::Case,
+            "fault case 6 bound\n",
+        ),
+        (
+            "judge",
+            "elf",
+            "7f454c46",
+            "8",
+            "{}",
+            Answered::Image,
+            "fault image 1\n",
+        ),
         // Roots have a bound of their own, which is tested before the image.
-        ("roots", "elf", "7f454c46", "4097", "{}", Answered::Case, "fault case 6 bound\n"),
-        ("roots", "elf", "7f454c46", "4096", "{}", Answered::Image, "fault image 1\n"),
+        (
+            "roots",
+            "elf",
+            "7f454c46",
+            "4097",
+            "{}",
+            Answered::Case,
+            "fault case 6 bound\n",
+        ),
+        (
+            "roots",
+            "elf",
+            "7f454c46",
+            "4096",
+            "{}",
+            Answered::Image,
+            "fault image 1\n",
+        ),
     ] {
         let bytes = case_of(alloc, format, image, bound, "0", provers)?;
         let (given, text) = answer_to(&rt, alloc, ["refcli", command].as_slice(), bytes)?;
@@ -444,7 +587,7 @@ fn a_case_that_breaks_a_rule_is_named(rt: HostRuntime) -> Result<(), Fail> {
 fn arguments_that_name_no_command_are_usage_and_nothing_is_read(
     rt: HostRuntime,
 ) -> Result<(), Fail> {
-    let tables: [&[&str]; 18] = [
+    let tables: [&[&str]; 22] = [
         &[],
         &["refcli"],
         &["refcli", ""],
@@ -457,6 +600,10 @@ fn arguments_that_name_no_command_are_usage_and_nothing_is_read(
         &["refcli", "judge", "--every", "65537"],
         &["refcli", "judge", "--every", "1", "--every", "1"],
         &["refcli", "run", "--workers", "1"],
+        &["refcli", "big"],
+        &["refcli", "big", "-1"],
+        &["refcli", "big", "4294967296"],
+        &["refcli", "judge", "0"],
         &["refcli", "judge", "--posters"],
         &["refcli", "roots", "run"],
         &["refcli", "--help"],
@@ -477,6 +624,25 @@ fn arguments_that_name_no_command_are_usage_and_nothing_is_read(
         assert_eq!(rt; sink.as_slice(), b"fault usage\n".as_slice(), "{table:?}");
         assert_eq!(rt; source.faults(), 0);
     }
+    Ok(())
+}
+
+/// The accepted bytes are the sum of the input's, computed outside. Nothing is read: the one call that would fail isn't made.
+#[test]
+fn the_large_workload_is_summed_up(rt: HostRuntime) -> Result<(), Fail> {
+    let alloc = rt.alloc();
+    let words = words_of(alloc, ["refcli", "big", "1", "--posters", "2"].as_slice())?;
+    let mut source = MemSource::new(Vec::new(alloc), 7, vec![in alloc; 1]?);
+    let mut sink = MemSink::new(alloc, 128, 64, Vec::new(alloc))?;
+    assert_eq!(rt;
+        run(&rt, alloc, words.as_slice(), &mut source, &mut sink),
+        Answered::Done
+    );
+    assert_eq!(rt;
+        sink.as_slice(),
+        b"big 1 provers 8 disputes 7 rounds 112 accept exited 0 output 59ee\n".as_slice()
+    );
+    assert_eq!(rt; source.faults(), 0);
     Ok(())
 }
 

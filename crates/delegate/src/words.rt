@@ -1,10 +1,10 @@
-ghost use Rattle.std.specs.Prelude.{◌≡◌, ◌<◌, ℕ, pos, false, codes, IfOk, IfSome, option_map, Option};
+ghost use Rattle.std.specs.Prelude.{◌≡◌, ◌<◌, ℕ, pos, false, codes, IfOk, IfSome, option_map, option_and_then};
 ghost use Rattle.clap.specs.Matches.{found_of};
 ghost use Rattle.clap.specs.Walk.{one_of, rows_of, rule_of};
 ghost use Rattle.clap.specs.Simple.{app_of, subcommand_rows_of};
 ghost use Rattle.clap.specs.declared.builder.command.Command.TheViews.{out-Command as fields_of};
 ghost use Rattle.clap.specs.declared.builder.value_parser.ValueParser.TheVariants as parsers;
-ghost use Rattle.delegate.specs.Words.{texts, named, chosen, number_option as the_number_option, judge_line as the_judge_line, command_line as the_command_line, rows_given, given_options, IsNumberOf, AreGiven};
+ghost use Rattle.delegate.specs.Words.{texts, command_of_name, named, chosen, seed_in, seed_rule, number_option as the_number_option, with_match_options as the_match_options, judge_line as the_judge_line, big_line as the_big_line, command_line as the_command_line, rows_given, given_options, IsNumberOf, AreGiven};
 
 use clap::builder::ValueParser;
 use clap::error::ErrorKind;
@@ -21,6 +21,8 @@ pub enum Command {
     Run,
     /// To run a case's program, and to write the root of each of its states.
     Roots,
+    /// To decide the match of the large workload of a seed, and to write a summary.
+    Big(u32),
 }
 
 /// How a match is played. No option changes what is answered.
@@ -81,18 +83,41 @@ fn every_option<'a>(alloc: Global) -> Arg<'a>
     number_option(alloc, "every", value_parser!(u32).range(1..=65_536), "1024")
 }
 
+/// A command with the options of a match.
+fn with_match_options<'a>(alloc: Global, command: Parser<'a>) -> Result<Parser<'a>, AllocError>
+    ensures app { IfOk result (λ parser. app_of parser ≡ the_match_options (app_of command.entry)) }
+    ensures local { IfOk result (λ parser. (fields_of command.entry).has_globals ≡ false → (fields_of parser).has_globals ≡ false) }
+{
+    let workers = workers_option(alloc);
+    let posters = posters_option(alloc);
+    let every = every_option(alloc);
+    command.arg(workers)?.arg(posters)?.arg(every)
+}
+
 /// The command `judge` with its options.
 fn judge_line<'a>(alloc: Global) -> Result<Parser<'a>, AllocError>
     ensures app { IfOk result (λ parser. app_of parser ≡ the_judge_line) }
     ensures local { IfOk result (λ parser. (fields_of parser).has_globals ≡ false) }
 {
-    let workers = workers_option(alloc);
-    let posters = posters_option(alloc);
-    let every = every_option(alloc);
-    Parser::new(alloc, "judge")
-        .arg(workers)?
-        .arg(posters)?
-        .arg(every)
+    with_match_options(alloc, Parser::new(alloc, "judge"))
+}
+
+/// The seed of the large workload, which has to be given.
+fn seed_argument<'a>(alloc: Global, numbers: ValueParser<'a>) -> Arg<'a>
+    ensures rule { numbers.entry ≡ parsers.Signed (pos 0) (pos 4294967295) → rule_of result ≡ seed_rule }
+    ensures own { result.global ≡ false }
+{
+    Arg::new(alloc, "N").value_parser(numbers).required(true)
+}
+
+/// The command `big` with its seed and its options.
+fn big_line<'a>(alloc: Global) -> Result<Parser<'a>, AllocError>
+    ensures app { IfOk result (λ parser. app_of parser ≡ the_big_line) }
+    ensures local { IfOk result (λ parser. (fields_of parser).has_globals ≡ false) }
+{
+    let seed = seed_argument(alloc, value_parser!(u32));
+    let big = Parser::new(alloc, "big").arg(seed)?;
+    with_match_options(alloc, big)
 }
 
 /// The command line: one of the commands.
@@ -103,20 +128,34 @@ fn command_line<'a>(alloc: Global) -> Result<Parser<'a>, AllocError>
     let judge = judge_line(alloc)?;
     let run = Parser::new(alloc, "run");
     let roots = Parser::new(alloc, "roots");
+    let big = big_line(alloc)?;
     Parser::new(alloc, "refcli")
         .subcommand_required(true)
         .subcommand(judge)?
         .subcommand(run)?
-        .subcommand(roots)
+        .subcommand(roots)?
+        .subcommand(big)
 }
 
-fn command_named(name: &str) -> Option<Command>
-    ensures { result ≡ named (Option.Some name.now) }
+/// The seed that was given.
+fn seed_given(given: &ArgMatches<'_>) -> Option<u32>
+    ensures { result ≡ option_and_then seed_in (one_of (codes "N") (rows_of (found_of given.now))) }
+{
+    given.get_one::<u32>("N")
+}
+
+/// The command of a name, by what was given to it.
+fn command_named(name: &str, given: &ArgMatches<'_>) -> Option<Command>
+    ensures { result ≡ command_of_name name.now (rows_of (found_of given.now)) }
 {
     match name {
         "judge" => Some(Command::Judge),
         "run" => Some(Command::Run),
         "roots" => Some(Command::Roots),
+        "big" => match seed_given(given) {
+            Some(seed) => Some(Command::Big(seed)),
+            None => None,
+        },
         _ => None,
     }
 }
@@ -149,14 +188,14 @@ fn options_in(given: &ArgMatches<'_>) -> Options
 
 /// The command that was parsed, with its options.
 fn request_in(matches: &ArgMatches<'_>) -> Option<Request>
-    ensures command { option_map (λ request. request.command) result ≡ named (option_map (λ entered. entered.0) (subcommand_rows_of matches.now)) }
+    ensures command { option_map (λ request. request.command) result ≡ named (subcommand_rows_of matches.now) }
     ensures workers { IfSome result (λ request. 0 < request.options.workers) }
     ensures posters { IfSome result (λ request. 0 < request.options.posters) }
     ensures every { IfSome result (λ request. 0 < request.options.every) }
     ensures given { IfSome result (λ request. AreGiven (rows_given (subcommand_rows_of matches.now)) request.options) }
 {
     match matches.subcommand() {
-        Some((name, given)) => match command_named(name) {
+        Some((name, given)) => match command_named(name, given) {
             Some(command) => Some(Request {
                 command,
                 options: options_in(given),

@@ -5,4 +5,5 @@ pub mod Words
 pub mod Lines
 pub mod Laws
 pub mod Report
+pub mod Summary
 pub mod Roots

@@ -12,6 +12,7 @@ mod head;
 mod laws;
 mod reporting;
 mod roots;
+mod summing;
 #[cfg(test)]
 mod tests;
 mod word;
@@ -21,4 +22,5 @@ pub use head::{DigestName, Head};
 pub use laws::nothing_is_said_against_the_truthful;
 pub use reporting::report;
 pub use roots::add_root_line;
+pub use summing::summary;
 pub use word::Word;

@@ -1,22 +1,22 @@
-use Rattle.std.proofs.Common.{◌∙◌, ◌||◌, ap₂}
+use Rattle.std.proofs.Common.{◌∙◌, ◌||◌, ap₂, refl}
 use Rattle.std.proofs.lemmas.Result.{IfOk-weaker}
 use Rattle.clap.specs.Simple.{with_rule}
-use Rattle.delegate.proofs.words.judge_line.Goals as goal
+use Rattle.delegate.proofs.words.with_match_options.Goals as goal
 
 pub returns-clause-app : goal.returns-clause-app
 returns-clause-app c =
     IfOk-weaker c.arg-3.result _ _
     (λ parser adds. adds.shape c.every_option-every.ensures.own ∙ ap₂ with_rule
     (c.in_ok-arg-2.ensures.shape c.posters_option-posters.ensures.own ∙ ap₂ with_rule
-    (c.in_ok-arg.ensures.shape c.workers_option-workers.ensures.own ∙ ap₂ with_rule c.new.ensures.app c.workers_option-workers.ensures.rule)
+    (c.in_ok-arg.ensures.shape c.workers_option-workers.ensures.own ∙ ap₂ with_rule refl c.workers_option-workers.ensures.rule)
     c.posters_option-posters.ensures.rule) c.every_option-every.ensures.rule)
     c.arg-3.ensures
 
 pub returns-clause-local : goal.returns-clause-local
 returns-clause-local c =
     IfOk-weaker c.arg-3.result _ _
-    (λ parser adds. adds.globals ∙ ap₂ (λ a b. a || b)
+    (λ parser adds none. adds.globals ∙ ap₂ (λ a b. a || b)
     (c.in_ok-arg-2.ensures.globals ∙ ap₂ (λ a b. a || b)
-    (c.in_ok-arg.ensures.globals ∙ ap₂ (λ a b. a || b) c.new.ensures.local c.workers_option-workers.ensures.own)
+    (c.in_ok-arg.ensures.globals ∙ ap₂ (λ a b. a || b) none c.workers_option-workers.ensures.own)
     c.posters_option-posters.ensures.own) c.every_option-every.ensures.own)
     c.arg-3.ensures

@@ -1,0 +1,69 @@
+ghost use Rattle.std.specs.Prelude.{◌≡◌, ◌++◌, string_bytes, IfOk, IfSome, OnOk};
+ghost use Rattle.transcript_text.specs.Summary.{rounds_of, rounds_in, workload_text, counts_text, summary_text};
+
+use crate::reporting::add_verdict;
+use bisect_game::{Dispute, Interval};
+use rd_base::Memory;
+use std::alloc::{AllocError, Global};
+use std::fmt::Write;
+use tournament::{Record, Verdict};
+
+/// The bisection rounds of a dispute: those that went on, and the last one unless it is the proof round.
+fn rounds_of(dispute: &Dispute) -> u64
+    ensures { result ≡ rounds_of dispute.now }
+{
+    let Interval { lo, hi, .. } = dispute.interval();
+    let went_on = dispute.rounds().len();
+    if hi.saturating_sub(lo) <= 1 {
+        went_on as u64
+    } else {
+        (went_on + 1) as u64
+    }
+}
+
+/// The bisection rounds of all disputes. `None` comes only where there are 2^64 or more, which no memory holds.
+fn rounds_in(disputes: &[Dispute]) -> Option<u64>
+    ensures { IfSome result (λ rounds. rounds ≡ rounds_in disputes.now) }
+{
+    let mut rounds = 0u64;
+    'disputes: for dispute in disputes {
+        rounds = rounds.checked_add(rounds_of(dispute))?;
+    }
+    Some(rounds)
+}
+
+#[tactic(auto, unfolding(crate::specs::Summary::workload_text))]
+fn add_workload(text: &mut String, seed: u32, provers: usize) -> Result<(), AllocError>
+    ensures { OnOk result (string_bytes text.new ≡ string_bytes text.old ++ workload_text seed provers) }
+{
+    write!(text, "big {seed} provers {provers}")
+}
+
+#[tactic(auto, unfolding(crate::specs::Summary::counts_text))]
+fn add_counts(text: &mut String, disputes: usize, rounds: u64) -> Result<(), AllocError>
+    ensures { OnOk result (string_bytes text.new ≡ string_bytes text.old ++ counts_text disputes rounds) }
+{
+    write!(text, " disputes {disputes} rounds {rounds}")
+}
+
+/// The line that sums up the match of the large workload of a seed: how many play, how many disputes and bisection rounds
+/// there were, and the verdict. It ends with a line feed.
+///
+/// An accepted claim that wasn't given leaves the verdict out. An `Err` is out of memory.
+pub fn summary(
+    alloc: Global,
+    seed: u32,
+    match_record: &Record,
+    verdict: &Verdict,
+) -> Result<Vec<u8>, Memory>
+    ensures { IfOk result (λ text. text.items ≡ summary_text seed match_record.now verdict.now) }
+{
+    let disputes = match_record.disputes();
+    let rounds = rounds_in(disputes).ok_or(Memory)?;
+    let mut text = String::new(alloc);
+    add_workload(&mut text, seed, match_record.claims().len())?;
+    add_counts(&mut text, disputes.len(), rounds)?;
+    text.push_str(" ")?;
+    add_verdict(&mut text, alloc, match_record.claims(), verdict)?;
+    Ok(text.into_bytes())
+}
