@@ -139,10 +139,10 @@ fn all_numbers_of_posters_give_one_match(rt: HostRuntime) -> Result<(), Fail> {
     Ok(())
 }
 
-/// A thousand plays of one small match with sixteen posters give one record.
+/// Two hundred plays of one small match with sixteen posters give one record.
 #[test]
-fn a_thousand_plays_give_one_record(rt: HostRuntime) -> Result<(), Fail> {
-    for _ in 0..1000 {
+fn two_hundred_plays_give_one_record(rt: HostRuntime) -> Result<(), Fail> {
+    for _ in 0..200 {
         let book = played(&rt, rt.alloc(), 16, 0, 0)?;
         assert_eq!(rt;
             lines(rt.alloc(), book.record())?.as_slice(),
