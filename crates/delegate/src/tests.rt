@@ -90,11 +90,11 @@ fn case_of(
         ",\"patience\":",
         patience,
         ",\"provers\":[",
-        provers.as_str(),
-        "]}",
     ] {
         text.push_str(part)?;
     }
+    text.push_str(provers.as_str())?;
+    text.push_str("]}")?;
     Ok(text.into_bytes())
 }
 
