@@ -26,12 +26,13 @@ use Rattle.transcript_text.specs.Lines.{accept_line, line_of_accepted, line_of_v
 use Rattle.transcript_text.specs.Report.{text_if_there}
 use Rattle.transcript_text.specs.Laws.{NothingIsSaidAgainstTheTruthful}
 use Rattle.delegate.specs.Match.{rules_of_case, says_of_case, record_of_case, verdict_of_case, truth_of_case}
-use Rattle.delegate.specs.Outcome.{case_for, within_bound, match_text, ended, carried_out, outcome, reported, answered_by, image_at, start_of}
+use Rattle.delegate.specs.Outcome.{case_for, within_bound, match_text, ended, carried_out, outcome, reported, answered_for, image_at, start_of}
 use Rattle.delegate.specs.Words.{chosen, decides}
 use Rattle.delegate.specs.declared.words.Command.{Command}
 use Rattle.delegate.specs.Refusal.{usage, image_refusal, or_refusal}
 use Rattle.delegate.specs.Stages.{CasesAreInRange}
 use Rattle.delegate.specs.declared.response.Response.{Response}
+use Rattle.delegate.specs.declared.answered.Answered.TheVariants.{Done}
 use Rattle.delegate.specs.declared.words.Command.TheVariants.{Judge, Run, Roots, Big}
 use Rattle.delegate.specs.Headline.{IsCase, AcceptsTheRun, ShowsCollision, IsInRange, HeadlineOfCases, before_verdict}
 use Rattle.delegate.proofs.EndingLemmas.{AreLaws, IsSafeCase, case-is-safe}
@@ -91,12 +92,19 @@ text-before (Big seed) c settled verdict = refl
 text-before Run c settled verdict = refl
 text-before Roots c settled verdict = refl
 
+-- a command that accepts is done
+accepts-done : (command : Command) (n : ℕ) → answered_for command (Accept n) ≡ Done
+accepts-done Judge n = refl
+accepts-done (Big seed) n = refl
+accepts-done Run n = refl
+accepts-done Roots n = refl
+
 -- how the text ends where the verdict is right
 ends : (command : Command) (c : CaseData) (start : State) (verdict : Verdict) → verdict_of_case sha256 c start (record_of_case sha256 c start) ≡ verdict
     → IsRightVerdict (rules_of_case sha256 c start) (truth_of_case sha256 c start) (record_of_case sha256 c start) verdict
     → AcceptsTheRun command (reported sha256 command c start) c start ⊎ ShowsCollision command (reported sha256 command c start) c start
 ends command c start (Accept n) is right = inl (record {
-  done = ap answered_by is;
+  done = ap (answered_for command) is ∙ accepts-done command n;
   text = ap (match_text command c (record_of_case sha256 c start)) is
       ∙ (text-before command c (record_of_case sha256 c start) (Accept n)
       ∙ ap (λ line. before_verdict command c (record_of_case sha256 c start) (text_if_there line))
@@ -105,7 +113,7 @@ ends command c start (Accept n) is right = inl (record {
 ends command c start (Collision x y) is right = inr (record {
   pair = (x, y);
   collision = right;
-  answered = ap answered_by is;
+  answered = ap (answered_for command) is;
   text = ap (match_text command c (record_of_case sha256 c start)) is ∙ text-before command c (record_of_case sha256 c start) (Collision x y);
 })
 ends command c start NoneLeft is right = absurd right

@@ -7,6 +7,7 @@ use Rattle.rv_step.specs.Valid.{IsValid}
 use Rattle.rv_step.specs.Step.{state_at}
 use Rattle.case_reader.specs.Case.{CaseData}
 use Rattle.image_reader.specs.Image.{Image}
+use Rattle.tournament.specs.declared.verdict.Verdict.TheVariants.{Collision}
 use Rattle.tournament.specs.Truthful.{IsTruthfulProver}
 use Rattle.tournament.specs.Bracket.{Record, live}
 use Rattle.tournament.specs.Theorem.{AreTrue, Stays, IsCollisionIn}
@@ -17,9 +18,9 @@ use Rattle.delegate.specs.Words.{chosen, decides}
 use Rattle.delegate.specs.declared.words.Command.{Command}
 use Rattle.delegate.specs.declared.words.Command.TheVariants.{Big}
 use Rattle.delegate.specs.Match.{rules_of_case, says_of_case, record_of_case, truth_of_case, head_of}
-use Rattle.delegate.specs.Outcome.{case_for, image_at, reported}
+use Rattle.delegate.specs.Outcome.{case_for, image_at, answered_for, reported}
 use Rattle.delegate.specs.declared.response.Response.{Response}
-use Rattle.delegate.specs.declared.answered.Answered.TheVariants.{Done, Collision}
+use Rattle.delegate.specs.declared.answered.Answered.TheVariants.{Done}
 
 -- the arguments ask for a match to be decided, and for the bytes it is that of this case with this image
 pub record IsCase (words : List (List ℕ)) (bytes : List ℕ) (command : Command) (c : CaseData) (image : Image) : Type 0 where
@@ -62,7 +63,7 @@ pub record AcceptsTheRun (command : Command) (response : Response) (c : CaseData
 pub record ShowsCollision (command : Command) (response : Response) (c : CaseData) (start : State) : Type 0 where
   pub pair : List ℕ × List ℕ
   pub collision : IsCollisionIn (rules_of_case sha256 c start) (record_of_case sha256 c start) pair
-  pub answered : response.answered ≡ Collision
+  pub answered : response.answered ≡ answered_for command (Collision (pair.0) (pair.1))
   pub text : response.text ≡ before_verdict command c (record_of_case sha256 c start) (line_text (collision_line (pair.0) (pair.1)))
 
 -- what holds of the response to a case with a truthful prover

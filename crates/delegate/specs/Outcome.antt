@@ -60,6 +60,11 @@ answered_by (Accept number) = answered.Done
 answered_by NoneLeft = answered.NoneLeft
 answered_by (Collision x y) = answered.Collision
 
+-- the answer of a command that decides: `judge` answers by the verdict, and `big` always with its line
+abbrev pub answered_for : Command → Verdict → Answered
+answered_for (Big seed) verdict = answered.Done
+answered_for command verdict = answered_by verdict
+
 -- the text of a match that is decided: its report, or the summary of a large workload
 abbrev pub match_text : Command → CaseData → Record → Verdict → List ℕ
 match_text (Big seed) c settled verdict = summary_text seed settled verdict
@@ -70,7 +75,7 @@ abbrev pub reported : (List ℕ → List ℕ) → Command → CaseData → State
 reported digest command c start =
     let settled = record_of_case digest c start in
     let verdict = verdict_of_case digest c start settled in
-    record { answered = answered_by verdict; text = match_text command c settled verdict }
+    record { answered = answered_for command verdict; text = match_text command c settled verdict }
 
 -- the run's status and output, in the state at the bound
 abbrev pub run_answer : CaseData → State → Response

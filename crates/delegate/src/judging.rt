@@ -3,7 +3,7 @@ ghost use Rattle.std.specs.Prelude.{◌≡◌, ◌<◌, [], IfOk};
 ghost use Rattle.rv_step.specs.State.{state_of, IsChained};
 ghost use Rattle.case_reader.specs.Case.{data_of};
 ghost use Rattle.delegate.specs.Match.{record_of_case, verdict_of_case as verdict_of_record, head_of};
-ghost use Rattle.delegate.specs.Outcome.{answered_by, match_text, reported};
+ghost use Rattle.delegate.specs.Outcome.{answered_by, answered_for, match_text, reported};
 
 use crate::answered::Answered;
 use crate::playing::play_out;
@@ -112,7 +112,7 @@ where
     let (match_record, verdict) = verdict_of_case(rt, alloc, d, case, start, request.options)?;
     let text = match_text(alloc, request.command, case, &match_record, &verdict)?;
     Ok(Response {
-        answered: answered_by(&verdict),
+        answered: answered_for(request.command, &verdict),
         text: Bytes::new(text),
     })
 }
@@ -138,5 +138,15 @@ fn answered_by(verdict: &Verdict) -> Answered
         Verdict::Accept(_) => Answered::Done,
         Verdict::NoneLeft => Answered::NoneLeft,
         Verdict::Collision(_, _) => Answered::Collision,
+    }
+}
+
+/// The answer of a command that decides: `judge` answers by the verdict, and `big` is done with its line.
+fn answered_for(command: Command, verdict: &Verdict) -> Answered
+    ensures { result ≡ answered_for command verdict.now }
+{
+    match command {
+        Command::Big(_) => Answered::Done,
+        Command::Judge | Command::Run | Command::Roots => answered_by(verdict),
     }
 }
