@@ -1,5 +1,5 @@
 -- A recorded run is a prover's, by its states and its bound.
-use Rattle.std.proofs.Common.{◌≡◌, ◌^◌, ◌≤◌, ◌<◌, ℕ, List, [], ◌∷◌, length, map, min, slice_index, slice_index_or, refl, sym, ap, ◌∙◌, arith}
+use Rattle.std.proofs.Common.{◌≡◌, ◌^◌, ◌≤◌, ◌<◌, ℕ, zero, suc, List, [], ◌∷◌, length, map, min, slice_index, slice_index_or, refl, sym, ap, ◌∙◌, arith, Result, Ok, Err, IfOk}
 use Rattle.rd_base.specs.declared.digest.Digest32.{Digest32}
 use Rattle.rd_base.specs.declared.answer.Answer.TheVariants as answer
 use Rattle.rv_step.specs.State.{State}
@@ -20,11 +20,19 @@ same_length root [] (r ∷ rs) same = absurd (cc)
 same_length root (x ∷ xs) [] same = absurd (cc)
 same_length root (x ∷ xs) (r ∷ rs) same = let rest = same_length root xs rs (cc) in omega arith
 
--- the first of them
-pub first_root : (root : ℕ → List ℕ) (steps : List ℕ) (roots : List Digest32) (d : Digest32) → digests roots ≡ map root steps → 0 < length steps → (slice_index_or roots 0 d).0 ≡ root (slice_index steps 0)
-first_root root [] roots d same some = absurd (omega arith)
-first_root root (x ∷ xs) [] d same some = absurd (cc)
-first_root root (x ∷ xs) (r ∷ rs) d same some = cc
+-- the one at a place
+pub root_of_place : (root : ℕ → List ℕ) (steps : List ℕ) (roots : List Digest32) (place : ℕ) (d : Digest32) → digests roots ≡ map root steps → place < length steps
+    → (slice_index_or roots place d).0 ≡ root (slice_index steps place)
+root_of_place root [] roots place d same inside = absurd (omega arith)
+root_of_place root (x ∷ xs) [] place d same inside = absurd (cc)
+root_of_place root (x ∷ xs) (r ∷ rs) zero d same inside = cc
+root_of_place root (x ∷ xs) (r ∷ rs) (suc place) d same inside = root_of_place root xs rs place d (cc) (omega arith)
+
+-- where the step at that place is the one asked, it is that of the step
+pub root_of_step : {E : Type 0} (run root : ℕ → List ℕ) (steps shown : List ℕ) (place step : ℕ) (r : Result Digest32 E) → root ≡ run → shown ≡ steps → slice_index steps place ≡ step
+    → IfOk r (λ v. (other : ℕ → List ℕ) → other ≡ run → v.0 ≡ other (slice_index shown place)) → IfOk r (λ v. v.0 ≡ root step)
+root_of_step run root steps shown place step (Ok v) is same stands holds = holds root is ∙ ap root (ap (λ (xs : List ℕ). slice_index xs place) same ∙ stands)
+root_of_step run root steps shown place step (Err e) is same stands holds = holds
 
 -- the states of a recorded run, by its first state and its tamper
 pub states_of : (p : Prover) (r : Recorded) → r.first ≡ tampered p.tamper 0 p.start → r.tamper ≡ p.tamper → state_of_step r ≡ run_of p

@@ -13,24 +13,15 @@ interval_of (suc rounds) lo hi step =
     else (if middle lo hi == step then Some (lo, hi)
     else (if nat_lt step (middle lo hi) then interval_of rounds lo (middle lo hi) step else interval_of rounds (middle lo hi) hi step))
 
--- the middles of intervals that are longer than one step, in their order
-abbrev pub middles : List (ℕ × ℕ) → List ℕ
-middles [] = []
-middles (i ∷ rest) = if nat_le (i.1 - i.0) 1 then middles rest else middle i.0 i.1 ∷ middles rest
+-- the middles of which so many rounds may ask from an interval on, in ascending order
+unfoldable pub middles : ℕ → ℕ → ℕ → List ℕ
+middles zero lo hi = []
+middles (suc rounds) lo hi =
+    if nat_le (hi - lo) 1 then [] else middles rounds lo (middle lo hi) ++ middle lo hi ∷ middles rounds (middle lo hi) hi
 
--- both halves of each of them
-abbrev pub halves : List (ℕ × ℕ) → List (ℕ × ℕ)
-halves [] = []
-halves (i ∷ rest) = if nat_le (i.1 - i.0) 1 then halves rest else (i.0, middle i.0 i.1) ∷ (middle i.0 i.1, i.1) ∷ halves rest
-
--- steps, and behind them the middles of so many rounds from these intervals on
-unfoldable pub with_rounds : ℕ → List ℕ → List (ℕ × ℕ) → List ℕ
-with_rounds zero steps intervals = steps
-with_rounds (suc rounds) steps intervals = with_rounds rounds (steps ++ middles intervals) (halves intervals)
-
--- a step, and the middles of the three rounds that may come after the one that asks for it
+-- a step among the middles of the three rounds that may come after the one that asks for it
 abbrev pub asked_after : Option (ℕ × ℕ) → ℕ → List ℕ
-asked_after (Some i) step = with_rounds 3 (step ∷ []) ((i.0, step) ∷ (step, i.1) ∷ [])
+asked_after (Some i) step = middles 3 i.0 step ++ step ∷ middles 3 step i.1
 asked_after None step = step ∷ []
 
 -- the same, of a run up to a bound

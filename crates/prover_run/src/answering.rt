@@ -7,7 +7,7 @@ ghost use Rattle.prover_run.specs.Plain as plain;
 ghost use Rattle.step_referee.specs.MachineTruth.{plain_claim};
 ghost use Rattle.prover_run.specs.Prover.{Prover, IsRunOf, AreKept, run_of, root_of};
 
-use crate::middles::asked_with;
+use crate::middles::{Asked, asked_with};
 use bisect_game::Kind;
 use checkpoint_run::Run;
 use digest_core::{Digester, registers_text};
@@ -30,9 +30,9 @@ fn keep(kept: &mut BTreeMap<u64, Digest32>, steps: &[u64], roots: &[Digest32]) -
     Ok(())
 }
 
-/// The root of the first of some steps, which are computed together and kept. An `Err` is out of memory, after some were
-/// kept.
-#[tactic(auto, using(crate::proofs::RunLemmas::same_length, crate::proofs::RunLemmas::first_root))]
+/// The root of the one at a place of some steps, whose roots are computed together and kept. An `Err` is out of memory, after
+/// some were kept.
+#[tactic(auto, using(crate::proofs::RunLemmas::same_length, crate::proofs::RunLemmas::root_of_place))]
 fn computed<D: Replays, R: Threads + Sync>(
     rt: &R,
     alloc: Global,
@@ -41,17 +41,18 @@ fn computed<D: Replays, R: Threads + Sync>(
     workers: u32,
     kept: &mut BTreeMap<u64, Digest32>,
     steps: &[u64],
+    place: usize,
 ) -> Result<Digest32, Memory>
     requires sync { IsSync R.row }
     requires workers { 0 < workers }
-    requires some { 0 < length steps.now }
+    requires inside { place < length steps.now }
     requires chained { AreChained D.digest_of run.now }
     ensures kept { (root : ℕ → List ℕ) → root ≡ root_at D.digest_of run.now → AreKept root kept.old.entries → AreKept root kept.new.entries }
-    ensures root { IfOk result (λ r. (root : ℕ → List ℕ) → root ≡ root_at D.digest_of run.now → r.0 ≡ root (slice_index steps.now 0)) }
+    ensures root { IfOk result (λ r. (root : ℕ → List ℕ) → root ≡ root_at D.digest_of run.now → r.0 ≡ root (slice_index steps.now place)) }
 {
     let roots = d.roots_of(rt, alloc, run, steps, workers)?;
     keep(kept, steps, &roots)?;
-    Ok(roots[0])
+    Ok(roots[place])
 }
 
 /// The root of a step, which is kept, or else is computed with those that the next rounds may ask for. An `Err` is out of
@@ -74,8 +75,8 @@ fn root<D: Replays, R: Threads + Sync>(
     if let Some(root) = kept.get(&step) {
         return Ok(*root);
     }
-    let steps = asked_with(alloc, run.bound(), step)?;
-    computed(rt, alloc, d, run, workers, kept, &steps)
+    let Asked { steps, place } = asked_with(alloc, run.bound(), step)?;
+    computed(rt, alloc, d, run, workers, kept, &steps, place)
 }
 
 /// The claim of a machine's state, whose output is at most 4,294,967,295 bytes long. An `Err` is out of memory.

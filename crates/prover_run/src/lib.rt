@@ -6,9 +6,10 @@
 //! waits; `answerers_of` makes the answerers that say so. What an untouched script says in the words of the sequential run
 //! is in `laws`.
 //!
-//! Which roots are asked of a run in one go says `specs/Middles.antt`; no answer depends on it. That a run is recorded once
-//! and each root is computed once is read in `prover` and `answering`, and not proved. Read `specs/Plain.antt` first, then
-//! `prover`, then `provers`.
+//! Which roots are asked of a run in one go, and in which order, says `specs/Middles.antt`; no answer depends on it. They are
+//! asked in ascending order, so that one tree of memory is moved on from step to step. That a run is recorded once and each
+//! root is computed once is read in `prover` and `answering`, and not proved. Read `specs/Plain.antt` first, then `prover`,
+//! then `provers`.
 #![tactic(auto)]
 
 mod answerers;

@@ -1,5 +1,5 @@
 //! Which roots are asked of a run in one go.
-ghost use Rattle.std.specs.Prelude.{◌≡◌, ◌<◌, ◌≤◌, ◌+◌, ◌*◌, ◌^◌, ◌++◌, IfOk, IfSome, OnOk, length, slice_index};
+ghost use Rattle.std.specs.Prelude.{◌≡◌, ◌<◌, ◌≤◌, ◌++◌, IfOk, OnOk, length, slice_index};
 ghost use Rattle.prover_run.specs.Middles as asked;
 
 use rd_base::Memory;
@@ -40,73 +40,59 @@ fn interval_of(rounds: u32, lo: u64, hi: u64, step: u64) -> Option<(u64, u64)>
     }
 }
 
-/// Puts down the middles of intervals that are longer than one step, and both halves of each of them. An `Err` is out of
-/// memory, after some were put down.
-fn look_ahead(
-    intervals: &[(u64, u64)],
-    steps: &mut Vec<u64>,
-    halves: &mut Vec<(u64, u64)>,
-) -> Result<(), Memory>
-    ensures steps { OnOk result (steps.new.items ≡ steps.old.items ++ asked.middles intervals.now) }
-    ensures halves { OnOk result (halves.new.items ≡ halves.old.items ++ asked.halves intervals.now) }
+/// Puts down the middles of which so many rounds may ask from an interval on, in ascending order. An `Err` is out of memory,
+/// after some were put down.
+#[tactic(auto, unfolding(crate::specs::Middles::middles))]
+fn put_middles(rounds: u32, lo: u64, hi: u64, steps: &mut Vec<u64>) -> Result<(), Memory>
+    ensures { OnOk result (steps.new.items ≡ steps.old.items ++ asked.middles rounds lo hi) }
 {
-    let [(lo, hi), rest @ ..] = intervals else {
+    if rounds == 0 || hi.saturating_sub(lo) <= 1 {
         return Ok(());
-    };
-    if hi.saturating_sub(*lo) > 1 {
-        let mid = middle(*lo, *hi);
-        steps.push(mid)?;
-        halves.push((*lo, mid))?;
-        halves.push((mid, *hi))?;
     }
-    look_ahead(rest, steps, halves)
+    let mid = middle(lo, hi);
+    put_middles(rounds - 1, lo, mid, steps)?;
+    steps.push(mid)?;
+    put_middles(rounds - 1, mid, hi, steps)
 }
 
-/// Steps, and behind them the middles of so many rounds from intervals on. An `Err` is out of memory.
-#[tactic(auto, unfolding(crate::specs::Middles::with_rounds))]
-fn with_rounds(
-    alloc: Global,
-    rounds: u32,
-    steps: Vec<u64>,
-    intervals: Vec<(u64, u64)>,
-) -> Result<Vec<u64>, Memory>
-    ensures { IfOk result (λ v. v.items ≡ asked.with_rounds rounds steps.items intervals.items) }
-{
-    if rounds == 0 {
-        return Ok(steps);
-    }
-    let mut steps = steps;
-    let mut halves = Vec::new(alloc);
-    look_ahead(&intervals, &mut steps, &mut halves)?;
-    with_rounds(alloc, rounds - 1, steps, halves)
+/// Steps whose roots are asked of a run in one go, and the place among them of the step for which they are.
+#[derive(Drop)]
+pub struct Asked {
+    pub steps: Vec<u64>,
+    pub place: usize,
 }
 
-/// A step, and the middles of the three rounds that may come after the one that asks for it. An `Err` is out of memory.
-fn asked_after(alloc: Global, interval: Option<(u64, u64)>, step: u64) -> Result<Vec<u64>, Memory>
-    ensures { IfOk result (λ v. v.items ≡ asked.asked_after interval step) }
+/// A step among the middles of the three rounds that may come after the one that asks for it. An `Err` is out of memory.
+fn asked_after(alloc: Global, interval: Option<(u64, u64)>, step: u64) -> Result<Asked, Memory>
+    ensures value { IfOk result (λ a. a.steps.items ≡ asked.asked_after interval step) }
+    ensures inside { IfOk result (λ a. a.place < length a.steps.items) }
+    ensures place { IfOk result (λ a. slice_index a.steps.items a.place ≡ step) }
 {
     let mut steps = Vec::new(alloc);
-    steps.push(step)?;
     match interval {
         Some((lo, hi)) => {
-            let mut halves = Vec::new(alloc);
-            halves.push((lo, step))?;
-            halves.push((step, hi))?;
-            with_rounds(alloc, ROUNDS_AHEAD, steps, halves)
+            put_middles(ROUNDS_AHEAD, lo, step, &mut steps)?;
+            let place = steps.len();
+            steps.push(step)?;
+            put_middles(ROUNDS_AHEAD, step, hi, &mut steps)?;
+            Ok(Asked { steps, place })
         }
-        None => Ok(steps),
+        None => {
+            steps.push(step)?;
+            Ok(Asked { steps, place: 0 })
+        }
     }
 }
 
-/// At most 15 steps, of which the first is the one that is asked: a step, and behind it the middles for which the three
-/// rounds after the one that asks for it may ask, where a round of a dispute over `bound` may ask for it. An `Err` is out of
-/// memory.
+/// At most 15 steps in ascending order, and where the one that is asked stands: a step among the middles for which the three
+/// rounds after the one that asks for it may ask, where a round of a dispute over `bound` may ask for it, else that step alone.
+/// An `Err` is out of memory.
 #[tactic(auto, unfolding(crate::specs::Middles::asked_with))]
-pub fn asked_with(alloc: Global, bound: u64, step: u64) -> Result<Vec<u64>, Memory>
-    ensures value { IfOk result (λ v. v.items ≡ asked.asked_with bound step) }
-    ensures some { IfOk result (λ v. 0 < length v.items) }
-    ensures few { IfOk result (λ v. length v.items ≤ 15) }
-    ensures first { IfOk result (λ v. slice_index v.items 0 ≡ step) }
+pub fn asked_with(alloc: Global, bound: u64, step: u64) -> Result<Asked, Memory>
+    ensures value { IfOk result (λ a. a.steps.items ≡ asked.asked_with bound step) }
+    ensures few { IfOk result (λ a. length a.steps.items ≤ 15) }
+    ensures inside { IfOk result (λ a. a.place < length a.steps.items) }
+    ensures place { IfOk result (λ a. slice_index a.steps.items a.place ≡ step) }
 {
     let interval = interval_of(MOST_ROUNDS, 0, bound, step);
     asked_after(alloc, interval, step)

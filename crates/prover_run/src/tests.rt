@@ -1,7 +1,7 @@
 ghost use Rattle.std.specs.Prelude.{◌≡◌, ◌≤◌, ℕ, [], List, length, IfOk};
 ghost use Rattle.rv_step.specs.State.{IsChained};
 
-use crate::middles::asked_with;
+use crate::middles::{Asked, asked_with};
 use crate::{CaseProvers, RunAnswerer, answerers_of};
 use bisect_game::{Answerer, Kind, Provers, Question};
 use digest_core::{Digester, Sha256, registers_text};
@@ -16,29 +16,31 @@ use rv_step::Machine;
 use std::alloc::Global;
 use std::test::Fail;
 
-/// The steps that are asked with a step, of a run up to a bound. They were worked out by hand: the halves of the interval
-/// whose middle the step is, and twice more the halves of those.
+/// The steps that are asked with a step, of a run up to a bound, and where it stands. They were worked out by hand: the halves
+/// of the interval whose middle the step is, and twice more the halves of those, in ascending order.
 #[test]
 fn a_round_asks_the_middles_of_the_next_three(rt: HostRuntime) -> Result<(), Fail> {
-    let rows: [(u64, u64, &[u64]); 8] = [
-        (8, 4, &[4, 2, 6, 1, 3, 5, 7]),
-        (8, 2, &[2, 1, 3]),
-        (8, 6, &[6, 5, 7]),
-        (8, 7, &[7]),
-        (8, 0, &[0]),
-        (8, 9, &[9]),
-        (7, 3, &[3, 1, 5, 2, 4, 6]),
+    let rows: [(u64, u64, &[u64], usize); 8] = [
+        (8, 4, &[1, 2, 3, 4, 5, 6, 7], 3),
+        (8, 2, &[1, 2, 3], 1),
+        (8, 6, &[5, 6, 7], 1),
+        (8, 7, &[7], 0),
+        (8, 0, &[0], 0),
+        (8, 9, &[9], 0),
+        (7, 3, &[1, 2, 3, 4, 5, 6], 2),
         (
             1024,
             256,
             &[
-                256, 128, 384, 64, 192, 320, 448, 32, 96, 160, 224, 288, 352, 416, 480,
+                32, 64, 96, 128, 160, 192, 224, 256, 288, 320, 352, 384, 416, 448, 480,
             ],
+            7,
         ),
     ];
-    for (bound, step, wanted) in rows {
-        let steps = asked_with(rt.alloc(), bound, step)?;
+    for (bound, step, wanted, stands) in rows {
+        let Asked { steps, place } = asked_with(rt.alloc(), bound, step)?;
         assert_eq!(rt; steps.as_slice(), wanted);
+        assert_eq!(rt; place, stands);
     }
     Ok(())
 }

@@ -18,6 +18,9 @@ use rv_step::Machine;
 use std::alloc::Global;
 use std::thread::Threads;
 
+/// A cursor is moved on by up to so many steps, rather than that a tree of memory is built anew.
+const STEPS_WORTH_A_TREE: u64 = 16_384;
+
 /// A machine of a run, at which step it is, and the tree of its memory.
 #[derive(Drop)]
 pub struct Cursor<D: Digester> {
@@ -135,8 +138,9 @@ fn moved_on<D: Digester>(d: D, run: &Run, cursor: Cursor<D>, goal: u64) -> Resul
     Ok(Cursor { at, machine, tree })
 }
 
-/// The cursor of a step, up to the one from which the run stands still: the cursor at hand moved on, where no checkpoint lies
-/// between it and the step, else a new one from the last checkpoint up to the step. An `Err` is out of memory.
+/// The cursor of a step, up to the one from which the run stands still: the cursor at hand moved on, where the step lies
+/// ahead of it and is near or no checkpoint lies between, else a new one from the last checkpoint up to the step. An `Err` is
+/// out of memory.
 fn cursor_at<D: Digester + Send + Sync, R: Threads + Sync>(
     rt: &R,
     alloc: Global,
@@ -155,8 +159,11 @@ fn cursor_at<D: Digester + Send + Sync, R: Threads + Sync>(
 {
     let every = u64::from(run.every());
     if let Some(cursor) = at_hand {
-        if cursor.at <= goal && goal / every == cursor.at / every {
-            return moved_on(d, run, cursor, goal);
+        if cursor.at <= goal {
+            let near = goal - cursor.at <= STEPS_WORTH_A_TREE;
+            if near || goal / every == cursor.at / every {
+                return moved_on(d, run, cursor, goal);
+            }
         }
     }
     let machine = machine_up_to(d, run, goal)?;

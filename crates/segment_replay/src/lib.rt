@@ -3,8 +3,12 @@
 //! The layers above may rely on this: `roots` gives the root of the run's state of each step asked, in the order asked, and
 //! `committed_at` the machine of a step with the tree of its memory; each is that of the definition, whatever the spacing of
 //! the checkpoints and the number of workers. Workers run side by side where threads can be made; the answers don't depend
-//! on it. That a worker begins at the checkpoint that is nearest to its step, and that the work is cut evenly, is read in
-//! `replaying` and `cursor`, and not proved. Read `specs/Roots.antt` first, then `replaying`, then `cursor`.
+//! on it.
+//!
+//! Asked in ascending order, each worker goes on from step to step with one tree of memory, so long as the next step is near or
+//! no checkpoint lies between; else it builds a tree anew, from the last checkpoint up to its step, at 275 digests for each
+//! page. That, and that the work is cut evenly, is read in `cursor` and `replaying`, and not proved. Read `specs/Roots.antt`
+//! first, then `replaying`, then `cursor`.
 #![tactic(auto)]
 
 mod cursor;

@@ -1,12 +1,9 @@
-use Rattle.std.proofs.Common.{◌≡◌, ◌<◌, ◌≤◌, length, slice_index}
-use Rattle.prover_run.proofs.MiddleLemmas.{few_asked, first_asked, of_items}
+use Rattle.std.proofs.Common.{◌≡◌, ◌≤◌, length, sym, subst}
+use Rattle.prover_run.specs.Middles.{asked_after}
+use Rattle.prover_run.proofs.MiddleLemmas.{few_asked, of_made}
 use Rattle.prover_run.proofs.middles.asked_with.Goals as goal
 
-pub returns-clause-some : goal.returns-clause-some
-returns-clause-some c = of_items (λ xs. 0 < length xs) _ (first_asked c.interval_of-interval.result c.args.step).0 c.asked_after.result c.asked_after.ensures
-
 pub returns-clause-few : goal.returns-clause-few
-returns-clause-few c = of_items (λ xs. length xs ≤ 15) _ (few_asked c.interval_of-interval.result c.args.step) c.asked_after.result c.asked_after.ensures
-
-pub returns-clause-first : goal.returns-clause-first
-returns-clause-first c = of_items (λ xs. slice_index xs 0 ≡ c.args.step) _ (first_asked c.interval_of-interval.result c.args.step).1 c.asked_after.result c.asked_after.ensures
+returns-clause-few c =
+    of_made (λ a. a.steps.items ≡ asked_after c.interval_of-interval.result c.args.step) (λ a. length a.steps.items ≤ 15)
+    (λ a same. subst (λ xs. length xs ≤ 15) (sym same) (few_asked c.interval_of-interval.result c.args.step)) c.asked_after.result c.asked_after.ensures.value
