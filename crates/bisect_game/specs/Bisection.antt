@@ -38,6 +38,10 @@ prover_of Second d = d.second
 unfoldable pub cut : ℕ → ℕ → ℕ → ℕ → ℕ
 cut lo hi parts j = lo + (j * (hi - lo)) / parts
 
+-- the middle of an interval, rounded down
+abbrev pub middle : ℕ → ℕ → ℕ
+middle lo hi = lo + (hi - lo) / 2
+
 -- a round has never more parts than steps
 abbrev pub parts_of : ℕ → Interval → ℕ
 parts_of fan i = min fan (i.hi - i.lo)
@@ -78,8 +82,8 @@ kept parts i xs ys =
       second = slice_index_or (ys ++ i.second ∷ []) j i.second;
     }
 
-abbrev pub ended : Bisection → Close → Bisection
-ended d c = record d { close = Some c }
+abbrev pub closed_by : Bisection → Close → Bisection
+closed_by d c = record d { close = Some c }
 
 abbrev pub went_on : ℕ → Bisection → Settled → Settled → Bisection
 went_on fan d a b =
@@ -91,7 +95,7 @@ went_on fan d a b =
     }
 
 abbrev pub closed_or : Bisection → Bisection → Option Close → Bisection
-closed_or d further (Some c) = ended d c
+closed_or d further (Some c) = closed_by d c
 closed_or d further None = further
 
 -- a round of which both sides are settled closes the dispute, or the dispute goes on with the kept part

@@ -1,8 +1,13 @@
--- To believe: what the provers of a match say.
-use Rattle.std.specs.Prelude.{ℕ, Option}
+-- To believe: what the provers of a match say, and which answerers answer as they say.
+use Rattle.std.specs.Prelude.{◌≡◌, ℕ, ◌+◌, List, [], ◌∷◌, Option}
 use Rattle.rd_base.specs.declared.answer.Answer.{Answer}
 use Rattle.bisect_game.specs.declared.question.Question.{Question}
 
 -- what a prover answers to a question after so many passes on it; None is a pass
 abbrev pub Says : Type 0
 Says = ℕ → Question → ℕ → Option Answer
+
+-- each of these answers as the prover of its number, from this one on
+abbrev pub AnswerAs : {A : Type 0} → (A → Question → ℕ → Option Answer) → Says → ℕ → List A → Type 0
+AnswerAs answers says p [] = Unit {0}
+AnswerAs answers says p (a ∷ rest) = (answers a ≡ says p) × AnswerAs answers says (p + 1) rest

@@ -6,12 +6,12 @@ use Rattle.std.proofs.Math.Pow.{pow_mono}
 use Rattle.rd_base.specs.declared.answer.Answer.{Answer}
 use Rattle.rd_base.specs.declared.answer.Qid.{Qid}
 use Rattle.bisect_game.specs.declared.question.Question.{Question}
-use Rattle.bisect_game.specs.Says.{Says}
+use Rattle.bisect_game.specs.Says.{Says, AnswerAs}
 use Rattle.bisect_game.specs.Rules.{Rules}
 use Rattle.tournament.specs.declared.posting.Reply.{Reply}
 use Rattle.tournament.specs.declared.posting.Reply.TheVariants.{Stale}
 use Rattle.tournament.specs.Bracket.{open_question, is_complete, bracket}
-use Rattle.tournament.specs.Moves.{State, begun, passes_of, settled_by, moved}
+use Rattle.tournament.specs.Moves.{MatchState, begun, passes_of, settled_by, moved}
 use Rattle.tournament.specs.Journals.{turn, turn_on, turns, IsAskedOf, Legal, answers_of, RecordOfCase}
 use Rattle.tournament.specs.Length.{IsMost, most_entries, SpareIsEnough}
 use Rattle.tournament.specs.Posting.{same_qid, posted, posted_on, reply_by, reply_on, reply_to}
@@ -20,8 +20,7 @@ use Rattle.tournament.specs.Truthful.{IsTruthfulProver, IsSafe, TruthfulProversA
 use Rattle.bisect_game.specs.Truth.{Truth, IsRun}
 use Rattle.bisect_game.specs.Ruling.{IsFair}
 use Rattle.board_book.specs.declared.entry.Entry.{Entry}
-use Rattle.board_book.specs.Entries.{IsEntry, IsJournal, who, state_of, is_stale}
-use Rattle.board_book.specs.Asking.{AnswerAs}
+use Rattle.board_book.specs.Entries.{IsEntry, IsJournal, who, state_after, is_stale}
 use Rattle.board_book.specs.Booking.{IsBook}
 
 either : (b : Bool) → (b ≡ true) ⊎ (b ≡ false)
@@ -66,7 +65,7 @@ most-small k w bound is low short =
 
 -- a journal is legal, and within its room
 
-pub journal-legal : (rules : Rules) (says : Says) (es : List Entry) (st : State) → IsJournal rules says es st → Legal rules says (who es) st
+pub journal-legal : (rules : Rules) (says : Says) (es : List Entry) (st : MatchState) → IsJournal rules says es st → Legal rules says (who es) st
 journal-legal rules says [] st j = tt
 journal-legal rules says (e ∷ es) st j = (record { question = j.0.question; numbered = j.0.numbered; asked = j.0.asked }, journal-legal rules says es _ j.1)
 
@@ -74,7 +73,7 @@ who-length : (es : List Entry) → length (who es) ≡ length es
 who-length [] = refl
 who-length (e ∷ es) = ap suc (who-length es)
 
-pub book-few : SpareIsEnough → (rules : Rules) (says : Says) (count : ℕ) (es : List Entry) (st : State) (room capacity : ℕ) → IsBook rules says count es st room capacity → length es ≤ room
+pub book-few : SpareIsEnough → (rules : Rules) (says : Says) (count : ℕ) (es : List Entry) (st : MatchState) (room capacity : ℕ) → IsBook rules says count es st room capacity → length es ≤ room
 book-few enough rules says count es st room capacity b =
     let few : length (who es) ≤ most_entries rules b.most.0 = enough rules says (who es) b.most.0 b.playable b.most.1 (journal-legal rules says es (begun rules) b.legal) in
     omega (arith, few, who-length es, b.most.2)
@@ -85,11 +84,11 @@ who-last : (es : List Entry) (e : Entry) → who (es ++ e ∷ []) ≡ who es ++ 
 who-last [] e = refl
 who-last (x ∷ es) e = ap (λ (ps : List ℕ). x.p ∷ ps) (who-last es e)
 
-turns-last : (rules : Rules) (says : Says) (ps : List ℕ) (p : ℕ) (st : State) → turns rules says (ps ++ p ∷ []) st ≡ turn_on rules says (turns rules says ps st) p (open_question rules (turns rules says ps st).record_ p)
+turns-last : (rules : Rules) (says : Says) (ps : List ℕ) (p : ℕ) (st : MatchState) → turns rules says (ps ++ p ∷ []) st ≡ turn_on rules says (turns rules says ps st) p (open_question rules (turns rules says ps st).record_ p)
 turns-last rules says [] p st = refl
 turns-last rules says (q ∷ ps) p st = turns-last rules says ps p _
 
-journal-last : (rules : Rules) (says : Says) (es : List Entry) (e : Entry) (st : State) → IsJournal rules says es st → IsEntry rules says (turns rules says (who es) st) e → IsJournal rules says (es ++ e ∷ []) st
+journal-last : (rules : Rules) (says : Says) (es : List Entry) (e : Entry) (st : MatchState) → IsJournal rules says es st → IsEntry rules says (turns rules says (who es) st) e → IsJournal rules says (es ++ e ∷ []) st
 journal-last rules says [] e st j i = (i, tt)
 journal-last rules says (x ∷ es) e st j i = (j.0, journal-last rules says es e _ j.1 i)
 
@@ -108,13 +107,13 @@ fresh-if : (b : Bool) (r : Reply) (qid : Qid) → is_stale (if b then r else Sta
 fresh-if true r qid e = refl
 fresh-if false r qid e = absurd (cc)
 
-fresh : (rules : Rules) (st : State) (p : ℕ) (qid : Qid) (m : Option Answer) (o : Option Question) → is_stale (reply_on rules st p qid m o) ≡ false → IsFresh qid o
+fresh : (rules : Rules) (st : MatchState) (p : ℕ) (qid : Qid) (m : Option Answer) (o : Option Question) → is_stale (reply_on rules st p qid m o) ≡ false → IsFresh qid o
 unfolding IsFresh
 fresh rules st p qid m None e = absurd (cc)
 fresh rules st p qid m (Some q) e = (q, refl, fresh-if (same_qid q.qid qid) _ _ e)
 
 -- the book after a post that is not stale
-pub book-posted : (rules : Rules) (says : Says) (count : ℕ) (es : List Entry) (st u : State) (room capacity wide p : ℕ) (qid : Qid) (m : Option Answer) (e : Entry) → IsBook rules says count es st room capacity → 0 < p →
+pub book-posted : (rules : Rules) (says : Says) (count : ℕ) (es : List Entry) (st u : MatchState) (room capacity wide p : ℕ) (qid : Qid) (m : Option Answer) (e : Entry) → IsBook rules says count es st room capacity → 0 < p →
     ((q : Question) → open_question rules st.record_ p ≡ Some q → same_qid q.qid qid ≡ true → m ≡ says p q (passes_of st p)) →
     e.p ≡ p → e.qid ≡ qid → e.pass ≡ is_none m → e.reply ≡ reply_to rules st p qid m → is_stale e.reply ≡ false → u ≡ posted rules st p qid m → wide ≡ capacity → IsBook rules says count (es ++ e ∷ []) u room wide
 unfolding IsFresh
@@ -134,9 +133,9 @@ book-posted rules says count es st u room capacity wide p qid m e b some moves e
       pass = rw ep (epass ∙ ap (λ (o : Option Answer). is_none o) says_);
       reply = rw ep (r ∙ ap (λ (o : Option Answer). reply_by (settled_by rules f.0 (passes_of st p) o)) says_);
     } in
-    let last : state_of rules says (es ++ e ∷ []) ≡ turn_on rules says (state_of rules says es) e.p (open_question rules (state_of rules says es).record_ e.p) =
+    let last : state_after rules says (es ++ e ∷ []) ≡ turn_on rules says (state_after rules says es) e.p (open_question rules (state_after rules says es).record_ e.p) =
     ap (λ (ps : List ℕ). turns rules says ps (begun rules)) (who-last es e) ∙ turns-last rules says (who es) e.p (begun rules) in
-    let on : turn_on rules says (state_of rules says es) e.p (open_question rules (state_of rules says es).record_ e.p) ≡ turn rules says st p f.0 =
+    let on : turn_on rules says (state_after rules says es) e.p (open_question rules (state_after rules says es).record_ e.p) ≡ turn rules says st p f.0 =
     rw (b.state, ep) (ap (turn_on rules says st p) f.1) in
     record {
       playable = b.playable;
@@ -149,11 +148,11 @@ book-posted rules says count es st u room capacity wide p qid m e b some moves e
 
 -- a journal that is as long as it can be leaves nobody asked
 
-legal-last : (rules : Rules) (says : Says) (ps : List ℕ) (p : ℕ) (st : State) → Legal rules says ps st → IsAskedOf rules (turns rules says ps st) p → Legal rules says (ps ++ p ∷ []) st
+legal-last : (rules : Rules) (says : Says) (ps : List ℕ) (p : ℕ) (st : MatchState) → Legal rules says ps st → IsAskedOf rules (turns rules says ps st) p → Legal rules says (ps ++ p ∷ []) st
 legal-last rules says [] p st l a = (a, tt)
 legal-last rules says (q ∷ ps) p st l a = (l.0, legal-last rules says ps p _ l.1 a)
 
-full-none : SpareIsEnough → (rules : Rules) (says : Says) (count : ℕ) (es : List Entry) (st : State) (room capacity k p : ℕ) (o : Option Question) → IsBook rules says count es st room capacity → IsMost rules.play.fan rules.bound k → length es ≡ most_entries rules k → 0 < p →
+full-none : SpareIsEnough → (rules : Rules) (says : Says) (count : ℕ) (es : List Entry) (st : MatchState) (room capacity k p : ℕ) (o : Option Question) → IsBook rules says count es st room capacity → IsMost rules.play.fan rules.bound k → length es ≡ most_entries rules k → 0 < p →
     open_question rules st.record_ p ≡ o → o ≡ None
 full-none enough rules says count es st room capacity k p None b m full some e = refl
 full-none enough rules says count es st room capacity k p (Some q) b m full some e =
@@ -162,7 +161,7 @@ full-none enough rules says count es st room capacity k p (Some q) b m full some
     let few : length (who es ++ p ∷ []) ≤ most_entries rules k = enough rules says (who es ++ p ∷ []) k b.playable m legal in
     absurd (omega (arith, few, length-append (who es) (p ∷ []), who-length es, full))
 
-pub book-full : SpareIsEnough → (rules : Rules) (says : Says) (count : ℕ) (es : List Entry) (st : State) (room capacity k : ℕ) → IsBook rules says count es st room capacity → IsMost rules.play.fan rules.bound k → length es ≡ most_entries rules k →
+pub book-full : SpareIsEnough → (rules : Rules) (says : Says) (count : ℕ) (es : List Entry) (st : MatchState) (room capacity k : ℕ) → IsBook rules says count es st room capacity → IsMost rules.play.fan rules.bound k → length es ≡ most_entries rules k →
     ((p : ℕ) → 0 < p → p ≤ rules.provers → open_question rules st.record_ p ≡ None) ↔ (is_complete st.record_ ≡ true) → is_complete st.record_ ≡ true
 book-full enough rules says count es st room capacity k b m full over =
     over.0 (λ p some le. full-none enough rules says count es st room capacity k p (open_question rules st.record_ p) b m full some refl)
@@ -189,19 +188,19 @@ set_length (x ∷ xs) (suc i) y = ap suc (set_length xs i y)
 
 -- a book over has the record of its case, and asks what it asks
 
-pub book-record : RecordOfCase → (rules : Rules) (says : Says) (count : ℕ) (es : List Entry) (st : State) (room capacity : ℕ) → IsBook rules says count es st room capacity →
+pub book-record : RecordOfCase → (rules : Rules) (says : Says) (count : ℕ) (es : List Entry) (st : MatchState) (room capacity : ℕ) → IsBook rules says count es st room capacity →
     is_complete st.record_ ≡ true → st.record_ ≡ bracket rules (answers_of rules says)
 book-record one rules says count es st room capacity b complete =
     let legal : Legal rules says (who es) (begun rules) = journal-legal rules says es (begun rules) b.legal in
     rw b.state at (one rules says (who es) b.playable legal (rw (← b.state) at complete))
 
-pub book-asks : AskedByTheCase → (rules : Rules) (says : Says) (count : ℕ) (es : List Entry) (st : State) (room capacity : ℕ) → IsBook rules says count es st room capacity →
+pub book-asks : AskedByTheCase → (rules : Rules) (says : Says) (count : ℕ) (es : List Entry) (st : MatchState) (room capacity : ℕ) → IsBook rules says count es st room capacity →
     (p : ℕ) (q : Question) → 0 < p → open_question rules st.record_ p ≡ Some q → asked rules (bracket rules (answers_of rules says)) p q.qid ≡ Some q.kind
 book-asks by rules says count es st room capacity b p q some e =
     let legal : Legal rules says (who es) (begun rules) = journal-legal rules says es (begun rules) b.legal in
     by rules says (who es) p q b.playable legal some (rw (← b.state) at e)
 
-pub book-safe : TruthfulProversAreSafe → (rules : Rules) (says : Says) (count : ℕ) (es : List Entry) (st : State) (room capacity : ℕ) → IsBook rules says count es st room capacity → IsFair rules.play.ruling →
+pub book-safe : TruthfulProversAreSafe → (rules : Rules) (says : Says) (count : ℕ) (es : List Entry) (st : MatchState) (room capacity : ℕ) → IsBook rules says count es st room capacity → IsFair rules.play.ruling →
     (t : Truth) (p : ℕ) → IsRun rules t → 0 < p → p ≤ rules.provers → IsTruthfulProver rules says t p → IsSafe rules t p st.record_
 book-safe safe rules says count es st room capacity b fair t p run low high truthful =
     let legal : Legal rules says (who es) (begun rules) = journal-legal rules says es (begun rules) b.legal in

@@ -2,15 +2,15 @@
 use Rattle.std.specs.Prelude.{◌≡◌, ℕ, ◌≤◌, List}
 use Rattle.bisect_game.specs.Says.{Says}
 use Rattle.bisect_game.specs.Rules.{Rules, ArePlayable}
-use Rattle.tournament.specs.Moves.{State, begun}
+use Rattle.tournament.specs.Moves.{MatchState, begun}
 use Rattle.tournament.specs.Length.{IsMost, most_entries}
 use Rattle.board_book.specs.declared.entry.Entry.{Entry}
-use Rattle.board_book.specs.Entries.{IsJournal, state_of}
+use Rattle.board_book.specs.Entries.{IsJournal, state_after}
 
-pub record IsBook (rules : Rules) (says : Says) (count : ℕ) (es : List Entry) (st : State) (room capacity : ℕ) : Type 0 where
+pub record IsBook (rules : Rules) (says : Says) (count : ℕ) (es : List Entry) (st : MatchState) (room capacity : ℕ) : Type 0 where
   pub playable : ArePlayable rules
   pub counted : rules.provers ≡ count
   pub legal : IsJournal rules says es (begun rules)
-  pub state : state_of rules says es ≡ st
+  pub state : state_after rules says es ≡ st
   pub most : (k : ℕ) × IsMost rules.play.fan rules.bound k × (room ≡ most_entries rules k)
   pub capacity_ : room ≤ capacity

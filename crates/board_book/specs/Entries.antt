@@ -6,14 +6,14 @@ use Rattle.bisect_game.specs.Rules.{Rules}
 use Rattle.tournament.specs.declared.posting.Reply.{Reply}
 use Rattle.tournament.specs.declared.posting.Reply.TheVariants.{Stale}
 use Rattle.tournament.specs.Bracket.{open_question}
-use Rattle.tournament.specs.Moves.{State, begun, passes_of, settled_by}
+use Rattle.tournament.specs.Moves.{MatchState, begun, passes_of, settled_by}
 use Rattle.tournament.specs.Journals.{turn_on, turns}
 use Rattle.tournament.specs.Posting.{reply_by}
 use Rattle.board_book.specs.declared.entry.Entry.{Entry}
 
 -- an entry replays: its question is its prover's open one, and its reply is the game's. It is scripted: its move is what the
 -- prover says to that question after so many passes.
-pub record IsEntry (rules : Rules) (says : Says) (st : State) (e : Entry) : Type 0 where
+pub record IsEntry (rules : Rules) (says : Says) (st : MatchState) (e : Entry) : Type 0 where
   pub question : Question
   pub numbered : 0 < e.p
   pub asked : open_question rules st.record_ e.p ≡ Some question
@@ -22,7 +22,7 @@ pub record IsEntry (rules : Rules) (says : Says) (st : State) (e : Entry) : Type
   pub reply : e.reply ≡ reply_by (settled_by rules question (passes_of st e.p) (says e.p question (passes_of st e.p)))
 
 -- a legal journal from a state on
-abbrev pub IsJournal : Rules → Says → List Entry → State → Type 0
+abbrev pub IsJournal : Rules → Says → List Entry → MatchState → Type 0
 IsJournal rules says [] st = Unit {0}
 IsJournal rules says (e ∷ es) st = IsEntry rules says st e × IsJournal rules says es (turn_on rules says st e.p (open_question rules st.record_ e.p))
 
@@ -32,8 +32,8 @@ who [] = []
 who (e ∷ es) = e.p ∷ who es
 
 -- the state to which a journal comes: the moves of its provers, one after another
-abbrev pub state_of : Rules → Says → List Entry → State
-state_of rules says es = turns rules says (who es) (begun rules)
+abbrev pub state_after : Rules → Says → List Entry → MatchState
+state_after rules says es = turns rules says (who es) (begun rules)
 
 abbrev pub is_stale : Reply → Bool
 is_stale (Stale q) = true

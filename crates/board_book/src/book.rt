@@ -12,8 +12,8 @@ ghost use Rattle.tournament.specs.Theorem.{AreTrue, Stays, IsRightVerdict, AllSh
 ghost use Rattle.tournament.specs.Truthful.{IsTruthfulProver, IsSafe};
 ghost use Rattle.tournament.specs.Length.{IsMost, most_entries};
 ghost use Rattle.board_book.specs.declared.entry.Entry.{Entry};
-ghost use Rattle.board_book.specs.Entries.{IsJournal, state_of, noted, is_stale};
-ghost use Rattle.board_book.specs.Asking.{ask_on, waits_on, AnswerAs};
+ghost use Rattle.board_book.specs.Entries.{IsJournal, state_after, noted, is_stale};
+ghost use Rattle.board_book.specs.Asking.{ask_on, waits_on};
 
 use crate::entry::{Ask, Entry};
 use crate::room::most_entries;
@@ -66,12 +66,12 @@ pub struct Book<J: Judge + Drop, P: Provers + Drop> {
 impl<J: Judge + Drop, P: Provers + Drop> Model for Book<J, P> {
     ghost use Rattle.std.specs.Prelude.{vec_capacity, List};
     ghost use Rattle.tournament.specs.declared.setup.Setup.{Setup};
-    ghost use Rattle.tournament.specs.Moves.{State};
+    ghost use Rattle.tournament.specs.Moves.{MatchState};
     ghost use Rattle.tournament.specs.Posting.{rules_of};
     ghost use Rattle.board_book.specs.declared.entry.Entry.{Entry};
     ghost use Rattle.board_book.specs.Booking.{IsBook};
 
-    ghost Value = { (J.Names × P.Names × Setup) × (List Entry) × State };
+    ghost Value = { (J.Names × P.Names × Setup) × (List Entry) × MatchState };
 
     ghost view = { λ b. ((b.game.0, P.names b.provers, b.game.1), b.journal.items, b.game.2) };
 
@@ -174,7 +174,7 @@ impl<J: Judge + Drop, P: Provers + Drop> Book<J, P> {
     /// The journal is legal, and the match is its state.
     pub fn is_legal(&self)
         ensures legal { let rules = rules_of (J.ruling self.now.0.0) self.now.0.2 in IsJournal rules (P.says self.now.0.1) self.now.1 (begun rules) }
-        ensures state { let rules = rules_of (J.ruling self.now.0.0) self.now.0.2 in state_of rules (P.says self.now.0.1) self.now.1 ≡ self.now.2 }
+        ensures state { let rules = rules_of (J.ruling self.now.0.0) self.now.0.2 in state_after rules (P.says self.now.0.1) self.now.1 ≡ self.now.2 }
     {
         let _ = &self.room;
     }

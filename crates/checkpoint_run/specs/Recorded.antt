@@ -1,13 +1,11 @@
 -- To believe: what contracts see of a recorded run.
 use Rattle.std.specs.Prelude.{◌≡◌, ℕ, ◌*◌, List, slice_get, IfSome, refl}
 use Rattle.std.specs.Coded.{Coded, code_by, coded×, coded_list, coded_ℕ}
-use Rattle.rd_base.specs.declared.status.Status.{Status}
-use Rattle.rd_base.specs.contracts.status.Status as status
 use Rattle.rd_base.specs.declared.tamper.Tamper.{Tamper}
 use Rattle.rd_base.specs.contracts.tamper.Tamper as tampers
-use Rattle.mem_plain.specs.Contents.{Contents, contents_code}
 use Rattle.digest_core.specs.Chain.{chain_of}
 use Rattle.rv_step.specs.State.{State}
+use Rattle.rv_step.specs.StateCode.{state_code}
 use Rattle.checkpoint_run.specs.TamperedRun.{run_from, still}
 
 -- a run: its state at step 0, after what the tamper does there; the tamper, the bound and the spacing of checkpoints; and
@@ -19,16 +17,7 @@ pub record Recorded : Type 0 where
   pub every : ℕ
   pub chains : List (List ℕ)
 
--- a state is data, as the tuple of its parts
-abbrev pub state_code : Coded State
-state_code =
-    code_by (List ℕ × (ℕ × (Contents × (Status × List ℕ))))
-    (coded× (coded_list coded_ℕ) (coded× coded_ℕ (coded× contents_code (coded× status.the_row.coded (coded_list coded_ℕ)))))
-    (λ s. (s.regs, (s.pc, (s.memory, (s.status, s.output)))))
-    (λ p. record { regs = p.0; pc = p.1.0; memory = p.1.1.0; status = p.1.1.1.0; output = p.1.1.1.1 })
-    (λ _. refl)
-
--- and so is a run
+-- a run is data, as the tuple of its parts
 abbrev pub recorded_code : Coded Recorded
 recorded_code =
     code_by (State × (Tamper × (ℕ × (ℕ × List (List ℕ)))))

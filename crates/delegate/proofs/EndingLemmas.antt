@@ -12,7 +12,7 @@ use Rattle.bisect_game.specs.Ruling.{IsFair}
 use Rattle.bisect_game.specs.Rules.{Rules, ArePlayable}
 use Rattle.bisect_game.specs.Truth.{Truth, IsRun}
 use Rattle.tournament.specs.Bracket.{Record, open_question, is_complete, bracket}
-use Rattle.tournament.specs.Moves.{State, begun, passes_of}
+use Rattle.tournament.specs.Moves.{MatchState, begun, passes_of}
 use Rattle.tournament.specs.Journals.{turn, turn_on, turns, IsAskedOf, Legal, answers_of, RecordOfCase}
 use Rattle.tournament.specs.Posting.{same_qid, posted, posted_on, Post, after_posts, NobodyAskedIsOver}
 use Rattle.tournament.specs.Length.{IsMost, most_entries, SpareIsEnough}
@@ -20,11 +20,11 @@ use Rattle.tournament.specs.Truthful.{IsTruthfulProver, IsSafe, TruthfulProversA
 
 -- one more move
 
-turns-last : (rules : Rules) (says : Says) (ps : List ℕ) (p : ℕ) (st : State) → turns rules says (ps ++ p ∷ []) st ≡ turn_on rules says (turns rules says ps st) p (open_question rules (turns rules says ps st).record_ p)
+turns-last : (rules : Rules) (says : Says) (ps : List ℕ) (p : ℕ) (st : MatchState) → turns rules says (ps ++ p ∷ []) st ≡ turn_on rules says (turns rules says ps st) p (open_question rules (turns rules says ps st).record_ p)
 turns-last rules says [] p st = refl
 turns-last rules says (q ∷ ps) p st = turns-last rules says ps p _
 
-legal-last : (rules : Rules) (says : Says) (ps : List ℕ) (p : ℕ) (st : State) → Legal rules says ps st → IsAskedOf rules (turns rules says ps st) p → Legal rules says (ps ++ p ∷ []) st
+legal-last : (rules : Rules) (says : Says) (ps : List ℕ) (p : ℕ) (st : MatchState) → Legal rules says ps st → IsAskedOf rules (turns rules says ps st) p → Legal rules says (ps ++ p ∷ []) st
 legal-last rules says [] p st legal asked = (asked, tt)
 legal-last rules says (q ∷ ps) p st legal asked = (legal.0, legal-last rules says ps p _ legal.1 asked)
 
@@ -33,13 +33,13 @@ legal-last rules says (q ∷ ps) p st legal asked = (legal.0, legal-last rules s
 same-number : (a : Qid) → same_qid a a ≡ true
 same-number a = grind (arith, nat_tests)
 
-posted-turn : (rules : Rules) (says : Says) (st : State) (p : ℕ) (q : Question) → open_question rules st.record_ p ≡ Some q
+posted-turn : (rules : Rules) (says : Says) (st : MatchState) (p : ℕ) (q : Question) → open_question rules st.record_ p ≡ Some q
     → posted rules st p q.qid (says p q (passes_of st p)) ≡ turn_on rules says st p (open_question rules st.record_ p)
 posted-turn rules says st p q asked =
     ap (posted_on rules st p q.qid (says p q (passes_of st p))) asked
     ∙ (ap (λ b. cond b (turn rules says st p q) st) (same-number q.qid) ∙ sym (ap (turn_on rules says st p) asked))
 
-posts-of : (rules : Rules) (says : Says) (ps : List ℕ) (st : State) → Legal rules says ps st → (xs : List Post) × (after_posts rules xs st ≡ turns rules says ps st)
+posts-of : (rules : Rules) (says : Says) (ps : List ℕ) (st : MatchState) → Legal rules says ps st → (xs : List Post) × (after_posts rules xs st ≡ turns rules says ps st)
 posts-of rules says [] st legal = ([], refl)
 posts-of rules says (p ∷ ps) st legal =
     let q = legal.0.question in
@@ -52,15 +52,15 @@ over-after : NobodyAskedIsOver → (rules : Rules) (says : Says) (ps : List ℕ)
     → is_complete (turns rules says ps (begun rules)).record_ ≡ true
 over-after over rules says ps playable legal nobody =
     let posts = posts-of rules says ps (begun rules) legal in
-    subst (λ (st : State). is_complete st.record_ ≡ true) posts.1
-    ((over rules posts.0 playable).0 (λ p some few. subst (λ (st : State). open_question rules st.record_ p ≡ None) (sym posts.1) (nobody p some few)))
+    subst (λ (st : MatchState). is_complete st.record_ ≡ true) posts.1
+    ((over rules posts.0 playable).0 (λ p some few. subst (λ (st : MatchState). open_question rules st.record_ p ≡ None) (sym posts.1) (nobody p some few)))
 
 -- somebody of the first n provers is asked, or nobody is
 
-abbrev NobodyAsked : Rules → State → ℕ → Type 0
+abbrev NobodyAsked : Rules → MatchState → ℕ → Type 0
 NobodyAsked rules st n = (p : ℕ) → 0 < p → p ≤ n → open_question rules st.record_ p ≡ None
 
-somebody : (rules : Rules) (st : State) (n : ℕ) → ((p : ℕ) × IsAskedOf rules st p) ⊎ NobodyAsked rules st n
+somebody : (rules : Rules) (st : MatchState) (n : ℕ) → ((p : ℕ) × IsAskedOf rules st p) ⊎ NobodyAsked rules st n
 somebody rules st zero = inr (λ p some few. absurd (omega (arith, some, few)))
 somebody rules st (suc n) = by (open_question rules st.record_ (suc n)) refl (somebody rules st n)
   where

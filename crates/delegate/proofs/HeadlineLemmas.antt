@@ -25,7 +25,7 @@ use Rattle.image_reader.specs.Image.{Image}
 use Rattle.transcript_text.specs.Lines.{accept_line, line_of_accepted, line_of_verdict}
 use Rattle.transcript_text.specs.Report.{text_if_there}
 use Rattle.transcript_text.specs.Laws.{NothingIsSaidAgainstTheTruthful}
-use Rattle.delegate.specs.Match.{rules_of_case, says_of_case, record_of_case, verdict_of_case, truth_of_case}
+use Rattle.delegate.specs.Match.{rules_of_case, says_of_case, record_of_case, verdict_of_record, truth_of_case}
 use Rattle.delegate.specs.Outcome.{case_for, within_bound, match_text, ended, carried_out, outcome, reported, answered_for, image_at, start_of}
 use Rattle.delegate.specs.Words.{chosen, decides}
 use Rattle.delegate.specs.declared.words.Command.{Command}
@@ -100,7 +100,7 @@ accepts-done Run n = refl
 accepts-done Roots n = refl
 
 -- how the text ends where the verdict is right
-ends : (command : Command) (c : CaseData) (start : State) (verdict : Verdict) → verdict_of_case sha256 c start (record_of_case sha256 c start) ≡ verdict
+ends : (command : Command) (c : CaseData) (start : State) (verdict : Verdict) → verdict_of_record sha256 c start (record_of_case sha256 c start) ≡ verdict
     → IsRightVerdict (rules_of_case sha256 c start) (truth_of_case sha256 c start) (record_of_case sha256 c start) verdict
     → AcceptsTheRun command (reported sha256 command c start) c start ⊎ ShowsCollision command (reported sha256 command c start) c start
 ends command c start (Accept n) is right = inl (record {

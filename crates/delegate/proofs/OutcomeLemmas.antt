@@ -12,7 +12,7 @@ use Rattle.image_reader.specs.Image.{Image}
 use Rattle.tournament.specs.declared.verdict.Verdict.{Verdict}
 use Rattle.tournament.specs.declared.verdict.Verdict.TheVariants.{Accept, NoneLeft, Collision as Collided}
 use Rattle.delegate.specs.Answered.{is_outcome, is_of_a_command}
-use Rattle.delegate.specs.Match.{record_of_case, verdict_of_case}
+use Rattle.delegate.specs.Match.{record_of_case, verdict_of_record}
 use Rattle.workload.specs.Workload.{big_data}
 use Rattle.case_reader.specs.declared.fault.CaseFault.{CaseFault}
 use Rattle.delegate.specs.Outcome.{within_limit, case_of_bytes, case_for, within_bound, image_at, start_of, answered_by, answered_for, ended, carried_out, either_way, outcome}
@@ -151,7 +151,7 @@ verdict-kind NoneLeft = refl
 verdict-kind (Collided x y) = refl
 
 ended-kind : (command : Command) (c : CaseData) (start : State) → answers_bytes (ended sha256 command c start).answered ≡ true
-ended-kind Judge c start = verdict-kind (verdict_of_case sha256 c start (record_of_case sha256 c start))
+ended-kind Judge c start = verdict-kind (verdict_of_record sha256 c start (record_of_case sha256 c start))
 ended-kind (Big seed) c start = refl
 ended-kind Run c start = refl
 ended-kind Roots c start = refl

@@ -4,30 +4,25 @@ use Rattle.rd_base.specs.declared.answer.Answer.{Answer}
 use Rattle.rd_base.specs.declared.digest.Digest32.{Digest32}
 use Rattle.rd_base.specs.declared.script.Script.{Script}
 use Rattle.bisect_game.specs.declared.question.Question.{Question}
-use Rattle.bisect_game.specs.Says.{Says}
+use Rattle.bisect_game.specs.Says.{Says, AnswerAs}
 use Rattle.bisect_game.specs.Rules.{Rules}
 use Rattle.rv_step.specs.State.{State}
 use Rattle.state_commit.specs.StateRoot.{state_root}
 use Rattle.tournament.specs.Bracket.{Record, bracket}
 use Rattle.tournament.specs.Journals.{answers_of}
 use Rattle.tournament.specs.Posting.{rules_of}
-use Rattle.board_book.specs.Asking.{AnswerAs}
 use Rattle.step_referee.specs.MachineRuling.{machine_ruling}
-use Rattle.prover_run.specs.CaseScripts.{CaseScripts, AnswerInOrder, case_says}
+use Rattle.prover_run.specs.CaseScripts.{CaseScripts, case_says}
 use Rattle.case_reader.specs.Case.{CaseData}
 use Rattle.delegate.specs.Match.{record_of_case}
 
-in-order : {A : Type 0} (answers : A → Question → ℕ → Option Answer) (says : Says) (p : ℕ) (xs : List A) → AnswerInOrder answers says p xs → AnswerAs answers says p xs
-in-order answers says p [] all = tt
-in-order answers says p (x ∷ xs) all = (all.0, in-order answers says (p + 1) xs all.1)
-
 -- the answerers of a case answer as its provers say
 pub answer-as : {A : Type 0} (answers : A → Question → ℕ → Option Answer) (digest : List ℕ → List ℕ) (x : CaseScripts) (start : State) (bound : ℕ) (scripts : List Script) (xs ys : List A)
-    → x ≡ record { start = start; bound = bound; scripts = scripts } → ys ≡ xs → AnswerInOrder answers (case_says digest start bound scripts) 1 xs
+    → x ≡ record { start = start; bound = bound; scripts = scripts } → ys ≡ xs → AnswerAs answers (case_says digest start bound scripts) 1 xs
     → AnswerAs answers (case_says digest x.start x.bound x.scripts) 1 ys
 answer-as answers digest x start bound scripts xs ys is same all =
     subst (λ (c : CaseScripts). AnswerAs answers (case_says digest c.start c.bound c.scripts) 1 ys) (sym is)
-    (subst (λ zs. AnswerAs answers (case_says digest start bound scripts) 1 zs) (sym same) (in-order answers (case_says digest start bound scripts) 1 xs all))
+    (subst (λ zs. AnswerAs answers (case_says digest start bound scripts) 1 zs) (sym same) all)
 
 -- what is played by, of a case with these scripts and the root at step 0
 abbrev rules_for : (List ℕ → List ℕ) → CaseData → List Script → Digest32 → Rules

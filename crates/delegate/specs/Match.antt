@@ -35,8 +35,8 @@ abbrev pub record_of_case : (List ℕ → List ℕ) → CaseData → State → R
 record_of_case digest c start = bracket (rules_of_case digest c start) (answers_of (rules_of_case digest c start) (says_of_case digest c start))
 
 -- the verdict of a record of the case
-abbrev pub verdict_of_case : (List ℕ → List ℕ) → CaseData → State → Record → Verdict
-verdict_of_case digest c start settled = verdict_of (rules_of_case digest c start) settled
+abbrev pub verdict_of_record : (List ℕ → List ℕ) → CaseData → State → Record → Verdict
+verdict_of_record digest c start settled = verdict_of (rules_of_case digest c start) settled
 
 -- the roots, the proofs and the claim of the sequential run
 abbrev pub truth_of_case : (List ℕ → List ℕ) → CaseData → State → Truth

@@ -21,7 +21,7 @@ use Rattle.tournament.specs.declared.verdict.Verdict.TheVariants.{Accept, NoneLe
 use Rattle.delegate.specs.Words.{chosen}
 use Rattle.delegate.specs.declared.words.Command.{Command}
 use Rattle.delegate.specs.declared.words.Command.TheVariants.{Judge, Run, Roots, Big}
-use Rattle.delegate.specs.Match.{record_of_case, verdict_of_case, head_of}
+use Rattle.delegate.specs.Match.{record_of_case, verdict_of_record, head_of}
 use Rattle.delegate.specs.Refusal.{usage, too_long, bound_refusal, case_refusal, image_refusal, or_refusal}
 use Rattle.delegate.specs.declared.response.Response.{Response}
 use Rattle.delegate.specs.declared.answered.Answered.{Answered}
@@ -74,7 +74,7 @@ match_text command c settled verdict = report_text (head_of c) settled verdict
 abbrev pub reported : (List ℕ → List ℕ) → Command → CaseData → State → Response
 reported digest command c start =
     let settled = record_of_case digest c start in
-    let verdict = verdict_of_case digest c start settled in
+    let verdict = verdict_of_record digest c start settled in
     record { answered = answered_for command verdict; text = match_text command c settled verdict }
 
 -- the run's status and output, in the state at the bound

@@ -2,7 +2,7 @@ ghost use denote.Param.Send.{IsSync};
 ghost use Rattle.std.specs.Prelude.{◌≡◌, ◌<◌, [], IfOk};
 ghost use Rattle.rv_step.specs.State.{state_of, IsChained};
 ghost use Rattle.case_reader.specs.Case.{data_of};
-ghost use Rattle.delegate.specs.Match.{record_of_case, verdict_of_case as verdict_of_record, head_of};
+ghost use Rattle.delegate.specs.Match.{record_of_case, verdict_of_record, head_of};
 ghost use Rattle.delegate.specs.Outcome.{answered_by, answered_for, match_text, reported};
 
 use crate::answered::Answered;

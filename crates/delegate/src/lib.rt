@@ -1,9 +1,10 @@
 //! The program: from arguments and bytes to a status and a text.
 //!
 //! `run` is the top call. Its clauses say what it answers and writes as a function of the arguments and of the bytes
-//! that its source had, and carry the headline: a prover whose claim is the run's own is never put out, and where there
-//! is one the verdict is the sequential run's status and output. Read `program` first, then `responding`, whose steps
-//! stand in `stages`, `judging`, `running` and `rooting`. `run_process` is what a program's `main` calls.
+//! that its source had, and carry the headline: a prover that claims and answers as the machine's definition says, within its
+//! patience, is not eliminated, and where there is one the verdict is the sequential run's status and output, or two
+//! different strings of one digest. Read `program` first, then `responding`, whose steps stand in `stages`, `judging` with
+//! `playing`, `running` and `rooting`. `run_process` is what a program's `main` calls.
 #![tactic(auto)]
 
 mod answered;

@@ -3,7 +3,7 @@ ghost use Rattle.std.specs.Prelude.{◌≡◌, ◌<◌, ◌≤◌, ◌^◌, leng
 ghost use Rattle.tournament.specs.Bracket.{bracket, verdict_of};
 ghost use Rattle.tournament.specs.Journals.{answers_of};
 ghost use Rattle.tournament.specs.Posting.{rules_of};
-ghost use Rattle.board_book.specs.Asking.{AnswerAs};
+ghost use Rattle.bisect_game.specs.Says.{AnswerAs};
 
 use bisect_game::{Answerer, Judge, Provers};
 use board_book::Book;

@@ -20,8 +20,8 @@ use std::alloc::Global;
 use std::sync::Wait;
 use std::thread::Threads;
 
-/// Runs the program: reads a case from the source where the arguments name a command, carries the command out, and
-/// writes the text.
+/// Runs the program: reads a case from the source where the arguments name a command that reads one, carries the command
+/// out, and writes the text.
 ///
 /// The answer and the text are the outcome of the arguments and of the bytes that the source had, or a fault of a
 /// device, or out of memory. Nothing is written before the whole text is made, and writing takes no memory.

@@ -78,7 +78,8 @@ fn carry_out<R: Threads + Wait + Sync, S: Source>(
     Ok(end(rt, alloc, Sha256, request, &case, start)?)
 }
 
-/// The response to the arguments and to what the source has, which is read only where the arguments name a command.
+/// The response to the arguments and to what the source has, which is read only where the arguments name a
+/// command that reads a case.
 pub fn respond<R: Threads + Wait + Sync, S: Source>(
     rt: &R,
     alloc: Global,

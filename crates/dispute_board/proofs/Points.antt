@@ -11,12 +11,12 @@ use Rattle.bisect_game.specs.Rules.{Rules}
 use Rattle.tournament.specs.declared.posting.Reply.{Reply}
 use Rattle.tournament.specs.declared.posting.Reply.TheVariants.{Stale}
 use Rattle.tournament.specs.Bracket.{open_question, is_complete}
-use Rattle.tournament.specs.Moves.{State, begun, passes_of, settled_by}
+use Rattle.tournament.specs.Moves.{MatchState, begun, passes_of, settled_by}
 use Rattle.tournament.specs.Posting.{same_qid, reply_by, reply_on, reply_to}
 use Rattle.board_book.specs.declared.entry.Entry.{Entry}
 use Rattle.board_book.specs.declared.entry.Ask.{Ask}
 use Rattle.board_book.specs.declared.entry.Ask.TheVariants as ask
-use Rattle.board_book.specs.Entries.{IsJournal, state_of, is_stale, noted}
+use Rattle.board_book.specs.Entries.{IsJournal, state_after, is_stale, noted}
 use Rattle.board_book.specs.Asking.{ask_on}
 use Rattle.seat_lock.specs.History.{Turn, Begins, log_of, with_receipt}
 use Rattle.seat_lock.specs.Seats.{Known}
@@ -44,11 +44,11 @@ none_told : (b : Bool) → question_of (if b then ask.Over else ask.Nothing) ≡
 none_told true = refl
 none_told false = refl
 
-question_told : (st : State) (p : ℕ) (o : Option Question) → question_of (ask_on st p o) ≡ o
+question_told : (st : MatchState) (p : ℕ) (o : Option Question) → question_of (ask_on st p o) ≡ o
 question_told st p (Some q) = refl
 question_told st p None = none_told (is_complete st.record_)
 
-pub open_is : (st : State) (p : ℕ) (o : Option Question) (q : Question) (n : ℕ) → ask_on st p o ≡ ask.Question q n → o ≡ Some q
+pub open_is : (st : MatchState) (p : ℕ) (o : Option Question) (q : Question) (n : ℕ) → ask_on st p o ≡ ask.Question q n → o ≡ Some q
 open_is st p o q n e = sym (question_told st p o) ∙ ap question_of e
 
 -- a move that is due
@@ -66,7 +66,7 @@ alike-back true b e = e
 alike-back false true e = absurd (cc)
 alike-back false false e = refl
 
-pub due_says : (says : Says) (st : State) (p : ℕ) (after : Option ℕ) (m : Option Answer) (q : Question) → is_due says st p after m q ≡ true → IsMoveOn says p q after m → m ≡ says p q (passes_of st p)
+pub due_says : (says : Says) (st : MatchState) (p : ℕ) (after : Option ℕ) (m : Option Answer) (q : Question) → is_due says st p after m q ≡ true → IsMoveOn says p q after m → m ≡ says p q (passes_of st p)
 due_says says st p (Some n) m q due on = on ∙ ap (says p q) (is-eq n (passes_of st p) due)
 due_says says st p None m q due on = on (passes_of st p) (alike (is_none m) (is_none (says p q (passes_of st p))) due)
 
@@ -91,7 +91,7 @@ unsaid_if : (b : Bool) (r : Reply) (qid : Qid) → (b ≡ true → r ≡ Stale (
 unsaid_if true r qid f = f refl
 unsaid_if false r qid _ = refl
 
-pub is_reply : (rules : Rules) (says : Says) (st : State) (p : ℕ) (qid : Qid) (m : Option Answer) (r : Reply) → MayPost rules says p qid None m → AsksTheCase rules says st p → r ≡ reply_in rules says st p qid None m → IsReply rules says st p qid m r
+pub is_reply : (rules : Rules) (says : Says) (st : MatchState) (p : ℕ) (qid : Qid) (m : Option Answer) (r : Reply) → MayPost rules says p qid None m → AsksTheCase rules says st p → r ≡ reply_in rules says st p qid None m → IsReply rules says st p qid m r
 is_reply rules says st p qid m r may case is = record {
   said = λ q shown say. is ∙ ap (reply_on_board rules says st p qid None m) shown
       ∙ ap (λ (b : Bool). if b then reply_to rules st p qid m else Stale (Some q.qid)) (alike-back (is_none m) (is_none (says p q (passes_of st p))) (ap is_none (sym say)));
@@ -143,7 +143,7 @@ module _ {T H : Type 0} (head : T → H) (log : T → List (List ℕ)) where
 module _ {T H : Type 0} (head : T → H) (log : T → List (List ℕ)) (journal : T → List Entry) (logged : (t : T) → log t ≡ log_of_journal (journal t)) where
   pub asks_on_board : (rules : Rules) (says : Says) (before after : Known H) (x y : T) (p : ℕ) (a : Ask) → Turned {T = T} head log before x y after → y ≡ x → Asks rules says (journal x) p a → AsksOnBoard rules says before p a after
   asks_on_board rules says before after x y p a t same asks =
-      let st : State = state_of rules says (journal x) in
+      let st : MatchState = state_after rules says (journal x) in
       record {
         journal = journal x;
         stands = stands head log rules says before after x y (journal x) (journal y) None t (logged x) (logged y) (ap journal same) asks.legal (subst (λ l. IsJournal rules says l (begun rules)) (sym (ap journal same)) asks.legal);
@@ -164,7 +164,7 @@ module _ {T H : Type 0} (head : T → H) (log : T → List (List ℕ)) (journal 
 
   pub posts_and_replies : (rules : Rules) (says : Says) (before after : Known H) (x y : T) (p : ℕ) (qid : Qid) (m : Option Answer) (posted : Posted) → Turned {T = T} head log before x y after →
       Posts rules says (journal x) p qid None m posted (journal y) → MayPost rules says p qid None m →
-      (here : PostsOnBoard rules says before p qid None m posted after) × IsReply rules says (state_of rules says here.journal) p qid m posted.reply
+      (here : PostsOnBoard rules says before p qid None m posted after) × IsReply rules says (state_after rules says here.journal) p qid m posted.reply
   posts_and_replies rules says before after x y p qid m posted t posts may =
       let e : Entry = record { p = p; qid = qid; pass = is_none m; reply = posted.reply } in (
         record {
@@ -173,5 +173,5 @@ module _ {T H : Type 0} (head : T → H) (log : T → List (List ℕ)) (journal 
           reply = posts.reply;
           receipt = posts.receipt;
         },
-        is_reply rules says (state_of rules says (journal x)) p qid m posted.reply may posts.asked posts.reply,
+        is_reply rules says (state_after rules says (journal x)) p qid m posted.reply may posts.asked posts.reply,
       )

@@ -11,7 +11,7 @@ use Rattle.tournament.specs.Moves.{begun}
 use Rattle.board_book.specs.declared.entry.Entry.{Entry}
 use Rattle.board_book.specs.declared.entry.Ask.{Ask}
 use Rattle.board_book.specs.declared.entry.Ask.TheVariants as variant
-use Rattle.board_book.specs.Entries.{IsJournal, state_of, is_stale}
+use Rattle.board_book.specs.Entries.{IsJournal, state_after, is_stale}
 use Rattle.seat_lock.specs.History.{log_of, Begins, NoneTwice, with_receipt}
 use Rattle.seat_lock.specs.Seats.{Known}
 use Rattle.seat_lock.specs.Turned.{SameSeat}
@@ -50,12 +50,12 @@ receipt_of r place = if is_stale r then None else Some place
 pub record AsksOnBoard {H : Type 0} (rules : Rules) (says : Says) (before : Known H) (p : ℕ) (ask : Ask) (after : Known H) : Type 0 where
   pub journal : List Entry
   pub stands : Stands rules says before journal None after
-  pub answer : ask ≡ ask_in rules (state_of rules says journal) p
+  pub answer : ask ≡ ask_in rules (state_after rules says journal) p
   pub asked : (q : Question) (n : ℕ) → ask ≡ variant.Question q n → IsOfTheCase rules says p q
 
 -- a post of a seat, where it stands: its reply is the board's there, and it leaves its entry exactly where the reply is not stale
 pub record PostsOnBoard {H : Type 0} (rules : Rules) (says : Says) (before : Known H) (p : ℕ) (qid : Qid) (passes : Option ℕ) (m : Option Answer) (posted : Posted) (after : Known H) : Type 0 where
   pub journal : List Entry
   pub stands : Stands rules says before journal (entry_unless_stale (record { p = p; qid = qid; pass = is_none m; reply = posted.reply })) after
-  pub reply : posted.reply ≡ reply_in rules says (state_of rules says journal) p qid passes m
+  pub reply : posted.reply ≡ reply_in rules says (state_after rules says journal) p qid passes m
   pub receipt : posted.receipt ≡ receipt_of posted.reply (length journal)

@@ -8,7 +8,7 @@ use Rattle.bisect_game.specs.Rules.{Rules}
 use Rattle.tournament.specs.declared.posting.Reply.{Reply}
 use Rattle.tournament.specs.declared.posting.Reply.TheVariants as reply
 use Rattle.tournament.specs.Bracket.{open_question, bracket}
-use Rattle.tournament.specs.Moves.{State, passes_of}
+use Rattle.tournament.specs.Moves.{MatchState, passes_of}
 use Rattle.tournament.specs.Journals.{answers_of}
 use Rattle.tournament.specs.Asked.{asked}
 use Rattle.tournament.specs.Posting.{reply_to}
@@ -16,7 +16,7 @@ use Rattle.board_book.specs.declared.entry.Ask.{Ask}
 use Rattle.board_book.specs.Asking.{ask_on}
 
 -- what the book of one thread asks a prover in this state
-abbrev pub ask_in : Rules → State → ℕ → Ask
+abbrev pub ask_in : Rules → MatchState → ℕ → Ask
 ask_in rules st p = ask_on st p (open_question rules st.record_ p)
 
 -- the question is one that the record of the case asks the prover under its number
@@ -35,21 +35,21 @@ MayPost rules says p qid after m = (q : Question) → q.qid ≡ qid → IsOfTheC
 
 -- the move is due on the open question: so many passes stand there, or, where no number is given, the prover passes there as
 -- the move does
-abbrev pub is_due : Says → State → ℕ → Option ℕ → Option Answer → Question → Bool
+abbrev pub is_due : Says → MatchState → ℕ → Option ℕ → Option Answer → Question → Bool
 is_due says st p (Some n) m q = n == passes_of st p
 is_due says st p None m q = if is_none m then is_none (says p q (passes_of st p)) else not (is_none (says p q (passes_of st p)))
 
-abbrev pub reply_on_board : Rules → Says → State → ℕ → Qid → Option ℕ → Option Answer → Option Question → Reply
+abbrev pub reply_on_board : Rules → Says → MatchState → ℕ → Qid → Option ℕ → Option Answer → Option Question → Reply
 reply_on_board rules says st p qid after m None = reply.Stale None
 reply_on_board rules says st p qid after m (Some q) = if is_due says st p after m q then reply_to rules st p qid m else reply.Stale (Some q.qid)
 
 -- the board's reply: the one of the book where the move is due, and else stale with the open question
-abbrev pub reply_in : Rules → Says → State → ℕ → Qid → Option ℕ → Option Answer → Reply
+abbrev pub reply_in : Rules → Says → MatchState → ℕ → Qid → Option ℕ → Option Answer → Reply
 reply_in rules says st p qid after m = reply_on_board rules says st p qid after m (open_question rules st.record_ p)
 
 -- the reply in the provers' own words: where the prover has an open question and says the move after the passes that stand
 -- there, the one of the book; where it says something else there, or has no question, stale, with the open one
-pub record IsReply (rules : Rules) (says : Says) (st : State) (p : ℕ) (qid : Qid) (m : Option Answer) (r : Reply) : Type 0 where
+pub record IsReply (rules : Rules) (says : Says) (st : MatchState) (p : ℕ) (qid : Qid) (m : Option Answer) (r : Reply) : Type 0 where
   pub said : (q : Question) → open_question rules st.record_ p ≡ Some q → m ≡ says p q (passes_of st p) → r ≡ reply_to rules st p qid m
   pub unsaid : (q : Question) → open_question rules st.record_ p ≡ Some q → m ≢ says p q (passes_of st p) → r ≡ reply.Stale (Some q.qid)
   pub unasked : open_question rules st.record_ p ≡ None → r ≡ reply.Stale None

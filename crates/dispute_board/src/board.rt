@@ -5,7 +5,7 @@ ghost use Rattle.seat_lock.specs.History.{log_of, Begins};
 ghost use Rattle.seat_lock.specs.Seats.{first_seat, after_split, split_off, after_join};
 ghost use Rattle.tournament.specs.declared.setup.Setup.{Setup};
 ghost use Rattle.tournament.specs.Posting.{rules_of, answer_of};
-ghost use Rattle.board_book.specs.Entries.{state_of};
+ghost use Rattle.board_book.specs.Entries.{state_after};
 ghost use Rattle.dispute_board.specs.Logs.{log_of_journal};
 ghost use Rattle.dispute_board.specs.Replies.{MayPost, IsReply};
 ghost use Rattle.dispute_board.specs.OneHistory.{AsksOnBoard, PostsOnBoard};
@@ -78,7 +78,7 @@ impl<J: Judge + Drop, P: Provers + Drop> Board<J, P> {
         requires some { 0 < p }
         requires few { (head : J.Names × P.Names × Setup) → seat.old.head ≡ Some head → p ≤ head.2.provers }
         requires may { (head : J.Names × P.Names × Setup) → seat.old.head ≡ Some head → MayPost (rules_of (J.ruling head.0) head.2) (P.says head.1) p qid None (answer_of turn) }
-        ensures { let m = answer_of turn in (head : J.Names × P.Names × Setup) × (seat.old.head ≡ Some head) × (let rules = rules_of (J.ruling head.0) head.2 in let says = P.says head.1 in (here : PostsOnBoard rules says seat.old p qid None m result seat.new) × IsReply rules says (state_of rules says here.journal) p qid m result.reply) }
+        ensures { let m = answer_of turn in (head : J.Names × P.Names × Setup) × (seat.old.head ≡ Some head) × (let rules = rules_of (J.ruling head.0) head.2 in let says = P.says head.1 in (here : PostsOnBoard rules says seat.old p qid None m result seat.new) × IsReply rules says (state_after rules says here.journal) p qid m result.reply) }
     {
         self.lock.with_turn(
             rt,

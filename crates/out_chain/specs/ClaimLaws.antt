@@ -9,7 +9,7 @@ use Rattle.digest_core.specs.TextLaws.{cons_parts, append_parts, control_text_sa
 use Rattle.digest_core.specs.Chain.{chain_after, chain_of}
 use Rattle.out_chain.specs.declared.checking.ClaimCheck.TheVariants.{Sound, WrongLength, WrongChain}
 use Rattle.out_chain.specs.Root.{control_text_of, claim_text, root_of_claim}
-use Rattle.out_chain.specs.Soundness.{claim_check, says_sound, is_in_range, is_sound}
+use Rattle.out_chain.specs.Soundness.{claim_check, says_sound, is_claim_in_range, is_sound}
 use Rattle.out_chain.specs.Collision.{links_after, links_of, opened_by_claim, collides, first_collision, claim_collision, IsClaimCollision}
 
 -- the test for a collision, both ways
@@ -120,7 +120,7 @@ check-parts digest claim test = go (eqb claim.ctl.out_len (length claim.output))
 sound-parts : (digest : List ℕ → List ℕ) (claim : Claim) → is_sound digest claim ≡ true → IsSoundClaim digest claim
 unfolding is_sound
 sound-parts digest claim test =
-    let whole = both-true (is_in_range claim) (says_sound (claim_check digest claim)) test in
+    let whole = both-true (is_claim_in_range claim) (says_sound (claim_check digest claim)) test in
     let length_fits = both-true _ (ltb claim.ctl.out_len (2 ^ 64)) whole.0 in
     let code_fits = both-true _ (ltb (status_code claim.ctl.status) (2 ^ 32)) length_fits.0 in
     let pc_fits = both-true _ (ltb claim.ctl.pc (2 ^ 32)) code_fits.0 in

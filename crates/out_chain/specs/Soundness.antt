@@ -20,11 +20,11 @@ says_sound WrongLength = false
 says_sound WrongChain = false
 
 -- digests have 32 bytes and numbers are within the ranges of their types, as in each claim that a program holds
-abbrev pub is_in_range : Claim → Bool
-is_in_range claim =
+abbrev pub is_claim_in_range : Claim → Bool
+is_claim_in_range claim =
     length claim.mem.0 == 32 && length claim.regs.0 == 32 && length claim.ctl.chain.0 == 32
     && nat_lt claim.ctl.pc (2 ^ 32) && nat_lt (status_code claim.ctl.status) (2 ^ 32) && nat_lt claim.ctl.out_len (2 ^ 64)
 
 -- a claim is sound
 unfoldable pub is_sound : (List ℕ → List ℕ) → Claim → Bool
-is_sound digest claim = is_in_range claim && says_sound (claim_check digest claim)
+is_sound digest claim = is_claim_in_range claim && says_sound (claim_check digest claim)

@@ -1,6 +1,6 @@
 ghost use Rattle.std.specs.Prelude.{◌≡◌, ◌<◌, ◌^◌, true, length};
 ghost use Rattle.digest_core.specs.Text.{status_code};
-ghost use Rattle.out_chain.specs.Soundness.{claim_check, says_sound, is_in_range, is_sound};
+ghost use Rattle.out_chain.specs.Soundness.{claim_check, says_sound, is_claim_in_range, is_sound};
 
 use crate::chain::chain_of;
 use crate::colliding::same_digest;
@@ -50,7 +50,7 @@ fn codes_fit(status: Status)
 
 /// The digests of a claim have 32 bytes, and its numbers fit in their types.
 fn claims_are_in_range(claim: &Claim)
-    ensures { is_in_range claim.now ≡ true }
+    ensures { is_claim_in_range claim.now ≡ true }
 {
     digests_are_32_bytes(&claim.mem);
     digests_are_32_bytes(&claim.regs);

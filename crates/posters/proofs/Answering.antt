@@ -3,8 +3,7 @@ use Rattle.std.proofs.Common.{◌≡◌, ℕ, zero, suc, ◌+◌, ◌<◌, List,
 use Rattle.std.specs.List.{range_with_len}
 use Rattle.rd_base.specs.declared.answer.Answer.{Answer}
 use Rattle.bisect_game.specs.declared.question.Question.{Question}
-use Rattle.bisect_game.specs.Says.{Says}
-use Rattle.board_book.specs.Asking.{AnswerAs}
+use Rattle.bisect_game.specs.Says.{Says, AnswerAs}
 
 abbrev pub first_or : {B : Type 0} → B → List B → B
 first_or d [] = d

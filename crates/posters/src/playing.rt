@@ -2,7 +2,7 @@
 ghost use Rattle.std.specs.Prelude.{◌≡◌, ℕ, ◌+◌, ◌<◌, ◌≤◌, [], All, Some, true, length, IfOk};
 ghost use Rattle.tournament.specs.declared.setup.Setup.{Setup};
 ghost use Rattle.tournament.specs.Bracket.{is_complete};
-ghost use Rattle.board_book.specs.Asking.{AnswerAs};
+ghost use Rattle.bisect_game.specs.Says.{AnswerAs};
 ghost use Rattle.round_robin.specs.Classes.{HaveClasses};
 ghost use Rattle.posters.specs.Serving.{IsSeatOf};
 

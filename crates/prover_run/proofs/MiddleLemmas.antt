@@ -2,7 +2,8 @@
 use Rattle.std.proofs.Common.{◌≡◌, ℕ, zero, suc, ◌+◌, ◌-◌, ◌≤◌, ◌<◌, List, [], ◌∷◌, ◌++◌, length, slice_index, Bool, true, false, Option, Some, None, refl, arith, length-append, IfOk, OnOk, Result, Ok, Err, ap, ◌∙◌}
 use Rattle.std.specs.Prelude.{nat_le, if◌then◌else◌}
 use Rattle.std.proofs.lemmas.Bool.Decides.{nat_tests}
-use Rattle.prover_run.specs.Middles.{middle, middles, asked_after}
+use Rattle.bisect_game.specs.Bisection.{middle}
+use Rattle.prover_run.specs.Middles.{middles, asked_after}
 
 -- one round more asks at most one middle, and the middles of both halves
 one_more : (most rounds : ℕ) → ((lo hi : ℕ) → length (middles rounds lo hi) ≤ most) → (lo hi : ℕ) → length (middles (suc rounds) lo hi) ≤ most + most + 1

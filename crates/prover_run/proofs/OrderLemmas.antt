@@ -5,7 +5,8 @@ use Rattle.rd_base.specs.declared.answer.Answer.{Answer}
 use Rattle.rd_base.specs.declared.script.Script.{Script}
 use Rattle.rv_step.specs.State.{State}
 use Rattle.bisect_game.specs.declared.question.Question.{Question}
-use Rattle.prover_run.specs.CaseScripts.{said_by, script_says, case_says, AnswerInOrder}
+use Rattle.bisect_game.specs.Says.{AnswerAs}
+use Rattle.prover_run.specs.CaseScripts.{said_by, script_says, case_says}
 
 -- the script at a place of a list that goes on
 there : (before : List Script) (s : Script) (rest : List Script) → slice_get (before ++ s ∷ rest) (length before) ≡ Some s
@@ -17,7 +18,7 @@ joined [] s left = refl
 joined (x ∷ before) s left = ap (λ (rest : List Script). x ∷ rest) (joined before s left)
 
 from_here : {A : Type 0} (answers : A → Question → ℕ → Option Answer) (digest : List ℕ → List ℕ) (start : State) (bound : ℕ) (before left : List Script) (xs : List A)
-    → map answers xs ≡ map (script_says digest start bound) left → AnswerInOrder answers (case_says digest start bound (before ++ left)) (length before + 1) xs
+    → map answers xs ≡ map (script_says digest start bound) left → AnswerAs answers (case_says digest start bound (before ++ left)) (length before + 1) xs
 from_here answers digest start bound before left [] same = tt
 from_here answers digest start bound before [] (x ∷ xs) same = absurd (cc)
 from_here answers digest start bound before (s ∷ left) (x ∷ xs) same =
@@ -27,8 +28,8 @@ from_here answers digest start bound before (s ∷ left) (x ∷ xs) same =
     let rest = from_here answers digest start bound (before ++ s ∷ []) left xs tail in
     let longer : length (before ++ s ∷ []) + 1 ≡ length before + 1 + 1 = let both = length-append before (s ∷ []) in omega arith in (
       head ∙ ap (said_by digest start bound) (sym (ap (slice_get (before ++ s ∷ left)) place ∙ there before s left)),
-      subst (λ (p : ℕ). AnswerInOrder answers (case_says digest start bound (before ++ s ∷ left)) p xs) longer
-          (subst (λ (all : List Script). AnswerInOrder answers (case_says digest start bound all) (length (before ++ s ∷ []) + 1) xs) (joined before s left) rest),
+      subst (λ (p : ℕ). AnswerAs answers (case_says digest start bound (before ++ s ∷ left)) p xs) longer
+          (subst (λ (all : List Script). AnswerAs answers (case_says digest start bound all) (length (before ++ s ∷ []) + 1) xs) (joined before s left) rest),
     )
 
 -- answerers that were put behind none
@@ -36,7 +37,7 @@ behind_none : {A B : Type 0} (f : A → B) (first xs : List A) (ys : List B) →
 behind_none {A = A} f first xs ys none same = same ∙ ap (λ (zs : List A). map f zs ++ ys) none
 
 pub in_order : {A : Type 0} (answers : A → Question → ℕ → Option Answer) (digest : List ℕ → List ℕ) (start : State) (bound : ℕ) (scripts : List Script) (first xs : List A)
-    → first ≡ [] → map answers xs ≡ map answers first ++ map (script_says digest start bound) scripts → AnswerInOrder answers (case_says digest start bound scripts) 1 xs
+    → first ≡ [] → map answers xs ≡ map answers first ++ map (script_says digest start bound) scripts → AnswerAs answers (case_says digest start bound scripts) 1 xs
 in_order answers digest start bound scripts first xs none same =
     from_here answers digest start bound [] scripts xs (behind_none answers first xs (map (script_says digest start bound) scripts) none same)
 

@@ -1,5 +1,5 @@
 -- To believe: what the provers of a case say, each by its script.
-use Rattle.std.specs.Prelude.{◌≡◌, ℕ, ◌+◌, ◌-◌, List, [], ◌∷◌, Option, Some, None, slice_get, refl}
+use Rattle.std.specs.Prelude.{ℕ, ◌-◌, List, [], Option, Some, None, slice_get, refl}
 use Rattle.std.specs.Coded.{Coded, code_by, coded×, coded_ℕ, coded_list}
 use Rattle.rd_base.specs.declared.answer.Answer.{Answer}
 use Rattle.rd_base.specs.declared.script.Script.{Script}
@@ -8,7 +8,7 @@ use Rattle.rd_base.specs.declared.status.Status.TheVariants.{Running}
 use Rattle.mem_plain.specs.Contents.{no_bytes}
 use Rattle.rv_step.specs.State.{State}
 use Rattle.checkpoint_run.specs.TamperedRun.{run_at}
-use Rattle.checkpoint_run.specs.Recorded.{state_code}
+use Rattle.rv_step.specs.StateCode.{state_code}
 use Rattle.bisect_game.specs.Says.{Says}
 use Rattle.bisect_game.specs.declared.question.Question.{Question}
 use Rattle.prover_script.specs.Manners.{says}
@@ -45,8 +45,3 @@ case_scripts_code =
     (λ c. (c.start, (c.bound, c.scripts)))
     (λ t. record { start = t.0; bound = t.1.0; scripts = t.1.1 })
     (λ _. refl)
-
--- each of these answers as the prover of its number, from this one on
-abbrev pub AnswerInOrder : {A : Type 0} → (A → Question → ℕ → Option Answer) → Says → ℕ → List A → Type 0
-AnswerInOrder answers says p [] = Unit {0}
-AnswerInOrder answers says p (a ∷ rest) = (answers a ≡ says p) × AnswerInOrder answers says (p + 1) rest

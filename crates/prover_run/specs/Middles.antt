@@ -1,9 +1,6 @@
 -- Derived: which roots are asked of a run in one go. No answer depends on it.
-use Rattle.std.specs.Prelude.{ℕ, zero, suc, ◌+◌, ◌-◌, ◌/◌, ◌==◌, nat_le, nat_lt, List, [], ◌∷◌, ◌++◌, Option, Some, None, if◌then◌else◌}
-
--- the middle of an interval, rounded down: the step of which a round asks the root
-abbrev pub middle : ℕ → ℕ → ℕ
-middle lo hi = lo + (hi - lo) / 2
+use Rattle.std.specs.Prelude.{ℕ, zero, suc, ◌-◌, ◌==◌, nat_le, nat_lt, List, [], ◌∷◌, ◌++◌, Option, Some, None, if◌then◌else◌}
+use Rattle.bisect_game.specs.Bisection.{middle}
 
 -- the interval with this middle, among those that so many rounds may come to from an interval
 unfoldable pub interval_of : ℕ → ℕ → ℕ → ℕ → Option (ℕ × ℕ)

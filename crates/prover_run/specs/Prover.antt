@@ -12,7 +12,8 @@ use Rattle.rv_step.specs.State.{State, IsChained}
 use Rattle.rv_step.specs.declared.machine.Machine.{Machine}
 use Rattle.state_commit.specs.StateRoot.{state_root}
 use Rattle.checkpoint_run.specs.TamperedRun.{run_at}
-use Rattle.checkpoint_run.specs.Recorded.{Recorded, AreChained, state_of_step, state_code}
+use Rattle.rv_step.specs.StateCode.{state_code}
+use Rattle.checkpoint_run.specs.Recorded.{Recorded, AreChained, state_of_step}
 use Rattle.bisect_game.specs.declared.question.Question.{Question}
 use Rattle.prover_run.specs.Plain.{plain_says}
 

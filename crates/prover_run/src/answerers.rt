@@ -1,6 +1,7 @@
 ghost use Rattle.std.specs.Prelude.{◌≡◌, ◌<◌, ◌^◌, ◌++◌, [], IfOk, OnOk, length, map};
 ghost use Rattle.rv_step.specs.State.{state_of, IsChained};
-ghost use Rattle.prover_run.specs.CaseScripts.{script_says, case_says, AnswerInOrder};
+ghost use Rattle.bisect_game.specs.Says.{AnswerAs};
+ghost use Rattle.prover_run.specs.CaseScripts.{script_says, case_says};
 
 use crate::prover::RunAnswerer;
 use bisect_game::Answerer;
@@ -77,7 +78,7 @@ pub fn answerers_of<D: Replays>(
     requires every { 0 < every }
     requires workers { 0 < workers }
     ensures count { IfOk result (λ v. length v.items ≡ length scripts.now) }
-    ensures answers { IfOk result (λ v. AnswerInOrder ⟦<Scripted<RunAnswerer<D>> as Answerer>⟧.answers (case_says D.digest_of (state_of machine.now) bound scripts.now) 1 v.items) }
+    ensures answers { IfOk result (λ v. AnswerAs ⟦<Scripted<RunAnswerer<D>> as Answerer>⟧.answers (case_says D.digest_of (state_of machine.now) bound scripts.now) 1 v.items) }
 {
     let mut answerers = Vec::new(alloc);
     put_answerers(

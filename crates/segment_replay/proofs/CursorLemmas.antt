@@ -1,14 +1,8 @@
 -- A tree behind a memory, and the checkpoint that a step is replayed from.
 use Rattle.std.proofs.Common.{◌≡◌, ◌⊎◌, ℕ, ◌*◌, ◌/◌, ◌%◌, ◌^◌, ◌<◌, ◌≤◌, List, ◌∷◌, [], length, get_or, Option, None, false, refl, sym, ap, subst, ◌∙◌, ⊎_elim, arith}
 use Rattle.std.proofs.Math.Nat.{div-add-mod, mul_comm}
-use Rattle.rd_base.specs.declared.ctl.Ctl.{Ctl}
-use Rattle.digest_core.specs.Chain.{chain_of}
-use Rattle.digest_core.specs.Text.{registers_text}
 use Rattle.mem_plain.specs.Contents.{Contents, byte_at}
 use Rattle.mem_tree.specs.Tree.{is_among, SameBut}
-use Rattle.out_chain.specs.Root.{parts_root}
-use Rattle.rv_step.specs.State.{State}
-use Rattle.state_commit.specs.StateRoot.{ctl_of, memory_digest, state_root}
 use Rattle.checkpoint_run.specs.NamedPages.{IsNamed}
 
 -- the last checkpoint up to a step
@@ -28,16 +22,3 @@ same_more pages before between after old m n either named-1 others-1 named-2 oth
     let none-1 = others-2 p none in
     same p (others-1 p none-1) a at
     ∙ sym (elsewhere a (λ named. ⊎_elim (named-1 p none-1) (named-2 p none) (either p (subst (λ q. IsNamed q pages) at named))))
-
--- control fields that are those of a state
-ctl_same : (digest : List ℕ → List ℕ) (ctl : Ctl) (s : State) → ctl.pc ≡ s.pc → ctl.status ≡ s.status → ctl.out_len ≡ length s.output % 2 ^ 64 → ctl.chain.0 ≡ chain_of digest s.output → ctl ≡ ctl_of digest s
-ctl_same digest ctl s pc status out_len chain = λ i. record { pc = pc i; status = status i; out_len = out_len i; chain = record { 0 = chain i } }
-
--- the root of parts that are those of a state
-pub root_of_parts : (digest : List ℕ → List ℕ) (s : State) (memory registers root : List ℕ) (ctl : Ctl) → root ≡ parts_root digest memory registers ctl
-    → memory ≡ memory_digest digest s → registers ≡ digest (registers_text s.regs) → ctl.pc ≡ s.pc → ctl.status ≡ s.status → ctl.out_len ≡ length s.output → length s.output < 2 ^ 64 → ctl.chain.0 ≡ chain_of digest s.output
-    → root ≡ state_root digest s
-root_of_parts digest s memory registers root ctl is is_memory is_registers pc status out_len short chain =
-    let counted : ctl.out_len ≡ length s.output % 2 ^ 64 = omega arith in
-    is ∙ (ap (λ m. parts_root digest m registers ctl) is_memory ∙ (ap (λ r. parts_root digest (memory_digest digest s) r ctl) is_registers
-    ∙ ap (parts_root digest (memory_digest digest s) (digest (registers_text s.regs))) (ctl_same digest ctl s pc status counted chain)))

@@ -3,18 +3,18 @@ ghost use Rattle.std.specs.Prelude.{◌≡◌, ℕ, ◌+◌, ◌<◌, ◌≤◌,
 ghost use Rattle.mem_plain.specs.Contents.{Contents};
 ghost use Rattle.mem_tree.specs.Tree.{IsTreeOf, is_among};
 ghost use Rattle.rv_step.specs.State.{state_of, IsChained};
-ghost use Rattle.state_commit.specs.StateRoot.{state_root, memory_digest};
+ghost use Rattle.state_commit.specs.StateRoot.{state_root};
 ghost use Rattle.checkpoint_run.specs.NamedPages.{IsNamed, ArePages};
 ghost use Rattle.checkpoint_run.specs.Recorded.{AreChained, state_of_step, still_of};
 ghost use Rattle.segment_replay.specs.Roots.{root_at};
 ghost use Rattle.segment_replay.specs.Cursor.{IsMachineOf, IsBehind, IsFresh};
 
 use checkpoint_run::{Run, machine_at, next, pages_of_two_places, tampered_runs};
-use digest_core::{Digester, registers_text};
+use digest_core::Digester;
 use mem_tree::MemTree;
-use out_chain::parts_root;
 use rd_base::{Digest32, Memory};
 use rv_step::Machine;
+use state_commit::root_over;
 use std::alloc::Global;
 use std::thread::Threads;
 
@@ -173,17 +173,6 @@ fn cursor_at<D: Digester + Send + Sync, R: Threads + Sync>(
         machine,
         tree,
     })
-}
-
-/// The root of a machine's state, from the digest of its memory.
-fn root_over<D: Digester>(d: D, memory: Digest32, machine: &Machine) -> Digest32
-    requires chained { IsChained D.digest_of machine.now }
-    requires memory { memory.0 ≡ memory_digest D.digest_of (state_of machine.now) }
-    ensures { result.0 ≡ state_root D.digest_of (state_of machine.now) }
-{
-    let _out_len = machine.ctl.out_len;
-    let registers = d.digest(registers_text(&machine.regs).as_slice());
-    parts_root(d, memory, registers, &machine.ctl)
 }
 
 /// The root of a step, and a cursor for the next one. An `Err` is out of memory.

@@ -1,4 +1,4 @@
 pub mod StateRoot
 pub mod Strings
-pub mod StateCode
+pub use Rattle.rv_step.specs.StateCode
 pub mod Committing

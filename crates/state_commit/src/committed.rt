@@ -49,7 +49,7 @@ pub struct Committed<D: Digester> {
 
 impl<D: Digester> Model for Committed<D> {
     ghost use Rattle.rv_step.specs.State.{State, state_of};
-    ghost use Rattle.state_commit.specs.StateCode.{state_code};
+    ghost use Rattle.rv_step.specs.StateCode.{state_code};
     ghost use Rattle.state_commit.specs.Committing.{IsCommitted};
 
     ghost Value = { State };

@@ -8,8 +8,9 @@ use out_chain::parts_root;
 use rd_base::Digest32;
 use rv_step::Machine;
 
-/// The root of a machine's state, from the digest of its memory.
-pub(crate) fn root_over<D: Digester>(d: D, memory: Digest32, machine: &Machine) -> Digest32
+/// The root of a machine's state, from the digest of its memory (its `memory_root`, or the root of a tree that is kept with
+/// it). The machine's chain is that of its output, by this digester.
+pub fn root_over<D: Digester>(d: D, memory: Digest32, machine: &Machine) -> Digest32
     requires chained { IsChained D.digest_of machine.now }
     requires memory { memory.0 ≡ state.memory_digest D.digest_of (state_of machine.now) }
     ensures { result.0 ≡ state.state_root D.digest_of (state_of machine.now) }

@@ -81,8 +81,9 @@ fn check<D: Digester, L: Ledger>(
 /// From the root of a valid state it leads to the root of the next state, or a string that the proof opens and a different
 /// string of the state have one digest (`next`).
 ///
-/// `steps` ticks once for each digest and once for the step of the machine: at most 91 times (`few`), and at most 36 times
-/// where there is no data chunk (`alone`). Where it leads, that is at least 7 times, and 28 times for each chunk (`least`).
+/// `steps` ticks once for each digest and once for the step of the machine, which is read off the code and not proved: at
+/// most 91 times (`few`), and at most 36 times where there is no data chunk (`alone`). Where it leads, at least 7 times,
+/// and 28 times for each chunk (`least`).
 pub fn check_step<D: Digester, L: Ledger>(
     d: D,
     a: Digest32,

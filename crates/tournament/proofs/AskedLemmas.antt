@@ -23,9 +23,9 @@ use Rattle.tournament.proofs.SidesLemmas.{round-closed, round-open}
 use Rattle.tournament.proofs.StageLemmas.{IsPlayed, played-settle, played-nothing, steps-settle}
 use Rattle.tournament.proofs.StagedLemmas.{bracket-fixed}
 use Rattle.tournament.specs.Asked.{kind_in, kind_of, asked_in, asked, AskedByTheCase, QuestionsStay}
-use Rattle.tournament.specs.Bracket.{Record, claim_question, pairs, last_stage, disputes_of, is_due, opened, carried, stage_over, bracket, asks_first, asks_second, question_in, claim_missing, open_question, settled_in, put, settle}
+use Rattle.tournament.specs.Bracket.{Record, claim_question, pairs, last_stage, disputes_of, is_stage_due, stage_opened, carried, stage_over, bracket, asks_first, asks_second, question_in, claim_missing, open_question, settled_in, put, settle}
 use Rattle.tournament.specs.Journals.{turn, turn_on, turns, answers_of}
-use Rattle.tournament.specs.Moves.{State, begun, passes_of, settled_by, moved}
+use Rattle.tournament.specs.Moves.{MatchState, begun, passes_of, settled_by, moved}
 use Rattle.bisect_game.specs.Laws.{BisectionLaws}
 
 -- a dispute that another goes on from
@@ -50,7 +50,7 @@ pub record IsAskedIn (fan p n : ℕ) (q : Question) (ds : List Bisection) : Type
   pub kind : asked_in fan p q.qid ds ≡ Some q.kind
 
 -- what a legal journal keeps on its way to the record of its case
-pub record IsOnWay (rules : Rules) (says : Says) (n : ℕ) (st : State) : Type 0 where
+pub record IsOnWay (rules : Rules) (says : Says) (n : ℕ) (st : MatchState) : Type 0 where
   pub counts : AreCounts rules says st
   pub played : IsPlayed rules st.record_
   pub numbered : Numbered 1 st.record_.disputes
@@ -118,9 +118,9 @@ module _ (laws : BisectionLaws) where
   all-played fan rules f [] = tt
   all-played fan rules f (d ∷ ds) = (on-rounds fan rules.play f rules.bound d, all-played fan rules f ds)
 
-  all-opened : (fan : ℕ) (rules : Rules) (t : Record) → AllGoOn fan t.disputes (opened rules t).disputes
+  all-opened : (fan : ℕ) (rules : Rules) (t : Record) → AllGoOn fan t.disputes (stage_opened rules t).disputes
   all-opened fan rules t =
-      elim (either (is_due rules t)) [
+      elim (either (is_stage_due rules t)) [
         | inl due ↦ rw (opened-due rules t due) (all-append fan t.disputes _)
         | inr not_due ↦ rw (opened-not rules t not_due) (all-same fan t.disputes)
       ]
@@ -180,9 +180,9 @@ module _ (laws : BisectionLaws) where
   numbered-new rules g n [] = tt
   numbered-new rules g n (p ∷ ps) = (refl, numbered-new rules g (n + 1) ps)
 
-  numbered-opened : (rules : Rules) (t : Record) → Numbered 1 t.disputes → Numbered 1 (opened rules t).disputes
+  numbered-opened : (rules : Rules) (t : Record) → Numbered 1 t.disputes → Numbered 1 (stage_opened rules t).disputes
   numbered-opened rules t a =
-      elim (either (is_due rules t)) [
+      elim (either (is_stage_due rules t)) [
         | inl due ↦
             let e : length t.disputes + 1 ≡ 1 + length t.disputes = omega arith in
             rw (opened-due rules t due) (numbered-both 1 t.disputes _ a (subst (λ (n : ℕ). Numbered n (disputes_of rules (last_stage t.disputes + 1) (length t.disputes + 1) (pairs rules t))) e (numbered-new rules (last_stage t.disputes + 1) (length t.disputes + 1) (pairs rules t))))
@@ -280,7 +280,7 @@ module _ (laws : BisectionLaws) where
   reach_on h x y z (inr e) fixed (zero, r) = (zero, e ∙ (ap h r ∙ fixed))
   reach_on h x y z (inr e) fixed (suc n, r) = (n, ap (iterate h n) e ∙ r)
 
-  way-by : (rules : Rules) (says : Says) (n : ℕ) (st u : State) (p : ℕ) (q : Question) → 0 < rules.provers → 1 < rules.play.fan → 0 < rules.bound → 0 < p → open_question rules st.record_ p ≡ Some q →
+  way-by : (rules : Rules) (says : Says) (n : ℕ) (st u : MatchState) (p : ℕ) (q : Question) → 0 < rules.provers → 1 < rules.play.fan → 0 < rules.bound → 0 < p → open_question rules st.record_ p ≡ Some q →
       Turned rules says st p q u → IsOnWay rules says n st → IsOnWay rules says (suc n) u
   way-by rules says n st u p q some more long numbered asked (Passed same cs) i =
       record { counts = cs; played = rw same i.played; numbered = rw same i.numbered; reaches = rw same i.reaches }
@@ -299,12 +299,12 @@ module _ (laws : BisectionLaws) where
   unfolding bracket
   way-begun rules says some = record { counts = (counts-begun laws) rules says; played = (played-nothing laws) rules some; numbered = tt; reaches = (rules.provers, refl) }
 
-  pub way-turn : (rules : Rules) (says : Says) → 0 < rules.provers → 1 < rules.play.fan → 0 < rules.bound → (n : ℕ) (st : State) (p : ℕ) (q : Question) → 0 < p → open_question rules st.record_ p ≡ Some q →
+  pub way-turn : (rules : Rules) (says : Says) → 0 < rules.provers → 1 < rules.play.fan → 0 < rules.bound → (n : ℕ) (st : MatchState) (p : ℕ) (q : Question) → 0 < p → open_question rules st.record_ p ≡ Some q →
       IsOnWay rules says n st → IsOnWay rules says (suc n) (turn rules says st p q)
   way-turn rules says some more long n st p q numbered asked i =
       way-by rules says n st (turn rules says st p q) p q some more long numbered asked ((turned laws) rules says st p q numbered asked i.counts) i
 
-  pub way-asked : (rules : Rules) (says : Says) (n : ℕ) (st : State) (p : ℕ) (q : Question) → IsOnWay rules says n st → open_question rules st.record_ p ≡ Some q →
+  pub way-asked : (rules : Rules) (says : Says) (n : ℕ) (st : MatchState) (p : ℕ) (q : Question) → IsOnWay rules says n st → open_question rules st.record_ p ≡ Some q →
       asked rules (bracket rules (answers_of rules says)) p q.qid ≡ Some q.kind
   way-asked rules says n st p q i e =
       let here : asked rules st.record_ p q.qid ≡ Some q.kind = open-asked rules p q st.record_ i.numbered e in
@@ -323,13 +323,13 @@ module _ (laws : BisectionLaws) where
 
   -- an open question stays
 
-  stay-moved : (rules : Rules) (st : State) (p other : ℕ) (q : Question) (o : Option Settled) → ((r : ℕ) → IsApart rules r st.record_) → 0 < p → 0 < other → other ≢ p → open_question rules st.record_ p ≡ Some q →
+  stay-moved : (rules : Rules) (st : MatchState) (p other : ℕ) (q : Question) (o : Option Settled) → ((r : ℕ) → IsApart rules r st.record_) → 0 < p → 0 < other → other ≢ p → open_question rules st.record_ p ≡ Some q →
       (open_question rules (moved rules st other o).record_ p ≡ Some q) × (passes_of (moved rules st other o) p ≡ passes_of st p)
   stay-moved rules st p other q None apart some more far e = (e, (at-other laws) st.passed (other - 1) (p - 1) (passes_of st other + 1) (λ k. far (omega arith)))
   stay-moved rules st p other q (Some s) apart some more far e =
       (stays-asked rules p other s q st.record_ some more far (apart p) e, (at-other laws) st.passed (other - 1) (p - 1) 0 (λ k. far (omega arith)))
 
-  stay-on : (rules : Rules) (says : Says) (st : State) (p other : ℕ) (q : Question) (o : Option Question) → ((r : ℕ) → IsApart rules r st.record_) → 0 < p → 0 < other → other ≢ p → open_question rules st.record_ p ≡ Some q →
+  stay-on : (rules : Rules) (says : Says) (st : MatchState) (p other : ℕ) (q : Question) (o : Option Question) → ((r : ℕ) → IsApart rules r st.record_) → 0 < p → 0 < other → other ≢ p → open_question rules st.record_ p ≡ Some q →
       (open_question rules (turn_on rules says st other o).record_ p ≡ Some q) × (passes_of (turn_on rules says st other o) p ≡ passes_of st p)
   stay-on rules says st p other q None apart some more far e = (e, refl)
   stay-on rules says st p other q (Some r) apart some more far e = stay-moved rules st p other q (settled_by rules r (passes_of st other) (says other r (passes_of st other))) apart some more far e

@@ -16,9 +16,9 @@ use Rattle.tournament.proofs.ReachLemmas.{either, iterate-fixed, reach_one}
 use Rattle.tournament.proofs.RoundLemmas.{IsWithin, within-advanced, enough}
 use Rattle.tournament.proofs.SidesLemmas.{round-closed, round-open}
 use Rattle.tournament.proofs.StageLemmas.{AllWithin, within-opened, Ends, played-nothing}
-use Rattle.tournament.specs.Bracket.{Record, claim_question, pairs, last_stage, disputes_of, is_due, opened, claims_over, carried, stage_over, nothing_settled, bracket, open_question}
+use Rattle.tournament.specs.Bracket.{Record, claim_question, pairs, last_stage, disputes_of, is_stage_due, stage_opened, claims_over, carried, stage_over, nothing_settled, bracket, open_question}
 use Rattle.tournament.specs.Journals.{turn_on, turns, answers_of, RecordOfCase}
-use Rattle.tournament.specs.Moves.{State, begun, passes_of, settled_by, moved}
+use Rattle.tournament.specs.Moves.{MatchState, begun, passes_of, settled_by, moved}
 use Rattle.bisect_game.specs.Laws.{BisectionLaws}
 
 abbrev Grows : Rules → Answers → Record → Type 0
@@ -87,31 +87,31 @@ module _ (laws : BisectionLaws) where
   new-length rules g n [] = refl
   new-length rules g n (p ∷ ps) = ap suc (new-length rules g (n + 1) ps)
 
-  still : (rules : Rules) (f : Answers) (t : Record) → 1 < rules.play.fan → AllWithin rules t.disputes → opened rules (carried rules f t) ≡ carried rules f t →
+  still : (rules : Rules) (f : Answers) (t : Record) → 1 < rules.play.fan → AllWithin rules t.disputes → stage_opened rules (carried rules f t) ≡ carried rules f t →
       stage_over rules f (stage_over rules f t) ≡ stage_over rules f t
   still rules f t more w e =
-      ap (λ (u : Record). opened rules (carried rules f u)) e ∙ ap (opened rules) (carried-twice rules f t more w)
+      ap (λ (u : Record). stage_opened rules (carried rules f u)) e ∙ ap (stage_opened rules) (carried-twice rules f t more w)
 
-  grows-by : (rules : Rules) (f : Answers) (t : Record) (ps : List ((ℕ × Claim) × (ℕ × Claim))) → 1 < rules.play.fan → AllWithin rules t.disputes → is_due rules (carried rules f t) ≡ true →
+  grows-by : (rules : Rules) (f : Answers) (t : Record) (ps : List ((ℕ × Claim) × (ℕ × Claim))) → 1 < rules.play.fan → AllWithin rules t.disputes → is_stage_due rules (carried rules f t) ≡ true →
       pairs rules (carried rules f t) ≡ ps → Grows rules f t
   grows-by rules f t [] more w due e =
       inl (still rules f t more w (opened-due rules (carried rules f t) due ∙ rw (e, append-nil) refl))
   grows-by rules f t (p ∷ ps) more w due e =
-      let n : length (opened rules (carried rules f t)).disputes ≡ length (carried rules f t).disputes + length (pairs rules (carried rules f t)) =
+      let n : length (stage_opened rules (carried rules f t)).disputes ≡ length (carried rules f t).disputes + length (pairs rules (carried rules f t)) =
       ap (λ (u : Record). length u.disputes) (opened-due rules (carried rules f t) due) ∙ (length-append (carried rules f t).disputes _ ∙ ap (λ (m : ℕ). length (carried rules f t).disputes + m) (new-length rules (last_stage (carried rules f t).disputes + 1) (length (carried rules f t).disputes + 1) (pairs rules (carried rules f t)))) in
       let k : length (pairs rules (carried rules f t)) ≡ suc (length ps) = ap length e in
       inr (omega (arith, n, k, carried-length rules f t))
 
   grows : (rules : Rules) (f : Answers) (t : Record) → 1 < rules.play.fan → AllWithin rules t.disputes → Grows rules f t
   grows rules f t more w =
-      elim (either (is_due rules (carried rules f t))) [
+      elim (either (is_stage_due rules (carried rules f t))) [
         | inl due ↦ grows-by rules f t (pairs rules (carried rules f t)) more w due refl
         | inr not_due ↦ inl (still rules f t more w (opened-not rules (carried rules f t) not_due))
       ]
 
   longer : (rules : Rules) (f : Answers) (t : Record) → 1 < rules.play.fan → AllWithin rules t.disputes → length t.disputes ≤ length (stage_over rules f t).disputes
   longer rules f t more w =
-      elim (either (is_due rules (carried rules f t))) [
+      elim (either (is_stage_due rules (carried rules f t))) [
         | inl due ↦ rw (opened-due rules (carried rules f t) due, length-append (carried rules f t).disputes _, carried-length rules f t) (omega arith)
         | inr not_due ↦ rw (opened-not rules (carried rules f t) not_due, carried-length rules f t) (omega arith)
       ]
@@ -168,15 +168,15 @@ module _ (laws : BisectionLaws) where
 
   -- the record of a case is that of each of its complete legal journals
 
-  ordered-moved : (rules : Rules) (st : State) (p : ℕ) (o : Option Settled) → IsOrdered rules st.record_ → IsOrdered rules (moved rules st p o).record_
+  ordered-moved : (rules : Rules) (st : MatchState) (p : ℕ) (o : Option Settled) → IsOrdered rules st.record_ → IsOrdered rules (moved rules st p o).record_
   ordered-moved rules st p None i = i
   ordered-moved rules st p (Some s) i = ordered-settle rules p s st.record_ i
 
-  ordered-turn : (rules : Rules) (says : Says) (st : State) (p : ℕ) (o : Option Question) → IsOrdered rules st.record_ → IsOrdered rules (turn_on rules says st p o).record_
+  ordered-turn : (rules : Rules) (says : Says) (st : MatchState) (p : ℕ) (o : Option Question) → IsOrdered rules st.record_ → IsOrdered rules (turn_on rules says st p o).record_
   ordered-turn rules says st p None i = i
   ordered-turn rules says st p (Some q) i = ordered-moved rules st p (settled_by rules q (passes_of st p) (says p q (passes_of st p))) i
 
-  ordered-turns : (rules : Rules) (says : Says) (ps : List ℕ) (st : State) → IsOrdered rules st.record_ → IsOrdered rules (turns rules says ps st).record_
+  ordered-turns : (rules : Rules) (says : Says) (ps : List ℕ) (st : MatchState) → IsOrdered rules st.record_ → IsOrdered rules (turns rules says ps st).record_
   ordered-turns rules says [] st i = i
   ordered-turns rules says (p ∷ ps) st i = ordered-turns rules says ps _ (ordered-turn rules says st p (open_question rules st.record_ p) i)
 

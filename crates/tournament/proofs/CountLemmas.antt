@@ -16,7 +16,7 @@ use Rattle.bisect_game.specs.Ruling.{Ruling, same_digest}
 use Rattle.tournament.proofs.OpenedLemmas.{opened-not, opened-due}
 use Rattle.tournament.proofs.ReachLemmas.{either}
 use Rattle.tournament.proofs.SidesLemmas.{SameSides, sides-first, sides-second}
-use Rattle.tournament.specs.Bracket.{Record, is_out_by, is_out_in, claim_in, also, live_from, Taken, passed_over, take_other, pairs_of, pairs, last_stage, disputes_of, all_there, all_out, put_out, is_due, opened, nothing_settled, asks_first, asks_second, claim_missing, settled_in, put, settle}
+use Rattle.tournament.specs.Bracket.{Record, is_out_by, is_out_in, claim_in, also, live_from, Taken, passed_over, take_other, pairs_of, pairs, last_stage, disputes_of, all_there, all_out, put_out, is_stage_due, stage_opened, nothing_settled, asks_first, asks_second, claim_missing, settled_in, put, settle}
 use Rattle.tournament.specs.Settling.{after}
 
 abbrev one_if : Bool → ℕ
@@ -413,9 +413,9 @@ ordered-next rules t (q ∷ ps) e there outs o =
       first = λ (missing : all_there t.claims ≡ false). cc;
     }
 
-pub ordered-opened : (rules : Rules) (t : Record) → IsOrdered rules t → IsOrdered rules (opened rules t)
+pub ordered-opened : (rules : Rules) (t : Record) → IsOrdered rules t → IsOrdered rules (stage_opened rules t)
 ordered-opened rules t o =
-    elim (either (is_due rules t)) [
+    elim (either (is_stage_due rules t)) [
       | inl due ↦
           let two : (all_there t.claims ≡ true) × (_ ≡ true) = both (all_there t.claims) _ due in
           let outs : (all_out t.disputes ≡ true) × (_ ≡ true) = both (all_out t.disputes) _ two.1 in

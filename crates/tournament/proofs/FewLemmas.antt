@@ -10,7 +10,7 @@ use Rattle.bisect_game.specs.Laws.{IsFew}
 use Rattle.bisect_game.specs.Rules.{Rules, ArePlayable}
 use Rattle.tournament.proofs.OpenedLemmas.{opened-not, opened-due}
 use Rattle.tournament.proofs.ReachLemmas.{either}
-use Rattle.tournament.specs.Bracket.{Record, pairs, last_stage, disputes_of, is_due, opened, nothing_settled, asks_first, asks_second, claim_missing, settled_in, put, settle}
+use Rattle.tournament.specs.Bracket.{Record, pairs, last_stage, disputes_of, is_stage_due, stage_opened, nothing_settled, asks_first, asks_second, claim_missing, settled_in, put, settle}
 use Rattle.tournament.specs.Settling.{after}
 use Rattle.tournament.specs.Theorem.{AllShort}
 use Rattle.bisect_game.specs.Laws.{BisectionLaws}
@@ -45,9 +45,9 @@ module _ (laws : BisectionLaws) where
   few-both rules [] es h k = k
   few-both rules (d ∷ ds) es h k = (h.0, few-both rules ds es h.1 k)
 
-  few-opened : (rules : Rules) (t : Record) → 1 < rules.play.fan → 0 < rules.bound → AllFew rules t.disputes → AllFew rules (opened rules t).disputes
+  few-opened : (rules : Rules) (t : Record) → 1 < rules.play.fan → 0 < rules.bound → AllFew rules t.disputes → AllFew rules (stage_opened rules t).disputes
   few-opened rules t more long h =
-      elim (either (is_due rules t)) [
+      elim (either (is_stage_due rules t)) [
         | inl due ↦ rw (opened-due rules t due) (few-both rules t.disputes _ h (few-new rules (last_stage t.disputes + 1) (length t.disputes + 1) (pairs rules t) more long))
         | inr not_due ↦ rw (opened-not rules t not_due) h
       ]

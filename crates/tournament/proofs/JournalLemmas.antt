@@ -12,7 +12,7 @@ use Rattle.tournament.proofs.ReachLemmas.{either, reach_back, reach_one}
 use Rattle.tournament.proofs.StageLemmas.{IsPlayed, played-settle, steps-settle, Ends, complete-fixed, played-nothing}
 use Rattle.tournament.specs.Bracket.{Record, open_question, settle, stage_over, nothing_settled, is_complete}
 use Rattle.tournament.specs.Journals.{turn, turn_on, turns, Legal, said, settled_after, answers_of, OrderDoesNotMatter}
-use Rattle.tournament.specs.Moves.{State, begun, passes_of, settled_by, moved}
+use Rattle.tournament.specs.Moves.{MatchState, begun, passes_of, settled_by, moved}
 use Rattle.bisect_game.specs.Laws.{BisectionLaws}
 
 -- so many passes on a question, and what is settled of it is still to come
@@ -21,15 +21,15 @@ pub record IsCount (rules : Rules) (says : Says) (p : ℕ) (q : Question) (n : �
   pub rest : settled_after rules says p q (rules.patience - n) n ≡ settled_after rules says p q rules.patience 0
 
 -- a prover has passed on no question, or so often on its open one
-abbrev pub IsCountIn : Rules → Says → State → ℕ → Type 0
+abbrev pub IsCountIn : Rules → Says → MatchState → ℕ → Type 0
 IsCountIn rules says st p = (passes_of st p ≡ 0) ⊎ ((q : Question) × (open_question rules st.record_ p ≡ Some q) × IsCount rules says p q (passes_of st p))
 
-pub record AreCounts (rules : Rules) (says : Says) (st : State) : Type 0 where
+pub record AreCounts (rules : Rules) (says : Says) (st : MatchState) : Type 0 where
   pub counts : (p : ℕ) → 0 < p → IsCountIn rules says st p
   pub apart : (p : ℕ) → IsApart rules p st.record_
 
 -- a turn counts a pass, or settles what is settled of the question
-pub data Turned (rules : Rules) (says : Says) (st : State) (p : ℕ) (q : Question) (u : State) : Type 0 where
+pub data Turned (rules : Rules) (says : Says) (st : MatchState) (p : ℕ) (q : Question) (u : MatchState) : Type 0 where
   Passed : u.record_ ≡ st.record_ → AreCounts rules says u → Turned rules says st p q u
   Settles : (s : Settled) → u.record_ ≡ settle rules p s st.record_ → AreCounts rules says u → answers_of rules says p q ≡ Some s → Turned rules says st p q u
 
@@ -67,12 +67,12 @@ module _ (laws : BisectionLaws) where
   at-other (x ∷ xs) (suc k) zero v ne = refl
   at-other (x ∷ xs) (suc k) (suc j) v ne = at-other xs k j v (λ e. ne (ap suc e))
 
-  pub count-by : (rules : Rules) (says : Says) (st : State) (p : ℕ) (q : Question) → open_question rules st.record_ p ≡ Some q → IsCountIn rules says st p → IsCount rules says p q (passes_of st p)
+  pub count-by : (rules : Rules) (says : Says) (st : MatchState) (p : ℕ) (q : Question) → open_question rules st.record_ p ≡ Some q → IsCountIn rules says st p → IsCount rules says p q (passes_of st p)
   count-by rules says st p q e (inl none) = rw none (no-passes rules says p q)
   count-by rules says st p q e (inr (r, f, c)) = let same : r ≡ q = cc in rw same at c
 
   -- the counts after a pass
-  counts-passed : (rules : Rules) (says : Says) (st : State) (p : ℕ) (q : Question) → 0 < p → open_question rules st.record_ p ≡ Some q → AreCounts rules says st →
+  counts-passed : (rules : Rules) (says : Says) (st : MatchState) (p : ℕ) (q : Question) → 0 < p → open_question rules st.record_ p ≡ Some q → AreCounts rules says st →
       IsCount rules says p q (passes_of st p + 1) → AreCounts rules says (moved rules st p None)
   counts-passed rules says st p q some e cs c = record {
     counts = λ r other. elim (either (p == r)) [
@@ -91,7 +91,7 @@ module _ (laws : BisectionLaws) where
     apart = cs.apart;
   }
 
-  kept-count : (rules : Rules) (says : Says) (st : State) (p r : ℕ) (s : Settled) → 0 < p → 0 < r → p ≢ r → IsApart rules r st.record_ → IsCountIn rules says st r →
+  kept-count : (rules : Rules) (says : Says) (st : MatchState) (p r : ℕ) (s : Settled) → 0 < p → 0 < r → p ≢ r → IsApart rules r st.record_ → IsCountIn rules says st r →
       IsCountIn rules says (moved rules st p (Some s)) r
   kept-count rules says st p r s some other far a (inl none) = inl (at-other st.passed (p - 1) (r - 1) 0 (λ k. far (omega arith)) ∙ none)
   kept-count rules says st p r s some other far a (inr (q, e, c)) =
@@ -99,7 +99,7 @@ module _ (laws : BisectionLaws) where
       inr (q, stays-asked rules r p s q st.record_ other some far a e, rw at c)
 
   -- the counts after an answer: the others' open questions stay
-  counts-settled : (rules : Rules) (says : Says) (st : State) (p : ℕ) (s : Settled) → 0 < p → AreCounts rules says st → AreCounts rules says (moved rules st p (Some s))
+  counts-settled : (rules : Rules) (says : Says) (st : MatchState) (p : ℕ) (s : Settled) → 0 < p → AreCounts rules says st → AreCounts rules says (moved rules st p (Some s))
   counts-settled rules says st p s some cs = record {
     counts = λ r other. elim (either (p == r)) [
       | inl same ↦
@@ -123,7 +123,7 @@ module _ (laws : BisectionLaws) where
   unfolding settled_after
   settled-spent rules says p q left n z e = rw (z, e) refl
 
-  turned-by : (rules : Rules) (says : Says) (st : State) (p : ℕ) (q : Question) (n : ℕ) (o : Option Answer) (b : Bool) → 0 < p → n ≡ passes_of st p → says p q n ≡ o → nat_lt n rules.patience ≡ b →
+  turned-by : (rules : Rules) (says : Says) (st : MatchState) (p : ℕ) (q : Question) (n : ℕ) (o : Option Answer) (b : Bool) → 0 < p → n ≡ passes_of st p → says p q n ≡ o → nat_lt n rules.patience ≡ b →
       open_question rules st.record_ p ≡ Some q → AreCounts rules says st → IsCount rules says p q n →
       Turned rules says st p q (moved rules st p (elim o [ Some a ↦ settled_by rules q n (Some a) | None ↦ if b then None else Some Spent ]))
   unfolding answers_of
@@ -142,16 +142,16 @@ module _ (laws : BisectionLaws) where
   by-cases rules q n (Some a) = refl
   by-cases rules q n None = refl
 
-  pub turned : (rules : Rules) (says : Says) (st : State) (p : ℕ) (q : Question) → 0 < p → open_question rules st.record_ p ≡ Some q → AreCounts rules says st →
+  pub turned : (rules : Rules) (says : Says) (st : MatchState) (p : ℕ) (q : Question) → 0 < p → open_question rules st.record_ p ≡ Some q → AreCounts rules says st →
       Turned rules says st p q (turn rules says st p q)
   turned rules says st p q some asked cs =
       rw (← by-cases rules q (passes_of st p) (says p q (passes_of st p)))
       (turned-by rules says st p q (passes_of st p) (says p q (passes_of st p)) (nat_lt (passes_of st p) rules.patience) some refl refl refl asked cs (count-by rules says st p q asked (cs.counts p some)))
 
   -- what each turn keeps, a legal journal keeps
-  pub turns-keep : (rules : Rules) (says : Says) (I : ℕ → State → Type 0) →
-      ((n : ℕ) (st : State) (p : ℕ) (q : Question) → 0 < p → open_question rules st.record_ p ≡ Some q → I n st → I (suc n) (turn rules says st p q)) →
-      (ps : List ℕ) (n : ℕ) (st : State) → Legal rules says ps st → I n st → I (n + length ps) (turns rules says ps st)
+  pub turns-keep : (rules : Rules) (says : Says) (I : ℕ → MatchState → Type 0) →
+      ((n : ℕ) (st : MatchState) (p : ℕ) (q : Question) → 0 < p → open_question rules st.record_ p ≡ Some q → I n st → I (suc n) (turn rules says st p q)) →
+      (ps : List ℕ) (n : ℕ) (st : MatchState) → Legal rules says ps st → I n st → I (n + length ps) (turns rules says ps st)
   turns-keep rules says I keep [] n st legal i = let e : n + 0 ≡ n = omega arith in rw e i
   turns-keep rules says I keep (p ∷ ps) n st legal i =
       let e : turn_on rules says st p (open_question rules st.record_ p) ≡ turn rules says st p legal.0.question = ap (turn_on rules says st p) legal.0.asked in
@@ -161,13 +161,13 @@ module _ (laws : BisectionLaws) where
       let many : n + suc (length ps) ≡ suc n + length ps = omega arith in
       rw (many, e) whole
 
-  pub counts-turn : (rules : Rules) (says : Says) (st : State) (p : ℕ) (q : Question) (u : State) → Turned rules says st p q u → AreCounts rules says u
+  pub counts-turn : (rules : Rules) (says : Says) (st : MatchState) (p : ℕ) (q : Question) (u : MatchState) → Turned rules says st p q u → AreCounts rules says u
   counts-turn rules says st p q u (Passed same cs) = cs
   counts-turn rules says st p q u (Settles s same cs is) = cs
 
   -- every complete legal journal comes to what the stages over the settled answers come to
 
-  ends-after : (rules : Rules) (says : Says) (st u : State) (p : ℕ) (q : Question) (z : Record) → 0 < p → 1 < rules.play.fan → 0 < rules.bound → IsPlayed rules st.record_ →
+  ends-after : (rules : Rules) (says : Says) (st u : MatchState) (p : ℕ) (q : Question) (z : Record) → 0 < p → 1 < rules.play.fan → 0 < rules.bound → IsPlayed rules st.record_ →
       open_question rules st.record_ p ≡ Some q → Turned rules says st p q u →
       (IsPlayed rules u.record_ → AreCounts rules says u → Ends rules (answers_of rules says) u.record_ z) →
       Ends rules (answers_of rules says) st.record_ z
@@ -182,11 +182,11 @@ module _ (laws : BisectionLaws) where
             ((steps-settle laws) rules (answers_of rules says) p s q st.record_ some more long i asked is) e.fixed e.reaches;
       }
 
-  pub ends-journal : (rules : Rules) (says : Says) (ps : List ℕ) (st : State) → 1 < rules.play.fan → 0 < rules.bound → IsPlayed rules st.record_ → AreCounts rules says st →
+  pub ends-journal : (rules : Rules) (says : Says) (ps : List ℕ) (st : MatchState) → 1 < rules.play.fan → 0 < rules.bound → IsPlayed rules st.record_ → AreCounts rules says st →
       Legal rules says ps st → is_complete (turns rules says ps st).record_ ≡ true → Ends rules (answers_of rules says) st.record_ (turns rules says ps st).record_
   ends-journal rules says [] st more long i cs legal c = record { fixed = (complete-fixed laws) rules (answers_of rules says) st.record_ i c; reaches = (0, refl) }
   ends-journal rules says (p ∷ ps) st more long i cs legal c =
-      let u : State = turn rules says st p legal.0.question in
+      let u : MatchState = turn rules says st p legal.0.question in
       let e : turn_on rules says st p (open_question rules st.record_ p) ≡ turn rules says st p legal.0.question = ap (turn_on rules says st p) legal.0.asked in
       let rest : Legal rules says ps (turn rules says st p legal.0.question) = rw e at legal.1 in
       let further : turns rules says (p ∷ ps) st ≡ turns rules says ps (turn rules says st p legal.0.question) = ap (turns rules says ps) e in

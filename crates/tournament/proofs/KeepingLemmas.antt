@@ -13,7 +13,7 @@ use Rattle.bisect_game.specs.Ruling.{Ruling, same_digest}
 use Rattle.tournament.proofs.OnceLemmas.{both}
 use Rattle.tournament.proofs.OpenedLemmas.{opened-due}
 use Rattle.tournament.proofs.SidesLemmas.{SameSides, sides-first, sides-second}
-use Rattle.tournament.specs.Bracket.{Record, last_stage, Taken, passed_over, take_other, pairs_of, side_of, disputes_of, asks_first, asks_second, settled_in, live, live_from, is_due, opened, put, claim_missing}
+use Rattle.tournament.specs.Bracket.{Record, last_stage, Taken, passed_over, take_other, pairs_of, side_of, disputes_of, asks_first, asks_second, settled_in, live, live_from, is_stage_due, stage_opened, put, claim_missing}
 use Rattle.tournament.specs.Keeping.{asks_of, asked_from, sides, Taking, going_by, take_side, side_pairs, other_from, dispute_at, disputes_over, and_also, AllRooms, IsSheet}
 use Rattle.tournament.specs.Posting.{rules_of}
 
@@ -278,15 +278,15 @@ over-length : (t : Setup) (g k : ℕ) (ps : List ((ℕ × Digest32) × (ℕ × D
 over-length t g k [] = refl
 over-length t g k (p ∷ ps) = ap suc (over-length t g (k + 1) ps)
 
-pub stage-is : (r : Ruling) (t : Setup) (rec : Record) (xs : List (ℕ × Digest32)) → is_due (rules_of r t) rec ≡ true → xs ≡ sides r (live rec) →
-    opened (rules_of r t) rec ≡ and_also rec (disputes_over t (last_stage rec.disputes + 1) (length rec.disputes + 1) (side_pairs t.provers xs))
+pub stage-is : (r : Ruling) (t : Setup) (rec : Record) (xs : List (ℕ × Digest32)) → is_stage_due (rules_of r t) rec ≡ true → xs ≡ sides r (live rec) →
+    stage_opened (rules_of r t) rec ≡ and_also rec (disputes_over t (last_stage rec.disputes + 1) (length rec.disputes + 1) (side_pairs t.provers xs))
 stage-is r t rec xs due e =
     opened-due (rules_of r t) rec due ∙ ap (and_also rec) (over-sides r t (last_stage rec.disputes + 1) t.provers (length rec.disputes + 1) (live rec) ∙ ap (λ (ys : List (ℕ × Digest32)). disputes_over t (last_stage rec.disputes + 1) (length rec.disputes + 1) (side_pairs t.provers ys)) (sym e))
 
-pub stage-few : (r : Ruling) (t : Setup) (rec : Record) (xs : List (ℕ × Digest32)) → is_due (rules_of r t) rec ≡ true → xs ≡ sides r (live rec) → length (opened (rules_of r t) rec).disputes < t.provers →
+pub stage-few : (r : Ruling) (t : Setup) (rec : Record) (xs : List (ℕ × Digest32)) → is_stage_due (rules_of r t) rec ≡ true → xs ≡ sides r (live rec) → length (stage_opened (rules_of r t) rec).disputes < t.provers →
     length rec.disputes + length (side_pairs t.provers xs) < t.provers
 stage-few r t rec xs due e few =
-    let n : length (opened (rules_of r t) rec).disputes ≡ length rec.disputes + length (disputes_over t (last_stage rec.disputes + 1) (length rec.disputes + 1) (side_pairs t.provers xs)) =
+    let n : length (stage_opened (rules_of r t) rec).disputes ≡ length rec.disputes + length (disputes_over t (last_stage rec.disputes + 1) (length rec.disputes + 1) (side_pairs t.provers xs)) =
     ap (λ (z : Record). length z.disputes) (stage-is r t rec xs due e) ∙ length-append rec.disputes _ in
     omega (arith, few, n, over-length t (last_stage rec.disputes + 1) (length rec.disputes + 1) (side_pairs t.provers xs))
 

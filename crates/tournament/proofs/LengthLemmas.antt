@@ -14,10 +14,10 @@ use Rattle.tournament.proofs.JournalLemmas.{IsCount, AreCounts, counts-begun, co
 use Rattle.tournament.proofs.OnceLemmas.{one_if, IsOpen, opens, is-prover, not-eqb, is-eqb}
 use Rattle.tournament.proofs.OpenedLemmas.{opened-not, opened-due}
 use Rattle.tournament.proofs.ReachLemmas.{either}
-use Rattle.tournament.specs.Bracket.{Record, claim_question, pairs, last_stage, disputes_of, is_due, opened, asks_first, asks_second, question_in, claim_missing, open_question, settled_in, put, settle}
+use Rattle.tournament.specs.Bracket.{Record, claim_question, pairs, last_stage, disputes_of, is_stage_due, stage_opened, asks_first, asks_second, question_in, claim_missing, open_question, settled_in, put, settle}
 use Rattle.tournament.specs.Journals.{turn, turns}
 use Rattle.tournament.specs.Length.{IsMost, most_entries, SpareIsEnough}
-use Rattle.tournament.specs.Moves.{State, begun, passes_of, settled_by, moved}
+use Rattle.tournament.specs.Moves.{MatchState, begun, passes_of, settled_by, moved}
 use Rattle.bisect_game.specs.Laws.{BisectionLaws}
 
 abbrev there : List (Option Settled) → ℕ
@@ -61,7 +61,7 @@ abbrev asking : List Bisection → ℕ → ℕ
 asking [] p = 0
 asking (d ∷ ds) p = asking_in d p + asking ds p
 
-pub record IsSpent (rules : Rules) (says : Says) (n : ℕ) (st : State) : Type 0 where
+pub record IsSpent (rules : Rules) (says : Says) (n : ℕ) (st : MatchState) : Type 0 where
   pub counts : AreCounts rules says st
   pub few : AllFew rules st.record_.disputes
   pub ordered : IsOrdered rules st.record_
@@ -128,9 +128,9 @@ module _ (laws : BisectionLaws) where
   answered-both [] es = omega arith
   answered-both (d ∷ ds) es = omega (arith, answered-both ds es)
 
-  count-opened : (rules : Rules) (t : Record) → settled_count t ≤ settled_count (opened rules t)
+  count-opened : (rules : Rules) (t : Record) → settled_count t ≤ settled_count (stage_opened rules t)
   count-opened rules t =
-      elim (either (is_due rules t)) [
+      elim (either (is_stage_due rules t)) [
         | inl due ↦ rw (opened-due rules t due) (omega (arith, answered-both t.disputes (disputes_of rules (last_stage t.disputes + 1) (length t.disputes + 1) (pairs rules t))))
         | inr not_due ↦ rw (opened-not rules t not_due) (omega arith)
       ]
@@ -246,12 +246,12 @@ module _ (laws : BisectionLaws) where
       let one : rules.patience * 1 ≤ rules.patience * (0 + asking t.disputes p) = mul-le-mul_left rules.patience (omega (arith, asking-asked rules.play.fan p q t.disputes e)) in
       omega (arith, one)
 
-  few-at : (rules : Rules) (says : Says) (st : State) (p : ℕ) → (passes_of st p ≡ 0) ⊎ ((q : Question) × (open_question rules st.record_ p ≡ Some q) × IsCount rules says p q (passes_of st p)) →
+  few-at : (rules : Rules) (says : Says) (st : MatchState) (p : ℕ) → (passes_of st p ≡ 0) ⊎ ((q : Question) × (open_question rules st.record_ p ≡ Some q) × IsCount rules says p q (passes_of st p)) →
       passes_of st p ≤ rules.patience * (one_if (claim_missing (slice_get st.record_.claims (p - 1))) + asking st.record_.disputes p)
   few-at rules says st p (inl none) = omega arith
   few-at rules says st p (inr (q, e, c)) = few-by rules p (passes_of st p) q st.record_ (claim_missing (slice_get st.record_.claims (p - 1))) c.few e
 
-  few-passes : (rules : Rules) (says : Says) (st : State) → length st.passed ≡ length st.record_.claims → AreCounts rules says st →
+  few-passes : (rules : Rules) (says : Says) (st : MatchState) → length st.passed ≡ length st.record_.claims → AreCounts rules says st →
       total st.passed ≤ rules.patience * (missing st.record_.claims + awaited st.record_.disputes)
   few-passes rules says st same cs =
       let t : total st.passed ≤ rules.patience * (missing st.record_.claims + over 1 (length st.record_.claims) (asking st.record_.disputes)) =
@@ -268,7 +268,7 @@ module _ (laws : BisectionLaws) where
       let m : (patience + 1) * (a + 1) ≤ (patience + 1) * b = mul-le-mul_left (patience + 1) more in
       omega (arith, m)
 
-  entries-moved : (rules : Rules) (n p : ℕ) (q : Question) (st : State) (o : Option Settled) → p - 1 < length st.passed → passes_of st p ≤ rules.patience → open_question rules st.record_ p ≡ Some q →
+  entries-moved : (rules : Rules) (n p : ℕ) (q : Question) (st : MatchState) (o : Option Settled) → p - 1 < length st.passed → passes_of st p ≤ rules.patience → open_question rules st.record_ p ≡ Some q →
       n ≤ (rules.patience + 1) * settled_count st.record_ + total st.passed →
       suc n ≤ (rules.patience + 1) * settled_count (moved rules st p o).record_ + total (moved rules st p o).passed
   entries-moved rules n p q st None lt few e le = omega (arith, total-set st.passed (p - 1) (passes_of st p + 1) lt)
@@ -276,19 +276,19 @@ module _ (laws : BisectionLaws) where
       spent-settled rules.patience n (settled_count st.record_) (settled_count (settle rules p s st.record_)) (total st.passed) (total (slice_set st.passed (p - 1) 0)) (passes_of st p) le
       (count-settle rules p s q st.record_ e) (omega (arith, total-set st.passed (p - 1) 0 lt)) few
 
-  few-moved : (rules : Rules) (p : ℕ) (st : State) (o : Option Settled) → 1 < rules.play.fan → 0 < rules.bound → AllFew rules st.record_.disputes → AllFew rules (moved rules st p o).record_.disputes
+  few-moved : (rules : Rules) (p : ℕ) (st : MatchState) (o : Option Settled) → 1 < rules.play.fan → 0 < rules.bound → AllFew rules st.record_.disputes → AllFew rules (moved rules st p o).record_.disputes
   few-moved rules p st None more long h = h
   few-moved rules p st (Some s) more long h = (few-settle laws) rules p s st.record_ more long h
 
-  ordered-moved : (rules : Rules) (p : ℕ) (st : State) (o : Option Settled) → IsOrdered rules st.record_ → IsOrdered rules (moved rules st p o).record_
+  ordered-moved : (rules : Rules) (p : ℕ) (st : MatchState) (o : Option Settled) → IsOrdered rules st.record_ → IsOrdered rules (moved rules st p o).record_
   ordered-moved rules p st None i = i
   ordered-moved rules p st (Some s) i = ordered-settle rules p s st.record_ i
 
-  length-moved : (rules : Rules) (p : ℕ) (st : State) (o : Option Settled) → length (moved rules st p o).passed ≡ length st.passed
+  length-moved : (rules : Rules) (p : ℕ) (st : MatchState) (o : Option Settled) → length (moved rules st p o).passed ≡ length st.passed
   length-moved rules p st None = nat-length st.passed (p - 1) (passes_of st p + 1)
   length-moved rules p st (Some s) = nat-length st.passed (p - 1) 0
 
-  pub spent-turn : (rules : Rules) (says : Says) → 1 < rules.play.fan → 0 < rules.bound → (n : ℕ) (st : State) (p : ℕ) (q : Question) → 0 < p → open_question rules st.record_ p ≡ Some q →
+  pub spent-turn : (rules : Rules) (says : Says) → 1 < rules.play.fan → 0 < rules.bound → (n : ℕ) (st : MatchState) (p : ℕ) (q : Question) → 0 < p → open_question rules st.record_ p ≡ Some q →
       IsSpent rules says n st → IsSpent rules says (suc n) (turn rules says st p q)
   spent-turn rules says more long n st p q some asked i =
       let o : Option Settled = settled_by rules q (passes_of st p) (says p q (passes_of st p)) in
@@ -323,7 +323,7 @@ module _ (laws : BisectionLaws) where
       let e : (p + 1) * (m + (2 * (k + 1)) * (m - 1)) ≡ (p + 1) * (m + 2 * (m - 1) * (k + 1)) = ap (λ (z : ℕ). (p + 1) * (m + z)) (omega arith) in
       omega (arith, le, few, u, e)
 
-  pub spent-few : (rules : Rules) (says : Says) (n k : ℕ) (st : State) → 0 < rules.provers → IsMost rules.play.fan rules.bound k → IsSpent rules says n st → n ≤ most_entries rules k
+  pub spent-few : (rules : Rules) (says : Says) (n k : ℕ) (st : MatchState) → 0 < rules.provers → IsMost rules.play.fan rules.bound k → IsSpent rules says n st → n ≤ most_entries rules k
   spent-few rules says n k st some m i =
       enough-by n rules.patience rules.provers k (length st.record_.disputes) (missing st.record_.claims) (there st.record_.claims) (answered st.record_.disputes) (awaited st.record_.disputes) (total st.passed)
       i.entries

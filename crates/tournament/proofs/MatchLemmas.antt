@@ -20,7 +20,7 @@ use Rattle.tournament.proofs.LiveLemmas.{live-contains}
 use Rattle.tournament.proofs.OpenedLemmas.{opened-not, opened-due}
 use Rattle.tournament.proofs.ReachLemmas.{either, same-not}
 use Rattle.tournament.proofs.SidesLemmas.{SameSides, sides-first, sides-second}
-use Rattle.tournament.specs.Bracket.{Record, claim_question, is_out_by, is_out_in, claim_in, also, live_from, live, Taken, passed_over, take_other, pairs_of, pairs, last_stage, disputes_of, all_there, is_due, opened, nothing_settled, asks_first, asks_second, question_in, claim_missing, open_question, settled_in, put, settle, is_complete}
+use Rattle.tournament.specs.Bracket.{Record, claim_question, is_out_by, is_out_in, claim_in, also, live_from, live, Taken, passed_over, take_other, pairs_of, pairs, last_stage, disputes_of, all_there, is_stage_due, stage_opened, nothing_settled, asks_first, asks_second, question_in, claim_missing, open_question, settled_in, put, settle, is_complete}
 use Rattle.tournament.specs.Settling.{after}
 use Rattle.tournament.specs.Fitting.{MaySettle, AllFit}
 use Rattle.tournament.specs.Theorem.{Stays, HasTrueClaimSoFar, HasTrueClaim, TrueIn, AllTrueIn, AreTrue, RightIn, AllRightIn, AllProvedIn}
@@ -230,9 +230,9 @@ module _ (laws : BisectionLaws) where
   and-first true b e = refl
   and-first false b e = absurd (cc)
 
-  kept-opened : (rules : Rules) (t : Truth) (p : ℕ) (r : Record) → 0 < rules.bound → IsRun rules t → IsKept rules t p r → IsKept rules t p (opened rules r)
+  kept-opened : (rules : Rules) (t : Truth) (p : ℕ) (r : Record) → 0 < rules.bound → IsRun rules t → IsKept rules t p r → IsKept rules t p (stage_opened rules r)
   kept-opened rules t p r long run k =
-      elim (either (is_due rules r)) [
+      elim (either (is_stage_due rules r)) [
         | inl due ↦
             let there : all_there r.claims ≡ true = and-first _ _ due in
             rw (opened-due rules r due) (record {

@@ -12,7 +12,7 @@ use Rattle.bisect_game.specs.Ruling.{Ruling, same_digest}
 use Rattle.tournament.proofs.OpenedLemmas.{opened-not, opened-due}
 use Rattle.tournament.proofs.ReachLemmas.{either}
 use Rattle.tournament.proofs.SidesLemmas.{SameSides, sides-first, sides-second}
-use Rattle.tournament.specs.Bracket.{Record, claim_question, is_out_in, claim_in, also, live_from, live, Taken, passed_over, take_other, pairs_of, pairs, last_stage, disputes_of, all_there, all_out, put_out, is_due, opened, nothing_settled, asks_first, asks_second, question_in, claim_missing, open_question, settled_in, put, settle}
+use Rattle.tournament.specs.Bracket.{Record, claim_question, is_out_in, claim_in, also, live_from, live, Taken, passed_over, take_other, pairs_of, pairs, last_stage, disputes_of, all_there, all_out, put_out, is_stage_due, stage_opened, nothing_settled, asks_first, asks_second, question_in, claim_missing, open_question, settled_in, put, settle}
 
 abbrev pub one_if : Bool → ℕ
 one_if true = 1
@@ -133,9 +133,9 @@ engaged-out p (d ∷ ds) e =
     let two : (put_out d.close ≡ true) × (all_out ds ≡ true) = both (put_out d.close) (all_out ds) e in
     omega (arith, out-closed (touches p d) d.close two.0, engaged-out p ds two.1)
 
-apart-opened : (rules : Rules) (p : ℕ) (t : Record) → IsApart rules p t → IsApart rules p (opened rules t)
+apart-opened : (rules : Rules) (p : ℕ) (t : Record) → IsApart rules p t → IsApart rules p (stage_opened rules t)
 apart-opened rules p t a =
-    elim (either (is_due rules t)) [
+    elim (either (is_stage_due rules t)) [
       | inl due ↦
           let two : (all_there t.claims ≡ true) × (_ ≡ true) = both (all_there t.claims) _ due in
           let outs : (all_out t.disputes ≡ true) × (_ ≡ true) = both (all_out t.disputes) _ two.1 in
@@ -356,9 +356,9 @@ in-append fan p q (d ∷ ds) es e =
       | inr there ↦ rw there (in-append fan p q ds es (rw there at e))
     ]
 
-stays-opened : (rules : Rules) (p : ℕ) (q : Question) (t : Record) → open_question rules t p ≡ Some q → open_question rules (opened rules t) p ≡ Some q
+stays-opened : (rules : Rules) (p : ℕ) (q : Question) (t : Record) → open_question rules t p ≡ Some q → open_question rules (stage_opened rules t) p ≡ Some q
 stays-opened rules p q t e =
-    elim (either (is_due rules t)) [
+    elim (either (is_stage_due rules t)) [
       | inl due ↦
           rw (opened-due rules t due)
           (elim (either (claim_missing (slice_get t.claims (p - 1)))) [

@@ -11,7 +11,7 @@ use Rattle.bisect_game.specs.Rules.{Play, Rules}
 use Rattle.tournament.proofs.OnceLemmas.{IsApart, both, apart-nothing, apart-settle, engaged-asked, is-prover, or-left, or-right}
 use Rattle.tournament.proofs.OpenedLemmas.{opened-not, opened-due}
 use Rattle.tournament.proofs.ReachLemmas.{either}
-use Rattle.tournament.specs.Bracket.{Record, claim_question, pairs, last_stage, disputes_of, is_due, opened, nothing_settled, asks_first, asks_second, question_in, claim_missing, open_question, settled_in, put, settle, all_there, all_closed, is_complete}
+use Rattle.tournament.specs.Bracket.{Record, claim_question, pairs, last_stage, disputes_of, is_stage_due, stage_opened, nothing_settled, asks_first, asks_second, question_in, claim_missing, open_question, settled_in, put, settle, all_there, all_closed, is_complete}
 use Rattle.tournament.specs.Settling.{after}
 use Rattle.bisect_game.specs.Laws.{BisectionLaws}
 
@@ -79,9 +79,9 @@ module _ (laws : BisectionLaws) where
   moves-put rules p s t true a = a
   moves-put rules p s t false a = moves-settled rules p s t.disputes a
 
-  moves-opened : (rules : Rules) (t : Record) → AllMove t.disputes → AllMove (opened rules t).disputes
+  moves-opened : (rules : Rules) (t : Record) → AllMove t.disputes → AllMove (stage_opened rules t).disputes
   moves-opened rules t a =
-      elim (either (is_due rules t)) [
+      elim (either (is_stage_due rules t)) [
         | inl due ↦ rw (opened-due rules t due) (moves-both t.disputes _ a (moves-new rules (last_stage t.disputes + 1) (length t.disputes + 1) (pairs rules t)))
         | inr not_due ↦ rw (opened-not rules t not_due) a
       ]

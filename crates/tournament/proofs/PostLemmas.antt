@@ -11,7 +11,7 @@ use Rattle.bisect_game.specs.Rules.{Rules, is_fit, judged}
 use Rattle.bisect_game.specs.Truth.{IsFit}
 use Rattle.tournament.specs.Bracket.{Record, open_question, settle, nothing_settled}
 use Rattle.tournament.specs.Settling.{after}
-use Rattle.tournament.specs.Moves.{State, begun, passes_of, settled_by, moved}
+use Rattle.tournament.specs.Moves.{MatchState, begun, passes_of, settled_by, moved}
 use Rattle.tournament.specs.Posting.{same_qid, posted, posted_on, Post, after_posts}
 use Rattle.tournament.specs.Fitting.{MaySettle, AllFit, PostsSettle}
 
@@ -41,7 +41,7 @@ pub record IsSettled (rules : Rules) (t : Record) : Type 0 where
   pub fit : AllFit rules list (nothing_settled rules)
   pub comes : after rules list (nothing_settled rules) ≡ t
 
-settled-moved : (rules : Rules) (st : State) (p : ℕ) (q : Question) (o : Option Settled) → 0 < p → open_question rules st.record_ p ≡ Some q → ((s : Settled) → o ≡ Some s → IsFit rules.play.ruling q.kind s) →
+settled-moved : (rules : Rules) (st : MatchState) (p : ℕ) (q : Question) (o : Option Settled) → 0 < p → open_question rules st.record_ p ≡ Some q → ((s : Settled) → o ≡ Some s → IsFit rules.play.ruling q.kind s) →
     IsSettled rules st.record_ → IsSettled rules (moved rules st p o).record_
 settled-moved rules st p q None some asked fits i = i
 settled-moved rules st p q (Some s) some asked fits i = record {
@@ -55,18 +55,18 @@ settled-moved rules st p q (Some s) some asked fits i = record {
   comes = after-last rules i.list p s (nothing_settled rules) ∙ ap (settle rules p s) i.comes;
 }
 
-settled-if : (rules : Rules) (st : State) (p : ℕ) (q : Question) (m : Option Answer) (b : Bool) → 0 < p → open_question rules st.record_ p ≡ Some q → IsSettled rules st.record_ →
+settled-if : (rules : Rules) (st : MatchState) (p : ℕ) (q : Question) (m : Option Answer) (b : Bool) → 0 < p → open_question rules st.record_ p ≡ Some q → IsSettled rules st.record_ →
     IsSettled rules (if b then moved rules st p (settled_by rules q (passes_of st p) m) else st).record_
 settled-if rules st p q m true some asked i =
     settled-moved rules st p q (settled_by rules q (passes_of st p) m) some asked (λ s e. fit-settled rules q (passes_of st p) m s e) i
 settled-if rules st p q m false some asked i = i
 
-settled-on : (rules : Rules) (st : State) (p : ℕ) (qid : Qid) (m : Option Answer) (o : Option Question) → 0 < p → open_question rules st.record_ p ≡ o → IsSettled rules st.record_ →
+settled-on : (rules : Rules) (st : MatchState) (p : ℕ) (qid : Qid) (m : Option Answer) (o : Option Question) → 0 < p → open_question rules st.record_ p ≡ o → IsSettled rules st.record_ →
     IsSettled rules (posted_on rules st p qid m o).record_
 settled-on rules st p qid m None some asked i = i
 settled-on rules st p qid m (Some q) some asked i = settled-if rules st p q m (same_qid q.qid qid) some asked i
 
-pub settled-posts : (rules : Rules) (xs : List Post) (st : State) → IsSettled rules st.record_ → IsSettled rules (after_posts rules xs st).record_
+pub settled-posts : (rules : Rules) (xs : List Post) (st : MatchState) → IsSettled rules st.record_ → IsSettled rules (after_posts rules xs st).record_
 settled-posts rules [] st i = i
 settled-posts rules (x ∷ xs) st i =
     settled-posts rules xs (posted rules st x.prover x.qid x.answer) (settled-on rules st x.prover x.qid x.answer (open_question rules st.record_ x.prover) x.numbered refl i)

@@ -8,9 +8,9 @@ use Rattle.bisect_game.specs.Ruling.{Ruling, IsFair}
 use Rattle.bisect_game.specs.Truth.{Truth, IsRun}
 use Rattle.tournament.proofs.CountLemmas.{few_disputes}
 use Rattle.tournament.proofs.PostLemmas.{IsSettled, settled-begun, after-last}
-use Rattle.tournament.specs.Bracket.{Record, open_question, opened, put, settle, nothing_settled, is_complete, verdict_of}
+use Rattle.tournament.specs.Bracket.{Record, open_question, stage_opened, put, settle, nothing_settled, is_complete, verdict_of}
 use Rattle.tournament.specs.Keeping.{Sheet, IsReached, IsMove, IsMatch}
-use Rattle.tournament.specs.Moves.{State, begun, passes_of, settled_by, moved}
+use Rattle.tournament.specs.Moves.{MatchState, begun, passes_of, settled_by, moved}
 use Rattle.tournament.specs.Posting.{rules_of, same_qid, posted, posted_on, Post, after_posts, record_after, NobodyAskedIsOver}
 use Rattle.tournament.specs.Theorem.{AreTrue, Stays, TruthfulStay, IsRightVerdict, VerdictIsRight, FewDisputes, AllShort, FewRounds}
 
@@ -22,21 +22,21 @@ same-number n = grind (arith, nat_tests)
 same-qid : (a : Qid) → same_qid a a ≡ true
 same-qid a = rw (same-number a.dispute, same-number a.round) refl
 
-posted-is : (rules : Rules) (st : State) (p : ℕ) (o : Option Settled) (m : IsMove rules st p o) → posted rules st p m.question.qid m.answer ≡ moved rules st p o
+posted-is : (rules : Rules) (st : MatchState) (p : ℕ) (o : Option Settled) (m : IsMove rules st p o) → posted rules st p m.question.qid m.answer ≡ moved rules st p o
 posted-is rules st p o m =
     ap (posted_on rules st p m.question.qid m.answer) m.asked
     ∙ (ap (λ (b : Bool). if b then moved rules st p (settled_by rules m.question (passes_of st p) m.answer) else st) (same-qid m.question.qid)
     ∙ ap (moved rules st p) m.settles)
 
-after-posts-last : (rules : Rules) (xs : List Post) (x : Post) (st : State) → after_posts rules (xs ++ x ∷ []) st ≡ posted rules (after_posts rules xs st) x.prover x.qid x.answer
+after-posts-last : (rules : Rules) (xs : List Post) (x : Post) (st : MatchState) → after_posts rules (xs ++ x ∷ []) st ≡ posted rules (after_posts rules xs st) x.prover x.qid x.answer
 after-posts-last rules [] x st = refl
 after-posts-last rules (y ∷ xs) x st = after-posts-last rules xs x (posted rules st y.prover y.qid y.answer)
 
-pub reached-move : (rules : Rules) (st : State) (p : ℕ) (o : Option Settled) → 0 < p → IsReached rules st → IsMove rules st p o → IsReached rules (moved rules st p o)
+pub reached-move : (rules : Rules) (st : MatchState) (p : ℕ) (o : Option Settled) → 0 < p → IsReached rules st → IsMove rules st p o → IsReached rules (moved rules st p o)
 reached-move rules st p o some r m = (
   r.0 ++ record { prover = p; numbered = some; qid = m.question.qid; answer = m.answer } ∷ [],
   after-posts-last rules r.0 (record { prover = p; numbered = some; qid = m.question.qid; answer = m.answer }) (begun rules)
-      ∙ (ap (λ (u : State). posted rules u p m.question.qid m.answer) r.1 ∙ posted-is rules st p o m),
+      ∙ (ap (λ (u : MatchState). posted rules u p m.question.qid m.answer) r.1 ∙ posted-is rules st p o m),
 )
 
 -- a match that was reached has few disputes after one answer more
@@ -45,18 +45,18 @@ settled-few : (rules : Rules) (p : ℕ) (s : Settled) (t : Record) → 0 < rules
 settled-few rules p s t some i =
     rw (after-last rules i.list p s (nothing_settled rules), i.comes) at (few_disputes rules (i.list ++ (p, s) ∷ []) some)
 
-reached-settled : (rules : Rules) (st : State) → IsReached rules st → IsSettled rules st.record_
+reached-settled : (rules : Rules) (st : MatchState) → IsReached rules st → IsSettled rules st.record_
 reached-settled rules st r = rw r.1 at (settled-begun rules r.0)
 
-settle-is : (rules : Rules) (p : ℕ) (s : Settled) (t : Record) → opened rules (put rules p s t) ≡ settle rules p s t
+settle-is : (rules : Rules) (p : ℕ) (s : Settled) (t : Record) → stage_opened rules (put rules p s t) ≡ settle rules p s t
 unfolding settle
 settle-is rules p s t = refl
 
-put-settles : (r : Ruling) (v u : Sheet) (p : ℕ) (s : Settled) → u.table ≡ v.table → u.record_ ≡ put (rules_of r v.table) p s v.record_ → opened (rules_of r u.table) u.record_ ≡ settle (rules_of r v.table) p s v.record_
+put-settles : (r : Ruling) (v u : Sheet) (p : ℕ) (s : Settled) → u.table ≡ v.table → u.record_ ≡ put (rules_of r v.table) p s v.record_ → stage_opened (rules_of r u.table) u.record_ ≡ settle (rules_of r v.table) p s v.record_
 put-settles r v u p s et er = rw (et, er) (settle-is (rules_of r v.table) p s v.record_)
 
 pub put-few : (r : Ruling) (v u : Sheet) (passed : List ℕ) (room p : ℕ) (s : Settled) → IsMatch r v passed room → u.table ≡ v.table → u.record_ ≡ put (rules_of r v.table) p s v.record_ →
-    length (opened (rules_of r u.table) u.record_).disputes < u.table.provers
+    length (stage_opened (rules_of r u.table) u.record_).disputes < u.table.provers
 put-few r v u passed room p s m et er =
     let few : length (settle (rules_of r v.table) p s v.record_).disputes < v.table.provers = settled-few (rules_of r v.table) p s v.record_ m.some (reached-settled (rules_of r v.table) _ m.reached) in
     rw (put-settles r v u p s et er, et) few
@@ -68,7 +68,7 @@ count-length (x ∷ xs) (suc k) v = ap suc (count-length xs k v)
 
 pub match-settled : (r : Ruling) (v u w : Sheet) (passed : List ℕ) (room wide p : ℕ) (s : Settled) → 0 < p → IsMove (rules_of r v.table) (record { record_ = v.record_; passed = passed }) p (Some s) →
     IsMatch r v passed room → u.table ≡ v.table → u.record_ ≡ put (rules_of r v.table) p s v.record_ →
-    w.table ≡ u.table → w.record_ ≡ opened (rules_of r u.table) u.record_ → wide ≡ room → IsMatch r w (slice_set passed (p - 1) 0) wide
+    w.table ≡ u.table → w.record_ ≡ stage_opened (rules_of r u.table) u.record_ → wide ≡ room → IsMatch r w (slice_set passed (p - 1) 0) wide
 match-settled r v u w passed room wide p s some move m et er ft fr ew =
     let wt : w.table ≡ v.table = ft ∙ et in
     let wr : w.record_ ≡ settle (rules_of r v.table) p s v.record_ = fr ∙ put-settles r v u p s et er in
@@ -97,7 +97,7 @@ match-passed r v passed room p n some few move is m =
       room_ = m.room_;
     }
 
-pub settled-record : (r : Ruling) (v u w : Sheet) (p : ℕ) (s : Settled) → u.table ≡ v.table → u.record_ ≡ put (rules_of r v.table) p s v.record_ → w.record_ ≡ opened (rules_of r u.table) u.record_ →
+pub settled-record : (r : Ruling) (v u w : Sheet) (p : ℕ) (s : Settled) → u.table ≡ v.table → u.record_ ≡ put (rules_of r v.table) p s v.record_ → w.record_ ≡ stage_opened (rules_of r u.table) u.record_ →
     w.record_ ≡ settle (rules_of r v.table) p s v.record_
 settled-record r v u w p s et er fr = fr ∙ put-settles r v u p s et er
 
@@ -107,7 +107,7 @@ match-playable : (r : Ruling) (s : Sheet) (passed : List ℕ) (room : ℕ) → I
 match-playable r s passed room m = record { some = m.some; halves = refl; steps = m.steps }
 
 match-record : (r : Ruling) (s : Sheet) (passed : List ℕ) (room : ℕ) (m : IsMatch r s passed room) → record_after (rules_of r s.table) m.reached.0 ≡ s.record_
-match-record r s passed room m = ap (λ (st : State). st.record_) m.reached.1
+match-record r s passed room m = ap (λ (st : MatchState). st.record_) m.reached.1
 
 pub match-stays : TruthfulStay → (r : Ruling) (s : Sheet) (passed : List ℕ) (room : ℕ) → IsMatch r s passed room → IsFair r →
     (t : Truth) (p : ℕ) → IsRun (rules_of r s.table) t → 0 < p → AreTrue (rules_of r s.table) t p s.record_ → Stays (rules_of r s.table) t p s.record_

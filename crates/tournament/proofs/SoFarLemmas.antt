@@ -11,14 +11,14 @@ use Rattle.bisect_game.specs.declared.settled.Settled.{Settled}
 use Rattle.bisect_game.specs.declared.settled.Settled.TheVariants.{Given}
 use Rattle.bisect_game.specs.declared.side.Side.{Side}
 use Rattle.bisect_game.specs.declared.side.Side.TheVariants.{First, Second}
-use Rattle.bisect_game.specs.Bisection.{Bisection, question_of, is_closed, closed_or, ended, went_on, decided, advanced, advance, settle_first, settle_second}
+use Rattle.bisect_game.specs.Bisection.{Bisection, question_of, is_closed, closed_or, closed_by, went_on, decided, advanced, advance, settle_first, settle_second}
 use Rattle.bisect_game.specs.Closing.{close_of}
 use Rattle.bisect_game.specs.Disputes.{Answers, or_else, filled, round_over, played}
 use Rattle.bisect_game.specs.Laws.{BisectionLaws}
 use Rattle.bisect_game.specs.Rules.{Play, Rules, ArePlayable}
 use Rattle.bisect_game.specs.Ruling.{Ruling}
 use Rattle.bisect_game.specs.Truth.{own_answer, own_open}
-use Rattle.tournament.specs.Bracket.{Record, claim_question, live, pairs, last_stage, disputes_of, is_due, opened, claims_over, carried, stage_over, nothing_settled, asks_first, asks_second, question_in, claim_missing, open_question, settled_in, put, settle, bracket}
+use Rattle.tournament.specs.Bracket.{Record, claim_question, live, pairs, last_stage, disputes_of, is_stage_due, stage_opened, claims_over, carried, stage_over, nothing_settled, asks_first, asks_second, question_in, claim_missing, open_question, settled_in, put, settle, bracket}
 use Rattle.tournament.specs.Settling.{after, Fits}
 use Rattle.tournament.specs.Posting.{record_after}
 use Rattle.tournament.specs.Fitting.{AllFit}
@@ -97,7 +97,7 @@ hold-further c d e g h = record {
   keeps = λ side k s is. h.keeps side k s (g.keeps side k s is);
 }
 
-ended-keeps : (d : Bisection) (c : Close) (side : Side) (k : ℕ) (s : Settled) → settled_after_rounds side d.past (own_open side d) k ≡ Some s → settled_after_rounds side (ended d c).past (own_open side (ended d c)) k ≡ Some s
+ended-keeps : (d : Bisection) (c : Close) (side : Side) (k : ℕ) (s : Settled) → settled_after_rounds side d.past (own_open side d) k ≡ Some s → settled_after_rounds side (closed_by d c).past (own_open side (closed_by d c)) k ≡ Some s
 ended-keeps d c First k s e = e
 ended-keeps d c Second k s e = e
 
@@ -195,9 +195,9 @@ holds-put : (rules : Rules) (p : ℕ) (s : Settled) (t : Record) (b : Bool) → 
 holds-put rules p s t true e = record { claims = λ k x is. hold-claim t.claims (p - 1) k s x e is; disputes = all-same t.disputes }
 holds-put rules p s t false e = record { claims = λ k x is. is; disputes = hold-settled rules p s t.disputes }
 
-holds-opened : (rules : Rules) (t : Record) → Holds t (opened rules t)
+holds-opened : (rules : Rules) (t : Record) → Holds t (stage_opened rules t)
 holds-opened rules t =
-    elim (either (is_due rules t)) [
+    elim (either (is_stage_due rules t)) [
       | inl due ↦ rw (opened-due rules t due) (record { claims = λ k s e. e; disputes = all-append t.disputes _ })
       | inr not_due ↦ rw (opened-not rules t not_due) (record { claims = λ k s e. e; disputes = all-same t.disputes })
     ]
@@ -308,7 +308,7 @@ answer-put rules p s q t false missing num apart e =
 answer-settled : (rules : Rules) (p : ℕ) (s : Settled) (q : Question) (t : Record) → Numbered 1 t.disputes → AllApart t.disputes → open_question rules t p ≡ Some q → answers_in (settle rules p s t) p q ≡ Some s
 unfolding settle
 answer-settled rules p s q t num apart e =
-    held (put rules p s t) (opened rules (put rules p s t)) p q s (holds-opened rules (put rules p s t))
+    held (put rules p s t) (stage_opened rules (put rules p s t)) p q s (holds-opened rules (put rules p s t))
     (answer-put rules p s q t (claim_missing (slice_get t.claims (p - 1))) refl num apart e)
 
 -- over its own answers a record stays
@@ -425,9 +425,9 @@ apart-put rules p s t true a = a
 apart-put rules p s t false a = apart-settled rules p s t.disputes a
 
 module _ (laws : BisectionLaws) where
-  apart-opened : (rules : Rules) (t : Record) → AllApart t.disputes → AllApart (opened rules t).disputes
+  apart-opened : (rules : Rules) (t : Record) → AllApart t.disputes → AllApart (stage_opened rules t).disputes
   apart-opened rules t a =
-      elim (either (is_due rules t)) [
+      elim (either (is_stage_due rules t)) [
         | inl due ↦
             rw (opened-due rules t due) (apart-both t.disputes _ a
             (apart-new rules (last_stage t.disputes + 1) (length t.disputes + 1) t.claims (pairs rules t)
@@ -491,7 +491,7 @@ module _ (laws : BisectionLaws) where
       let fits : Fits rules (answers_in (after rules es (nothing_settled rules))) es (nothing_settled rules) =
       fits-own rules (answers_in (after rules es (nothing_settled rules))) es (nothing_settled rules) more long begun fit (λ p q s e. e) in
       (bracket-is laws) rules (answers_in (after rules es (nothing_settled rules))) (after rules es (nothing_settled rules)) more long
-      (ends-own rules (answers_in (after rules es (nothing_settled rules))) es (nothing_settled rules) more long begun.played fits (ap (opened rules) same ∙ i.played.rests))
+      (ends-own rules (answers_in (after rules es (nothing_settled rules))) es (nothing_settled rules) more long begun.played fits (ap (stage_opened rules) same ∙ i.played.rests))
       (few_disputes rules es some)
 
   pub record_is_bracket : RecordIsBracket

@@ -11,7 +11,7 @@ use Rattle.bisect_game.specs.Rules.{Rules}
 use Rattle.tournament.proofs.OpenedLemmas.{opened-not, opened-due, opened-twice}
 use Rattle.tournament.proofs.ReachLemmas.{either, Reaches, reach_back, reach_one}
 use Rattle.tournament.proofs.RoundLemmas.{IsWithin, steps-first, steps-second, played-steps, played-closed, within-first, within-second}
-use Rattle.tournament.specs.Bracket.{Record, claim_question, pairs, last_stage, disputes_of, all_there, all_out, put_out, is_due, opened, claims_over, carried, stage_over, nothing_settled, asks_first, asks_second, question_in, claim_missing, open_question, settled_in, put, settle, is_complete, all_closed}
+use Rattle.tournament.specs.Bracket.{Record, claim_question, pairs, last_stage, disputes_of, all_there, all_out, put_out, is_stage_due, stage_opened, claims_over, carried, stage_over, nothing_settled, asks_first, asks_second, question_in, claim_missing, open_question, settled_in, put, settle, is_complete, all_closed}
 use Rattle.tournament.specs.Settling.{after, Fits, OneRecord}
 use Rattle.bisect_game.specs.Laws.{BisectionLaws}
 
@@ -28,7 +28,7 @@ pub record IsAsked (o : Option Settled) (c : Option Close) : Type 0 where
 -- what is true of every record of a match
 pub record IsPlayed (rules : Rules) (t : Record) : Type 0 where
   pub within : AllWithin rules t.disputes
-  pub rests : opened rules t ≡ t
+  pub rests : stage_opened rules t ≡ t
 
 pub record Ends (rules : Rules) (f : Answers) (t z : Record) : Type 0 where
   pub fixed : stage_over rules f z ≡ z
@@ -137,9 +137,9 @@ module _ (laws : BisectionLaws) where
   within-new rules g n [] long = tt
   within-new rules g n (p ∷ ps) long = (record { some = long; few = omega arith }, within-new rules g (n + 1) ps long)
 
-  pub within-opened : (rules : Rules) (t : Record) → 0 < rules.bound → AllWithin rules t.disputes → AllWithin rules (opened rules t).disputes
+  pub within-opened : (rules : Rules) (t : Record) → 0 < rules.bound → AllWithin rules t.disputes → AllWithin rules (stage_opened rules t).disputes
   within-opened rules t long w =
-      elim (either (is_due rules t)) [
+      elim (either (is_stage_due rules t)) [
         | inl due ↦ rw (opened-due rules t due) (within-both rules t.disputes _ w (within-new rules (last_stage t.disputes + 1) (length t.disputes + 1) (pairs rules t) long))
         | inr not_due ↦ rw (opened-not rules t not_due) w
       ]
@@ -187,19 +187,19 @@ module _ (laws : BisectionLaws) where
   unfolding settle
   steps-settle rules f p s q t numbered more long i e is =
       let same : carried rules f (put rules p s t) ≡ carried rules f t = carried-put rules f p s q t numbered more long i.within e is in
-      elim (either (is_due rules (put rules p s t))) [
+      elim (either (is_stage_due rules (put rules p s t))) [
         | inl due ↦
             let two : (all_there (put rules p s t).claims ≡ true) × ((all_out (put rules p s t).disputes && _) ≡ true) = both _ _ due in
             let outs : (all_out (put rules p s t).disputes ≡ true) × (_ ≡ true) = both _ _ two.1 in
             let still : carried rules f (put rules p s t) ≡ put rules p s t = carried-due rules f (put rules p s t) two.0 (all-out (put rules p s t).disputes outs.0) in
-            inr (ap (opened rules) (sym still ∙ same))
-        | inr not_due ↦ inl (ap (λ (u : Record). opened rules (carried rules f u)) (opened-not rules (put rules p s t) not_due) ∙ ap (opened rules) same)
+            inr (ap (stage_opened rules) (sym still ∙ same))
+        | inr not_due ↦ inl (ap (λ (u : Record). stage_opened rules (carried rules f u)) (opened-not rules (put rules p s t) not_due) ∙ ap (stage_opened rules) same)
       ]
 
   pub complete-fixed : (rules : Rules) (f : Answers) (t : Record) → IsPlayed rules t → is_complete t ≡ true → stage_over rules f t ≡ t
   complete-fixed rules f t i c =
       let two : (all_there t.claims ≡ true) × (all_closed t.disputes ≡ true) = both _ _ c in
-      ap (opened rules) (carried-due rules f t two.0 two.1) ∙ i.rests
+      ap (stage_opened rules) (carried-due rules f t two.0 two.1) ∙ i.rests
 
   -- every complete list comes to what the stages over the answers come to
   pub ends : (rules : Rules) (f : Answers) (es : List (ℕ × Settled)) (t : Record) → 1 < rules.play.fan → 0 < rules.bound → IsPlayed rules t →

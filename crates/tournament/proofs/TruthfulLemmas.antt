@@ -17,12 +17,12 @@ use Rattle.bisect_game.specs.Says.{Says}
 use Rattle.bisect_game.specs.Ruling.{Ruling}
 use Rattle.bisect_game.specs.Rules.{Play, Rules, is_fit, judged}
 use Rattle.bisect_game.specs.Closing.{close_of}
-use Rattle.bisect_game.specs.Bisection.{Bisection, kind_over, question_of, ended, went_on, closed_or, decided, advanced, settle_first, settle_second}
+use Rattle.bisect_game.specs.Bisection.{Bisection, kind_over, question_of, closed_by, went_on, closed_or, decided, advanced, settle_first, settle_second}
 use Rattle.bisect_game.specs.Truth.{Truth, IsRun, IsTrueAnswer, IsTrueSettled, IsFit, AllTrue, IsTruthful, own_answer, own_open}
 use Rattle.bisect_game.specs.Laws.{BisectionLaws}
-use Rattle.tournament.specs.Bracket.{Record, claim_question, claim_missing, asks_first, asks_second, question_in, open_question, disputes_of, last_stage, pairs, is_due, opened, settled_in, put, settle, nothing_settled, bracket}
+use Rattle.tournament.specs.Bracket.{Record, claim_question, claim_missing, asks_first, asks_second, question_in, open_question, disputes_of, last_stage, pairs, is_stage_due, stage_opened, settled_in, put, settle, nothing_settled, bracket}
 use Rattle.tournament.specs.Settling.{after}
-use Rattle.tournament.specs.Moves.{State, begun}
+use Rattle.tournament.specs.Moves.{MatchState, begun}
 use Rattle.tournament.specs.Journals.{turn, turns, said, settled_after, answers_of}
 use Rattle.tournament.specs.Asked.{asked}
 use Rattle.tournament.specs.Fitting.{AllFit}
@@ -61,7 +61,7 @@ none-open : (side : Side) (d : Bisection) → d.by_first ≡ None → d.by_secon
 none-open First d ea eb = ea
 none-open Second d ea eb = eb
 
-same-open : (side : Side) (d : Bisection) (c : Close) → own_open side (ended d c) ≡ own_open side d
+same-open : (side : Side) (d : Bisection) (c : Close) → own_open side (closed_by d c) ≡ own_open side d
 same-open First d c = refl
 same-open Second d c = refl
 
@@ -146,9 +146,9 @@ true-both : (rules : Rules) (t : Truth) (p : ℕ) (ds es : List Bisection) → A
 true-both rules t p [] es h k = k
 true-both rules t p (d ∷ ds) es h k = (h.0, true-both rules t p ds es h.1 k)
 
-true-opened : (rules : Rules) (t : Truth) (p : ℕ) (r : Record) → AreTrue rules t p r → AreTrue rules t p (opened rules r)
+true-opened : (rules : Rules) (t : Truth) (p : ℕ) (r : Record) → AreTrue rules t p r → AreTrue rules t p (stage_opened rules r)
 true-opened rules t p r h =
-    elim (either (is_due rules r)) [
+    elim (either (is_stage_due rules r)) [
       | inl due ↦ rw (opened-due rules r due) (record { claim = h.claim; disputes = true-both rules t p r.disputes _ h.disputes (true-new rules t p (last_stage r.disputes + 1) (length r.disputes + 1) (pairs rules r)) })
       | inr not_due ↦ rw (opened-not rules r not_due) h
     ]
@@ -257,7 +257,7 @@ none-yet zero k o lt = absurd (omega arith)
 none-yet (suc n) zero o lt = refl
 none-yet (suc n) (suc k) o lt = none-yet n k o (omega arith)
 
-record IsTold (rules : Rules) (says : Says) (t : Truth) (p n : ℕ) (st : State) : Type 0 where
+record IsTold (rules : Rules) (says : Says) (t : Truth) (p n : ℕ) (st : MatchState) : Type 0 where
   way : IsOnWay rules says n st
   answers : AreTrue rules t p st.record_
   settled : List (ℕ × Settled)
@@ -274,7 +274,7 @@ module _ (laws : BisectionLaws) where
     reaches = refl;
   }
 
-  told-by : (rules : Rules) (says : Says) (t : Truth) (p other n : ℕ) (q : Question) (st u : State) → 0 < p → 0 < other → IsRun rules t → IsTruthfulProver rules says t p → open_question rules st.record_ other ≡ Some q →
+  told-by : (rules : Rules) (says : Says) (t : Truth) (p other n : ℕ) (q : Question) (st u : MatchState) → 0 < p → 0 < other → IsRun rules t → IsTruthfulProver rules says t p → open_question rules st.record_ other ≡ Some q →
       IsOnWay rules says (suc n) u → Turned rules says st other q u → IsTold rules says t p n st → IsTold rules says t p (suc n) u
   told-by rules says t p other n q st u some far run truthful asked_ way (Passed same cs) i =
       record { way = way; answers = rw same i.answers; settled = i.settled; fit = i.fit; reaches = i.reaches ∙ sym same }
@@ -296,7 +296,7 @@ module _ (laws : BisectionLaws) where
       }
 
   told-turn : (rules : Rules) (says : Says) (t : Truth) (p : ℕ) → 0 < rules.provers → 1 < rules.play.fan → 0 < rules.bound → 0 < p → IsRun rules t → IsTruthfulProver rules says t p →
-      (n : ℕ) (st : State) (other : ℕ) (q : Question) → 0 < other → open_question rules st.record_ other ≡ Some q → IsTold rules says t p n st → IsTold rules says t p (suc n) (turn rules says st other q)
+      (n : ℕ) (st : MatchState) (other : ℕ) (q : Question) → 0 < other → open_question rules st.record_ other ≡ Some q → IsTold rules says t p n st → IsTold rules says t p (suc n) (turn rules says st other q)
   told-turn rules says t p some more long numbered run truthful n st other q far asked_ i =
       told-by rules says t p other n q st (turn rules says st other q) numbered far run truthful asked_ ((way-turn laws) rules says some more long n st other q far asked_ i.way)
       ((turned laws) rules says st other q far asked_ i.way.counts) i

@@ -11,7 +11,7 @@ use Rattle.bisect_game.specs.declared.settled.Settled.TheVariants.{Given}
 use Rattle.bisect_game.specs.declared.settled.Close.{Close}
 use Rattle.bisect_game.specs.declared.settled.Close.TheVariants.{Out, Collision}
 use Rattle.tournament.specs.declared.verdict.Verdict.TheVariants.{Collision}
-use Rattle.bisect_game.specs.Bisection.{Bisection, is_closed, settle_first, settle_second, closed_or, ended, went_on, decided, advanced}
+use Rattle.bisect_game.specs.Bisection.{Bisection, is_closed, settle_first, settle_second, closed_or, closed_by, went_on, decided, advanced}
 use Rattle.bisect_game.specs.Closing.{both_proved, closed_by, close_of, is_out, is_step}
 use Rattle.bisect_game.specs.Rules.{Play, Rules, ArePlayable}
 use Rattle.bisect_game.specs.Ruling.{Ruling, IsFair, IsCollision, same_digest}
@@ -21,7 +21,7 @@ use Rattle.tournament.proofs.MatchLemmas.{HasClaim, AllClaim, live-right, settle
 use Rattle.tournament.proofs.OpenedLemmas.{opened-not, opened-due, opened-twice}
 use Rattle.tournament.proofs.ReachLemmas.{either, same-is}
 use Rattle.tournament.proofs.StageLemmas.{IsPlayed, played-nothing}
-use Rattle.tournament.specs.Bracket.{Record, is_out_in, claim_in, also, live_from, live, first_of, collision_with, claims_collision, Taken, passed_over, take_other, pairs_of, pairs, last_stage, disputes_of, all_there, all_out, put_out, all_closed, is_due, opened, nothing_settled, asks_first, asks_second, claim_missing, settled_in, put, settle, is_complete, collided, disputes_collision, lowest, or_lowest, verdict_of}
+use Rattle.tournament.specs.Bracket.{Record, is_out_in, claim_in, also, live_from, live, first_of, collision_with, claims_collision, Taken, passed_over, take_other, pairs_of, pairs, last_stage, disputes_of, all_there, all_out, put_out, all_closed, is_stage_due, stage_opened, nothing_settled, asks_first, asks_second, claim_missing, settled_in, put, settle, is_complete, collided, disputes_collision, lowest, or_lowest, verdict_of}
 use Rattle.tournament.specs.Settling.{after}
 use Rattle.tournament.specs.Fitting.{AllFit}
 use Rattle.tournament.specs.Theorem.{HasTrueClaim, AreTrue, Stays, IsInClaims, IsInDisputes, IsCollisionIn, IsRightVerdict}
@@ -72,7 +72,7 @@ module _ (laws : BisectionLaws) where
 
   met-by : (play : Play) (d : Bisection) (a b : Settled) (o : Option Close) → IsFair play.ruling → close_of play.ruling d.place a b ≡ o → d.by_first ≡ Some a → d.by_second ≡ Some b → d.close ≡ None →
       IsMet play.ruling (closed_or d (went_on play.fan d a b) o) (closed_or d (went_on play.fan d a b) o).close
-  met-by play d a b (Some c) fair e ea eb still = met-moved play.ruling d (ended d c) (Some c) refl refl (met-of play.ruling d a b c fair e ea eb)
+  met-by play d a b (Some c) fair e ea eb still = met-moved play.ruling d (closed_by d c) (Some c) refl refl (met-of play.ruling d a b c fair e ea eb)
   met-by play d a b None fair e ea eb still = rw still tt
 
   met-advanced : (play : Play) (d : Bisection) (a b : Option Settled) → IsFair play.ruling → d.by_first ≡ a → d.by_second ≡ b → d.close ≡ None → IsMet play.ruling (advanced play d a b) (advanced play d a b).close
@@ -113,9 +113,9 @@ module _ (laws : BisectionLaws) where
   met-both r [] es h k = k
   met-both r (d ∷ ds) es h k = (h.0, met-both r ds es h.1 k)
 
-  met-opened : (rules : Rules) (t : Record) → AllMet rules.play.ruling t.disputes → AllMet rules.play.ruling (opened rules t).disputes
+  met-opened : (rules : Rules) (t : Record) → AllMet rules.play.ruling t.disputes → AllMet rules.play.ruling (stage_opened rules t).disputes
   met-opened rules t h =
-      elim (either (is_due rules t)) [
+      elim (either (is_stage_due rules t)) [
         | inl due ↦ rw (opened-due rules t due) (met-both rules.play.ruling t.disputes _ h (met-new rules (last_stage t.disputes + 1) (length t.disputes + 1) (pairs rules t)))
         | inr not_due ↦ rw (opened-not rules t not_due) h
       ]
@@ -298,22 +298,22 @@ module _ (laws : BisectionLaws) where
   new-none rules g n [] e = refl
   new-none rules g n (p ∷ ps) e = absurd (omega arith)
 
-  no-pair-left : (rules : Rules) (r : Record) → is_due rules r ≡ true → opened rules r ≡ r → pairs rules r ≡ []
+  no-pair-left : (rules : Rules) (r : Record) → is_stage_due rules r ≡ true → stage_opened rules r ≡ r → pairs rules r ≡ []
   no-pair-left rules r due rests =
       let e : record r { disputes = r.disputes ++ disputes_of rules (last_stage r.disputes + 1) (length r.disputes + 1) (pairs rules r) } ≡ r = sym (opened-due rules r due) ∙ rests in
       let l : length (r.disputes ++ disputes_of rules (last_stage r.disputes + 1) (length r.disputes + 1) (pairs rules r)) ≡ length r.disputes = ap (λ (u : Record). length u.disputes) e in
       new-none rules (last_stage r.disputes + 1) (length r.disputes + 1) (pairs rules r) (omega (arith, l, length-append r.disputes (disputes_of rules (last_stage r.disputes + 1) (length r.disputes + 1) (pairs rules r))))
 
-  rests-after : (rules : Rules) (es : List (ℕ × Settled)) (r : Record) → opened rules r ≡ r → opened rules (after rules es r) ≡ after rules es r
+  rests-after : (rules : Rules) (es : List (ℕ × Settled)) (r : Record) → stage_opened rules r ≡ r → stage_opened rules (after rules es r) ≡ after rules es r
   unfolding settle
   rests-after rules [] r e = e
   rests-after rules (x ∷ es) r e = rests-after rules es (settle rules x.0 x.1 r) (opened-twice rules (put rules x.0 x.1 r))
 
-  rests-nothing : (rules : Rules) → 0 < rules.provers → opened rules (nothing_settled rules) ≡ nothing_settled rules
+  rests-nothing : (rules : Rules) → 0 < rules.provers → stage_opened rules (nothing_settled rules) ≡ nothing_settled rules
   rests-nothing rules some = let i : IsPlayed rules (nothing_settled rules) = (played-nothing laws) rules some in i.rests
 
   verdict-by : (rules : Rules) (t : Truth) (r : Record) (p : ℕ) (a b : Option (List ℕ × List ℕ)) → 0 < rules.provers → IsFair rules.play.ruling → IsRun rules t → 0 < p → IsKept rules t p r → AllMet rules.play.ruling r.disputes →
-      opened rules r ≡ r → is_complete r ≡ true → HasTrueClaim t r.claims p → is_out_in r.disputes p ≡ false →
+      stage_opened rules r ≡ r → is_complete r ≡ true → HasTrueClaim t r.claims p → is_out_in r.disputes p ≡ false →
       claims_collision rules.play.ruling (live_from [] 1 r.claims) ≡ a → disputes_collision r.disputes ≡ b → IsRightVerdict rules t r (or_lowest (first_of a b) (live r))
   verdict-by rules t r p (Some pair) b some fair run numbered k m rests c claim stays ea eb =
       claims-collision rules r (live_from [] 1 r.claims) pair fair ((live-right laws) r.claims [] 0 r.claims (λ i. ap (slice_get r.claims) (omega arith))) ea
@@ -322,7 +322,7 @@ module _ (laws : BisectionLaws) where
   verdict-by rules t r p None None some fair run numbered k m rests c claim stays ea eb =
       let two : (all_there r.claims ≡ true) × (all_closed r.disputes ≡ true) = both (all_there r.claims) (all_closed r.disputes) c in
       let outs : all_out r.disputes ≡ true = all-out-by r.disputes two.1 eb in
-      let due : is_due rules r ≡ true = rw (two.0, outs, ea) refl in
+      let due : is_stage_due rules r ≡ true = rw (two.0, outs, ea) refl in
       let at : 1 + (p - 1) ≡ p = omega arith in
       let i : IsIn p t.claim (live r) = rw at at (live-in r.disputes 1 (p - 1) t.claim r.claims claim (rw at stays)) in
       lowest-right rules t r p (live r) fair some k.fit ((live-right laws) r.claims r.disputes 0 r.claims (λ j. ap (slice_get r.claims) (omega arith))) run.sound i

@@ -10,7 +10,7 @@ use Rattle.bisect_game.specs.Says.{Says}
 use Rattle.bisect_game.specs.Rules.{Rules, ArePlayable}
 use Rattle.bisect_game.specs.Bisection.{Bisection, kind_over}
 use Rattle.tournament.specs.Bracket.{Record, open_question, bracket}
-use Rattle.tournament.specs.Moves.{State, begun, passes_of}
+use Rattle.tournament.specs.Moves.{MatchState, begun, passes_of}
 use Rattle.tournament.specs.Journals.{turn_on, turns, Legal, answers_of}
 
 -- what the round after so many is asked over: one that went on, or the last
@@ -47,6 +47,6 @@ abbrev pub QuestionsStay : Type 0
 QuestionsStay =
     (rules : Rules) (says : Says) (ps : List ℕ) (p other : ℕ) (q : Question) →
     Legal rules says ps (begun rules) → 0 < p → 0 < other → other ≢ p →
-    let st : State = turns rules says ps (begun rules) in
-    let next : State = turn_on rules says st other (open_question rules st.record_ other) in
+    let st : MatchState = turns rules says ps (begun rules) in
+    let next : MatchState = turn_on rules says st other (open_question rules st.record_ other) in
     open_question rules st.record_ p ≡ Some q → (open_question rules next.record_ p ≡ Some q) × (passes_of next p ≡ passes_of st p)

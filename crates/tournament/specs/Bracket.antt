@@ -124,12 +124,12 @@ all_out [] = true
 all_out (d ∷ ds) = put_out d.close && all_out ds
 
 -- the next stage may begin: each claim is settled and none collide, and each dispute has closed, none by a collision
-abbrev pub is_due : Rules → Record → Bool
-is_due rules t = all_there t.claims && (all_out t.disputes && is_none (claims_collision rules.play.ruling (live_from [] 1 t.claims)))
+abbrev pub is_stage_due : Rules → Record → Bool
+is_stage_due rules t = all_there t.claims && (all_out t.disputes && is_none (claims_collision rules.play.ruling (live_from [] 1 t.claims)))
 
-unfoldable pub opened : Rules → Record → Record
-opened rules t =
-    if is_due rules t then record t { disputes = t.disputes ++ disputes_of rules (last_stage t.disputes + 1) (length t.disputes + 1) (pairs rules t) }
+unfoldable pub stage_opened : Rules → Record → Record
+stage_opened rules t =
+    if is_stage_due rules t then record t { disputes = t.disputes ++ disputes_of rules (last_stage t.disputes + 1) (length t.disputes + 1) (pairs rules t) }
     else t
 
 -- THE BRACKET over answers that are settled: claims, then one stage after another, of which there are fewer than provers
@@ -143,7 +143,7 @@ unfoldable pub carried : Rules → Answers → Record → Record
 carried rules f t = record { claims = claims_over f 1 t.claims; disputes = map (played rules f) t.disputes }
 
 abbrev pub stage_over : Rules → Answers → Record → Record
-stage_over rules f t = opened rules (carried rules f t)
+stage_over rules f t = stage_opened rules (carried rules f t)
 
 unfoldable pub bracket : Rules → Answers → Record
 bracket rules f = iterate (stage_over rules f) rules.provers (nothing_settled rules)
@@ -192,7 +192,7 @@ put rules p s t =
     else record t { disputes = settled_in rules p s t.disputes }
 
 unfoldable pub settle : Rules → ℕ → Settled → Record → Record
-settle rules p s t = opened rules (put rules p s t)
+settle rules p s t = stage_opened rules (put rules p s t)
 
 -- THE VERDICT: the collision of the claims, else that of the lowest dispute that has one, else the claim of the lowest live
 -- prover, else nobody is left

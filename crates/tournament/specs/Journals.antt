@@ -8,29 +8,29 @@ use Rattle.bisect_game.specs.Says.{Says}
 use Rattle.bisect_game.specs.Rules.{Rules, ArePlayable, judged}
 use Rattle.bisect_game.specs.Disputes.{Answers}
 use Rattle.tournament.specs.Bracket.{open_question, is_complete, bracket}
-use Rattle.tournament.specs.Moves.{State, begun, passes_of, settled_by, moved}
+use Rattle.tournament.specs.Moves.{MatchState, begun, passes_of, settled_by, moved}
 
 -- a prover moves as it says, on its open question
-abbrev pub turn : Rules → Says → State → ℕ → Question → State
+abbrev pub turn : Rules → Says → MatchState → ℕ → Question → MatchState
 turn rules says st p q = moved rules st p (settled_by rules q (passes_of st p) (says p q (passes_of st p)))
 
-abbrev pub turn_on : Rules → Says → State → ℕ → Option Question → State
+abbrev pub turn_on : Rules → Says → MatchState → ℕ → Option Question → MatchState
 turn_on rules says st p None = st
 turn_on rules says st p (Some q) = turn rules says st p q
 
 -- the state after these provers moved, one after another
-abbrev pub turns : Rules → Says → List ℕ → State → State
+abbrev pub turns : Rules → Says → List ℕ → MatchState → MatchState
 turns rules says [] st = st
 turns rules says (p ∷ ps) st = turns rules says ps (turn_on rules says st p (open_question rules st.record_ p))
 
 -- a prover with an open question
-pub record IsAskedOf (rules : Rules) (st : State) (p : ℕ) : Type 0 where
+pub record IsAskedOf (rules : Rules) (st : MatchState) (p : ℕ) : Type 0 where
   pub question : Question
   pub numbered : 0 < p
   pub asked : open_question rules st.record_ p ≡ Some question
 
 -- each of them had one when it moved
-abbrev pub Legal : Rules → Says → List ℕ → State → Type 0
+abbrev pub Legal : Rules → Says → List ℕ → MatchState → Type 0
 Legal rules says [] st = Unit {0}
 Legal rules says (p ∷ ps) st = IsAskedOf rules st p × Legal rules says ps (turn_on rules says st p (open_question rules st.record_ p))
 

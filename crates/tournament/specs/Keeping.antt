@@ -12,7 +12,7 @@ use Rattle.bisect_game.specs.Rules.{Rules}
 use Rattle.bisect_game.specs.Bisection.{Bisection}
 use Rattle.tournament.specs.declared.setup.Setup.{Setup}
 use Rattle.tournament.specs.Bracket.{Record, side_of, asks_first, asks_second, last_stage, open_question}
-use Rattle.tournament.specs.Moves.{State, begun, passes_of, settled_by}
+use Rattle.tournament.specs.Moves.{MatchState, begun, passes_of, settled_by}
 use Rattle.tournament.specs.Posting.{rules_of, Post, after_posts}
 
 -- the side of a prover that has an open question
@@ -94,11 +94,11 @@ pub record IsSheet (t : Setup) (r : Record) (rooms : List ℕ) (free : ℕ) : Ty
   pub room : length r.disputes + free + 1 ≡ t.provers
 
 -- some posts, in some order, come to the state
-abbrev pub IsReached : Rules → State → Type 0
+abbrev pub IsReached : Rules → MatchState → Type 0
 IsReached rules st = (xs : List Post) × (after_posts rules xs (begun rules) ≡ st)
 
 -- a move of a prover on its open question settles this, or nothing
-pub record IsMove (rules : Rules) (st : State) (p : ℕ) (o : Option Settled) : Type 0 where
+pub record IsMove (rules : Rules) (st : MatchState) (p : ℕ) (o : Option Settled) : Type 0 where
   pub question : Question
   pub answer : Option Answer
   pub asked : open_question rules st.record_ p ≡ Some question

@@ -13,7 +13,7 @@ use Rattle.tournament.specs.declared.posting.Move.TheVariants.{Pass, Give}
 use Rattle.tournament.specs.declared.posting.Reply.{Reply}
 use Rattle.tournament.specs.declared.posting.Reply.TheVariants as reply
 use Rattle.tournament.specs.Bracket.{Record, open_question, is_complete}
-use Rattle.tournament.specs.Moves.{State, begun, passes_of, settled_by, moved}
+use Rattle.tournament.specs.Moves.{MatchState, begun, passes_of, settled_by, moved}
 
 -- what a match is played by: a judge, halves, and the numbers
 abbrev pub rules_of : Ruling → Setup → Rules
@@ -26,12 +26,12 @@ answer_of (Give a) = Some a
 abbrev pub same_qid : Qid → Qid → Bool
 same_qid a b = (a.dispute == b.dispute) && (a.round == b.round)
 
-abbrev pub posted_on : Rules → State → ℕ → Qid → Option Answer → Option Question → State
+abbrev pub posted_on : Rules → MatchState → ℕ → Qid → Option Answer → Option Question → MatchState
 posted_on rules st p qid m None = st
 posted_on rules st p qid m (Some q) = if same_qid q.qid qid then moved rules st p (settled_by rules q (passes_of st p) m) else st
 
 -- the state after a post: a stale one changes nothing
-abbrev pub posted : Rules → State → ℕ → Qid → Option Answer → State
+abbrev pub posted : Rules → MatchState → ℕ → Qid → Option Answer → MatchState
 posted rules st p qid m = posted_on rules st p qid m (open_question rules st.record_ p)
 
 abbrev pub reply_by : Option Settled → Reply
@@ -40,17 +40,17 @@ reply_by (Some (settled.Given a)) = reply.Taken
 reply_by (Some (settled.Faulty a)) = reply.Faulty
 reply_by (Some settled.Spent) = reply.Spent
 
-abbrev pub reply_on : Rules → State → ℕ → Qid → Option Answer → Option Question → Reply
+abbrev pub reply_on : Rules → MatchState → ℕ → Qid → Option Answer → Option Question → Reply
 reply_on rules st p qid m None = reply.Stale None
 reply_on rules st p qid m (Some q) = if same_qid q.qid qid then reply_by (settled_by rules q (passes_of st p) m) else reply.Stale (Some q.qid)
 
 -- stale where the question isn't the prover's open one, which the reply carries; spent at the pass after the patience;
 -- faulty at an answer that does not fit; else taken
-abbrev pub reply_to : Rules → State → ℕ → Qid → Option Answer → Reply
+abbrev pub reply_to : Rules → MatchState → ℕ → Qid → Option Answer → Reply
 reply_to rules st p qid m = reply_on rules st p qid m (open_question rules st.record_ p)
 
 -- the passes on the open question; none without one
-abbrev pub passes_on : Rules → State → ℕ → ℕ
+abbrev pub passes_on : Rules → MatchState → ℕ → ℕ
 passes_on rules st p = if is_some (open_question rules st.record_ p) then passes_of st p else 0
 
 -- LISTS OF POSTS, by anybody and with any contents
@@ -63,7 +63,7 @@ pub record Post : Type 0 where
   pub answer : Option Answer
 
 -- the state after these posts, one after another
-abbrev pub after_posts : Rules → List Post → State → State
+abbrev pub after_posts : Rules → List Post → MatchState → MatchState
 after_posts rules [] st = st
 after_posts rules (x ∷ xs) st = after_posts rules xs (posted rules st x.prover x.qid x.answer)
 

@@ -47,10 +47,10 @@ pub struct Match<J: Judge + Drop> {
 impl<J: Judge + Drop> Model for Match<J> {
     ghost use Rattle.std.specs.Prelude.{vec_capacity};
     ghost use Rattle.tournament.specs.declared.setup.Setup.{Setup};
-    ghost use Rattle.tournament.specs.Moves.{State};
+    ghost use Rattle.tournament.specs.Moves.{MatchState};
     ghost use Rattle.tournament.specs.Keeping.{IsMatch};
 
-    ghost Value = { J.Names × Setup × State };
+    ghost Value = { J.Names × Setup × MatchState };
 
     ghost view = { λ m. (J.names m.judge, m.sheet.table, record { record_ = m.sheet.record_; passed = m.passed.items }) };
 

@@ -1,5 +1,5 @@
 ghost use Rattle.std.specs.Prelude.{◌≡◌, ◌+◌, ◌-◌, ◌<◌, ◌≤◌, ◌^◌, ◌∷◌, ◌++◌, [], length, vec_len, vec_capacity, Some, None, IfSome, IfOk, replicate, if◌then◌else◌};
-ghost use Rattle.tournament.specs.Bracket.{Record, open_question, put, is_due, last_stage, opened, is_complete, verdict_of, nothing_settled};
+ghost use Rattle.tournament.specs.Bracket.{Record, open_question, put, is_stage_due, last_stage, stage_opened, is_complete, verdict_of, nothing_settled};
 ghost use Rattle.tournament.specs.Keeping.{Sheet, other_from, side_pairs, dispute_at, disputes_over, and_also, AllRooms};
 ghost use Rattle.tournament.specs.Posting.{rules_of};
 
@@ -162,8 +162,8 @@ impl Sheet {
     }
 
     /// Whether the next stage may begin.
-    fn is_due<J: Judge>(&self, judge: &J) -> bool
-        ensures { result ≡ is_due (rules_of (J.ruling (J.names judge.now)) self.now.table) self.now.record_ }
+    fn is_stage_due<J: Judge>(&self, judge: &J) -> bool
+        ensures { result ≡ is_stage_due (rules_of (J.ruling (J.names judge.now)) self.now.table) self.now.record_ }
     {
         all_there(self.record_.claims())
             && (all_out(self.record_.disputes())
@@ -180,13 +180,13 @@ impl Sheet {
 
     /// Opens the next stage where it is due.
     pub(crate) fn open_due<J: Judge>(&mut self, judge: &J, live: &mut Vec<(u32, Digest32)>)
-        requires few { length (opened (rules_of (J.ruling (J.names judge.now)) self.old.table) self.old.record_).disputes < self.old.table.provers }
+        requires few { length (stage_opened (rules_of (J.ruling (J.names judge.now)) self.old.table) self.old.record_).disputes < self.old.table.provers }
         requires room { self.old.table.provers ≤ vec_capacity live.old }
         ensures table { self.new.table ≡ self.old.table }
-        ensures record_ { self.new.record_ ≡ opened (rules_of (J.ruling (J.names judge.now)) self.old.table) self.old.record_ }
+        ensures record_ { self.new.record_ ≡ stage_opened (rules_of (J.ruling (J.names judge.now)) self.old.table) self.old.record_ }
         ensures capacity { vec_capacity live.new ≡ vec_capacity live.old }
     {
-        if !self.is_due(judge) {
+        if !self.is_stage_due(judge) {
             return;
         }
         let provers = self.table.provers;

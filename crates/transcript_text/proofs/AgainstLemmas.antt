@@ -17,8 +17,8 @@ use Rattle.tournament.specs.Theorem.{HasTrueClaimSoFar, AllTrueIn, AllRightIn, T
 use Rattle.tournament.specs.Truthful.{IsSafe}
 use Rattle.transcript_text.specs.declared.word.Word.{Word}
 use Rattle.transcript_text.specs.declared.word.Word.TheVariants as word
-use Rattle.transcript_text.specs.Words.{word_of, word_of_proof, speaks_against}
-use Rattle.transcript_text.specs.Lines.{Line, stage_line, said_in, middle, is_said_against, is_against, is_against_if_there, are_against, line_of_claim, lines_of_claims, line_of_round, lines_of_rounds, line_of_step, line_of_last, lines_of_dispute, lines_of_disputes, lines_of_record}
+use Rattle.transcript_text.specs.Words.{said_word, said_word_of_proof, speaks_against}
+use Rattle.transcript_text.specs.Lines.{Line, stage_line, said_in, is_said_against, is_against, is_against_if_there, are_against, line_of_claim, lines_of_claims, line_of_round, lines_of_rounds, line_of_step, line_of_last, lines_of_dispute, lines_of_disputes, lines_of_record}
 
 either : (b : Bool) → (b ≡ true) ⊎ (b ≡ false)
 either true = inl refl
@@ -49,28 +49,28 @@ quiet-side q p w quiet = decided (q == p) refl
 quiet-said : (p : ℕ) (d : Bisection) (x y : Word) → (d.first ≡ p → speaks_against x ≡ false) → (d.second ≡ p → speaks_against y ≡ false) → is_said_against p (said_in d x y) ≡ false
 quiet-said p d x y f g = neither _ _ (quiet-side d.first p x f) (quiet-side d.second p y g)
 
-true-word : (t : Truth) (k : Kind) (s : Settled) → IsTrueSettled t k s → speaks_against (word_of s) ≡ false
+true-word : (t : Truth) (k : Kind) (s : Settled) → IsTrueSettled t k s → speaks_against (said_word s) ≡ false
 true-word t k (Given a) is = refl
 true-word t k (Faulty a) is = absurd is
 true-word t k Spent is = absurd is
 
-true-proof : (t : Truth) (k : Kind) (out : Bool) (s : Settled) → out ≡ false → IsTrueSettled t k s → speaks_against (word_of_proof out s) ≡ false
+true-proof : (t : Truth) (k : Kind) (out : Bool) (s : Settled) → out ≡ false → IsTrueSettled t k s → speaks_against (said_word_of_proof out s) ≡ false
 true-proof t k out (Given a) stays is = rw stays refl
 true-proof t k out (Faulty a) stays is = absurd is
 true-proof t k out Spent stays is = absurd is
 
 -- a round
-quiet-round : (p : ℕ) (d : Bisection) (n m : ℕ) (a b : Settled) → (d.first ≡ p → speaks_against (word_of a) ≡ false) → (d.second ≡ p → speaks_against (word_of b) ≡ false)
+quiet-round : (p : ℕ) (d : Bisection) (n m : ℕ) (a b : Settled) → (d.first ≡ p → speaks_against (said_word a) ≡ false) → (d.second ≡ p → speaks_against (said_word b) ≡ false)
     → is_against p (line_of_round d n m a b) ≡ false
 quiet-round p d n m (Given (answer.Root x)) (Given (answer.Root y)) f g = refl
 quiet-round p d n m (Given (answer.Root x)) (Given (answer.Claim y)) f g = quiet-said p d word.Given word.Given f g
 quiet-round p d n m (Given (answer.Root x)) (Given (answer.Step y)) f g = quiet-said p d word.Given word.Given f g
 quiet-round p d n m (Given (answer.Root x)) (Faulty y) f g = quiet-said p d word.Given word.Faulty f g
 quiet-round p d n m (Given (answer.Root x)) Spent f g = quiet-said p d word.Given word.Spent f g
-quiet-round p d n m (Given (answer.Claim x)) b f g = quiet-said p d word.Given (word_of b) f g
-quiet-round p d n m (Given (answer.Step x)) b f g = quiet-said p d word.Given (word_of b) f g
-quiet-round p d n m (Faulty x) b f g = quiet-said p d word.Faulty (word_of b) f g
-quiet-round p d n m Spent b f g = quiet-said p d word.Spent (word_of b) f g
+quiet-round p d n m (Given (answer.Claim x)) b f g = quiet-said p d word.Given (said_word b) f g
+quiet-round p d n m (Given (answer.Step x)) b f g = quiet-said p d word.Given (said_word b) f g
+quiet-round p d n m (Faulty x) b f g = quiet-said p d word.Faulty (said_word b) f g
+quiet-round p d n m Spent b f g = quiet-said p d word.Spent (said_word b) f g
 
 quiet-rounds : (t : Truth) (fan p : ℕ) (d : Bisection) (n : ℕ) (rs : List Round) → (d.first ≡ p → AllTrue t fan First rs) → (d.second ≡ p → AllTrue t fan Second rs)
     → are_against p (lines_of_rounds d n rs) ≡ false
@@ -90,7 +90,7 @@ quiet-step : (t : Truth) (k : Kind) (p : ℕ) (d : Bisection) (c : Option Close)
     → is_against_if_there p (line_of_step d c a b) ≡ false
 quiet-step t k p d None a b f g = refl
 quiet-step t k p d (Some c) a b f g =
-    quiet-said p d (word_of_proof (is_put_out First (Some c)) a) (word_of_proof (is_put_out Second (Some c)) b)
+    quiet-said p d (said_word_of_proof (is_put_out First (Some c)) a) (said_word_of_proof (is_put_out Second (Some c)) b)
     (λ mine. true-proof t k (is_put_out First (Some c)) a (f mine).0 (f mine).1) (λ mine. true-proof t k (is_put_out Second (Some c)) b (g mine).0 (g mine).1)
 
 quiet-last : (t : Truth) (k : Kind) (p : ℕ) (d : Bisection) (a b : Option Settled)

@@ -1,6 +1,6 @@
 -- To believe. The lines of a report: which ones a record and a verdict have, and which speak against a prover. A line that a
 -- report leaves out, as of an answer that isn't settled, is None.
-use Rattle.std.specs.Prelude.{ℕ, zero, suc, ◌+◌, ◌-◌, ◌/◌, Bool, false, ◌&&◌, ◌||◌, ◌==◌, List, [], ◌∷◌, ◌++◌, length, slice_get, Option, Some, None, if◌then◌else◌}
+use Rattle.std.specs.Prelude.{ℕ, zero, suc, ◌+◌, Bool, false, ◌&&◌, ◌||◌, ◌==◌, List, [], ◌∷◌, ◌++◌, length, slice_get, Option, Some, None, if◌then◌else◌}
 use Rattle.rd_base.specs.declared.status.Status.{Status}
 use Rattle.rd_base.specs.declared.answer.Answer.TheVariants as answer
 use Rattle.bisect_game.specs.declared.interval.Round.{Round}
@@ -10,14 +10,14 @@ use Rattle.bisect_game.specs.declared.settled.Settled.TheVariants as settled
 use Rattle.bisect_game.specs.declared.settled.Close.{Close}
 use Rattle.bisect_game.specs.Ruling.{same_digest}
 use Rattle.bisect_game.specs.Closing.{is_step}
-use Rattle.bisect_game.specs.Bisection.{Bisection}
+use Rattle.bisect_game.specs.Bisection.{Bisection, middle}
 use Rattle.bisect_game.specs.Truth.{is_put_out}
 use Rattle.tournament.specs.declared.verdict.Verdict.{Verdict}
 use Rattle.tournament.specs.declared.verdict.Verdict.TheVariants.{Accept, NoneLeft, Collision}
 use Rattle.tournament.specs.Bracket.{Record}
 use Rattle.transcript_text.specs.declared.word.Word.{Word}
 use Rattle.transcript_text.specs.declared.word.Word.TheVariants as word
-use Rattle.transcript_text.specs.Words.{word_of, word_of_proof, speaks_against}
+use Rattle.transcript_text.specs.Words.{said_word, said_word_of_proof, speaks_against}
 
 -- what a line says of both sides of a dispute: `pA X pB Y`
 pub record Said : Type 0 where
@@ -66,14 +66,10 @@ lines_of_claims p (s ∷ ss) = line_of_claim p s ∷ lines_of_claims (p + 1) ss
 abbrev pub said_in : Bisection → Word → Word → Said
 said_in d x y = record { first = d.first; of_first = x; second = d.second; of_second = y }
 
--- the step between two, rounded down
-abbrev pub middle : ℕ → ℕ → ℕ
-middle lo hi = lo + (hi - lo) / 2
-
 -- a round in which a root is asked: whether both roots are the same, or what became of either side's answer
 abbrev pub line_of_round : Bisection → ℕ → ℕ → Settled → Settled → Line
 line_of_round d number mid (settled.Given (answer.Root x)) (settled.Given (answer.Root y)) = compared_line number mid (same_digest x y)
-line_of_round d number mid a b = round_line number mid (said_in d (word_of a) (word_of b))
+line_of_round d number mid a b = round_line number mid (said_in d (said_word a) (said_word b))
 
 -- the rounds that went on, the first of which has this number
 abbrev pub lines_of_rounds : Bisection → ℕ → List Round → List (Option Line)
@@ -82,7 +78,7 @@ lines_of_rounds d number (r ∷ rs) = Some (line_of_round d number (middle r.lo 
 
 -- the proof round: a side's proof is refuted where the side is out
 abbrev pub line_of_step : Bisection → Option Close → Settled → Settled → Option Line
-line_of_step d (Some c) a b = Some (step_line d.place.lo (said_in d (word_of_proof (is_put_out First (Some c)) a) (word_of_proof (is_put_out Second (Some c)) b)))
+line_of_step d (Some c) a b = Some (step_line d.place.lo (said_in d (said_word_of_proof (is_put_out First (Some c)) a) (said_word_of_proof (is_put_out Second (Some c)) b)))
 line_of_step d None a b = None
 
 abbrev pub line_of_last : Bisection → Option Settled → Option Settled → Option Line

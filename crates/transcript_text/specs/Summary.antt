@@ -1,16 +1,12 @@
 -- To believe. The line that sums up the match of a large workload. Numbers are decimal.
-use Rattle.std.specs.Prelude.{ℕ, ◌+◌, List, [], ◌∷◌, ◌++◌, length, codes, decimal, if◌then◌else◌}
-use Rattle.bisect_game.specs.Closing.{is_step}
-use Rattle.bisect_game.specs.Bisection.{Bisection}
+use Rattle.std.specs.Prelude.{ℕ, ◌+◌, List, [], ◌∷◌, ◌++◌, length, codes, decimal}
+use Rattle.bisect_game.specs.Bisection.{Bisection, rounds_of}
 use Rattle.tournament.specs.declared.verdict.Verdict.{Verdict}
 use Rattle.tournament.specs.Bracket.{Record}
 use Rattle.transcript_text.specs.Lines.{line_of_verdict}
 use Rattle.transcript_text.specs.Report.{text_if_there}
 
--- the bisection rounds of a dispute: those that went on, and the last one unless it is the proof round
-abbrev pub rounds_of : Bisection → ℕ
-rounds_of d = if is_step d.place then length d.past else length d.past + 1
-
+-- the bisection rounds of all disputes
 abbrev pub rounds_in : List Bisection → ℕ
 rounds_in [] = 0
 rounds_in (d ∷ ds) = rounds_of d + rounds_in ds

@@ -13,16 +13,16 @@ word_text Proved = codes "proved"
 word_text Refuted = codes "refuted"
 
 -- of an answer to a question for a root
-abbrev pub word_of : Settled → Word
-word_of (settled.Given a) = Given
-word_of (settled.Faulty a) = Faulty
-word_of settled.Spent = Spent
+abbrev pub said_word : Settled → Word
+said_word (settled.Given a) = Given
+said_word (settled.Faulty a) = Faulty
+said_word settled.Spent = Spent
 
 -- of an answer to a question for a proof, of a side that is out or not
-abbrev pub word_of_proof : Bool → Settled → Word
-word_of_proof out (settled.Given a) = if out then Refuted else Proved
-word_of_proof out (settled.Faulty a) = Faulty
-word_of_proof out settled.Spent = Spent
+abbrev pub said_word_of_proof : Bool → Settled → Word
+said_word_of_proof out (settled.Given a) = if out then Refuted else Proved
+said_word_of_proof out (settled.Faulty a) = Faulty
+said_word_of_proof out settled.Spent = Spent
 
 -- the words faulty, spent and refuted
 abbrev pub speaks_against : Word → Bool

@@ -1,9 +1,10 @@
 ghost use Rattle.std.specs.Prelude.{◌≡◌, ◌++◌, string_bytes, OnOk, Some};
 ghost use Rattle.bisect_game.specs.Truth.{is_put_out};
-ghost use Rattle.transcript_text.specs.Lines.{dispute_line, lines_of_all_rounds, said_in, middle, line_of_round, lines_of_rounds, line_of_step, line_of_last, line_of_stage, lines_of_dispute, lines_of_disputes};
+ghost use Rattle.bisect_game.specs.Bisection.{middle};
+ghost use Rattle.transcript_text.specs.Lines.{dispute_line, lines_of_all_rounds, said_in, line_of_round, lines_of_rounds, line_of_step, line_of_last, line_of_stage, lines_of_dispute, lines_of_disputes};
 ghost use Rattle.transcript_text.specs.Report.{said_text, line_text, text_if_there, lines_text};
 
-use crate::word::{Word, word_of, word_of_proof};
+use crate::word::{Word, said_word, said_word_of_proof};
 use bisect_game::{Close, Dispute, Interval, Settled, Side, same_digest};
 use rd_base::Answer;
 use std::alloc::AllocError;
@@ -51,7 +52,7 @@ fn add_round(
                 text.push_str(" differ\n")
             }
         }
-        _ => add_said(text, dispute, word_of(first), word_of(second)),
+        _ => add_said(text, dispute, said_word(first), said_word(second)),
     }
 }
 
@@ -91,8 +92,8 @@ fn add_step(
         return Ok(());
     };
     let Interval { lo, .. } = dispute.interval();
-    let of_first = word_of_proof(is_put_out(Side::First, &close), first);
-    let of_second = word_of_proof(is_put_out(Side::Second, &close), second);
+    let of_first = said_word_of_proof(is_put_out(Side::First, &close), first);
+    let of_second = said_word_of_proof(is_put_out(Side::Second, &close), second);
     write!(text, "step {lo}")?;
     add_said(text, dispute, of_first, of_second)
 }

@@ -2,7 +2,8 @@
 //!
 //! The layers above may rely on this: the report is the text `report_text` of the match's head, record and verdict, whose
 //! lines are listed by `lines_of_record` and `line_of_verdict`, so that what a report says of a prover can be read off them;
-//! and the line of a root is `root_line`. Read `specs/Lines.antt` and `specs/Report.antt` first, then `reporting`.
+//! and the line of a run is `answer_line_text`, that of a large workload `summary_text`, that of a root `root_line`. Read
+//! `specs/Lines.antt` and `specs/Report.antt` first, then `reporting`.
 #![tactic(auto)]
 
 mod answer;

@@ -1,5 +1,6 @@
 ghost use Rattle.std.specs.Prelude.{◌≡◌, ◌++◌, string_bytes, IfOk, IfSome, OnOk};
-ghost use Rattle.transcript_text.specs.Summary.{rounds_of, rounds_in, workload_text, counts_text, summary_text};
+ghost use Rattle.bisect_game.specs.Bisection.{rounds_of};
+ghost use Rattle.transcript_text.specs.Summary.{rounds_in, workload_text, counts_text, summary_text};
 
 use crate::reporting::add_verdict;
 use bisect_game::{Dispute, Interval};
@@ -13,12 +14,8 @@ fn rounds_of(dispute: &Dispute) -> u64
     ensures { result ≡ rounds_of dispute.now }
 {
     let Interval { lo, hi, .. } = dispute.interval();
-    let went_on = dispute.rounds().len();
-    if hi.saturating_sub(lo) <= 1 {
-        went_on as u64
-    } else {
-        (went_on + 1) as u64
-    }
+    let asked_now = if hi.saturating_sub(lo) <= 1 { 0 } else { 1 };
+    (dispute.rounds().len() + asked_now) as u64
 }
 
 /// The bisection rounds of all disputes. `None` comes only where there are 2^64 or more, which no memory holds.

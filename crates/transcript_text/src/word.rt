@@ -1,5 +1,5 @@
 ghost use Rattle.std.specs.Prelude.{◌≡◌, Some};
-ghost use Rattle.transcript_text.specs.Words.{word_text, word_of, word_of_proof};
+ghost use Rattle.transcript_text.specs.Words.{word_text, said_word, said_word_of_proof};
 
 use bisect_game::Settled;
 use std::fmt;
@@ -34,8 +34,8 @@ impl fmt::Display for Word {
 }
 
 /// What an answer to a question for a root is called.
-pub(crate) fn word_of(settled: &Settled) -> Word
-    ensures { result ≡ word_of settled.now }
+pub(crate) fn said_word(settled: &Settled) -> Word
+    ensures { result ≡ said_word settled.now }
 {
     match settled {
         Settled::Given(_) => Word::Given,
@@ -45,8 +45,8 @@ pub(crate) fn word_of(settled: &Settled) -> Word
 }
 
 /// What an answer to a question for a proof is called, of a side that is out or not.
-pub(crate) fn word_of_proof(is_out: bool, settled: &Settled) -> Word
-    ensures { result ≡ word_of_proof is_out settled.now }
+pub(crate) fn said_word_of_proof(is_out: bool, settled: &Settled) -> Word
+    ensures { result ≡ said_word_of_proof is_out settled.now }
 {
     match settled {
         Settled::Given(_) => { if is_out { Word::Refuted } else { Word::Proved } }

@@ -1,6 +1,6 @@
 use Rattle.std.proofs.Common.{rules, ◌≡◌, ℕ, ◌+◌, ◌<◌, List, length, map, get_or, refl, sym, ap, ◌∙◌, subst}
 use Rattle.tournament.specs.declared.setup.Setup.{Setup}
-use Rattle.board_book.specs.Asking.{AnswerAs}
+use Rattle.bisect_game.specs.Says.{AnswerAs}
 use Rattle.posters.specs.declared.serving.Poster.{Poster}
 use Rattle.posters.specs.Serving.{kept_of}
 use Rattle.posters.proofs.Answering.{by_number, answer_again}

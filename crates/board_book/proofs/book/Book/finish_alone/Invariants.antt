@@ -1,6 +1,6 @@
 use Rattle.std.proofs.Common.{◌≡◌, List, length, ◌++◌}
 use Rattle.board_book.specs.declared.entry.Entry.{Entry}
-use Rattle.board_book.specs.Asking.{AnswerAs}
+use Rattle.bisect_game.specs.Says.{AnswerAs}
 use Rattle.board_book.proofs.book.Book.finish_alone.Given as goal
 
 abbrev pub invariant-loop : goal.invariant-loop

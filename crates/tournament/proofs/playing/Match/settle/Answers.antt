@@ -1,5 +1,5 @@
 use Rattle.std.proofs.Common.{ap, ◌-◌, slice_set}
-use Rattle.tournament.specs.Moves.{State}
+use Rattle.tournament.specs.Moves.{MatchState}
 use Rattle.tournament.specs.Bracket.{Record}
 use Rattle.tournament.proofs.PostedLemmas.{put-few, match-settled, settled-record}
 use Rattle.tournament.proofs.playing.Match.settle.Goals as goal
@@ -16,5 +16,5 @@ invariant_of-self g c =
 pub returns-clause-state : goal.returns-clause-state
 returns-clause-state g c =
     rw (← c.self.view_is)
-    (ap (λ (t : Record). let st : State = record { record_ = t; passed = slice_set c.self.inside.passed.items (c.args.p - 1) 0 } in st)
+    (ap (λ (t : Record). let st : MatchState = record { record_ = t; passed = slice_set c.self.inside.passed.items (c.args.p - 1) 0 } in st)
     (settled-record (g.J.Judge.ruling (g.J.Judge.names c.self.inside.judge)) c.self.inside.sheet c.put.new.self c.open_due.new.self c.args.p c.args.settled c.put.ensures.table c.put.ensures.record_ c.open_due.ensures.record_))
