@@ -12,7 +12,7 @@ use Rattle.bisect_game.specs.declared.side.Side.TheVariants.{First, Second}
 use Rattle.bisect_game.specs.Ruling.{Ruling}
 use Rattle.bisect_game.specs.Rules.{Play}
 use Rattle.bisect_game.specs.Closing.{is_step, close_of}
-use Rattle.bisect_game.specs.Bisection.{Bisection, kept, closed_by, went_on, closed_or, decided, advanced, advance, agreeing, settle_side, settle_first, settle_second}
+use Rattle.bisect_game.specs.Bisection.{Bisection, kept, closed_with, went_on, closed_or, decided, advanced, advance, agreeing, settle_side, settle_first, settle_second}
 use Rattle.bisect_game.specs.Laws.{IsFew, OrderOfSidesIsFree}
 use Rattle.bisect_game.specs.Narrowing.{IsNarrowing, with_answer}
 use Rattle.bisect_game.proofs.CutLemmas.{either}
@@ -61,7 +61,7 @@ narrowing-seen i j xs ys k room n cap ej en ec long h =
     rw (ej, two, en, ec) (narrowing-kept i xs ys k room long h)
 
 -- a round of which both sides are settled
-advance-closed : (play : Play) (d : Bisection) (a b : Settled) (c : Close) → d.by_first ≡ Some a → d.by_second ≡ Some b → close_of play.ruling d.place a b ≡ Some c → advance play d ≡ closed_by d c
+advance-closed : (play : Play) (d : Bisection) (a b : Settled) (c : Close) → d.by_first ≡ Some a → d.by_second ≡ Some b → close_of play.ruling d.place a b ≡ Some c → advance play d ≡ closed_with d c
 unfolding decided
 advance-closed play d a b c ea eb e =
     ap (λ (o : Option Settled). advanced play d o d.by_second) ea ∙ (ap (λ (o : Option Settled). advanced play d (Some a) o) eb ∙ ap (closed_or d (went_on play.fan d a b)) e)
@@ -78,7 +78,7 @@ settle-is play Second s d = refl
 
 -- the same of what contracts see of a dispute
 pub seen-closed : (r : Ruling) (v w : Bisection) (a b : Settled) (c : Close) → v ≡ w → v.by_first ≡ Some a → v.by_second ≡ Some b → Some c ≡ close_of r v.place a b →
-    closed_by v c ≡ advance (record { ruling = r; fan = 2 }) w
+    closed_with v c ≡ advance (record { ruling = r; fan = 2 }) w
 seen-closed r v w a b c same ea eb e =
     sym (advance-closed (record { ruling = r; fan = 2 }) v a b c ea eb (sym e)) ∙ ap (λ (u : Bisection). advance (record { ruling = r; fan = 2 }) u) same
 

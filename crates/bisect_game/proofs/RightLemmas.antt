@@ -16,7 +16,7 @@ use Rattle.bisect_game.specs.declared.settled.Close.TheVariants.{Out}
 use Rattle.bisect_game.proofs.CutLemmas.{IsPart, part, below}
 use Rattle.bisect_game.proofs.RoundLemmas.{close_of-none}
 use Rattle.bisect_game.proofs.TruthLemmas.{same-is, HasRoots, kept-first, kept-second, not-out, kept-apart, proved}
-use Rattle.bisect_game.specs.Bisection.{Bisection, cut, kept, kind_over, parts_of, closed_by, went_on, closed_or, decided, advanced, roots_of, agreeing, settle_first, settle_second, settle_side, asks}
+use Rattle.bisect_game.specs.Bisection.{Bisection, cut, kept, kind_over, parts_of, closed_with, went_on, closed_or, decided, advanced, roots_of, agreeing, settle_first, settle_second, settle_side, asks}
 use Rattle.bisect_game.specs.Closing.{is_step, is_out, is_proved, is_root, both_proved, closed_by, close_of}
 use Rattle.bisect_game.specs.Laws.{IsPlay, KeepsRight, InvariantIsKept, TrueProofsProve}
 use Rattle.bisect_game.specs.Rules.{Rules}
@@ -174,7 +174,7 @@ still : (side : Side) → is_put_out side None ≡ false
 still First = refl
 still Second = refl
 
-own-ended : (side : Side) (d : Bisection) (c : Close) → own_open side (closed_by d c) ≡ own_open side d
+own-ended : (side : Side) (d : Bisection) (c : Close) → own_open side (closed_with d c) ≡ own_open side d
 own-ended First d c = refl
 own-ended Second d c = refl
 

@@ -82,8 +82,8 @@ kept parts i xs ys =
       second = slice_index_or (ys ++ i.second ∷ []) j i.second;
     }
 
-abbrev pub closed_by : Bisection → Close → Bisection
-closed_by d c = record d { close = Some c }
+abbrev pub closed_with : Bisection → Close → Bisection
+closed_with d c = record d { close = Some c }
 
 abbrev pub went_on : ℕ → Bisection → Settled → Settled → Bisection
 went_on fan d a b =
@@ -95,7 +95,7 @@ went_on fan d a b =
     }
 
 abbrev pub closed_or : Bisection → Bisection → Option Close → Bisection
-closed_or d further (Some c) = closed_by d c
+closed_or d further (Some c) = closed_with d c
 closed_or d further None = further
 
 -- a round of which both sides are settled closes the dispute, or the dispute goes on with the kept part

@@ -11,7 +11,7 @@ use Rattle.bisect_game.specs.declared.settled.Settled.{Settled}
 use Rattle.bisect_game.specs.declared.settled.Settled.TheVariants.{Given}
 use Rattle.bisect_game.specs.declared.side.Side.{Side}
 use Rattle.bisect_game.specs.declared.side.Side.TheVariants.{First, Second}
-use Rattle.bisect_game.specs.Bisection.{Bisection, question_of, is_closed, closed_or, closed_by, went_on, decided, advanced, advance, settle_first, settle_second}
+use Rattle.bisect_game.specs.Bisection.{Bisection, question_of, is_closed, closed_or, closed_with, went_on, decided, advanced, advance, settle_first, settle_second}
 use Rattle.bisect_game.specs.Closing.{close_of}
 use Rattle.bisect_game.specs.Disputes.{Answers, or_else, filled, round_over, played}
 use Rattle.bisect_game.specs.Laws.{BisectionLaws}
@@ -97,7 +97,7 @@ hold-further c d e g h = record {
   keeps = λ side k s is. h.keeps side k s (g.keeps side k s is);
 }
 
-ended-keeps : (d : Bisection) (c : Close) (side : Side) (k : ℕ) (s : Settled) → settled_after_rounds side d.past (own_open side d) k ≡ Some s → settled_after_rounds side (closed_by d c).past (own_open side (closed_by d c)) k ≡ Some s
+ended-keeps : (d : Bisection) (c : Close) (side : Side) (k : ℕ) (s : Settled) → settled_after_rounds side d.past (own_open side d) k ≡ Some s → settled_after_rounds side (closed_with d c).past (own_open side (closed_with d c)) k ≡ Some s
 ended-keeps d c First k s e = e
 ended-keeps d c Second k s e = e
 

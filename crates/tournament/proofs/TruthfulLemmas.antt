@@ -17,7 +17,7 @@ use Rattle.bisect_game.specs.Says.{Says}
 use Rattle.bisect_game.specs.Ruling.{Ruling}
 use Rattle.bisect_game.specs.Rules.{Play, Rules, is_fit, judged}
 use Rattle.bisect_game.specs.Closing.{close_of}
-use Rattle.bisect_game.specs.Bisection.{Bisection, kind_over, question_of, closed_by, went_on, closed_or, decided, advanced, settle_first, settle_second}
+use Rattle.bisect_game.specs.Bisection.{Bisection, kind_over, question_of, closed_with, went_on, closed_or, decided, advanced, settle_first, settle_second}
 use Rattle.bisect_game.specs.Truth.{Truth, IsRun, IsTrueAnswer, IsTrueSettled, IsFit, AllTrue, IsTruthful, own_answer, own_open}
 use Rattle.bisect_game.specs.Laws.{BisectionLaws}
 use Rattle.tournament.specs.Bracket.{Record, claim_question, claim_missing, asks_first, asks_second, question_in, open_question, disputes_of, last_stage, pairs, is_stage_due, stage_opened, settled_in, put, settle, nothing_settled, bracket}
@@ -61,7 +61,7 @@ none-open : (side : Side) (d : Bisection) → d.by_first ≡ None → d.by_secon
 none-open First d ea eb = ea
 none-open Second d ea eb = eb
 
-same-open : (side : Side) (d : Bisection) (c : Close) → own_open side (closed_by d c) ≡ own_open side d
+same-open : (side : Side) (d : Bisection) (c : Close) → own_open side (closed_with d c) ≡ own_open side d
 same-open First d c = refl
 same-open Second d c = refl
 

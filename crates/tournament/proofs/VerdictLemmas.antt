@@ -11,7 +11,7 @@ use Rattle.bisect_game.specs.declared.settled.Settled.TheVariants.{Given}
 use Rattle.bisect_game.specs.declared.settled.Close.{Close}
 use Rattle.bisect_game.specs.declared.settled.Close.TheVariants.{Out, Collision}
 use Rattle.tournament.specs.declared.verdict.Verdict.TheVariants.{Collision}
-use Rattle.bisect_game.specs.Bisection.{Bisection, is_closed, settle_first, settle_second, closed_or, closed_by, went_on, decided, advanced}
+use Rattle.bisect_game.specs.Bisection.{Bisection, is_closed, settle_first, settle_second, closed_or, closed_with, went_on, decided, advanced}
 use Rattle.bisect_game.specs.Closing.{both_proved, closed_by, close_of, is_out, is_step}
 use Rattle.bisect_game.specs.Rules.{Play, Rules, ArePlayable}
 use Rattle.bisect_game.specs.Ruling.{Ruling, IsFair, IsCollision, same_digest}
@@ -72,7 +72,7 @@ module _ (laws : BisectionLaws) where
 
   met-by : (play : Play) (d : Bisection) (a b : Settled) (o : Option Close) → IsFair play.ruling → close_of play.ruling d.place a b ≡ o → d.by_first ≡ Some a → d.by_second ≡ Some b → d.close ≡ None →
       IsMet play.ruling (closed_or d (went_on play.fan d a b) o) (closed_or d (went_on play.fan d a b) o).close
-  met-by play d a b (Some c) fair e ea eb still = met-moved play.ruling d (closed_by d c) (Some c) refl refl (met-of play.ruling d a b c fair e ea eb)
+  met-by play d a b (Some c) fair e ea eb still = met-moved play.ruling d (closed_with d c) (Some c) refl refl (met-of play.ruling d a b c fair e ea eb)
   met-by play d a b None fair e ea eb still = rw still tt
 
   met-advanced : (play : Play) (d : Bisection) (a b : Option Settled) → IsFair play.ruling → d.by_first ≡ a → d.by_second ≡ b → d.close ≡ None → IsMet play.ruling (advanced play d a b) (advanced play d a b).close
