@@ -6,6 +6,7 @@ ghost use Rattle.tournament.specs.Bracket.{open_question, is_complete, verdict_o
 ghost use Rattle.tournament.specs.Moves.{passes_of, begun};
 ghost use Rattle.tournament.specs.Journals.{answers_of};
 ghost use Rattle.tournament.specs.Posting.{rules_of, answer_of, same_qid, posted, reply_to};
+ghost use Rattle.bisect_game.specs.Says.{AnswerAs};
 ghost use Rattle.bisect_game.specs.Truth.{Truth, IsRun};
 ghost use Rattle.tournament.specs.Asked.{asked};
 ghost use Rattle.tournament.specs.Theorem.{AreTrue, Stays, IsRightVerdict, AllShort};
