@@ -1,5 +1,6 @@
 //! Which roots are asked of a run in one go.
 ghost use Rattle.std.specs.Prelude.{◌≡◌, ◌<◌, ◌≤◌, ◌++◌, IfOk, OnOk, length, slice_index};
+ghost use Rattle.bisect_game.specs.Bisection as bisection;
 ghost use Rattle.prover_run.specs.Middles as asked;
 
 use rd_base::Memory;
@@ -14,7 +15,7 @@ const ROUNDS_AHEAD: u32 = 3;
 /// The middle of an interval, rounded down.
 fn middle(lo: u64, hi: u64) -> u64
     requires { lo ≤ hi }
-    ensures value { result ≡ asked.middle lo hi }
+    ensures value { result ≡ bisection.middle lo hi }
     ensures after { lo ≤ result }
     ensures before { result ≤ hi }
 {
