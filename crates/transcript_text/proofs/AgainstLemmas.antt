@@ -10,7 +10,7 @@ use Rattle.bisect_game.specs.declared.settled.Close.{Close}
 use Rattle.bisect_game.specs.declared.side.Side.TheVariants.{First, Second}
 use Rattle.bisect_game.specs.Rules.{Rules}
 use Rattle.bisect_game.specs.Closing.{is_step}
-use Rattle.bisect_game.specs.Bisection.{Bisection}
+use Rattle.bisect_game.specs.Bisection.{Bisection, middle}
 use Rattle.bisect_game.specs.Truth.{Truth, IsTrueSettled, IsTrueSoFar, AllTrue, is_put_out}
 use Rattle.tournament.specs.Bracket.{Record}
 use Rattle.tournament.specs.Theorem.{HasTrueClaimSoFar, AllTrueIn, AllRightIn, TrueIn, RightIn}
