@@ -1,6 +1,5 @@
--- A dispute keeps what is right: intervals of the match, roots that differ, and for a side whose answers are true the
-use Rattle.std.proofs.Common.{◌≡◌, ◌≢◌, ℕ, ◌+◌, ◌-◌, ◌*◌, ◌/◌, ◌<◌, ◌≤◌, min, Bool, true, false, not, ◌&&◌, ◌||◌, if◌then◌else◌, List, [], ◌∷◌, ◌++◌, ◌⊎◌, inl, inr, Option, Some, None, is_some, is_none, refl, ap, arith}
-use Rattle.std.proofs.lemmas.Bool.Decides.{nat_tests}
+-- A dispute keeps what is right: intervals of the match, roots that differ, and the run's roots for a side whose answers are true.
+use Rattle.std.proofs.Common.{◌≡◌, ◌≢◌, ℕ, ◌+◌, ◌-◌, ◌<◌, ◌≤◌, Bool, true, false, not, ◌&&◌, ◌||◌, if◌then◌else◌, List, [], ◌∷◌, ◌++◌, ◌⊎◌, inl, inr, Option, Some, None, is_some, is_none, refl, ap, arith}
 use Rattle.rd_base.specs.declared.digest.Digest32.{Digest32}
 use Rattle.bisect_game.specs.declared.interval.Interval.{Interval}
 use Rattle.bisect_game.specs.declared.interval.Round.{Round}
@@ -13,12 +12,11 @@ use Rattle.bisect_game.specs.declared.side.Side.{Side}
 use Rattle.bisect_game.specs.declared.side.Side.TheVariants.{First, Second}
 use Rattle.bisect_game.specs.declared.settled.Close.{Close}
 use Rattle.bisect_game.specs.declared.settled.Close.TheVariants.{Out}
-use Rattle.bisect_game.proofs.CutLemmas.{IsPart, part, below}
-use Rattle.bisect_game.proofs.RoundLemmas.{close_of-none}
+use Rattle.bisect_game.proofs.RoundLemmas.{close_of-none, kept-narrows}
 use Rattle.bisect_game.proofs.TruthLemmas.{same-is, HasRoots, kept-first, kept-second, not-out, kept-apart, proved}
-use Rattle.bisect_game.specs.Bisection.{Bisection, cut, kept, kind_over, parts_of, closed_with, went_on, closed_or, decided, advanced, roots_of, agreeing, settle_first, settle_second, settle_side, asks}
+use Rattle.bisect_game.specs.Bisection.{Bisection, kept, kind_over, parts_of, closed_with, went_on, closed_or, decided, advanced, roots_of, settle_first, settle_second, settle_side, asks}
 use Rattle.bisect_game.specs.Closing.{is_step, is_out, is_proved, is_root, both_proved, closed_by, close_of}
-use Rattle.bisect_game.specs.Laws.{IsPlay, KeepsRight, InvariantIsKept, TrueProofsProve}
+use Rattle.bisect_game.specs.Laws.{IsNarrower, IsPlay, KeepsRight, InvariantIsKept, TrueProofsProve}
 use Rattle.bisect_game.specs.Rules.{Rules}
 use Rattle.bisect_game.specs.Ruling.{Ruling, IsFair}
 use Rattle.bisect_game.specs.Truth.{Truth, IsRun, IsFit, IsTrueSettled, IsTrueSoFar, own_root, own_answer, own_open, is_put_out, AllTrue, IsRight, IsProvedBy}
@@ -99,33 +97,17 @@ unfolding close_of
 none-out r i a b e = none-by _ _ (is_step i) (both_proved r i.agreed a b) e
 
 -- an interval of the match, whose roots differ
-
-pub record IsInside (i j : Interval) : Type 0 where
-  pub some : j.lo < j.hi
-  pub short : j.hi ≤ i.hi
-
-pub kept-inside : (fan : ℕ) (i : Interval) (xs ys : List Digest32) → 1 < fan → is_step i ≡ false → i.lo < i.hi → IsInside i (kept (parts_of fan i) i xs ys)
-unfolding cut
-kept-inside fan i xs ys more long some =
-    let wide : 1 < i.hi - i.lo = grind (arith, nat_tests) in
-    let g : ℕ = min fan (i.hi - i.lo) in
-    let j : ℕ = min (agreeing xs ys) (min fan (i.hi - i.lo) - 1) in
-    let p : IsPart (i.hi - i.lo) _ _ = part (min fan (i.hi - i.lo)) (i.hi - i.lo) (min (agreeing xs ys) (min fan (i.hi - i.lo) - 1)) (omega arith) (omega arith) in
-    let b : ((min (agreeing xs ys) (min fan (i.hi - i.lo) - 1) + 1) * (i.hi - i.lo)) / min fan (i.hi - i.lo) ≤ i.hi - i.lo =
-    below (min fan (i.hi - i.lo)) (i.hi - i.lo) (min (agreeing xs ys) (min fan (i.hi - i.lo) - 1) + 1) (omega arith) (omega arith) in
-    record { some = omega (arith, p.some); short = omega arith }
-
 play-by : (rules : Rules) (d : Bisection) (a b : Settled) (o : Option Close) → rules.play.fan ≡ 2 → close_of rules.play.ruling d.place a b ≡ o →
     d.by_first ≡ Some a → d.by_second ≡ Some b → IsPlay rules d → IsPlay rules (closed_or d (went_on rules.play.fan d a b) o)
 play-by rules d a b (Some c) more e ea eb i = record { sound = i.sound; fit_first = i.fit_first; fit_second = i.fit_second }
 play-by rules d a b None more e ea eb i =
     let long : is_step d.place ≡ false = close_of-none rules.play.ruling d.place a b e in
     let n : NoneOut _ _ = none-out rules.play.ruling d.place a b e in
-    let k : IsInside d.place (kept (parts_of rules.play.fan d.place) d.place (roots_of a) (roots_of b)) = kept-inside rules.play.fan d.place (roots_of a) (roots_of b) (omega arith) long i.sound.some in
+    let k : IsNarrower d.place (kept (parts_of rules.play.fan d.place) d.place (roots_of a) (roots_of b)) = kept-narrows rules.play.fan d.place (roots_of a) (roots_of b) (omega arith) long in
     record {
       sound = record {
         some = k.some;
-        short = omega (arith, k.short, i.sound.short);
+        short = omega (arith, k.high, i.sound.short);
         differ = kept-apart rules.play.ruling rules.play.fan d.place a b more long i.sound.differ n.first n.second (rw ea at i.fit_first) (rw eb at i.fit_second);
       };
       fit_first = tt;

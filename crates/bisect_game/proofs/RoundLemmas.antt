@@ -1,24 +1,26 @@
 -- A round closes its dispute or narrows its interval.
-use Rattle.std.proofs.Common.{◌≡◌, ℕ, ◌-◌, ◌<◌, min, Bool, true, false, if◌then◌else◌, List, ◌⊎◌, inl, inr, Option, Some, None, refl, arith}
+use Rattle.std.proofs.Common.{◌≡◌, ℕ, ◌+◌, ◌-◌, ◌*◌, ◌/◌, ◌<◌, ◌≤◌, min, Bool, true, false, if◌then◌else◌, List, ◌⊎◌, inl, inr, Option, Some, None, refl, arith}
 use Rattle.std.proofs.lemmas.Bool.Decides.{nat_tests}
 use Rattle.bisect_game.specs.declared.interval.Interval.{Interval}
 use Rattle.bisect_game.specs.declared.settled.Settled.{Settled}
 use Rattle.bisect_game.specs.declared.settled.Close.{Close}
 use Rattle.rd_base.specs.declared.digest.Digest32.{Digest32}
-use Rattle.bisect_game.proofs.CutLemmas.{IsPart, part}
+use Rattle.bisect_game.proofs.CutLemmas.{IsPart, part, below}
 use Rattle.bisect_game.specs.Bisection.{Bisection, cut, kept, parts_of, went_on, closed_or, decided, roots_of, agreeing}
 use Rattle.bisect_game.specs.Closing.{is_step, both_proved, close_of}
 use Rattle.bisect_game.specs.Laws.{IsNarrower, HasClosed, RoundsNarrow, ProofRoundCloses}
 use Rattle.bisect_game.specs.Rules.{Play}
 use Rattle.bisect_game.specs.Ruling.{Ruling}
 
-kept-narrows : (fan : ℕ) (i : Interval) (xs ys : List Digest32) → 1 < fan → is_step i ≡ false → IsNarrower i (kept (parts_of fan i) i xs ys)
+pub kept-narrows : (fan : ℕ) (i : Interval) (xs ys : List Digest32) → 1 < fan → is_step i ≡ false → IsNarrower i (kept (parts_of fan i) i xs ys)
 unfolding cut
 kept-narrows fan i xs ys more long =
     let l : ℕ = i.hi - i.lo in
     let wide : 1 < i.hi - i.lo = grind (arith, nat_tests) in
     let p : IsPart (i.hi - i.lo) _ _ = part (min fan (i.hi - i.lo)) (i.hi - i.lo) (min (agreeing xs ys) (min fan (i.hi - i.lo) - 1)) (omega arith) (omega arith) in
-    record { some = omega (arith, p.some); less = omega (arith, p.less) }
+    let b : ((min (agreeing xs ys) (min fan (i.hi - i.lo) - 1) + 1) * (i.hi - i.lo)) / min fan (i.hi - i.lo) ≤ i.hi - i.lo =
+    below (min fan (i.hi - i.lo)) (i.hi - i.lo) (min (agreeing xs ys) (min fan (i.hi - i.lo) - 1) + 1) (omega arith) (omega arith) in
+    record { some = omega (arith, p.some); low = omega arith; high = omega (arith, wide); less = omega (arith, p.less) }
 
 closes : (x y : Bool) (c1 c2 : Close) → (if x then Some c1 else if y then Some c2 else None) ≡ None → y ≡ false
 closes true y c1 c2 e = absurd (cc)

@@ -10,9 +10,11 @@ use Rattle.bisect_game.specs.Closing.{is_step}
 use Rattle.bisect_game.specs.Bisection.{Bisection, kind_over, rounds_of, proof_rounds_in, decided, is_closed, asks, settle_side, settle_first, settle_second}
 use Rattle.bisect_game.specs.Truth.{Truth, IsRun, IsFit, IsFitSoFar, IsTruthful, IsRight, IsProved}
 
--- an interval that is not empty, and shorter than another
+-- an interval that is not empty, lies within another, and is shorter
 pub record IsNarrower (i j : Interval) : Type 0 where
   pub some : j.lo < j.hi
+  pub low : i.lo ≤ j.lo
+  pub high : j.hi ≤ i.hi
   pub less : j.hi - j.lo < i.hi - i.lo
 
 -- it closed where it stood

@@ -1,10 +1,8 @@
--- Derived: what a kept dispute's interval, its rounds and the room for them are, so that no round needs memory.
-use Rattle.std.specs.Prelude.{ℕ, Some, ◌-◌, ◌*◌, ◌^◌, ◌<◌, ◌≤◌}
+-- Derived: what a dispute in memory keeps. Its interval narrows, so that no round needs memory, and an open one waits for a side.
+use Rattle.std.specs.Prelude.{◌≡◌, ℕ, ◌-◌, ◌*◌, ◌^◌, ◌<◌, ◌≤◌, Option, is_some, is_none, false, ◌&&◌}
 use Rattle.bisect_game.specs.declared.interval.Interval.{Interval}
 use Rattle.bisect_game.specs.declared.settled.Settled.{Settled}
-use Rattle.bisect_game.specs.declared.side.Side.{Side}
-use Rattle.bisect_game.specs.declared.side.Side.TheVariants.{First, Second}
-use Rattle.bisect_game.specs.Bisection.{Bisection}
+use Rattle.bisect_game.specs.declared.settled.Close.{Close}
 
 pub record IsNarrowing (place : Interval) (rounds room : ℕ) : Type 0 where
   pub some : place.lo < place.hi
@@ -13,7 +11,7 @@ pub record IsNarrowing (place : Interval) (rounds room : ℕ) : Type 0 where
   pub roomy : 32 ≤ room
   pub counted : rounds ≤ 32
 
--- the answer of a side is put down
-abbrev pub with_answer : Side → Settled → Bisection → Bisection
-with_answer First s d = record d { by_first = Some s }
-with_answer Second s d = record d { by_second = Some s }
+-- both answers of the last round are there only where it closed the dispute
+pub record IsKept (place : Interval) (rounds room : ℕ) (by_first by_second : Option Settled) (close : Option Close) : Type 0 where
+  pub narrowing : IsNarrowing place rounds room
+  pub waits : (is_some by_first && (is_some by_second && is_none close)) ≡ false

@@ -1,8 +1,8 @@
-ghost use Rattle.std.specs.Prelude.{◌≡◌, ◌+◌, ◌<◌, ◌≤◌, ◌^◌, [], true, false, Option, Some, None, option_copied, IfOk, if◌then◌else◌};
-ghost use Rattle.bisect_game.specs.Bisection.{prover_of, asks, settle_side, question_of, advance, went_on};
+ghost use Rattle.std.specs.Prelude.{◌≡◌, ◌+◌, ◌<◌, ◌≤◌, ◌^◌, [], true, false, ◌||◌, Option, Some, None, is_none, option_copied, IfOk, if◌then◌else◌};
+ghost use Rattle.bisect_game.specs.declared.side.Side.TheVariants.{First, Second};
+ghost use Rattle.bisect_game.specs.Bisection.{prover_of, asks, settle_side, question_of, decided, went_on};
 ghost use Rattle.bisect_game.specs.Closing.{is_step};
 ghost use Rattle.bisect_game.specs.Truth.{own_open};
-ghost use Rattle.bisect_game.specs.Narrowing.{with_answer};
 
 use crate::interval::{Interval, Round};
 use crate::judge::Judge;
@@ -65,7 +65,7 @@ pub struct Dispute {
 impl Model for Dispute {
     ghost use Rattle.std.specs.Prelude.{vec_len, vec_capacity};
     ghost use Rattle.bisect_game.specs.Bisection.{Bisection};
-    ghost use Rattle.bisect_game.specs.Narrowing.{IsNarrowing};
+    ghost use Rattle.bisect_game.specs.Narrowing.{IsKept};
 
     ghost Value = { Bisection };
 
@@ -81,7 +81,7 @@ impl Model for Dispute {
       close = d.close;
     } };
 
-    ghost invariant = { λ d. IsNarrowing d.place (vec_len d.past) (vec_capacity d.past) };
+    ghost invariant = { λ d. IsKept d.place (vec_len d.past) (vec_capacity d.past) d.by_first d.by_second d.close };
 }
 
 impl Dispute {
@@ -165,9 +165,10 @@ impl Dispute {
         }
     }
 
-    /// How it closed; `None` exactly where a question is open.
+    /// How it closed; `None` exactly where a side has an open question.
     pub fn closed(&self) -> Option<Close>
-        ensures { result ≡ self.now.close }
+        ensures is { result ≡ self.now.close }
+        ensures open_ { is_none result ≡ (asks First self.now || asks Second self.now) }
     {
         self.close.as_ref().map(Close::copy)
     }
@@ -198,47 +199,62 @@ impl Dispute {
         requires { asks side self.old ≡ true }
         ensures { self.new ≡ settle_side (record { ruling = J.ruling (J.names judge.now); fan = 2 }) side settled self.old }
     {
-        self.put(side, settled);
-        self.advance(judge);
-    }
-
-    /// The answer of a side is put down.
-    fn put(&mut self, side: Side, settled: Settled)
-        ensures { self.new ≡ with_answer side settled self.old }
-    {
         match side {
-            Side::First => self.by_first = Some(settled),
-            Side::Second => self.by_second = Some(settled),
+            Side::First => match self.by_second.take() {
+                None => self.put_first(settled),
+                Some(other) => self.decide(judge, settled, other),
+            },
+            Side::Second => match self.by_first.take() {
+                None => self.put_second(settled),
+                Some(other) => self.decide(judge, other, settled),
+            },
         }
     }
 
-    /// The round is decided where both sides are settled.
-    fn advance<J: Judge>(&mut self, judge: &J)
-        ensures { self.new ≡ advance (record { ruling = J.ruling (J.names judge.now); fan = 2 }) self.old }
+    /// The first side settles before the second.
+    fn put_first(&mut self, settled: Settled)
+        requires { self.old.by_second ≡ None }
+        ensures { self.new ≡ record self.old { by_first = Some settled } }
     {
-        let (Some(first), Some(second)) = (&self.by_first, &self.by_second) else {
-            return;
-        };
-        match close_of(judge, self.place, first, second) {
-            Some(close) => self.close = Some(close),
-            None => self.go_on(),
+        self.by_first = Some(settled);
+    }
+
+    /// The second side settles before the first.
+    fn put_second(&mut self, settled: Settled)
+        requires { self.old.by_first ≡ None }
+        ensures { self.new ≡ record self.old { by_second = Some settled } }
+    {
+        self.by_second = Some(settled);
+    }
+
+    /// A round of which both sides are settled closes the dispute, or the dispute goes on.
+    fn decide<J: Judge>(&mut self, judge: &J, first: Settled, second: Settled)
+        ensures { self.new ≡ decided (record { ruling = J.ruling (J.names judge.now); fan = 2 }) (record self.old { by_first = Some first; by_second = Some second }) first second }
+    {
+        match close_of(judge, self.place, &first, &second) {
+            Some(close) => {
+                self.by_first = Some(first);
+                self.by_second = Some(second);
+                self.close = Some(close);
+            }
+            None => self.go_on(first, second),
         }
     }
 
     /// A round that closes nothing is put behind, and the dispute goes on with the half that is kept.
-    fn go_on(&mut self)
+    fn go_on(&mut self, first: Settled, second: Settled)
         requires long { is_step self.old.place ≡ false }
-        ensures { (a b : _) → self.old.by_first ≡ Some a → self.old.by_second ≡ Some b → self.new ≡ went_on 2 self.old a b }
+        ensures { self.new ≡ went_on 2 self.old first second }
     {
-        if let (Some(first), Some(second)) = (self.by_first.take(), self.by_second.take()) {
-            let Interval { lo, hi, .. } = self.place;
-            self.place = kept(self.place, &first, &second);
-            self.past.push_reserved(Round {
-                lo,
-                hi,
-                first,
-                second,
-            });
-        }
+        let Interval { lo, hi, .. } = self.place;
+        self.place = kept(self.place, &first, &second);
+        self.past.push_reserved(Round {
+            lo,
+            hi,
+            first,
+            second,
+        });
+        self.by_first = None;
+        self.by_second = None;
     }
 }

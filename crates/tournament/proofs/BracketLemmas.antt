@@ -31,7 +31,7 @@ module _ (laws : BisectionLaws) where
   within-round rules f d more w =
       elim (either (is_closed d)) [
         | inl closed ↦ rw (round-closed rules.play f d closed) w
-        | inr still ↦ rw (round-open rules.play f d still) ((within-advanced laws) rules (filled rules.play f d) (filled rules.play f d).by_first (filled rules.play f d).by_second more (record { some = w.some; few = w.few }))
+        | inr still ↦ rw (round-open rules.play f d still) ((within-advanced laws) rules (filled rules.play f d) (filled rules.play f d).by_first (filled rules.play f d).by_second more (record { some = w.some; high = w.high; past = w.past }))
       ]
 
   within-rounds : (rules : Rules) (f : Answers) (n : ℕ) (d : Bisection) → 1 < rules.play.fan → IsWithin rules d → IsWithin rules (iterate (round_over rules.play f) n d)
@@ -58,7 +58,7 @@ module _ (laws : BisectionLaws) where
   unfolding played
   played-twice rules f [] more w = refl
   played-twice rules f (d ∷ ds) more w =
-      let e : round_over rules.play f (iterate (round_over rules.play f) rules.bound d) ≡ iterate (round_over rules.play f) rules.bound d = (enough laws) rules.play f rules.bound d more w.0.some w.0.few in
+      let e : round_over rules.play f (iterate (round_over rules.play f) rules.bound d) ≡ iterate (round_over rules.play f) rules.bound d = (enough laws) rules.play f rules.bound d more w.0.some (omega (arith, w.0.high)) in
       rw (iterate-fixed (round_over rules.play f) rules.bound (iterate (round_over rules.play f) rules.bound d) e, played-twice rules f ds more w.1) refl
 
   carried-twice : (rules : Rules) (f : Answers) (t : Record) → 1 < rules.play.fan → AllWithin rules t.disputes → carried rules f (carried rules f t) ≡ carried rules f t
@@ -69,7 +69,7 @@ module _ (laws : BisectionLaws) where
   unfolding carried
   within-stage rules f t more long w = (within-opened laws) rules (carried rules f t) long (within-played rules f t.disputes more w)
 
-  within-stages : (rules : Rules) (f : Answers) (n : ℕ) (t : Record) → 1 < rules.play.fan → 0 < rules.bound → AllWithin rules t.disputes → AllWithin rules (iterate (stage_over rules f) n t).disputes
+  pub within-stages : (rules : Rules) (f : Answers) (n : ℕ) (t : Record) → 1 < rules.play.fan → 0 < rules.bound → AllWithin rules t.disputes → AllWithin rules (iterate (stage_over rules f) n t).disputes
   within-stages rules f zero t more long w = w
   within-stages rules f (suc n) t more long w = within-stages rules f n (stage_over rules f t) more long (within-stage rules f t more long w)
 

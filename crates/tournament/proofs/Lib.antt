@@ -14,10 +14,12 @@ pub mod BracketLemmas
 pub mod StagedLemmas
 pub mod LengthLemmas
 pub mod AskedLemmas
+pub mod WithinLemmas
 pub mod OverLemmas
 pub mod KeepingLemmas
 pub mod PostLemmas
 pub mod PostedLemmas
 pub mod TruthfulLemmas
 pub mod TheoremLemmas
+pub mod TrueMoveLemmas
 pub mod SoFarLemmas

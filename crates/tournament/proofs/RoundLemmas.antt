@@ -1,8 +1,11 @@
 -- One round over answers, and a settled answer that is one of them.
-use Rattle.std.proofs.Common.{◌≡◌, ℕ, zero, suc, ◌-◌, ◌<◌, ◌≤◌, true, false, ◌⊎◌, inl, inr, Option, Some, None, refl, sym, ◌∙◌, ap, arith}
+use Rattle.std.proofs.Common.{◌≡◌, ℕ, zero, suc, ◌-◌, ◌<◌, ◌≤◌, true, false, List, [], ◌∷◌, ◌++◌, ◌⊎◌, inl, inr, Option, Some, None, refl, sym, ◌∙◌, ap, arith}
 use Rattle.std.specs.Fn.{iterate}
+use Rattle.bisect_game.specs.declared.interval.Round.{Round}
+use Rattle.bisect_game.specs.declared.settled.Close.{Close}
 use Rattle.bisect_game.specs.declared.settled.Settled.{Settled}
-use Rattle.bisect_game.specs.Bisection.{Bisection, advanced, advance, is_closed, question_of, settle_first, settle_second}
+use Rattle.bisect_game.specs.Closing.{close_of}
+use Rattle.bisect_game.specs.Bisection.{Bisection, closed_or, went_on, decided, advanced, advance, is_closed, question_of, settle_first, settle_second}
 use Rattle.bisect_game.specs.Disputes.{Answers, or_else, filled, round_over, played}
 use Rattle.bisect_game.specs.Laws.{IsNarrower, HasClosed}
 use Rattle.bisect_game.specs.Rules.{Play, Rules}
@@ -17,10 +20,16 @@ Moved d e = HasClosed d e ⊎ IsNarrower d.place e.place
 abbrev pub Steps : Play → Answers → Bisection → Bisection → Type 0
 Steps rules f d e = (round_over rules f e ≡ round_over rules f d) ⊎ (e ≡ round_over rules f d)
 
--- an interval of a match: not empty, and no longer than the run
+-- rounds that went on, each over an interval that is not empty and ends at the bound or before it
+abbrev pub RoundsWithin : ℕ → List Round → Type 0
+RoundsWithin bound [] = Unit {0}
+RoundsWithin bound (r ∷ rs) = ((r.lo < r.hi) × (r.hi ≤ bound)) × RoundsWithin bound rs
+
+-- a dispute of a match: it stands at such an interval, after such rounds
 pub record IsWithin (rules : Rules) (d : Bisection) : Type 0 where
   pub some : d.place.lo < d.place.hi
-  pub few : d.place.hi - d.place.lo ≤ rules.bound
+  pub high : d.place.hi ≤ rules.bound
+  pub past : RoundsWithin rules.bound d.past
 
 module _ (laws : BisectionLaws) where
   pub advanced-moves : (rules : Play) (d : Bisection) (a b : Option Settled) → 1 < rules.fan → Moved d (advanced rules d a b) ⊎ (advanced rules d a b ≡ d)
@@ -107,27 +116,39 @@ module _ (laws : BisectionLaws) where
   played-steps rules f d e more long w (inl same) = iterate-same (round_over rules.play f) rules.bound e d long same
   played-steps rules f d e more long w (inr further) =
       ap (iterate (round_over rules.play f) rules.bound) further
-      ∙ (sym (iterate-out (round_over rules.play f) rules.bound d) ∙ enough rules.play f rules.bound d more w.some w.few)
+      ∙ (sym (iterate-out (round_over rules.play f) rules.bound d) ∙ enough rules.play f rules.bound d more w.some (omega (arith, w.high)))
 
   pub played-closed : (rules : Rules) (f : Answers) (d : Bisection) → is_closed d ≡ true → played rules f d ≡ d
   unfolding played
   played-closed rules f d closed = iterate-fixed (round_over rules.play f) rules.bound d (round-closed rules.play f d closed)
 
-  within-moved : (rules : Rules) (d e : Bisection) → IsWithin rules d → Moved d e → IsWithin rules e
-  within-moved rules d e w (inl c) = rw c.stays (record { some = w.some; few = w.few })
-  within-moved rules d e w (inr n) = record { some = n.some; few = omega (arith, n.less, w.few) }
+  rounds-last : (bound : ℕ) (rs : List Round) (r : Round) → RoundsWithin bound rs → r.lo < r.hi → r.hi ≤ bound → RoundsWithin bound (rs ++ r ∷ [])
+  rounds-last bound [] r w some high = ((some, high), tt)
+  rounds-last bound (x ∷ rs) r w some high = (w.0, rounds-last bound rs r w.1 some high)
+
+  place-moved : (bound : ℕ) (d e : Bisection) → Moved d e → d.place.lo < d.place.hi → d.place.hi ≤ bound → (e.place.lo < e.place.hi) × (e.place.hi ≤ bound)
+  place-moved bound d e (inl c) some high = rw c.stays (some, high)
+  place-moved bound d e (inr n) some high = (n.some, omega (arith, n.high, high))
+
+  within-decided : (rules : Rules) (d : Bisection) (a b : Settled) (o : Option Close) → IsWithin rules d → Moved d (closed_or d (went_on rules.play.fan d a b) o) → IsWithin rules (closed_or d (went_on rules.play.fan d a b) o)
+  within-decided rules d a b (Some c) w m = record { some = w.some; high = w.high; past = w.past }
+  within-decided rules d a b None w m =
+      record {
+        some = (place-moved rules.bound d (went_on rules.play.fan d a b) m w.some w.high).0;
+        high = (place-moved rules.bound d (went_on rules.play.fan d a b) m w.some w.high).1;
+        past = rounds-last rules.bound d.past (record { lo = d.place.lo; hi = d.place.hi; first = a; second = b }) w.past w.some w.high;
+      }
 
   pub within-advanced : (rules : Rules) (d : Bisection) (a b : Option Settled) → 1 < rules.play.fan → IsWithin rules d → IsWithin rules (advanced rules.play d a b)
-  within-advanced rules d a b more w =
-      elim (advanced-moves rules.play d a b more) [
-        | inl m ↦ within-moved rules d (advanced rules.play d a b) w m
-        | inr same ↦ rw same w
-      ]
+  unfolding decided
+  within-advanced rules d (Some a) (Some b) more w = within-decided rules d a b (close_of rules.play.ruling d.place a b) w (laws.narrow rules.play d a b more)
+  within-advanced rules d (Some a) None more w = w
+  within-advanced rules d None b more w = w
 
   pub within-first : (rules : Rules) (s : Settled) (d : Bisection) → 1 < rules.play.fan → IsWithin rules d → IsWithin rules (settle_first rules.play s d)
   unfolding settle_first
-  within-first rules s d more w = within-advanced rules (record d { by_first = Some s }) (Some s) d.by_second more (record { some = w.some; few = w.few })
+  within-first rules s d more w = within-advanced rules (record d { by_first = Some s }) (Some s) d.by_second more (record { some = w.some; high = w.high; past = w.past })
 
   pub within-second : (rules : Rules) (s : Settled) (d : Bisection) → 1 < rules.play.fan → IsWithin rules d → IsWithin rules (settle_second rules.play s d)
   unfolding settle_second
-  within-second rules s d more w = within-advanced rules (record d { by_second = Some s }) d.by_first (Some s) more (record { some = w.some; few = w.few })
+  within-second rules s d more w = within-advanced rules (record d { by_second = Some s }) d.by_first (Some s) more (record { some = w.some; high = w.high; past = w.past })

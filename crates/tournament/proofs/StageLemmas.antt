@@ -135,7 +135,7 @@ module _ (laws : BisectionLaws) where
 
   within-new : (rules : Rules) (g : ℕ) (n : ℕ) (ps : List ((ℕ × Claim) × (ℕ × Claim))) → 0 < rules.bound → AllWithin rules (disputes_of rules g n ps)
   within-new rules g n [] long = tt
-  within-new rules g n (p ∷ ps) long = (record { some = long; few = omega arith }, within-new rules g (n + 1) ps long)
+  within-new rules g n (p ∷ ps) long = (record { some = long; high = omega arith; past = tt }, within-new rules g (n + 1) ps long)
 
   pub within-opened : (rules : Rules) (t : Record) → 0 < rules.bound → AllWithin rules t.disputes → AllWithin rules (stage_opened rules t).disputes
   within-opened rules t long w =

@@ -195,7 +195,7 @@ true-put rules t p other s q r true some far missing e own h =
     record { claim = claim-put t r.claims p other s some far missing (λ mine. rw (← same) at (own mine)) h.claim; disputes = h.disputes }
 true-put rules t p other s q r false some far missing e own h = record { claim = h.claim; disputes = true-settled rules t p other s q r.disputes e own h.disputes }
 
-true-settle : (rules : Rules) (t : Truth) (p other : ℕ) (s : Settled) (q : Question) (r : Record) → 0 < p → 0 < other → open_question rules r other ≡ Some q → (other ≡ p → IsTrueSettled t q.kind s) →
+pub true-settle : (rules : Rules) (t : Truth) (p other : ℕ) (s : Settled) (q : Question) (r : Record) → 0 < p → 0 < other → open_question rules r other ≡ Some q → (other ≡ p → IsTrueSettled t q.kind s) →
     AreTrue rules t p r → AreTrue rules t p (settle rules other s r)
 unfolding settle
 true-settle rules t p other s q r some far e own h = true-opened rules t p (put rules other s r) (true-put rules t p other s q r (claim_missing (slice_get r.claims (other - 1))) some far refl e own h)
@@ -213,7 +213,7 @@ fit-true r t (kind.Proof i) (answer.Claim c) sound is = absurd is
 fit-true r t (kind.Proof i) (answer.Root x) sound is = absurd is
 fit-true r t (kind.Proof i) (answer.Step x) sound is = refl
 
-judged-true : (r : Ruling) (t : Truth) (k : Kind) (a : Answer) → r.is_sound t.claim ≡ true → IsTrueAnswer t k a → IsTrueSettled t k (judged r k a)
+pub judged-true : (r : Ruling) (t : Truth) (k : Kind) (a : Answer) → r.is_sound t.claim ≡ true → IsTrueAnswer t k a → IsTrueSettled t k (judged r k a)
 judged-true r t k a sound is = rw (fit-true r t k a sound is) is
 
 settled-true : (rules : Rules) (says : Says) (t : Truth) (p : ℕ) (q : Question) (a : AnswersTruly says rules.patience t p q) (left n : ℕ) → rules.play.ruling.is_sound t.claim ≡ true → n ≤ a.passes → a.passes ≤ n + left →
@@ -252,7 +252,7 @@ fit-answers : (rules : Rules) (says : Says) (p : ℕ) (q : Question) (s : Settle
 unfolding answers_of
 fit-answers rules says p q s e = let same : settled_after rules says p q rules.patience 0 ≡ s = cc in rw (← same) (fit-after rules says p q rules.patience 0)
 
-none-yet : (n k : ℕ) (o : Option Settled) → k < n → slice_get (replicate n o) k ≡ Some o
+pub none-yet : (n k : ℕ) (o : Option Settled) → k < n → slice_get (replicate n o) k ≡ Some o
 none-yet zero k o lt = absurd (omega arith)
 none-yet (suc n) zero o lt = refl
 none-yet (suc n) (suc k) o lt = none-yet n k o (omega arith)

@@ -1,4 +1,4 @@
--- To believe: what a match asks under a number. It is one question at most.
+-- To believe: what a match asks under a number. It is one question at most, and none is beyond the bound.
 use Rattle.std.specs.Prelude.{◌≡◌, ◌≢◌, ℕ, zero, suc, ◌-◌, ◌<◌, ◌||◌, ◌==◌, List, [], ◌∷◌, Option, Some, None, if◌then◌else◌}
 use Rattle.rd_base.specs.declared.answer.Qid.{Qid}
 use Rattle.bisect_game.specs.declared.interval.Interval.{Interval}
@@ -9,8 +9,10 @@ use Rattle.bisect_game.specs.declared.question.Question.{Question}
 use Rattle.bisect_game.specs.Says.{Says}
 use Rattle.bisect_game.specs.Rules.{Rules, ArePlayable}
 use Rattle.bisect_game.specs.Bisection.{Bisection, kind_over}
+use Rattle.bisect_game.specs.Disputes.{Answers}
 use Rattle.tournament.specs.Bracket.{Record, open_question, bracket}
 use Rattle.tournament.specs.Moves.{MatchState, begun, passes_of}
+use Rattle.tournament.specs.Posting.{Post, record_after}
 use Rattle.tournament.specs.Journals.{turn_on, turns, Legal, answers_of}
 
 -- what the round after so many is asked over: one that went on, or the last
@@ -41,6 +43,24 @@ AskedByTheCase =
     (rules : Rules) (says : Says) (ps : List ℕ) (p : ℕ) (q : Question) → ArePlayable rules →
     Legal rules says ps (begun rules) → 0 < p → open_question rules (turns rules says ps (begun rules)).record_ p ≡ Some q →
     asked rules (bracket rules (answers_of rules says)) p q.qid ≡ Some q.kind
+
+-- within the bound: the claim, a root between the ends of the run, or the proof of one of its steps
+abbrev pub IsWithinBound : ℕ → Kind → Type 0
+IsWithinBound bound kind.Claim = Unit {0}
+IsWithinBound bound (kind.Root i) = (0 < i) × (i < bound)
+IsWithinBound bound (kind.Proof i) = i < bound
+
+-- an open question is within the bound, whatever was posted
+abbrev pub OpenIsWithinBound : Type 0
+OpenIsWithinBound =
+    (rules : Rules) (xs : List Post) (p : ℕ) (q : Question) → ArePlayable rules →
+    open_question rules (record_after rules xs) p ≡ Some q → IsWithinBound rules.bound q.kind
+
+-- and so is what a match asks under any number, over any answers
+abbrev pub AskedIsWithinBound : Type 0
+AskedIsWithinBound =
+    (rules : Rules) (f : Answers) (p : ℕ) (qid : Qid) (k : Kind) → ArePlayable rules →
+    asked rules (bracket rules f) p qid ≡ Some k → IsWithinBound rules.bound k
 
 -- an open question and its passes stay while another prover moves
 abbrev pub QuestionsStay : Type 0

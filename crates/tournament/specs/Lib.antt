@@ -9,4 +9,5 @@ pub mod Asked
 pub mod SoFar
 pub mod Length
 pub mod Truthful
+pub mod TrueMoves
 pub mod Keeping

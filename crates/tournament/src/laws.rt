@@ -6,7 +6,8 @@ ghost use Rattle.tournament.specs.Journals.{OrderDoesNotMatter, RecordOfCase};
 ghost use Rattle.tournament.specs.SoFar.{RecordIsBracket};
 ghost use Rattle.tournament.specs.Length.{SpareIsEnough};
 ghost use Rattle.tournament.specs.Truthful.{TruthfulProversAreSafe};
-ghost use Rattle.tournament.specs.Asked.{AskedByTheCase, QuestionsStay};
+ghost use Rattle.tournament.specs.TrueMoves.{TrueMovesAreTrueAnswers, TrueMovesAreSafe};
+ghost use Rattle.tournament.specs.Asked.{AskedByTheCase, OpenIsWithinBound, AskedIsWithinBound, QuestionsStay};
 
 use bisect_game::bisection_laws;
 
@@ -31,6 +32,16 @@ pub fn truthful_provers_stay()
 /// the verdict is two different strings of one digest that answers of the record open.
 pub fn the_verdict_is_right()
     ensures { VerdictIsRight }
+{
+    bisection_laws();
+}
+
+/// True moves are true answers: whatever others post, and whatever it posts on questions that aren't its open one, a prover that
+/// passes within the patience on its open questions, or gives the true answers, has only true settled answers (`answers`). So
+/// it is not put out, and once nothing is open it is live and the verdict is right (`safe`).
+pub fn true_moves_are_true_answers()
+    ensures answers { TrueMovesAreTrueAnswers }
+    ensures safe { TrueMovesAreSafe }
 {
     bisection_laws();
 }
@@ -88,6 +99,15 @@ pub fn spare_is_enough()
 /// its number.
 pub fn a_number_names_one_question()
     ensures { AskedByTheCase }
+{
+    bisection_laws();
+}
+
+/// No question is beyond the bound: a root is asked of a step between the first and the last, and a proof of a step before the
+/// last, in whatever was posted (`open_`) and under whatever number of a case (`asked`).
+pub fn questions_are_within_the_bound()
+    ensures open_ { OpenIsWithinBound }
+    ensures asked { AskedIsWithinBound }
 {
     bisection_laws();
 }

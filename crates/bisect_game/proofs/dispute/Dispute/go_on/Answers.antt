@@ -1,4 +1,4 @@
-use Rattle.std.proofs.Common.{◌≡◌, false}
+use Rattle.std.proofs.Common.{◌≡◌, false, refl}
 use Rattle.bisect_game.specs.Closing.{is_step}
 use Rattle.bisect_game.specs.Bisection.{roots_of}
 use Rattle.bisect_game.proofs.DisputeLemmas.{narrowing-seen}
@@ -7,4 +7,7 @@ use Rattle.bisect_game.proofs.dispute.Dispute.go_on.Goals as goal
 pub invariant_of-self : goal.invariant_of-self
 invariant_of-self c =
     let long : is_step c.self.inside.place ≡ false = rw (← c.self.view_is) at c.requires.long in
-    narrowing-seen c.self.inside.place _ (roots_of c.in-Some-Some.first) (roots_of c.in-Some-Some.second) _ _ _ _ c.kept-self-inside.ensures c.push_reserved.ensures.len c.push_reserved.ensures.capacity long c.self.invariant
+    record {
+      narrowing = narrowing-seen c.self.inside.place _ (roots_of c.args.first) (roots_of c.args.second) _ _ _ _ c.kept-self-inside.ensures c.push_reserved.ensures.len c.push_reserved.ensures.capacity long c.self.invariant.narrowing;
+      waits = refl;
+    }
