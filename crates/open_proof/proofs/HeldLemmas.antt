@@ -23,20 +23,7 @@ use Rattle.rv_step.specs.declared.asked.Need.TheVariants as need
 use Rattle.open_proof.specs.Held.{held_of, held_after, held_after_word, held_step, number_shown, path_text, chunk_with}
 use Rattle.open_proof.specs.Leads.{address_needed, operand_address}
 use Rattle.open_proof.specs.PlainProof.{IsShown, IsShownAt, fetched_at, fetch_of_state, operand_of_state}
-
--- the laws of the crates below that a step rests on
-pub record StepLaws : Type 0 where
-  pub any_reader : (xs : List ℕ) (pc : ℕ) (read : ℕ → ℕ → ℕ) (i : Instr) → Meets (λ memory. effect xs pc memory i) read (needed xs i)
-  pub aligned : (xs : List ℕ) (i : Instr) → IsAligned (needed xs i)
-  pub read : (m : Contents) (index place width : ℕ) → place + width ≤ 32 → number_in (chunk_at m index) place width ≡ number_at m (32 * index + place) width
-  pub stored : (m : Contents) (index place width value : ℕ) → place + width ≤ 32
-      → with_number_in (chunk_at m index) place width value ≡ chunk_at (with_number m (32 * index + place) width value) index
-  pub elsewhere : (m : Contents) (index place width value other : ℕ) → place + width ≤ 32 → other ≢ index
-      → chunk_at (with_number m (32 * index + place) width value) other ≡ chunk_at m other
-  pub changed : (digest : List ℕ → List ℕ) (m new : Contents) (siblings : ℕ → List ℕ) (n k : ℕ)
-      → ((j : ℕ) → j ≢ k → chunk_at m j ≡ chunk_at new j) → AreSiblings digest (memory_leaf m) n k siblings
-      → digest (opened digest (leaf_text (chunk_at new k)) siblings n k) ≡ memory_node digest new n (k / 2 ^ n)
-  pub more : (digest : List ℕ → List ℕ) (output : List ℕ) (byte : ℕ) → chain_of digest (output ++ byte ∷ []) ≡ digest (link_text (chain_of digest output) byte)
+use Rattle.open_proof.specs.LawsBelow.{StepLaws}
 
 -- an access lies in one chunk
 pub within : (addr width : ℕ) → IsAccess addr width → addr % 32 + width ≤ 32

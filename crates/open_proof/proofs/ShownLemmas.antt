@@ -27,14 +27,8 @@ use Rattle.open_proof.specs.Opened.{texts_from, chunk_texts}
 use Rattle.open_proof.specs.PlainProof.{siblings_of, opening_at, fetched_at, IsShown, IsShownAt}
 use Rattle.open_proof.specs.ClimbLaws.{chunk-climbs}
 use Rattle.open_proof.specs.RangeLaws.{IsPathInRange, IsOpeningInRange}
-use Rattle.open_proof.proofs.HeldLemmas.{StepLaws, shown-number}
-
--- the laws of paths in memory
-pub record PathLaws : Type 0 where
-  pub nodes : (digest : List ℕ → List ℕ) (m : Contents) (siblings : ℕ → List ℕ) (n k : ℕ) → AreSiblings digest (memory_leaf m) n k siblings
-      → digest (opened digest (leaf_text (chunk_at m k)) siblings n k) ≡ memory_node digest m n (k / 2 ^ n)
-  pub strings : (digest : List ℕ → List ℕ) (s : State) (siblings : ℕ → List ℕ) (l k : ℕ) → l ≤ 27 → k < 2 ^ 27 → AreSiblings digest (memory_leaf s.memory) l k siblings
-      → IsStringOf digest s (opened digest (memory_leaf s.memory k) siblings l k)
+use Rattle.open_proof.specs.LawsBelow.{StepLaws, PathLaws}
+use Rattle.open_proof.proofs.HeldLemmas.{shown-number}
 
 -- an address that is below 2^32, and one that is a multiple of 4 besides
 abbrev pub IsLowAt : Option ℕ → Type 0

@@ -22,9 +22,10 @@ use Rattle.open_proof.specs.PlainProof.{IsShownAt, fetched_at, fetch_of_state, o
 use Rattle.open_proof.specs.StateCollision.{IsStateCollision}
 use Rattle.open_proof.specs.RangeLaws.{IsInRange, range-of-state}
 use Rattle.open_proof.specs.PartsLaws.{state-parts, parts-same}
-use Rattle.open_proof.proofs.HeldLemmas.{StepLaws, held-step}
+use Rattle.open_proof.specs.LawsBelow.{StepLaws, PathLaws}
+use Rattle.open_proof.proofs.HeldLemmas.{held-step}
 use Rattle.open_proof.specs.CollisionLaws.{opened-part, opened-fetch, opened-operand}
-use Rattle.open_proof.proofs.ShownLemmas.{PathLaws, node-size, shown-opens, shown-or-found, fetched-same, word-fetched, low-word, low-operand, plain-shown, plain-shape}
+use Rattle.open_proof.proofs.ShownLemmas.{node-size, shown-opens, shown-or-found, fetched-same, word-fetched, low-word, low-operand, plain-shown, plain-shape}
 
 -- strings of one digest are one, or such a pair
 same-or-split : (digest : List ℕ → List ℕ) (x y : List ℕ) → digest x ≡ digest y → (x ≡ y) ⊎ IsSplit digest x y

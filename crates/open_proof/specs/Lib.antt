@@ -6,6 +6,7 @@ pub mod StateCollision
 pub mod InRange
 pub mod LeadsTo
 pub mod PlainProof
+pub mod LawsBelow
 pub mod RangeLaws
 pub mod PartsLaws
 pub mod ClimbLaws

@@ -9,6 +9,7 @@ ghost use Rattle.rv_step.specs.Valid.{IsValid};
 ghost use Rattle.state_commit.specs.StateRoot.{state_root};
 ghost use Rattle.open_proof.specs.Held.{held_of, held_step};
 ghost use Rattle.open_proof.specs.InRange.{is_in_range};
+ghost use Rattle.open_proof.specs.LawsBelow.{PathLaws, StepLaws};
 ghost use Rattle.open_proof.specs.Leads.{Leads};
 ghost use Rattle.open_proof.specs.LeadsTo.{leads_to};
 ghost use Rattle.open_proof.specs.Collision.{step_collision, IsStepCollision};
@@ -21,6 +22,18 @@ use mem_tree::memory_nodes;
 use rv_step::two_parts_are_the_step;
 use state_commit::paths_open_strings_of_the_state;
 
+/// The laws of the crates below that those of this crate rest on.
+fn laws_below()
+    ensures steps { StepLaws }
+    ensures paths { PathLaws }
+{
+    two_parts_are_the_step();
+    numbers_lie_in_chunks();
+    memory_nodes();
+    chain_grows();
+    paths_open_strings_of_the_state();
+}
+
 /// What is held of the state after a step is the step on what is held of the state, from the opened chunks alone.
 pub fn steps_need_opened_parts_alone()
     ensures { (digest : List ℕ → List ℕ) (fetch operand : Option Opening) (s : State) →
@@ -28,10 +41,7 @@ pub fn steps_need_opened_parts_alone()
         IsShownAt digest s.memory operand (operand_of_state digest s) →
         held_step digest fetch operand (held_of digest s) ≡ held_of digest (step s) }
 {
-    two_parts_are_the_step();
-    numbers_lie_in_chunks();
-    memory_nodes();
-    chain_grows();
+    laws_below();
 }
 
 /// Whether a proof leads from a root, and to which, is decided by tests: `leads_to` gives the one root to which it leads
@@ -69,11 +79,7 @@ pub fn proofs_lead_to_the_next_state()
         a.0 ≡ state_root digest s → Leads digest a proof b →
         (b.0 ≡ state_root digest (step s)) ⊎ ((pair : List ℕ × List ℕ) × IsStateCollision digest proof s pair) }
 {
-    two_parts_are_the_step();
-    numbers_lie_in_chunks();
-    memory_nodes();
-    chain_grows();
-    paths_open_strings_of_the_state();
+    laws_below();
 }
 
 /// The plain proof of a valid state leads from the state's root to the root of the next state.
@@ -81,11 +87,7 @@ pub fn plain_proofs_lead()
     ensures { (digest : List ℕ → List ℕ) (s : State) (a b : Digest32) → IsValid s →
         a.0 ≡ state_root digest s → b.0 ≡ state_root digest (step s) → Leads digest a (plain_proof digest s) b }
 {
-    two_parts_are_the_step();
-    numbers_lie_in_chunks();
-    memory_nodes();
-    chain_grows();
-    paths_open_strings_of_the_state();
+    laws_below();
 }
 
 /// The plain proof of a valid state is in the ranges of its types, where digests have 32 bytes.

@@ -1,10 +1,11 @@
 //! The step on the parts that a proof opens.
-ghost use Rattle.std.specs.Prelude.{◌≡◌, ◌+◌, ◌%◌, ◌≤◌, ℕ, List, Option, None, false, is_some};
+ghost use Rattle.std.specs.Prelude.{◌≡◌, ◌+◌, ◌*◌, ◌%◌, ◌≤◌, ℕ, List, Option, None, false, is_some};
 ghost use Rattle.rd_base.specs.declared.proof.Opening.{Opening};
 ghost use Rattle.rv_step.specs.Effect.{effect};
 ghost use Rattle.rv_step.specs.declared.effect.Effect.TheVariants as effects;
 ghost use Rattle.open_proof.specs.Held.{held_after, held_step, mem_after, number_shown as shown};
 ghost use Rattle.step_referee.specs.HeldParts.{held_in, links_of_effect};
+ghost use Rattle.step_referee.specs.Ticks.{chunk_count, digests_of_effect, digests_on};
 
 use crate::chunk::{number_shown, with_number};
 use crate::opening::climb_path;
@@ -88,7 +89,7 @@ fn stored<D: Digester, L: Ledger>(
 ) -> Digest32
     requires { addr % 32 + width ≤ 32 }
     ensures digest { result.0 ≡ mem_after D.digest_of operand.now mem.0 (effects.Store addr width value) }
-    ensures more { steps.old ≤ steps.new }
+    ensures steps { steps.new ≡ steps.old + 28 * chunk_count operand.now }
     ensures most { steps.new ≤ steps.old + 28 }
     ensures none { is_some operand.now ≡ false → steps.new ≤ steps.old }
 {
@@ -114,7 +115,8 @@ fn carry_out<D: Digester, L: Ledger>(
 ) -> Parts
     ensures held { held_in result ≡ held_after D.digest_of operand.now (held_in parts)
         (effect parts.regs parts.ctl.pc (shown operand.now) instr.now) }
-    ensures more { steps.old ≤ steps.new }
+    ensures steps { steps.new ≡ steps.old
+        + digests_of_effect operand.now (effect parts.regs parts.ctl.pc (shown operand.now) instr.now) }
     ensures most { steps.new ≤ steps.old + 28 }
     ensures none { is_some operand.now ≡ false → steps.new ≤ steps.old + 1 }
 {
@@ -140,7 +142,7 @@ fn carry_out<D: Digester, L: Ledger>(
 
 /// The step, from the chunk that holds the word at `pc` and the chunk that the instruction reads or writes. It ticks once
 /// for the step, and for its digests.
-#[tactic(auto, unfolding(open_proof::specs::Held::held_step))]
+#[tactic(auto, unfolding(open_proof::specs::Held::held_step, crate::specs::Ticks::digests_on))]
 pub(crate) fn step_on<D: Digester, L: Ledger>(
     d: D,
     parts: Parts,
@@ -149,7 +151,7 @@ pub(crate) fn step_on<D: Digester, L: Ledger>(
     steps: &mut Steps<L>,
 ) -> Parts
     ensures held { held_in result ≡ held_step D.digest_of fetch.now operand.now (held_in parts) }
-    ensures counted { steps.old + 1 ≤ steps.new }
+    ensures steps { steps.new ≡ steps.old + 1 + digests_on fetch.now operand.now (held_in parts) }
     ensures most { steps.new ≤ steps.old + 29 }
     ensures none { is_some operand.now ≡ false → steps.new ≤ steps.old + 2 }
 {

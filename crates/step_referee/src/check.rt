@@ -8,7 +8,7 @@ ghost use Rattle.open_proof.specs.Leads.{Leads};
 ghost use Rattle.open_proof.specs.StateCollision.{IsStateCollision};
 ghost use Rattle.step_referee.specs.Checked.{checked};
 ghost use Rattle.step_referee.specs.Refusal.{FailsOpen, FailsShape};
-ghost use Rattle.step_referee.specs.Ticks.{chunks_of};
+ghost use Rattle.step_referee.specs.Ticks.{chunks_of, digests_of_step};
 
 use crate::carrying::{Parts, step_on};
 use crate::opening::{climbs_at, is_called, root_of, same_digest};
@@ -39,8 +39,8 @@ fn check<D: Digester, L: Ledger>(
     steps: &mut Steps<L>,
 ) -> StepCheck
     ensures value { result ≡ checked D.digest_of a proof.now }
-    ensures least { (b : Digest32) → result ≡ StepCheck.Leads b →
-        steps.old + 7 + 28 * chunks_of proof.now ≤ steps.new }
+    ensures exactly { (b : Digest32) → result ≡ StepCheck.Leads b →
+        steps.new ≡ steps.old + 7 + 28 * chunks_of proof.now + digests_of_step proof.now }
     ensures few { steps.new ≤ steps.old + 91 }
     ensures alone { is_some proof.now.operand ≡ false → steps.new ≤ steps.old + 36 }
 {
@@ -82,8 +82,8 @@ fn check<D: Digester, L: Ledger>(
 /// string of the state have one digest (`next`).
 ///
 /// `steps` ticks once for each digest and once for the step of the machine, which is read off the code and not proved: at
-/// most 91 times (`few`), and at most 36 times where there is no data chunk (`alone`). Where it leads, at least 7 times,
-/// and 28 times for each chunk (`least`).
+/// most 91 times (`few`), and at most 36 times where there is no data chunk (`alone`). Where it leads, it ticks 7 times, 28
+/// times for each chunk, 28 times more where the step stores, and once more where it puts a byte (`exactly`).
 pub fn check_step<D: Digester, L: Ledger>(
     d: D,
     a: Digest32,
@@ -96,8 +96,8 @@ pub fn check_step<D: Digester, L: Ledger>(
     ensures next { (s : State) (b : Digest32) → IsValid s → a.0 ≡ state_root D.digest_of s → result ≡ StepCheck.Leads b →
         (b.0 ≡ state_root D.digest_of (step s))
         ⊎ ((pair : List ℕ × List ℕ) × IsStateCollision D.digest_of proof.now s pair) }
-    ensures least { (b : Digest32) → result ≡ StepCheck.Leads b →
-        steps.old + 7 + 28 * chunks_of proof.now ≤ steps.new }
+    ensures exactly { (b : Digest32) → result ≡ StepCheck.Leads b →
+        steps.new ≡ steps.old + 7 + 28 * chunks_of proof.now + digests_of_step proof.now }
     ensures few { steps.new ≤ steps.old + 91 }
     ensures alone { is_some proof.now.operand ≡ false → steps.new ≤ steps.old + 36 }
 {

@@ -1,22 +1,7 @@
-use Rattle.open_proof.proofs.HeldLemmas.{StepLaws}
-use Rattle.open_proof.proofs.ShownLemmas.{PathLaws}
 use Rattle.open_proof.specs.RangeLaws.{range-of}
 use Rattle.open_proof.proofs.StateLemmas.{leads-or-found}
 use Rattle.open_proof.proofs.laws.proofs_lead_to_the_next_state.Goals as goal
 
 pub returns : goal.returns
 returns c = λ digest is_digest proof s a b range.
-    let steps : StepLaws = record {
-      any_reader = c.two_parts_are_the_step.ensures.any_reader;
-      aligned = c.two_parts_are_the_step.ensures.aligned;
-      read = c.numbers_lie_in_chunks.ensures.read;
-      stored = c.numbers_lie_in_chunks.ensures.stored;
-      elsewhere = c.numbers_lie_in_chunks.ensures.elsewhere;
-      changed = c.memory_nodes.ensures.changed;
-      more = c.chain_grows.ensures.more;
-    } in
-    let laws : PathLaws = record {
-      nodes = c.memory_nodes.ensures.climbs;
-      strings = c.paths_open_strings_of_the_state.ensures.strings;
-    } in
-    leads-or-found steps laws digest is_digest proof s a b (range-of proof range)
+    leads-or-found c.laws_below.ensures.steps c.laws_below.ensures.paths digest is_digest proof s a b (range-of proof range)

@@ -1,62 +1,56 @@
-use Rattle.std.proofs.Common.{◌≡◌, ℕ, None, arith, subst, sym, ap, ◌∙◌}
-use Rattle.rv_step.specs.Effect.{effect}
-use Rattle.rv_step.specs.Parts.{Meets}
-use Rattle.open_proof.specs.Held.{held_after, number_shown}
-use Rattle.step_referee.specs.HeldParts.{held_in, links_of_effect}
-use Rattle.step_referee.proofs.CarryLemmas.{held-kept, held-stored}
+use Rattle.std.proofs.Common.{arith, ◌∙◌}
+use Rattle.step_referee.specs.HeldParts.{held_in}
+use Rattle.step_referee.proofs.CarryLemmas.{held-nothing, held-loaded, held-store, held-trap, links-nothing, links-loaded, links-store, digests-store, digests-trap}
 use Rattle.step_referee.proofs.carrying.carry_out.Goals as goal
 
 pub returns-in-Nothing-clause-held : goal.returns-in-Nothing-clause-held
 returns-in-Nothing-clause-held g c =
-    let digest = g.D.Digester.digest_of in
-    let p = held_in c.args.parts in
-    let operand = c.args.operand.now in
-    let read = number_shown operand in
-    let i = c.args.instr.now in
-    let met = subst (λ n. Meets (λ memory. effect p.regs p.ctl.pc memory i) read n) (sym c.in-Nothing.ensures.value) (c.two_parts_are_the_step.ensures.any_reader p.regs p.ctl.pc read i) in
-    c.finish_on.ensures.held ∙ (ap (held_after digest None p) (sym (met.0 0)) ∙ held-kept digest operand p _ met.1)
+    c.finish_on.ensures.held
+    ∙ held-nothing c.two_parts_are_the_step.ensures.any_reader c.args.operand.now (held_in c.args.parts) c.args.instr.now g.D.Digester.digest_of c.in-Nothing.ensures.value
 
 pub returns-in-Load-clause-held : goal.returns-in-Load-clause-held
 returns-in-Load-clause-held g c =
-    let digest = g.D.Digester.digest_of in
-    let p = held_in c.args.parts in
-    let operand = c.args.operand.now in
-    let read = number_shown operand in
-    let i = c.args.instr.now in
-    let met = subst (λ n. Meets (λ memory. effect p.regs p.ctl.pc memory i) read n) (sym c.in-Load.ensures.value) (c.two_parts_are_the_step.ensures.any_reader p.regs p.ctl.pc read i) in
-    c.finish_on-in-Load.ensures.held ∙ (ap (λ n. held_after digest None p (effect p.regs p.ctl.pc (λ _ _. n) i)) c.number_shown-loaded.ensures
-    ∙ (ap (held_after digest None p) (sym met.0) ∙ held-kept digest operand p _ met.1))
+    c.finish_on-in-Load.ensures.held
+    ∙ held-loaded c.two_parts_are_the_step.ensures.any_reader c.args.operand.now (held_in c.args.parts) c.args.instr.now g.D.Digester.digest_of
+    c.in-Load.addr c.in-Load.width c.number_shown-loaded.result c.in-Load.ensures.value c.number_shown-loaded.ensures
 
 pub returns-in-Store-clause-held : goal.returns-in-Store-clause-held
 returns-in-Store-clause-held g c =
-    let digest = g.D.Digester.digest_of in
-    let p = held_in c.args.parts in
-    let operand = c.args.operand.now in
-    let read = number_shown operand in
-    let nothing : ℕ → ℕ → ℕ = λ addr width. 0 in
-    let i = c.args.instr.now in
-    let met = subst (λ n. Meets (λ memory. effect p.regs p.ctl.pc memory i) read n) (sym c.in-Store.ensures.value) (c.two_parts_are_the_step.ensures.any_reader p.regs p.ctl.pc read i) in
-    let blind = subst (λ n. Meets (λ memory. effect p.regs p.ctl.pc memory i) nothing n) (sym c.in-Store.ensures.value) (c.two_parts_are_the_step.ensures.any_reader p.regs p.ctl.pc nothing i) in
     c.finish_on-in-Store.ensures.held
-    ∙ (ap (held_after digest None (record p { mem = c.stored-mem.result.0 })) blind
-    ∙ (held-stored digest operand p c.stored-mem.result.0 c.in-Store.addr c.in-Store.width c.in-Store.value c.stored-mem.ensures.digest
-    ∙ ap (held_after digest operand p) (sym met)))
+    ∙ held-store c.two_parts_are_the_step.ensures.any_reader c.args.operand.now (held_in c.args.parts) c.args.instr.now g.D.Digester.digest_of
+    c.stored-mem.result.0 c.in-Store.addr c.in-Store.width c.in-Store.value c.in-Store.ensures.value c.stored-mem.ensures.digest
 
 pub returns-in-Trap-clause-held : goal.returns-in-Trap-clause-held
 returns-in-Trap-clause-held g c =
-    let digest = g.D.Digester.digest_of in
-    let p = held_in c.args.parts in
-    let operand = c.args.operand.now in
-    let read = number_shown operand in
-    let i = c.args.instr.now in
-    let met = subst (λ n. Meets (λ memory. effect p.regs p.ctl.pc memory i) read n) (sym c.in-Trap.ensures.value) (c.two_parts_are_the_step.ensures.any_reader p.regs p.ctl.pc read i) in
-    c.trapped.ensures digest operand ∙ ap (held_after digest operand p) (sym met)
+    c.trapped.ensures g.D.Digester.digest_of c.args.operand.now
+    ∙ held-trap c.two_parts_are_the_step.ensures.any_reader c.args.operand.now (held_in c.args.parts) c.args.instr.now g.D.Digester.digest_of _ c.in-Trap.ensures.value
+
+pub returns-in-Nothing-clause-steps : goal.returns-in-Nothing-clause-steps
+returns-in-Nothing-clause-steps g c =
+    let same = links-nothing c.two_parts_are_the_step.ensures.any_reader c.args.operand.now (held_in c.args.parts) c.args.instr.now c.in-Nothing.ensures.value in
+    omega (arith, c.finish_on.ensures.steps, same)
+
+pub returns-in-Load-clause-steps : goal.returns-in-Load-clause-steps
+returns-in-Load-clause-steps g c =
+    let same = links-loaded c.two_parts_are_the_step.ensures.any_reader c.args.operand.now (held_in c.args.parts) c.args.instr.now
+    c.in-Load.addr c.in-Load.width c.number_shown-loaded.result c.in-Load.ensures.value c.number_shown-loaded.ensures in
+    omega (arith, c.finish_on-in-Load.ensures.steps, same)
+
+pub returns-in-Store-clause-steps : goal.returns-in-Store-clause-steps
+returns-in-Store-clause-steps g c =
+    let none = links-store c.two_parts_are_the_step.ensures.any_reader c.args.operand.now (held_in c.args.parts) c.args.instr.now
+    c.in-Store.addr c.in-Store.width c.in-Store.value c.in-Store.ensures.value in
+    let climbed = digests-store c.two_parts_are_the_step.ensures.any_reader c.args.operand.now (held_in c.args.parts) c.args.instr.now
+    c.in-Store.addr c.in-Store.width c.in-Store.value c.in-Store.ensures.value in
+    omega (arith, c.finish_on-in-Store.ensures.steps, none, climbed, c.stored-mem.ensures.steps)
 
 pub returns-in-Store-clause-most : goal.returns-in-Store-clause-most
 returns-in-Store-clause-most g c =
-    let p = held_in c.args.parts in
-    let nothing : ℕ → ℕ → ℕ = λ addr width. 0 in
-    let i = c.args.instr.now in
-    let blind = subst (λ n. Meets (λ memory. effect p.regs p.ctl.pc memory i) nothing n) (sym c.in-Store.ensures.value) (c.two_parts_are_the_step.ensures.any_reader p.regs p.ctl.pc nothing i) in
-    let none : links_of_effect (effect p.regs p.ctl.pc nothing i) ≡ 0 = ap links_of_effect blind in
+    let none = links-store c.two_parts_are_the_step.ensures.any_reader c.args.operand.now (held_in c.args.parts) c.args.instr.now
+    c.in-Store.addr c.in-Store.width c.in-Store.value c.in-Store.ensures.value in
     omega (arith, c.finish_on-in-Store.ensures.steps, none, c.stored-mem.ensures.most)
+
+pub returns-in-Trap-clause-steps : goal.returns-in-Trap-clause-steps
+returns-in-Trap-clause-steps g c =
+    let none = digests-trap c.two_parts_are_the_step.ensures.any_reader c.args.operand.now (held_in c.args.parts) c.args.instr.now _ c.in-Trap.ensures.value in
+    omega (arith, none)
