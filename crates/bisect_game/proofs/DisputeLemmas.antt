@@ -74,7 +74,7 @@ pub seen-closed : (r : Ruling) (v w : Bisection) (a b : Settled) (c : Close) →
     record v { by_first = Some a; by_second = Some b; close = Some c } ≡ decided (record { ruling = r; fan = 2 }) (record w { by_first = Some a; by_second = Some b }) a b
 seen-closed r v w a b c same e =
     decided-closed (record { ruling = r; fan = 2 }) (record v { by_first = Some a; by_second = Some b }) a b c e
-        ∙ ap (λ (u : Bisection). decided (record { ruling = r; fan = 2 }) (record u { by_first = Some a; by_second = Some b }) a b) same
+    ∙ ap (λ (u : Bisection). decided (record { ruling = r; fan = 2 }) (record u { by_first = Some a; by_second = Some b }) a b) same
 
 pub seen-went : (r : Ruling) (v w z : Bisection) (a b : Settled) → v ≡ w → None ≡ close_of r v.place a b → z ≡ went_on 2 w a b →
     z ≡ decided (record { ruling = r; fan = 2 }) (record w { by_first = Some a; by_second = Some b }) a b
