@@ -1,9 +1,9 @@
 -- Journals and their logs.
-use Rattle.std.proofs.Common.{◌≡◌, ℕ, ◌==◌, if◌then◌else◌, Bool, true, false, List, [], ◌∷◌, Some, None, refl, sym, ap, ap₂, ◌∙◌}
+use Rattle.std.proofs.Common.{◌≡◌, ℕ, ◌==◌, if◌then◌else◌, Bool, true, false, List, [], ◌∷◌, ◌++◌, Some, None, refl, sym, ap, ap₂, ◌∙◌}
 use Rattle.tournament.specs.declared.posting.Reply.{Reply}
 use Rattle.tournament.specs.declared.posting.Reply.TheVariants.{Taken, Faulty, Spent, Stale}
 use Rattle.board_book.specs.declared.entry.Entry.{Entry}
-use Rattle.dispute_board.specs.Logs.{number_of_pass, numbers_of_reply, numbers_of, log_of_journal, LogsTellJournals}
+use Rattle.dispute_board.specs.Logs.{number_of_pass, numbers_of_reply, numbers_of, log_of_journal, LogsTellJournals, StartsTellJournals}
 
 -- the reply that was written
 abbrev open_of : List ℕ → Reply
@@ -48,3 +48,13 @@ nobody = record { p = 0; qid = record { dispute = 0; round = 0 }; pass = false; 
 
 pub logs_tell : LogsTellJournals
 logs_tell es fs e = sym (journal-back nobody es) ∙ ap (entries_of nobody) e ∙ journal-back nobody fs
+
+entries-append : (d : Entry) (xs ys : List (List ℕ)) → entries_of d (xs ++ ys) ≡ entries_of d xs ++ entries_of d ys
+entries-append d [] ys = refl
+entries-append d (x ∷ xs) ys = ap (λ (l : List Entry). entry_of d x ∷ l) (entries-append d xs ys)
+
+pub starts_tell : StartsTellJournals
+starts_tell es fs b = (
+  entries_of nobody b.0,
+  sym (journal-back nobody fs) ∙ ap (entries_of nobody) b.1 ∙ entries-append nobody (log_of_journal es) b.0 ∙ ap (λ (l : List Entry). l ++ entries_of nobody b.0) (journal-back nobody es),
+)

@@ -3,7 +3,7 @@ use Rattle.std.specs.Prelude.{◌≡◌, ℕ, Bool, true, false, List, [], ◌�
 use Rattle.tournament.specs.declared.posting.Reply.{Reply}
 use Rattle.tournament.specs.declared.posting.Reply.TheVariants.{Taken, Faulty, Spent, Stale}
 use Rattle.board_book.specs.declared.entry.Entry.{Entry}
-use Rattle.seat_lock.specs.History.{Turn}
+use Rattle.seat_lock.specs.History.{Turn, Begins}
 
 abbrev pub number_of_pass : Bool → ℕ
 number_of_pass true = 1
@@ -36,3 +36,7 @@ turn_of None = None
 -- different journals have different logs
 abbrev pub LogsTellJournals : Type 0
 LogsTellJournals = (es fs : List Entry) → log_of_journal es ≡ log_of_journal fs → es ≡ fs
+
+-- where a log begins with another, so does its journal
+abbrev pub StartsTellJournals : Type 0
+StartsTellJournals = (es fs : List Entry) → Begins (log_of_journal es) (log_of_journal fs) → Begins es fs

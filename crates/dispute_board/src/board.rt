@@ -1,7 +1,7 @@
 //! The board and its seats.
-ghost use Rattle.std.specs.Prelude.{◌≡◌, ◌+◌, ◌^◌, ◌<◌, ◌≤◌, Option, Some, None, IfOk};
+ghost use Rattle.std.specs.Prelude.{◌≡◌, ◌+◌, ◌^◌, ◌<◌, ◌≤◌, length, Option, Some, None, IfOk};
 ghost use Rattle.std.specs.List.{All};
-ghost use Rattle.seat_lock.specs.History.{log_of, Begins};
+ghost use Rattle.seat_lock.specs.History.{log_of, Begins, NoneTwice};
 ghost use Rattle.seat_lock.specs.Seats.{first_seat, after_split, split_off, after_join};
 ghost use Rattle.tournament.specs.declared.setup.Setup.{Setup};
 ghost use Rattle.tournament.specs.Posting.{rules_of, answer_of};
@@ -145,7 +145,7 @@ impl<J: Judge + Drop, P: Provers + Drop> Board<J, P> {
     }
 
     /// The book, once every seat that was split off is joined in again. Its opening is that of the seat, and its journal begins with
-    /// all that was seen.
+    /// all that was seen. The seat has the receipts of all seats then: no place stands in them twice, and each is a place of the journal.
     pub fn into_book(self, seat: Seat<J, P>) -> Book<J, P>
         requires lock { seat.lock ≡ self }
         requires first { seat.number ≡ 0 }
@@ -153,6 +153,7 @@ impl<J: Judge + Drop, P: Provers + Drop> Board<J, P> {
         ensures opening { seat.head ≡ Some result.0 }
         ensures journal { Begins (log_of seat.seen) (log_of_journal result.1) }
         ensures joined { All (λ seen. Begins (log_of seen) (log_of_journal result.1)) seat.joined }
+        ensures receipts { NoneTwice seat.receipts × All (λ place. place < length result.1) seat.receipts }
     {
         let Board { lock } = self;
         let Locked { book } = lock.close(seat);

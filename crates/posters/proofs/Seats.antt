@@ -1,15 +1,18 @@
 -- Seats of posters, and what they may post.
-use Rattle.std.proofs.Common.{◌≡◌, ℕ, Option, Some, None, refl, sym, ap, ap₂, ◌∙◌, subst}
+use Rattle.std.proofs.Common.{◌≡◌, ℕ, List, [], ◌∷◌, ◌++◌, Option, Some, None, refl, sym, ap, ap₂, ◌∙◌, subst}
+use Rattle.std.specs.List.{All}
+use Rattle.std.proofs.lemmas.List.Elements.{All-nil, All-cons, All-head, All-tail}
 use Rattle.rd_base.specs.declared.answer.Answer.{Answer}
 use Rattle.rd_base.specs.declared.answer.Qid.{Qid}
 use Rattle.bisect_game.specs.declared.question.Kind.{Kind}
 use Rattle.bisect_game.specs.declared.question.Question.{Question}
 use Rattle.bisect_game.specs.Says.{Says}
 use Rattle.bisect_game.specs.Rules.{Rules}
-use Rattle.seat_lock.specs.Seats.{LockId, Known}
+use Rattle.seat_lock.specs.History.{LogEntry, History, log_of, turns_of, Begins}
+use Rattle.seat_lock.specs.Seats.{LockId, Known, after_join}
 use Rattle.seat_lock.specs.Turned.{SameSeat}
 use Rattle.dispute_board.specs.Replies.{IsOfTheCase, MayPost}
-use Rattle.posters.specs.Serving.{kept_of, IsSeatOf}
+use Rattle.posters.specs.Serving.{kept_of, IsSeatOf, KnowsStart}
 
 pub some_is : {A : Type 0} (a b : A) → Some a ≡ Some b → a ≡ b
 some_is {A} a b e = ap (λ (o : Option A). elim o [ None ↦ a | Some x ↦ x ]) e
@@ -22,6 +25,14 @@ pub may_post : (rules : Rules) (says : Says) (p : ℕ) (q : Question) (n : ℕ) 
 may_post rules says p q n m asked said r same also =
     said ∙ ap (λ (x : Question). says p x n) (same_question q r (sym same) (some_is q.kind r.kind (sym asked ∙ subst (λ i. Rattle.tournament.specs.Asked.asked rules (Rattle.tournament.specs.Bracket.bracket rules (Rattle.tournament.specs.Journals.answers_of rules says)) p i ≡ Some r.kind) same also)))
 
+pub log_of-turns_of : (log : List LogEntry) → log_of (turns_of log) ≡ log
+log_of-turns_of [] = refl
+log_of-turns_of (e ∷ es) = ap (λ l. e ∷ l) (log_of-turns_of es)
+
+pub All-first : {X : Type 0} (P : X → Type 0) (xs ys : List X) → All P (xs ++ ys) → All P xs
+All-first P [] ys h = All-nil P
+All-first P (x ∷ xs) ys h = All-cons P x xs (All-head P x (xs ++ ys) h) (All-first P xs ys (All-tail P x (xs ++ ys) h))
+
 module _ {H : Type 0} where
   pub kept_same : (before after : Known H) → SameSeat before after → kept_of after ≡ kept_of before
   kept_same before after s = rw (s.lock, s.number, s.head, s.out) refl
@@ -31,3 +42,13 @@ module _ {H : Type 0} where
     lock = ap (λ (k : Known H). k.lock) e ∙ s.lock;
     head_is = ap (λ (k : Known H). k.head) e ∙ s.head_is;
   }
+
+  pub knows_itself : (k : Known H) → KnowsStart (log_of k.seen) k
+  knows_itself k log saw joined = saw
+
+  -- what a seat knew it knows after a join
+  pub knows_after_join : (start : List LogEntry) (k other : Known H) → KnowsStart start k → KnowsStart start (after_join k other)
+  knows_after_join start k other knows log saw joined =
+      let P : History → Type 0 = λ seen. Begins (log_of seen) log in
+      let rest = All-tail P k.seen (other.seen ∷ (k.joined ++ other.joined)) joined in
+      knows log (All-head P k.seen (other.seen ∷ (k.joined ++ other.joined)) joined) (All-first P k.joined other.joined (All-tail P other.seen (k.joined ++ other.joined) rest))

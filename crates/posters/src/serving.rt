@@ -3,6 +3,7 @@ ghost use Rattle.std.specs.Prelude.{◌≡◌, ℕ, ◌+◌, ◌<◌, ◌≤◌,
 ghost use Rattle.std.specs.Thread.{IsSync};
 ghost use Rattle.tournament.specs.declared.setup.Setup.{Setup};
 ghost use Rattle.tournament.specs.Posting.{answer_of};
+ghost use Rattle.posters.specs.declared.serving.Round.TheVariants.{GoesOn};
 ghost use Rattle.posters.specs.Serving.{kept_of, IsSeatOf};
 
 use crate::gate::Gate;
@@ -111,8 +112,10 @@ fn serve_round<J: Judge + Drop, P: Provers + Drop, A: Answerer, G: Gate, R: Thre
 ) -> Round
     requires sync { IsSync R.row }
     requires seat { (head : J.Names × P.Names × Setup) × IsSeatOf hall.now.board head seat.old × (hall.now.provers ≡ head.2.provers) × (map A.answers answerers.old ≡ map (λ n. P.says head.1 (n + 1)) numbers.now) }
+    requires few { idle_before ≤ 1000000 }
     ensures seat { kept_of seat.new ≡ kept_of seat.old }
     ensures answerers { map A.answers answerers.new ≡ map A.answers answerers.old }
+    ensures few { (turns : ℕ) → result ≡ GoesOn turns → turns ≤ 1000000 }
 {
     let mut idle = idle_before;
     let mut i = 0;

@@ -1,5 +1,5 @@
 -- The rule holds of a new table, and tells what lies in a table that is closed.
-use Rattle.std.proofs.Common.{◌≡◌, ℕ, zero, suc, List, [], ◌∷◌, Option, Some, None, sym, refl, ap, ◌∙◌, subst, arith}
+use Rattle.std.proofs.Common.{◌≡◌, ℕ, zero, suc, List, [], ◌∷◌, length, ◌<◌, Option, Some, None, sym, refl, ap, ◌∙◌, subst, arith}
 use mathlib.Core.Option.{some, some-injective, some-ne-none}
 use mathlib.Core.Logic.{dite}
 use native.Mathlib.Decide.{ℕ_discrete}
@@ -8,13 +8,14 @@ use Rattle.std.specs.List.{All}
 use Rattle.std.proofs.lemmas.List.Elements.{All-nil}
 use Rattle.atomic_table.specs.Table.{opening, Final, Seen}
 use Rattle.seat_lock.specs.declared.view.View.{View}
-use Rattle.seat_lock.specs.History.{LogEntry, History, log_of, turns_of, Begins}
+use Rattle.seat_lock.specs.History.{LogEntry, History, log_of, turns_of, Begins, times, NoneTwice}
 use Rattle.seat_lock.specs.Rule.{weight, total, lives, NoneInTurn, Fits}
 use Rattle.seat_lock.specs.Seats.{LockId, Known}
 use Rattle.seat_lock.specs.Views.{starting, known_as}
 use Rattle.seat_lock.proofs.Histories.{some-injective_or, some≢none, begins-itself, log_of-turns_of, logs_begin}
 use Rattle.seat_lock.proofs.Totals.{two-le-total}
-use Rattle.seat_lock.proofs.Views.{Table, Rule, same_view}
+use Rattle.seat_lock.proofs.Receipts.{all_below, at_most_once}
+use Rattle.seat_lock.proofs.Views.{Table, Rule, same_view, own_places}
 
 -- what a seat knows of the value of a lock that is closed with it
 pub record IsLast {T H : Type 0} (head : T → H) (log : T → List LogEntry) (k : Known H) (value : T) : Type 0 where
@@ -25,6 +26,8 @@ pub record IsLast {T H : Type 0} (head : T → H) (log : T → List LogEntry) (k
   pub saw_joined : All (λ seen. Begins seen history) k.joined
   pub saw_log : Begins (log_of k.seen) (log value)
   pub saw_joined_logs : All (λ seen. Begins (log_of seen) (log value)) k.joined
+  pub none_twice : NoneTwice k.receipts
+  pub places : All (λ place. place < length (log value)) k.receipts
 
 module _ {T H : Type 0} (head : T → H) (log : T → List LogEntry) where
   pub opens : (x : T) → Rule head log (opening (0 ∷ 0 ∷ []) (Some x ∷ []) (starting (head x) (log x)))
@@ -72,6 +75,8 @@ module _ {T H : Type 0} (head : T → H) (log : T → List LogEntry) where
           saw_joined = seen.2;
           saw_log = to_log v.seen seen.1;
           saw_joined_logs = λ k d b. to_log _ (seen.2 k d b);
+          none_twice = λ p. at_most_once p (length (log_of r.history)) (times p v.receipts) (own_places head log s r 0 v p at);
+          places = subst (λ (l : List LogEntry). All (λ place. place < length l) v.receipts) (sym g.3) (all_below v.receipts (length (log_of r.history)) (λ p. own_places head log s r 0 v p at));
         },
       )
 

@@ -1,5 +1,5 @@
 //! The lock and its seats.
-ghost use Rattle.std.specs.Prelude.{◌≡◌, ◌≢◌, ◌+◌, ◌^◌, ◌<◌, List, [], ◌∷◌, Option, Some, None, IfOk, MatchBool};
+ghost use Rattle.std.specs.Prelude.{◌≡◌, ◌≢◌, ◌+◌, ◌^◌, ◌<◌, List, [], ◌∷◌, length, Option, Some, None, IfOk, MatchBool};
 ghost use Rattle.std.specs.List.{All};
 ghost use Rattle.seat_lock.specs.History.{History, log_of, Begins, NoneTwice};
 ghost use Rattle.seat_lock.specs.Seats.{first_seat, after_split, split_off, after_join};
@@ -195,6 +195,8 @@ impl<T: Logged> SeatLock<T> {
     }
 
     /// The value, once every seat that was split off the first one is joined in again.
+    ///
+    /// The seat has the receipts of all seats then. No place stands in them twice, and each is a place of the log.
     pub fn close(self, seat: Seat<T>) -> T
         requires lock { seat.lock ≡ self }
         requires first { seat.number ≡ 0 }
@@ -202,6 +204,7 @@ impl<T: Logged> SeatLock<T> {
         ensures head { seat.head ≡ Some (T.head result) }
         ensures history { (history : History) × (T.log result ≡ log_of history) × Begins seat.seen history × All (λ seen. Begins seen history) seat.joined }
         ensures log { Begins (log_of seat.seen) (T.log result) × All (λ seen. Begins (log_of seen) (T.log result)) seat.joined }
+        ensures receipts { NoneTwice seat.receipts × All (λ place. place < length (T.log result)) seat.receipts }
     {
         let SeatLock { table } = self;
         let Seat { raw } = seat;

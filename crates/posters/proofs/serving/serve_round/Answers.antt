@@ -31,11 +31,13 @@ loop-i-preserved g c = let v = c.loop-i.invariant in let answers = g.A.Answerer.
         ap kept_of w.seat-is ∙ w.serve_prover.ensures.seat ∙ v.0,
         ap (map answers) w.answerers-is ∙ said_again answers c.loop-i.answerers c.loop-i.i w.serve_prover.new.answerer w.index-answerers-i.result w.serve_prover.ensures.answerer ∙ v.1,
         search rules,
+        search rules,
       )
       | then-numbers-i+in-Idle w ↦ (
         ap kept_of w.seat-is ∙ w.serve_prover.ensures.seat ∙ v.0,
         ap (map answers) w.answerers-is ∙ said_again answers c.loop-i.answerers c.loop-i.i w.serve_prover.new.answerer w.index-answerers-i.result w.serve_prover.ensures.answerer ∙ v.1,
         search rules,
+        search rules,
       )
-      | else-numbers-i w ↦ (ap kept_of w.seat-is ∙ v.0, ap (map answers) w.answerers-is ∙ v.1, search rules)
+      | else-numbers-i w ↦ (ap kept_of w.seat-is ∙ v.0, ap (map answers) w.answerers-is ∙ v.1, search rules, search rules)
     ]
