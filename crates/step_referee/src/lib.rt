@@ -4,7 +4,8 @@
 //! The layers above may rely on this: `check_step` says exactly where a proof leads (`open_proof`'s `Leads`), and where
 //! it leads nowhere, which of its tests fails first (`specs/Refusal.antt`); from the root of a valid state a proof leads to
 //! the root of the next one, or a string that it opens and a different string of the state have one digest; the counter
-//! ticks at most 91 times; that it ticks once for each digest and once for the step is read off the code, not proved. `MachineJudge` decides by `specs/MachineRuling.antt`, which keeps the
+//! ticks at most 91 times, and where a proof leads exactly as often as `specs/Ticks.antt` says; that no digest is made
+//! without a tick is read off the code, not proved. `MachineJudge` decides by `specs/MachineRuling.antt`, which keeps the
 //! laws of a judge; a run of the machine is a true run for it (`machine_runs_are_true`). No call takes memory. Read
 //! `check` first, then `carrying`.
 #![tactic(auto)]
