@@ -1,0 +1,55 @@
+use crate::answering::outcome_of;
+use io_edge::{Source, read_all};
+use rd_base::Memory;
+use std::alloc::Global;
+use std::sync::Wait;
+use std::thread::Threads;
+
+/// The most bytes of all rows.
+const MOST: usize = 1_048_576;
+
+/// Adds what comes of a row: a line with its name and the status, and the text.
+fn add_row<R: Threads + Wait + Sync>(
+    rt: &R,
+    alloc: Global,
+    lines: &mut String,
+    name: &str,
+    command: &str,
+    case: &str,
+) -> Result<(), Memory> {
+    let case = case.as_bytes().to_vec(alloc)?;
+    let outcome = outcome_of(rt, alloc, command, case)?;
+    let status = outcome.answered.status();
+    let first = format!(in alloc; "{name}: status {status}\n")?;
+    lines.push_str(first.as_str())?;
+    lines.push_str(outcome.text.as_str())?;
+    Ok(())
+}
+
+/// The name, the command and the case of a row, which are parted by tabs.
+fn parts_of(row: &str) -> Option<(&str, &str, &str)> {
+    let (name, rest) = row.split_once('\t')?;
+    let (command, case) = rest.split_once('\t')?;
+    Some((name, command, case))
+}
+
+/// What comes of the rows that a source has, one a line. `Memory` where they can't be read, too.
+pub fn lines_of_rows<R: Threads + Wait + Sync, S: Source>(
+    rt: &R,
+    alloc: Global,
+    source: &mut S,
+) -> Result<String, Memory> {
+    let mut lines = String::new(alloc);
+    let Ok(bytes) = read_all(alloc, source, MOST) else {
+        return Err(Memory);
+    };
+    let Ok(rows) = String::from_utf8(bytes) else {
+        return Err(Memory);
+    };
+    for row in rows.as_str().lines() {
+        if let Some((name, command, case)) = parts_of(row) {
+            add_row(rt, alloc, &mut lines, name, command, case)?;
+        }
+    }
+    Ok(lines)
+}
