@@ -16,5 +16,6 @@ pub mod Refusal
 pub mod Outcome
 pub mod Visible
 pub mod Headline
+pub mod HonestScripts
 pub mod Stages
 pub mod Process

@@ -1,12 +1,16 @@
-ghost use Rattle.std.specs.Prelude.{◌≡◌, ℕ, List, [], ◌∷◌, Some, None, codes};
+ghost use Rattle.std.specs.Prelude.{◌≡◌, ◌≤◌, ℕ, List, [], ◌∷◌, Some, None, codes, option_map, if◌then◌else◌};
+ghost use Rattle.clap.specs.ValueTests.{is_unsigned_in};
 ghost use Rattle.delegate.specs.Headline.{HeadlineOfCases};
-ghost use Rattle.delegate.specs.Words.{chosen};
+ghost use Rattle.delegate.specs.HonestScripts.{UntouchedProversAreTruthful};
+ghost use Rattle.delegate.specs.Words.{chosen, seed_in};
 
 use crate::words::Command;
 use digest_core::Sha256;
+use prover_run::untouched_provers;
 use step_referee::machine_runs_are_true;
 use tournament::{
-    nobody_asked_means_over, one_record_of_a_case, spare_is_enough, truthful_provers_are_safe,
+    nobody_asked_means_over, one_record_of_a_case, questions_are_within_the_bound, spare_is_enough,
+    truthful_provers_are_safe,
 };
 use transcript_text::nothing_is_said_against_the_truthful;
 
@@ -39,6 +43,25 @@ pub fn plain_options()
     ensures more_steps { (program : List ℕ) → chosen (program ∷ codes "judge" ∷ codes "--every" ∷ codes "65537" ∷ []) ≡ None }
 {}
 
+/// A seed that begins with a decimal digit is taken exactly where the whole word is a number below 2^32, and is that number.
+#[tactic(auto, using(crate::proofs::NumberLemmas::seeds_are_numbers))]
+pub fn seeds_are_numbers()
+    ensures { (program : List ℕ) (digit : ℕ) (rest : List ℕ) → 48 ≤ digit → digit ≤ 57 →
+        chosen (program ∷ codes "big" ∷ (digit ∷ rest) ∷ []) ≡ option_map Command.Big (seed_in (digit ∷ rest)) }
+{}
+
+/// The number of an option of `judge` that begins with a decimal digit is taken exactly where the whole word is a number in the
+/// option's range.
+#[tactic(auto, using(crate::proofs::NumberLemmas::workers_are_numbers, crate::proofs::NumberLemmas::posters_are_numbers, crate::proofs::NumberLemmas::every_are_numbers))]
+pub fn options_are_numbers()
+    ensures workers { (program : List ℕ) (digit : ℕ) (rest : List ℕ) → 48 ≤ digit → digit ≤ 57 →
+        chosen (program ∷ codes "judge" ∷ codes "--workers" ∷ (digit ∷ rest) ∷ []) ≡ (if is_unsigned_in 1 64 (digit ∷ rest) then Some Command.Judge else None) }
+    ensures posters { (program : List ℕ) (digit : ℕ) (rest : List ℕ) → 48 ≤ digit → digit ≤ 57 →
+        chosen (program ∷ codes "judge" ∷ codes "--posters" ∷ (digit ∷ rest) ∷ []) ≡ (if is_unsigned_in 1 16 (digit ∷ rest) then Some Command.Judge else None) }
+    ensures every { (program : List ℕ) (digit : ℕ) (rest : List ℕ) → 48 ≤ digit → digit ≤ 57 →
+        chosen (program ∷ codes "judge" ∷ codes "--every" ∷ (digit ∷ rest) ∷ []) ≡ (if is_unsigned_in 1 65536 (digit ∷ rest) then Some Command.Judge else None) }
+{}
+
 /// The headline, of each case whose numbers are in range and whose run starts in a valid state without output: a prover that
 /// claims and answers as the machine's definition says, within its patience, is not eliminated, and the report accepts the
 /// sequential run's status and output or shows a collision.
@@ -51,4 +74,13 @@ pub fn the_headline()
     truthful_provers_are_safe();
     machine_runs_are_true::<Sha256>();
     nothing_is_said_against_the_truthful();
+}
+
+/// Which provers meet the premise of the headline in every case: those with an untouched run that answer at once, after no more
+/// passes than the patience, or with the sequential run's output. A prover with the script `{}` is one of the first.
+pub fn untouched_provers_are_truthful()
+    ensures { UntouchedProversAreTruthful }
+{
+    untouched_provers();
+    questions_are_within_the_bound();
 }

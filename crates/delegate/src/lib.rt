@@ -23,7 +23,10 @@ mod words;
 
 pub use answered::Answered;
 pub use judging::verdict_of_case;
-pub use laws::{plain_options, plain_seeds, plain_words, the_headline};
+pub use laws::{
+    options_are_numbers, plain_options, plain_seeds, plain_words, seeds_are_numbers, the_headline,
+    untouched_provers_are_truthful,
+};
 pub use process::{arguments, run_process};
 pub use program::run;
 pub use words::{Command, Options};

@@ -1,0 +1,13 @@
+use Rattle.delegate.proofs.HonestLemmas.{untouched-are-truthful}
+use Rattle.delegate.proofs.laws.untouched_provers_are_truthful.Goals as goal
+
+pub returns : goal.returns
+returns c =
+    untouched-are-truthful
+    (record {
+      plain_ = c.untouched_provers.ensures.plain;
+      late = c.untouched_provers.ensures.late;
+      output = c.untouched_provers.ensures.output;
+      by_script = c.untouched_provers.ensures.by_script;
+    })
+    c.questions_are_within_the_bound.ensures.asked
