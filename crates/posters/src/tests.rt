@@ -101,12 +101,13 @@ fn answerer_of(alloc: Global, player: Player, fails_from: u32, fails_to: u32) ->
 }
 
 // The book of the match of a late, a lying and a silent prover, of which the late one's answerer fails at some of its calls.
-fn played<R: Threads + Wait + Sync>(
+fn played<G: Gate + Sync, R: Threads + Wait + Sync>(
     rt: &R,
     alloc: Global,
     posters: u32,
     fails_from: u32,
     fails_to: u32,
+    gate: &G,
 ) -> Result<Book<ToyJudge, Cast>, Memory>
     requires { 0 < posters }
 {
@@ -121,14 +122,37 @@ fn played<R: Threads + Wait + Sync>(
         answerer_of(alloc, LATE, fails_from, fails_to),
         answerer_of(alloc, SILENT_LIAR, 0, 0),
     ];
-    play(rt, alloc, book, &mut answerers, posters, &OpenGate)
+    play(rt, alloc, book, &mut answerers, posters, gate)
 }
 
-/// However many posters there are, the match is the one that is played alone: 23 entries, and one record.
+/// A gate that counts the posts of each of three provers.
+#[derive(Drop)]
+struct Counting {
+    posts: [AtomicU32; 3],
+}
+
+impl Gate for Counting {
+    fn before_post(&self, p: u32, _qid: Qid) {
+        let place = (p.wrapping_sub(1) % 3) as usize;
+        self.posts[place].fetch_add(1, Ordering::SeqCst);
+    }
+}
+
+/// However many posters there are, the match is the one that is played alone: 23 entries, and one record. They make no move beside
+/// those of it, and one poster makes each: the liar a claim and four answers, the late one a pass and an answer on each of seven
+/// questions, and the silent one a claim, an answer and two passes. Of several posters one may end early, where it waits long.
 #[test]
 fn all_numbers_of_posters_give_one_match(rt: HostRuntime) -> Result<(), Fail> {
     for posters in [1, 2, 3, 16] {
-        let book = played(&rt, rt.alloc(), posters, 0, 0)?;
+        let gate = Counting {
+            posts: [AtomicU32::new(0), AtomicU32::new(0), AtomicU32::new(0)],
+        };
+        let book = played(&rt, rt.alloc(), posters, 0, 0, &gate)?;
+        let [by_liar, by_late, by_silent] = &gate.posts;
+        for (posts, moves) in [(by_liar, 5), (by_late, 14), (by_silent, 4)] {
+            let posts = posts.load(Ordering::SeqCst);
+            assert!(rt; posts == moves || (posts < moves && posters > 1));
+        }
         assert_eq!(rt; book.journal().len(), 23);
         assert_eq!(rt;
             lines(rt.alloc(), book.record())?.as_slice(),
@@ -143,7 +167,7 @@ fn all_numbers_of_posters_give_one_match(rt: HostRuntime) -> Result<(), Fail> {
 #[test]
 fn two_hundred_plays_give_one_record(rt: HostRuntime) -> Result<(), Fail> {
     for _ in 0..200 {
-        let book = played(&rt, rt.alloc(), 16, 0, 0)?;
+        let book = played(&rt, rt.alloc(), 16, 0, 0, &OpenGate)?;
         assert_eq!(rt;
             lines(rt.alloc(), book.record())?.as_slice(),
             LINES.as_slice()
@@ -158,13 +182,13 @@ fn two_hundred_plays_give_one_record(rt: HostRuntime) -> Result<(), Fail> {
 fn an_answerer_without_memory_ends_its_poster(rt: HostRuntime) -> Result<(), Fail> {
     for posters in [1, 2, 16] {
         for call in 1..6 {
-            let book = played(&rt, rt.alloc(), posters, call, call + 1)?;
+            let book = played(&rt, rt.alloc(), posters, call, call + 1, &OpenGate)?;
             assert_eq!(rt; book.journal().len(), 23);
             assert_eq!(rt;
                 lines(rt.alloc(), book.record())?.as_slice(),
                 LINES.as_slice()
             );
-            assert!(rt; played(&rt, rt.alloc(), posters, call, u32::MAX).is_err());
+            assert!(rt; played(&rt, rt.alloc(), posters, call, u32::MAX, &OpenGate).is_err());
         }
     }
     Ok(())
