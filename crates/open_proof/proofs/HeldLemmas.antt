@@ -7,11 +7,10 @@ use Rattle.rv_decode.specs.Reading.{reading_of}
 use Rattle.rv_decode.specs.declared.instr.Instr.{Instr}
 use Rattle.mem_plain.specs.Contents.{Contents, chunk_at, number_at, with_number}
 use Rattle.mem_plain.specs.Page.{number_in, with_number_in}
-use Rattle.digest_core.specs.Text.{leaf_text, link_text}
-use Rattle.digest_core.specs.Chain.{chain_of}
+use Rattle.digest_core.specs.Text.{leaf_text}
 use Rattle.merkle_nodes.specs.Node.{digest_at}
-use Rattle.merkle_nodes.specs.Opening.{opened, AreSiblings}
-use Rattle.mem_tree.specs.Memory.{memory_leaf, memory_node}
+use Rattle.merkle_nodes.specs.Opening.{opened}
+use Rattle.mem_tree.specs.Memory.{memory_node}
 use Rattle.rv_step.specs.State.{State}
 use Rattle.rv_step.specs.Effect.{effect}
 use Rattle.rv_step.specs.Step.{step, after_effect, after_word}

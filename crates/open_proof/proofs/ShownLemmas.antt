@@ -1,5 +1,5 @@
 -- What an opened chunk shows of a memory whose digest it opens.
-use Rattle.std.proofs.Common.{◌≡◌, ◌↔◌, ℕ, zero, suc, ◌+◌, ◌/◌, ◌%◌, ◌^◌, ◌<◌, ◌≤◌, ◌⊎◌, inl, inr, List, [], length, Option, Some, None, is_some, Bool, true, false, cond, eqb, ◌&&◌, Contains, refl, sym, ap, ◌∙◌, arith, ⊎_elim}
+use Rattle.std.proofs.Common.{◌≡◌, ℕ, zero, suc, ◌+◌, ◌/◌, ◌%◌, ◌^◌, ◌<◌, ◌≤◌, ◌⊎◌, inl, inr, List, [], length, Option, Some, None, is_some, Bool, true, false, cond, eqb, ◌&&◌, Contains, refl, sym, ap, ◌∙◌, arith, ⊎_elim}
 use Rattle.std.proofs.lemmas.Bool.{cases_eq, eqb-true}
 use Rattle.std.proofs.lemmas.List.FromFn.{get_or-map-range_with_len}
 use Rattle.rd_base.specs.Status.{is_running}
@@ -12,7 +12,7 @@ use Rattle.mem_plain.specs.Contents.{Contents, chunk_at}
 use Rattle.digest_core.specs.Text.{leaf_text}
 use Rattle.digest_core.specs.TextLaws.{cons_parts}
 use Rattle.merkle_nodes.specs.Node.{node, beside, digest_at}
-use Rattle.merkle_nodes.specs.Opening.{opened, AreSiblings}
+use Rattle.merkle_nodes.specs.Opening.{opened}
 use Rattle.merkle_nodes.specs.Split.{IsSplit}
 use Rattle.merkle_nodes.specs.PathLaws.{one_opening}
 use Rattle.mem_tree.specs.Memory.{memory_leaf, memory_node}

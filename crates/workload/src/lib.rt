@@ -2,7 +2,8 @@
 //!
 //! The layers above may rely on this: what `big_case` gives is the compact JSON text of one tree, a definition, and
 //! `case_reader`'s definition of reading takes it to one case, for every seed. That each dispute of this case has 16
-//! rounds and puts out one prover is not proved: it is tested for seed 1, and the examples show it for a few more seeds. Read `big` first, then `draws`.
+//! rounds and puts out one prover is not proved: it is tested for seed 1, and the examples show it for a few more seeds.
+//! Read `big` first, then `draws`.
 #![tactic(auto)]
 
 mod big;
