@@ -2,15 +2,19 @@
 use Rattle.std.proofs.Common.{◌≡◌, ◌≢◌, ◌⊎◌, ℕ, zero, suc, ◌+◌, ◌*◌, ◌/◌, ◌%◌, ◌<◌, ◌≤◌, List, [], ◌∷◌, ◌++◌, length, take, Option, Some, None, IfSome, inl, inr, refl, sym, ap, subst, ◌∙◌, ⊎_elim, arith, slice_get, get_or, false, length-append}
 use Rattle.std.proofs.lemmas.Bool.{cases_order}
 use Rattle.std.proofs.lemmas.List.{take-append-le, take_all}
+use Rattle.std.proofs.Math.Numerals.{add-one}
 use Rattle.std.proofs.lemmas.Option.{slice_get_past}
 use Rattle.std.proofs.Math.Nat.{le-div_iff_mul-le, div-lt_iff_lt-mul, div-add-mod, mul_comm, lt-div-mul-add, lt_of_mul-lt-mul_right, add-mul}
 use Rattle.digest_core.specs.Chain.{chain_of}
 use Rattle.mem_plain.specs.Contents.{Contents, byte_at}
 use Rattle.rd_base.specs.declared.ctl.Ctl.{Ctl}
+use Rattle.rd_base.specs.declared.tamper.Tamper.{Tamper}
 use Rattle.rv_step.specs.State.{State}
+use Rattle.checkpoint_run.specs.TamperedRun.{run_from}
 use Rattle.checkpoint_run.specs.Versions.{is_among, AreBelow, IsShownBut}
 use Rattle.checkpoint_run.specs.NamedPages.{IsNamed, ArePages}
-use Rattle.checkpoint_run.specs.Keeping.{Stands, AllStand, IsAdded}
+use Rattle.checkpoint_run.specs.WrittenPages.{stored_by, flipped_by, written_by, how_many, writes}
+use Rattle.checkpoint_run.specs.Keeping.{Stands, AllStand, IsAdded, at_first}
 use Rattle.checkpoint_run.specs.UnderWay.{AllChained}
 use Rattle.checkpoint_run.specs.declared.checkpoint.Checkpoint.{Checkpoint}
 use Rattle.checkpoint_run.specs.declared.version.Version.{Version}
@@ -87,6 +91,29 @@ module _ (pages : List (Option ℕ)) (two : length pages ≡ 2) (old between new
       let none-1 = kept-2 (a / 4096) none in
       elsewhere a (λ named. ⊎_elim (named-1 (a / 4096) none-1) (named-2 (a / 4096) none) (named_apart pages two (a / 4096) named))
       ∙ shown a below (kept-1 (a / 4096) none-1)
+
+-- the pages that are noted after a step are no more than those that were written
+how_many_two : (a b : Option ℕ) → how_many (a ∷ b ∷ []) ≡ how_many (a ∷ []) + how_many (b ∷ [])
+how_many_two None b = omega arith
+how_many_two (Some page) b = omega arith
+
+pub noted_few : (tamper : Tamper) (first : State) (at : ℕ) (pages : List (Option ℕ)) (kept old between new start : ℕ)
+    → pages ≡ written_by tamper at (run_from tamper first at)
+    → between ≤ old + how_many (get_or pages 0 None ∷ []) → new ≤ between + how_many (get_or pages 1 None ∷ [])
+    → kept + old ≤ start + writes tamper first at → kept + new ≤ start + writes tamper first (at + 1)
+noted_few tamper first at pages kept old between new start written few-1 few-2 before =
+    let a = stored_by tamper at (run_from tamper first at) in
+    let b = flipped_by tamper (at + 1) in
+    let one : how_many (get_or pages 0 None ∷ []) ≡ how_many (a ∷ []) = ap (λ ps. how_many (get_or ps 0 None ∷ [])) written in
+    let other : how_many (get_or pages 1 None ∷ []) ≡ how_many (b ∷ []) = ap (λ ps. how_many (get_or ps 1 None ∷ [])) written in
+    let two = how_many_two a b in
+    let more : writes tamper first (at + 1) ≡ writes tamper first at + how_many (a ∷ b ∷ []) = ap (writes tamper first) (add-one at) in
+    omega arith
+
+-- a checkpoint more leaves the first one
+pub at_first_on : (cs new : List Checkpoint) (c : Checkpoint) (n : ℕ) → length cs ≡ n + 1 → new ≡ cs ++ c ∷ [] → at_first new ≡ at_first cs
+at_first_on [] new c n many pushed = absurd (omega arith)
+at_first_on (x ∷ rest) new c n many pushed = ap at_first pushed
 
 -- a property of each, after one more
 pushed : (P : ℕ → Checkpoint → Type 0) (cs : List Checkpoint) (c : Checkpoint) → ((k : ℕ) → IfSome (slice_get cs k) (P k)) → P (length cs) c → (k : ℕ) → IfSome (slice_get (cs ++ c ∷ []) k) (P k)

@@ -1,14 +1,14 @@
 -- Versions of pages, and the memory that they stand for.
-use Rattle.std.proofs.Common.{◌≡◌, ◌≢◌, ◌⊎◌, ℕ, ◌+◌, ◌*◌, ◌/◌, ◌%◌, ◌^◌, ◌<◌, ◌≤◌, List, [], ◌∷◌, ◌++◌, slice_index, Some, eqb, cond, Bool, true, false, true≢false, ◌||◌, inl, inr, refl, sym, ap, subst, ◌∙◌, ⊎_elim, arith, reverse}
+use Rattle.std.proofs.Common.{◌≡◌, ◌≢◌, ◌⊎◌, ℕ, ◌+◌, ◌*◌, ◌/◌, ◌%◌, ◌^◌, ◌<◌, ◌≤◌, List, [], ◌∷◌, ◌++◌, length, slice_index, Some, eqb, cond, Bool, true, false, true≢false, ◌||◌, inl, inr, refl, sym, ap, subst, ◌∙◌, ⊎_elim, arith, reverse}
 use Rattle.std.proofs.lemmas.Bool.{cases_eq, cases_lt, eq-eqb, ne_eqb}
 use Rattle.std.proofs.lemmas.Bool.Decides.{nat_tests}
-use Rattle.std.proofs.lemmas.List.{reverse-append, append_assoc}
+use Rattle.std.proofs.lemmas.List.{reverse-append, append_assoc, map-append, length-map, length-append}
 use Rattle.std.specs.Ordering.{nat_cmp}
 use Rattle.std.specs.BTreeMap.{is_at}
 use Rattle.mem_plain.specs.Contents.{Contents, byte_at, no_bytes, IsUsed, contents_with}
 use Rattle.mem_plain.specs.Memory.{IsMemory}
 use Rattle.mem_plain.specs.Pages.{byte_of}
-use Rattle.checkpoint_run.specs.Versions.{first_of, byte_by, pictured, is_among, AreBelow, IsShownBut}
+use Rattle.checkpoint_run.specs.Versions.{first_of, byte_by, pictured, pages_of, is_among, AreBelow, IsShownBut}
 use Rattle.checkpoint_run.specs.declared.version.Version.{Version}
 
 pub is_at-eqb : (key x : ℕ) → is_at (nat_cmp key) x ≡ eqb x key
@@ -93,6 +93,22 @@ shown_pushed versions new v rest m pushed is shown = subst (λ vs. IsShownBut vs
 
 pub more_pushed : (first old new : List Version) (v : Version) → ((added : List Version) × (old ≡ first ++ added)) → new ≡ old ++ v ∷ [] → (added : List Version) × (new ≡ first ++ added)
 more_pushed first old new v more pushed = (more.0 ++ v ∷ [], pushed ∙ (ap (λ vs. vs ++ v ∷ []) more.1 ∙ append_assoc first more.0 (v ∷ [])))
+
+-- a version of the first of some pages is added
+pub pages_pushed : (old new : List Version) (v : Version) (left rest all : List ℕ) → new ≡ old ++ v ∷ [] → left ≡ v.page ∷ rest → pages_of old ++ left ≡ all → pages_of new ++ rest ≡ all
+pages_pushed old new v left rest all pushed steps before =
+    ap (λ vs. pages_of vs ++ rest) pushed
+    ∙ (ap (λ ps. ps ++ rest) (map-append (λ (v : Version). v.page) old (v ∷ []))
+    ∙ (append_assoc (pages_of old) (v.page ∷ []) rest
+    ∙ (ap (λ ps. pages_of old ++ ps) (sym steps) ∙ before)))
+
+-- how many versions there are once one of each page was added
+pub length_added : (old new : List Version) (pages : List ℕ) → pages_of new ≡ pages_of old ++ pages → length new ≡ length old + length pages
+length_added old new pages one =
+    sym (length-map new (λ (v : Version). v.page))
+    ∙ (ap length one
+    ∙ (length-append (pages_of old) pages
+    ∙ ap (λ n. n + length pages) (length-map old (λ (v : Version). v.page))))
 
 -- versions that show each byte stand for the memory
 pub pictured_memory : (versions : List Version) (m : Contents) → ((f g : ℕ → ℕ) → ((q : ℕ) → q < 2 ^ 32 → f q ≡ g q) → contents_with f ≡ contents_with g)

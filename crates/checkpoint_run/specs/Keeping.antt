@@ -7,6 +7,7 @@ use Rattle.mem_plain.specs.Contents.{Contents, no_bytes}
 use Rattle.rv_step.specs.State.{State}
 use Rattle.checkpoint_run.specs.Recorded.{Recorded, state_of_step, still_of}
 use Rattle.checkpoint_run.specs.Versions.{pictured}
+use Rattle.checkpoint_run.specs.WrittenPages.{writes}
 use Rattle.checkpoint_run.specs.declared.checkpoint.Checkpoint.{Checkpoint}
 use Rattle.checkpoint_run.specs.declared.version.Version.{Version}
 
@@ -35,6 +36,11 @@ pub record Stands (c : Checkpoint) (versions : List Version) (output : List ℕ)
 abbrev pub AllStand : List Checkpoint → List Version → List ℕ → (ℕ → State) → ℕ → Type 0
 AllStand checkpoints versions output run every = (k : ℕ) → IfSome (slice_get checkpoints k) (λ c. Stands c versions output (run (k * every)))
 
+-- how many versions the first checkpoint has: one for each page in use at step 0
+abbrev pub at_first : List Checkpoint → ℕ
+at_first [] = 0
+at_first (c ∷ rest) = c.versions
+
 -- what contracts see of a run
 abbrev pub recorded_by : Tamper → ℕ → ℕ → List Checkpoint → List Version → List ℕ → Recorded
 recorded_by tamper bound every checkpoints versions output = record {
@@ -45,12 +51,14 @@ recorded_by tamper bound every checkpoints versions output = record {
   chains = map (λ c. c.ctl.chain.0) checkpoints;
 }
 
--- there is a checkpoint at each multiple of the spacing up to the step from which the run stands still, and at no other step
+-- there is a checkpoint at each multiple of the spacing up to the step from which the run stands still, and at no other step;
+-- beside the versions of the first one there are at most as many as pages are written
 pub record IsRecorded (r : Recorded) (until : ℕ) (checkpoints : List Checkpoint) (versions : List Version) (output : List ℕ) : Type 0 where
   pub spaced : 0 < r.every
   pub rest : until ≡ still_of r
   pub many : length checkpoints ≡ until / r.every + 1
   pub each : AllStand checkpoints versions output (state_of_step r) r.every
+  pub few : length versions ≤ at_first checkpoints + writes r.tamper r.first until
 
 -- one checkpoint more, of a machine's parts
 pub record IsAdded (old new : List Checkpoint) (versions : List Version) (regs : List ℕ) (ctl : Ctl) (memory : Contents) : Type 0 where

@@ -2,6 +2,7 @@ pub use Rattle.rv_step.specs.State
 pub use Rattle.rv_step.specs.Step
 pub mod TamperedRun
 pub mod NamedPages
+pub mod WrittenPages
 pub mod AtRest
 pub mod Recorded
 pub mod Versions

@@ -1,5 +1,5 @@
 -- Derived, a part of the view of `Run`: the memory that versions of pages stand for, of which the last one of a page counts.
-use Rattle.std.specs.Prelude.{◌≡◌, ℕ, ◌/◌, ◌%◌, ◌^◌, ◌<◌, ◌==◌, Bool, true, false, List, [], ◌∷◌, reverse, Option, Some, None, if◌then◌else◌}
+use Rattle.std.specs.Prelude.{◌≡◌, ℕ, ◌/◌, ◌%◌, ◌^◌, ◌<◌, ◌==◌, Bool, true, false, List, [], ◌∷◌, map, reverse, Option, Some, None, if◌then◌else◌}
 use Rattle.std.specs.List.{list_any}
 use Rattle.std.specs.Ordering.{nat_cmp}
 use Rattle.std.specs.BTreeMap.{is_at}
@@ -20,6 +20,10 @@ byte_by versions a = byte_of (first_of (reverse versions) (a / 4096)) (a % 4096)
 -- the memory
 unfoldable pub pictured : List Version → Contents
 pictured versions = contents_with (byte_by versions)
+
+-- the pages of versions, in their order
+abbrev pub pages_of : List Version → List ℕ
+pages_of versions = map (λ v. v.page) versions
 
 -- a page is among some
 abbrev pub is_among : List ℕ → ℕ → Bool

@@ -1,5 +1,5 @@
 ghost use Rattle.std.specs.Prelude.{◌≡◌, ◌++◌, [], List, OnOk};
-ghost use Rattle.checkpoint_run.specs.Versions.{AreBelow, IsShownBut};
+ghost use Rattle.checkpoint_run.specs.Versions.{pages_of, AreBelow, IsShownBut};
 ghost use Rattle.checkpoint_run.specs.Keeping.{IsAdded};
 ghost use Rattle.checkpoint_run.specs.declared.version.Version.{Version};
 
@@ -19,8 +19,8 @@ pub struct Checkpoint {
     pub versions: usize,
 }
 
-/// Adds the checkpoint of a machine, with a version of each page that has changed since the checkpoint before. No page has
-/// changed since then. An `Err` is out of memory.
+/// Adds the checkpoint of a machine, with one version of each page that has changed since the checkpoint before, and no other.
+/// No page has changed since then. An `Err` is out of memory.
 pub fn add_checkpoint(
     machine: &Machine,
     changed: &mut BTreeSet<u32>,
@@ -32,6 +32,7 @@ pub fn add_checkpoint(
     ensures none { OnOk result (changed.new.keys ≡ []) }
     ensures shown { OnOk result (IsShownBut versions.new.items [] machine.now.mem) }
     ensures more { OnOk result ((added : List Version) × (versions.new.items ≡ versions.old.items ++ added)) }
+    ensures one { OnOk result (pages_of versions.new.items ≡ pages_of versions.old.items ++ changed.old.keys) }
     ensures added { OnOk result (IsAdded checkpoints.old.items checkpoints.new.items versions.new.items machine.now.regs machine.now.ctl machine.now.mem) }
 {
     add_versions(versions, changed, &machine.mem)?;

@@ -3,14 +3,15 @@
 //! The run of a prover is the machine's own run with what a tamper does to it (`specs/TamperedRun.antt`). `record_run` makes
 //! it from a machine and keeps a checkpoint at every so many steps, none of them after the step from which the run stands
 //! still. The layers above may rely on this: `machine_at` gives the machine of a checkpoint, and `next` the machine of the
-//! next step, with every page that changed; so each state of the run is had by replaying fewer steps than lie between two
+//! next step, with the pages that were written; so each state of the run is had by replaying fewer steps than lie between two
 //! checkpoints. Both keep the chain by the digester that recorded the run. Laws of the run, in the words of the machine's
 //! own, are `tampered_runs`.
 //!
-//! The output stands once in a run. A checkpoint takes a version of each page that was changed since the checkpoint before,
-//! and of no other; so a run takes memory in proportion to the pages that change from one checkpoint to the next, and
-//! little beside for each checkpoint. That it does is read in `recording` and `versions`, and not proved. Read
-//! `specs/TamperedRun.antt` first, then `run`, then `recording`.
+//! The output stands once in a run. A checkpoint takes one version of each page that was written since the checkpoint before,
+//! and of no other (the clauses of `add_checkpoint` and `note`); which pages a step writes says `specs/WrittenPages.antt`. So,
+//! beside the pages in use at step 0, a run keeps no more versions than pages are written, which is a part of the invariant of
+//! `Run` (`few` in `specs/Keeping.antt`), and of one page no more than there are checkpoints. How much memory a checkpoint takes
+//! beside is read in `checkpoint`. Read `specs/TamperedRun.antt` first, then `run`, then `recording`.
 #![tactic(auto)]
 
 mod checkpoint;

@@ -1,8 +1,9 @@
 //! A run that is being recorded.
-ghost use Rattle.std.specs.Prelude.{◌≡◌, ℕ, ◌+◌, ◌<◌, ◌^◌, ◌∷◌, [], List, false, IfOk, OnOk};
+ghost use Rattle.std.specs.Prelude.{◌≡◌, ◌⊎◌, ℕ, ◌+◌, ◌<◌, ◌≤◌, ◌^◌, ◌∷◌, [], List, length, true, false, IfOk, OnOk};
 ghost use Rattle.rv_step.specs.State.{State, state_of, IsChained};
 ghost use Rattle.checkpoint_run.specs.TamperedRun.{tampered};
 ghost use Rattle.checkpoint_run.specs.NamedPages.{IsNamed, ArePages};
+ghost use Rattle.checkpoint_run.specs.WrittenPages.{how_many};
 ghost use Rattle.checkpoint_run.specs.Versions.{AreBelow, IsShownBut, is_among};
 ghost use Rattle.checkpoint_run.specs.UnderWay.{IsUnderWay};
 
@@ -16,7 +17,7 @@ use rv_step::Machine;
 use std::alloc::Global;
 use std::collections::BTreeSet;
 
-/// A run that is being recorded: its machine and at which step it is, the pages that changed since the last checkpoint, the
+/// A run that is being recorded: its machine and at which step it is, the pages that were written since the last checkpoint, the
 /// versions of pages, and the checkpoints.
 #[derive(Drop)]
 pub struct Recording {
@@ -62,10 +63,12 @@ pub fn begin(alloc: Global, machine: &Machine, tamper: &Tamper) -> Result<Record
     })
 }
 
-/// Notes a page that changed, where one is named. An `Err` is out of memory.
+/// Notes a page that was written, where one is named, and no other. An `Err` is out of memory.
 fn note(changed: &mut BTreeSet<u32>, page: Option<u32>) -> Result<(), Memory>
     ensures named { OnOk result ((p : ℕ) → is_among changed.new.keys p ≡ false → IsNamed p (page ∷ []) → ⊥) }
     ensures kept { OnOk result ((p : ℕ) → is_among changed.new.keys p ≡ false → is_among changed.old.keys p ≡ false) }
+    ensures only { OnOk result ((p : ℕ) → is_among changed.new.keys p ≡ true → (is_among changed.old.keys p ≡ true) ⊎ IsNamed p (page ∷ [])) }
+    ensures few { OnOk result (length changed.new.keys ≤ length changed.old.keys + how_many (page ∷ [])) }
     ensures pages { OnOk result (ArePages (page ∷ []) → AreBelow changed.old.keys → AreBelow changed.new.keys) }
 {
     match page {

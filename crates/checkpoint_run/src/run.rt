@@ -3,6 +3,7 @@ ghost use Rattle.mem_plain.specs.Contents.{byte_at};
 ghost use Rattle.rv_step.specs.State.{state_of, IsChained};
 ghost use Rattle.checkpoint_run.specs.TamperedRun.{tampered};
 ghost use Rattle.checkpoint_run.specs.NamedPages.{IsNamed, ArePages};
+ghost use Rattle.checkpoint_run.specs.WrittenPages.{written_by};
 ghost use Rattle.checkpoint_run.specs.Recorded.{AreChained, state_of_step, still_of};
 
 use crate::checkpoint::Checkpoint;
@@ -137,9 +138,9 @@ pub fn machine_at(run: &Run, checkpoint: u64) -> Result<Machine, Memory>
     })
 }
 
-/// From the machine of step `i`, which is below the bound, to that of the next step, with every page that changed: the page
-/// that the step stores to, and the page in which the tamper changes a byte. A page goes by its number, below 2^20. It keeps
-/// the chain by the digester `d`. An `Err` is out of memory.
+/// From the machine of step `i`, which is below the bound, to that of the next step, with the pages that were written: the page
+/// that the step stores to, and then the page in which the tamper flips a byte. No other page changes. A page goes by its
+/// number, below 2^20. It keeps the chain by the digester `d`. An `Err` is out of memory.
 pub fn next<D: Digester>(
     d: D,
     run: &Run,
@@ -152,6 +153,7 @@ pub fn next<D: Digester>(
     ensures state { IfOk result (λ r. state_of r.0 ≡ state_of_step run.now (i + 1)) }
     ensures chained { IfOk result (λ r. IsChained D.digest_of r.0) }
     ensures two { IfOk result (λ r. length r.1 ≡ 2) }
+    ensures written { IfOk result (λ r. r.1 ≡ written_by run.now.tamper i (state_of_step run.now i)) }
     ensures pages { IfOk result (λ r. ArePages r.1) }
     ensures elsewhere { IfOk result (λ r. (q : ℕ) → ¬ IsNamed (q / 4096) r.1 → byte_at r.0.mem q ≡ byte_at machine.mem q) }
 {

@@ -5,6 +5,7 @@ ghost use Rattle.rv_step.specs.State.{state_of, IsChained};
 ghost use Rattle.checkpoint_run.specs.TamperedRun.{tampered, followed, next_of};
 ghost use Rattle.checkpoint_run.specs.AtRest.{rests};
 ghost use Rattle.checkpoint_run.specs.NamedPages.{IsNamed, ArePages};
+ghost use Rattle.checkpoint_run.specs.WrittenPages.{stored_by, flipped_by, written_by};
 
 use digest_core::Digester;
 use mem_plain::{PAGE_BYTES, laying_bytes};
@@ -29,6 +30,7 @@ pub fn is_at_rest(tamper: &Tamper, bound: u64, i: u64, machine: &Machine) -> boo
 pub fn tamper_at(tamper: &Tamper, i: u64, machine: &mut Machine) -> Result<Option<u32>, Memory>
     ensures state { OnOk result (state_of machine.new ≡ tampered tamper.now i (state_of machine.old)) }
     ensures chained { (digest : List ℕ → List ℕ) → IsChained digest machine.old → IsChained digest machine.new }
+    ensures page { IfOk result (λ page. page ≡ flipped_by tamper.now i) }
     ensures pages { IfOk result (λ page. ArePages (page ∷ [])) }
     ensures elsewhere { IfOk result (λ page. (q : ℕ) → ¬ IsNamed (q / 4096) (page ∷ []) → byte_at machine.new.mem q ≡ byte_at machine.old.mem q) }
 {
@@ -59,6 +61,7 @@ fn step_from<D: Digester>(
     ensures state { OnOk result (state_of machine.new ≡ followed tamper.now i (state_of machine.old)) }
     ensures chained { IsChained D.digest_of machine.new }
     ensures adds { OnOk result ((more : List ℕ) × (machine.new.output.items ≡ machine.old.output.items ++ more)) }
+    ensures page { IfOk result (λ page. page ≡ stored_by tamper.now i (state_of machine.old)) }
     ensures pages { IfOk result (λ page. ArePages (page ∷ [])) }
     ensures elsewhere { IfOk result (λ page. (q : ℕ) → ¬ IsNamed (q / 4096) (page ∷ []) → byte_at machine.new.mem q ≡ byte_at machine.old.mem q) }
 {
@@ -74,7 +77,8 @@ fn step_from<D: Digester>(
     Ok(page)
 }
 
-/// From the machine of step `i` to that of the next one, and every page that changed. An `Err` is out of memory.
+/// From the machine of step `i` to that of the next one, and the pages that were written: that of the step's store, and then
+/// that of a byte that is flipped. An `Err` is out of memory.
 pub fn follow<D: Digester>(
     d: D,
     tamper: &Tamper,
@@ -87,6 +91,7 @@ pub fn follow<D: Digester>(
     ensures chained { IfOk result (λ r. IsChained D.digest_of r.0) }
     ensures adds { IfOk result (λ r. (more : List ℕ) × (r.0.output.items ≡ machine.output.items ++ more)) }
     ensures two { IfOk result (λ r. length r.1 ≡ 2) }
+    ensures written { IfOk result (λ r. r.1 ≡ written_by tamper.now i (state_of machine)) }
     ensures pages { IfOk result (λ r. ArePages r.1) }
     ensures elsewhere { IfOk result (λ r. (q : ℕ) → ¬ IsNamed (q / 4096) r.1 → byte_at r.0.mem q ≡ byte_at machine.mem q) }
 {

@@ -1,7 +1,7 @@
 ghost use Rattle.std.specs.Prelude.{ℕ, ◌≤◌, List, length, IfOk};
 ghost use Rattle.rv_step.specs.State.{IsChained};
 
-use crate::{machine_at, record_run};
+use crate::{machine_at, next, record_run};
 use digest_core::Sha256;
 use mem_plain::PlainMem;
 use rd_base::{Memory, RegisterNumber, Status, Tamper};
@@ -18,20 +18,8 @@ fn machine_of(alloc: Global, image: &[u8]) -> Result<Machine, Memory>
     Machine::new(alloc, mem, 0x1_0000, &[])
 }
 
-/// addi x10, x0, 42; addi x17, x0, 1; ecall; addi x10, x0, 0; addi x17, x0, 93; ecall: it puts out 42 in step 2, and has
-/// stopped at step 6
-const SIX_STEPS: [u8; 24] = [
-    0x13, 0x05, 0xa0, 0x02, 0x93, 0x08, 0x10, 0x00, 0x73, 0x00, 0x00, 0x00, 0x13, 0x05, 0x00, 0x00,
-    0x93, 0x08, 0xd0, 0x05, 0x73, 0x00, 0x00, 0x00,
-];
-
-/// A byte beside the program.
-fn flip(step: u32) -> Tamper {
-    Tamper::Flip {
-        step,
-        addr: 0x2_0000,
-        mask: 1,
-    }
+fn flip(step: u32, addr: u32, mask: u8) -> Tamper {
+    Tamper::Flip { step, addr, mask }
 }
 
 fn register(step: u32, reg: u8, value: u32) -> Tamper {
@@ -41,138 +29,124 @@ fn register(step: u32, reg: u8, value: u32) -> Tamper {
     }
 }
 
-/// A tamper, the bound and the spacing; then the step from which the run stands still and the number of the last
-/// checkpoint; then that checkpoint's status, pc, register x10 and length of the output.
-type Row = (Tamper, u64, u32, u64, u32, Status, u32, u32, u64);
+fn early(steps: u32) -> Tamper {
+    Tamper::Early { steps }
+}
+
+/// addi x10, x0, 42; addi x17, x0, 1; ecall; addi x10, x0, 0; addi x17, x0, 93; ecall: it puts out 42 in step 2, and has
+/// stopped at step 6
+const SIX_STEPS: [u8; 24] = [
+    0x13, 0x05, 0xa0, 0x02, 0x93, 0x08, 0x10, 0x00, 0x73, 0x00, 0x00, 0x00, 0x13, 0x05, 0x00, 0x00,
+    0x93, 0x08, 0xd0, 0x05, 0x73, 0x00, 0x00, 0x00,
+];
+
+/// An address beside the program.
+const BESIDE: u32 = 0x2_0000;
+
+/// The step from which a run stands still, and the status, pc, register x10 and length of the output of its last checkpoint.
+#[derive(Clone, Copy, Debug, PartialEq, Eq)]
+struct LastKept {
+    still: u64,
+    status: Status,
+    pc: u32,
+    x10: u32,
+    out_len: u64,
+}
+
+fn kept(still: u64, status: Status, pc: u32, x10: u32, out_len: u64) -> LastKept {
+    LastKept {
+        still,
+        status,
+        pc,
+        x10,
+        out_len,
+    }
+}
+
+/// What the run of SIX_STEPS keeps with a tamper, up to a bound and with a spacing of at least 1.
+fn recorded(alloc: Global, tamper: Tamper, bound: u64, every: u32) -> Result<LastKept, Memory> {
+    let machine = machine_of(alloc, &SIX_STEPS)?;
+    let run = record_run(alloc, Sha256, &machine, bound, every.max(1), tamper)?;
+    let last = machine_at(&run, run.still() / u64::from(run.every()))?;
+    Ok(LastKept {
+        still: run.still(),
+        status: last.ctl.status,
+        pc: last.ctl.pc,
+        x10: last.regs.get(10),
+        out_len: last.output.len() as u64,
+    })
+}
+
+/// A tamper, the bound and the spacing, and what is kept.
+type Row = (Tamper, u64, u32, LastKept);
 
 #[test]
-fn a_run_stands_still_and_has_its_last_checkpoint_there(rt: HostRuntime) -> Result<(), Fail> {
+fn a_run_stands_still_where_it_stops_or_at_the_bound(rt: HostRuntime) -> Result<(), Fail> {
     let exited = Status::Exited(0);
     let running = Status::Running;
-    let first_byte = Tamper::Flip {
-        step: 0,
-        addr: 0x1_0002,
-        mask: 0x10,
-    };
-    let rows: [Row; 22] = [
+    let rows: [Row; 6] = [
         // it stops on a checkpoint, one step behind one, one step before one
-        (Tamper::Untouched, 8, 6, 6, 1, exited, 0x1_0014, 0, 1),
-        (Tamper::Untouched, 8, 5, 6, 1, running, 0x1_0014, 0, 1),
-        (Tamper::Untouched, 8, 7, 6, 0, running, 0x1_0000, 0, 0),
+        (Tamper::Untouched, 8, 6, kept(6, exited, 0x1_0014, 0, 1)),
+        (Tamper::Untouched, 8, 5, kept(6, running, 0x1_0014, 0, 1)),
+        (Tamper::Untouched, 8, 7, kept(6, running, 0x1_0000, 0, 0)),
         // it stops at the bound, behind it, at once
-        (Tamper::Untouched, 6, 1024, 6, 0, running, 0x1_0000, 0, 0),
-        (Tamper::Untouched, 5, 1, 5, 5, running, 0x1_0014, 0, 1),
-        (Tamper::Untouched, 0, 1, 0, 0, running, 0x1_0000, 0, 0),
-        // the first instruction loads 43
-        (first_byte, 5, 3, 5, 1, running, 0x1_000c, 43, 1),
-        // a byte is flipped before the stop, behind it, at the bound, above it
-        (flip(2), 8, 2, 6, 3, exited, 0x1_0014, 0, 1),
-        (flip(7), 8, 1, 7, 7, exited, 0x1_0014, 0, 1),
-        (flip(8), 8, 4, 8, 2, exited, 0x1_0014, 0, 1),
-        (flip(9), 8, 3, 6, 2, exited, 0x1_0014, 0, 1),
-        // a register is set before the output, at the first step, behind the stop, above the bound
-        (register(2, 10, 43), 4, 1, 4, 4, running, 0x1_0010, 0, 1),
-        (register(0, 10, 7), 0, 1, 0, 0, running, 0x1_0000, 7, 0),
-        (register(8, 10, 5), 8, 1, 8, 8, exited, 0x1_0014, 5, 1),
-        (register(9, 10, 5), 8, 1, 6, 6, exited, 0x1_0014, 0, 1),
-        // instead of leaving it puts out a byte, and traps behind its last instruction
-        (
-            register(5, 17, 1),
-            8,
-            1,
-            7,
-            7,
-            Status::Trapped(2),
-            0x1_0018,
-            0,
-            2,
-        ),
-        // it ends at once, before the stop, at it, behind it, at the bound, above it
-        (
-            Tamper::Early { steps: 0 },
-            8,
-            1,
-            0,
-            0,
-            running,
-            0x1_0000,
-            0,
-            0,
-        ),
-        (
-            Tamper::Early { steps: 4 },
-            8,
-            1,
-            4,
-            4,
-            running,
-            0x1_0010,
-            0,
-            1,
-        ),
-        (
-            Tamper::Early { steps: 6 },
-            8,
-            3,
-            6,
-            2,
-            exited,
-            0x1_0014,
-            0,
-            1,
-        ),
-        (
-            Tamper::Early { steps: 7 },
-            8,
-            1,
-            6,
-            6,
-            exited,
-            0x1_0014,
-            0,
-            1,
-        ),
-        (
-            Tamper::Early { steps: 5 },
-            5,
-            1,
-            5,
-            5,
-            running,
-            0x1_0014,
-            0,
-            1,
-        ),
-        (
-            Tamper::Early { steps: 6 },
-            5,
-            1,
-            5,
-            5,
-            running,
-            0x1_0014,
-            0,
-            1,
-        ),
+        (Tamper::Untouched, 6, 1024, kept(6, running, 0x1_0000, 0, 0)),
+        (Tamper::Untouched, 5, 1, kept(5, running, 0x1_0014, 0, 1)),
+        (Tamper::Untouched, 0, 1, kept(0, running, 0x1_0000, 0, 0)),
     ];
-    let machine = machine_of(rt.alloc(), &SIX_STEPS)?;
-    for (tamper, bound, every, still, last, status, pc, x10, out_len) in rows {
-        let run = record_run(rt.alloc(), Sha256, &machine, bound, every.max(1), tamper)?;
-        assert_eq!(rt; run.bound(), bound);
-        assert_eq!(rt; run.every(), every);
-        assert_eq!(rt; run.still(), still);
-        let step = u64::from(last) * u64::from(run.every());
-        assert!(rt; still < step + u64::from(every));
-        if step <= run.still() {
-            let kept = machine_at(&run, u64::from(last))?;
-            assert_eq!(rt; kept.ctl.status, status);
-            assert_eq!(rt; kept.ctl.pc, pc);
-            assert_eq!(rt; kept.regs.get(10), x10);
-            assert_eq!(rt; kept.ctl.out_len, out_len);
-            assert_eq!(rt; kept.output.len() as u64, out_len);
-        } else {
-            assert_eq!(rt; step, still);
-        }
+    for (tamper, bound, every, wanted) in rows {
+        assert_eq!(rt; recorded(rt.alloc(), tamper, bound, every)?, wanted);
+    }
+    Ok(())
+}
+
+#[test]
+fn a_changed_run_stands_still_once_it_has_changed_and_stopped(rt: HostRuntime) -> Result<(), Fail> {
+    let exited = Status::Exited(0);
+    let running = Status::Running;
+    let trapped = Status::Trapped(2);
+    let rows: [Row; 10] = [
+        // the first instruction loads 43
+        (
+            flip(0, 0x1_0002, 0x10),
+            5,
+            3,
+            kept(5, running, 0x1_000c, 43, 1),
+        ),
+        // a byte is flipped before the stop, behind it, at the bound, above it
+        (flip(2, BESIDE, 1), 8, 2, kept(6, exited, 0x1_0014, 0, 1)),
+        (flip(7, BESIDE, 1), 8, 1, kept(7, exited, 0x1_0014, 0, 1)),
+        (flip(8, BESIDE, 1), 8, 4, kept(8, exited, 0x1_0014, 0, 1)),
+        (flip(9, BESIDE, 1), 8, 3, kept(6, exited, 0x1_0014, 0, 1)),
+        // a register is set before the output, at the first step, behind the stop, above the bound
+        (register(2, 10, 43), 4, 1, kept(4, running, 0x1_0010, 0, 1)),
+        (register(0, 10, 7), 0, 1, kept(0, running, 0x1_0000, 7, 0)),
+        (register(8, 10, 5), 8, 1, kept(8, exited, 0x1_0014, 5, 1)),
+        (register(9, 10, 5), 8, 1, kept(6, exited, 0x1_0014, 0, 1)),
+        // instead of leaving it puts out a byte, and traps behind its last instruction
+        (register(5, 17, 1), 8, 1, kept(7, trapped, 0x1_0018, 0, 2)),
+    ];
+    for (tamper, bound, every, wanted) in rows {
+        assert_eq!(rt; recorded(rt.alloc(), tamper, bound, every)?, wanted);
+    }
+    Ok(())
+}
+
+#[test]
+fn a_run_that_ends_early_stands_still_there(rt: HostRuntime) -> Result<(), Fail> {
+    let exited = Status::Exited(0);
+    let running = Status::Running;
+    let rows: [Row; 6] = [
+        // it ends at once, before the stop, at it, behind it, at the bound, above it
+        (early(0), 8, 1, kept(0, running, 0x1_0000, 0, 0)),
+        (early(4), 8, 1, kept(4, running, 0x1_0010, 0, 1)),
+        (early(6), 8, 3, kept(6, exited, 0x1_0014, 0, 1)),
+        (early(7), 8, 1, kept(6, exited, 0x1_0014, 0, 1)),
+        (early(5), 5, 1, kept(5, running, 0x1_0014, 0, 1)),
+        (early(6), 5, 1, kept(5, running, 0x1_0014, 0, 1)),
+    ];
+    for (tamper, bound, every, wanted) in rows {
+        assert_eq!(rt; recorded(rt.alloc(), tamper, bound, every)?, wanted);
     }
     Ok(())
 }
@@ -184,10 +158,47 @@ const A_STORE_IN_EACH_PAGE: [u8; 24] = [
     0xb3, 0x82, 0x72, 0x00, 0x6f, 0xf0, 0x9f, 0xff,
 ];
 
+/// Whether the bytes of a machine of A_STORE_IN_EACH_PAGE are those of a step: those that it stored to a hundred pages, its
+/// program's first, and one at an address, which is 0x81 from the step `flipped` on.
+fn has_bytes_of(mem: &PlainMem, step: u64, flipped: u32, addr: u32) -> bool {
+    for page in 0..100u32 {
+        let stored = step > u64::from(3 * page + 3);
+        if mem.byte(0x2_0000 + 4096 * page) != if stored { 7 } else { 0 } {
+            return false;
+        }
+    }
+    let changed = step >= u64::from(flipped);
+    mem.byte(addr) == if changed { 0x81 } else { 0 } && mem.byte(0x1_0000) == 0xb7
+}
+
+/// The step from which a run of A_STORE_IN_EACH_PAGE stands still, in which a byte is flipped and whose bound is 305, and how
+/// many of its first checkpoints have the bytes of their steps.
+fn right_checkpoints(
+    alloc: Global,
+    every: u32,
+    flipped: u32,
+    addr: u32,
+) -> Result<(u64, u32), Memory> {
+    let machine = machine_of(alloc, &A_STORE_IN_EACH_PAGE)?;
+    let tamper = flip(flipped, addr, 0x81);
+    let run = record_run(alloc, Sha256, &machine, 305, every.max(1), tamper)?;
+    for checkpoint in 0..100u32 {
+        let step = u64::from(checkpoint) * u64::from(run.every());
+        if step > run.still() {
+            return Ok((run.still(), checkpoint));
+        }
+        let kept = machine_at(&run, u64::from(checkpoint))?;
+        if !has_bytes_of(&kept.mem, step, flipped, addr) {
+            return Ok((run.still(), checkpoint));
+        }
+    }
+    Ok((run.still(), 100))
+}
+
 #[test]
 fn a_checkpoint_has_the_pages_of_its_step(rt: HostRuntime) -> Result<(), Fail> {
     // a byte is flipped in a page that is stored to in step 9, and in one that nobody stores to
-    let rows = [
+    let rows: [(u32, u32); 8] = [
         (0, 0x2_2005),
         (48, 0x2_2005),
         (49, 0x2_2005),
@@ -197,31 +208,45 @@ fn a_checkpoint_has_the_pages_of_its_step(rt: HostRuntime) -> Result<(), Fail> {
         (50, 0x7000_0000),
         (305, 0x7000_0000),
     ];
-    let machine = machine_of(rt.alloc(), &A_STORE_IN_EACH_PAGE)?;
     for (flipped, addr) in rows {
-        let tamper = Tamper::Flip {
-            step: flipped,
-            addr,
-            mask: 0x81,
-        };
-        for every in [7, 64, 1024] {
-            let run = record_run(rt.alloc(), Sha256, &machine, 305, every, tamper)?;
-            assert_eq!(rt; run.still(), 305);
-            for checkpoint in 0..44u32 {
-                let step = u64::from(checkpoint) * u64::from(run.every());
-                if step <= run.still() {
-                    let kept = machine_at(&run, u64::from(checkpoint))?;
-                    for page in 0..100u32 {
-                        let stored = step > u64::from(3 * page + 3);
-                        let byte = kept.mem.byte(0x2_0000 + 4096 * page);
-                        assert_eq!(rt; byte, if stored { 7 } else { 0 });
-                    }
-                    let changed = step >= u64::from(flipped);
-                    assert_eq!(rt; kept.mem.byte(addr), if changed { 0x81 } else { 0 });
-                    assert_eq!(rt; kept.mem.byte(0x1_0000), 0xb7);
-                }
-            }
+        for (every, checkpoints) in [(7, 44), (64, 5), (1024, 1)] {
+            let right = right_checkpoints(rt.alloc(), every, flipped, addr)?;
+            assert_eq!(rt; right, (305, checkpoints));
         }
+    }
+    Ok(())
+}
+
+/// The pages that `next` names from a step of a run of A_STORE_IN_EACH_PAGE on, which goes up to step 12.
+fn named_from(alloc: Global, tamper: Tamper, step: u32) -> Result<[Option<u32>; 2], Memory> {
+    let machine = machine_of(alloc, &A_STORE_IN_EACH_PAGE)?;
+    let run = record_run(alloc, Sha256, &machine, 12, 1, tamper)?;
+    let at = u64::from(step) * u64::from(run.every());
+    if at > run.still() || at >= run.bound() {
+        return Ok([None, None]);
+    }
+    let kept = machine_at(&run, u64::from(step))?;
+    let (_after, pages) = next(Sha256, &run, at, kept)?;
+    Ok(pages)
+}
+
+#[test]
+fn next_names_the_page_of_the_store_and_that_of_the_flipped_byte(
+    rt: HostRuntime,
+) -> Result<(), Fail> {
+    let rows: [(Tamper, u32, [Option<u32>; 2]); 9] = [
+        (Tamper::Untouched, 2, [None, None]),
+        (Tamper::Untouched, 3, [Some(0x20), None]),
+        (Tamper::Untouched, 4, [None, None]),
+        (Tamper::Untouched, 6, [Some(0x21), None]),
+        (flip(4, 0x7000_0000, 1), 3, [Some(0x20), Some(0x7_0000)]),
+        (flip(5, 0xffff_ffff, 1), 4, [None, Some(0xf_ffff)]),
+        (flip(5, 0x7000_0000, 1), 5, [None, None]),
+        (register(4, 6, 1), 3, [Some(0x20), None]),
+        (early(3), 3, [None, None]),
+    ];
+    for (tamper, step, pages) in rows {
+        assert_eq!(rt; named_from(rt.alloc(), tamper, step)?, pages);
     }
     Ok(())
 }

@@ -1,6 +1,6 @@
 //! Versions of pages, one behind the other: the last version of a page is the page.
 ghost use Rattle.std.specs.Prelude.{◌≡◌, ◌++◌, [], List, IfOk, OnOk};
-ghost use Rattle.checkpoint_run.specs.Versions.{pictured, AreBelow, IsShownBut};
+ghost use Rattle.checkpoint_run.specs.Versions.{pictured, pages_of, AreBelow, IsShownBut};
 ghost use Rattle.checkpoint_run.specs.declared.version.Version.{Version};
 
 use crate::version::Version;
@@ -23,7 +23,7 @@ pub fn used_pages(alloc: Global, mem: &PlainMem) -> Result<BTreeSet<u32>, Memory
     Ok(pages)
 }
 
-/// Adds a version of each page that changed. An `Err` is out of memory.
+/// Adds one version of each page that changed, and no other. An `Err` is out of memory, after some were added.
 pub fn add_versions(
     versions: &mut Vec<Version>,
     changed: &BTreeSet<u32>,
@@ -33,6 +33,7 @@ pub fn add_versions(
     requires shown { IsShownBut versions.old.items changed.now.keys mem.now }
     ensures shown { OnOk result (IsShownBut versions.new.items [] mem.now) }
     ensures more { OnOk result ((added : List Version) × (versions.new.items ≡ versions.old.items ++ added)) }
+    ensures one { OnOk result (pages_of versions.new.items ≡ pages_of versions.old.items ++ changed.now.keys) }
 {
     'pages: for page in changed.iter() {
         let bytes = mem.page(*page)?;

@@ -1,13 +1,15 @@
-use Rattle.std.proofs.Common.{◌≡◌, ◌∷◌, length-append, ℕ, ◌+◌, ◌*◌, ◌%◌, ◌++◌, [], List, length, refl, sym, ap, subst, ◌∙◌, arith, rules}
+use Rattle.std.proofs.Common.{◌≡◌, ◌∷◌, length-append, ℕ, ◌+◌, ◌*◌, ◌/◌, ◌%◌, ◌≤◌, ◌++◌, [], List, length, refl, sym, ap, subst, ◌∙◌, arith, rules}
 use Rattle.digest_core.specs.Chain.{chain_of}
 use Rattle.std.proofs.Math.Numerals.{add-one}
 use Rattle.std.proofs.lemmas.List.{append-nil}
 use Rattle.rv_step.specs.State.{State, state_of}
 use Rattle.checkpoint_run.specs.TamperedRun.{next_of, run_from}
+use Rattle.checkpoint_run.specs.WrittenPages.{written_by, writes}
 use Rattle.checkpoint_run.specs.Versions.{AreBelow, IsShownBut}
-use Rattle.checkpoint_run.specs.Keeping.{AllStand}
+use Rattle.checkpoint_run.specs.Keeping.{AllStand, at_first}
 use Rattle.checkpoint_run.specs.declared.version.Version.{Version}
-use Rattle.checkpoint_run.proofs.RecordLemmas.{all_stand_on, all_stand_added, all_chained_added, due, not_due, due_here, noted_below, noted_shown}
+use Rattle.checkpoint_run.proofs.RecordLemmas.{all_stand_on, all_stand_added, all_chained_added, due, not_due, due_here, noted_below, noted_shown, noted_few, at_first_on}
+use Rattle.checkpoint_run.proofs.VersionLemmas.{length_added}
 use Rattle.checkpoint_run.proofs.recording.go_on.Goals as goal
 
 pub add_checkpoint-requires-clause-pages : goal.add_checkpoint-requires-clause-pages
@@ -32,6 +34,8 @@ returns-then-at-from-ne0-clause-under_way g c first way =
       shown = noted_shown c.in_ok-machine.pages f.two old.changed.keys c.note.new.changed.keys c.note-2.new.changed.keys old.versions.items old.machine.mem c.in_ok-machine.machine.mem
           c.in_ok-note.ensures.named c.in_ok-note.ensures.kept c.in_ok-note-2.ensures.named c.in_ok-note-2.ensures.kept f.elsewhere c.requires.shown;
       many = way.many ∙ ap (λ n. n + 1) (sym (not_due old.at c.args.every c.requires.every (λ zero. c.if-at-from-ne0.true (ap (λ e. (old.at + 1) % e) c.from.ensures ∙ zero))));
+      few = noted_few c.args.tamper.now first old.at c.in_ok-machine.pages (length old.versions.items) (length old.changed.keys) (length c.note.new.changed.keys) (length c.note-2.new.changed.keys) (at_first old.checkpoints.items)
+          (f.written ∙ ap (written_by c.args.tamper.now old.at) way.state) c.in_ok-note.ensures.few c.in_ok-note-2.ensures.few way.few;
       each = subst Q (sym f.adds.1) (subst R (append-nil old.versions.items) (all_stand_on old.checkpoints.items old.versions.items [] old.machine.output.items f.adds.0 run c.args.every way.each));
       chains = way.chains;
     }
@@ -56,6 +60,13 @@ returns-clause-under_way g c first way =
       pages = subst AreBelow (sym e.none) (λ p among. absurd (search (arith, rules, among)));
       shown = subst (λ pages. IsShownBut c.add_checkpoint.new.versions.items pages c.in_ok-machine.machine.mem) (sym e.none) e.shown;
       many = let grown = ap length e.added.pushed in let len = length-append old.checkpoints.items (e.added.checkpoint ∷ []) in let d = due old.at c.args.every c.requires.every even in let was = way.many in omega arith;
+      few =
+          let noted : length old.versions.items + length c.note-2.new.changed.keys ≤ at_first old.checkpoints.items + writes c.args.tamper.now first (old.at + 1) = noted_few c.args.tamper.now first old.at c.in_ok-machine.pages (length old.versions.items) (length old.changed.keys) (length c.note.new.changed.keys) (length c.note-2.new.changed.keys) (at_first old.checkpoints.items)
+          (f.written ∙ ap (written_by c.args.tamper.now old.at) way.state) c.in_ok-note.ensures.few c.in_ok-note-2.ensures.few way.few in
+          let len = length_added old.versions.items c.add_checkpoint.new.versions.items c.note-2.new.changed.keys e.one in
+          let none = ap length e.none in
+          let start = at_first_on old.checkpoints.items c.add_checkpoint.new.checkpoints.items e.added.checkpoint (old.at / c.args.every) way.many e.added.pushed in
+          omega arith;
       each = all_stand_added old.checkpoints.items c.add_checkpoint.new.checkpoints.items c.add_checkpoint.new.versions.items s c.in_ok-machine.machine.ctl run c.args.every before e.added refl refl (c.in_ok-machine.machine.counted ∙ c.in_ok-machine.machine.output.ok.0) (ap run number ∙ sym here);
       chains = all_chained_added g.D.Digester.digest_of old.checkpoints.items c.add_checkpoint.new.checkpoints.items c.add_checkpoint.new.versions.items c.in_ok-machine.machine.regs c.in_ok-machine.machine.ctl c.in_ok-machine.machine.mem run c.args.every way.chains e.added (f.chained ∙ ap (λ x. chain_of g.D.Digester.digest_of x.output) (here ∙ ap run (sym number)));
     }

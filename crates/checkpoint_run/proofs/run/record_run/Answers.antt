@@ -1,9 +1,10 @@
-use Rattle.std.proofs.Common.{◌≡◌, ◌⊎◌, ℕ, ◌*◌, slice_get, IfSome, map, true, inl, inr, sym, ap, subst, ◌∙◌, arith}
+use Rattle.std.proofs.Common.{◌≡◌, ◌⊎◌, ℕ, ◌+◌, ◌*◌, ◌≤◌, length, slice_get, IfSome, map, true, inl, inr, sym, ap, subst, ◌∙◌, arith}
 use Rattle.digest_core.specs.Chain.{chain_of}
 use Rattle.rv_step.specs.State.{State, state_of}
 use Rattle.checkpoint_run.specs.TamperedRun.{tampered, run_from, still}
 use Rattle.checkpoint_run.specs.AtRest.{rests}
-use Rattle.checkpoint_run.specs.Keeping.{AllStand, first_by}
+use Rattle.checkpoint_run.specs.WrittenPages.{writes}
+use Rattle.checkpoint_run.specs.Keeping.{AllStand, at_first, first_by}
 use Rattle.checkpoint_run.proofs.RunLemmas.{still_found}
 use Rattle.checkpoint_run.proofs.EndLemmas.{first_of, chains_of}
 use Rattle.checkpoint_run.proofs.run.record_run.Goals as goal
@@ -47,4 +48,8 @@ invariant_of-result g c =
       rest = sym (still_found c.stopped_states_stay.ensures c.args.tamper begun c.args.bound c.steps.recording.at within c.steps.invariant.before ends) ∙ ap (λ s. still c.args.tamper s c.args.bound) (sym first);
       many = way.many;
       each = subst P (sym first) way.each;
+      few =
+          let F : State → Type 0 = λ s. length c.steps.recording.versions.items ≤ at_first c.steps.recording.checkpoints.items + writes c.args.tamper s c.steps.recording.at in
+          let kept = way.few in
+          subst F (sym first) (omega arith);
     }

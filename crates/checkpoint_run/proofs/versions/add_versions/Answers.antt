@@ -1,6 +1,6 @@
-use Rattle.std.proofs.Common.{◌≡◌, true, sym, subst}
-use Rattle.checkpoint_run.specs.Versions.{is_among, IsShownBut}
-use Rattle.checkpoint_run.proofs.VersionLemmas.{among_first, among_rest, shown_pushed, more_pushed}
+use Rattle.std.proofs.Common.{◌≡◌, ◌++◌, true, sym, subst}
+use Rattle.checkpoint_run.specs.Versions.{pages_of, is_among, IsShownBut}
+use Rattle.checkpoint_run.proofs.VersionLemmas.{among_first, among_rest, shown_pushed, more_pushed, pages_pushed}
 use Rattle.checkpoint_run.proofs.versions.add_versions.Goals as goal
 
 pub page-requires : goal.page-requires
@@ -18,4 +18,5 @@ pages-preserved c =
       shown = shown_pushed c.pages.versions.items c.push.new.self.items _ rest c.args.mem.now pushed c.in_ok-bytes.ensures (subst (λ l. IsShownBut c.pages.versions.items l c.args.mem.now) steps inv.shown);
       among = λ p there. inv.among p (subst (λ l. is_among l p ≡ true) (sym steps) (among_rest c.in-Some.page.now rest p there));
       more = more_pushed c.args.versions.now.items c.pages.versions.items c.push.new.self.items _ inv.more pushed;
+      one = pages_pushed c.pages.versions.items c.push.new.self.items _ c.pages.page-iterator rest (pages_of c.args.versions.now.items ++ c.args.changed.now.keys) pushed steps inv.one;
     }
