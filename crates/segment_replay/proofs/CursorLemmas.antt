@@ -1,5 +1,5 @@
 -- A tree behind a memory, and the checkpoint that a step is replayed from.
-use Rattle.std.proofs.Common.{◌≡◌, ◌⊎◌, ℕ, ◌*◌, ◌/◌, ◌%◌, ◌^◌, ◌<◌, ◌≤◌, List, ◌∷◌, [], length, get_or, Option, None, false, refl, sym, ap, subst, ◌∙◌, ⊎_elim, arith}
+use Rattle.std.proofs.Common.{◌≡◌, ◌⊎◌, ℕ, ◌*◌, ◌/◌, ◌≤◌, List, ◌∷◌, [], get_or, Option, None, false, sym, subst, ◌∙◌, ⊎_elim, arith}
 use Rattle.std.proofs.Math.Nat.{div-add-mod, mul_comm}
 use Rattle.mem_plain.specs.Contents.{Contents, byte_at}
 use Rattle.mem_tree.specs.Tree.{is_among, SameBut}

@@ -1,7 +1,8 @@
 -- Pieces of a list, put together again.
-use Rattle.std.proofs.Common.{◌≡◌, ◌⊎◌, ℕ, zero, suc, ◌+◌, ◌*◌, ◌/◌, ◌%◌, ◌<◌, ◌≤◌, min, List, [], ◌∷◌, ◌++◌, length, take, drop, map, inl, inr, refl, sym, ap, ◌∙◌, ⊎_elim, arith}
+use Rattle.std.proofs.Common.{◌≡◌, ◌⊎◌, ℕ, zero, suc, ◌+◌, ◌*◌, ◌/◌, ◌%◌, ◌<◌, ◌≤◌, min, List, [], ◌∷◌, ◌++◌, take, drop, map, inl, inr, refl, sym, ap, ◌∙◌, ⊎_elim, arith}
 use Rattle.std.proofs.lemmas.List.{take-map}
-use Rattle.std.proofs.Math.Nat.{div-add-mod, mul_comm, mod-lt, add-mul}
+use Rattle.std.proofs.Math.Nat.{div-add-mod, mul_comm, mod-lt, add-mul, lt_of_mul-lt-mul_right}
+use Rattle.std.proofs.lemmas.Grind.{div_ceil_times}
 use Rattle.std.proofs.Math.Seq.{take-add}
 use Rattle.std.specs.Fork.{slice_chunk}
 
@@ -35,3 +36,12 @@ whole_chunks len size some =
     either : (r : ℕ) → (r ≡ 0) ⊎ (min 1 r ≡ 1)
     either zero = inl refl
     either (suc r) = inr (omega arith)
+
+-- where so many pieces of a size have room for a list, it is cut into no more of them
+pub few_pieces : (len size many : ℕ) → 0 < size → len ≤ size * many → len / size + min 1 (len % size) ≤ many
+few_pieces len size many some room =
+    let times = (div_ceil_times len size some).1 in
+    let turned = mul_comm size many in
+    let split = add-mul many 1 size in
+    let less : len / size + min 1 (len % size) < many + 1 = lt_of_mul-lt-mul_right size (omega arith) in
+    omega arith

@@ -5,10 +5,10 @@
 //! the checkpoints and the number of workers. Workers run side by side where threads can be made; the answers don't depend
 //! on it.
 //!
-//! Asked in ascending order, each worker goes on from step to step with one tree of memory, so long as the next step is near or
-//! no checkpoint lies between; else it builds a tree anew, from the last checkpoint up to its step, at 275 digests for each
-//! page. That, and that the work is cut evenly, is read in `cursor` and `replaying`, and not proved. Read `specs/Roots.antt`
-//! first, then `replaying`, then `cursor`.
+//! The steps are cut into at most as many pieces as there are workers, which is proved of `piece_size`. Asked in ascending order,
+//! each worker goes on from step to step with one tree of memory, so long as the next step is near, measured by the pages in
+//! use, or no checkpoint lies between; else it builds a tree anew, from the last checkpoint up to its step, at 275 digests for
+//! each page in use. That is read in `cursor`, and not proved. Read `specs/Roots.antt` first, then `replaying`, then `cursor`.
 #![tactic(auto)]
 
 mod cursor;

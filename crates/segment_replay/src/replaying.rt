@@ -1,4 +1,4 @@
-ghost use Rattle.std.specs.Prelude.{◌≡◌, ◌<◌, ◌≤◌, ◌*◌, ℕ, IfOk, List, length, map, min};
+ghost use Rattle.std.specs.Prelude.{◌≡◌, ◌<◌, ◌≤◌, ◌+◌, ◌*◌, ◌/◌, ◌%◌, ℕ, IfOk, List, length, map, min};
 ghost use Rattle.checkpoint_run.specs.Recorded.{AreChained, state_of_step};
 ghost use Rattle.segment_replay.specs.Roots.{root_at, digests};
 ghost use Rattle.segment_replay.specs.Pieces.{ArePieces};
@@ -31,6 +31,18 @@ fn replayed<D: Digester + Send + Sync, R: Threads + Sync>(
         cursor = Some(moved);
     }
     Ok(roots)
+}
+
+/// How long a piece is where so many steps are cut into at most `workers` pieces of this length, of which the last one may be
+/// shorter. No shorter pieces would do.
+fn piece_size(steps: usize, workers: u32) -> usize
+    requires steps { 0 < steps }
+    requires workers { 0 < workers }
+    ensures some { 0 < result }
+    ensures pieces { steps / result + min 1 (steps % result) ≤ workers }
+    ensures short { result * workers < steps + workers }
+{
+    steps.div_ceil(workers as usize)
 }
 
 /// What the workers made, one behind the other. An `Err` is out of memory, here or in one of the pieces.
@@ -66,7 +78,7 @@ pub fn roots<D: Digester + Send + Sync, R: Threads + Sync>(
     if steps.is_empty() {
         return Ok(Vec::new(alloc));
     }
-    let size = steps.len().div_ceil(workers as usize);
+    let size = piece_size(steps.len(), workers);
     let worker = |_start: usize, piece: &[u64]| -> Result<Vec<Digest32>, Memory>
         requires { AreChained D.digest_of run.now }
         ensures { IfOk result (λ v. digests v.items ≡ map (root_at D.digest_of run.entry.now) piece.now) }

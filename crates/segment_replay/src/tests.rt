@@ -3,6 +3,7 @@ ghost use Rattle.rv_step.specs.State.{IsChained};
 ghost use Rattle.checkpoint_run.specs.Recorded.{AreChained};
 ghost use Rattle.sha2.specs.Sha256.{sha256};
 
+use crate::cursor::is_near;
 use crate::{committed_at, roots};
 use checkpoint_run::{Run, record_run};
 use digest_core::Sha256;
@@ -31,6 +32,10 @@ fn register(step: u32, reg: u8, value: u32) -> Tamper {
         Some(reg) => Tamper::Register { step, reg, value },
         None => Tamper::Untouched,
     }
+}
+
+fn early(steps: u32) -> Tamper {
+    Tamper::Early { steps }
 }
 
 /// The first eight bytes of a digest, the first one highest.
@@ -100,8 +105,9 @@ const EIGHT_STEPS: [u8; 32] = [
     0x13, 0x55, 0x85, 0x01, 0x93, 0x08, 0x10, 0x00, 0x73, 0x00, 0x00, 0x00, 0x03, 0xa5, 0x12, 0x00,
 ];
 
-/// A tamper and a spacing, and how the roots of the steps 0, 3, 4 and 8 begin. These were computed by the machine and the
-/// roots of `checks/`, which are written in Python, with what the tamper does before the root of its step. For the third row:
+/// How the roots of the steps 0, 3, 4 and 8 of EIGHT_STEPS begin. They and those of the tampered runs were computed by the machine
+/// and the roots of `checks/`, which are written in Python, with what the tamper does before the root of its step. For a byte
+/// that is flipped at step 3:
 ///
 /// ```python
 ///     import machine, roots
@@ -114,36 +120,49 @@ const EIGHT_STEPS: [u8; 32] = [
 ///         print(roots.root_of(state).hex()[:16])
 ///         machine.step(state)
 /// ```
+const START: u64 = 0x8d82_837f_5857_b213;
+
+const THIRD: u64 = 0x65f2_d6f4_da5c_f31b;
+
+const FOURTH: u64 = 0xc196_fbf7_6493_e42f;
+
+const LAST: u64 = 0x82f8_4640_36cd_320e;
+
+/// A tamper and a spacing, and how the roots of the steps 0, 3, 4 and 8 begin.
 type Row = (Tamper, u32, [u64; 4]);
 
+/// Whether the roots of the run of EIGHT_STEPS with a tamper are those of a row.
+fn has_roots<R: Threads + Sync>(rt: &R, alloc: Global, row: Row) -> Result<bool, Memory> {
+    let (tamper, every, [start, third, fourth, last]) = row;
+    let machine = machine_of(alloc, &EIGHT_STEPS)?;
+    let run = record_run(alloc, Sha256, &machine, 8, every.max(1), tamper)?;
+    let wanted = [(8, last), (3, third), (4, fourth), (0, start)];
+    are_roots(rt, alloc, &run, 2, &wanted)
+}
+
 #[test]
-fn a_tampered_run_has_the_roots_of_its_states(rt: HostRuntime) -> Result<(), Fail> {
-    let rows: [Row; 12] = [
-        (
-            Tamper::Untouched,
-            1,
-            [
-                0x8d82_837f_5857_b213,
-                0x65f2_d6f4_da5c_f31b,
-                0xc196_fbf7_6493_e42f,
-                0x82f8_4640_36cd_320e,
-            ],
-        ),
+fn a_run_with_a_flipped_byte_has_the_roots_of_its_states(rt: HostRuntime) -> Result<(), Fail> {
+    let rows: [Row; 6] = [
         (
             flip(0, 0x2_0003, 0x55),
             3,
+            [0x5c8a_500e_2ba8_3158, THIRD, FOURTH, LAST],
+        ),
+        (
+            flip(2, 0xffff_ffff, 0x80),
+            3,
             [
-                0x5c8a_500e_2ba8_3158,
-                0x65f2_d6f4_da5c_f31b,
-                0xc196_fbf7_6493_e42f,
-                0x82f8_4640_36cd_320e,
+                START,
+                0x179e_49a0_ccb0_c56c,
+                0x46a0_1d14_46f5_c8ec,
+                0x39bc_a24d_6c65_41bd,
             ],
         ),
         (
             flip(3, 0x2_0003, 0xff),
             3,
             [
-                0x8d82_837f_5857_b213,
+                START,
                 0x671f_7f70_f948_9e91,
                 0xd31b_1397_0fa1_7bff,
                 0x6f4b_45ac_af74_9e01,
@@ -152,48 +171,29 @@ fn a_tampered_run_has_the_roots_of_its_states(rt: HostRuntime) -> Result<(), Fai
         (
             flip(4, 0x2_0003, 0xff),
             3,
-            [
-                0x8d82_837f_5857_b213,
-                0x65f2_d6f4_da5c_f31b,
-                0x36f0_e9d2_30db_ae4d,
-                0x2fc8_c8e6_7a8d_5ccd,
-            ],
+            [START, THIRD, 0x36f0_e9d2_30db_ae4d, 0x2fc8_c8e6_7a8d_5ccd],
         ),
         (
             flip(8, 0x7000_0000, 0x80),
             4,
-            [
-                0x8d82_837f_5857_b213,
-                0x65f2_d6f4_da5c_f31b,
-                0xc196_fbf7_6493_e42f,
-                0xd2bd_92bf_b23b_8eb4,
-            ],
+            [START, THIRD, FOURTH, 0xd2bd_92bf_b23b_8eb4],
         ),
-        (
-            flip(2, 0xffff_ffff, 0x80),
-            3,
-            [
-                0x8d82_837f_5857_b213,
-                0x179e_49a0_ccb0_c56c,
-                0x46a0_1d14_46f5_c8ec,
-                0x39bc_a24d_6c65_41bd,
-            ],
-        ),
-        (
-            flip(9, 0x2_0003, 0x80),
-            3,
-            [
-                0x8d82_837f_5857_b213,
-                0x65f2_d6f4_da5c_f31b,
-                0xc196_fbf7_6493_e42f,
-                0x82f8_4640_36cd_320e,
-            ],
-        ),
+        (flip(9, 0x2_0003, 0x80), 3, [START, THIRD, FOURTH, LAST]),
+    ];
+    for row in rows {
+        assert!(rt; has_roots(&rt, rt.alloc(), row)?);
+    }
+    Ok(())
+}
+
+#[test]
+fn a_run_with_a_set_register_has_the_roots_of_its_states(rt: HostRuntime) -> Result<(), Fail> {
+    let rows: [Row; 2] = [
         (
             register(2, 6, 1),
             2,
             [
-                0x8d82_837f_5857_b213,
+                START,
                 0x5611_084a_0c4b_a954,
                 0x07d7_e96b_a8a7_9e44,
                 0x32c7_7858_a16a_57b1,
@@ -202,49 +202,25 @@ fn a_tampered_run_has_the_roots_of_its_states(rt: HostRuntime) -> Result<(), Fai
         (
             register(8, 6, 1),
             1024,
-            [
-                0x8d82_837f_5857_b213,
-                0x65f2_d6f4_da5c_f31b,
-                0xc196_fbf7_6493_e42f,
-                0xb9c0_d0f2_b21b_43a4,
-            ],
-        ),
-        (
-            Tamper::Early { steps: 0 },
-            1,
-            [
-                0x8d82_837f_5857_b213,
-                0x8d82_837f_5857_b213,
-                0x8d82_837f_5857_b213,
-                0x8d82_837f_5857_b213,
-            ],
-        ),
-        (
-            Tamper::Early { steps: 3 },
-            2,
-            [
-                0x8d82_837f_5857_b213,
-                0x65f2_d6f4_da5c_f31b,
-                0x65f2_d6f4_da5c_f31b,
-                0x65f2_d6f4_da5c_f31b,
-            ],
-        ),
-        (
-            Tamper::Early { steps: 9 },
-            3,
-            [
-                0x8d82_837f_5857_b213,
-                0x65f2_d6f4_da5c_f31b,
-                0xc196_fbf7_6493_e42f,
-                0x82f8_4640_36cd_320e,
-            ],
+            [START, THIRD, FOURTH, 0xb9c0_d0f2_b21b_43a4],
         ),
     ];
-    let machine = machine_of(rt.alloc(), &EIGHT_STEPS)?;
-    for (tamper, every, [first, third, fourth, last]) in rows {
-        let run = record_run(rt.alloc(), Sha256, &machine, 8, every.max(1), tamper)?;
-        let wanted = [(8, last), (3, third), (4, fourth), (0, first)];
-        assert!(rt; are_roots(&rt, rt.alloc(), &run, 2, &wanted)?);
+    for row in rows {
+        assert!(rt; has_roots(&rt, rt.alloc(), row)?);
+    }
+    Ok(())
+}
+
+#[test]
+fn a_run_that_ends_early_keeps_the_root_of_its_end(rt: HostRuntime) -> Result<(), Fail> {
+    let rows: [Row; 4] = [
+        (Tamper::Untouched, 1, [START, THIRD, FOURTH, LAST]),
+        (early(0), 1, [START; 4]),
+        (early(3), 2, [START, THIRD, THIRD, THIRD]),
+        (early(9), 3, [START, THIRD, FOURTH, LAST]),
+    ];
+    for row in rows {
+        assert!(rt; has_roots(&rt, rt.alloc(), row)?);
     }
     Ok(())
 }
@@ -269,6 +245,36 @@ fn a_hundred_pages_have_the_roots_of_their_steps(rt: HostRuntime) -> Result<(), 
     for (every, workers) in [(64, 3), (1024, 1)] {
         let run = record_run(rt.alloc(), Sha256, &machine, 305, every, tamper)?;
         assert!(rt; are_roots(&rt, rt.alloc(), &run, workers, &wanted)?);
+    }
+    Ok(())
+}
+
+/// A memory that holds a byte other than 0 in so many pages, the last page first, and zeros alone in the first one.
+fn memory_of(alloc: Global, pages: u32) -> Result<PlainMem, Memory> {
+    let mut mem = PlainMem::new(alloc);
+    for page in 0..pages.min(1000) {
+        mem.store(0xffff_ffff - 8192 * page, 1, 1)?;
+    }
+    mem.store(0, 1, 0)?;
+    Ok(mem)
+}
+
+#[test]
+fn a_step_is_near_by_itself_or_by_the_pages_in_use(rt: HostRuntime) -> Result<(), Fail> {
+    // how many pages are in use, and how many steps are the most to be near
+    let rows: [(u32, u64); 5] = [
+        (0, 16_384),
+        (1, 16_384),
+        (16, 16_384),
+        (17, 17_408),
+        (300, 307_200),
+    ];
+    for (pages, most) in rows {
+        let mem = memory_of(rt.alloc(), pages)?;
+        assert!(rt; is_near(&mem, 0));
+        assert!(rt; is_near(&mem, most));
+        assert!(rt; !is_near(&mem, most + 1));
+        assert!(rt; !is_near(&mem, u64::MAX));
     }
     Ok(())
 }

@@ -1,4 +1,4 @@
-use Rattle.std.proofs.Common.{ℕ, ◌-◌, ◌≤◌}
+use Rattle.std.proofs.Common.{◌-◌, ◌≤◌}
 use Rattle.segment_replay.specs.Cursor.{IsMachineOf}
 use Rattle.segment_replay.proofs.cursor.machine_up_to.Given as goal
 

@@ -1,6 +1,5 @@
-use Rattle.std.proofs.Common.{◌≡◌, ◌≤◌, ℕ, ◌+◌, ◌*◌, ◌++◌, List, length, take, map, get_or, sym, ap, subst, ◌∙◌, arith, rules, Result, Ok, Err, IfOk}
+use Rattle.std.proofs.Common.{◌≡◌, ◌≤◌, ◌*◌, ◌++◌, length, take, sym, ap, subst, ◌∙◌, arith, IfOk}
 use Rattle.segment_replay.specs.Roots.{digests}
-use Rattle.segment_replay.specs.Pieces.{ArePieces}
 use Rattle.rd_base.specs.declared.digest.Digest32.{Digest32}
 use Rattle.std.specs.Fork.{slice_chunk}
 use Rattle.segment_replay.proofs.PieceLemmas.{chunk_more}

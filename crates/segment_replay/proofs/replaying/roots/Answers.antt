@@ -1,4 +1,4 @@
-use Rattle.std.proofs.Common.{◌≡◌, ℕ, ◌*◌, ◌+◌, ◌/◌, ◌%◌, ◌<◌, ◌≤◌, min, List, length, map, take, sym, ap, subst, ◌∙◌, arith, rules, Result, Ok, Err, IfOk, get_or}
+use Rattle.std.proofs.Common.{◌≡◌, ℕ, ◌*◌, ◌+◌, ◌/◌, ◌%◌, ◌≤◌, min, List, length, map, sym, ap, subst, ◌∙◌, arith, Result, Ok, Err, IfOk, get_or}
 use Rattle.std.specs.Fork.{slice_chunk}
 use Rattle.rd_base.specs.declared.digest.Digest32.{Digest32}
 use Rattle.rd_base.specs.declared.memory.Memory.{Memory}
@@ -17,8 +17,8 @@ piece_is (Err e) xs ys same h = h
 pub returns : goal.returns
 returns g c =
     let f : ℕ → List ℕ = root_at g.D.Digester.digest_of c.args.run.now in
-    let size = c.div_ceil-size.result in
-    let some : 0 < size = search rules in
+    let size = c.piece_size-size.result in
+    let some = c.piece_size-size.ensures.some in
     c.joined.ensures (map f c.args.steps.now) size
     (subst (ArePieces (map f c.args.steps.now) size) (sym c.deref.ensures.value) (λ n d below.
     let k = (c.in_ok-pieces.ensures.each n d below).1 in
