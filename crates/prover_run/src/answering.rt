@@ -19,6 +19,16 @@ use std::alloc::Global;
 use std::collections::BTreeMap;
 use std::thread::Threads;
 
+/// A recorded run, and by what it is replayed.
+#[derive(Clone, Copy)]
+pub struct RunReader<'r, D: Replays> {
+    pub alloc: Global,
+    pub d: D,
+    pub run: &'r Run,
+    /// How many threads compute roots, at least 1.
+    pub workers: u32,
+}
+
 /// Keeps roots by their steps. An `Err` is out of memory, after some were kept.
 fn keep(kept: &mut BTreeMap<u64, Digest32>, steps: &[u64], roots: &[Digest32]) -> Result<(), Memory>
     requires { length steps.now ≡ length roots.now }
@@ -35,22 +45,21 @@ fn keep(kept: &mut BTreeMap<u64, Digest32>, steps: &[u64], roots: &[Digest32]) -
 #[tactic(auto, using(crate::proofs::RunLemmas::same_length, crate::proofs::RunLemmas::root_of_place))]
 fn computed<D: Replays, R: Threads + Sync>(
     rt: &R,
-    alloc: Global,
-    d: D,
-    run: &Run,
-    workers: u32,
+    reader: &RunReader<'_, D>,
     kept: &mut BTreeMap<u64, Digest32>,
     steps: &[u64],
     place: usize,
 ) -> Result<Digest32, Memory>
     requires sync { IsSync R.row }
-    requires workers { 0 < workers }
+    requires workers { 0 < reader.now.workers }
     requires inside { place < length steps.now }
-    requires chained { AreChained D.digest_of run.now }
-    ensures kept { (root : ℕ → List ℕ) → root ≡ root_at D.digest_of run.now → AreKept root kept.old.entries → AreKept root kept.new.entries }
-    ensures root { IfOk result (λ r. (root : ℕ → List ℕ) → root ≡ root_at D.digest_of run.now → r.0 ≡ root (slice_index steps.now place)) }
+    requires chained { AreChained D.digest_of reader.now.run.now }
+    ensures kept { (root : ℕ → List ℕ) → root ≡ root_at D.digest_of reader.now.run.now → AreKept root kept.old.entries → AreKept root kept.new.entries }
+    ensures root { IfOk result (λ r. (root : ℕ → List ℕ) → root ≡ root_at D.digest_of reader.now.run.now → r.0 ≡ root (slice_index steps.now place)) }
 {
-    let roots = d.roots_of(rt, alloc, run, steps, workers)?;
+    let roots = reader
+        .d
+        .roots_of(rt, reader.alloc, reader.run, steps, reader.workers)?;
     keep(kept, steps, &roots)?;
     Ok(roots[place])
 }
@@ -59,24 +68,21 @@ fn computed<D: Replays, R: Threads + Sync>(
 /// memory, after some were kept.
 fn root<D: Replays, R: Threads + Sync>(
     rt: &R,
-    alloc: Global,
-    d: D,
-    run: &Run,
-    workers: u32,
+    reader: &RunReader<'_, D>,
     kept: &mut BTreeMap<u64, Digest32>,
     step: u64,
 ) -> Result<Digest32, Memory>
     requires sync { IsSync R.row }
-    requires workers { 0 < workers }
-    requires chained { AreChained D.digest_of run.now }
-    ensures kept { (root : ℕ → List ℕ) → root ≡ root_at D.digest_of run.now → AreKept root kept.old.entries → AreKept root kept.new.entries }
-    ensures root { (root : ℕ → List ℕ) → root ≡ root_at D.digest_of run.now → AreKept root kept.old.entries → IfOk result (λ r. r.0 ≡ root step) }
+    requires workers { 0 < reader.now.workers }
+    requires chained { AreChained D.digest_of reader.now.run.now }
+    ensures kept { (root : ℕ → List ℕ) → root ≡ root_at D.digest_of reader.now.run.now → AreKept root kept.old.entries → AreKept root kept.new.entries }
+    ensures root { (root : ℕ → List ℕ) → root ≡ root_at D.digest_of reader.now.run.now → AreKept root kept.old.entries → IfOk result (λ r. r.0 ≡ root step) }
 {
     if let Some(root) = kept.get(&step) {
         return Ok(*root);
     }
-    let Asked { steps, place } = asked_with(alloc, run.bound(), step)?;
-    computed(rt, alloc, d, run, workers, kept, &steps, place)
+    let Asked { steps, place } = asked_with(reader.alloc, reader.run.bound(), step)?;
+    computed(rt, reader, kept, &steps, place)
 }
 
 /// The claim of a machine's state, whose output is at most 4,294,967,295 bytes long. An `Err` is out of memory.
@@ -102,24 +108,22 @@ fn plain_claim<D: Digester>(alloc: Global, d: D, committed: &Committed<D>) -> Re
 #[tactic(auto, using(crate::proofs::RunLemmas::roots_of_run, crate::proofs::RunLemmas::answers_of_run), unfolding(crate::specs::Prover::root_of))]
 pub fn plain_answer<D: Replays, R: Threads + Sync>(
     rt: &R,
-    alloc: Global,
-    d: D,
-    run: &Run,
-    workers: u32,
+    reader: &RunReader<'_, D>,
     kept: &mut BTreeMap<u64, Digest32>,
     kind: Kind,
 ) -> Result<Answer, Memory>
     requires sync { IsSync R.row }
-    requires workers { 0 < workers }
-    requires chained { AreChained D.digest_of run.now }
-    requires short { length (state_of_step run.now run.now.bound).output ≤ 4294967295 }
-    ensures kept { (p : Prover) → IsRunOf D.digest_of p run.now → AreKept (root_of D.digest_of p) kept.old.entries → AreKept (root_of D.digest_of p) kept.new.entries }
-    ensures answer { (p : Prover) → IsRunOf D.digest_of p run.now → AreKept (root_of D.digest_of p) kept.old.entries →
+    requires workers { 0 < reader.now.workers }
+    requires chained { AreChained D.digest_of reader.now.run.now }
+    requires short { length (state_of_step reader.now.run.now reader.now.run.now.bound).output ≤ 4294967295 }
+    ensures kept { (p : Prover) → IsRunOf D.digest_of p reader.now.run.now → AreKept (root_of D.digest_of p) kept.old.entries → AreKept (root_of D.digest_of p) kept.new.entries }
+    ensures answer { (p : Prover) → IsRunOf D.digest_of p reader.now.run.now → AreKept (root_of D.digest_of p) kept.old.entries →
         IfOk result (λ a. a ≡ plain.plain D.digest_of (run_of p) p.bound kind) }
 {
+    let RunReader { alloc, d, run, .. } = *reader;
     match kind {
         Kind::Root(step) => {
-            let root = root(rt, alloc, d, run, workers, kept, step)?;
+            let root = root(rt, reader, kept, step)?;
             Ok(Answer::Root(root))
         }
         Kind::Claim => {

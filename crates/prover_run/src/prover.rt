@@ -3,7 +3,7 @@ ghost use Rattle.std.specs.Prelude.{◌≡◌, ◌<◌, ◌^◌, [], IfOk, IfSom
 ghost use Rattle.rv_step.specs.State.{state_of, IsChained};
 ghost use Rattle.prover_run.specs.Prover.{IsRunOf};
 
-use crate::answering::plain_answer;
+use crate::answering::{RunReader, plain_answer};
 use crate::laws::outputs_grow_slowly;
 use bisect_game::{Answerer, Question};
 use checkpoint_run::{Run, record_run};
@@ -128,15 +128,13 @@ impl<D: Replays> Answerer for RunAnswerer<D> {
             self.tamper,
             self.run.take(),
         )?;
-        let answer = plain_answer(
-            rt,
-            self.alloc,
-            self.d,
-            &run,
-            self.workers,
-            &mut self.roots,
-            question.kind,
-        );
+        let reader = RunReader {
+            alloc: self.alloc,
+            d: self.d,
+            run: &run,
+            workers: self.workers,
+        };
+        let answer = plain_answer(rt, &reader, &mut self.roots, question.kind);
         self.run = Some(run);
         Ok(Some(answer?))
     }

@@ -1,3 +1,4 @@
+ghost use denote.Param.Send.{IsSync};
 ghost use Rattle.std.specs.Prelude.{◌≡◌, ◌≤◌, ℕ, [], List, length, IfOk};
 ghost use Rattle.rv_step.specs.State.{IsChained};
 
@@ -8,6 +9,7 @@ use digest_core::{Digester, Sha256, registers_text};
 use mem_plain::PlainMem;
 use open_proof::climb;
 use out_chain::{ClaimCheck, check_claim, parts_root, root_of_claim};
+use prover_script::Scripted;
 use rd_base::{
     Answer, ClaimOutput, Digest32, FirstSilentRound, Manner, Memory, PassCount, Qid, Script,
     StepProof, Tamper,
@@ -15,32 +17,42 @@ use rd_base::{
 use rv_step::Machine;
 use std::alloc::Global;
 use std::test::Fail;
+use std::thread::Threads;
 
-/// The steps that are asked with a step, of a run up to a bound, and where it stands. They were worked out by hand: the halves
-/// of the interval whose middle the step is, and twice more the halves of those, in ascending order.
+/// A bound, a step, the steps that are asked with it, and where it stands among them.
+type AskedRow = (u64, u64, &'static [u64], usize);
+
+/// They were worked out by hand: the halves of the interval whose middle the step is, and twice more the halves of those, in
+/// ascending order.
+const ASKED: [AskedRow; 8] = [
+    (8, 4, &[1, 2, 3, 4, 5, 6, 7], 3),
+    (8, 2, &[1, 2, 3], 1),
+    (8, 6, &[5, 6, 7], 1),
+    (8, 7, &[7], 0),
+    (8, 0, &[0], 0),
+    (8, 9, &[9], 0),
+    (7, 3, &[1, 2, 3, 4, 5, 6], 2),
+    (
+        1024,
+        256,
+        &[
+            32, 64, 96, 128, 160, 192, 224, 256, 288, 320, 352, 384, 416, 448, 480,
+        ],
+        7,
+    ),
+];
+
+/// Whether these steps are asked with a step, and it stands there among them.
+fn are_asked(alloc: Global, row: AskedRow) -> Result<bool, Memory> {
+    let (bound, step, wanted, stands) = row;
+    let Asked { steps, place } = asked_with(alloc, bound, step)?;
+    Ok(steps.as_slice() == wanted && place == stands)
+}
+
 #[test]
 fn a_round_asks_the_middles_of_the_next_three(rt: HostRuntime) -> Result<(), Fail> {
-    let rows: [(u64, u64, &[u64], usize); 8] = [
-        (8, 4, &[1, 2, 3, 4, 5, 6, 7], 3),
-        (8, 2, &[1, 2, 3], 1),
-        (8, 6, &[5, 6, 7], 1),
-        (8, 7, &[7], 0),
-        (8, 0, &[0], 0),
-        (8, 9, &[9], 0),
-        (7, 3, &[1, 2, 3, 4, 5, 6], 2),
-        (
-            1024,
-            256,
-            &[
-                32, 64, 96, 128, 160, 192, 224, 256, 288, 320, 352, 384, 416, 448, 480,
-            ],
-            7,
-        ),
-    ];
-    for (bound, step, wanted, stands) in rows {
-        let Asked { steps, place } = asked_with(rt.alloc(), bound, step)?;
-        assert_eq!(rt; steps.as_slice(), wanted);
-        assert_eq!(rt; place, stands);
+    for row in ASKED {
+        assert!(rt; are_asked(rt.alloc(), row)?, "step {} of {}", row.1, row.0);
     }
     Ok(())
 }
@@ -147,32 +159,55 @@ fn opens_both(proof: &StepProof, byte: u8) -> bool {
     }
 }
 
+/// A prover of the eight steps, whose run has a checkpoint at every third.
+fn prover_with(alloc: Global, tamper: Tamper) -> Result<RunAnswerer<Sha256>, Memory> {
+    let machine = eight_steps(alloc)?;
+    RunAnswerer::new(alloc, Sha256, &machine, 8, 3, tamper, 2)
+}
+
+/// Whether a prover answers a question of this kind by the state with this root, with this output in a claim, and with this
+/// byte in the chunk that a proof of step 3 opens.
+fn is_answered<R: Threads + Sync>(
+    rt: &R,
+    prover: &mut RunAnswerer<Sha256>,
+    kind: Kind,
+    root: u64,
+    byte: u8,
+    output: &[u8],
+) -> Result<bool, Memory>
+    requires { IsSync R.row }
+{
+    let answer = prover.answer(rt, &asked(1, kind), 0)?;
+    if answer.as_ref().map(root_in) != Some(root) {
+        return Ok(false);
+    }
+    match (kind, &answer) {
+        (Kind::Claim, Some(Answer::Claim(claim))) => Ok(claim.output.as_slice() == output),
+        (Kind::Proof(3), Some(Answer::Step(proof))) => Ok(opens_both(proof.get(), byte)),
+        (Kind::Root(_), Some(Answer::Root(_))) => Ok(true),
+        (Kind::Proof(_), Some(Answer::Step(_))) => Ok(true),
+        _ => Ok(false),
+    }
+}
+
+/// What is asked, and the place of its root among those of a row.
+const QUESTIONS: [(Kind, usize); 7] = [
+    (Kind::Root(4), 2),
+    (Kind::Claim, 3),
+    (Kind::Root(3), 1),
+    (Kind::Root(0), 0),
+    (Kind::Root(9), 3),
+    (Kind::Proof(3), 1),
+    (Kind::Proof(9), 3),
+];
+
 #[test]
 fn an_answerer_gives_the_answers_of_its_run(rt: HostRuntime) -> Result<(), Fail> {
-    let machine = eight_steps(rt.alloc())?;
-    for (tamper, [first, third, fourth, last], byte, output) in ROWS {
-        let mut prover = RunAnswerer::new(rt.alloc(), Sha256, &machine, 8, 3, tamper, 2)?;
-        let rows = [
-            (Kind::Root(4), fourth),
-            (Kind::Claim, last),
-            (Kind::Root(3), third),
-            (Kind::Root(0), first),
-            (Kind::Root(9), last),
-            (Kind::Proof(3), third),
-            (Kind::Proof(9), last),
-        ];
-        for (kind, root) in rows {
-            let answer = prover.answer(&rt, &asked(1, kind), 0)?;
-            assert_eq!(rt; answer.as_ref().map(root_in), Some(root));
-            match (kind, &answer) {
-                (Kind::Claim, Some(Answer::Claim(claim))) => {
-                    assert_eq!(rt; claim.output.as_slice(), output);
-                }
-                (Kind::Proof(3), Some(Answer::Step(proof))) => {
-                    assert!(rt; opens_both(proof.get(), byte));
-                }
-                _ => {}
-            }
+    for (tamper, roots, byte, output) in ROWS {
+        let mut prover = prover_with(rt.alloc(), tamper)?;
+        for (kind, place) in QUESTIONS {
+            let root = roots[place.min(3)];
+            assert!(rt; is_answered(&rt, &mut prover, kind, root, byte, output)?);
         }
     }
     Ok(())
@@ -209,49 +244,75 @@ fn five_scripts(alloc: Global) -> Result<Vec<Script>, Memory>
     ]?)
 }
 
-#[test]
-fn each_prover_answers_by_its_script(rt: HostRuntime) -> Result<(), Fail> {
-    let machine = eight_steps(rt.alloc())?;
-    let scripts = five_scripts(rt.alloc())?;
-    let provers = CaseProvers::new(rt.alloc(), Sha256, &scripts, &machine, 8)?;
-    assert_eq!(rt; provers.count(), 5);
-    let mut answerers = answerers_of(rt.alloc(), Sha256, &scripts, &machine, 8, 1024, 1)?;
-    let (right, wrong) = (Some(0xc196_fbf7_6493_e42f), Some(0xd31b_1397_0fa1_7bff));
-    let last = Some(0x82f8_4640_36cd_320e);
-    let rows: [(Question, u32, [Option<u64>; 5]); 4] = [
-        (
-            asked(0, Kind::Claim),
-            0,
-            [last, None, last, Some(0), Some(0x6f4b_45ac_af74_9e01)],
-        ),
-        (
-            asked(1, Kind::Root(4)),
-            1,
-            [right, None, right, right, wrong],
-        ),
-        (
-            asked(1, Kind::Root(4)),
-            2,
-            [right, right, right, right, wrong],
-        ),
-        (
-            asked(2, Kind::Root(4)),
-            0,
-            [right, None, None, right, wrong],
-        ),
-    ];
-    for (question, passes, wanted) in rows {
-        for (k, answerer) in answerers.iter_mut().enumerate() {
-            let answer = answerer.answer(&rt, &question, passes)?;
-            let k = k.min(4);
-            let p = k as u32 + 1;
-            assert_eq!(rt; answer.as_ref().map(root_in), wanted[k]);
-            if p <= provers.count() {
-                assert_eq!(rt; provers.waits(p, &question, passes), wanted[k].is_none());
-            }
+/// The provers of the eight steps with these scripts.
+fn provers_with(alloc: Global, scripts: &[Script]) -> Result<CaseProvers<Sha256>, Memory>
+    requires { length scripts.now ≤ 5 }
+{
+    let machine = eight_steps(alloc)?;
+    CaseProvers::new(alloc, Sha256, scripts, &machine, 8)
+}
+
+/// Their answerers.
+fn answerers_with(
+    alloc: Global,
+    scripts: &[Script],
+) -> Result<Vec<Scripted<RunAnswerer<Sha256>>>, Memory> {
+    let machine = eight_steps(alloc)?;
+    answerers_of(alloc, Sha256, scripts, &machine, 8, 1024, 1)
+}
+
+/// How the root of step 4 begins, without a tamper, and with the flipped byte.
+const RIGHT: Option<u64> = Some(0xc196_fbf7_6493_e42f);
+
+const WRONG: Option<u64> = Some(0xd31b_1397_0fa1_7bff);
+
+/// The same of step 8.
+const LAST: Option<u64> = Some(0x82f8_4640_36cd_320e);
+
+const WRONG_LAST: Option<u64> = Some(0x6f4b_45ac_af74_9e01);
+
+/// A round, what is asked in it, the passes on it so far, and how the roots begin that the answers stand for; none is a pass.
+type Said = (u32, Kind, u32, [Option<u64>; 5]);
+
+const SAID: [Said; 4] = [
+    (0, Kind::Claim, 0, [LAST, None, LAST, Some(0), WRONG_LAST]),
+    (1, Kind::Root(4), 1, [RIGHT, None, RIGHT, RIGHT, WRONG]),
+    (1, Kind::Root(4), 2, [RIGHT, RIGHT, RIGHT, RIGHT, WRONG]),
+    (2, Kind::Root(4), 0, [RIGHT, None, None, RIGHT, WRONG]),
+];
+
+/// Whether the answerers answer so, and the provers wait where they pass.
+fn is_said<R: Threads + Sync>(
+    rt: &R,
+    provers: &CaseProvers<Sha256>,
+    answerers: &mut [Scripted<RunAnswerer<Sha256>>],
+    said: Said,
+) -> Result<bool, Memory>
+    requires { IsSync R.row }
+{
+    let (round, kind, passes, wanted) = said;
+    let question = asked(round, kind);
+    for (k, answerer) in answerers.iter_mut().enumerate() {
+        let k = k.min(4);
+        let p = k as u32 + 1;
+        let answer = answerer.answer(rt, &question, passes)?;
+        if answer.as_ref().map(root_in) != wanted[k] {
+            return Ok(false);
+        }
+        if p > provers.count() || provers.waits(p, &question, passes) != wanted[k].is_none() {
+            return Ok(false);
         }
     }
-    Ok(())
+    Ok(true)
+}
+
+/// How many provers and answerers these scripts make.
+fn counts(alloc: Global, scripts: &[Script]) -> Result<(u32, usize), Memory>
+    requires { length scripts.now ≤ 5 }
+{
+    let provers = provers_with(alloc, scripts)?;
+    let answerers = answerers_with(alloc, scripts)?;
+    Ok((provers.count(), answerers.len()))
 }
 
 fn may_be_shared<T: Send + Sync>(_shared: &T) {}
@@ -260,12 +321,16 @@ fn may_be_sent<T: Send>(_sent: &T) {}
 
 /// That threads may hold them is proved where they are handed to one.
 #[test]
-fn provers_and_answerers_may_go_to_threads(rt: HostRuntime) -> Result<(), Fail> {
-    let machine = eight_steps(rt.alloc())?;
-    let provers = CaseProvers::new(rt.alloc(), Sha256, &[], &machine, 8)?;
+fn each_prover_answers_by_its_script(rt: HostRuntime) -> Result<(), Fail> {
+    let scripts = five_scripts(rt.alloc())?;
+    let provers = provers_with(rt.alloc(), &scripts)?;
+    let mut answerers = answerers_with(rt.alloc(), &scripts)?;
     may_be_shared(&provers);
-    let answerers = answerers_of(rt.alloc(), Sha256, &[], &machine, 8, 1024, 1)?;
     may_be_sent(&answerers);
-    assert_eq!(rt; provers.count(), 0);
+    assert_eq!(rt; counts(rt.alloc(), &scripts)?, (5, 5));
+    for said in SAID {
+        assert!(rt; is_said(&rt, &provers, &mut answerers, said)?);
+    }
+    assert_eq!(rt; counts(rt.alloc(), &[])?, (0, 0));
     Ok(())
 }
