@@ -1,28 +1,19 @@
+ghost use denote.Param.Send.{IsSync};
 ghost use Rattle.std.specs.Prelude.{◌≡◌, ◌<◌, ◌≤◌};
 
 use crate::cast::{Cast, Seated};
-use crate::matches_test::{Ended, how, lines};
-use crate::player::{HONEST, LIAR, Player, SILENT};
-use crate::toy_judge::{ToyJudge, root};
-use bisect_game::Kind;
-use board_book::{Ask, Book};
-use rd_base::Qid;
-use std::test::Fail;
-use tournament::{Move, Reply};
-
-/// The number of a claim's question.
-const CLAIM: Qid = Qid {
-    dispute: 0,
-    round: 0,
+use crate::in_short::{
+    Asked, CLAIM, Ended, LATE, LINES, Replied, SILENT_LIAR, ask_in_short, how, lines,
+    reply_in_short,
 };
-
-/// Whether a prover is asked for its claim, on which it hasn't passed.
-fn is_for_the_claim(ask: Ask) -> bool {
-    match ask {
-        Ask::Question(question, 0) => question.qid == CLAIM && question.kind == Kind::Claim,
-        _ => false,
-    }
-}
+use crate::player::{HONEST, LIAR, SILENT};
+use crate::toy_judge::{ToyJudge, root};
+use board_book::{Ask, Book};
+use rd_base::Memory;
+use std::alloc::Global;
+use std::test::Fail;
+use std::thread::Threads;
+use tournament::{Move, Reply};
 
 /// A prover passes on its open question, if it passes there now.
 fn pass(book: &mut Book<ToyJudge, Cast>, p: u32) -> Option<Reply>
@@ -51,88 +42,127 @@ fn pass_again(book: &mut Book<ToyJudge, Cast>, p: u32) -> Option<Reply>
     Some(book.post(p, CLAIM, Move::Pass))
 }
 
-/// A book of a late, a lying and a silent prover is played out by one thread, with an entry for each pass and each answer.
-#[test]
-fn a_book_is_played_out_alone(rt: HostRuntime) -> Result<(), Fail> {
-    let late = Player { late: 1, ..HONEST };
-    let silent = Player {
-        silent_from: 2,
-        from: 5,
-        ..LIAR
-    };
+/// The book of a liar, a late prover and a silent liar, played out by one thread; the room that it had at its opening; and what the
+/// first prover is asked at its end.
+fn played_alone<R: Threads + Sync>(
+    rt: &R,
+    alloc: Global,
+) -> Result<(Book<ToyJudge, Cast>, u64, Ask), Memory>
+    requires { IsSync R.row }
+{
     let mut players = [SILENT; 16];
     players[0] = LIAR;
-    players[1] = late;
-    players[2] = silent;
+    players[1] = LATE;
+    players[2] = SILENT_LIAR;
     let cast = Cast { players, count: 3 };
-    let mut book = Book::open(rt.alloc(), ToyJudge { name: 0 }, cast, 8, 1, root(0))?;
-    // (P + 1) * (m + 2 * (m - 1) * (K + 1)) with P = 1, m = 3 and K = 3, the greatest k with 2^k < 16
-    assert_eq!(rt; book.spare(), 38);
+    let mut book = Book::open(alloc, ToyJudge { name: 0 }, cast, 8, 1, root(0))?;
+    let room = book.spare();
     let mut answerers = [
         Seated {
             player: LIAR,
-            alloc: rt.alloc(),
+            alloc,
         },
         Seated {
-            player: late,
-            alloc: rt.alloc(),
+            player: LATE,
+            alloc,
         },
         Seated {
-            player: silent,
-            alloc: rt.alloc(),
+            player: SILENT_LIAR,
+            alloc,
         },
     ];
-    book.finish_alone(&rt, &mut answerers)?;
-    assert_eq!(rt; how(book.verdict()), Ended::Accepted(2));
+    book.finish_alone(rt, &mut answerers)?;
+    let ask = book.ask(1);
+    Ok((book, room, ask))
+}
+
+/// The room that is left in a book, its entries, and how it ended.
+fn numbers(book: &Book<ToyJudge, Cast>) -> (u64, usize, Ended) {
+    (book.spare(), book.journal().len(), how(book.verdict()))
+}
+
+/// A book is played out by one thread, with an entry for each pass and each answer.
+#[test]
+fn a_book_is_played_out_alone(rt: HostRuntime) -> Result<(), Fail> {
+    let (book, room, ask) = played_alone(&rt, rt.alloc())?;
+    let lines = lines(rt.alloc(), book.record())?;
+    // the room is (P + 1) * (m + 2 * (m - 1) * (K + 1)) with P = 1, m = 3 and K = 3, the greatest k with 2^k < 16; the claims take 1, 2 and
+    // 1 entries, the first dispute 4 of p1 and 8 of p2, the second 4 of p2 and 1 + 2 of p3
     assert_eq!(rt;
-        lines(rt.alloc(), book.record())?.as_slice(),
-        [(1, 1, 1, 2, 3, true, false), (2, 2, 2, 3, 1, false, true)].as_slice()
+        (room, numbers(&book), ask_in_short(ask)),
+        (38, (15, 23, Ended::Accepted(2)), Asked::Over)
     );
-    // the claims take 1, 2 and 1 entries; the first dispute 4 of p1 and 8 of p2; the second 4 of p2 and 1 + 2 of p3
-    assert_eq!(rt; book.journal().len(), 23);
-    assert_eq!(rt; book.spare(), 15);
-    assert!(rt; matches!(book.ask(1), Ask::Over));
+    assert_eq!(rt; lines.as_slice(), LINES.as_slice());
     Ok(())
 }
 
-/// The largest book takes its room at opening: P = 100, m = 16, and K = 32, the greatest k with `2^k < 2^33 - 2`.
-#[test]
-fn the_largest_book_takes_its_room_at_opening(rt: HostRuntime) -> Result<(), Fail> {
+/// The largest book: P = 100, m = 16, and K = 32, the greatest k with `2^k < 2^33 - 2`.
+fn largest(alloc: Global) -> Result<Book<ToyJudge, Cast>, Memory> {
     let cast = Cast {
         players: [HONEST; 16],
         count: 16,
     };
-    let book = Book::open(
-        rt.alloc(),
+    Book::open(
+        alloc,
         ToyJudge { name: 0 },
         cast,
         4_294_967_295,
         100,
         root(0),
-    )?;
-    assert_eq!(rt; book.spare(), 101 * (16 + 2 * 15 * 33));
-    assert_eq!(rt; book.journal().len(), 0);
+    )
+}
+
+/// The largest book takes its room at opening.
+#[test]
+fn the_largest_book_takes_its_room_at_opening(rt: HostRuntime) -> Result<(), Fail> {
+    let book = largest(rt.alloc())?;
+    assert_eq!(rt; numbers(&book), (101 * (16 + 2 * 15 * 33), 0, Ended::Open));
     Ok(())
+}
+
+/// What a prover is asked; what its pass on its claim is answered, where it passes there or the match goes on without it; and how many
+/// entries there are then.
+fn asked_and_passed(book: &mut Book<ToyJudge, Cast>, p: u32) -> (Asked, Option<Replied>, usize)
+    requires some { 0 < p }
+    requires few { p ≤ book.old.0.2.provers }
+    ensures { book.new.0 ≡ book.old.0 }
+{
+    let ask = ask_in_short(book.ask(p));
+    let reply = if matches!(ask, Asked::Nothing) {
+        pass_again(book, p)
+    } else {
+        pass(book, p)
+    };
+    (ask, reply.map(reply_in_short), book.journal().len())
+}
+
+/// What comes of two silent provers without patience, who pass one after another.
+fn both_pass(alloc: Global) -> Result<([(Asked, Option<Replied>, usize); 5], Ended), Memory> {
+    let cast = Cast {
+        players: [SILENT; 16],
+        count: 2,
+    };
+    let mut book = Book::open(alloc, ToyJudge { name: 0 }, cast, 8, 0, root(0))?;
+    let turns = [
+        asked_and_passed(&mut book, 1),
+        asked_and_passed(&mut book, 1),
+        asked_and_passed(&mut book, 2),
+        asked_and_passed(&mut book, 1),
+        asked_and_passed(&mut book, 2),
+    ];
+    Ok((turns, how(book.verdict())))
 }
 
 /// Two silent provers without patience: each pass is spent at once, and a stale one is not noted.
 #[test]
 fn silent_provers_are_spent_one_by_one(rt: HostRuntime) -> Result<(), Fail> {
-    let cast = Cast {
-        players: [SILENT; 16],
-        count: 2,
-    };
-    let mut book = Book::open(rt.alloc(), ToyJudge { name: 0 }, cast, 8, 0, root(0))?;
-    assert!(rt; is_for_the_claim(book.ask(1)));
-    assert!(rt; matches!(pass(&mut book, 1), Some(Reply::Spent)));
-    assert_eq!(rt; book.journal().len(), 1);
-    assert!(rt; matches!(book.ask(1), Ask::Nothing));
-    assert!(rt; matches!(pass_again(&mut book, 1), Some(Reply::Stale(None))));
-    assert_eq!(rt; book.journal().len(), 1);
-    assert!(rt; matches!(pass(&mut book, 2), Some(Reply::Spent)));
-    assert_eq!(rt; book.journal().len(), 2);
-    assert!(rt; matches!(book.ask(1), Ask::Over));
-    assert!(rt; matches!(book.ask(2), Ask::Over));
-    assert_eq!(rt; how(book.verdict()), Ended::NoneLeft);
+    let want = [
+        (Asked::Claim(0), Some(Replied::Spent), 1),
+        (Asked::Nothing, Some(Replied::Stale(None)), 1),
+        (Asked::Claim(0), Some(Replied::Spent), 2),
+        (Asked::Over, None, 2),
+        (Asked::Over, None, 2),
+    ];
+    assert_eq!(rt; both_pass(rt.alloc())?, (want, Ended::NoneLeft));
     Ok(())
 }

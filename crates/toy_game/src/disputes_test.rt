@@ -16,15 +16,15 @@ fn settled_by(
     alloc: Global,
     dispute: &Dispute,
     side: Side,
-    player: &Player,
+    player: Player,
 ) -> Result<Option<Settled>, Memory> {
     match dispute.question(side) {
         None => Ok(None),
         Some(question) => {
-            if passes_now(player, &question, 0) {
+            if passes_now(&player, &question, 0) {
                 Ok(Some(Settled::Spent))
             } else {
-                Ok(Some(Settled::Given(given(alloc, player, question.kind)?)))
+                Ok(Some(Settled::Given(given(alloc, &player, question.kind)?)))
             }
         }
     }
@@ -35,7 +35,7 @@ fn move_side(
     alloc: Global,
     dispute: &mut Dispute,
     side: Side,
-    player: &Player,
+    player: Player,
 ) -> Result<(), Memory> {
     if let Some(settled) = settled_by(alloc, dispute, side, player)? {
         if dispute.question(side).is_some() {
@@ -45,33 +45,49 @@ fn move_side(
     Ok(())
 }
 
-/// A dispute over `bound` steps, played to its end; `late_first` tells who settles last in each round.
+/// Dispute 7 over `bound` steps.
+fn begun(alloc: Global, bound: u64, first: Player, second: Player) -> Result<Dispute, Memory>
+    requires some { 0 < bound }
+    requires short { bound < 2 ^ 32 }
+{
+    let room = Room::new(alloc, bound)?;
+    let first = (3, root(number_at(&first, bound)));
+    let second = (5, root(number_at(&second, bound)));
+    Ok(Dispute::new(room, 1, 7, root(0), first, second))
+}
+
+/// Both sides move, one after the other.
+fn play_round(
+    alloc: Global,
+    dispute: &mut Dispute,
+    sooner: (Side, Player),
+    later: (Side, Player),
+) -> Result<(), Memory> {
+    move_side(alloc, dispute, sooner.0, sooner.1)?;
+    move_side(alloc, dispute, later.0, later.1)
+}
+
+/// Dispute 7 over `bound` steps, played to its end; `late_first` tells who settles last in each round.
 fn played(
     alloc: Global,
     bound: u64,
-    first: &Player,
-    second: &Player,
+    first: Player,
+    second: Player,
     late_first: bool,
 ) -> Result<Dispute, Memory>
     requires some { 0 < bound }
     requires short { bound < 2 ^ 32 }
 {
-    let mut dispute = Dispute::new(
-        Room::new(alloc, bound)?,
-        1,
-        7,
-        root(0),
-        (3, root(number_at(first, bound))),
-        (5, root(number_at(second, bound))),
-    );
+    let mut dispute = begun(alloc, bound, first, second)?;
+    let first = (Side::First, first);
+    let second = (Side::Second, second);
+    let (sooner, later) = if late_first {
+        (second, first)
+    } else {
+        (first, second)
+    };
     for _ in 0..MOST_ROUNDS {
-        if late_first {
-            move_side(alloc, &mut dispute, Side::Second, second)?;
-            move_side(alloc, &mut dispute, Side::First, first)?;
-        } else {
-            move_side(alloc, &mut dispute, Side::First, first)?;
-            move_side(alloc, &mut dispute, Side::Second, second)?;
-        }
+        play_round(alloc, &mut dispute, sooner, later)?;
     }
     Ok(dispute)
 }
@@ -100,6 +116,31 @@ fn how(dispute: &Dispute) -> Ended {
     }
 }
 
+/// The steps at which roots were asked in the rounds that went on, and whether they were the same.
+fn asked(alloc: Global, dispute: &Dispute) -> Result<Vec<(u64, bool)>, Memory> {
+    let mut asked = Vec::new(alloc);
+    for round in dispute.rounds() {
+        let mid = u64::midpoint(round.lo, round.hi);
+        asked.push((mid, is_same(&round.first, &round.second)))?;
+    }
+    Ok(asked)
+}
+
+/// How a dispute ends, the number that it has then, and what was asked in it.
+fn end_of(
+    alloc: Global,
+    bound: u64,
+    sides: (Player, Player),
+    late_first: bool,
+) -> Result<(Ended, u32, Vec<(u64, bool)>), Memory>
+    requires some { 0 < bound }
+    requires short { bound < 2 ^ 32 }
+{
+    let dispute = played(alloc, bound, sides.0, sides.1, late_first)?;
+    let asked = asked(alloc, &dispute)?;
+    Ok((how(&dispute), dispute.number(), asked))
+}
+
 /// The steps at which roots were asked and whether they were the same, by hand: `mid = lo + (hi - lo) / 2`; equal roots move
 /// `lo`, different ones move `hi`.
 #[test]
@@ -123,76 +164,73 @@ fn disputes_are_played_round_by_round_in_either_order(rt: HostRuntime) -> Result
     let liar_is_bisected: [(u64, bool); 3] = [(4, false), (2, false), (1, true)];
     let stopped_state: [(u64, bool); 3] = [(3, true), (5, true), (6, true)];
     let silent_in_a_dispute: [(u64, bool); 1] = [(4, false)];
-    let rows: [(u64, Player, Player, &[(u64, bool)], Ended); 5] = [
-        (8, HONEST, LIAR, &liar_is_bisected, Ended::Out(false, true)),
-        (1, HONEST, early_liar, &[], Ended::Out(false, true)),
+    let rows: [(u64, (Player, Player), &[(u64, bool)], Ended); 5] = [
+        (
+            8,
+            (HONEST, LIAR),
+            &liar_is_bisected,
+            Ended::Out(false, true),
+        ),
+        (1, (HONEST, early_liar), &[], Ended::Out(false, true)),
         (
             7,
-            HONEST,
-            late_liar,
+            (HONEST, late_liar),
             &stopped_state,
             Ended::Out(false, true),
         ),
         (
             8,
-            silent,
-            silent_liar,
+            (silent, silent_liar),
             &silent_in_a_dispute,
             Ended::Out(true, true),
         ),
-        (1, HONEST, forger, &[], Ended::Collided),
+        (1, (HONEST, forger), &[], Ended::Collided),
     ];
-    for (bound, first, second, rounds, wanted) in rows {
+    for (bound, sides, rounds, wanted) in rows {
         assert!(rt; bound == 8 || bound == 7 || bound == 1);
         for late_first in [false, true] {
-            let dispute = played(rt.alloc(), bound, &first, &second, late_first)?;
-            assert_eq!(rt; how(&dispute), wanted, "bound {bound}");
-            assert_eq!(rt; dispute.rounds().len(), rounds.len(), "bound {bound}");
-            let mut i = 0;
-            for (mid, same) in rounds {
-                let Some(round) = dispute.rounds().get(i) else {
-                    return Ok(());
-                };
-                assert_eq!(rt; u64::midpoint(round.lo, round.hi), *mid, "round {i}");
-                assert_eq!(rt; is_same(&round.first, &round.second), *same, "round {i}");
-                i += 1;
-            }
-            assert_eq!(rt; dispute.number(), 7);
+            let (end, number, asked) = end_of(rt.alloc(), bound, sides, late_first)?;
+            assert_eq!(rt; (end, number), (wanted, 7), "bound {bound}");
+            assert_eq!(rt; asked.as_slice(), rounds, "bound {bound}");
         }
     }
     Ok(())
+}
+
+/// How many rounds of a dispute went on, in which the second side lies from a step on.
+fn rounds_against(alloc: Global, bound: u64, from: u64) -> Result<usize, Memory>
+    requires some { 0 < bound }
+    requires short { bound < 2 ^ 32 }
+{
+    let liar = Player { from, ..LIAR };
+    let dispute = played(alloc, bound, HONEST, liar, false)?;
+    Ok(dispute.rounds().len())
+}
+
+/// How many rounds of a dispute went on, where the second side lies from step 1 on, and where it lies from the last step on.
+fn rounds_down_and_up(alloc: Global, bound: u64) -> Result<(usize, usize), Memory>
+    requires some { 0 < bound }
+    requires short { bound < 2 ^ 32 }
+{
+    let down = rounds_against(alloc, bound, 1)?;
+    Ok((down, rounds_against(alloc, bound, bound)?))
 }
 
 /// The rounds of a dispute, by hand: 0 for one step; with the first difference at step 1 the halves are rounded down, at the
 /// last step up.
 #[test]
 fn a_dispute_has_as_many_rounds_as_halves(rt: HostRuntime) -> Result<(), Fail> {
-    let rows: [(u64, usize, usize); 5] = [
+    for (bound, down, up) in [
         (1, 0, 0),
         (2, 1, 1),
         (3, 1, 2),
         (16_777_216, 24, 24),
         (4_294_967_295, 31, 32),
-    ];
-    for (bound, down, up) in rows {
+    ] {
         assert!(rt; bound >= 1 && bound <= 4_294_967_295);
-        let early = Player { from: 1, ..LIAR };
-        let late = Player {
-            from: bound,
-            ..LIAR
-        };
         assert_eq!(rt;
-            played(rt.alloc(), bound, &HONEST, &early, false)?
-                .rounds()
-                .len(),
-            down,
-            "bound {bound}"
-        );
-        assert_eq!(rt;
-            played(rt.alloc(), bound, &HONEST, &late, false)?
-                .rounds()
-                .len(),
-            up,
+            rounds_down_and_up(rt.alloc(), bound)?,
+            (down, up),
             "bound {bound}"
         );
     }

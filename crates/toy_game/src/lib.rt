@@ -1,7 +1,7 @@
-//! A judge, provers and answerers over numbers, and the tests of the game that they play.
+//! A judge, provers and answerers over numbers, and the tests of disputes and books that they play.
 //!
 //! No layer of the product stands on this crate. It shows the traits of the game in their smallest form: read `toy_judge`, then
-//! `cast`. Its tests are those of disputes, matches and books (`disputes_test`, `matches_test`, `books_test`).
+//! `cast`. Its tests are those of disputes (`disputes_test`) and books (`books_test`); those of matches stand in `toy_report`.
 #![tactic(auto)]
 
 #[cfg(test)]
@@ -10,7 +10,7 @@ mod cast;
 #[cfg(test)]
 mod disputes_test;
 #[cfg(test)]
-mod matches_test;
+mod in_short;
 mod player;
 mod toy_judge;
 

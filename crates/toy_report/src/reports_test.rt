@@ -1,126 +1,6 @@
-ghost use denote.Param.Send.{IsSync};
-ghost use Rattle.std.specs.Prelude.{length, ◌<◌, ◌≤◌};
-
-use bisect_game::{Answerer, Kind, Question};
-use rd_base::{Answer, Memory, Qid};
-use std::alloc::Global;
+use crate::playing::{NOBODY, Wrong, report_of};
 use std::test::Fail;
-use std::thread::Threads;
-use tournament::{Match, Move};
-use toy_game::{HONEST, LIAR, Player, SILENT, Seated, ToyJudge, root};
-use transcript_text::{DigestName, Head, report};
-
-/// The question for a claim.
-const CLAIM: Question = Question {
-    qid: Qid {
-        dispute: 0,
-        round: 0,
-    },
-    kind: Kind::Claim,
-};
-
-/// Where a prover gives an answer of another kind than asked: its number, and the round in which it does.
-#[derive(Clone, Copy, Debug)]
-struct Wrong {
-    prover: u32,
-    round: u32,
-}
-
-/// Nobody does.
-const NOBODY: Wrong = Wrong {
-    prover: 0,
-    round: 0,
-};
-
-/// An answer of another kind than asked.
-fn wrong_answer<R: Threads + Sync>(
-    rt: &R,
-    seated: &mut Seated,
-    kind: Kind,
-) -> Result<Option<Answer>, Memory>
-    requires { IsSync R.row }
-{
-    match kind {
-        Kind::Claim => Ok(Some(Answer::Root(root(9)))),
-        _ => seated.answer(rt, &CLAIM, 0),
-    }
-}
-
-/// A prover moves on its open question, if it has one.
-fn move_prover<R: Threads + Sync>(
-    rt: &R,
-    game: &mut Match<ToyJudge>,
-    p: u32,
-    seated: &mut Seated,
-    wrong: Wrong,
-) -> Result<(), Memory>
-    requires { IsSync R.row }
-{
-    if p == 0 || p > game.setup().provers {
-        return Ok(());
-    }
-    let Some(question) = game.question(p) else {
-        return Ok(());
-    };
-    let answer = if wrong.prover == p && wrong.round == question.qid.round {
-        wrong_answer(rt, seated, question.kind)?
-    } else {
-        seated.answer(rt, &question, game.passes(p))?
-    };
-    game.post(p, question.qid, answer.map_or(Move::Pass, Move::Give));
-    Ok(())
-}
-
-/// A match over 8 steps of these players, who move in turn.
-fn played<R: Threads + Sync>(
-    rt: &R,
-    alloc: Global,
-    players: &[Player],
-    wrong: Wrong,
-) -> Result<Match<ToyJudge>, Memory>
-    requires sync { IsSync R.row }
-    requires some { 0 < length players.now }
-    requires few { length players.now ≤ 16 }
-{
-    let judge = ToyJudge { name: 0 };
-    let mut game = Match::new(alloc, judge, players.len() as u32, 8, 0, root(0))?;
-    for _ in 0..32 {
-        for (i, player) in players.iter().enumerate() {
-            let mut seated = Seated {
-                player: *player,
-                alloc,
-            };
-            move_prover(rt, &mut game, i as u32 + 1, &mut seated, wrong)?;
-        }
-    }
-    Ok(game)
-}
-
-/// The report of a match of these players, without the line of its head; empty where the match isn't over.
-fn report_of<R: Threads + Sync>(
-    rt: &R,
-    alloc: Global,
-    players: &[Player],
-    wrong: Wrong,
-) -> Result<Vec<u8>, Memory>
-    requires sync { IsSync R.row }
-    requires some { 0 < length players.now }
-    requires few { length players.now ≤ 16 }
-{
-    let game = played(rt, alloc, players, wrong)?;
-    let head = Head {
-        provers: players.len() as u32,
-        bound: 8,
-        patience: 0,
-        version: 1,
-        fan: 2,
-        digest: DigestName::Sha256,
-    };
-    match game.verdict() {
-        Some(verdict) => report(alloc, &head, game.record(), &verdict),
-        None => Ok(Vec::new(alloc)),
-    }
-}
+use toy_game::{HONEST, LIAR, Player, SILENT};
 
 /// The true run is 0 to 6 and stays there; a liar's is another one from step 2 on.
 #[test]
@@ -148,18 +28,24 @@ fn each_match_has_its_report(rt: HostRuntime) -> Result<(), Fail> {
         proof_mark: 21,
         ..HONEST
     };
+    let late = Player { late: 2, ..HONEST };
     let liar_is_bisected = [HONEST, LIAR];
     let two_liars_one_honest = [LIAR, LIAR, HONEST];
     let three_roots = [HONEST, LIAR, HONEST, other, LIAR];
     let all_silent = [SILENT, SILENT];
     let silent_in_a_dispute = [silent, silent_liar];
     let silent_at_the_proof = [HONEST, late_silent];
+    let nobody_honest = [LIAR, LIAR];
+    let late_liar = [late, LIAR];
     let twins = [HONEST, twin];
+    let twins_apart = [HONEST, LIAR, twin];
     let forged = [HONEST, forger];
-    let rows: [(&[Player], Wrong, &str); 11] = [
+    let rows: [(&[Player], u32, Wrong, u32, &str); 15] = [
         (
             &liar_is_bisected,
+            0,
             NOBODY,
+            1,
             "match provers 2 bound 8 patience 0 version 1 fan 2 digest sha256\n\
              p1 claims running output\np2 claims running output\n\
              stage 1\ndispute 1 p1 p2\n\
@@ -168,7 +54,9 @@ fn each_match_has_its_report(rt: HostRuntime) -> Result<(), Fail> {
         ),
         (
             &two_liars_one_honest,
+            0,
             NOBODY,
+            3,
             "match provers 3 bound 8 patience 0 version 1 fan 2 digest sha256\n\
              p1 claims running output\np2 claims running output\np3 claims running output\n\
              stage 1\ndispute 1 p1 p3\n\
@@ -179,7 +67,9 @@ fn each_match_has_its_report(rt: HostRuntime) -> Result<(), Fail> {
         ),
         (
             &three_roots,
+            0,
             NOBODY,
+            1,
             "match provers 5 bound 8 patience 0 version 1 fan 2 digest sha256\n\
              p1 claims running output\np2 claims running output\np3 claims running output\n\
              p4 claims running output\np5 claims running output\n\
@@ -193,20 +83,26 @@ fn each_match_has_its_report(rt: HostRuntime) -> Result<(), Fail> {
         ),
         (
             &all_silent,
+            0,
             NOBODY,
+            0,
             "match provers 2 bound 8 patience 0 version 1 fan 2 digest sha256\n\
              out p1 spent\nout p2 spent\nnone left\n",
         ),
         (
             &silent_in_a_dispute,
+            0,
             NOBODY,
+            0,
             "match provers 2 bound 8 patience 0 version 1 fan 2 digest sha256\n\
              p1 claims running output\np2 claims running output\n\
              stage 1\ndispute 1 p1 p2\nround 1 at 4 differ\nround 2 at 2 p1 spent p2 spent\nnone left\n",
         ),
         (
             &silent_at_the_proof,
+            0,
             NOBODY,
+            1,
             "match provers 2 bound 8 patience 0 version 1 fan 2 digest sha256\n\
              p1 claims running output\np2 claims running output\n\
              stage 1\ndispute 1 p1 p2\n\
@@ -215,13 +111,17 @@ fn each_match_has_its_report(rt: HostRuntime) -> Result<(), Fail> {
         ),
         (
             &twins,
+            0,
             NOBODY,
+            0,
             "match provers 2 bound 8 patience 0 version 1 fan 2 digest sha256\n\
              p1 claims running output\np2 claims running output\ncollision 01 02\n",
         ),
         (
             &forged,
+            0,
             NOBODY,
+            0,
             "match provers 2 bound 8 patience 0 version 1 fan 2 digest sha256\n\
              p1 claims running output\np2 claims running output\n\
              stage 1\ndispute 1 p1 p2\n\
@@ -229,20 +129,59 @@ fn each_match_has_its_report(rt: HostRuntime) -> Result<(), Fail> {
              collision 01 02\n",
         ),
         (
+            &nobody_honest,
+            0,
+            NOBODY,
+            1,
+            "match provers 2 bound 8 patience 0 version 1 fan 2 digest sha256\n\
+             p1 claims running output\np2 claims running output\naccept running output\n",
+        ),
+        (
+            &late_liar,
+            2,
+            NOBODY,
+            1,
+            "match provers 2 bound 8 patience 2 version 1 fan 2 digest sha256\n\
+             p1 claims running output\np2 claims running output\n\
+             stage 1\ndispute 1 p1 p2\n\
+             round 1 at 4 differ\nround 2 at 2 differ\nround 3 at 1 same\nstep 1 p1 proved p2 refuted\n\
+             accept running output\n",
+        ),
+        (
+            &late_liar,
+            1,
+            NOBODY,
+            2,
+            "match provers 2 bound 8 patience 1 version 1 fan 2 digest sha256\n\
+             out p1 spent\np2 claims running output\naccept running output\n",
+        ),
+        (
+            &twins_apart,
+            0,
+            NOBODY,
+            0,
+            "match provers 3 bound 8 patience 0 version 1 fan 2 digest sha256\n\
+             p1 claims running output\np2 claims running output\np3 claims running output\ncollision 01 02\n",
+        ),
+        (
             &liar_is_bisected,
+            0,
             Wrong {
                 prover: 1,
                 round: 0,
             },
+            2,
             "match provers 2 bound 8 patience 0 version 1 fan 2 digest sha256\n\
              out p1 faulty\np2 claims running output\naccept running output\n",
         ),
         (
             &liar_is_bisected,
+            0,
             Wrong {
                 prover: 1,
                 round: 2,
             },
+            2,
             "match provers 2 bound 8 patience 0 version 1 fan 2 digest sha256\n\
              p1 claims running output\np2 claims running output\n\
              stage 1\ndispute 1 p1 p2\nround 1 at 4 differ\nround 2 at 2 p1 faulty p2 given\n\
@@ -250,10 +189,12 @@ fn each_match_has_its_report(rt: HostRuntime) -> Result<(), Fail> {
         ),
         (
             &liar_is_bisected,
+            0,
             Wrong {
                 prover: 1,
                 round: 4,
             },
+            0,
             "match provers 2 bound 8 patience 0 version 1 fan 2 digest sha256\n\
              p1 claims running output\np2 claims running output\n\
              stage 1\ndispute 1 p1 p2\n\
@@ -261,10 +202,50 @@ fn each_match_has_its_report(rt: HostRuntime) -> Result<(), Fail> {
              none left\n",
         ),
     ];
-    for (players, wrong, want) in rows {
-        assert!(rt; players.len() >= 1 && players.len() <= 16);
-        let text = report_of(&rt, rt.alloc(), players, wrong)?;
+    for (players, patience, wrong, accepted, want) in rows {
+        let (text, prover) = report_of(
+            &rt,
+            rt.alloc(),
+            players,
+            &[0, 1, 2, 3, 4],
+            patience,
+            wrong,
+        )?;
         assert_eq!(rt; text.as_slice(), want.as_bytes(), "{wrong:?}");
+        assert_eq!(rt; prover, accepted, "{wrong:?}");
+    }
+    Ok(())
+}
+
+/// Whoever moves first, each of the six orders of three provers ends in one report.
+#[test]
+fn all_orders_end_in_one_report(rt: HostRuntime) -> Result<(), Fail> {
+    let late = Player { late: 1, ..HONEST };
+    let silent = Player {
+        silent_from: 2,
+        from: 5,
+        ..LIAR
+    };
+    let players = [LIAR, late, silent];
+    let want = "match provers 3 bound 8 patience 1 version 1 fan 2 digest sha256\n\
+                p1 claims running output\np2 claims running output\np3 claims running output\n\
+                stage 1\ndispute 1 p1 p2\n\
+                round 1 at 4 differ\nround 2 at 2 differ\nround 3 at 1 same\nstep 1 p1 refuted p2 proved\n\
+                stage 2\ndispute 2 p2 p3\n\
+                round 1 at 4 same\nround 2 at 6 p2 given p3 spent\n\
+                accept running output\n";
+    let orders = [
+        [0, 1, 2],
+        [0, 2, 1],
+        [1, 0, 2],
+        [1, 2, 0],
+        [2, 0, 1],
+        [2, 1, 0],
+    ];
+    for order in orders {
+        let (text, accepted) = report_of(&rt, rt.alloc(), &players, &order, 1, NOBODY)?;
+        assert_eq!(rt; text.as_slice(), want.as_bytes(), "{order:?}");
+        assert_eq!(rt; accepted, 2, "{order:?}");
     }
     Ok(())
 }

@@ -1,0 +1,142 @@
+//! Matches of toy players, and their reports.
+ghost use denote.Param.Send.{IsSync};
+ghost use Rattle.std.specs.Prelude.{length, ◌<◌, ◌≤◌};
+
+use bisect_game::{Answerer, Kind, Question};
+use rd_base::{Answer, Memory, Qid};
+use std::alloc::Global;
+use std::thread::Threads;
+use tournament::{Match, Move, Verdict};
+use toy_game::{Player, Seated, ToyJudge, root};
+use transcript_text::{DigestName, Head, report};
+
+/// The question for a claim.
+pub(crate) const CLAIM: Question = Question {
+    qid: Qid {
+        dispute: 0,
+        round: 0,
+    },
+    kind: Kind::Claim,
+};
+
+/// Where a prover gives an answer of another kind than asked: its number, and the round in which it does.
+#[derive(Clone, Copy, Debug)]
+pub(crate) struct Wrong {
+    pub prover: u32,
+    pub round: u32,
+}
+
+/// Nobody does.
+pub(crate) const NOBODY: Wrong = Wrong {
+    prover: 0,
+    round: 0,
+};
+
+/// An answer of another kind than asked.
+fn wrong_answer<R: Threads + Sync>(
+    rt: &R,
+    seated: &mut Seated,
+    kind: Kind,
+) -> Result<Option<Answer>, Memory>
+    requires { IsSync R.row }
+{
+    match kind {
+        Kind::Claim => Ok(Some(Answer::Root(root(9)))),
+        _ => seated.answer(rt, &CLAIM, 0),
+    }
+}
+
+/// A prover moves on its open question, if it has one.
+fn move_prover<R: Threads + Sync>(
+    rt: &R,
+    game: &mut Match<ToyJudge>,
+    p: u32,
+    seated: &mut Seated,
+    wrong: Wrong,
+) -> Result<(), Memory>
+    requires { IsSync R.row }
+{
+    if p == 0 || p > game.setup().provers {
+        return Ok(());
+    }
+    let Some(question) = game.question(p) else {
+        return Ok(());
+    };
+    let answer = if wrong.prover == p && wrong.round == question.qid.round {
+        wrong_answer(rt, seated, question.kind)?
+    } else {
+        seated.answer(rt, &question, game.passes(p))?
+    };
+    game.post(p, question.qid, answer.map_or(Move::Pass, Move::Give));
+    Ok(())
+}
+
+/// A match over 8 steps of these players, who move in turn in this order; the place of the first is 0.
+fn played<R: Threads + Sync>(
+    rt: &R,
+    alloc: Global,
+    players: &[Player],
+    order: &[usize],
+    patience: u32,
+    wrong: Wrong,
+) -> Result<Match<ToyJudge>, Memory>
+    requires sync { IsSync R.row }
+    requires some { 0 < length players.now }
+    requires few { length players.now ≤ 16 }
+{
+    let judge = ToyJudge { name: 0 };
+    let mut game = Match::new(alloc, judge, players.len() as u32, 8, patience, root(0))?;
+    for _ in 0..64 {
+        for place in order {
+            if let Some(player) = players.get(*place) {
+                let mut seated = Seated {
+                    player: *player,
+                    alloc,
+                };
+                move_prover(rt, &mut game, *place as u32 + 1, &mut seated, wrong)?;
+            }
+        }
+    }
+    Ok(game)
+}
+
+/// The prover whose claim is accepted; 0 where none is.
+fn accepted(verdict: &Verdict) -> u32 {
+    match verdict {
+        Verdict::Accept(p) => *p,
+        _ => 0,
+    }
+}
+
+/// The report of a match of these players, of whom there are 1 to 16, and whose claim is accepted, 0 where none is. The report is
+/// empty where there is no match of so many, and where it isn't over.
+pub(crate) fn report_of<R: Threads + Sync>(
+    rt: &R,
+    alloc: Global,
+    players: &[Player],
+    order: &[usize],
+    patience: u32,
+    wrong: Wrong,
+) -> Result<(Vec<u8>, u32), Memory>
+    requires { IsSync R.row }
+{
+    if players.is_empty() || players.len() > 16 {
+        return Ok((Vec::new(alloc), 0));
+    }
+    let game = played(rt, alloc, players, order, patience, wrong)?;
+    let head = Head {
+        provers: players.len() as u32,
+        bound: 8,
+        patience,
+        version: 1,
+        fan: 2,
+        digest: DigestName::Sha256,
+    };
+    match game.verdict() {
+        Some(verdict) => {
+            let text = report(alloc, &head, game.record(), &verdict)?;
+            Ok((text, accepted(&verdict)))
+        }
+        None => Ok((Vec::new(alloc), 0)),
+    }
+}
