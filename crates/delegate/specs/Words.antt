@@ -1,5 +1,5 @@
 -- To believe. The arguments of the command line, as `clap` takes them.
-use Rattle.std.specs.Prelude.{◌≡◌, ℕ, pos, List, [], ◌∷◌, Bool, true, false, codes, map, option_map, Option, Some, None, if◌then◌else◌, String, string_bytes}
+use Rattle.std.specs.Prelude.{◌≡◌, ◌<◌, ℕ, pos, List, [], ◌∷◌, Bool, true, false, codes, map, option_map, Option, Some, None, if◌then◌else◌, String, string_bytes}
 use Rattle.std.specs.declared.alloc.Global.{Global}
 use Rattle.std.specs.Option.{option_and_then, option_map_or}
 use Rattle.std.specs.Str.{bytes_eq}
@@ -98,6 +98,12 @@ pub record AreGiven (rows : List Row) (options : Options) : Type 0 where
   pub workers : IsNumberOf (one_of (codes "workers") rows) 1 options.workers
   pub posters : IsNumberOf (one_of (codes "posters") rows) 1 options.posters
   pub every : IsNumberOf (one_of (codes "every") rows) 1024 options.every
+
+-- each option is at least 1
+pub record AreAtLeastOne (options : Options) : Type 0 where
+  pub workers : 0 < options.workers
+  pub posters : 0 < options.posters
+  pub every : 0 < options.every
 
 -- the command reads a case from its source; no other arguments have anything read
 abbrev pub reads : Option Command → Bool

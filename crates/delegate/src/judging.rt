@@ -1,9 +1,10 @@
 ghost use denote.Param.Send.{IsSync};
-ghost use Rattle.std.specs.Prelude.{◌≡◌, ◌<◌, [], IfOk};
+ghost use Rattle.std.specs.Prelude.{◌≡◌, [], IfOk};
 ghost use Rattle.rv_step.specs.State.{state_of, IsChained};
 ghost use Rattle.case_reader.specs.Case.{data_of};
 ghost use Rattle.delegate.specs.Match.{record_of_case, verdict_of_record, head_of};
 ghost use Rattle.delegate.specs.Outcome.{answered_by, answered_for, match_text, reported};
+ghost use Rattle.delegate.specs.Words.{AreAtLeastOne};
 
 use crate::answered::Answered;
 use crate::playing::play_out;
@@ -39,9 +40,7 @@ where
     D: Send + Sync,
     requires chained { IsChained D.digest_of start }
     requires silent { start.output.items ≡ [] }
-    requires workers { 0 < options.workers }
-    requires posters { 0 < options.posters }
-    requires every { 0 < options.every }
+    requires options { AreAtLeastOne options }
     ensures record_kept { IfOk result (λ played. played.0 ≡ record_of_case D.digest_of (data_of case.now) (state_of start)) }
     ensures verdict { IfOk result (λ played. played.1 ≡ verdict_of_record D.digest_of (data_of case.now) (state_of start) played.0) }
 {
@@ -104,9 +103,7 @@ where
     D: Send + Sync,
     requires chained { IsChained D.digest_of start }
     requires silent { start.output.items ≡ [] }
-    requires workers { 0 < request.options.workers }
-    requires posters { 0 < request.options.posters }
-    requires every { 0 < request.options.every }
+    requires options { AreAtLeastOne request.options }
     ensures { IfOk result (λ response. response ≡ reported D.digest_of request.command (data_of case.now) (state_of start)) }
 {
     let (match_record, verdict) = verdict_of_case(rt, alloc, d, case, start, request.options)?;

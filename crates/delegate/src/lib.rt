@@ -4,7 +4,8 @@
 //! that its source had, and carry the headline: a prover that claims and answers as the machine's definition says, within its
 //! patience, is not eliminated, and where there is one the verdict is the sequential run's status and output, or two
 //! different strings of one digest. Read `program` first, then `responding`, whose steps stand in `stages`, `judging` with
-//! `playing`, `running` and `rooting`. `run_process` is what a program's `main` calls.
+//! `playing`, `running` and `rooting`. `run_process` is what a program's `main` calls. Its tests are the stored runs of the
+//! programs above it, above all of `refcli_rows`.
 #![tactic(auto)]
 
 mod answered;
@@ -30,6 +31,3 @@ pub use laws::{
 pub use process::{arguments, run_process};
 pub use program::run;
 pub use words::{Command, Options};
-
-#[cfg(test)]
-mod tests;

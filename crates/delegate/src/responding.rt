@@ -1,4 +1,4 @@
-ghost use Rattle.std.specs.Prelude.{◌≡◌, ◌↔◌, ◌<◌, [], true, false, None, Ok, Err, IfOk, IfSome, IsErrOf};
+ghost use Rattle.std.specs.Prelude.{◌≡◌, ◌↔◌, [], true, false, None, Ok, Err, IfOk, IfSome, IsErrOf};
 ghost use Rattle.std.specs.Io.KnownBytes.{IsAtEnd};
 ghost use Rattle.io_edge.specs.Device.{Rises, IsLaterIn};
 ghost use Rattle.rv_step.specs.State.{state_of, IsChained};
@@ -7,7 +7,7 @@ ghost use Rattle.delegate.specs.Answered.{is_outcome, is_of_a_command, reads_all
 ghost use Rattle.delegate.specs.Outcome.{ended, carried_out, outcome};
 ghost use Rattle.delegate.specs.Stages.{CasesAreInRange};
 ghost use Rattle.delegate.specs.Visible.{ForItsBytes};
-ghost use Rattle.delegate.specs.Words.{texts, chosen, reads};
+ghost use Rattle.delegate.specs.Words.{texts, chosen, reads, AreAtLeastOne};
 ghost use Rattle.delegate.specs.declared.response.Response.{Response};
 
 use crate::answered::Answered;
@@ -40,9 +40,7 @@ where
     D: Send + Sync,
     requires chained { IsChained D.digest_of start }
     requires silent { start.output.items ≡ [] }
-    requires workers { 0 < request.options.workers }
-    requires posters { 0 < request.options.posters }
-    requires every { 0 < request.options.every }
+    requires options { AreAtLeastOne request.options }
     ensures { IfOk result (λ response. response ≡ ended D.digest_of request.command (data_of case.now) (state_of start)) }
 {
     match request.command {

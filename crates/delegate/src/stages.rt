@@ -12,7 +12,7 @@ ghost use Rattle.delegate.specs.Refusal.{usage, too_long, case_refusal, image_re
 ghost use Rattle.delegate.specs.Stages.{Stands};
 ghost use Rattle.delegate.specs.Visible.{MayBe, ForItsBytes};
 ghost use Rattle.delegate.specs.declared.response.Response.{Response};
-ghost use Rattle.delegate.specs.Words.{texts, chosen, reads, given_options, AreGiven};
+ghost use Rattle.delegate.specs.Words.{texts, chosen, reads, given_options, AreAtLeastOne, AreGiven};
 
 use crate::faults;
 use crate::response::{Halt, Stop};
@@ -32,9 +32,7 @@ pub const MAX_ROOTS_BOUND: u64 = 4_096;
 /// The command that the arguments name, with its options.
 pub fn command_in(alloc: Global, words: &[String]) -> Result<Request, Stop>
     ensures stands { Stands (λ request. request.command) result (ok_or (chosen (texts words.now)) usage) }
-    ensures workers { IfOk result (λ request. 0 < request.options.workers) }
-    ensures posters { IfOk result (λ request. 0 < request.options.posters) }
-    ensures every { IfOk result (λ request. 0 < request.options.every) }
+    ensures counts { IfOk result (λ request. AreAtLeastOne request.options) }
     ensures options { IfOk result (λ request. AreGiven (given_options (texts words.now)) request.options) }
     ensures chosen { IfOk result (λ request. chosen (texts words.now) ≡ Some request.command) }
     ensures no_read { ¬ (result ≡ Err (Stop.Halted Halt.ReadFault)) }

@@ -4,7 +4,7 @@ ghost use Rattle.clap.specs.Walk.{one_of, rows_of, rule_of};
 ghost use Rattle.clap.specs.Simple.{app_of, subcommand_rows_of};
 ghost use Rattle.clap.specs.declared.builder.command.Command.TheViews.{out-Command as fields_of};
 ghost use Rattle.clap.specs.declared.builder.value_parser.ValueParser.TheVariants as parsers;
-ghost use Rattle.delegate.specs.Words.{texts, command_of_name, named, chosen, seed_in, seed_rule, number_option as the_number_option, with_match_options as the_match_options, judge_line as the_judge_line, big_line as the_big_line, command_line as the_command_line, rows_given, given_options, IsNumberOf, AreGiven};
+ghost use Rattle.delegate.specs.Words.{texts, command_of_name, named, chosen, seed_in, seed_rule, number_option as the_number_option, with_match_options as the_match_options, judge_line as the_judge_line, big_line as the_big_line, command_line as the_command_line, rows_given, given_options, IsNumberOf, AreAtLeastOne, AreGiven};
 
 use clap::builder::ValueParser;
 use clap::error::ErrorKind;
@@ -174,9 +174,7 @@ fn number(given: &ArgMatches<'_>, name: &str, default: u32) -> u32
 
 /// The numbers of the options.
 fn options_in(given: &ArgMatches<'_>) -> Options
-    ensures workers { 0 < result.workers }
-    ensures posters { 0 < result.posters }
-    ensures every { 0 < result.every }
+    ensures counts { AreAtLeastOne result }
     ensures given { AreGiven (rows_of (found_of given.now)) result }
 {
     Options {
@@ -189,9 +187,7 @@ fn options_in(given: &ArgMatches<'_>) -> Options
 /// The command that was parsed, with its options.
 fn request_in(matches: &ArgMatches<'_>) -> Option<Request>
     ensures command { option_map (λ request. request.command) result ≡ named (subcommand_rows_of matches.now) }
-    ensures workers { IfSome result (λ request. 0 < request.options.workers) }
-    ensures posters { IfSome result (λ request. 0 < request.options.posters) }
-    ensures every { IfSome result (λ request. 0 < request.options.every) }
+    ensures counts { IfSome result (λ request. AreAtLeastOne request.options) }
     ensures given { IfSome result (λ request. AreGiven (rows_given (subcommand_rows_of matches.now)) request.options) }
 {
     match matches.subcommand() {
@@ -210,9 +206,7 @@ fn request_in(matches: &ArgMatches<'_>) -> Option<Request>
 /// none.
 pub fn command_given(alloc: Global, words: &[String]) -> Result<Option<Request>, Memory>
     ensures command { IfOk result (λ given. option_map (λ request. request.command) given ≡ chosen (texts words.now)) }
-    ensures workers { IfOk result (λ given. IfSome given (λ request. 0 < request.options.workers)) }
-    ensures posters { IfOk result (λ given. IfSome given (λ request. 0 < request.options.posters)) }
-    ensures every { IfOk result (λ given. IfSome given (λ request. 0 < request.options.every)) }
+    ensures counts { IfOk result (λ given. IfSome given (λ request. AreAtLeastOne request.options)) }
     ensures options { IfOk result (λ given. IfSome given (λ request. AreGiven (given_options (texts words.now)) request.options)) }
 {
     match command_line(alloc)?.try_get_matches_from(words) {

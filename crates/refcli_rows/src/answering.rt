@@ -56,6 +56,12 @@ pub fn outcome_of<R: Threads + Wait + Sync>(
     })
 }
 
+/// The digest of a text, in hexadecimal.
+pub fn digest_of(alloc: Global, text: &[u8]) -> Result<String, AllocError> {
+    let digest = Sha256.digest(text);
+    hex::encode(alloc, digest.0.as_slice())
+}
+
 /// The last line of a text.
 fn last_line(text: &str) -> &str {
     let lines = text.trim_end();
@@ -79,8 +85,7 @@ pub fn add_line<R: Threads + Wait + Sync>(
     let status = outcome.answered.status();
     let text = outcome.text.as_str();
     let length = text.len();
-    let digest = Sha256.digest(text.as_bytes());
-    let digest = hex::encode(alloc, digest.0.as_slice())?;
+    let digest = digest_of(alloc, text.as_bytes())?;
     let last = last_line(text);
     let last = last.get(..60).unwrap_or(last);
     let first = format!(in alloc; "{name}: status {status}, {length} bytes, ")?;

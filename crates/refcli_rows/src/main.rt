@@ -1,13 +1,14 @@
 //! The program `refcli_rows`: calls `delegate::run` over memory for each row, and writes what comes of it.
 //!
-//! The rows of its standard input are calls whose answers are written out. Those after them go to the limits of what the
-//! program takes, and have a line each. A call may answer that memory ran out, so no proof shows that a body doesn't give up at some
+//! The rows of its standard input are calls whose answers are written out. Those after them have a line each: calls over devices
+//! that fail, and calls at the limits of what the program takes. A call may answer that memory ran out, so no proof shows that a body doesn't give up at some
 //! size; these show it, for the largest case, image, input and bound, the most loads, provers, passes and rounds, and
 //! the ends of the options. `checks/limits --lines` writes their lines.
 #![tactic(auto)]
 
 mod answering;
 mod cases;
+mod devices;
 mod images;
 mod matches;
 mod rows;
@@ -21,9 +22,10 @@ use std::process::ExitCode;
 use std::sync::Wait;
 use std::thread::Threads;
 
-/// The lines of the rows at the limits.
-fn lines_at_limits<R: Threads + Wait + Sync>(rt: &R, alloc: Global) -> Result<String, Memory> {
+/// The lines of the calls over devices that fail, and of those at the limits.
+fn lines_after_rows<R: Threads + Wait + Sync>(rt: &R, alloc: Global) -> Result<String, Memory> {
     let mut lines = String::new(alloc);
+    devices::add_calls(rt, alloc, &mut lines)?;
     runs::add_sizes(rt, alloc, &mut lines)?;
     runs::add_runs(rt, alloc, &mut lines)?;
     matches::add_options(rt, alloc, &mut lines)?;
@@ -37,7 +39,7 @@ fn main(rt: HostRuntime) -> io::Result<ExitCode> {
         Ok(lines) => print!(rt; "{lines}")?,
         Err(_) => return Ok(ExitCode::from(9)),
     }
-    match lines_at_limits(&rt, rt.alloc()) {
+    match lines_after_rows(&rt, rt.alloc()) {
         Ok(lines) => print!(rt; "{lines}")?,
         Err(_) => return Ok(ExitCode::from(9)),
     }

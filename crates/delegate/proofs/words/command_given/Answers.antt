@@ -17,8 +17,6 @@ returns-in-Ok-clause-options c =
 pub returns : goal.returns
 returns c = record {
   command = chosen-of-fault _ _ c.in-Err.error c.in_ok-command_line.ensures c.in-Err.ensures.kinds (λ is. c.in_default.not-OutOfMemory (c.kind.ensures ∙ is));
-  workers = tt;
-  posters = tt;
-  every = tt;
+  counts = tt;
   options = tt;
 }
