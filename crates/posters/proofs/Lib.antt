@@ -1,4 +1,3 @@
 pub mod Answering
 pub mod Seats
 pub mod Workers
-pub mod ForTests

@@ -3,12 +3,11 @@ use Rattle.tournament.specs.declared.setup.Setup.{Setup}
 use Rattle.tournament.specs.Posting.{rules_of}
 use Rattle.toy_game.specs.declared.cast.Cast.{Cast}
 use Rattle.toy_game.specs.Toy.{toy_ruling, answers, says_of}
-use Rattle.posters.proofs.Seats.{some_is}
-use Rattle.posters.proofs.ForTests.{claims_may}
-use Rattle.posters.proofs.board_tests.claim.Goals as goal
+use Rattle.toy_boards.proofs.ClaimLemmas.{some_is, claims_may}
+use Rattle.toy_boards.proofs.boards_test.claim.Goals as goal
 
-pub post-requires-clause-may : goal.post-requires-clause-may
-post-requires-clause-may g c = λ head e.
+pub post-posted-requires-clause-may : goal.post-posted-requires-clause-may
+post-posted-requires-clause-may g c = λ head e.
     let s = c.requires.seat in let p : ℕ = c.args.p in let opening : ℕ × Cast × Setup = (s.judge, c.args.cast, s.setup) in
     let same : opening ≡ head = some_is opening head (sym s.head ∙ e) in
     let said : says_of head.1.players p ≡ answers c.args.player = ap (λ (h : ℕ × Cast × Setup). says_of h.1.players p) (sym same) ∙ c.requires.player in

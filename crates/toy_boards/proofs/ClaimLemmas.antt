@@ -1,7 +1,8 @@
--- What the tests' players may post.
-use Rattle.std.proofs.Common.{◌≡◌, ℕ, Bool, true, false, if◌then◌else◌, Option, Some, None, is_none, refl, sym, ap, ◌∙◌}
+-- What players may post.
+use Rattle.std.proofs.Common.{◌≡◌, ℕ, Bool, true, false, if◌then◌else◌, Option, Some, None, is_none, refl, sym, ap, ap₂, ◌∙◌}
 use Rattle.rd_base.specs.declared.answer.Answer.{Answer}
 use Rattle.rd_base.specs.declared.answer.Qid.{Qid}
+use Rattle.bisect_game.specs.declared.question.Kind.{Kind}
 use Rattle.bisect_game.specs.declared.question.Kind.TheVariants as kind
 use Rattle.bisect_game.specs.declared.question.Question.{Question}
 use Rattle.bisect_game.specs.Says.{Says}
@@ -12,15 +13,12 @@ use Rattle.tournament.specs.Asked.{asked}
 use Rattle.dispute_board.specs.Replies.{MayPost}
 use Rattle.toy_game.specs.Toy.{answers}
 use Rattle.toy_game.specs.declared.player.Player.{Player}
-use Rattle.posters.proofs.Seats.{some_is, same_question}
 
-none_is : (o : Option Answer) → is_none o ≡ true → None ≡ o
-none_is None e = refl
-none_is (Some a) e = absurd (cc)
+pub some_is : {A : Type 0} (a b : A) → Some a ≡ Some b → a ≡ b
+some_is {A} a b e = ap (λ (o : Option A). elim o [ None ↦ a | Some x ↦ x ]) e
 
--- a pass may be posted always
-pub passes_may : (rules : Rules) (says : Says) (p : ℕ) (qid : Qid) → MayPost rules says p qid None None
-passes_may rules says p qid q same of_case n e = none_is (says p q n) e
+same_question : (a b : Question) → a.qid ≡ b.qid → a.kind ≡ b.kind → a ≡ b
+same_question a b q k = ap₂ (λ (i : Qid) (j : Kind). record { qid = i; kind = j }) q k
 
 steady_if : (b c : Bool) (g a : Answer) → Some a ≡ (if c then None else Some g) → is_none (if b then None else Some g) ≡ false → Some a ≡ (if b then None else Some g)
 steady_if true c g a e f = absurd (cc)

@@ -1,19 +1,16 @@
 ghost use Rattle.std.specs.Prelude.{◌≡◌, ◌<◌};
 
-use crate::{Gate, OpenGate, play};
-use bisect_game::{Answerer, Close, Dispute, Question, Side};
+use crate::in_short::{Ended, Short, in_short};
+use bisect_game::{Answerer, Question};
 use board_book::Book;
+use posters::{Gate, OpenGate, play};
 use rd_base::{Answer, Memory, Qid};
 use std::alloc::Global;
 use std::sync::Wait;
 use std::sync::atomic::{AtomicBool, AtomicU32, Ordering};
 use std::test::Fail;
 use std::thread::Threads;
-use tournament::{Record, Verdict};
 use toy_game::{Cast, HONEST, LIAR, Player, SILENT, Seated, ToyJudge, root};
-
-/// A dispute in short: stage, number, sides, rounds that went on, and who is out.
-type Line = (u32, u32, u32, u32, usize, bool, bool);
 
 /// A player that passes once on each question.
 const LATE: Player = Player { late: 1, ..HONEST };
@@ -25,39 +22,16 @@ const SILENT_LIAR: Player = Player {
     ..LIAR
 };
 
-/// The match of a late, a lying and a silent prover, in short.
-const LINES: [Line; 2] = [(1, 1, 1, 2, 3, true, false), (2, 2, 2, 3, 1, false, true)];
-
-fn line(dispute: &Dispute) -> Line {
-    let (first, second) = match dispute.closed() {
-        Some(Close::Out { first, second }) => (first, second),
-        _ => (false, false),
-    };
-    (
-        dispute.stage(),
-        dispute.number(),
-        dispute.prover(Side::First),
-        dispute.prover(Side::Second),
-        dispute.rounds().len(),
-        first,
-        second,
-    )
-}
-
-fn lines(alloc: Global, record: &Record) -> Result<Vec<Line>, Memory> {
-    let mut lines = Vec::new(alloc);
-    for dispute in record.disputes() {
-        lines.push(line(dispute))?;
-    }
-    Ok(lines)
-}
-
-fn accepts(verdict: Option<Verdict>, p: u32) -> bool {
-    match verdict {
-        Some(Verdict::Accept(accepted)) => accepted == p,
-        _ => false,
-    }
-}
+/// The match of a lying, a late and a silent prover, in short.
+const THE_MATCH: Short = (
+    23,
+    Ended::Accepted(2),
+    [
+        Some((1, 1, 1, 2, 3, true, false)),
+        Some((2, 2, 2, 3, 1, false, true)),
+        None,
+    ],
+);
 
 /// An answerer that finds no memory at some of its calls.
 #[derive(Clone, Copy, Debug)]
@@ -138,27 +112,43 @@ impl Gate for Counting {
     }
 }
 
+/// A gate that has counted no post.
+fn no_posts() -> Counting {
+    Counting {
+        posts: [AtomicU32::new(0), AtomicU32::new(0), AtomicU32::new(0)],
+    }
+}
+
+/// How often the posters posted for each prover.
+fn posts_of(gate: &Counting) -> [u32; 3] {
+    let [first, second, third] = &gate.posts;
+    [
+        first.load(Ordering::SeqCst),
+        second.load(Ordering::SeqCst),
+        third.load(Ordering::SeqCst),
+    ]
+}
+
+/// Whether one poster makes each move of a match, and several make no other.
+fn are_moves(posts: [u32; 3], moves: [u32; 3], posters: u32) -> bool {
+    posts == moves
+        || (posters > 1 && posts[0] <= moves[0] && posts[1] <= moves[1] && posts[2] <= moves[2])
+}
+
 /// However many posters there are, the match is the one that is played alone: 23 entries, and one record. They make no move beside
 /// those of it, and one poster makes each: the liar a claim and four answers, the late one a pass and an answer on each of seven
 /// questions, and the silent one a claim, an answer and two passes. Of several posters one may end early, where it waits long.
 #[test]
 fn all_numbers_of_posters_give_one_match(rt: HostRuntime) -> Result<(), Fail> {
     for posters in [1, 2, 3, 16] {
-        let gate = Counting {
-            posts: [AtomicU32::new(0), AtomicU32::new(0), AtomicU32::new(0)],
-        };
+        let gate = no_posts();
         let book = played(&rt, rt.alloc(), posters, 0, 0, &gate)?;
-        let [by_liar, by_late, by_silent] = &gate.posts;
-        for (posts, moves) in [(by_liar, 5), (by_late, 14), (by_silent, 4)] {
-            let posts = posts.load(Ordering::SeqCst);
-            assert!(rt; posts == moves || (posts < moves && posters > 1));
-        }
-        assert_eq!(rt; book.journal().len(), 23);
+        let are_moves = are_moves(posts_of(&gate), [5, 14, 4], posters);
         assert_eq!(rt;
-            lines(rt.alloc(), book.record())?.as_slice(),
-            LINES.as_slice()
+            (in_short(&book), are_moves),
+            (THE_MATCH, true),
+            "{posters}"
         );
-        assert!(rt; accepts(book.verdict(), 2));
     }
     Ok(())
 }
@@ -168,10 +158,7 @@ fn all_numbers_of_posters_give_one_match(rt: HostRuntime) -> Result<(), Fail> {
 fn two_hundred_plays_give_one_record(rt: HostRuntime) -> Result<(), Fail> {
     for _ in 0..200 {
         let book = played(&rt, rt.alloc(), 16, 0, 0, &OpenGate)?;
-        assert_eq!(rt;
-            lines(rt.alloc(), book.record())?.as_slice(),
-            LINES.as_slice()
-        );
+        assert_eq!(rt; in_short(&book), THE_MATCH);
     }
     Ok(())
 }
@@ -183,11 +170,7 @@ fn an_answerer_without_memory_ends_its_poster(rt: HostRuntime) -> Result<(), Fai
     for posters in [1, 2, 16] {
         for call in 1..6 {
             let book = played(&rt, rt.alloc(), posters, call, call + 1, &OpenGate)?;
-            assert_eq!(rt; book.journal().len(), 23);
-            assert_eq!(rt;
-                lines(rt.alloc(), book.record())?.as_slice(),
-                LINES.as_slice()
-            );
+            assert_eq!(rt; in_short(&book), THE_MATCH, "{posters}, {call}");
             assert!(rt; played(&rt, rt.alloc(), posters, call, u32::MAX, &OpenGate).is_err());
         }
     }
@@ -242,29 +225,44 @@ fn empty_meeting() -> Meeting {
     }
 }
 
-/// Two posters are at work at once on each of the five questions of a dispute, and neither has the board from its question to its post:
-/// before each post the poster waits until the other prover's post on the same question is about to come.
-#[test]
-fn posters_side_by_side(rt: HostRuntime) -> Result<(), Fail> {
+// The book of an honest prover and a liar, who are played by two posters through a gate.
+fn played_by_two<G: Gate + Sync, R: Threads + Wait + Sync>(
+    rt: &R,
+    alloc: Global,
+    gate: &G,
+) -> Result<Book<ToyJudge, Cast>, Memory> {
     let mut players = [SILENT; 16];
     players[0] = HONEST;
     players[1] = LIAR;
     let cast = Cast { players, count: 2 };
-    let book = Book::open(rt.alloc(), ToyJudge { name: 0 }, cast, 8, 0, root(0))?;
+    let book = Book::open(alloc, ToyJudge { name: 0 }, cast, 8, 0, root(0))?;
     let mut answerers = [
         Seated {
             player: HONEST,
-            alloc: rt.alloc(),
+            alloc,
         },
         Seated {
             player: LIAR,
-            alloc: rt.alloc(),
+            alloc,
         },
     ];
+    play(rt, alloc, book, &mut answerers, 2, gate)
+}
+
+/// Two posters are at work at once on each of the five questions of a dispute, and neither has the board from its question to its post:
+/// before each post the poster waits until the other prover's post on the same question is about to come.
+#[test]
+fn posters_side_by_side(rt: HostRuntime) -> Result<(), Fail> {
     let gate = empty_meeting();
-    let played = play(&rt, rt.alloc(), book, &mut answerers, 2, &gate)?;
-    assert_eq!(rt; gate.met.load(Ordering::SeqCst), 10);
-    assert_eq!(rt; played.journal().len(), 10);
-    assert!(rt; accepts(played.verdict(), 1));
+    let book = played_by_two(&rt, rt.alloc(), &gate)?;
+    let want = (
+        10,
+        Ended::Accepted(1),
+        [Some((1, 1, 1, 2, 3, false, true)), None, None],
+    );
+    assert_eq!(rt;
+        (in_short(&book), gate.met.load(Ordering::SeqCst)),
+        (want, 10)
+    );
     Ok(())
 }
