@@ -1,5 +1,5 @@
 -- What the arguments give where the word of a number begins with a decimal digit.
-use Rattle.std.proofs.Common.{ℕ, zero, suc, pos, Bool, true, false, ◌≡◌, ◌≤◌, ◌<◌, ◌+◌, ◌-◌, ◌^◌, ◌&&◌, ◌∙◌, ap, subst, refl, arith, List, [], ◌∷◌, Option, Some, None, codes, cond}
+use Rattle.std.proofs.Common.{ℕ, zero, suc, pos, Bool, true, false, ◌≡◌, ◌≤◌, ◌<◌, ◌+◌, ◌-◌, ◌^◌, ◌&&◌, ◌∙◌, ap, subst, refl, arith, [], ◌∷◌, Option, Some, None, codes, cond}
 use Rattle.std.specs.Prelude.{option_map, nat_le, nat_lt}
 use Rattle.std.specs.Str.Parse.{digits_value}
 use Rattle.clap.specs.Walk.{Text}

@@ -15,7 +15,7 @@ use Rattle.delegate.specs.Answered.{is_outcome, is_of_a_command}
 use Rattle.delegate.specs.Match.{record_of_case, verdict_of_record}
 use Rattle.workload.specs.Workload.{big_data}
 use Rattle.case_reader.specs.declared.fault.CaseFault.{CaseFault}
-use Rattle.delegate.specs.Outcome.{within_limit, case_of_bytes, case_for, within_bound, image_at, start_of, answered_by, answered_for, ended, carried_out, either_way, outcome}
+use Rattle.delegate.specs.Outcome.{within_limit, case_of_bytes, case_for, within_bound, image_at, start_of, answered_by, ended, carried_out, either_way, outcome}
 use Rattle.delegate.specs.Refusal.{usage, too_long, bound_refusal, case_refusal, image_refusal, or_refusal}
 use Rattle.delegate.specs.Visible.{MayBe, ForItsBytes}
 use Rattle.delegate.specs.Stages.{Stands}
