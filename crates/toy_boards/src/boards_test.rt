@@ -4,67 +4,20 @@ ghost use Rattle.posters.specs.Serving.{kept_of};
 ghost use Rattle.toy_boards.specs.Seats.{IsSeatOfTwo};
 
 use bisect_game::{Answerer, Kind, Question};
-use board_book::{Ask, Book};
+use board_book::Book;
 use dispute_board::{Board, Seat};
-use rd_base::{Memory, Qid};
+use rd_base::Memory;
 use std::alloc::Global;
 use std::sync::Wait;
 use std::test::Fail;
 use std::thread::Threads;
-use tournament::{Move, Reply};
+use tournament::Move;
+use toy_game::in_short::{Asked, CLAIM, Replied, ask_in_short, reply_in_short};
 use toy_game::{Cast, HONEST, Player, SILENT, Seated, ToyJudge, root};
 
 type ToyBoard = Board<ToyJudge, Cast>;
 
 type ToySeat = Seat<ToyJudge, Cast>;
-
-/// The number of a claim's question.
-const CLAIM: Qid = Qid {
-    dispute: 0,
-    round: 0,
-};
-
-/// What a prover is asked, in short.
-#[derive(Clone, Copy, Debug, PartialEq, Eq)]
-enum Asked {
-    /// Its claim, on which it has passed so often.
-    Claim(u32),
-    Other,
-    Nothing,
-    Over,
-}
-
-fn ask_in_short(ask: Ask) -> Asked {
-    match ask {
-        Ask::Question(question, passes) => {
-            if question.qid == CLAIM && question.kind == Kind::Claim {
-                Asked::Claim(passes)
-            } else {
-                Asked::Other
-            }
-        }
-        Ask::Nothing => Asked::Nothing,
-        Ask::Over => Asked::Over,
-    }
-}
-
-/// How a post was answered; a stale one has the open question's number.
-#[derive(Clone, Copy, Debug, PartialEq, Eq)]
-enum Replied {
-    Taken,
-    Faulty,
-    Spent,
-    Stale(Option<Qid>),
-}
-
-fn reply_in_short(reply: Reply) -> Replied {
-    match reply {
-        Reply::Taken => Replied::Taken,
-        Reply::Faulty => Replied::Faulty,
-        Reply::Spent => Replied::Spent,
-        Reply::Stale(open) => Replied::Stale(open),
-    }
-}
 
 // Two players.
 fn two(first: Player, second: Player) -> Cast

@@ -1,6 +1,6 @@
 ghost use Rattle.std.specs.Prelude.{◌≡◌, ◌<◌};
 
-use crate::in_short::{Ended, Short, in_short};
+use crate::in_short::{Short, in_short};
 use bisect_game::{Answerer, Question};
 use board_book::Book;
 use posters::{Gate, OpenGate, play};
@@ -10,17 +10,8 @@ use std::sync::Wait;
 use std::sync::atomic::{AtomicBool, AtomicU32, Ordering};
 use std::test::Fail;
 use std::thread::Threads;
+use toy_game::in_short::{Ended, LATE, SILENT_LIAR};
 use toy_game::{Cast, HONEST, LIAR, Player, SILENT, Seated, ToyJudge, root};
-
-/// A player that passes once on each question.
-const LATE: Player = Player { late: 1, ..HONEST };
-
-/// A player that lies from step 5 on and passes for ever from round 2 on.
-const SILENT_LIAR: Player = Player {
-    silent_from: 2,
-    from: 5,
-    ..LIAR
-};
 
 /// The match of a lying, a late and a silent prover, in short.
 const THE_MATCH: Short = (

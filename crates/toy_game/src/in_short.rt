@@ -1,4 +1,4 @@
-//! What tests compare of a match, and the match of three provers that they play.
+//! What tests compare of a match, as plain values, and the match of three provers that they play.
 use crate::player::{HONEST, LIAR, Player};
 use bisect_game::{Close, Dispute, Kind, Side};
 use board_book::Ask;
@@ -7,14 +7,14 @@ use std::alloc::Global;
 use tournament::{Record, Reply, Verdict};
 
 /// The number of a claim's question.
-pub(crate) const CLAIM: Qid = Qid {
+pub const CLAIM: Qid = Qid {
     dispute: 0,
     round: 0,
 };
 
 /// How a match ended, without its strings.
 #[derive(Clone, Copy, Debug, PartialEq, Eq)]
-pub(crate) enum Ended {
+pub enum Ended {
     Open,
     Accepted(u32),
     NoneLeft,
@@ -22,23 +22,23 @@ pub(crate) enum Ended {
 }
 
 /// A dispute in short: stage, number, sides, rounds that went on, and who is out.
-pub(crate) type Line = (u32, u32, u32, u32, usize, bool, bool);
+pub type Line = (u32, u32, u32, u32, usize, bool, bool);
 
 /// A player that passes once on each question.
-pub(crate) const LATE: Player = Player { late: 1, ..HONEST };
+pub const LATE: Player = Player { late: 1, ..HONEST };
 
 /// A player that lies from step 5 on and passes for ever from round 2 on.
-pub(crate) const SILENT_LIAR: Player = Player {
+pub const SILENT_LIAR: Player = Player {
     silent_from: 2,
     from: 5,
     ..LIAR
 };
 
 /// The match of a liar, a late prover and a silent liar, with a patience of 1, in short.
-pub(crate) const LINES: [Line; 2] = [(1, 1, 1, 2, 3, true, false), (2, 2, 2, 3, 1, false, true)];
+pub const LINES: [Line; 2] = [(1, 1, 1, 2, 3, true, false), (2, 2, 2, 3, 1, false, true)];
 
 /// How the verdict of a match says that it ended.
-pub(crate) fn how(verdict: Option<Verdict>) -> Ended {
+pub fn how(verdict: Option<Verdict>) -> Ended {
     match verdict {
         None => Ended::Open,
         Some(Verdict::Accept(p)) => Ended::Accepted(p),
@@ -47,7 +47,8 @@ pub(crate) fn how(verdict: Option<Verdict>) -> Ended {
     }
 }
 
-fn line(dispute: &Dispute) -> Line {
+/// A dispute in short.
+pub fn line(dispute: &Dispute) -> Line {
     let (first, second) = match dispute.closed() {
         Some(Close::Out { first, second }) => (first, second),
         _ => (false, false),
@@ -64,7 +65,7 @@ fn line(dispute: &Dispute) -> Line {
 }
 
 /// The disputes of a record in short.
-pub(crate) fn lines(alloc: Global, record: &Record) -> Result<Vec<Line>, Memory> {
+pub fn lines(alloc: Global, record: &Record) -> Result<Vec<Line>, Memory> {
     let mut lines = Vec::new(alloc);
     for dispute in record.disputes() {
         lines.push(line(dispute))?;
@@ -74,7 +75,7 @@ pub(crate) fn lines(alloc: Global, record: &Record) -> Result<Vec<Line>, Memory>
 
 /// What a prover is asked, in short.
 #[derive(Clone, Copy, Debug, PartialEq, Eq)]
-pub(crate) enum Asked {
+pub enum Asked {
     /// Its claim, on which it has passed so often.
     Claim(u32),
     Other,
@@ -83,7 +84,7 @@ pub(crate) enum Asked {
 }
 
 /// What a prover is asked, in short.
-pub(crate) fn ask_in_short(ask: Ask) -> Asked {
+pub fn ask_in_short(ask: Ask) -> Asked {
     match ask {
         Ask::Question(question, passes) => {
             if question.qid == CLAIM && question.kind == Kind::Claim {
@@ -99,7 +100,7 @@ pub(crate) fn ask_in_short(ask: Ask) -> Asked {
 
 /// How a post was answered; a stale one has the open question's number.
 #[derive(Clone, Copy, Debug, PartialEq, Eq)]
-pub(crate) enum Replied {
+pub enum Replied {
     Taken,
     Faulty,
     Spent,
@@ -107,7 +108,7 @@ pub(crate) enum Replied {
 }
 
 /// How a post was answered.
-pub(crate) fn reply_in_short(reply: Reply) -> Replied {
+pub fn reply_in_short(reply: Reply) -> Replied {
     match reply {
         Reply::Taken => Replied::Taken,
         Reply::Faulty => Replied::Faulty,

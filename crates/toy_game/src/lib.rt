@@ -1,7 +1,8 @@
 //! A judge, provers and answerers over numbers, and the tests of disputes and books that they play.
 //!
 //! No layer of the product stands on this crate. It shows the traits of the game in their smallest form: read `toy_judge`, then
-//! `cast`. Its tests are those of disputes (`disputes_test`) and books (`books_test`); those of matches stand in `toy_report`.
+//! `cast`; `in_short` has what the tests compare. Its tests are those of disputes (`disputes_test`) and books (`books_test`); those
+//! of matches stand in `toy_report`, and those of boards and posters in `toy_boards`.
 #![tactic(auto)]
 
 #[cfg(test)]
@@ -9,8 +10,7 @@ mod books_test;
 mod cast;
 #[cfg(test)]
 mod disputes_test;
-#[cfg(test)]
-mod in_short;
+pub mod in_short;
 mod player;
 mod toy_judge;
 
