@@ -17,7 +17,7 @@ use rd_base::Memory;
 use round_robin::serve_all;
 use std::alloc::Global;
 use std::sync::Wait;
-use std::sync::atomic::AtomicBool;
+use std::sync::atomic::{AtomicBool, AtomicU64};
 use std::thread::Threads;
 
 // Splits a seat off for each poster, the classes from 0 on.
@@ -64,8 +64,9 @@ fn join_posters<J: Judge + Drop, P: Provers + Drop>(
 /// prover, which answers as that prover; answers are made while other posters post.
 ///
 /// A poster ends when the match is over. It ends early when its answerer finds no memory, after 1,000,000 turns in a row with
-/// nothing to do, and when another ended early. What is left undone is played alone then. In the book that is given back the match is
-/// over, whatever the threads did, and its journal begins with the one that the book had. An `Err` is out of memory.
+/// nothing to do, and when another ended early; what is left undone is played alone then. Once all have begun, one with nothing
+/// to do sleeps until another has posted. In the book that is given back the match is over, whatever the threads did, and its
+/// journal begins with the one that the book had. An `Err` is out of memory.
 pub fn play<
     J: Judge + Drop + Send,
     P: Provers + Drop + Send,
@@ -98,6 +99,9 @@ where
         board,
         gate,
         provers: answerers.len() as u32,
+        posters: posters as u64,
+        begun: AtomicU64::new(0),
+        news: AtomicU64::new(0),
         ended_early: AtomicBool::new(false),
     };
     serve_all(rt, alloc, &hall, seated.as_mut_slice(), answerers)?;

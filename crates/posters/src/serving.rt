@@ -13,7 +13,7 @@ use dispute_board::{Board, Seat};
 use rd_base::Answer;
 use round_robin::Worker;
 use std::sync::Wait;
-use std::sync::atomic::{AtomicBool, Ordering};
+use std::sync::atomic::{AtomicBool, AtomicU64, Ordering};
 use std::thread;
 use std::thread::Threads;
 use tournament::Move;
@@ -28,6 +28,12 @@ pub struct Hall<'g, J: Judge + Drop, P: Provers + Drop, G: Gate> {
     pub gate: &'g G,
     /// How many provers there are.
     pub provers: u32,
+    /// How many posters there are.
+    pub posters: u64,
+    /// How many posters have begun.
+    pub begun: AtomicU64,
+    /// One more after each post, and after each poster that ended early. A poster with nothing to do sleeps on it.
+    pub news: AtomicU64,
     /// Whether a poster ended before the match was over. The others end then too.
     pub ended_early: AtomicBool,
 }
@@ -73,6 +79,37 @@ fn move_of(answer: Option<Answer>) -> Move
     }
 }
 
+// Wakes the posters that wait for news.
+fn tell_posters<J: Judge + Drop, P: Provers + Drop, G: Gate>(hall: &Hall<'_, J, P, G>) {
+    hall.news.fetch_add(1, Ordering::SeqCst);
+    hall.news.wake_all();
+}
+
+// Waits for news since it stood at `seen`, for as many turns as may pass with nothing to do, and gives the number of those turns.
+// While there is none each prover that had nothing to do has nothing to do, so that such a turn isn't taken to the board.
+// Until every poster has begun it doesn't sleep: where no thread could be made, one that it waits for may begin only after this
+// one has ended.
+fn wait_for_news<J: Judge + Drop, P: Provers + Drop, G: Gate, R: Wait>(
+    rt: &R,
+    hall: &Hall<'_, J, P, G>,
+    seen: u64,
+    idle_before: u32,
+) -> u32
+    requires few { idle_before ≤ 1000000 }
+    ensures few { result ≤ 1000000 }
+{
+    let mut idle = idle_before;
+    while idle < MOST_IDLE_TURNS && hall.news.load(Ordering::SeqCst) == seen {
+        if hall.begun.load(Ordering::SeqCst) == hall.posters {
+            hall.news.park(rt, seen as u32);
+        } else {
+            thread::yield_now();
+        }
+        idle += 1;
+    }
+    idle
+}
+
 // One turn for a prover: it is asked, and what it answers is posted. The answer is made between the two turns at the board.
 fn serve_prover<J: Judge + Drop, P: Provers + Drop, A: Answerer, G: Gate, R: Threads + Wait + Sync>(
     rt: &R,
@@ -94,6 +131,7 @@ fn serve_prover<J: Judge + Drop, P: Provers + Drop, A: Answerer, G: Gate, R: Thr
                 hall.gate.before_post(p, question.qid);
                 hall.board
                     .post_after(rt, seat, p, question.qid, passes, move_of(answer));
+                tell_posters(hall);
                 Turn::Posted
             }
             Err(_) => Turn::OutOfMemory,
@@ -160,13 +198,14 @@ fn serve_all_rounds<
     }
     let mut idle = 0;
     for _ in rt.forever() {
+        let seen = hall.news.load(Ordering::SeqCst);
         match serve_round(rt, hall, seat, numbers, answerers, idle) {
             Round::Over => return true,
             Round::EndsEarly => return false,
             Round::GoesOn(turns) => idle = turns,
         }
         if idle > 0 {
-            thread::yield_now();
+            idle = wait_for_news(rt, hall, seen, idle);
         }
     }
     unreachable!()
@@ -205,8 +244,10 @@ impl<'g, J: Judge + Drop, P: Provers + Drop, A: Answerer, G: Gate> Worker<Hall<'
         numbers: &[u32],
         answerers: &mut [A],
     ) {
+        hall.begun.fetch_add(1, Ordering::SeqCst);
         if !serve_all_rounds(rt, hall, &mut self.seat, numbers, answerers) {
             hall.ended_early.store(true, Ordering::SeqCst);
+            tell_posters(hall);
         }
     }
 }

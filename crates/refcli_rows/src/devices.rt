@@ -1,8 +1,9 @@
 use crate::answering::digest_of;
-use delegate::{Answered, run};
+use delegate::{Answered, run, run_process};
 use io_edge::{MemSink, MemSource};
 use rd_base::Memory;
 use std::alloc::{AllocError, Global};
+use std::io;
 use std::sync::Wait;
 use std::thread::Threads;
 
@@ -68,6 +69,38 @@ fn add_call<R: Threads + Wait + Sync>(
     Ok(())
 }
 
+// The program's text where its arguments can't be read. Its exit code can't be looked at.
+fn process_unreadable<R: Threads + Wait + Sync>(
+    rt: &R,
+    alloc: Global,
+    source: &mut MemSource,
+    sink: &mut MemSink,
+) {
+    let unreadable = Err(io::Error::from(io::ErrorKind::InvalidData));
+    run_process(rt, alloc, unreadable, source, sink);
+}
+
+/// Adds the line of a process with an argument that isn't UTF-8, as that of a call, without the status.
+fn add_process<R: Threads + Wait + Sync>(
+    rt: &R,
+    alloc: Global,
+    lines: &mut String,
+) -> Result<(), Memory> {
+    let case = CASE.as_bytes().to_vec(alloc)?;
+    let mut source = MemSource::new(case, 16, vec![in alloc; 1]?);
+    let mut sink = MemSink::new(alloc, 4096, 10, vec![in alloc; NEVER]?)?;
+    process_unreadable(rt, alloc, &mut source, &mut sink);
+    let length = sink.as_slice().len();
+    let digest = digest_of(alloc, sink.as_slice())?;
+    let reads = source.faults();
+    let writes = sink.faults();
+    let first = format!(in alloc; "an argument that isn't UTF-8: {length} bytes, {digest}, ")?;
+    lines.push_str(first.as_str())?;
+    let second = format!(in alloc; "failed reads {reads}, failed writes {writes}\n")?;
+    lines.push_str(second.as_str())?;
+    Ok(())
+}
+
 /// Adds the lines of calls over devices that fail, and of arguments that no row has. The calls that read nothing would fail in
 /// their first read.
 pub fn add_calls<R: Threads + Wait + Sync>(
@@ -107,5 +140,5 @@ pub fn add_calls<R: Threads + Wait + Sync>(
         };
         add_call(rt, alloc, lines, &call)?;
     }
-    Ok(())
+    add_process(rt, alloc, lines)
 }
