@@ -85,10 +85,10 @@ fn tell_posters<J: Judge + Drop, P: Provers + Drop, G: Gate>(hall: &Hall<'_, J, 
     hall.news.wake_all();
 }
 
-// Waits for news since it stood at `seen`, for as many turns as may pass with nothing to do, and gives the number of those turns.
-// While there is none each prover that had nothing to do has nothing to do, so that such a turn isn't taken to the board.
-// Until every poster has begun it doesn't sleep: where no thread could be made, one that it waits for may begin only after this
-// one has ended.
+// Waits for news since it stood at `seen`, for as many turns as may pass with nothing to do, and gives the number of all that
+// have passed then. While there is none, each prover that had nothing to do still has nothing to do, so that such a turn isn't
+// taken to the board. Until every poster has begun it doesn't sleep: where no thread could be made, one that it waits for may
+// begin only after this one has ended.
 fn wait_for_news<J: Judge + Drop, P: Provers + Drop, G: Gate, R: Wait>(
     rt: &R,
     hall: &Hall<'_, J, P, G>,
@@ -98,16 +98,17 @@ fn wait_for_news<J: Judge + Drop, P: Provers + Drop, G: Gate, R: Wait>(
     requires few { idle_before ≤ 1000000 }
     ensures few { result ≤ 1000000 }
 {
-    let mut idle = idle_before;
-    while idle < MOST_IDLE_TURNS && hall.news.load(Ordering::SeqCst) == seen {
+    for idle in idle_before..MOST_IDLE_TURNS {
+        if hall.news.load(Ordering::SeqCst) != seen {
+            return idle;
+        }
         if hall.begun.load(Ordering::SeqCst) == hall.posters {
             hall.news.park(rt, seen as u32);
         } else {
             thread::yield_now();
         }
-        idle += 1;
     }
-    idle
+    MOST_IDLE_TURNS
 }
 
 // One turn for a prover: it is asked, and what it answers is posted. The answer is made between the two turns at the board.
