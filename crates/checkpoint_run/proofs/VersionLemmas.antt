@@ -62,6 +62,10 @@ module _ (page : ℕ) (old new : List ℕ) (adds : IsAddedTo page old new) where
       (cases_lt p page))
       (cases_lt p from)
 
+  -- pages that are used, and one more
+  pub used_only : (m : Contents) → ((p : ℕ) → is_among old p ≡ true → IsUsed m p) → IsUsed m page → (p : ℕ) → is_among new p ≡ true → IsUsed m p
+  used_only m only here p there = ⊎_elim (λ same. subst (IsUsed m) (sym same) here) (λ other. only p (sym (added_elsewhere p other) ∙ there)) (cases_eq p page)
+
 -- the bytes of a version that is added
 module _ (versions : List Version) (v : Version) (a : ℕ) where
   added_first : reverse (versions ++ v ∷ []) ≡ v ∷ reverse versions

@@ -1,5 +1,5 @@
--- Derived, tied to the step from which a run stands still by the law `tampered_runs`: how a run that is under way shows that
--- nothing more happens.
+-- Derived, tied to the step from which a run stands still (`still_of`) by the invariant of `Run`, `rest` in `specs/Keeping.antt`: how a
+-- run that is under way shows that nothing more happens.
 use Rattle.std.specs.Prelude.{ℕ, Bool, nat_lt, nat_le, not, ◌&&◌, ◌||◌}
 use Rattle.rd_base.specs.Status.{is_running}
 use Rattle.rd_base.specs.declared.tamper.Tamper.{Tamper}

@@ -36,7 +36,7 @@ pub record Stands (c : Checkpoint) (versions : List Version) (output : List ℕ)
 abbrev pub AllStand : List Checkpoint → List Version → List ℕ → (ℕ → State) → ℕ → Type 0
 AllStand checkpoints versions output run every = (k : ℕ) → IfSome (slice_get checkpoints k) (λ c. Stands c versions output (run (k * every)))
 
--- how many versions the first checkpoint has: one for each page in use at step 0
+-- how many versions the first checkpoint has
 abbrev pub at_first : List Checkpoint → ℕ
 at_first [] = 0
 at_first (c ∷ rest) = c.versions

@@ -9,9 +9,10 @@
 //!
 //! The output stands once in a run. A checkpoint takes one version of each page that was written since the checkpoint before,
 //! and of no other (the clauses of `add_checkpoint` and `note`); which pages a step writes says `specs/WrittenPages.antt`. So,
-//! beside the pages in use at step 0, a run keeps no more versions than pages are written, which is a part of the invariant of
-//! `Run` (`few` in `specs/Keeping.antt`), and of one page no more than there are checkpoints. How much memory a checkpoint takes
-//! beside is read in `checkpoint`. Read `specs/TamperedRun.antt` first, then `run`, then `recording`.
+//! beside the versions of the first checkpoint, a run keeps no more versions than pages are written, which is a part of the
+//! invariant of `Run` (`few` in `specs/Keeping.antt`); that the first checkpoint has those of the pages in use at step 0 is read in
+//! `record_run` (`used_pages`, clause `only`). How much memory a checkpoint takes beside is read in `checkpoint`. Read
+//! `specs/TamperedRun.antt` first, then `run`, then `recording`.
 #![tactic(auto)]
 
 mod checkpoint;

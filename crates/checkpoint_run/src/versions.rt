@@ -1,6 +1,7 @@
 //! Versions of pages, one behind the other: the last version of a page is the page.
-ghost use Rattle.std.specs.Prelude.{◌≡◌, ◌++◌, [], List, IfOk, OnOk};
-ghost use Rattle.checkpoint_run.specs.Versions.{pictured, pages_of, AreBelow, IsShownBut};
+ghost use Rattle.std.specs.Prelude.{◌≡◌, ℕ, ◌++◌, [], List, true, IfOk, OnOk};
+ghost use Rattle.mem_plain.specs.Contents.{IsUsed};
+ghost use Rattle.checkpoint_run.specs.Versions.{pictured, pages_of, is_among, AreBelow, IsShownBut};
 ghost use Rattle.checkpoint_run.specs.declared.version.Version.{Version};
 
 use crate::version::Version;
@@ -9,10 +10,11 @@ use rd_base::Memory;
 use std::alloc::Global;
 use std::collections::BTreeSet;
 
-/// The pages of a memory that have a byte other than 0. An `Err` is out of memory.
+/// The pages of a memory that have a byte other than 0, and no others. An `Err` is out of memory.
 pub fn used_pages(alloc: Global, mem: &PlainMem) -> Result<BTreeSet<u32>, Memory>
     ensures pages { IfOk result (λ s. AreBelow s.keys) }
     ensures shown { IfOk result (λ s. IsShownBut [] s.keys mem.now) }
+    ensures only { IfOk result (λ s. (p : ℕ) → is_among s.keys p ≡ true → IsUsed mem.now p) }
 {
     let mut pages = BTreeSet::new(alloc);
     let mut from = 0;

@@ -1,5 +1,6 @@
--- Derived. When a kept tree is the tree of a memory, but for its touched pages: the relation that every call of `MemTree` keeps,
--- and from which its root and its paths are those of the definition.
+-- To believe: `Tree`, `is_among` and `SameBut`, which say what a refreshed tree is promised of. The rest is derived: when a kept tree
+-- is the tree of a memory, but for its touched pages, the relation that every call of `MemTree` keeps, and from which its root and
+-- its paths are those of the definition.
 use Rattle.std.specs.Prelude.{◌≡◌, ◌↔◌, ℕ, ◌+◌, ◌-◌, ◌*◌, ◌/◌, ◌^◌, ◌<◌, ◌≤◌, List, Option, Bool, true, false, is_some}
 use Rattle.std.specs.Ordering.{nat_cmp, ordering_then}
 use Rattle.std.specs.declared.cmp.Ordering.{Ordering}

@@ -82,7 +82,7 @@ impl<D: Digester> MemTree<D> {
             is_among self.new.touched p ≡ is_among self.old.touched p) }
         ensures again { is_among self.old.touched page ≡ true → self.new.touched ≡ self.old.touched }
         ensures count { length self.new.touched ≤ length self.old.touched + 1 }
-        ensures err { OnErr result (self.new.touched ≡ self.old.touched) }
+        ensures err { OnErr result (self.new ≡ self.old) }
         ensures untouched { OnErr result (is_among self.old.touched page ≡ false) }
     {
         self.touched.insert(page)?;

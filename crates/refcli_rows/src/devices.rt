@@ -109,7 +109,7 @@ pub fn add_calls<R: Threads + Wait + Sync>(
     lines: &mut String,
 ) -> Result<(), Memory> {
     let judge: &[&str] = &["refcli", "judge"];
-    let rows: [(&str, &[&str], u64, u64); 10] = [
+    let rows: [(&str, &[&str], u64, u64); 12] = [
         ("no device fails", judge, NEVER, NEVER),
         ("the first read fails", judge, 1, NEVER),
         ("the second read fails", judge, 2, NEVER),
@@ -127,6 +127,13 @@ pub fn add_calls<R: Threads + Wait + Sync>(
         (
             "the large workload",
             &["refcli", "big", "1", "--posters", "2"],
+            1,
+            NEVER,
+        ),
+        ("seed 0 of it", &["refcli", "big", "0"], 1, NEVER),
+        (
+            "seed 0 by posters and workers",
+            &["refcli", "big", "0", "--posters", "8", "--workers", "4"],
             1,
             NEVER,
         ),

@@ -76,7 +76,8 @@ fn serve_classes<B: Sync, A: Send, W: Worker<B, A> + Send, R: Threads + Wait + S
 
 /// Worker t of k serves the items t, t + k, t + 2 k and so on, each worker in a thread of its own where one can be made.
 ///
-/// Afterwards each item is at its place again. Where there is no memory nothing is served.
+/// Afterwards each item is at its place again, as far as what serving keeps of an item tells them apart. An `Err` is out of
+/// memory; nothing was served then.
 pub fn serve_all<B: Sync, A: Send, W: Worker<B, A> + Send, R: Threads + Wait + Sync>(
     rt: &R,
     alloc: Global,

@@ -2,8 +2,9 @@
 //!
 //! The layers above may rely on this: `state_root` is the definition's root of a machine's state, computed from scratch
 //! and without memory; a `Committed` is a machine that is kept with the tree of its memory, so that after each step its
-//! root and its paths are those of the definition, and only the page that the step stored to is digested anew. Which
-//! strings are the strings of a state says `specs/Strings.antt`. Read `specs/StateRoot.antt` first, then `committed`.
+//! root and its paths are those of the definition. That only the page that the step stored to is digested anew is read in
+//! `committed`. Which strings are the strings of a state says `specs/Strings.antt`. Read `specs/StateRoot.antt` first, then
+//! `committed`.
 #![tactic(auto)]
 
 mod committed;

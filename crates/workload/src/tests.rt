@@ -21,6 +21,7 @@ fn texts_hold_what_their_seeds_draw(rt: HostRuntime) -> Result<(), Fail> {
             "50562685\",\"patience\":0,\"provers\":[{\"tamper\":{\"kind\":\"reg\",\"reg\":10,\"step\":1228,\"value\":2147508253}},{},{\"tamper\":",
             ",{\"tamper\":{\"kind\":\"reg\",\"reg\":10,\"step\":31770,\"value\":2147490947}}]}",
         ),
+        (1, 8_901, "\"input\":\"3c5e81b4", "\"value\":2147490947}}]}"),
         (
             7,
             8_899,

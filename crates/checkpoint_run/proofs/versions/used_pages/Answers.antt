@@ -1,6 +1,6 @@
 use Rattle.std.proofs.Common.{⊎_elim}
 use Rattle.std.proofs.lemmas.Bool.{cases_lt}
-use Rattle.checkpoint_run.proofs.VersionLemmas.{added_below, used_more, shown_unused}
+use Rattle.checkpoint_run.proofs.VersionLemmas.{added_below, used_more, used_only, shown_unused}
 use Rattle.checkpoint_run.proofs.versions.used_pages.Goals as goal
 
 pub pages-preserved : goal.pages-preserved
@@ -10,6 +10,7 @@ pages-preserved c =
     record {
       below = added_below c.in-Some.page c.pages.pages.keys c.insert.new.self.keys adds c.in-Some.ensures.below c.pages.invariant.below;
       used = used_more c.in-Some.page c.pages.pages.keys c.insert.new.self.keys adds c.args.mem.now c.pages.from c.pages.invariant.used next.2;
+      only = used_only c.in-Some.page c.pages.pages.keys c.insert.new.self.keys adds c.args.mem.now c.pages.invariant.only next.1;
     }
 
 pub returns-clause-shown : goal.returns-clause-shown
