@@ -103,7 +103,7 @@ fn wait_for_news<J: Judge + Drop, P: Provers + Drop, G: Gate, R: Wait>(
             return idle;
         }
         if hall.begun.load(Ordering::SeqCst) == hall.posters {
-            hall.news.park(rt, seen as u32);
+            hall.news.park(rt, (seen & 0xffff_ffff) as u32);
         } else {
             thread::yield_now();
         }
