@@ -102,6 +102,7 @@ where
         posters: posters as u64,
         begun: AtomicU64::new(0),
         news: AtomicU64::new(0),
+        is_watched: AtomicBool::new(false),
         ended_early: AtomicBool::new(false),
     };
     serve_all(rt, alloc, &hall, seated.as_mut_slice(), answerers)?;

@@ -34,6 +34,8 @@ pub struct Hall<'g, J: Judge + Drop, P: Provers + Drop, G: Gate> {
     pub begun: AtomicU64,
     /// One more after each post, and after each poster that ended early. A poster with nothing to do sleeps on it.
     pub news: AtomicU64,
+    /// Whether a poster looks for news.
+    pub is_watched: AtomicBool,
     /// Whether a poster ended before the match was over. The others end then too.
     pub ended_early: AtomicBool,
 }
@@ -87,8 +89,8 @@ fn tell_posters<J: Judge + Drop, P: Provers + Drop, G: Gate>(hall: &Hall<'_, J, 
 
 // Waits for news since it stood at `seen`, for as many turns as may pass with nothing to do, and gives the number of all that
 // have passed then. While there is none, each prover that had nothing to do still has nothing to do, so that such a turn isn't
-// taken to the board. Until every poster has begun it doesn't sleep: where no thread could be made, one that it waits for may
-// begin only after this one has ended.
+// taken to the board. Once every poster has begun it sleeps, as there will be news. Before that one poster looks, turn by turn, and
+// only the others sleep: where no thread could be made, a poster may begin only after one that waits here has ended.
 fn wait_for_news<J: Judge + Drop, P: Provers + Drop, G: Gate, R: Wait>(
     rt: &R,
     hall: &Hall<'_, J, P, G>,
@@ -102,10 +104,13 @@ fn wait_for_news<J: Judge + Drop, P: Provers + Drop, G: Gate, R: Wait>(
         if hall.news.load(Ordering::SeqCst) != seen {
             return idle;
         }
-        if hall.begun.load(Ordering::SeqCst) == hall.posters {
+        if hall.begun.load(Ordering::SeqCst) == hall.posters
+            || hall.is_watched.swap(true, Ordering::SeqCst)
+        {
             hall.news.park(rt, (seen & 0xffff_ffff) as u32);
         } else {
             thread::yield_now();
+            hall.is_watched.store(false, Ordering::SeqCst);
         }
     }
     MOST_IDLE_TURNS
