@@ -67,6 +67,8 @@ pub fn add_runs<R: Threads + Wait + Sync>(
     add_line(rt, alloc, lines, "3000 pages", run, case)?;
     let case = case_of(alloc, flat(OUTPUTS, 400_000), "{}");
     add_line(rt, alloc, lines, "an output of 102400 bytes", run, case)?;
+    let case = case_of(alloc, flat(OUTPUTS, 400_000), "{}");
+    add_line(rt, alloc, lines, "a claim of 102400 bytes", "judge", case)?;
     let case = case_of(alloc, flat(ANSWER, 4_096), "{}");
     add_line(rt, alloc, lines, "roots of 4096 steps", roots, case)?;
     let case = case_of(alloc, flat(ANSWER, 4_097), "{}");
