@@ -13,8 +13,6 @@ mod member;
 mod parsing;
 mod prover;
 mod tamper;
-#[cfg(test)]
-mod tests;
 
 pub use case::{Case, FAN, MAX_BOUND, MAX_PATIENCE, MAX_PROVERS, VERSION};
 pub use fault::{CaseFault, Key};

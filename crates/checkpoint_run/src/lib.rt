@@ -20,8 +20,6 @@ mod laws;
 mod recording;
 mod run;
 mod tampering;
-#[cfg(test)]
-mod tests;
 mod version;
 mod versions;
 

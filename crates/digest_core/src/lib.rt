@@ -20,6 +20,3 @@ pub use chain::link;
 pub use digester::{Digester, Sha256};
 pub use laws::{chain_grows, kinds_have_lengths, texts_determine_their_parts};
 pub use text::{control_text, leaf_text, link_text, node_text, registers_text, state_text};
-
-#[cfg(test)]
-mod tests;

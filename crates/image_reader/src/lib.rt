@@ -16,6 +16,3 @@ mod rules;
 pub use fault::ImageFault;
 pub use laws::{elf_memory, flat_memory, sharing_loads};
 pub use loading::{IMAGE_BASE, Loaded, MAX_IMAGE_BYTES, load_elf, load_flat};
-
-#[cfg(test)]
-mod tests;

@@ -28,6 +28,3 @@ pub use sink::Sink;
 pub use source::Source;
 pub use write_whole::write_all;
 pub use writer_sink::{StdSink, WriterSink};
-
-#[cfg(test)]
-mod tests;

@@ -17,6 +17,3 @@ pub use laws::{
 };
 pub use memory::PlainMem;
 pub use page::{PAGE_BYTES, Page};
-
-#[cfg(test)]
-mod tests;

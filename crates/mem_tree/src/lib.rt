@@ -14,8 +14,6 @@ mod kept;
 mod laws;
 mod nodes;
 mod page;
-#[cfg(test)]
-mod tests;
 mod tree;
 
 pub use laws::memory_nodes;

@@ -8,8 +8,6 @@
 mod climbing;
 mod empty;
 mod laws;
-#[cfg(test)]
-mod tests;
 
 pub use climbing::{climb, climb_counted, digest_counted, joined_text};
 pub use empty::fill_empty_nodes;

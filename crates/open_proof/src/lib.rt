@@ -16,8 +16,6 @@ mod colliding;
 mod laws;
 mod proving;
 mod ranges;
-#[cfg(test)]
-mod tests;
 
 pub use called::{fetch_address, fetched_in, operand_address, operand_called};
 pub use climbing::climb;

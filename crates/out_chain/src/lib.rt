@@ -18,6 +18,3 @@ pub use checking::{ClaimCheck, check_claim};
 pub use colliding::claim_collision;
 pub use laws::claims_of_one_root;
 pub use root::{parts_root, root_of_claim};
-
-#[cfg(test)]
-mod tests;

@@ -17,6 +17,3 @@ pub use fault::WireFault;
 pub use laws::{no_proper_prefix, one_spelling, reading_is_spelling};
 pub use reading::decode;
 pub use writing::encode;
-
-#[cfg(test)]
-mod tests;

@@ -18,10 +18,9 @@ mod laws;
 mod middles;
 mod prover;
 mod provers;
-#[cfg(test)]
-mod tests;
 
 pub use answerers::answerers_of;
 pub use laws::{outputs_grow_slowly, untouched_provers};
+pub use middles::{Asked, asked_with};
 pub use prover::RunAnswerer;
 pub use provers::{CaseNames, CaseProvers};

@@ -7,7 +7,5 @@
 #![tactic(auto)]
 
 mod scripted;
-#[cfg(test)]
-mod tests;
 
 pub use scripted::{Scripted, waits};

@@ -22,8 +22,6 @@ mod script;
 mod status;
 mod steps;
 mod tamper;
-#[cfg(test)]
-mod tests;
 
 pub use answer::{Answer, Qid};
 pub use boxed::Boxed;

@@ -1,4 +1,3 @@
 pub mod Swaps
 pub mod Blocks
 pub mod ByClass
-pub mod ForTests

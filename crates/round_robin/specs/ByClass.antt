@@ -1,5 +1,5 @@
 -- Derived: numbers in the order of their classes, and workers that suit them. `arrange` ends with `IsByClass`.
-use Rattle.std.specs.Prelude.{◌≡◌, ℕ, ◌+◌, ◌%◌, ◌<◌, ◌≤◌, List, length, slice_index}
+use Rattle.std.specs.Prelude.{ℕ, ◌+◌, ◌%◌, ◌<◌, ◌≤◌, List, length, slice_index}
 use Rattle.round_robin.specs.Classes.{HaveClasses}
 
 -- the numbers stand in the order of their classes

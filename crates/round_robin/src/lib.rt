@@ -15,6 +15,3 @@ mod worker;
 
 pub use serving::serve_all;
 pub use worker::Worker;
-
-#[cfg(test)]
-mod tests;

@@ -34,6 +34,3 @@ pub use parts::{finish, need};
 pub use running::advance;
 pub use stepping::step;
 pub use touching::touches;
-
-#[cfg(test)]
-mod tests;

@@ -18,6 +18,3 @@ mod view;
 pub use laws::{later_logs_begin_with_earlier_ones, places_keep_their_entries};
 pub use lock::{Seat, SeatLock};
 pub use logged::{Job, Logged};
-
-#[cfg(test)]
-mod tests;

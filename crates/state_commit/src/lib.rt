@@ -15,6 +15,3 @@ mod scratch;
 pub use committed::Committed;
 pub use laws::paths_open_strings_of_the_state;
 pub use root::{root_over, state_root};
-
-#[cfg(test)]
-mod tests;

@@ -16,8 +16,6 @@ mod chunk;
 mod judge;
 mod laws;
 mod opening;
-#[cfg(test)]
-mod tests;
 
 pub use check::{StepCheck, check_step};
 pub use judge::{MachineJudge, MachineNames};

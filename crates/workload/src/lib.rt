@@ -11,8 +11,6 @@ mod draws;
 mod laws;
 mod program;
 mod provers;
-#[cfg(test)]
-mod tests;
 
 pub use big::big_case;
 pub use laws::workload_is_a_case;

@@ -1,0 +1,335 @@
+ghost use denote.Param.Send.{IsSync};
+ghost use Rattle.std.specs.Prelude.{◌≡◌, ◌≤◌, ℕ, [], List, length, IfOk};
+ghost use Rattle.rv_step.specs.State.{IsChained};
+
+use bisect_game::{Answerer, Kind, Provers, Question};
+use digest_core::{Digester, Sha256, registers_text};
+use mem_plain::PlainMem;
+use open_proof::climb;
+use out_chain::{ClaimCheck, check_claim, parts_root, root_of_claim};
+use prover_run::{Asked, CaseProvers, RunAnswerer, answerers_of, asked_with};
+use prover_script::Scripted;
+use rd_base::{
+    Answer, ClaimOutput, Digest32, FirstSilentRound, Manner, Memory, PassCount, Qid, Script,
+    StepProof, Tamper,
+};
+use rv_step::Machine;
+use std::alloc::Global;
+use std::test::Fail;
+use std::thread::Threads;
+
+/// A bound, a step, the steps that are asked with it, and where it stands among them.
+type AskedRow = (u64, u64, &'static [u64], usize);
+
+/// They were worked out by hand: the halves of the interval whose middle the step is, and twice more the halves of those, in
+/// ascending order.
+const ASKED: [AskedRow; 8] = [
+    (8, 4, &[1, 2, 3, 4, 5, 6, 7], 3),
+    (8, 2, &[1, 2, 3], 1),
+    (8, 6, &[5, 6, 7], 1),
+    (8, 7, &[7], 0),
+    (8, 0, &[0], 0),
+    (8, 9, &[9], 0),
+    (7, 3, &[1, 2, 3, 4, 5, 6], 2),
+    (
+        1024,
+        256,
+        &[
+            32, 64, 96, 128, 160, 192, 224, 256, 288, 320, 352, 384, 416, 448, 480,
+        ],
+        7,
+    ),
+];
+
+/// Whether these steps are asked with a step, and it stands there among them.
+fn are_asked(alloc: Global, row: AskedRow) -> Result<bool, Memory> {
+    let (bound, step, wanted, stands) = row;
+    let Asked { steps, place } = asked_with(alloc, bound, step)?;
+    Ok(steps.as_slice() == wanted && place == stands)
+}
+
+#[test]
+fn a_round_asks_the_middles_of_the_next_three(rt: HostRuntime) -> Result<(), Fail> {
+    for row in ASKED {
+        assert!(rt; are_asked(rt.alloc(), row)?, "step {} of {}", row.1, row.0);
+    }
+    Ok(())
+}
+
+/// lui x5, 0x20; addi x6, x0, 122; sb x6, 3(x5); lw x10, 0(x5); srli x10, x10, 24; addi x17, x0, 1; ecall; lw x10, 1(x5): it
+/// stores in step 2, and traps in step 7
+const EIGHT_STEPS: [u8; 32] = [
+    0xb7, 0x02, 0x02, 0x00, 0x13, 0x03, 0xa0, 0x07, 0xa3, 0x81, 0x62, 0x00, 0x03, 0xa5, 0x02, 0x00,
+    0x13, 0x55, 0x85, 0x01, 0x93, 0x08, 0x10, 0x00, 0x73, 0x00, 0x00, 0x00, 0x03, 0xa5, 0x12, 0x00,
+];
+
+/// A machine at the start of these instructions, which lie at 0x10000.
+fn eight_steps(alloc: Global) -> Result<Machine, Memory>
+    ensures chained { IfOk result (λ m. (digest : List ℕ → List ℕ) → IsChained digest m) }
+    ensures silent { IfOk result (λ m. m.output.items ≡ []) }
+{
+    let mem = PlainMem::new(alloc).lay(0x1_0000, &EIGHT_STEPS)?;
+    Machine::new(alloc, mem, 0x1_0000, &[])
+}
+
+/// The first eight bytes of a digest, the first one highest.
+fn head(digest: Digest32) -> u64 {
+    let [a, b, c, d, e, f, g, h, ..] = digest.0;
+    u64::from_be_bytes([a, b, c, d, e, f, g, h])
+}
+
+/// The question of this kind in a round.
+fn asked(round: u32, kind: Kind) -> Question {
+    Question {
+        qid: Qid { dispute: 1, round },
+        kind,
+    }
+}
+
+/// How the root begins that an answer stands for: that of the claimed state, the root itself, or that of the state whose
+/// parts a proof has. 0 where a claim doesn't agree with itself.
+fn root_in(answer: &Answer) -> u64 {
+    match answer {
+        Answer::Root(root) => head(*root),
+        Answer::Claim(claim) => match check_claim(Sha256, claim) {
+            ClaimCheck::Sound => head(root_of_claim(Sha256, claim)),
+            _ => 0,
+        },
+        Answer::Step(proof) => {
+            let proof = proof.get();
+            let regs = Sha256.digest(registers_text(&proof.regs).as_slice());
+            head(parts_root(Sha256, proof.mem, regs, &proof.ctl))
+        }
+    }
+}
+
+/// A tamper; how the roots of the steps 0, 3, 4 and 8 begin, as in the tests of `segment_replay`; the byte at 0x20003 in step
+/// 3, and the last output.
+type Row = (Tamper, [u64; 4], u8, &'static [u8]);
+
+/// The rows of a run without a tamper, with a flipped byte, and with an early end.
+const ROWS: [Row; 3] = [
+    (
+        Tamper::Untouched,
+        [
+            0x8d82_837f_5857_b213,
+            0x65f2_d6f4_da5c_f31b,
+            0xc196_fbf7_6493_e42f,
+            0x82f8_4640_36cd_320e,
+        ],
+        0x7a,
+        &[0x7a],
+    ),
+    (
+        Tamper::Flip {
+            step: 3,
+            addr: 0x2_0003,
+            mask: 0xff,
+        },
+        [
+            0x8d82_837f_5857_b213,
+            0x671f_7f70_f948_9e91,
+            0xd31b_1397_0fa1_7bff,
+            0x6f4b_45ac_af74_9e01,
+        ],
+        0x85,
+        &[0x85],
+    ),
+    (
+        Tamper::Early { steps: 3 },
+        [
+            0x8d82_837f_5857_b213,
+            0x65f2_d6f4_da5c_f31b,
+            0x65f2_d6f4_da5c_f31b,
+            0x65f2_d6f4_da5c_f31b,
+        ],
+        0x7a,
+        &[],
+    ),
+];
+
+/// Whether a proof of step 3 opens the chunk of its word and the chunk that it loads from, whose fourth byte is this one.
+fn opens_both(proof: &StepProof, byte: u8) -> bool {
+    match (&proof.fetch, &proof.operand) {
+        (Some(fetch), Some(operand)) => climb(Sha256, 0x800, fetch.chunk, &fetch.path) == proof.mem
+            && climb(Sha256, 0x1000, operand.chunk, &operand.path) == proof.mem
+            && operand.chunk[3] == byte,
+        _ => false,
+    }
+}
+
+/// A prover of the eight steps, whose run has a checkpoint at every third.
+fn prover_with(alloc: Global, tamper: Tamper) -> Result<RunAnswerer<Sha256>, Memory> {
+    let machine = eight_steps(alloc)?;
+    RunAnswerer::new(alloc, Sha256, &machine, 8, 3, tamper, 2)
+}
+
+/// Whether a prover answers a question of this kind by the state with this root, with this output in a claim, and with this
+/// byte in the chunk that a proof of step 3 opens.
+fn is_answered<R: Threads + Sync>(
+    rt: &R,
+    prover: &mut RunAnswerer<Sha256>,
+    kind: Kind,
+    root: u64,
+    byte: u8,
+    output: &[u8],
+) -> Result<bool, Memory>
+    requires { IsSync R.row }
+{
+    let answer = prover.answer(rt, &asked(1, kind), 0)?;
+    if answer.as_ref().map(root_in) != Some(root) {
+        return Ok(false);
+    }
+    match (kind, &answer) {
+        (Kind::Claim, Some(Answer::Claim(claim))) => Ok(claim.output.as_slice() == output),
+        (Kind::Proof(3), Some(Answer::Step(proof))) => Ok(opens_both(proof.get(), byte)),
+        (Kind::Root(_), Some(Answer::Root(_))) => Ok(true),
+        (Kind::Proof(_), Some(Answer::Step(_))) => Ok(true),
+        _ => Ok(false),
+    }
+}
+
+/// What is asked, and the place of its root among those of a row.
+const QUESTIONS: [(Kind, usize); 7] = [
+    (Kind::Root(4), 2),
+    (Kind::Claim, 3),
+    (Kind::Root(3), 1),
+    (Kind::Root(0), 0),
+    (Kind::Root(9), 3),
+    (Kind::Proof(3), 1),
+    (Kind::Proof(9), 3),
+];
+
+#[test]
+fn an_answerer_gives_the_answers_of_its_run(rt: HostRuntime) -> Result<(), Fail> {
+    for (tamper, roots, byte, output) in ROWS {
+        let mut prover = prover_with(rt.alloc(), tamper)?;
+        for (kind, place) in QUESTIONS {
+            let root = roots[place.min(3)];
+            assert!(rt; is_answered(&rt, &mut prover, kind, root, byte, output)?);
+        }
+    }
+    Ok(())
+}
+
+/// A script without a tamper.
+fn untouched(manner: Manner) -> Script {
+    Script {
+        tamper: Tamper::Untouched,
+        manner,
+    }
+}
+
+/// Scripts of an honest prover, of one that passes twice, of one that is silent from round 2 on, of one that claims the output
+/// `2b`, and of one with a flipped byte.
+fn five_scripts(alloc: Global) -> Result<Vec<Script>, Memory>
+    ensures { IfOk result (λ v. length v.items ≤ 5) }
+{
+    let output = ClaimOutput::new(vec![in alloc; 0x2b]?).map_or(Manner::Plain, Manner::Output);
+    let flipped = Script {
+        tamper: Tamper::Flip {
+            step: 3,
+            addr: 0x2_0003,
+            mask: 0xff,
+        },
+        manner: Manner::Plain,
+    };
+    Ok(vec![in alloc;
+        untouched(Manner::Plain),
+        untouched(PassCount::new(2).map_or(Manner::Plain, Manner::Late)),
+        untouched(FirstSilentRound::new(2).map_or(Manner::Plain, Manner::Silent)),
+        untouched(output),
+        flipped,
+    ]?)
+}
+
+/// The provers of the eight steps with these scripts.
+fn provers_with(alloc: Global, scripts: &[Script]) -> Result<CaseProvers<Sha256>, Memory>
+    requires { length scripts.now ≤ 5 }
+{
+    let machine = eight_steps(alloc)?;
+    CaseProvers::new(alloc, Sha256, scripts, &machine, 8)
+}
+
+/// Their answerers.
+fn answerers_with(
+    alloc: Global,
+    scripts: &[Script],
+) -> Result<Vec<Scripted<RunAnswerer<Sha256>>>, Memory> {
+    let machine = eight_steps(alloc)?;
+    answerers_of(alloc, Sha256, scripts, &machine, 8, 1024, 1)
+}
+
+/// How the root of step 4 begins, without a tamper, and with the flipped byte.
+const RIGHT: Option<u64> = Some(0xc196_fbf7_6493_e42f);
+
+const WRONG: Option<u64> = Some(0xd31b_1397_0fa1_7bff);
+
+/// The same of step 8.
+const LAST: Option<u64> = Some(0x82f8_4640_36cd_320e);
+
+const WRONG_LAST: Option<u64> = Some(0x6f4b_45ac_af74_9e01);
+
+/// A round, what is asked in it, the passes on it so far, and how the roots begin that the answers stand for; none is a pass.
+type Said = (u32, Kind, u32, [Option<u64>; 5]);
+
+const SAID: [Said; 4] = [
+    (0, Kind::Claim, 0, [LAST, None, LAST, Some(0), WRONG_LAST]),
+    (1, Kind::Root(4), 1, [RIGHT, None, RIGHT, RIGHT, WRONG]),
+    (1, Kind::Root(4), 2, [RIGHT, RIGHT, RIGHT, RIGHT, WRONG]),
+    (2, Kind::Root(4), 0, [RIGHT, None, None, RIGHT, WRONG]),
+];
+
+/// Whether the answerers answer so, and the provers wait where they pass.
+fn is_said<R: Threads + Sync>(
+    rt: &R,
+    provers: &CaseProvers<Sha256>,
+    answerers: &mut [Scripted<RunAnswerer<Sha256>>],
+    said: Said,
+) -> Result<bool, Memory>
+    requires { IsSync R.row }
+{
+    let (round, kind, passes, wanted) = said;
+    let question = asked(round, kind);
+    for (k, answerer) in answerers.iter_mut().enumerate() {
+        let k = k.min(4);
+        let p = k as u32 + 1;
+        let answer = answerer.answer(rt, &question, passes)?;
+        if answer.as_ref().map(root_in) != wanted[k] {
+            return Ok(false);
+        }
+        if p > provers.count() || provers.waits(p, &question, passes) != wanted[k].is_none() {
+            return Ok(false);
+        }
+    }
+    Ok(true)
+}
+
+/// How many provers and answerers these scripts make.
+fn counts(alloc: Global, scripts: &[Script]) -> Result<(u32, usize), Memory>
+    requires { length scripts.now ≤ 5 }
+{
+    let provers = provers_with(alloc, scripts)?;
+    let answerers = answerers_with(alloc, scripts)?;
+    Ok((provers.count(), answerers.len()))
+}
+
+fn may_be_shared<T: Send + Sync>(_shared: &T) {}
+
+fn may_be_sent<T: Send>(_sent: &T) {}
+
+/// That threads may hold them is proved where they are handed to one.
+#[test]
+fn each_prover_answers_by_its_script(rt: HostRuntime) -> Result<(), Fail> {
+    let scripts = five_scripts(rt.alloc())?;
+    let provers = provers_with(rt.alloc(), &scripts)?;
+    let mut answerers = answerers_with(rt.alloc(), &scripts)?;
+    may_be_shared(&provers);
+    may_be_sent(&answerers);
+    assert_eq!(rt; counts(rt.alloc(), &scripts)?, (5, 5));
+    for said in SAID {
+        assert!(rt; is_said(&rt, &provers, &mut answerers, said)?);
+    }
+    assert_eq!(rt; counts(rt.alloc(), &[])?, (0, 0));
+    Ok(())
+}
