@@ -27,13 +27,13 @@ use Rattle.transcript_text.specs.Report.{text_if_there}
 use Rattle.transcript_text.specs.Laws.{NothingIsSaidAgainstTheTruthful}
 use Rattle.delegate.specs.Match.{rules_of_case, says_of_case, record_of_case, verdict_of_record, truth_of_case}
 use Rattle.delegate.specs.Outcome.{case_for, within_bound, match_text, ended, carried_out, outcome, reported, answered_for, image_at, start_of}
-use Rattle.delegate.specs.Words.{chosen, decides}
-use Rattle.delegate.specs.declared.words.Command.{Command}
+use Rattle.command_line.specs.Words.{chosen, decides}
+use Rattle.command_line.specs.declared.request.Command.{Command}
 use Rattle.delegate.specs.Refusal.{usage, image_refusal, or_refusal}
 use Rattle.delegate.specs.Stages.{CasesAreInRange}
 use Rattle.delegate.specs.declared.response.Response.{Response}
 use Rattle.delegate.specs.declared.answered.Answered.TheVariants.{Done}
-use Rattle.delegate.specs.declared.words.Command.TheVariants.{Judge, Run, Roots, Big}
+use Rattle.command_line.specs.declared.request.Command.TheVariants.{Judge, Run, Roots, Big}
 use Rattle.delegate.specs.Headline.{IsCase, AcceptsTheRun, ShowsCollision, IsInRange, HeadlineOfCases, before_verdict}
 use Rattle.delegate.proofs.EndingLemmas.{AreLaws, IsSafeCase, case-is-safe}
 use Rattle.delegate.proofs.OutcomeLemmas.{all_steps, outcome-ok}

@@ -21,9 +21,9 @@ use Rattle.delegate.specs.Visible.{MayBe, ForItsBytes}
 use Rattle.delegate.specs.Stages.{Stands}
 use Rattle.delegate.specs.declared.response.Stop.{Stop}
 use Rattle.delegate.specs.declared.response.Stop.TheVariants.{Refused}
-use Rattle.delegate.specs.Words.{chosen}
-use Rattle.delegate.specs.declared.words.Command.{Command}
-use Rattle.delegate.specs.declared.words.Command.TheVariants.{Judge, Run, Roots, Big}
+use Rattle.command_line.specs.Words.{chosen}
+use Rattle.command_line.specs.declared.request.Command.{Command}
+use Rattle.command_line.specs.declared.request.Command.TheVariants.{Judge, Run, Roots, Big}
 use Rattle.delegate.specs.declared.response.Response.{Response}
 use Rattle.delegate.specs.declared.answered.Answered.{Answered}
 use Rattle.delegate.specs.declared.answered.Answered.TheVariants.{Done, Usage, Case, Image as BadImage, ReadFault, WriteFault, AuditRefused, Memory, NoneLeft as NobodyLeft, Collision, TooLong}

@@ -14,9 +14,9 @@ use Rattle.tournament.specs.Theorem.{AreTrue, Stays, IsCollisionIn}
 use Rattle.transcript_text.specs.Lines.{accept_line, collision_line, lines_of_record, are_against}
 use Rattle.transcript_text.specs.Report.{head_line, lines_text, line_text}
 use Rattle.transcript_text.specs.Summary.{rounds_in, workload_text, counts_text}
-use Rattle.delegate.specs.Words.{chosen, decides}
-use Rattle.delegate.specs.declared.words.Command.{Command}
-use Rattle.delegate.specs.declared.words.Command.TheVariants.{Big}
+use Rattle.command_line.specs.Words.{chosen, decides}
+use Rattle.command_line.specs.declared.request.Command.{Command}
+use Rattle.command_line.specs.declared.request.Command.TheVariants.{Big}
 use Rattle.delegate.specs.Match.{rules_of_case, says_of_case, record_of_case, truth_of_case, head_of}
 use Rattle.delegate.specs.Outcome.{case_for, image_at, answered_for, reported}
 use Rattle.delegate.specs.declared.response.Response.{Response}

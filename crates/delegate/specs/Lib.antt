@@ -4,13 +4,13 @@ pub use Rattle.rv_step.specs.Step
 pub use Rattle.rv_step.specs.Loaded
 pub use Rattle.rv_step.specs.Valid
 pub use Rattle.state_commit.specs.StateRoot
+pub use Rattle.command_line.specs.Words
 pub use Rattle.case_reader.specs.Case
 pub use Rattle.image_reader.specs.Image
 pub use Rattle.image_reader.specs.Elf
 pub use Rattle.transcript_text.specs.Report
 pub use Rattle.transcript_text.specs.Roots
 pub mod Answered
-pub mod Words
 pub mod Match
 pub mod Refusal
 pub mod Outcome

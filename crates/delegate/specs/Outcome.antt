@@ -18,9 +18,9 @@ use Rattle.tournament.specs.Bracket.{Record}
 use Rattle.workload.specs.Workload.{big_data}
 use Rattle.tournament.specs.declared.verdict.Verdict.{Verdict}
 use Rattle.tournament.specs.declared.verdict.Verdict.TheVariants.{Accept, NoneLeft, Collision}
-use Rattle.delegate.specs.Words.{chosen}
-use Rattle.delegate.specs.declared.words.Command.{Command}
-use Rattle.delegate.specs.declared.words.Command.TheVariants.{Judge, Run, Roots, Big}
+use Rattle.command_line.specs.Words.{chosen}
+use Rattle.command_line.specs.declared.request.Command.{Command}
+use Rattle.command_line.specs.declared.request.Command.TheVariants.{Judge, Run, Roots, Big}
 use Rattle.delegate.specs.Match.{record_of_case, verdict_of_record, head_of}
 use Rattle.delegate.specs.Refusal.{usage, too_long, bound_refusal, case_refusal, image_refusal, or_refusal}
 use Rattle.delegate.specs.declared.response.Response.{Response}

@@ -6,7 +6,7 @@ use Rattle.std.specs.declared.io.Error.{Error}
 use Rattle.std.specs.declared.io.ErrorKind.{ErrorKind}
 use Rattle.std.specs.declared.io.ErrorKind.TheVariants.{OutOfMemory}
 use Rattle.clap.specs.Walk.{Text}
-use Rattle.delegate.specs.Words.{texts}
+use Rattle.command_line.specs.Words.{texts}
 
 -- the arguments, where reading them failed with this kind: none, which name no command, and nothing where memory ran out
 abbrev pub given_after : ErrorKind → Option (List Text)

@@ -2,7 +2,7 @@
 use Rattle.std.specs.Prelude.{◌≡◌, ℕ, List, Result, Ok, Err}
 use Rattle.case_reader.specs.Case.{CaseData}
 use Rattle.image_reader.specs.Image.{Image}
-use Rattle.delegate.specs.declared.words.Command.{Command}
+use Rattle.command_line.specs.declared.request.Command.{Command}
 use Rattle.delegate.specs.Headline.{IsCase, IsInRange}
 use Rattle.delegate.specs.Outcome.{start_of}
 use Rattle.delegate.specs.declared.response.Response.{Response}

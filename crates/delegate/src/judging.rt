@@ -4,13 +4,13 @@ ghost use Rattle.rv_step.specs.State.{state_of, IsChained};
 ghost use Rattle.case_reader.specs.Case.{data_of};
 ghost use Rattle.delegate.specs.Match.{record_of_case, verdict_of_record, head_of};
 ghost use Rattle.delegate.specs.Outcome.{answered_by, answered_for, match_text, reported};
-ghost use Rattle.delegate.specs.Words.{AreAtLeastOne};
+ghost use Rattle.command_line.specs.Words.{AreAtLeastOne};
 
 use crate::answered::Answered;
 use crate::playing::play_out;
 use crate::response::Response;
-use crate::words::{Command, Options, Request};
 use case_reader::Case;
+use command_line::{Command, Options, Request};
 use prover_run::{CaseProvers, answerers_of};
 use rd_base::{Bytes, Memory};
 use rv_step::Machine;

@@ -3,9 +3,9 @@
 //! `run` is the top call. Its clauses say what it answers and writes as a function of the arguments and of the bytes
 //! that its source had, and carry the headline: a prover that claims and answers as the machine's definition says, within its
 //! patience, is not eliminated, and where there is one the verdict is the sequential run's status and output, or two
-//! different strings of one digest. Read `program` first, then `responding`, whose steps stand in `stages`, `judging` with
-//! `playing`, `running` and `rooting`. `run_process` is what a program's `main` calls. Its tests are the stored runs of the
-//! programs above it, above all of `refcli_rows`.
+//! different strings of one digest. Which arguments name which command says `command_line`. Read `program` first, then
+//! `responding`, whose steps stand in `stages`, `judging` with `playing`, `running` and `rooting`. `run_process` is what a
+//! program's `main` calls. Its tests are the stored runs of the programs above it, above all of `refcli_rows`.
 #![tactic(auto)]
 
 mod answered;
@@ -20,14 +20,9 @@ mod response;
 mod rooting;
 mod running;
 mod stages;
-mod words;
 
 pub use answered::Answered;
 pub use judging::verdict_of_case;
-pub use laws::{
-    options_are_numbers, plain_options, plain_seeds, plain_words, seeds_are_numbers, the_headline,
-    untouched_provers_are_truthful,
-};
+pub use laws::{the_headline, untouched_provers_are_truthful};
 pub use process::{arguments, run_process};
 pub use program::run;
-pub use words::{Command, Options};

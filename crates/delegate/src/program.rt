@@ -8,8 +8,8 @@ ghost use Rattle.sha2.specs.Sha256.{sha256};
 ghost use Rattle.delegate.specs.Outcome.{outcome, reported, start_of};
 ghost use Rattle.delegate.specs.Headline.{IsCase, IsTruthful, Headline};
 ghost use Rattle.delegate.specs.Visible.{ForItsBytes};
-ghost use Rattle.delegate.specs.declared.words.Command.{Command};
-ghost use Rattle.delegate.specs.Words.{texts, chosen, reads};
+ghost use Rattle.command_line.specs.declared.request.Command.{Command};
+ghost use Rattle.command_line.specs.Words.{texts, chosen, reads};
 
 use crate::answered::Answered;
 use crate::laws::the_headline;

@@ -7,7 +7,7 @@ ghost use Rattle.delegate.specs.Answered.{is_outcome, is_of_a_command, reads_all
 ghost use Rattle.delegate.specs.Outcome.{ended, carried_out, outcome};
 ghost use Rattle.delegate.specs.Stages.{CasesAreInRange};
 ghost use Rattle.delegate.specs.Visible.{ForItsBytes};
-ghost use Rattle.delegate.specs.Words.{texts, chosen, reads, AreAtLeastOne};
+ghost use Rattle.command_line.specs.Words.{texts, chosen, reads, AreAtLeastOne};
 ghost use Rattle.delegate.specs.declared.response.Response.{Response};
 
 use crate::answered::Answered;
@@ -16,8 +16,8 @@ use crate::response::{Halt, Response, Stop};
 use crate::rooting::roots;
 use crate::running::run_program;
 use crate::stages::{bound_in, case_for, command_in, image_in};
-use crate::words::{Command, Request};
 use case_reader::Case;
+use command_line::{Command, Request};
 use digest_core::Sha256;
 use io_edge::Source;
 use rd_base::Memory;

@@ -12,12 +12,12 @@ ghost use Rattle.delegate.specs.Refusal.{usage, too_long, case_refusal, image_re
 ghost use Rattle.delegate.specs.Stages.{Stands};
 ghost use Rattle.delegate.specs.Visible.{MayBe, ForItsBytes};
 ghost use Rattle.delegate.specs.declared.response.Response.{Response};
-ghost use Rattle.delegate.specs.Words.{texts, chosen, reads, given_options, AreAtLeastOne, AreGiven};
+ghost use Rattle.command_line.specs.Words.{texts, chosen, reads, given_options, AreAtLeastOne, AreGiven};
 
 use crate::faults;
 use crate::response::{Halt, Stop};
-use crate::words::{Command, Request, command_given};
 use case_reader::{Case, CaseFault, Key, read_case};
+use command_line::{Command, Request, command_given};
 use image_reader::{ImageFault, Loaded, load_elf, load_flat};
 use io_edge::{ReadAll, Source, read_all};
 use std::alloc::Global;

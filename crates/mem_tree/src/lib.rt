@@ -14,6 +14,8 @@ mod kept;
 mod laws;
 mod nodes;
 mod page;
+#[cfg(test)]
+mod tests;
 mod tree;
 
 pub use laws::memory_nodes;

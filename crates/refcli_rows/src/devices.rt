@@ -44,6 +44,24 @@ fn answer_of<R: Threads + Wait + Sync>(
     run(rt, alloc, arguments, source, sink)
 }
 
+/// Adds the end of a call's line: how many bytes were written, their digest, and how many reads and writes failed.
+fn add_end(
+    alloc: Global,
+    lines: &mut String,
+    source: &MemSource,
+    sink: &MemSink,
+) -> Result<(), Memory> {
+    let length = sink.as_slice().len();
+    let digest = digest_of(alloc, sink.as_slice())?;
+    let reads = source.faults();
+    let writes = sink.faults();
+    let written = format!(in alloc; "{length} bytes, {digest}, ")?;
+    lines.push_str(written.as_str())?;
+    let failed = format!(in alloc; "failed reads {reads}, failed writes {writes}\n")?;
+    lines.push_str(failed.as_str())?;
+    Ok(())
+}
+
 /// Adds the line of a call: the status, how many bytes were written, their digest, and how many reads and writes failed.
 fn add_call<R: Threads + Wait + Sync>(
     rt: &R,
@@ -58,15 +76,9 @@ fn add_call<R: Threads + Wait + Sync>(
     let answered = answer_of(rt, alloc, arguments.as_slice(), &mut source, &mut sink);
     let name = call.name;
     let status = answered.status();
-    let length = sink.as_slice().len();
-    let digest = digest_of(alloc, sink.as_slice())?;
-    let reads = source.faults();
-    let writes = sink.faults();
-    let first = format!(in alloc; "{name}: status {status}, {length} bytes, ")?;
-    lines.push_str(first.as_str())?;
-    let second = format!(in alloc; "{digest}, failed reads {reads}, failed writes {writes}\n")?;
-    lines.push_str(second.as_str())?;
-    Ok(())
+    let start = format!(in alloc; "{name}: status {status}, ")?;
+    lines.push_str(start.as_str())?;
+    add_end(alloc, lines, &source, &sink)
 }
 
 // The program's text where its arguments can't be read. Its exit code can't be looked at.
@@ -90,15 +102,8 @@ fn add_process<R: Threads + Wait + Sync>(
     let mut source = MemSource::new(case, 16, vec![in alloc; 1]?);
     let mut sink = MemSink::new(alloc, 4096, 10, vec![in alloc; NEVER]?)?;
     process_unreadable(rt, alloc, &mut source, &mut sink);
-    let length = sink.as_slice().len();
-    let digest = digest_of(alloc, sink.as_slice())?;
-    let reads = source.faults();
-    let writes = sink.faults();
-    let first = format!(in alloc; "an argument that isn't UTF-8: {length} bytes, {digest}, ")?;
-    lines.push_str(first.as_str())?;
-    let second = format!(in alloc; "failed reads {reads}, failed writes {writes}\n")?;
-    lines.push_str(second.as_str())?;
-    Ok(())
+    lines.push_str("an argument that isn't UTF-8: ")?;
+    add_end(alloc, lines, &source, &sink)
 }
 
 /// Adds the lines of calls over devices that fail, and of arguments that no row has. The calls that read nothing would fail in

@@ -2,7 +2,7 @@ use Rattle.std.proofs.Common.{sym, subst, ap, ◌∙◌}
 use Rattle.std.specs.Io.KnownBytes.{Appends}
 use Rattle.delegate.specs.Headline.{Headline}
 use Rattle.delegate.specs.Outcome.{start_of}
-use Rattle.delegate.specs.Words.{texts}
+use Rattle.command_line.specs.Words.{texts}
 use Rattle.delegate.proofs.HeadlineLemmas.{outcome-case}
 use Rattle.delegate.proofs.OutcomeLemmas.{for_visible, response-usage_text}
 use Rattle.delegate.proofs.program.run.Goals as goal

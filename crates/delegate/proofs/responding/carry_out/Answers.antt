@@ -7,7 +7,7 @@ use Rattle.rv_step.specs.Valid.{IsValid}
 use Rattle.case_reader.specs.Case.{data_of}
 use Rattle.image_reader.specs.Image.{loaded_of}
 use Rattle.delegate.specs.Outcome.{case_for, carried_out, ended}
-use Rattle.delegate.specs.Words.{texts}
+use Rattle.command_line.specs.Words.{texts}
 use Rattle.delegate.specs.declared.response.Stop.TheVariants.{Refused}
 use Rattle.delegate.proofs.HeadlineLemmas.{case-in-range}
 use Rattle.delegate.proofs.OutcomeLemmas.{no_command, no_case, no_bound, no_image, all_steps, some_bytes, for_its_bytes}

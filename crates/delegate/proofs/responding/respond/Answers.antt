@@ -1,7 +1,7 @@
 use Rattle.std.proofs.Common.{◌≡◌, Ok, Err}
 use Rattle.delegate.specs.Outcome.{carried_out, outcome}
 use Rattle.delegate.specs.Stages.{CasesAreInRange}
-use Rattle.delegate.specs.Words.{texts}
+use Rattle.command_line.specs.Words.{texts}
 use Rattle.delegate.proofs.HeadlineLemmas.{refused-in-range}
 use Rattle.delegate.proofs.OutcomeLemmas.{for_its_bytes, outcome-ok, outcome-err, response-kind, response-of_a_command, response-usage}
 use Rattle.delegate.proofs.responding.respond.Goals as goal

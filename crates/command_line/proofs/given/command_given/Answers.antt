@@ -1,8 +1,8 @@
 use Rattle.std.proofs.Common.{◌∙◌, subst}
 use Rattle.std.proofs.lemmas.Option.{IfSome_then}
-use Rattle.delegate.specs.Words.{AreGiven}
-use Rattle.delegate.proofs.WordsLemmas.{chosen-of-parse, chosen-of-fault, options-of-parse}
-use Rattle.delegate.proofs.words.command_given.Goals as goal
+use Rattle.command_line.specs.Words.{AreGiven}
+use Rattle.command_line.proofs.WordsLemmas.{chosen-of-parse, chosen-of-fault, options-of-parse}
+use Rattle.command_line.proofs.given.command_given.Goals as goal
 
 pub returns-in-Ok-clause-command : goal.returns-in-Ok-clause-command
 returns-in-Ok-clause-command c =

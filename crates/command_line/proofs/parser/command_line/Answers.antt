@@ -1,8 +1,8 @@
 use Rattle.std.proofs.Common.{◌≡◌, ◌∙◌, ap, ap₂, codes}
 use Rattle.std.proofs.lemmas.Result.{IfOk-weaker}
 use Rattle.clap.specs.Simple.{App, Shape, app_of, app_of_fields, new_app, on_top, with_subcommand}
-use Rattle.delegate.specs.Words.{command_line, with_required_subcommand}
-use Rattle.delegate.proofs.words.command_line.Goals as goal
+use Rattle.command_line.specs.Words.{command_line, with_required_subcommand}
+use Rattle.command_line.proofs.parser.command_line.Goals as goal
 
 top_of : App → Shape
 top_of a = a.top

@@ -16,9 +16,9 @@ use Rattle.clap.specs.Faults.{fault_of, is_simple_and_free}
 use Rattle.clap.specs.declared.error.kind.ErrorKind.{ErrorKind}
 use Rattle.clap.specs.declared.parser.matches.ArgMatches.{ArgMatches}
 use Rattle.clap.proofs.OnLiterals.{clap_on_literals}
-use Rattle.delegate.specs.Words.{command_line, is_faultless, is_taken, command_of, named, seed_in, chosen, rows_given, given_options, IsNumberOf}
-use Rattle.delegate.specs.declared.words.Command.{Command}
-use Rattle.delegate.specs.declared.words.Command.TheVariants.{Judge, Run, Roots, Big}
+use Rattle.command_line.specs.Words.{command_line, is_faultless, is_taken, command_of, named, seed_in, chosen, rows_given, given_options, IsNumberOf}
+use Rattle.command_line.specs.declared.request.Command.{Command}
+use Rattle.command_line.specs.declared.request.Command.TheVariants.{Judge, Run, Roots, Big}
 
 pub command_line-is-simple : is_simple command_line ≡ true
 unfolding command_line

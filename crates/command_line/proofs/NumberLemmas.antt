@@ -9,9 +9,9 @@ use Rattle.clap.specs.ValueTests.{is_signed_in, is_unsigned_in, is_numeral}
 use Rattle.clap.specs.declared.builder.value_parser.ValueParser.TheVariants as vp
 use Rattle.clap.specs.declared.error.kind.ErrorKind.TheVariants.{ValueValidation}
 use Rattle.clap.proofs.OnLiterals.{clap_on_literals}
-use Rattle.delegate.specs.Words.{command_line, is_faultless, is_taken, command_of, seed_in, chosen}
-use Rattle.delegate.specs.declared.words.Command.{Command}
-use Rattle.delegate.specs.declared.words.Command.TheVariants.{Judge, Big}
+use Rattle.command_line.specs.Words.{command_line, is_faultless, is_taken, command_of, seed_in, chosen}
+use Rattle.command_line.specs.declared.request.Command.{Command}
+use Rattle.command_line.specs.declared.request.Command.TheVariants.{Judge, Big}
 
 -- a law of each digit, by its ten cases: a parse computes only at a word whose first byte is written out
 each_digit : (P : ℕ → Type 0) → P 48 → P 49 → P 50 → P 51 → P 52 → P 53 → P 54 → P 55 → P 56 → P 57 → (x : ℕ) → 48 ≤ x → x ≤ 57 → P x

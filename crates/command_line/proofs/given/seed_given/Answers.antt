@@ -2,8 +2,8 @@ use Rattle.std.specs.Prelude.{codes}
 use Rattle.std.specs.Str.Parse.{ParsesUnsigned, ExplainsUnsignedError, HasUnsignedDigitsIfOk}
 use Rattle.clap.specs.Matches.{found_of}
 use Rattle.clap.proofs.WalkLemmas.{one_text-rows}
-use Rattle.delegate.proofs.WordsLemmas.{seed-of-getter}
-use Rattle.delegate.proofs.words.seed_given.Goals as goal
+use Rattle.command_line.proofs.WordsLemmas.{seed-of-getter}
+use Rattle.command_line.proofs.given.seed_given.Goals as goal
 
 pub returns : goal.returns
 returns c =

@@ -1,0 +1,17 @@
+//! The command line of the program: which arguments name which command, with which options.
+//!
+//! The layers above may rely on this: `command_given` gives the command that `specs/Words.antt` chooses (`chosen`), and none
+//! where that has none; each option is the number that was given for it, or its default, and at least 1. Which arguments are
+//! taken is what `clap`'s definitions say of a command line with these commands and options; the laws say it of plain ones, and
+//! of each word that begins with a decimal digit where a number is wanted. The crate reads no device and knows nothing of a case.
+//! Read `specs/Words.antt` first, then `request`, `parser` and `given`.
+#![tactic(auto)]
+
+mod given;
+mod laws;
+mod parser;
+mod request;
+
+pub use given::command_given;
+pub use laws::{options_are_numbers, plain_options, plain_seeds, plain_words, seeds_are_numbers};
+pub use request::{Command, Options, Request};
