@@ -1,9 +1,10 @@
 //! The command line of the program: which arguments name which command, with which options.
 //!
 //! The layers above may rely on this: `command_given` gives the command that `specs/Words.antt` chooses (`chosen`), and none
-//! where that has none; each option is the number that was given for it, or its default, and at least 1. Which arguments are
-//! taken is what `clap`'s definitions say of a command line with these commands and options; the laws say it of plain ones, and
-//! of each word that begins with a decimal digit where a number is wanted. The crate reads no device and knows nothing of a case.
+//! where that has none; each option is at least 1, its default where no word was given for it, and the number of that word where
+//! the word is a number from 1 to 4,294,967,295. Which arguments are taken is what `clap`'s definitions say of a command line with
+//! these commands and options; the laws say it of plain ones, of each seed of `big` that begins with a decimal digit, and of each
+//! number of one option of `judge` that does. The crate reads no device and knows nothing of a case.
 //! Read `specs/Words.antt` first, then `request`, `parser` and `given`.
 #![tactic(auto)]
 

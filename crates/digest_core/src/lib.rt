@@ -7,16 +7,18 @@
 //!
 //! The layers above may rely on this: each kind of string has one definition in `specs/Text.antt` and one function
 //! here that makes it, without memory; strings of two kinds have two lengths, and a string determines its parts
-//! (`laws`). The chain of an output is defined in `specs/Chain.antt`, and `link` adds a byte to it. Read those two
+//! (`laws`), which are in the ranges of their types (`ranges`). The chain of an output is defined in `specs/Chain.antt`, and `link` adds a byte to it. Read those two
 //! definitions first, then `digester`, then `text`.
 #![tactic(auto)]
 
 mod chain;
 mod digester;
 mod laws;
+mod ranges;
 mod text;
 
 pub use chain::link;
 pub use digester::{Digester, Sha256};
 pub use laws::{chain_grows, kinds_have_lengths, texts_determine_their_parts};
+pub use ranges::{codes_fit, digests_are_32_bytes};
 pub use text::{control_text, leaf_text, link_text, node_text, registers_text, state_text};

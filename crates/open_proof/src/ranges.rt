@@ -1,27 +1,9 @@
 //! What the fields of a proof are by their types.
-ghost use Rattle.std.specs.Prelude.{◌≡◌, ◌<◌, ◌^◌, true, length};
-ghost use Rattle.digest_core.specs.Text.{status_code};
+ghost use Rattle.std.specs.Prelude.{◌≡◌, true, length};
 ghost use Rattle.open_proof.specs.InRange.{are_digests, are_words, is_ctl_in_range, is_in_range, is_opening_in_range};
 
-use rd_base::{Ctl, Digest32, Opening, Path, Regs, Status, StepProof, registers_are_32};
-
-/// A digest has 32 bytes.
-fn digests_are_32_bytes(digest: &Digest32)
-    ensures { length digest.now.0 ≡ 32 }
-{
-    let _first = digest.0[0];
-}
-
-/// The code of a status fits in 32 bits.
-fn codes_fit(status: Status)
-    ensures { status_code status < 2 ^ 32 }
-{
-    match status {
-        Status::Running => {}
-        Status::Exited(_code) => {}
-        Status::Trapped(_code) => {}
-    }
-}
+use digest_core::{codes_fit, digests_are_32_bytes};
+use rd_base::{Ctl, Opening, Path, Regs, StepProof, registers_are_32};
 
 /// Control fields are in the ranges of their types.
 fn ctls_are_in_range(ctl: &Ctl)

@@ -1,11 +1,10 @@
-ghost use Rattle.std.specs.Prelude.{◌≡◌, ◌<◌, ◌^◌, true, length};
-ghost use Rattle.digest_core.specs.Text.{status_code};
+ghost use Rattle.std.specs.Prelude.{◌≡◌, true};
 ghost use Rattle.out_chain.specs.Soundness.{claim_check, says_sound, is_claim_in_range, is_sound};
 
 use crate::chain::chain_of;
 use crate::colliding::same_digest;
-use digest_core::Digester;
-use rd_base::{Claim, Digest32, Status};
+use digest_core::{Digester, codes_fit, digests_are_32_bytes};
+use rd_base::Claim;
 
 /// Whether a claim agrees with itself.
 #[derive(Clone, Copy, Debug, PartialEq, Eq)]
@@ -27,24 +26,6 @@ impl ClaimCheck {
             ClaimCheck::Sound => true,
             ClaimCheck::WrongLength | ClaimCheck::WrongChain => false,
         }
-    }
-}
-
-/// A digest has 32 bytes.
-fn digests_are_32_bytes(digest: &Digest32)
-    ensures { length digest.now.0 ≡ 32 }
-{
-    let _first = digest.0[0];
-}
-
-/// The code of a status fits in 32 bits.
-fn codes_fit(status: Status)
-    ensures { status_code status < 2 ^ 32 }
-{
-    match status {
-        Status::Running => {}
-        Status::Exited(_code) => {}
-        Status::Trapped(_code) => {}
     }
 }
 

@@ -1,25 +1,14 @@
-ghost use Rattle.std.specs.Prelude.{◌≡◌, ℕ, ◌≤◌, List, [], length, IfOk};
-ghost use Rattle.rv_step.specs.State.{IsChained};
+ghost use Rattle.std.specs.Prelude.{◌≤◌, length};
 
 use digest_core::{Digester, Sha256, control_text, leaf_text, node_text, registers_text};
-use mem_plain::PlainMem;
 use open_proof::{climb, make_proof, step_collision};
 use out_chain::parts_root;
 use rd_base::{Ctl, Digest32, Memory, OpenText, Opening, Path, Regs, Status, StepProof};
-use rv_step::Machine;
 use state_commit::Committed;
 use std::alloc::Global;
 use std::test::Fail;
 use std::thread::Threads;
-
-/// A machine that is about to carry out a program, without input.
-fn machine_of(alloc: Global, image: &[u8]) -> Result<Machine, Memory>
-    requires { length image.now ≤ 64 }
-    ensures { IfOk result (λ m. (digest : List ℕ → List ℕ) → IsChained digest m) }
-{
-    let mem = PlainMem::new(alloc).lay(0x1_0000, image)?;
-    Machine::new(alloc, mem, 0x1_0000, &[])
-}
+use toy_machine::{OneValue, machine_of};
 
 /// Whether a chunk is there as it is wanted: with this index, it climbs to the digest of memory.
 fn opens(chunk: &Option<Opening>, index: Option<u32>, mem: &Digest32) -> bool {
@@ -146,24 +135,6 @@ fn proofs_of_each_step_open_what_the_step_reads(rt: HostRuntime) -> Result<(), F
         "edges"
     );
     Ok(())
-}
-
-/// A digest function with one value: another one's digest of nothing.
-#[derive(Clone, Copy)]
-struct OneValue<D> {
-    of: D,
-}
-
-impl<D: Digester> Digester for OneValue<D> {
-    ghost digest_of = { λ _. D.digest_of [] };
-
-    ghost is_digest = { λ _. D.is_digest [] };
-
-    ghost is_bytes = { λ _. D.is_bytes [] };
-
-    fn digest(&self, _bytes: &[u8]) -> Digest32 {
-        self.of.digest(&[])
-    }
 }
 
 const DIGESTER: OneValue<Sha256> = OneValue { of: Sha256 };

@@ -1,10 +1,8 @@
-//! Tests of provers: recorded runs, scripts and answers.
+//! Tests of provers: scripts and answers.
 //!
 //! No layer of the product stands on this crate. Each module has the tests of the crate that it is named for.
 #![tactic(auto)]
 
-#[cfg(test)]
-mod checkpoint_run_test;
 #[cfg(test)]
 mod prover_run_test;
 #[cfg(test)]

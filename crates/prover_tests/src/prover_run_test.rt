@@ -17,6 +17,7 @@ use rv_step::Machine;
 use std::alloc::Global;
 use std::test::Fail;
 use std::thread::Threads;
+use toy_machine::first_eight;
 
 /// A bound, a step, the steps that are asked with it, and where it stands among them.
 type AskedRow = (u64, u64, &'static [u64], usize);
@@ -72,12 +73,6 @@ fn eight_steps(alloc: Global) -> Result<Machine, Memory>
     Machine::new(alloc, mem, 0x1_0000, &[])
 }
 
-/// The first eight bytes of a digest, the first one highest.
-fn head(digest: Digest32) -> u64 {
-    let [a, b, c, d, e, f, g, h, ..] = digest.0;
-    u64::from_be_bytes([a, b, c, d, e, f, g, h])
-}
-
 /// The question of this kind in a round.
 fn asked(round: u32, kind: Kind) -> Question {
     Question {
@@ -90,15 +85,15 @@ fn asked(round: u32, kind: Kind) -> Question {
 /// parts a proof has. 0 where a claim doesn't agree with itself.
 fn root_in(answer: &Answer) -> u64 {
     match answer {
-        Answer::Root(root) => head(*root),
+        Answer::Root(root) => first_eight(*root),
         Answer::Claim(claim) => match check_claim(Sha256, claim) {
-            ClaimCheck::Sound => head(root_of_claim(Sha256, claim)),
+            ClaimCheck::Sound => first_eight(root_of_claim(Sha256, claim)),
             _ => 0,
         },
         Answer::Step(proof) => {
             let proof = proof.get();
             let regs = Sha256.digest(registers_text(&proof.regs).as_slice());
-            head(parts_root(Sha256, proof.mem, regs, &proof.ctl))
+            first_eight(parts_root(Sha256, proof.mem, regs, &proof.ctl))
         }
     }
 }

@@ -159,7 +159,7 @@ fn has_pages(mem: &PlainMem, count: u64) -> bool {
 }
 
 /// Whether moving a cursor with this memory on by so many steps is taken to cost less than a new tree. No answer depends on it.
-pub fn is_near(mem: &PlainMem, steps: u64) -> bool {
+fn is_near(mem: &PlainMem, steps: u64) -> bool {
     steps <= STEPS_WORTH_A_TREE || has_pages(mem, steps.div_ceil(STEPS_WORTH_A_PAGE))
 }
 

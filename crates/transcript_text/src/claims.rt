@@ -37,8 +37,9 @@ fn add_claim(
     }
 }
 
-/// Adds a line for each prover, of whom the first has the number 1.
-pub(crate) fn add_claims(
+/// Adds the line of each prover whose claim is settled, of whom the first has the number 1. An `Err` is out of memory, and may
+/// leave a part of the lines.
+pub fn add_claims(
     text: &mut String,
     alloc: Global,
     claims: &[Option<Settled>],

@@ -40,7 +40,8 @@ fn add_committed(text: &mut String, head: &Head) -> Result<(), AllocError>
     write!(text, " version {version} fan {fan} digest {digest}")
 }
 
-pub(crate) fn add_head(text: &mut String, head: &Head) -> Result<(), AllocError>
+/// Adds the line of a match's head. An `Err` is out of memory, and may leave a part of the line.
+pub fn add_head(text: &mut String, head: &Head) -> Result<(), AllocError>
     ensures { OnOk result (string_bytes text.new ≡ string_bytes text.old ++ head_line head.now) }
 {
     add_played(text, head)?;
@@ -89,7 +90,9 @@ fn add_collision(
     write!(text, "collision {first} {second}\n")
 }
 
-pub(crate) fn add_verdict(
+/// Adds the line of a verdict, by what each prover's claim was settled as; an accepted claim that wasn't given has none. An `Err`
+/// is out of memory, and may leave a part of the line.
+pub fn add_verdict(
     text: &mut String,
     alloc: Global,
     claims: &[Option<Settled>],

@@ -4,15 +4,11 @@ use digest_core::{Digester, Sha256, leaf_text};
 use mem_plain::PlainMem;
 use mem_tree::MemTree;
 use merkle_nodes::climb;
-use rd_base::{Digest32, Memory, Steps};
+use rd_base::{Memory, Steps};
+use std::sync::atomic::{AtomicU64, Ordering};
 use std::sync::ledger::Ledger;
 use std::test::Fail;
-
-/// The first eight bytes of a digest, the first one highest.
-fn head(digest: Digest32) -> u64 {
-    let [a, b, c, d, e, f, g, h, ..] = digest.0;
-    u64::from_be_bytes([a, b, c, d, e, f, g, h])
-}
+use toy_machine::{Counted, first_eight};
 
 /// Computed by this program in Python:
 ///
@@ -53,9 +49,9 @@ fn the_root_is_that_of_the_definition(rt: HostRuntime) -> Result<(), Fail> {
             kept.touch(*addr / 4096)?;
         }
         let built = MemTree::build(&rt, rt.alloc(), Sha256, &mem)?;
-        assert_eq!(rt; head(built.root()), want, "built");
+        assert_eq!(rt; first_eight(built.root()), want, "built");
         kept.refresh(&mem)?;
-        assert_eq!(rt; head(kept.root()), want, "refreshed");
+        assert_eq!(rt; first_eight(kept.root()), want, "refreshed");
     }
     Ok(())
 }
@@ -128,7 +124,7 @@ fn a_page_filled_with_zeros_is_no_longer_kept(rt: HostRuntime) -> Result<(), Fai
     mem.store(0x1234_5678, 4, 0)?;
     tree.touch(0x12345)?;
     tree.refresh(&mem)?;
-    assert_eq!(rt; head(tree.root()), 0x42cf_a9b6_ff39_0040);
+    assert_eq!(rt; first_eight(tree.root()), 0x42cf_a9b6_ff39_0040);
     assert!(rt; !tree.is_kept(0x12345));
     mem.store(0x1234_5678, 4, 0x0403_0201)?;
     tree.touch(0x12345)?;
@@ -136,6 +132,52 @@ fn a_page_filled_with_zeros_is_no_longer_kept(rt: HostRuntime) -> Result<(), Fai
     assert!(rt; tree.is_kept(0x12345));
     let built = MemTree::build(&rt, rt.alloc(), Sha256, &mem)?;
     assert!(rt; tree.root().0 == built.root().0);
+    Ok(())
+}
+
+/// How many digests a refresh takes after a byte was stored.
+fn digests_after(
+    tree: &mut MemTree<Counted<'_, Sha256>>,
+    made: &AtomicU64,
+    mem: &mut PlainMem,
+    addr: u32,
+    byte: u32,
+) -> Result<u64, Memory> {
+    let before = made.load(Ordering::SeqCst);
+    mem.store(addr, 1, byte)?;
+    tree.touch(addr / 4096)?;
+    tree.refresh(mem)?;
+    Ok(made.load(Ordering::SeqCst).wrapping_sub(before))
+}
+
+/// An empty tree takes 28 digests, one for each level. A page takes 128 for its chunks, 127 for the nodes over these and 20 for
+/// the nodes above it. A page of zeros takes none, and none above it, once no page below them holds a byte other than 0.
+#[test]
+fn no_digest_is_made_above_a_page_filled_with_zeros(rt: HostRuntime) -> Result<(), Fail> {
+    let rows: [(u32, u32, u64); 6] = [
+        (0x1234_5678, 1, 275),
+        (0x1234_5678, 0, 0),
+        (0x1234_5678, 0, 0),
+        (0x1234_5678, 0x80, 275),
+        // the page beside it; and once that holds zeros again, the nodes above the two pages
+        (0x1234_4000, 7, 275),
+        (0x1234_4000, 0, 20),
+    ];
+    let made = AtomicU64::new(0);
+    let counted = Counted {
+        of: Sha256,
+        made: &made,
+    };
+    let mut mem = PlainMem::new(rt.alloc());
+    let mut tree = MemTree::build(&rt, rt.alloc(), counted, &mem)?;
+    assert_eq!(rt; made.load(Ordering::SeqCst), 28, "build");
+    for (addr, byte, want) in rows {
+        assert_eq!(rt;
+            digests_after(&mut tree, &made, &mut mem, addr, byte)?,
+            want,
+            "{byte} at {addr}"
+        );
+    }
     Ok(())
 }
 

@@ -1,12 +1,8 @@
 use digest_core::{Digester, Sha256, leaf_text, node_text};
 use merkle_nodes::{climb, fill_empty_nodes};
 use rd_base::Digest32;
-
-/// The first eight bytes of a digest, the first one highest.
-fn head(digest: Digest32) -> u64 {
-    let [a, b, c, d, e, f, g, h, ..] = digest.0;
-    u64::from_be_bytes([a, b, c, d, e, f, g, h])
-}
+use std::test::Fail;
+use toy_machine::first_eight;
 
 fn leaf(k: u8) -> Digest32 {
     Sha256.digest(leaf_text(&[k; 32]).as_slice())
@@ -35,7 +31,7 @@ fn the_empty_nodes_of_memory(rt: HostRuntime) {
         (5, 0xcc04_e6c4_1112_1fdb),
         (27, 0x42cf_a9b6_ff39_0040),
     ] {
-        assert_eq!(rt; head(nodes[level]), want, "level {level}");
+        assert_eq!(rt; first_eight(nodes[level]), want, "level {level}");
     }
 }
 
@@ -65,7 +61,7 @@ fn each_path_climbs_to_the_root(rt: HostRuntime) {
         (7, [leaf(6), pairs[2], low]),
     ] {
         let root = climb(Sha256, k, &leaf_text(&[k as u8; 32]), &path);
-        assert_eq!(rt; head(root), 0xf907_f23f_76aa_01b7, "leaf {k}");
+        assert_eq!(rt; first_eight(root), 0xf907_f23f_76aa_01b7, "leaf {k}");
         let other = climb(Sha256, k ^ 2, &leaf_text(&[k as u8; 32]), &path);
         assert!(rt; other.0 != root.0, "leaf {k} at another place");
     }

@@ -1,10 +1,9 @@
-ghost use Rattle.std.specs.Prelude.{◌≡◌, []};
-
 use digest_core::{Digester, Sha256, control_text, link_text, state_text};
 use out_chain::{ClaimCheck, chain_of, check_claim, claim_collision, parts_root, root_of_claim};
 use rd_base::{Claim, ClaimOutput, Ctl, Digest32, OpenText, Status};
 use std::alloc::Global;
 use std::test::Fail;
+use toy_machine::OneValue;
 
 /// The chain of the one byte 2a, as `chain(b'\x2a')` of this program in Python gives it:
 ///
@@ -104,24 +103,6 @@ fn a_claim_is_checked_length_first(rt: HostRuntime) -> Result<(), Fail> {
         }
     }
     Ok(())
-}
-
-/// A digest function with one value: another one's digest of nothing.
-#[derive(Clone, Copy)]
-struct OneValue<D> {
-    of: D,
-}
-
-impl<D: Digester> Digester for OneValue<D> {
-    ghost digest_of = { λ _. D.digest_of [] };
-
-    ghost is_digest = { λ _. D.is_digest [] };
-
-    ghost is_bytes = { λ _. D.is_bytes [] };
-
-    fn digest(&self, _bytes: &[u8]) -> Digest32 {
-        self.of.digest(&[])
-    }
 }
 
 const DIGESTER: OneValue<Sha256> = OneValue { of: Sha256 };

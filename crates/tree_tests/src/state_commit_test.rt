@@ -1,24 +1,13 @@
-ghost use Rattle.std.specs.Prelude.{ℕ, ◌≤◌, List, length, IfOk};
-ghost use Rattle.rv_step.specs.State.{IsChained};
+ghost use Rattle.std.specs.Prelude.{◌≤◌, length};
 
 use digest_core::{Sha256, leaf_text};
-use mem_plain::PlainMem;
 use merkle_nodes::climb;
 use rd_base::Memory;
-use rv_step::Machine;
 use state_commit::{Committed, state_root};
 use std::alloc::Global;
 use std::test::Fail;
 use std::thread::Threads;
-
-/// A machine that is about to carry out a program, without input.
-fn machine_of(alloc: Global, image: &[u8]) -> Result<Machine, Memory>
-    requires { length image.now ≤ 64 }
-    ensures { IfOk result (λ m. (digest : List ℕ → List ℕ) → IsChained digest m) }
-{
-    let mem = PlainMem::new(alloc).lay(0x1_0000, image)?;
-    Machine::new(alloc, mem, 0x1_0000, &[])
-}
+use toy_machine::machine_of;
 
 /// Carries out a program. The root of the i-th state begins with the i-th of these eight bytes, kept and from scratch.
 fn roots_are<R: Threads + Sync>(

@@ -4,6 +4,5 @@ use Rattle.merkle_nodes.proofs.empty.fill_empty_nodes.Given as goal
 
 abbrev pub invariant-levels : goal.invariant-levels
 invariant-levels g l = record {
-  next : l.node.0 ≡ empty_node g.D.Digester.digest_of l.leaf l.level;
   written : (i : ℕ) → i < l.level → digest_at l.nodes i ≡ empty_node g.D.Digester.digest_of l.leaf i;
 }

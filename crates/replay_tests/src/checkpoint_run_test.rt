@@ -1,44 +1,12 @@
-ghost use Rattle.std.specs.Prelude.{ℕ, ◌≤◌, List, length, IfOk};
-ghost use Rattle.rv_step.specs.State.{IsChained};
-
+use crate::programs::{A_STORE_IN_EACH_PAGE, SIX_STEPS};
+use crate::tampers::{early, flip, register};
 use checkpoint_run::{machine_at, next, record_run};
 use digest_core::Sha256;
 use mem_plain::PlainMem;
-use rd_base::{Memory, RegisterNumber, Status, Tamper};
-use rv_step::Machine;
+use rd_base::{Memory, Status, Tamper};
 use std::alloc::Global;
 use std::test::Fail;
-
-/// A machine at the start of an image of few bytes, which lies at 0x10000.
-fn machine_of(alloc: Global, image: &[u8]) -> Result<Machine, Memory>
-    requires { length image.now ≤ 64 }
-    ensures { IfOk result (λ m. (digest : List ℕ → List ℕ) → IsChained digest m) }
-{
-    let mem = PlainMem::new(alloc).lay(0x1_0000, image)?;
-    Machine::new(alloc, mem, 0x1_0000, &[])
-}
-
-fn flip(step: u32, addr: u32, mask: u8) -> Tamper {
-    Tamper::Flip { step, addr, mask }
-}
-
-fn register(step: u32, reg: u8, value: u32) -> Tamper {
-    match RegisterNumber::new(reg) {
-        Some(reg) => Tamper::Register { step, reg, value },
-        None => Tamper::Untouched,
-    }
-}
-
-fn early(steps: u32) -> Tamper {
-    Tamper::Early { steps }
-}
-
-/// addi x10, x0, 42; addi x17, x0, 1; ecall; addi x10, x0, 0; addi x17, x0, 93; ecall: it puts out 42 in step 2, and has
-/// stopped at step 6
-const SIX_STEPS: [u8; 24] = [
-    0x13, 0x05, 0xa0, 0x02, 0x93, 0x08, 0x10, 0x00, 0x73, 0x00, 0x00, 0x00, 0x13, 0x05, 0x00, 0x00,
-    0x93, 0x08, 0xd0, 0x05, 0x73, 0x00, 0x00, 0x00,
-];
+use toy_machine::machine_of;
 
 /// An address beside the program.
 const BESIDE: u32 = 0x2_0000;
@@ -150,13 +118,6 @@ fn a_run_that_ends_early_stands_still_there(rt: HostRuntime) -> Result<(), Fail>
     }
     Ok(())
 }
-
-/// lui x5, 0x20; addi x6, x0, 7; lui x7, 1; then sw x6, 0(x5); add x5, x5, x7; jal x0, -8: it stores to one page after
-/// the other, from 0x20000 on, to page j in step 3 * j + 3
-const A_STORE_IN_EACH_PAGE: [u8; 24] = [
-    0xb7, 0x02, 0x02, 0x00, 0x13, 0x03, 0x70, 0x00, 0xb7, 0x13, 0x00, 0x00, 0x23, 0xa0, 0x62, 0x00,
-    0xb3, 0x82, 0x72, 0x00, 0x6f, 0xf0, 0x9f, 0xff,
-];
 
 /// Whether the bytes of a machine of A_STORE_IN_EACH_PAGE are those of a step: those that it stored to a hundred pages, its
 /// program's first, and one at an address, which is 0x81 from the step `flipped` on.

@@ -1,11 +1,9 @@
-use crate::claims::add_claims;
-use crate::reporting::{add_head, add_verdict};
-use crate::{DigestName, Head, answer_line};
 use bisect_game::Settled;
 use rd_base::{Answer, Claim, ClaimOutput, Ctl, Digest32, OpenText, Status};
 use std::alloc::{AllocError, Global};
 use std::test::Fail;
 use tournament::Verdict;
+use transcript_text::{DigestName, Head, add_claims, add_head, add_verdict, answer_line};
 
 /// The claim of a status and an output.
 fn claim_of(alloc: Global, status: Status, output: &[u8]) -> Result<Option<Settled>, AllocError> {

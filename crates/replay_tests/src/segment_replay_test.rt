@@ -1,48 +1,21 @@
-ghost use Rattle.std.specs.Prelude.{ℕ, ◌≤◌, ◌<◌, List, length, IfOk};
+ghost use Rattle.std.specs.Prelude.{ℕ, ◌<◌, List, IfOk};
 ghost use Rattle.rv_step.specs.State.{IsChained};
 ghost use Rattle.checkpoint_run.specs.Recorded.{AreChained};
 ghost use Rattle.sha2.specs.Sha256.{sha256};
 
-use crate::cursor::is_near;
-use crate::{committed_at, roots};
+use crate::programs::{A_STORE_IN_EACH_PAGE, SIX_STEPS};
+use crate::tampers::{early, flip, register};
 use checkpoint_run::{Run, record_run};
 use digest_core::Sha256;
 use mem_plain::PlainMem;
-use rd_base::{Digest32, Memory, RegisterNumber, Tamper};
+use rd_base::{Memory, Tamper};
 use rv_step::Machine;
+use segment_replay::{committed_at, roots};
 use std::alloc::Global;
+use std::sync::atomic::{AtomicU64, Ordering};
 use std::test::Fail;
 use std::thread::Threads;
-
-/// A machine at the start of an image of few bytes, which lies at 0x10000.
-fn machine_of(alloc: Global, image: &[u8]) -> Result<Machine, Memory>
-    requires { length image.now ≤ 64 }
-    ensures { IfOk result (λ m. (digest : List ℕ → List ℕ) → IsChained digest m) }
-{
-    let mem = PlainMem::new(alloc).lay(0x1_0000, image)?;
-    Machine::new(alloc, mem, 0x1_0000, &[])
-}
-
-fn flip(step: u32, addr: u32, mask: u8) -> Tamper {
-    Tamper::Flip { step, addr, mask }
-}
-
-fn register(step: u32, reg: u8, value: u32) -> Tamper {
-    match RegisterNumber::new(reg) {
-        Some(reg) => Tamper::Register { step, reg, value },
-        None => Tamper::Untouched,
-    }
-}
-
-fn early(steps: u32) -> Tamper {
-    Tamper::Early { steps }
-}
-
-/// The first eight bytes of a digest, the first one highest.
-fn head(digest: Digest32) -> u64 {
-    let [a, b, c, d, e, f, g, h, ..] = digest.0;
-    u64::from_be_bytes([a, b, c, d, e, f, g, h])
-}
+use toy_machine::{Counted, first_eight, machine_of};
 
 /// Whether the roots of some steps begin with these eight bytes each.
 fn are_roots<R: Threads + Sync>(
@@ -61,18 +34,12 @@ fn are_roots<R: Threads + Sync>(
         return Ok(false);
     }
     for (root, row) in found.iter().zip(wanted.iter()) {
-        if head(*root) != row.1 {
+        if first_eight(*root) != row.1 {
             return Ok(false);
         }
     }
     Ok(true)
 }
-
-/// addi x10, x0, 42; addi x17, x0, 1; ecall; addi x10, x0, 0; addi x17, x0, 93; ecall: it has stopped at step 6
-const SIX_STEPS: [u8; 24] = [
-    0x13, 0x05, 0xa0, 0x02, 0x93, 0x08, 0x10, 0x00, 0x73, 0x00, 0x00, 0x00, 0x13, 0x05, 0x00, 0x00,
-    0x93, 0x08, 0xd0, 0x05, 0x73, 0x00, 0x00, 0x00,
-];
 
 /// The expected roots were computed by `checks/roots.py SIX_STEPS 8`.
 #[test]
@@ -91,7 +58,7 @@ fn spacing_and_workers_change_no_root(rt: HostRuntime) -> Result<(), Fail> {
         }
         for (step, root) in [wanted[1], wanted[2], wanted[0], (9, wanted[0].1)] {
             let committed = committed_at(&rt, rt.alloc(), Sha256, &run, step)?;
-            assert_eq!(rt; head(committed.root()), root);
+            assert_eq!(rt; first_eight(committed.root()), root);
         }
         assert!(rt; are_roots(&rt, rt.alloc(), &run, 2, &[])?);
     }
@@ -225,13 +192,6 @@ fn a_run_that_ends_early_keeps_the_root_of_its_end(rt: HostRuntime) -> Result<()
     Ok(())
 }
 
-/// lui x5, 0x20; addi x6, x0, 7; lui x7, 1; then sw x6, 0(x5); add x5, x5, x7; jal x0, -8: it stores to one page after
-/// the other, from 0x20000 on
-const A_STORE_IN_EACH_PAGE: [u8; 24] = [
-    0xb7, 0x02, 0x02, 0x00, 0x13, 0x03, 0x70, 0x00, 0xb7, 0x13, 0x00, 0x00, 0x23, 0xa0, 0x62, 0x00,
-    0xb3, 0x82, 0x72, 0x00, 0x6f, 0xf0, 0x9f, 0xff,
-];
-
 /// The expected roots were computed as those of the tampered runs.
 #[test]
 fn a_hundred_pages_have_the_roots_of_their_steps(rt: HostRuntime) -> Result<(), Fail> {
@@ -249,32 +209,82 @@ fn a_hundred_pages_have_the_roots_of_their_steps(rt: HostRuntime) -> Result<(), 
     Ok(())
 }
 
-/// A memory that holds a byte other than 0 in so many pages, the last page first, and zeros alone in the first one.
-fn memory_of(alloc: Global, pages: u32) -> Result<PlainMem, Memory> {
-    let mut mem = PlainMem::new(alloc);
-    for page in 0..pages.min(1000) {
+/// jal x0, 0: it runs for ever
+const STAYS: [u8; 4] = [0x6f, 0, 0, 0];
+
+/// A machine that is about to carry out STAYS, and whose memory holds a byte other than 0 in so many pages, at least one.
+fn staying(alloc: Global, pages: u32) -> Result<Machine, Memory>
+    ensures { IfOk result (λ m. (digest : List ℕ → List ℕ) → IsChained digest m) }
+{
+    let mut mem = PlainMem::new(alloc).lay(0x1_0000, &STAYS)?;
+    for page in 1..pages.min(1000) {
         mem.store(0xffff_ffff - 8192 * page, 1, 1)?;
     }
     mem.store(0, 1, 0)?;
-    Ok(mem)
+    Machine::new(alloc, mem, 0x1_0000, &[])
 }
 
+/// How many digests the roots of two steps take.
+fn digests_of<R: Threads + Sync>(
+    rt: &R,
+    alloc: Global,
+    run: &Run,
+    steps: [u64; 2],
+) -> Result<u64, Memory>
+    requires { AreChained sha256 run.now }
+{
+    let made = AtomicU64::new(0);
+    let counted = Counted {
+        of: Sha256,
+        made: &made,
+    };
+    roots(rt, alloc, counted, run, &steps, 1)?;
+    Ok(made.load(Ordering::SeqCst))
+}
+
+/// How many digests more the root of a step takes after that of step 0 than after its own: none where the tree is kept, all
+/// those of a tree where it is built anew.
+fn digests_between<R: Threads + Sync>(
+    rt: &R,
+    alloc: Global,
+    pages: u32,
+    every: u32,
+    step: u64,
+) -> Result<u64, Memory> {
+    let machine = staying(alloc, pages)?;
+    let run = record_run(
+        alloc,
+        Sha256,
+        &machine,
+        20_000,
+        every.max(1),
+        Tamper::Untouched,
+    )?;
+    let moved = digests_of(rt, alloc, &run, [0, step])?;
+    let stayed = digests_of(rt, alloc, &run, [step, step])?;
+    Ok(moved.wrapping_sub(stayed))
+}
+
+/// A tree takes 28 digests for its empty nodes, and for each page in use 128 for its chunks, 127 for the nodes over these and,
+/// as no two of the pages lie side by side, at most 20 for the nodes above it.
 #[test]
-fn a_step_is_near_by_itself_or_by_the_pages_in_use(rt: HostRuntime) -> Result<(), Fail> {
-    // how many pages are in use, and how many steps are the most to be near
-    let rows: [(u32, u64); 5] = [
-        (0, 16_384),
-        (1, 16_384),
-        (16, 16_384),
-        (17, 17_408),
-        (300, 307_200),
+fn a_tree_is_kept_up_to_a_step_that_is_near(rt: HostRuntime) -> Result<(), Fail> {
+    // how many pages are in use, the spacing of the checkpoints, and the last step for which the tree is kept
+    let rows: [(u32, u32, u64); 5] = [
+        // near by itself
+        (1, 1024, 16_384),
+        (16, 1024, 16_384),
+        // near by the pages in use
+        (17, 1024, 17_408),
+        (18, 100, 18_432),
+        // no checkpoint lies between
+        (1, 19_000, 18_999),
     ];
-    for (pages, most) in rows {
-        let mem = memory_of(rt.alloc(), pages)?;
-        assert!(rt; is_near(&mem, 0));
-        assert!(rt; is_near(&mem, most));
-        assert!(rt; !is_near(&mem, most + 1));
-        assert!(rt; !is_near(&mem, u64::MAX));
+    for (pages, every, last) in rows {
+        assert_eq!(rt; digests_between(&rt, rt.alloc(), pages, every, last)?, 0);
+        let anew = digests_between(&rt, rt.alloc(), pages, every, last + 1)?;
+        assert!(rt; anew > 28 + 255 * u64::from(pages));
+        assert!(rt; anew <= 28 + 275 * u64::from(pages));
     }
     Ok(())
 }

@@ -1,0 +1,10 @@
+//! Small machines, and digest functions that count or collide, for tests of several crates.
+//!
+//! No layer of the product stands on this crate.
+#![tactic(auto)]
+
+mod digests;
+mod machine;
+
+pub use digests::{Counted, OneValue, first_eight};
+pub use machine::machine_of;
