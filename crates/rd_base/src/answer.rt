@@ -4,7 +4,8 @@ use crate::boxed::Boxed;
 use crate::claim::Claim;
 use crate::digest::Digest32;
 use crate::memory::Memory;
-use crate::proof::StepProof;
+use crate::proof::Proof;
+use crate::root_list::RootList;
 use std::alloc::Global;
 
 /// Which question of a match is meant: the claim is dispute 0, round 0; in a dispute rounds count from 1.
@@ -23,8 +24,10 @@ pub enum Answer {
     Claim(Claim),
     /// The root of one state.
     Root(Digest32),
+    /// The roots of several states, in the order asked.
+    Roots(RootList),
     /// The proof of one step.
-    Step(Boxed<StepProof>),
+    Step(Boxed<Proof>),
 }
 
 impl Answer {
@@ -35,7 +38,11 @@ impl Answer {
         match self {
             Answer::Claim(claim) => Ok(Answer::Claim(claim.copy(alloc)?)),
             Answer::Root(root) => Ok(Answer::Root(*root)),
-            Answer::Step(proof) => Ok(Answer::Step(Boxed::new(Box::new(alloc, *proof.get())?))),
+            Answer::Roots(roots) => Ok(Answer::Roots(roots.copy(alloc)?)),
+            Answer::Step(proof) => Ok(Answer::Step(Boxed::new(Box::new(
+                alloc,
+                proof.get().copy(),
+            )?))),
         }
     }
 }

@@ -2,8 +2,8 @@
 //!
 //! The layers above may rely on what the types say by themselves: a register file never holds anything in
 //! `x0`, a claimed output is never longer than its length field can say, a tampered register is one of `x1` to `x31`,
-//! a late prover passes at most 1,000 times, and a byte string is seen in contracts as the list of its bytes. Read
-//! `regs` first, then `answer`.
+//! a late prover passes at most 1,000 times, an answer of several roots has 1 to 15, a proof opens at most three registers,
+//! and a byte string is seen in contracts as the list of its bytes. Read `regs` first, then `answer`.
 #![tactic(auto)]
 
 mod answer;
@@ -16,8 +16,10 @@ mod limits;
 mod listed;
 mod memory;
 mod open_text;
+mod opened;
 mod proof;
 mod regs;
+mod root_list;
 mod script;
 mod status;
 mod steps;
@@ -33,8 +35,10 @@ pub use limits::MAX_INPUT_BYTES;
 pub use listed::{Bytes, Listed};
 pub use memory::Memory;
 pub use open_text::{MAX_TEXT_BYTES, OpenText};
-pub use proof::{Opening, Path, StepProof};
+pub use opened::{InOpening, InPath, Opening, Path, RegOpening, RegOpenings, RegPath};
+pub use proof::{Proof, StepProof, StepProof2, StepProof3};
 pub use regs::Regs;
+pub use root_list::{MAX_ROOTS, RootList};
 pub use script::{FirstSilentRound, Manner, PassCount, Script};
 pub use status::Status;
 pub use steps::Steps;

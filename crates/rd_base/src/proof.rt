@@ -1,21 +1,12 @@
+ghost use Rattle.std.specs.Prelude.{◌≡◌};
+
 use crate::ctl::Ctl;
 use crate::digest::Digest32;
+use crate::opened::{InOpening, Opening, RegOpenings};
 use crate::regs::Regs;
 
-/// A Merkle path in the tree of memory: the siblings on the 27 levels from the leaf up, the leaf's own sibling first.
-#[derive(Clone, Copy, Debug)]
-pub struct Path(pub [Digest32; 27]);
-
-/// An opened chunk of memory: its 32 bytes, and its Merkle path.
-#[derive(Clone, Copy, Debug)]
-pub struct Opening {
-    /// The chunk's bytes, the lowest address first.
-    pub chunk: [u8; 32],
-    /// Its siblings up to the root of memory.
-    pub path: Path,
-}
-
-/// What a prover opens of one state, so that one step can be made from it.
+/// What a prover opens of one state, so that one step can be made from it, where the registers are digested as one
+/// string (commitment version 1).
 #[derive(Clone, Copy, Debug)]
 pub struct StepProof {
     /// The digest of memory.
@@ -28,4 +19,104 @@ pub struct StepProof {
     pub fetch: Option<Opening>,
     /// The chunk that the instruction loads from or stores to.
     pub operand: Option<Opening>,
+}
+
+/// What a prover opens of one state where the registers are a tree (commitment version 2): of the registers only those
+/// that the instruction names.
+#[derive(Debug, Drop)]
+pub struct StepProof2 {
+    /// The digest of memory.
+    pub mem: Digest32,
+    /// The root of the registers' tree.
+    pub regs: Digest32,
+    /// The control fields.
+    pub ctl: Ctl,
+    /// The chunk that holds the word at `pc`.
+    pub fetch: Option<Opening>,
+    /// The registers that the instruction names, in their order.
+    pub named: RegOpenings,
+    /// The chunk that the instruction loads from or stores to.
+    pub operand: Option<Opening>,
+}
+
+/// What a prover opens of one state where the input is a tree of its own, too (commitment version 3).
+#[derive(Debug, Drop)]
+pub struct StepProof3 {
+    /// The root of memory's tree.
+    pub mem: Digest32,
+    /// How many bytes the input has.
+    pub input_len: u32,
+    /// The root of the input's tree.
+    pub input_root: Digest32,
+    /// The root of the registers' tree.
+    pub regs: Digest32,
+    /// The control fields.
+    pub ctl: Ctl,
+    /// The chunk that holds the word at `pc`.
+    pub fetch: Option<Opening>,
+    /// The registers that the instruction names, in their order.
+    pub named: RegOpenings,
+    /// The chunk that the instruction loads from or stores to.
+    pub operand: Option<Opening>,
+    /// The chunk of the input that the instruction reads a byte of.
+    pub input: Option<InOpening>,
+}
+
+/// The proof of one step, in the commitment version that it is made for.
+#[derive(Debug, Drop)]
+pub enum Proof {
+    /// Of version 1: it shows all registers.
+    V1(StepProof),
+    /// Of version 2: it opens the registers that the instruction names.
+    V2(StepProof2),
+    /// Of version 3: it opens those registers, and a chunk of the input where a byte of it is read.
+    V3(StepProof3),
+}
+
+impl StepProof2 {
+    /// The same proof once more. It takes no memory.
+    pub fn copy(&self) -> StepProof2
+        ensures { result ≡ self.now }
+    {
+        StepProof2 {
+            mem: self.mem,
+            regs: self.regs,
+            ctl: self.ctl,
+            fetch: self.fetch,
+            named: self.named.copy(),
+            operand: self.operand,
+        }
+    }
+}
+
+impl StepProof3 {
+    /// The same proof once more. It takes no memory.
+    pub fn copy(&self) -> StepProof3
+        ensures { result ≡ self.now }
+    {
+        StepProof3 {
+            mem: self.mem,
+            input_len: self.input_len,
+            input_root: self.input_root,
+            regs: self.regs,
+            ctl: self.ctl,
+            fetch: self.fetch,
+            named: self.named.copy(),
+            operand: self.operand,
+            input: self.input,
+        }
+    }
+}
+
+impl Proof {
+    /// The same proof once more. It takes no memory.
+    pub fn copy(&self) -> Proof
+        ensures { result ≡ self.now }
+    {
+        match self {
+            Proof::V1(proof) => Proof::V1(*proof),
+            Proof::V2(proof) => Proof::V2(proof.copy()),
+            Proof::V3(proof) => Proof::V3(proof.copy()),
+        }
+    }
 }
