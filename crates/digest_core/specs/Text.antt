@@ -42,3 +42,15 @@ state_text memory registers control = 4 ∷ memory ++ registers ++ control
 -- link: 5, the chain of an output, and the byte that is put out next
 abbrev pub link_text : List ℕ → ℕ → List ℕ
 link_text chain byte = 5 ∷ chain ++ byte ∷ []
+
+-- noise: 6, and three numbers of four bytes each; nobody opens it
+abbrev pub noise_text : ℕ → ℕ → ℕ → List ℕ
+noise_text seed dispute round = 6 ∷ little_bytes 4 seed ++ little_bytes 4 dispute ++ little_bytes 4 round
+
+-- register leaf: 7, and what the register holds in four bytes
+abbrev pub register_text : ℕ → List ℕ
+register_text value = 7 ∷ little_bytes 4 value
+
+-- storage: 8, the root of memory, the input's length in four bytes, and the root of the input
+abbrev pub storage_text : List ℕ → ℕ → List ℕ → List ℕ
+storage_text memory input_len input = 8 ∷ memory ++ little_bytes 4 input_len ++ input

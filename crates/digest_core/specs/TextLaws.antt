@@ -1,11 +1,11 @@
 -- Derived: strings have their lengths, and determine their parts. The laws in `laws` have the same as clauses.
-use Rattle.std.proofs.Common.{◌≡◌, ℕ, suc, ◌*◌, ◌^◌, ◌<◌, List, [], ◌∷◌, ◌++◌, length, slice_index, refl, sym, ap, ◌∙◌, arith, length-append}
+use Rattle.std.proofs.Common.{◌≡◌, ℕ, suc, ◌*◌, ◌^◌, ◌<◌, List, [], ◌∷◌, ◌++◌, length, slice_index, refl, sym, ap, ◌∙◌, arith, length-append, append-nil}
 use Rattle.std.specs.List.{flat_map}
 use Rattle.byteorder.specs.Endian.{little_bytes, little_number}
 use Rattle.byteorder.specs.Numbers.{little_number-reads_back, length-bytes_low_first}
 use Rattle.rd_base.specs.declared.status.Status.{Status}
 use Rattle.rd_base.specs.declared.status.Status.TheVariants.{Running, Exited, Trapped}
-use Rattle.digest_core.specs.Text.{registers_text, status_byte, status_code, control_text}
+use Rattle.digest_core.specs.Text.{registers_text, status_byte, status_code, control_text, noise_text, register_text, storage_text}
 
 -- a first element and the rest
 pub cons_parts : (x y : ℕ) (xs ys : List ℕ) → x ∷ xs ≡ y ∷ ys → (x ≡ y) × (xs ≡ ys)
@@ -80,3 +80,26 @@ state_text_same m r c n s d first second same =
     let both = append_parts (m ++ r) (n ++ s) c d (omega (arith, length-append m r, length-append n s)) same in
     let halves = append_parts m n r s first both.0 in
     (halves.0, halves.1, both.1)
+
+pub noise_text_same : (p q m n r s : ℕ) → p < 2 ^ 32 → q < 2 ^ 32 → m < 2 ^ 32 → n < 2 ^ 32 → r < 2 ^ 32 → s < 2 ^ 32
+    → noise_text p m r ≡ noise_text q n s → (p ≡ q) × (m ≡ n) × (r ≡ s)
+noise_text_same p q m n r s p_fits q_fits m_fits n_fits r_fits s_fits same =
+    let seed = number_parts 4 p q (little_bytes 4 m ++ little_bytes 4 r) (little_bytes 4 n ++ little_bytes 4 s) p_fits q_fits (cons_parts 6 6 _ _ same).1 in
+    let dispute = number_parts 4 m n (little_bytes 4 r) (little_bytes 4 s) m_fits n_fits seed.1 in
+    let round = number_parts 4 r s [] [] r_fits s_fits (append-nil (little_bytes 4 r) ∙ dispute.1 ∙ sym (append-nil (little_bytes 4 s))) in
+    (seed.0, dispute.0, round.0)
+
+pub register_text_same : (v w : ℕ) → v < 2 ^ 32 → w < 2 ^ 32 → register_text v ≡ register_text w → v ≡ w
+register_text_same v w v_fits w_fits same = (number_parts 4 v w [] [] v_fits w_fits (ap (λ s. s ++ []) (cons_parts 7 7 _ _ same).1)).0
+
+pub storage_text_same : (m n i j : List ℕ) (k l : ℕ) → length m ≡ length n → k < 2 ^ 32 → l < 2 ^ 32 → storage_text m k i ≡ storage_text n l j → (m ≡ n) × (k ≡ l) × (i ≡ j)
+storage_text_same m n i j k l size k_fits l_fits same =
+    let four = λ (q : ℕ). length-bytes_low_first 0 4 q in
+    let k_four = four k in
+    let l_four = four l in
+    let outer = append_parts (m ++ little_bytes 4 k) (n ++ little_bytes 4 l) i j (omega (arith, length-append m (little_bytes 4 k), length-append n (little_bytes 4 l), k_four, l_four)) (cons_parts 8 8 _ _ same).1 in
+    let inner = append_parts m n (little_bytes 4 k) (little_bytes 4 l) size outer.0 in
+    let numbers = inner.1 in
+    let rest = outer.1 in
+    let both : little_bytes 4 k ++ i ≡ little_bytes 4 l ++ j = ap (λ b. b ++ i) numbers ∙ ap (λ r. little_bytes 4 l ++ r) rest in
+    (inner.0, (number_parts 4 k l i j k_fits l_fits both).0, rest)

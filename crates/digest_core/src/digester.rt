@@ -1,7 +1,9 @@
-ghost use Rattle.std.specs.Prelude.{◌≡◌, ◌<◌, ℕ, List, length, slice_index};
+ghost use Rattle.std.specs.Prelude.{◌≡◌, ◌<◌, ℕ, List, ◌∷◌, length, replicate, slice_index};
 ghost use Rattle.sha2.specs.Sha256.{sha256};
 ghost use Rattle.sha2.proofs.Facts256.{length-sha256};
 ghost use Rattle.digest_core.specs.Sha256Bytes.{byte-sha256};
+ghost use Rattle.digest_core.specs.Weak8.{weak8};
+ghost use Rattle.digest_core.specs.Weak8Bytes.{length-weak8, byte-weak8};
 
 use rd_base::Digest32;
 use sha2::Digest;
@@ -35,5 +37,32 @@ impl Digester for Sha256 {
 
     fn digest(&self, bytes: &[u8]) -> Digest32 {
         Digest32(sha2::Sha256::digest(bytes))
+    }
+}
+
+/// A digest of eight bits: the first byte of SHA-256, and 31 zeros. Two strings with one digest are soon found, which
+/// shows what a match does where that happens.
+#[derive(Clone, Copy, Debug)]
+pub struct Weak8;
+
+/// A byte, and 31 zeros.
+fn padded(first: u8) -> [u8; 32]
+    ensures { result ≡ first ∷ replicate 31 0 }
+{
+    let mut bytes = [0; 32];
+    bytes[0] = first;
+    bytes
+}
+
+impl Digester for Weak8 {
+    ghost digest_of = { weak8 };
+
+    ghost is_digest = { length-weak8 };
+
+    ghost is_bytes = { byte-weak8 };
+
+    #[tactic(auto, unfolding(crate::specs::Weak8::weak8))]
+    fn digest(&self, bytes: &[u8]) -> Digest32 {
+        Digest32(padded(Sha256.digest(bytes).0[0]))
     }
 }

@@ -1,26 +1,18 @@
 //! Laws of the definitions, each of them the contract of a function that does nothing.
 ghost use Rattle.std.specs.Prelude.{◌≡◌, ◌≢◌, ℕ, ◌^◌, ◌<◌, List, [], ◌∷◌, ◌++◌, length, replicate, slice_index};
 ghost use Rattle.rd_base.specs.declared.status.Status.{Status};
-ghost use Rattle.digest_core.specs.Text.{leaf_text, node_text, registers_text, control_text, status_code, state_text, link_text};
+ghost use Rattle.digest_core.specs.Text.{leaf_text, node_text, registers_text, control_text, status_code, state_text, link_text, noise_text, register_text, storage_text};
+ghost use Rattle.digest_core.specs.Kinds.{Kind, IsOfKind, size_of};
 ghost use Rattle.digest_core.specs.Chain.{chain_of};
 
-/// Strings of two kinds differ, since a string of each kind has a length that no other kind has.
-#[tactic(auto, using(crate::specs::TextLaws::length_registers_text, crate::specs::TextLaws::length_control_text))]
+/// A string of each kind has the length of that kind (`length`), and no string is of two kinds (`differ`).
 pub fn kinds_have_lengths()
-    ensures leaf { (chunk : List ℕ) → length chunk ≡ 32 → length (leaf_text chunk) ≡ 33 }
-    ensures node { (left right : List ℕ) → length left ≡ 32 → length right ≡ 32 → length (node_text left right) ≡ 65 }
-    ensures registers { (xs : List ℕ) → length xs ≡ 32 → length (registers_text xs) ≡ 129 }
-    ensures control { (pc : ℕ) (status : Status) (out_len : ℕ) (chain : List ℕ) → length chain ≡ 32 →
-        length (control_text pc status out_len chain) ≡ 50 }
-    ensures state { (memory registers control : List ℕ) →
-        length memory ≡ 32 → length registers ≡ 32 → length control ≡ 32 →
-        length (state_text memory registers control) ≡ 97 }
-    ensures link { (chain : List ℕ) (byte : ℕ) → length chain ≡ 32 → length (link_text chain byte) ≡ 34 }
-    ensures differ { (s t : List ℕ) → length s ≢ length t → s ≢ t }
+    ensures length { (k : Kind) (s : List ℕ) → IsOfKind k s → length s ≡ size_of k }
+    ensures differ { (k l : Kind) (s t : List ℕ) → k ≢ l → IsOfKind k s → IsOfKind l t → s ≢ t }
 {}
 
 /// Two strings of one kind with different parts differ, since a string determines its parts.
-#[tactic(auto, using(crate::specs::TextLaws::cons_parts, crate::specs::TextLaws::append_parts, crate::specs::TextLaws::registers_text_same, crate::specs::TextLaws::control_text_same, crate::specs::TextLaws::state_text_same))]
+#[tactic(auto, using(crate::specs::TextLaws::cons_parts, crate::specs::TextLaws::append_parts, crate::specs::TextLaws::registers_text_same, crate::specs::TextLaws::control_text_same, crate::specs::TextLaws::state_text_same, crate::specs::TextLaws::noise_text_same, crate::specs::TextLaws::register_text_same, crate::specs::TextLaws::storage_text_same))]
 pub fn texts_determine_their_parts()
     ensures leaf { (c d : List ℕ) → leaf_text c ≡ leaf_text d → c ≡ d }
     ensures node { (l r m s : List ℕ) → length l ≡ length m → node_text l r ≡ node_text m s → (l ≡ m) × (r ≡ s) }
@@ -33,6 +25,11 @@ pub fn texts_determine_their_parts()
     ensures state { (m r c n s d : List ℕ) → length m ≡ length n → length r ≡ length s →
         state_text m r c ≡ state_text n s d → (m ≡ n) × (r ≡ s) × (c ≡ d) }
     ensures link { (c d : List ℕ) (b e : ℕ) → link_text c b ≡ link_text d e → (c ≡ d) × (b ≡ e) }
+    ensures noise { (p q m n r s : ℕ) → p < 2 ^ 32 → q < 2 ^ 32 → m < 2 ^ 32 → n < 2 ^ 32 → r < 2 ^ 32 → s < 2 ^ 32 →
+        noise_text p m r ≡ noise_text q n s → (p ≡ q) × (m ≡ n) × (r ≡ s) }
+    ensures register { (v w : ℕ) → v < 2 ^ 32 → w < 2 ^ 32 → register_text v ≡ register_text w → v ≡ w }
+    ensures storage { (m n i j : List ℕ) (k l : ℕ) → length m ≡ length n → k < 2 ^ 32 → l < 2 ^ 32 →
+        storage_text m k i ≡ storage_text n l j → (m ≡ n) × (k ≡ l) × (i ≡ j) }
 {}
 
 /// The chain is 32 zero bytes for no output, else the digest of the link string of the chain before and the last byte.

@@ -3,12 +3,12 @@
 //! A `Digester` is a digest function that its type alone names: whatever value of the type is asked, the digest is
 //! `digest_of` the bytes. Every definition above this crate takes that function as its argument, and no clause
 //! anywhere assumes that a digest is hard to find or to repeat. `Sha256` is the one of FIPS 180-4, by the definition of
-//! `sha2`.
+//! `sha2`; `Weak8` is its first byte alone, for matches in which two strings have one digest.
 //!
 //! The layers above may rely on this: each kind of string has one definition in `specs/Text.antt` and one function
-//! here that makes it, without memory; strings of two kinds have two lengths, and a string determines its parts
-//! (`laws`), which are in the ranges of their types (`ranges`). The chain of an output is defined in `specs/Chain.antt`, and `link` adds a byte to it. Read those two
-//! definitions first, then `digester`, then `text`.
+//! here that makes it, without memory; each kind has its length, no string is of two kinds (`specs/Kinds.antt`), and a string
+//! determines its parts (`laws`), which are in the ranges of their types (`ranges`). The chain of an output is defined in
+//! `specs/Chain.antt`, and `link` adds a byte to it. Read those two definitions first, then `digester`, then `text`.
 #![tactic(auto)]
 
 mod chain;
@@ -18,7 +18,10 @@ mod ranges;
 mod text;
 
 pub use chain::link;
-pub use digester::{Digester, Sha256};
+pub use digester::{Digester, Sha256, Weak8};
 pub use laws::{chain_grows, kinds_have_lengths, texts_determine_their_parts};
 pub use ranges::{codes_fit, digests_are_32_bytes};
-pub use text::{control_text, leaf_text, link_text, node_text, registers_text, state_text};
+pub use text::{
+    control_text, leaf_text, link_text, node_text, noise_text, register_text, registers_text,
+    state_text, storage_text,
+};

@@ -18,6 +18,12 @@ const STATE: u8 = 4;
 
 const LINK: u8 = 5;
 
+const NOISE: u8 = 6;
+
+const REGISTER: u8 = 7;
+
+const STORAGE: u8 = 8;
+
 /// Appends a number of 32 bits, the least byte first.
 fn append_u32(string: &mut OpenText, number: u32)
     requires { length string.old + 4 ≤ 129 }
@@ -121,5 +127,39 @@ pub fn link_text(chain: &Digest32, byte: u8) -> OpenText
     string.push(LINK);
     string.extend(&chain.0);
     string.push(byte);
+    string
+}
+
+/// The string of noise, from a seed and the dispute and the round of a question: 13 bytes.
+pub fn noise_text(seed: u32, dispute: u32, round: u32) -> OpenText
+    ensures { result ≡ text.noise_text seed dispute round }
+{
+    let mut string = OpenText::new();
+    string.push(NOISE);
+    append_u32(&mut string, seed);
+    append_u32(&mut string, dispute);
+    append_u32(&mut string, round);
+    string
+}
+
+/// The string of a leaf of the register tree, from what the register holds: 5 bytes.
+pub fn register_text(value: u32) -> OpenText
+    ensures { result ≡ text.register_text value }
+{
+    let mut string = OpenText::new();
+    string.push(REGISTER);
+    append_u32(&mut string, value);
+    string
+}
+
+/// The string of a state's storage, from the root of its memory, the length of its input and the root of its input: 69 bytes.
+pub fn storage_text(memory: &Digest32, input_len: u32, input: &Digest32) -> OpenText
+    ensures { result ≡ text.storage_text memory.now.0 input_len input.now.0 }
+{
+    let mut string = OpenText::new();
+    string.push(STORAGE);
+    string.extend(&memory.0);
+    append_u32(&mut string, input_len);
+    string.extend(&input.0);
     string
 }
