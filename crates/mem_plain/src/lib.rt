@@ -4,13 +4,16 @@
 //! `PlainMem::is_memory` and `memories_are_their_bytes` state that two memories with the same bytes are one value. `store`
 //! and `lay` change their own bytes alone, which `laying_bytes` states byte by byte, and `numbers_lie_in_chunks` for the
 //! chunks of 32 bytes. A memory is taken apart and put together by pages of 4,096 bytes with `next_page`, `page` and
-//! `put_page`. Inside, only those pages are kept that something was stored to: an access looks one page up, and
-//! `next_page` goes over these pages alone. Read `specs/Contents.antt` first, and then `memory` and `laws`.
+//! `put_page`. Inside, only those pages are kept that something was stored to: an access finds its page by two array
+//! accesses (`directory`), and `next_page` goes over the tables of these pages alone. Read `specs/Contents.antt` first, and
+//! then `memory` and `laws`.
 #![tactic(auto)]
 
+mod directory;
 mod laws;
 mod memory;
 mod page;
+mod table;
 
 pub use laws::{
     contents_of_a_function, laying_bytes, memories_are_their_bytes, numbers_lie_in_chunks,

@@ -1,12 +1,12 @@
-ghost use Rattle.std.specs.Prelude.{◌≡◌, ◌⊎◌, ℕ, ◌+◌, ◌*◌, ◌/◌, ◌%◌, ◌^◌, ◌<◌, ◌≤◌, length, slice_index, if◌then◌else◌, ◌==◌, IfOk, IfSome, OnOk, OnErr};
-ghost use Rattle.mem_plain.specs.Pages.{contents_of};
+ghost use Rattle.std.specs.Prelude.{◌≡◌, ◌⊎◌, ℕ, ◌+◌, ◌*◌, ◌/◌, ◌%◌, ◌^◌, ◌<◌, ◌≤◌, length, slice_index, if◌then◌else◌, ◌==◌, IfOk, IfSome, IsTrue, ◌↔◌, OnOk, OnErr};
+ghost use Rattle.mem_plain.specs.Pages.{contents_of, page_in};
 ghost use Rattle.mem_plain.specs.Memory.{IsMemory};
 ghost use Rattle.mem_plain.specs.Contents.{no_bytes, byte_at, number_at, with_number, laid, chunk_at, IsUsed, IsNextUsed};
 
+use crate::directory::{Directory, TABLE_PAGES};
 use crate::page::{PAGE_BYTES, Page};
 use rd_base::Memory;
 use std::alloc::Global;
-use std::collections::BTreeMap;
 use std::marker::Model;
 
 /// How many bytes a chunk has.
@@ -18,7 +18,7 @@ const PAGES: u32 = 1_048_576;
 /// Memory of 2^32 bytes, of which contracts see those that aren't 0.
 #[derive(Drop)]
 pub struct PlainMem {
-    pages: BTreeMap<u32, Page>,
+    pages: Directory,
     alloc: Global,
 }
 
@@ -29,9 +29,9 @@ impl Model for PlainMem {
 
     ghost coded = { contents_code };
 
-    ghost use Rattle.mem_plain.specs.Pages.{contents_of};
+    ghost use Rattle.mem_plain.specs.Pages.{contents_of, page_in};
 
-    ghost view = { λ m. contents_of m.pages.entries };
+    ghost view = { λ m. contents_of (page_in m.pages.tables.items) };
 }
 
 impl PlainMem {
@@ -40,7 +40,7 @@ impl PlainMem {
         ensures { result ≡ no_bytes }
     {
         PlainMem {
-            pages: BTreeMap::new(alloc),
+            pages: Directory::new(alloc),
             alloc,
         }
     }
@@ -49,8 +49,20 @@ impl PlainMem {
     pub fn byte(&self, addr: u32) -> u8
         ensures { result ≡ byte_at self.now addr }
     {
-        match self.pages.get(&(addr / PAGE_BYTES)) {
+        match self.pages.page(addr / PAGE_BYTES) {
             Some(page) => page.byte((addr % PAGE_BYTES) as usize),
+            None => 0,
+        }
+    }
+
+    /// The number of two bytes at an address, the least byte first (RV32I, section 2.6). The address is a multiple
+    /// of 2.
+    pub fn half(&self, addr: u32) -> u32
+        requires { addr % 2 ≡ 0 }
+        ensures { result ≡ number_at self.now addr 2 }
+    {
+        match self.pages.page(addr / PAGE_BYTES) {
+            Some(page) => page.half((addr % PAGE_BYTES) as usize),
             None => 0,
         }
     }
@@ -61,7 +73,7 @@ impl PlainMem {
         requires { addr % 4 ≡ 0 }
         ensures { result ≡ number_at self.now addr 4 }
     {
-        match self.pages.get(&(addr / PAGE_BYTES)) {
+        match self.pages.page(addr / PAGE_BYTES) {
             Some(page) => page.word((addr % PAGE_BYTES) as usize),
             None => 0,
         }
@@ -73,7 +85,7 @@ impl PlainMem {
         ensures { result ≡ chunk_at self.now index }
     {
         let addr = CHUNK_BYTES * index;
-        match self.pages.get(&(addr / PAGE_BYTES)) {
+        match self.pages.page(addr / PAGE_BYTES) {
             Some(page) => page.chunk((addr % PAGE_BYTES) as usize),
             None => [0; 32],
         }
@@ -93,7 +105,7 @@ impl PlainMem {
         ensures { IfOk result (λ m. m ≡ self.now) }
     {
         Ok(PlainMem {
-            pages: self.pages.clone()?,
+            pages: self.pages.copy()?,
             alloc: self.alloc,
         })
     }
@@ -103,7 +115,7 @@ impl PlainMem {
         requires { number < 2 ^ 20 }
         ensures { IfOk result (λ page. (at : ℕ) → at < 4096 → slice_index page.bytes.items at ≡ byte_at self.now (number * 4096 + at)) }
     {
-        match self.pages.get(&number) {
+        match self.pages.page(number) {
             Some(page) => Ok(page.clone()?),
             None => Page::zeros(self.alloc),
         }
@@ -116,8 +128,7 @@ impl PlainMem {
         ensures put { OnOk result ((q : ℕ) → byte_at self.new q ≡ (if q / 4096 == number then slice_index page.bytes.items (q % 4096) else byte_at self.old q)) }
         ensures err { OnErr result (self.new ≡ self.old) }
     {
-        self.pages.insert(number, page)?;
-        Ok(())
+        self.pages.put(self.alloc, number, page)
     }
 
     /// States that the contents are those of a memory, so that its bytes determine them. It computes nothing.
@@ -138,18 +149,12 @@ impl PlainMem {
         ensures unused { OnErr result (¬ (IsUsed self.old (addr / 4096))) }
     {
         let at = (addr % PAGE_BYTES) as usize;
-        match self.pages.get_mut(&(addr / PAGE_BYTES)) {
-            Some(page) => {
-                page.write(at, width, value);
-                Ok(())
-            }
-            None => {
-                let mut page = Page::zeros(self.alloc)?;
-                page.write(at, width, value);
-                self.pages.insert(addr / PAGE_BYTES, page)?;
-                Ok(())
-            }
+        if self.pages.write(addr / PAGE_BYTES, at, width, value) {
+            return Ok(());
         }
+        let mut page = Page::zeros(self.alloc)?;
+        page.write(at, width, value);
+        self.pages.put(self.alloc, addr / PAGE_BYTES, page)
     }
 
     /// Lays bytes over what is there, from an address on. They don't reach beyond the end of the addresses. An
@@ -159,23 +164,53 @@ impl PlainMem {
         ensures { IfOk result (λ m. m ≡ laid self addr bytes.now) }
     {
         let mut mem = self;
-        'bytes: for (i, byte) in bytes.iter().enumerate() {
-            mem.store(addr + i as u32, 1, u32::from(*byte))?;
+        let mut done = 0;
+        'pieces: while done < bytes.len() {
+            let from = addr + done as u32;
+            let room = (PAGE_BYTES - from % PAGE_BYTES) as usize;
+            let count = room.min(bytes.len() - done);
+            mem.lay_piece(from, &bytes[done..done + count])?;
+            done += count;
         }
         Ok(mem)
     }
+
+    /// Lays bytes that lie in one page. An `Err` is out of memory.
+    fn lay_piece(&mut self, addr: u32, piece: &[u8]) -> Result<(), Memory>
+        requires { addr % 4096 + length piece.now ≤ 4096 }
+        ensures { OnOk result (self.new ≡ laid self.old addr piece.now) }
+    {
+        let number = addr / PAGE_BYTES;
+        let mut page = self.page(number)?;
+        page.lay((addr % PAGE_BYTES) as usize, piece);
+        self.pages.put(self.alloc, number, page)
+    }
 }
 
-fn next_used(pages: &BTreeMap<u32, Page>, from: u32) -> Option<u32>
-    ensures next { IsNextUsed (contents_of pages.now.entries) from result }
+/// Whether a page is kept that has a byte other than 0.
+fn is_used(pages: &Directory, number: u32) -> bool
+    requires { number < 2 ^ 20 }
+    ensures { IsTrue result ↔ IsUsed (contents_of (page_in pages.now.tables.items)) number }
+{
+    match pages.page(number) {
+        Some(page) => page.is_used(),
+        None => false,
+    }
+}
+
+fn next_used(pages: &Directory, from: u32) -> Option<u32>
+    ensures next { IsNextUsed (contents_of (page_in pages.now.tables.items)) from result }
     ensures below { IfSome result (λ page. page < 2 ^ 20) }
 {
-    if from >= PAGES {
-        return None;
-    }
-    'pages: for (number, page) in pages.range(from..PAGES) {
-        if page.is_used() {
-            return Some(*number);
+    let mut number = from;
+    'pages: while number < PAGES {
+        if !pages.has_table(number) {
+            number = (number / TABLE_PAGES + 1) * TABLE_PAGES;
+        } else {
+            if is_used(pages, number) {
+                return Some(number);
+            }
+            number += 1;
         }
     }
     None
