@@ -147,3 +147,18 @@ fn a_memory_is_put_together_again_by_its_pages(rt: HostRuntime) -> Result<(), Fa
     assert_eq!(rt; copied.next_page(2), None);
     Ok(())
 }
+
+#[test]
+fn bytes_are_laid_over_the_ends_of_pages_and_tables(rt: HostRuntime) -> Result<(), Fail> {
+    let under = PlainMem::new(rt.alloc()).lay(0x3f_fffd, &[9; 8])?;
+    let mem = under.lay(0x3f_fffe, &[1, 2, 3, 4])?;
+    assert_eq!(rt; mem.word(0x3f_fffc), 0x0201_0900);
+    assert_eq!(rt; mem.half(0x40_0000), 0x0403);
+    assert_eq!(rt; mem.word(0x40_0000), 0x0909_0403);
+    assert_eq!(rt; mem.byte(0x40_0004), 9);
+    assert_eq!(rt; mem.byte(0x40_0005), 0);
+    assert_eq!(rt; mem.next_page(0), Some(0x3ff));
+    assert_eq!(rt; mem.next_page(0x400), Some(0x400));
+    assert_eq!(rt; mem.next_page(0x401), None);
+    Ok(())
+}

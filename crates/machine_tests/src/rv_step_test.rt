@@ -5,7 +5,7 @@ use digest_core::Sha256;
 use mem_plain::PlainMem;
 use rd_base::{Memory, Regs, Status};
 use rv_decode::decode;
-use rv_step::{INPUT_BASE, Machine, Outcome, advance, finish, touches};
+use rv_step::{INPUT_BASE, Machine, Outcome, advance, finish, step, touches};
 use std::alloc::Global;
 use std::test::Fail;
 
@@ -489,14 +489,96 @@ fn loads_extend_what_they_read(rt: HostRuntime) {
     }
 }
 
-/// A machine at the start of an image of few bytes, which lies at 0x10000, with few bytes of input.
-fn machine_of(alloc: Global, image: &[u8], input: &[u8]) -> Result<Machine, Memory>
+/// A machine of a version at the start of an image of few bytes, which lies at 0x10000, with few bytes of input.
+fn machine_in(alloc: Global, version: u8, image: &[u8], input: &[u8]) -> Result<Machine, Memory>
+    requires version { (1 ≤ version) × (version ≤ 3) }
     requires image { length image.now ≤ 64 }
     requires input { length input.now ≤ 64 }
     ensures { IfOk result (λ m. (digest : List ℕ → List ℕ) → IsChained digest m) }
 {
     let mem = PlainMem::new(alloc).lay(0x1_0000, image)?;
-    Machine::new(alloc, mem, 0x1_0000, input)
+    Machine::new(alloc, version, mem, 0x1_0000, input)
+}
+
+/// The same of version 1.
+fn machine_of(alloc: Global, image: &[u8], input: &[u8]) -> Result<Machine, Memory>
+    requires image { length image.now ≤ 64 }
+    requires input { length input.now ≤ 64 }
+    ensures { IfOk result (λ m. (digest : List ℕ → List ℕ) → IsChained digest m) }
+{
+    machine_in(alloc, 1, image, input)
+}
+
+#[test]
+fn version_3_offers_the_input_to_a_call(rt: HostRuntime) -> Result<(), Fail> {
+    // The number of a byte as the immediate of addi x10, x0; the version; x10, the status and pc after the call.
+    let rows: [(u8, u8, u32, Status, u32); 5] = [
+        (0, 3, 0x07, Status::Running, 0x1_000c),
+        (1, 3, 0xfe, Status::Running, 0x1_000c),
+        (2, 3, 0xffff_ffff, Status::Running, 0x1_000c),
+        (0, 1, 0, Status::Trapped(8), 0x1_0008),
+        (1, 2, 1, Status::Trapped(8), 0x1_0008),
+    ];
+    for (k, version, wanted, status, pc) in rows {
+        // addi x10, x0, k; addi x17, x0, 2; ecall
+        let image = [
+            0x13,
+            0x05,
+            k * 16,
+            0x00,
+            0x93,
+            0x08,
+            0x20,
+            0x00,
+            0x73,
+            0x00,
+            0x00,
+            0x00,
+        ];
+        let mut machine = machine_in(rt.alloc(), version, &image, &[0x07, 0xfe])?;
+        let laid = if version == 3 { 0 } else { 2 };
+        assert_eq!(rt; machine.mem.word(INPUT_BASE), laid);
+        advance(&mut machine, &Sha256, 3)?;
+        assert_eq!(rt; machine.regs.get(10), wanted);
+        assert_eq!(rt; machine.ctl.status, status);
+        assert_eq!(rt; machine.ctl.pc, pc);
+    }
+    Ok(())
+}
+
+#[test]
+fn a_step_tells_the_page_that_touches_names(rt: HostRuntime) -> Result<(), Fail> {
+    let rows: [([u8; 4], Option<u32>); 4] = [
+        // sw x0, 4(x0)
+        ([0x23, 0x22, 0x00, 0x00], Some(0)),
+        // sb x0, -1(x0)
+        ([0xa3, 0x0f, 0x00, 0xfe], Some(0xf_ffff)),
+        // sw x0, 2(x0), which traps
+        ([0x23, 0x21, 0x00, 0x00], None),
+        // lw x3, 0(x1)
+        ([0x83, 0xa1, 0x00, 0x00], None),
+    ];
+    for (image, page) in rows {
+        let mut machine = machine_of(rt.alloc(), &image, &[])?;
+        assert_eq!(rt; touches(&machine), page);
+        assert_eq!(rt; step(&mut machine, &Sha256)?, page);
+    }
+    Ok(())
+}
+
+#[test]
+fn a_copied_machine_goes_its_own_way(rt: HostRuntime) -> Result<(), Fail> {
+    // addi x10, x0, 42
+    let mut machine = machine_of(rt.alloc(), &[0x13, 0x05, 0xa0, 0x02], &[])?;
+    let copied = machine.copy()?;
+    machine.mem.store(0x2000, 1, 1)?;
+    advance(&mut machine, &Sha256, 1)?;
+    assert_eq!(rt; machine.regs.get(10), 42);
+    assert_eq!(rt; copied.regs.get(10), 0);
+    assert_eq!(rt; copied.ctl.pc, 0x1_0000);
+    assert_eq!(rt; copied.mem.byte(0x2000), 0);
+    assert_eq!(rt; copied.mem.word(0x1_0000), 0x02a0_0513);
+    Ok(())
 }
 
 #[test]

@@ -1,5 +1,5 @@
 -- A step keeps valid states: what instructions compute from words are words.
-use Rattle.std.proofs.Common.{◌≡◌, ℕ, zero, suc, ◌+◌, ◌-◌, ◌*◌, ◌/◌, ◌%◌, ◌^◌, ◌<◌, ◌≤◌, ℤ, pos, negsuc, neg_ℤ, ◌*ℤ◌, ◌≤ℤ◌, List, [], ◌∷◌, ◌++◌, length, set, slice_index, eqb, cond, Bool, true, false, sym, ap, ◌∙◌, ⊎_elim, arith, get_or-set_same, get_or-set_other}
+use Rattle.std.proofs.Common.{◌≡◌, ℕ, zero, suc, ◌+◌, ◌-◌, ◌*◌, ◌/◌, ◌%◌, ◌^◌, ◌<◌, ◌≤◌, ℤ, pos, negsuc, neg_ℤ, ◌*ℤ◌, ◌≤ℤ◌, List, [], ◌∷◌, ◌++◌, Option, Some, None, length, set, slice_index, eqb, cond, Bool, true, false, sym, ap, ◌∙◌, ⊎_elim, arith, get_or-set_same, get_or-set_other}
 use Rattle.std.specs.Prelude.{unsigned_abs, int_div, int_rem, bit_and}
 use Rattle.std.proofs.Math.ListN.{length-set}
 use Rattle.std.proofs.Math.Nat.{div-le_self, mod-le, mul-le-mul}
@@ -19,10 +19,11 @@ use Rattle.rv_decode.specs.declared.instr.Instr.TheVariants.{Lui, Auipc, Jal, Ja
 use Rattle.mem_plain.specs.Contents.{Contents, number_at, with_number}
 use Rattle.mem_plain.specs.Memory.{IsMemory}
 use Rattle.rv_step.specs.Arithmetic.{signed, word, plus, flag, rounded_down, is_equal, is_different, is_less_signed, is_at_least_signed, is_less_unsigned, is_at_least_unsigned, by_low_five, shifted_left, shifted_right, shifted_right_signed, zero_extended, sign_extended, minus, product_high, product_high_signed_unsigned, product_high_unsigned, quotient, quotient_unsigned, remainder, remainder_unsigned, overflows}
-use Rattle.rv_step.specs.Effect.{effect, jumps, branches, loads, stores, calls, at_offset, x}
+use Rattle.rv_step.specs.Effect.{effect_with, jumps, branches, loads, stores, gives, calls, at_offset, x}
+use Rattle.rv_step.specs.Offer.{byte_or_ones, offered}
 use Rattle.rv_step.specs.State.{State}
 use Rattle.rv_step.specs.Parts.{IsAccess}
-use Rattle.rv_step.specs.Step.{step, regs_after, pc_after, memory_after, status_after, output_after, after_effect, following}
+use Rattle.rv_step.specs.Step.{step, effect_at, regs_after, pc_after, memory_after, status_after, output_after, after_effect, following}
 use Rattle.rv_step.specs.Valid.{IsRegisterFile, HasWordCode, IsValid}
 use Rattle.rv_step.specs.declared.effect.Effect.{Effect}
 use Rattle.rv_step.specs.declared.effect.Effect.TheVariants.{Write, Jump, Branch, Next, Store, Put, Exit, Trap}
@@ -175,9 +176,19 @@ loads_fit xs read width i extended words =
     let addr = at_offset (x xs i.rs1) i.imm in
     either_fits (eqb (addr % width) 0) (Write i.rd (extended (read addr width))) (Trap 4) (words (read addr width)) (omega arith)
 
-calls_fit : (number argument : ℕ) → IsWord argument → Fits (calls number argument)
-calls_fit number argument small =
-    either_fits (eqb number 93) (Exit argument) _ small (either_fits (eqb number 1) (Put (argument % 256)) (Trap 8) (omega arith) (omega arith))
+-- what is offered are words
+abbrev pub OffersWords : Option (ℕ → ℕ) → Type 0
+OffersWords (Some byte) = (k : ℕ) → IsWord (byte k)
+OffersWords None = Unit {0}
+
+gives_fit : (offer : Option (ℕ → ℕ)) (argument : ℕ) → OffersWords offer → Fits (gives offer argument)
+gives_fit (Some byte) argument words = words argument
+gives_fit None argument words = omega arith
+
+calls_fit : (offer : Option (ℕ → ℕ)) (number argument : ℕ) → OffersWords offer → IsWord argument → Fits (calls offer number argument)
+calls_fit offer number argument words small =
+    either_fits (eqb number 93) (Exit argument) _ small (either_fits (eqb number 1) (Put (argument % 256)) _ (omega arith)
+    (either_fits (eqb number 2) (gives offer argument) (Trap 8) (gives_fit offer argument words) (omega arith)))
 
 -- a store or a trap fits where the store is an access
 stored_fits : (xs : List ℕ) (width : ℕ) (s : SType) → StoresAligned (stores xs width s) → Fits (stores xs width s)
@@ -195,56 +206,56 @@ module _ (xs : List ℕ) (words : (r : ℕ) → slice_index xs r < 2 ^ 32) where
   of_shift : (i : ShiftType) → IsWord (word i.imm)
   of_shift i = word_of_most i.imm 31 i.imm_to (omega arith)
 
-  pub effect_fits : (pc : ℕ) (read : ℕ → ℕ → ℕ) (i : Instr) → StoresAligned (effect xs pc read i) → Fits (effect xs pc read i)
-  unfolding effect
-  effect_fits pc read (Lui u) access = word_of_most u.imm 2147479552 u.imm_to (omega arith)
-  effect_fits pc read (Auipc u) access = low_word _
-  effect_fits pc read (Jal j) access = jumps_fit j.rd _ (low_word _)
-  effect_fits pc read (Jalr i) access = jumps_fit i.rd _ (omega arith)
-  effect_fits pc read (Beq b) access = branches_fit xs pc b is_equal
-  effect_fits pc read (Bne b) access = branches_fit xs pc b is_different
-  effect_fits pc read (Blt b) access = branches_fit xs pc b is_less_signed
-  effect_fits pc read (Bge b) access = branches_fit xs pc b is_at_least_signed
-  effect_fits pc read (Bltu b) access = branches_fit xs pc b is_less_unsigned
-  effect_fits pc read (Bgeu b) access = branches_fit xs pc b is_at_least_unsigned
-  effect_fits pc read (Lb i) access = loads_fit xs read 1 i (sign_extended 1) sign_extended_byte
-  effect_fits pc read (Lh i) access = loads_fit xs read 2 i (sign_extended 2) sign_extended_half
-  effect_fits pc read (Lw i) access = loads_fit xs read 4 i (zero_extended 4) (λ n. low_word n)
-  effect_fits pc read (Lbu i) access = loads_fit xs read 1 i (zero_extended 1) (λ n. omega arith)
-  effect_fits pc read (Lhu i) access = loads_fit xs read 2 i (zero_extended 2) (λ n. omega arith)
-  effect_fits pc read (Sb s) access = stored_fits xs 1 s access
-  effect_fits pc read (Sh s) access = stored_fits xs 2 s access
-  effect_fits pc read (Sw s) access = stored_fits xs 4 s access
-  effect_fits pc read (Addi i) access = plus_word _ _ (words i.rs1) (of_imm i)
-  effect_fits pc read (Slti i) access = flag_word (is_less_signed (x xs i.rs1) (word i.imm))
-  effect_fits pc read (Sltiu i) access = flag_word (is_less_unsigned (x xs i.rs1) (word i.imm))
-  effect_fits pc read (Xori i) access = xor_of_32 _ _ (words i.rs1) (of_imm i)
-  effect_fits pc read (Ori i) access = or_of_32 _ _ (words i.rs1) (of_imm i)
-  effect_fits pc read (Andi i) access = and_word _ _ (words i.rs1) (of_imm i)
-  effect_fits pc read (Slli i) access = shifted_left_word _ _ (words i.rs1) (of_shift i)
-  effect_fits pc read (Srli i) access = shifted_right_word _ _ (words i.rs1) (of_shift i)
-  effect_fits pc read (Srai i) access = shifted_right_signed_word _ _ (words i.rs1) (of_shift i)
-  effect_fits pc read (Add r) access = plus_word _ _ (words r.rs1) (words r.rs2)
-  effect_fits pc read (Sub r) access = minus_word _ _ (words r.rs1) (words r.rs2)
-  effect_fits pc read (Sll r) access = by_low_five_word shifted_left shifted_left_word _ _ (words r.rs1) (words r.rs2)
-  effect_fits pc read (Slt r) access = flag_word (is_less_signed (x xs r.rs1) (x xs r.rs2))
-  effect_fits pc read (Sltu r) access = flag_word (is_less_unsigned (x xs r.rs1) (x xs r.rs2))
-  effect_fits pc read (Xor r) access = xor_of_32 _ _ (words r.rs1) (words r.rs2)
-  effect_fits pc read (Srl r) access = by_low_five_word shifted_right shifted_right_word _ _ (words r.rs1) (words r.rs2)
-  effect_fits pc read (Sra r) access = by_low_five_word shifted_right_signed shifted_right_signed_word _ _ (words r.rs1) (words r.rs2)
-  effect_fits pc read (Or r) access = or_of_32 _ _ (words r.rs1) (words r.rs2)
-  effect_fits pc read (And r) access = and_word _ _ (words r.rs1) (words r.rs2)
-  effect_fits pc read (Mul r) access = low_word _
-  effect_fits pc read (Mulh r) access = product_high_word _ _ (words r.rs1) (words r.rs2)
-  effect_fits pc read (Mulhsu r) access = product_high_signed_unsigned_word _ _ (words r.rs1) (words r.rs2)
-  effect_fits pc read (Mulhu r) access = product_high_unsigned_word _ _ (words r.rs1) (words r.rs2)
-  effect_fits pc read (Div r) access = quotient_word _ _ (words r.rs1) (words r.rs2)
-  effect_fits pc read (Divu r) access = quotient_unsigned_word _ _ (words r.rs1) (words r.rs2)
-  effect_fits pc read (Rem r) access = remainder_word _ _ (words r.rs1) (words r.rs2)
-  effect_fits pc read (Remu r) access = remainder_unsigned_word _ _ (words r.rs1) (words r.rs2)
-  effect_fits pc read (Fence f) access = tt
-  effect_fits pc read Ecall access = calls_fit (x xs 17) (x xs 10) (words 10)
-  effect_fits pc read Ebreak access = omega arith
+  pub effect_fits : (offer : Option (ℕ → ℕ)) → OffersWords offer → (pc : ℕ) (read : ℕ → ℕ → ℕ) (i : Instr) → StoresAligned (effect_with offer xs pc read i) → Fits (effect_with offer xs pc read i)
+  unfolding effect_with
+  effect_fits offer given pc read (Lui u) access = word_of_most u.imm 2147479552 u.imm_to (omega arith)
+  effect_fits offer given pc read (Auipc u) access = low_word _
+  effect_fits offer given pc read (Jal j) access = jumps_fit j.rd _ (low_word _)
+  effect_fits offer given pc read (Jalr i) access = jumps_fit i.rd _ (omega arith)
+  effect_fits offer given pc read (Beq b) access = branches_fit xs pc b is_equal
+  effect_fits offer given pc read (Bne b) access = branches_fit xs pc b is_different
+  effect_fits offer given pc read (Blt b) access = branches_fit xs pc b is_less_signed
+  effect_fits offer given pc read (Bge b) access = branches_fit xs pc b is_at_least_signed
+  effect_fits offer given pc read (Bltu b) access = branches_fit xs pc b is_less_unsigned
+  effect_fits offer given pc read (Bgeu b) access = branches_fit xs pc b is_at_least_unsigned
+  effect_fits offer given pc read (Lb i) access = loads_fit xs read 1 i (sign_extended 1) sign_extended_byte
+  effect_fits offer given pc read (Lh i) access = loads_fit xs read 2 i (sign_extended 2) sign_extended_half
+  effect_fits offer given pc read (Lw i) access = loads_fit xs read 4 i (zero_extended 4) (λ n. low_word n)
+  effect_fits offer given pc read (Lbu i) access = loads_fit xs read 1 i (zero_extended 1) (λ n. omega arith)
+  effect_fits offer given pc read (Lhu i) access = loads_fit xs read 2 i (zero_extended 2) (λ n. omega arith)
+  effect_fits offer given pc read (Sb s) access = stored_fits xs 1 s access
+  effect_fits offer given pc read (Sh s) access = stored_fits xs 2 s access
+  effect_fits offer given pc read (Sw s) access = stored_fits xs 4 s access
+  effect_fits offer given pc read (Addi i) access = plus_word _ _ (words i.rs1) (of_imm i)
+  effect_fits offer given pc read (Slti i) access = flag_word (is_less_signed (x xs i.rs1) (word i.imm))
+  effect_fits offer given pc read (Sltiu i) access = flag_word (is_less_unsigned (x xs i.rs1) (word i.imm))
+  effect_fits offer given pc read (Xori i) access = xor_of_32 _ _ (words i.rs1) (of_imm i)
+  effect_fits offer given pc read (Ori i) access = or_of_32 _ _ (words i.rs1) (of_imm i)
+  effect_fits offer given pc read (Andi i) access = and_word _ _ (words i.rs1) (of_imm i)
+  effect_fits offer given pc read (Slli i) access = shifted_left_word _ _ (words i.rs1) (of_shift i)
+  effect_fits offer given pc read (Srli i) access = shifted_right_word _ _ (words i.rs1) (of_shift i)
+  effect_fits offer given pc read (Srai i) access = shifted_right_signed_word _ _ (words i.rs1) (of_shift i)
+  effect_fits offer given pc read (Add r) access = plus_word _ _ (words r.rs1) (words r.rs2)
+  effect_fits offer given pc read (Sub r) access = minus_word _ _ (words r.rs1) (words r.rs2)
+  effect_fits offer given pc read (Sll r) access = by_low_five_word shifted_left shifted_left_word _ _ (words r.rs1) (words r.rs2)
+  effect_fits offer given pc read (Slt r) access = flag_word (is_less_signed (x xs r.rs1) (x xs r.rs2))
+  effect_fits offer given pc read (Sltu r) access = flag_word (is_less_unsigned (x xs r.rs1) (x xs r.rs2))
+  effect_fits offer given pc read (Xor r) access = xor_of_32 _ _ (words r.rs1) (words r.rs2)
+  effect_fits offer given pc read (Srl r) access = by_low_five_word shifted_right shifted_right_word _ _ (words r.rs1) (words r.rs2)
+  effect_fits offer given pc read (Sra r) access = by_low_five_word shifted_right_signed shifted_right_signed_word _ _ (words r.rs1) (words r.rs2)
+  effect_fits offer given pc read (Or r) access = or_of_32 _ _ (words r.rs1) (words r.rs2)
+  effect_fits offer given pc read (And r) access = and_word _ _ (words r.rs1) (words r.rs2)
+  effect_fits offer given pc read (Mul r) access = low_word _
+  effect_fits offer given pc read (Mulh r) access = product_high_word _ _ (words r.rs1) (words r.rs2)
+  effect_fits offer given pc read (Mulhsu r) access = product_high_signed_unsigned_word _ _ (words r.rs1) (words r.rs2)
+  effect_fits offer given pc read (Mulhu r) access = product_high_unsigned_word _ _ (words r.rs1) (words r.rs2)
+  effect_fits offer given pc read (Div r) access = quotient_word _ _ (words r.rs1) (words r.rs2)
+  effect_fits offer given pc read (Divu r) access = quotient_unsigned_word _ _ (words r.rs1) (words r.rs2)
+  effect_fits offer given pc read (Rem r) access = remainder_word _ _ (words r.rs1) (words r.rs2)
+  effect_fits offer given pc read (Remu r) access = remainder_unsigned_word _ _ (words r.rs1) (words r.rs2)
+  effect_fits offer given pc read (Fence f) access = tt
+  effect_fits offer given pc read Ecall access = calls_fit offer (x xs 17) (x xs 10) given (words 10)
+  effect_fits offer given pc read Ebreak access = omega arith
 
 -- a register file stays one
 written_word : (xs : List ℕ) (r value k : ℕ) → ((k : ℕ) → IsWord (slice_index xs k)) → IsWord value → IsWord (slice_index (set xs r value) k)
@@ -317,12 +328,25 @@ after_valid stays s e valid fits = record {
   memory = memory_valid stays s.memory e valid.memory fits;
   status = status_valid s.status e valid.status fits;
   output = output_valid s.output e valid.output fits;
+  version = valid.version;
+  input = valid.input;
+  short = valid.short;
 }
+
+-- the bytes of an input, and all ones behind them, are words
+input_words : (input : List ℕ) → ((k : ℕ) → slice_index input k < 256) → (k : ℕ) → IsWord (byte_or_ones input k)
+input_words [] bytes k = omega arith
+input_words (b ∷ input) bytes zero = omega (arith, bytes 0)
+input_words (b ∷ input) bytes (suc k) = input_words input (λ j. bytes (suc j)) k
+
+offered_words : (version : ℕ) (byte : ℕ → ℕ) → ((k : ℕ) → IsWord (byte k)) → OffersWords (offered version byte)
+offered_words version byte words = elim (eqb version 3) as (λ offers. OffersWords (cond offers (Some byte) None)) [ true ↦ words | false ↦ tt ]
 
 pub step_valid : StaysMemory → (s : State) → IsValid s → IsValid (step s)
 step_valid stays s valid = by_effect (λ t _. IsValid t) s
     (λ i.
     let read = λ (addr width : ℕ). number_at s.memory addr width in
-    after_valid stays s (effect s.regs s.pc read i) valid (effect_fits s.regs valid.regs.words s.pc read i (effect_aligned s.regs s.pc read i)))
+    let given = offered_words s.version (byte_or_ones s.input) (input_words s.input valid.input) in
+    after_valid stays s (effect_at s i) valid (effect_fits s.regs valid.regs.words (offered s.version (byte_or_ones s.input)) given s.pc read i (effect_aligned s i)))
     (λ code small. after_valid stays s (Trap code) valid small)
     valid

@@ -5,7 +5,7 @@ use Rattle.rv_decode.specs.Reading.{reading_of}
 use Rattle.rv_decode.specs.declared.instr.Instr.{Instr}
 use Rattle.mem_plain.specs.Contents.{Contents, number_at, IsUsed}
 use Rattle.rv_step.specs.State.{State}
-use Rattle.rv_step.specs.Effect.{effect}
+use Rattle.rv_step.specs.Step.{effect_at}
 use Rattle.rv_step.specs.declared.effect.Effect.{Effect}
 use Rattle.rv_step.specs.declared.effect.Effect.TheVariants.{Store, Put}
 
@@ -24,4 +24,4 @@ NeedsMemory m e = ⊥
 abbrev pub StepNeedsMemory : State → Type 0
 StepNeedsMemory s =
     (i : Instr) × (is_running s.status ≡ true) × (s.pc % 4 ≡ 0) × (reading_of (number_at s.memory s.pc 4) ≡ Some i)
-    × NeedsMemory s.memory (effect s.regs s.pc (λ addr width. number_at s.memory addr width) i)
+    × NeedsMemory s.memory (effect_at s i)

@@ -5,7 +5,7 @@ use Rattle.rv_decode.specs.Reading.{reading_of}
 use Rattle.rv_decode.specs.declared.instr.Instr.{Instr}
 use Rattle.mem_plain.specs.Contents.{number_at}
 use Rattle.rv_step.specs.State.{State}
-use Rattle.rv_step.specs.Effect.{effect}
+use Rattle.rv_step.specs.Step.{effect_at}
 use Rattle.rv_step.specs.declared.effect.Effect.{Effect}
 use Rattle.rv_step.specs.declared.effect.Effect.TheVariants.{Store}
 
@@ -16,7 +16,7 @@ stored_page e = None
 
 -- the page that the instruction a word is stores to, from a state
 abbrev pub touched_by : State → Option Instr → Option ℕ
-touched_by s (Some i) = stored_page (effect s.regs s.pc (λ addr width. number_at s.memory addr width) i)
+touched_by s (Some i) = stored_page (effect_at s i)
 touched_by s None = None
 
 -- the page that the step from a state stores to, where it stores

@@ -1,5 +1,5 @@
 -- To believe: the valid states, which are those of machines.
-use Rattle.std.specs.Prelude.{◌≡◌, ℕ, ◌^◌, ◌<◌, List, length, slice_index}
+use Rattle.std.specs.Prelude.{◌≡◌, ℕ, ◌^◌, ◌<◌, ◌≤◌, List, length, slice_index}
 use Rattle.rd_base.specs.declared.status.Status.{Status}
 use Rattle.rd_base.specs.declared.status.Status.TheVariants.{Running, Exited, Trapped}
 use Rattle.mem_plain.specs.Memory.{IsMemory}
@@ -17,10 +17,14 @@ HasWordCode Running = Unit {0}
 HasWordCode (Exited code) = code < 2 ^ 32
 HasWordCode (Trapped code) = code < 2 ^ 32
 
--- registers, pc and code are words, and memory and output have bytes
+-- registers, pc and code are words, and memory, output and input have bytes; the version is 1, 2 or 3, and the input not
+-- longer than an input may be
 pub record IsValid (s : State) : Type 0 where
   pub regs : IsRegisterFile s.regs
   pub pc : s.pc < 2 ^ 32
   pub memory : IsMemory s.memory
   pub status : HasWordCode s.status
   pub output : (k : ℕ) → slice_index s.output k < 256
+  pub version : (1 ≤ s.version) × (s.version ≤ 3)
+  pub input : (k : ℕ) → slice_index s.input k < 256
+  pub short : length s.input ≤ 1048576

@@ -1,14 +1,17 @@
 //! Laws of the definitions, each the contract of a function that does nothing.
-ghost use Rattle.std.specs.Prelude.{◌≡◌, ◌≢◌, ℕ, ◌++◌, ◌/◌, ◌<◌, ◌^◌, List, Some, None, false};
+ghost use Rattle.std.specs.Prelude.{◌≡◌, ◌≢◌, ℕ, ◌++◌, ◌/◌, ◌<◌, ◌^◌, List, map, slice_index, Option, Some, None, false};
 ghost use Rattle.rd_base.specs.Status.{is_running};
 ghost use Rattle.rv_decode.specs.declared.instr.Instr.{Instr};
 ghost use Rattle.mem_plain.specs.Contents.{byte_at};
 ghost use Rattle.rv_step.specs.State.{State, state_of};
 ghost use Rattle.rv_step.specs.Valid.{IsValid};
-ghost use Rattle.rv_step.specs.Effect.{effect};
-ghost use Rattle.rv_step.specs.Step.{step, after_word};
-ghost use Rattle.rv_step.specs.Parts.{needed, by_parts, Meets, IsAligned};
+ghost use Rattle.rv_step.specs.Effect.{effect, effect_with};
+ghost use Rattle.rv_step.specs.Offer.{offered};
+ghost use Rattle.rv_step.specs.Step.{step, state_at, after_word};
+ghost use Rattle.rv_step.specs.Parts.{needed, needed_in, by_parts, finished, Meets, Finishes, ReadsAsNeeded, IsAligned};
 ghost use Rattle.rv_step.specs.Touched.{touched};
+ghost use Rattle.rv_step.specs.Named.{named, named_by, destination, AreRegisters, WritesOnly};
+ghost use Rattle.rv_step.specs.Alike.{with_registers, Shows, StepAlike, ChangesNamed};
 
 use crate::machine::Machine;
 use crate::valid::{bytes_are_small, codes_are_words, registers_are_words};
@@ -18,14 +21,54 @@ use rd_base::registers_are_32;
 /// The two parts of a step are the step, for every state and instruction (`step`): what `need` names is read or
 /// written, and `finish` does the rest, with the number that was read, or with any where none was.
 ///
-/// The same for whoever reads memory in another way (`any_reader`): by what is needed, the effect of an instruction reads
-/// nothing or that one number and leaves memory as it is, or it is that store, or that trap. What is read or written
-/// is 1, 2 or 4 bytes at a multiple of their number (`aligned`).
+/// The same for whoever reads memory in another way, where no input is offered (`any_reader`): by what is needed, the effect
+/// of an instruction reads nothing or that one number and leaves memory as it is, or it is that store, or that trap. What is
+/// read or written is 1, 2 or 4 bytes at a multiple of their number (`aligned`). And for whoever reads memory and offers the
+/// input in another way, in each version (`any_offer`): the effect is what `finish` makes of the number that is needed.
 pub fn two_parts_are_the_step()
-    ensures step { (s : State) (i : Instr) (any : ℕ) → by_parts s i any (needed s.regs i) ≡ after_word s (Some i) }
+    ensures step { (s : State) (i : Instr) (any : ℕ) → by_parts s i any (needed_in s.version s.regs i) ≡ after_word s (Some i) }
     ensures any_reader { (xs : List ℕ) (pc : ℕ) (read : ℕ → ℕ → ℕ) (i : Instr) →
         Meets (λ memory. effect xs pc memory i) read (needed xs i) }
-    ensures aligned { (xs : List ℕ) (i : Instr) → IsAligned (needed xs i) }
+    ensures any_offer { (version : ℕ) (byte : ℕ → ℕ) (xs : List ℕ) (pc : ℕ) (read : ℕ → ℕ → ℕ) (i : Instr) →
+        Finishes (effect_with (offered version byte) xs pc read i) (λ loaded. finished xs pc loaded i) read byte (needed_in version xs i) }
+    ensures aligned { (version : ℕ) (xs : List ℕ) (i : Instr) → IsAligned (needed_in version xs i) }
+{}
+
+/// What is needed is what an effect depends on: where a load is named, the effect depends on what memory gives, and where none
+/// is named it doesn't.
+pub fn needs_tell_what_is_read()
+    ensures { (version : ℕ) (byte : ℕ → ℕ) (xs : List ℕ) (pc : ℕ) (i : Instr) →
+        ReadsAsNeeded (λ memory. effect_with (offered version byte) xs pc memory i) (needed_in version xs i) }
+{}
+
+/// What an instruction does and what it needs depends on the registers that it names alone: two register files in which these
+/// hold the same, and x0 too, give one effect (`effect`) and one need (`needed`). It writes no register but its destination
+/// (`writes`).
+pub fn effects_read_named_registers()
+    ensures effect { (offer : Option (ℕ → ℕ)) (xs ys : List ℕ) (pc : ℕ) (read : ℕ → ℕ → ℕ) (i : Instr) → slice_index xs 0 ≡ slice_index ys 0 →
+        map (λ r. slice_index xs r) (named i) ≡ map (λ r. slice_index ys r) (named i) → effect_with offer xs pc read i ≡ effect_with offer ys pc read i }
+    ensures needed { (version : ℕ) (xs ys : List ℕ) (i : Instr) → slice_index xs 0 ≡ slice_index ys 0 →
+        map (λ r. slice_index xs r) (named i) ≡ map (λ r. slice_index ys r) (named i) → needed_in version xs i ≡ needed_in version ys i }
+    ensures writes { (offer : Option (ℕ → ℕ)) (xs : List ℕ) (pc : ℕ) (read : ℕ → ℕ → ℕ) (i : Instr) → WritesOnly (destination i) (effect_with offer xs pc read i) }
+{}
+
+/// What is named are registers.
+pub fn names_are_registers()
+    ensures { (o : Option Instr) → AreRegisters (named_by o) }
+{}
+
+/// A step depends on the registers that its instruction names alone (`alike`): with a register file that shows these, all but
+/// the registers is the same after it, and so is each register that was the same. It changes at most one register, and a
+/// named one (`changes`).
+pub fn steps_read_named_registers()
+    ensures alike { (xs : List ℕ) (s : State) → Shows xs s → StepAlike xs s (step (with_registers xs s)) (step s) }
+    ensures changes { (s : State) → ChangesNamed s }
+{}
+
+/// A run keeps the version and the input.
+pub fn runs_keep_the_input()
+    ensures version { (s : State) (n : ℕ) → (state_at s n).version ≡ s.version }
+    ensures input { (s : State) (n : ℕ) → (state_at s n).input ≡ s.input }
 {}
 
 /// A step changes no byte outside the page that `touched` names (`elsewhere`), and no memory where it names none
@@ -49,7 +92,7 @@ pub fn output_only_grows()
 {}
 
 /// A step keeps valid states, which are those with 32 words as registers of which the first is 0, a word as `pc` and
-/// as the code of the status, and bytes in memory and output.
+/// as the code of the status, bytes in memory, output and input, and one of the versions.
 pub fn steps_keep_valid_states()
     ensures { (s : State) → IsValid s → IsValid (step s) }
 {
@@ -64,6 +107,7 @@ pub fn machines_are_valid(machine: &Machine)
     registers_are_words(&machine.regs);
     codes_are_words(&machine.ctl.status);
     bytes_are_small(&machine.output);
+    bytes_are_small(&machine.input);
     machine.mem.is_memory();
     let _pc = machine.ctl.pc;
 }

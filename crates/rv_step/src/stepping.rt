@@ -1,9 +1,10 @@
-ghost use Rattle.std.specs.Prelude.{◌≡◌, ◌%◌, ◌⊎◌, OnOk, OnErr};
+ghost use Rattle.std.specs.Prelude.{◌≡◌, ◌%◌, ◌⊎◌, ◌<◌, ◌^◌, IfOk, IfSome, OnOk, OnErr};
 ghost use Rattle.mem_plain.specs.Contents.{number_at};
+ghost use Rattle.rv_step.specs.Offer.{byte_or_ones};
 ghost use Rattle.rv_step.specs.State.{state_of, IsChained};
-ghost use Rattle.rv_step.specs.Effect.{effect};
-ghost use Rattle.rv_step.specs.Step.{step as step_of, after_word};
-ghost use Rattle.rv_step.specs.Parts.{after_finish};
+ghost use Rattle.rv_step.specs.Step.{step as step_of, after_word, effect_at};
+ghost use Rattle.rv_step.specs.Parts.{after_finish, finished};
+ghost use Rattle.rv_step.specs.Touched.{stored_page, touched};
 ghost use Rattle.rv_step.specs.OutOfMemory.{Puts, NeedsMemory, StepNeedsMemory};
 
 use crate::asked::{Need, Outcome};
@@ -11,7 +12,7 @@ use crate::effect::{ILLEGAL_INSTRUCTION, MISALIGNED_JUMP};
 use crate::machine::Machine;
 use crate::parts::{finish, need};
 use digest_core::{Digester, chain_grows, link};
-use mem_plain::PlainMem;
+use mem_plain::{PAGE_BYTES, PlainMem};
 use rd_base::{Memory, Status};
 use rv_decode::{Instr, decode};
 
@@ -23,21 +24,35 @@ fn number(mem: &PlainMem, addr: u32, width: u8) -> u32
 {
     match width {
         1 => u32::from(mem.byte(addr)),
-        2 => u32::from(mem.byte(addr)) + 256 * u32::from(mem.byte(addr + 1)),
+        2 => mem.half(addr),
         _ => mem.word(addr),
     }
 }
 
-/// Finishes an instruction for which memory has been read and written, with the number that was read.
+/// The byte of an input with a number, and `ffffffff` where it has no such byte.
+fn input_byte(input: &[u8], index: u32) -> u32
+    ensures { result ≡ byte_or_ones input.now index }
+{
+    match input.get(index as usize) {
+        Some(byte) => u32::from(*byte),
+        None => u32::MAX,
+    }
+}
+
+/// Finishes an instruction for which memory or the input has been read, or memory written, with the number that was read. It
+/// gives back the page that is named, which is that of the store.
+#[inline(always)]
 fn finish_on<D: Digester>(
     machine: &mut Machine,
     d: &D,
     instr: &Instr,
     loaded: u32,
-) -> Result<(), Memory>
+    page: Option<u32>,
+) -> Result<Option<u32>, Memory>
     requires { IsChained D.digest_of machine.old }
-    ensures puts { OnErr result (Puts (effect machine.old.regs machine.old.ctl.pc (λ _ _. loaded) instr.now)) }
-    ensures ok { OnOk result (state_of machine.new ≡ after_finish (state_of machine.old) (effect machine.old.regs machine.old.ctl.pc (λ _ _. loaded) instr.now)) }
+    ensures puts { OnErr result (Puts (finished machine.old.regs machine.old.ctl.pc loaded instr.now)) }
+    ensures ok { OnOk result (state_of machine.new ≡ after_finish (state_of machine.old) (finished machine.old.regs machine.old.ctl.pc loaded instr.now)) }
+    ensures page { IfOk result (λ told. told ≡ page) }
     ensures err { OnErr result (state_of machine.new ≡ state_of machine.old) }
     ensures chained { IsChained D.digest_of machine.new }
 {
@@ -56,56 +71,69 @@ fn finish_on<D: Digester>(
         Outcome::Exit(code) => machine.ctl.status = Status::Exited(code),
         Outcome::Trap(code) => machine.ctl.status = Status::Trapped(code),
     }
-    Ok(())
+    Ok(page)
 }
 
-fn carry_out<D: Digester>(machine: &mut Machine, d: &D, instr: &Instr) -> Result<(), Memory>
+fn carry_out<D: Digester>(
+    machine: &mut Machine,
+    d: &D,
+    instr: &Instr,
+) -> Result<Option<u32>, Memory>
     requires { IsChained D.digest_of machine.old }
     ensures ok { OnOk result (state_of machine.new ≡ after_word (state_of machine.old) (Some instr.now)) }
+    ensures page { IfOk result (λ page. page ≡ stored_page (effect_at (state_of machine.old) instr.now)) }
+    ensures below { IfOk result (λ page. IfSome page (λ p. p < 2 ^ 20)) }
     ensures err { OnErr result (state_of machine.new ≡ state_of machine.old) }
-    ensures needs { OnErr result (NeedsMemory machine.old.mem (effect machine.old.regs machine.old.ctl.pc (λ addr width. number_at machine.old.mem addr width) instr.now)) }
+    ensures needs { OnErr result (NeedsMemory machine.old.mem (effect_at (state_of machine.old) instr.now)) }
     ensures chained { IsChained D.digest_of machine.new }
 {
-    match need(&machine.regs, machine.ctl.pc, instr) {
-        Need::Nothing => finish_on(machine, d, instr, 0),
+    match need(machine.version, &machine.regs, machine.ctl.pc, instr) {
+        Need::Nothing => finish_on(machine, d, instr, 0, None),
         Need::Load { addr, width } => {
             let loaded = number(&machine.mem, addr, width);
-            finish_on(machine, d, instr, loaded)
+            finish_on(machine, d, instr, loaded, None)
         }
         Need::Store { addr, width, value } => {
             machine.mem.store(addr, width, value)?;
-            finish_on(machine, d, instr, 0)
+            finish_on(machine, d, instr, 0, Some(addr / PAGE_BYTES))
+        }
+        Need::Input { index } => {
+            let loaded = input_byte(&machine.input, index);
+            finish_on(machine, d, instr, loaded, None)
         }
         Need::Trap(code) => {
             machine.ctl.status = Status::Trapped(code);
-            Ok(())
+            Ok(None)
         }
     }
 }
 
-/// One step: carries out the word at `pc`. A machine that has stopped stays as it is. One whose `pc` isn't a multiple
+/// One step: carries out the word at `pc`, and tells the page that it stored to, which is the store's address / 4,096, as
+/// `touches` would have named it before. A machine that has stopped stays as it is. One whose `pc` isn't a multiple
 /// of 4, whose word is no instruction or whose instruction can't be carried out traps, which changes the status
 /// alone. The machine's chain is its output's by the digester `d`, before and after. An `Err` is out of memory, and
 /// changes nothing; it comes only where the step stores to a page in which every byte is 0, or puts out a byte.
-pub fn step<D: Digester>(machine: &mut Machine, d: &D) -> Result<(), Memory>
+pub fn step<D: Digester>(machine: &mut Machine, d: &D) -> Result<Option<u32>, Memory>
     requires { IsChained D.digest_of machine.old }
     ensures ok { OnOk result (state_of machine.new ≡ step_of (state_of machine.old)) }
+    ensures page { IfOk result (λ page. page ≡ touched (state_of machine.old)) }
+    ensures below { IfOk result (λ page. IfSome page (λ p. p < 2 ^ 20)) }
     ensures err { OnErr result (state_of machine.new ≡ state_of machine.old) }
     ensures needs { OnErr result (StepNeedsMemory (state_of machine.old)) }
     ensures chained { IsChained D.digest_of machine.new }
 {
     if !machine.ctl.status.is_running() {
-        return Ok(());
+        return Ok(None);
     }
     if machine.ctl.pc % 4 != 0 {
         machine.ctl.status = Status::Trapped(MISALIGNED_JUMP);
-        return Ok(());
+        return Ok(None);
     }
     match decode(machine.mem.word(machine.ctl.pc)) {
         Some(instr) => carry_out(machine, d, &instr),
         None => {
             machine.ctl.status = Status::Trapped(ILLEGAL_INSTRUCTION);
-            Ok(())
+            Ok(None)
         }
     }
 }

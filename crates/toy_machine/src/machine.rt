@@ -12,5 +12,5 @@ pub fn machine_of(alloc: Global, image: &[u8]) -> Result<Machine, Memory>
     ensures { IfOk result (λ m. (digest : List ℕ → List ℕ) → IsChained digest m) }
 {
     let mem = PlainMem::new(alloc).lay(0x1_0000, image)?;
-    Machine::new(alloc, mem, 0x1_0000, &[])
+    Machine::new(alloc, 1, mem, 0x1_0000, &[])
 }

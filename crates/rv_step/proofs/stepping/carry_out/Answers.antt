@@ -1,12 +1,27 @@
-use Rattle.std.proofs.Common.{ℕ, Ok, Err, OnErr, subst, sym, ap, ◌∙◌}
-use Rattle.std.proofs.lemmas.Result.{on_ok_weaker, on_err_weaker}
+use Rattle.std.proofs.Common.{◌≡◌, ℕ, Option, Result, Ok, Err, IfOk, OnErr, subst, sym, ap, ◌∙◌}
+use Rattle.std.proofs.lemmas.Result.{on_ok_weaker, on_err_weaker, IfOk-weaker}
 use Rattle.mem_plain.specs.Contents.{number_at}
-use Rattle.rv_step.specs.State.{state_of}
+use Rattle.rv_step.specs.Offer.{byte_or_ones}
+use Rattle.rv_step.specs.State.{State, state_of}
+use Rattle.rv_step.specs.Step.{effect_at}
+use Rattle.rv_step.specs.Touched.{stored_page}
 use Rattle.rv_step.specs.OutOfMemory.{Puts, NeedsMemory}
-use Rattle.rv_step.specs.Effect.{effect}
-use Rattle.rv_step.specs.Parts.{Meets, after_finish, by_parts}
-use Rattle.rv_step.proofs.PartsLemmas.{effect_meets, parts_are_the_step, puts_need}
+use Rattle.rv_step.specs.Parts.{Finishes, after_finish, finished, by_parts, needed_in}
+use Rattle.rv_step.specs.declared.asked.Need.{Need}
+use Rattle.rv_decode.specs.declared.instr.Instr.{Instr}
+use Rattle.rv_step.proofs.PartsLemmas.{at_finishes, parts_are_the_step, puts_need}
+use Rattle.rv_step.proofs.PageLemmas.{needed_page, page_needed}
 use Rattle.rv_step.proofs.stepping.carry_out.Goals as goal
+
+-- what is met, by the need that is at hand
+met : (s : State) (i : Instr) (n : Need) → n ≡ needed_in s.version s.regs i
+    → Finishes (effect_at s i) (λ loaded. finished s.regs s.pc loaded i) (λ addr width. number_at s.memory addr width) (byte_or_ones s.input) n
+met s i n is = subst (Finishes (effect_at s i) (λ loaded. finished s.regs s.pc loaded i) (λ addr width. number_at s.memory addr width) (byte_or_ones s.input)) (sym is) (at_finishes s i)
+
+-- the page that is told, by the need that is at hand
+told : {E : Type 0} (r : Result (Option ℕ) E) (s : State) (i : Instr) (n : Need) → n ≡ needed_in s.version s.regs i → IfOk r (λ page. page ≡ needed_page n) → IfOk r (λ page. page ≡ stored_page (effect_at s i))
+told r s i n is = IfOk-weaker r (λ page. page ≡ needed_page n) (λ page. page ≡ stored_page (effect_at s i)) (λ page same.
+    same ∙ (ap needed_page is ∙ page_needed s.version (byte_or_ones s.input) s.regs s.pc (λ addr width. number_at s.memory addr width) i))
 
 pub returns-in-Nothing-clause-ok : goal.returns-in-Nothing-clause-ok
 returns-in-Nothing-clause-ok g c =
@@ -19,24 +34,24 @@ returns-in-Load-clause-ok g c =
     let s = state_of c.args.machine.now in
     let i = c.args.instr.now in
     on_ok_weaker c.finish_on-in-Load.result
-    (λ done. done ∙ (ap (λ n. after_finish s (effect s.regs s.pc (λ _ _. n) i)) c.number-loaded.ensures ∙ (ap (by_parts s i 0) c.in-Load.ensures.value ∙ parts_are_the_step s i 0)))
+    (λ done. done ∙ (ap (λ n. after_finish s (finished s.regs s.pc n i)) c.number-loaded.ensures ∙ (ap (by_parts s i 0) c.in-Load.ensures.value ∙ parts_are_the_step s i 0)))
     c.finish_on-in-Load.ensures.ok
+
+pub returns-in-Input-clause-ok : goal.returns-in-Input-clause-ok
+returns-in-Input-clause-ok g c =
+    let s = state_of c.args.machine.now in
+    let i = c.args.instr.now in
+    on_ok_weaker c.finish_on-in-Input.result
+    (λ done. done ∙ (ap (λ n. after_finish s (finished s.regs s.pc n i)) (c.input_byte-loaded.ensures ∙ ap (λ bytes. byte_or_ones bytes c.in-Input.index) c.deref.ensures.value) ∙ (ap (by_parts s i 0) c.in-Input.ensures.value ∙ parts_are_the_step s i 0)))
+    c.finish_on-in-Input.ensures.ok
 
 pub returns-in_ok-store-in-Store-clause-ok : goal.returns-in_ok-store-in-Store-clause-ok
 returns-in_ok-store-in-Store-clause-ok g c =
     let s = state_of c.args.machine.now in
     let i = c.args.instr.now in
     on_ok_weaker c.finish_on-in-Store.result
-    (λ done. done ∙ (ap (λ m. after_finish (record s { memory = m }) (effect s.regs s.pc (λ _ _. 0) i)) c.in_ok-store-in-Store.ensures.stored ∙ (ap (by_parts s i 0) c.in-Store.ensures.value ∙ parts_are_the_step s i 0)))
+    (λ done. done ∙ (ap (λ m. after_finish (record s { memory = m }) (finished s.regs s.pc 0 i)) c.in_ok-store-in-Store.ensures.stored ∙ (ap (by_parts s i 0) c.in-Store.ensures.value ∙ parts_are_the_step s i 0)))
     c.finish_on-in-Store.ensures.ok
-
-pub returns-in_ok-store-in-Store-clause-err : goal.returns-in_ok-store-in-Store-clause-err
-returns-in_ok-store-in-Store-clause-err g c =
-    let s = state_of c.args.machine.now in
-    let nothing : ℕ → ℕ → ℕ = λ addr width. 0 in
-    let i = c.args.instr.now in
-    let met_blind = subst (λ n. Meets (λ memory. effect s.regs s.pc memory i) nothing n) (sym c.in-Store.ensures.value) (effect_meets s.regs s.pc nothing i) in
-    on_err_weaker c.finish_on-in-Store.result (λ puts. absurd (subst Puts met_blind puts)) c.finish_on-in-Store.ensures.puts
 
 pub returns-in-Trap-clause-ok : goal.returns-in-Trap-clause-ok
 returns-in-Trap-clause-ok g c =
@@ -44,39 +59,57 @@ returns-in-Trap-clause-ok g c =
     let i = c.args.instr.now in
     ap (by_parts s i 0) c.in-Trap.ensures.value ∙ parts_are_the_step s i 0
 
+pub returns-in-Nothing-clause-page : goal.returns-in-Nothing-clause-page
+returns-in-Nothing-clause-page g c = told c.finish_on.result (state_of c.args.machine.now) c.args.instr.now _ c.in-Nothing.ensures.value c.finish_on.ensures.page
+
+pub returns-in-Load-clause-page : goal.returns-in-Load-clause-page
+returns-in-Load-clause-page g c = told c.finish_on-in-Load.result (state_of c.args.machine.now) c.args.instr.now _ c.in-Load.ensures.value c.finish_on-in-Load.ensures.page
+
+pub returns-in-Input-clause-page : goal.returns-in-Input-clause-page
+returns-in-Input-clause-page g c = told c.finish_on-in-Input.result (state_of c.args.machine.now) c.args.instr.now _ c.in-Input.ensures.value c.finish_on-in-Input.ensures.page
+
+pub returns-in_ok-store-in-Store-clause-page : goal.returns-in_ok-store-in-Store-clause-page
+returns-in_ok-store-in-Store-clause-page g c = told c.finish_on-in-Store.result (state_of c.args.machine.now) c.args.instr.now _ c.in-Store.ensures.value c.finish_on-in-Store.ensures.page
+
+pub returns-in-Trap-clause-page : goal.returns-in-Trap-clause-page
+returns-in-Trap-clause-page g c =
+    let s = state_of c.args.machine.now in
+    ap needed_page c.in-Trap.ensures.value ∙ page_needed s.version (byte_or_ones s.input) s.regs s.pc (λ addr width. number_at s.memory addr width) c.args.instr.now
+
+pub returns-in_ok-store-in-Store-clause-err : goal.returns-in_ok-store-in-Store-clause-err
+returns-in_ok-store-in-Store-clause-err g c =
+    on_err_weaker c.finish_on-in-Store.result (λ puts. absurd (subst Puts ((met (state_of c.args.machine.now) c.args.instr.now _ c.in-Store.ensures.value).1 0) puts)) c.finish_on-in-Store.ensures.puts
+
 pub returns-in-Nothing-clause-needs : goal.returns-in-Nothing-clause-needs
 returns-in-Nothing-clause-needs g c =
     let s = state_of c.args.machine.now in
-    let read = λ (addr width : ℕ). number_at s.memory addr width in
-    let i = c.args.instr.now in
-    let met = subst (λ n. Meets (λ memory. effect s.regs s.pc memory i) read n) (sym c.in-Nothing.ensures.value) (effect_meets s.regs s.pc read i) in
-    on_err_weaker c.finish_on.result (λ puts. puts_need s.memory _ (subst Puts (sym (met.0 0)) puts)) c.finish_on.ensures.puts
+    on_err_weaker c.finish_on.result (λ puts. puts_need s.memory _ (subst Puts (sym ((met s c.args.instr.now _ c.in-Nothing.ensures.value).0 0)) puts)) c.finish_on.ensures.puts
 
 pub returns-in-Load-clause-needs : goal.returns-in-Load-clause-needs
 returns-in-Load-clause-needs g c =
     let s = state_of c.args.machine.now in
-    let read = λ (addr width : ℕ). number_at s.memory addr width in
     let i = c.args.instr.now in
-    let met = subst (λ n. Meets (λ memory. effect s.regs s.pc memory i) read n) (sym c.in-Load.ensures.value) (effect_meets s.regs s.pc read i) in
     on_err_weaker c.finish_on-in-Load.result
-    (λ puts. puts_need s.memory _ (subst Puts (ap (λ n. effect s.regs s.pc (λ _ _. n) i) c.number-loaded.ensures ∙ sym met.0) puts))
+    (λ puts. puts_need s.memory _ (subst Puts (ap (λ n. finished s.regs s.pc n i) c.number-loaded.ensures ∙ sym (met s i _ c.in-Load.ensures.value).0) puts))
     c.finish_on-in-Load.ensures.puts
+
+pub returns-in-Input-clause-needs : goal.returns-in-Input-clause-needs
+returns-in-Input-clause-needs g c =
+    let s = state_of c.args.machine.now in
+    let i = c.args.instr.now in
+    on_err_weaker c.finish_on-in-Input.result
+    (λ puts. puts_need s.memory _ (subst Puts (ap (λ n. finished s.regs s.pc n i) (c.input_byte-loaded.ensures ∙ ap (λ bytes. byte_or_ones bytes c.in-Input.index) c.deref.ensures.value) ∙ sym (met s i _ c.in-Input.ensures.value).0) puts))
+    c.finish_on-in-Input.ensures.puts
 
 pub returns-in_ok-store-in-Store-clause-needs : goal.returns-in_ok-store-in-Store-clause-needs
 returns-in_ok-store-in-Store-clause-needs g c =
-    let s = state_of c.args.machine.now in
-    let nothing : ℕ → ℕ → ℕ = λ addr width. 0 in
-    let i = c.args.instr.now in
-    let met_blind = subst (λ n. Meets (λ memory. effect s.regs s.pc memory i) nothing n) (sym c.in-Store.ensures.value) (effect_meets s.regs s.pc nothing i) in
-    on_err_weaker c.finish_on-in-Store.result (λ puts. absurd (subst Puts met_blind puts)) c.finish_on-in-Store.ensures.puts
+    on_err_weaker c.finish_on-in-Store.result (λ puts. absurd (subst Puts ((met (state_of c.args.machine.now) c.args.instr.now _ c.in-Store.ensures.value).1 0) puts)) c.finish_on-in-Store.ensures.puts
 
 pub returns-in_err-store-in-Store-clause-needs : goal.returns-in_err-store-in-Store-clause-needs
 returns-in_err-store-in-Store-clause-needs g c =
     let s = state_of c.args.machine.now in
-    let read = λ (addr width : ℕ). number_at s.memory addr width in
     let i = c.args.instr.now in
-    let met = subst (λ n. Meets (λ memory. effect s.regs s.pc memory i) read n) (sym c.in-Store.ensures.value) (effect_meets s.regs s.pc read i) in
-    elim c.from_residual.result as (λ r. OnErr r (NeedsMemory s.memory (effect s.regs s.pc read i))) [
+    elim c.from_residual.result as (λ r. OnErr r (NeedsMemory s.memory (effect_at s i))) [
       | Ok done ↦ tt
-      | Err want ↦ subst (NeedsMemory s.memory) (sym met) c.in_err-store-in-Store.ensures.unused
+      | Err want ↦ subst (NeedsMemory s.memory) (sym (met s i _ c.in-Store.ensures.value).0) c.in_err-store-in-Store.ensures.unused
     ]
