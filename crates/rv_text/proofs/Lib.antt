@@ -1,0 +1,17 @@
+pub mod WorkedRows
+pub mod Runs
+pub mod CappedLemmas
+pub mod Ranges
+pub mod SumLemmas
+pub mod RowLemmas
+pub mod PassLemmas
+pub mod FenceLemmas
+pub mod HexLemmas
+pub mod SpellingLemmas
+pub mod NumberLemmas
+pub mod TripLemmas
+pub mod LineLemmas
+pub mod ListingLemmas
+pub mod InstructionLemmas
+pub mod MeaningLemmas
+pub mod LaterLemmas

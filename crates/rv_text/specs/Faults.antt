@@ -1,0 +1,22 @@
+-- To believe: the faults of a line, by number. Of several faults of one line the one with the least number counts.
+use Rattle.std.specs.Prelude.{ℕ, if◌then◌else◌, nat_lt}
+use Rattle.rv_text.specs.declared.fault.FaultKind.{FaultKind}
+use Rattle.rv_text.specs.declared.fault.FaultKind.TheVariants.{OtherForm, UnknownMnemonic, NoRegister, OutOfRange, Undefined, DefinedTwice}
+use Rattle.rv_text.specs.declared.fault.AsmFault.{AsmFault}
+
+-- the number of a kind, which is its place in the order of testing
+abbrev pub number_of : FaultKind → ℕ
+number_of OtherForm = 1
+number_of UnknownMnemonic = 2
+number_of NoRegister = 3
+number_of OutOfRange = 4
+number_of Undefined = 5
+number_of DefinedTwice = 6
+
+-- of two faults the one that counts
+abbrev pub earlier : FaultKind → FaultKind → FaultKind
+earlier j k = if nat_lt (number_of k) (number_of j) then k else j
+
+-- a fault in a line
+abbrev pub fault : ℕ → FaultKind → AsmFault
+fault line kind = record { kind = kind; line = line }

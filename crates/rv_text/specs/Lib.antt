@@ -1,0 +1,16 @@
+pub mod Faults
+pub mod Fields
+pub mod Characters
+pub mod Numbers
+pub mod Classes
+pub mod Capped
+pub mod Operands
+pub mod Rows
+pub mod Lines
+pub mod Assembly
+pub mod Places
+pub mod Sums
+pub mod Spelling
+pub mod Listing
+pub mod Meaning
+pub mod Later

@@ -1,0 +1,43 @@
+-- To believe: numbers and registers as they are written.
+use Rattle.std.specs.Prelude.{ℕ, ◌==◌, ◌&&◌, ◌||◌, Bool, false, not, if◌then◌else◌, List, [], ◌∷◌, ℤ, pos, neg_ℤ, Option, Some, None, option_map, option_and_then, nat_lt}
+use Rattle.std.specs.Char.{is_ascii_digit}
+use Rattle.std.specs.Str.Parse.{digits_value}
+use Rattle.rv_text.specs.Characters.{every, begins, is_empty, tail}
+
+-- decimal digits, of which the first is 0 only where it stands alone
+abbrev pub is_natural : List ℕ → Bool
+is_natural [] = false
+is_natural (c ∷ cs) = every is_ascii_digit (c ∷ cs) && (not (c == 48) || is_empty cs)
+
+-- the number that they are
+abbrev pub natural_in : List ℕ → Option ℕ
+natural_in text = if is_natural text then Some (digits_value 10 text) else None
+
+-- a hexadecimal digit, of either case
+abbrev pub is_hex : ℕ → Bool
+is_hex c = is_ascii_digit c || ((nat_lt 96 c && nat_lt c 103) || (nat_lt 64 c && nat_lt c 71))
+
+-- one or more of these, as a number
+abbrev pub hex_in : List ℕ → Option ℕ
+hex_in text = if not (is_empty text) && every is_hex text then Some (digits_value 16 text) else None
+
+-- `x`
+abbrev pub is_x : ℕ → Bool
+is_x c = c == 120
+
+-- a number: decimal with an optional `-` before it, or `0x` and hexadecimal digits
+abbrev pub number_in : List ℕ → Option ℤ
+number_in [] = None
+number_in (c ∷ cs) =
+    if c == 45 then option_map (λ n. neg_ℤ (pos n)) (natural_in cs)
+    else if (c == 48) && begins is_x cs then option_map pos (hex_in (tail cs))
+    else option_map pos (natural_in (c ∷ cs))
+
+-- the number of a register
+abbrev pub below_32 : ℕ → Option ℤ
+below_32 n = if nat_lt n 32 then Some (pos n) else None
+
+-- a register: `x0` to `x31`
+abbrev pub register_in : List ℕ → Option ℤ
+register_in [] = None
+register_in (c ∷ cs) = if is_x c then option_and_then below_32 (natural_in cs) else None

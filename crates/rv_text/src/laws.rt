@@ -1,0 +1,39 @@
+//! Laws about the definitions, each a function that does nothing.
+ghost use Rattle.std.specs.Prelude.{◌≡◌, ◌<◌, ◌^◌, ◌↔◌, ℕ, List, Option, Ok, Err, Some};
+ghost use Rattle.rv_decode.specs.Word.{word_of};
+ghost use Rattle.rv_decode.specs.Reading.{reading_of};
+ghost use Rattle.rv_decode.specs.declared.instr.Instr.{Instr};
+ghost use Rattle.rv_text.specs.Operands.{Distances};
+ghost use Rattle.rv_text.specs.Lines.{word_of_statement, word_in};
+ghost use Rattle.rv_text.specs.Spelling.{spelling_of};
+ghost use Rattle.rv_text.specs.Meaning.{IsWritten, Says};
+ghost use Rattle.std.specs.List.{AllByRecursion};
+ghost use Rattle.rv_text.specs.Listing.{listing};
+ghost use Rattle.rv_text.specs.Assembly.{assembled, near};
+ghost use Rattle.rv_text.specs.Later.{OfName};
+ghost use Rattle.rv_text.specs.declared.fault.FaultKind.{FaultKind};
+
+use rv_decode::one_reading;
+
+/// The listing of any words is assembled to them.
+pub fn listing_is_read_back()
+    ensures { (words : List ℕ) → AllByRecursion (λ w. w < 2 ^ 32) words → assembled (listing words) ≡ Ok words }
+{
+    one_reading();
+}
+
+/// A statement has a word exactly where it is how an instruction with that word is written, or a word as such. So each written
+/// instruction is assembled to its word, which reads as that instruction.
+pub fn each_word_is_said()
+    ensures says { (distances : Distances) (text : List ℕ) (w : ℕ) → (word_of_statement distances text ≡ Ok w) ↔ Says distances text w }
+    ensures instruction { (distances : Distances) (text : List ℕ) (i : Instr) → IsWritten distances text (spelling_of i) → word_of_statement distances text ≡ Ok (word_of i) }
+    ensures reading { (i : Instr) → reading_of (word_of i) ≡ Some i }
+{
+    one_reading();
+}
+
+/// A text that passed before places were known has no fault later but that of its name: nothing defines it, or its distance is out of
+/// range.
+pub fn only_names_fail_later()
+    ensures { (distances : Distances) (text : List ℕ) (w : Option ℕ) (k : FaultKind) → word_in near text ≡ Ok w → word_in distances text ≡ Err k → OfName k }
+{}

@@ -1,0 +1,30 @@
+//! Assembly text of RV32IM (RISC-V Unprivileged ISA 20191213, chapters 2, 7 and 24): `assemble` gives the words of a text, and `list`
+//! the text of words.
+//!
+//! The layers above may rely on this: `assemble` gives the words that the definition `assembled` gives, or its fault with its kind and its
+//! line, and but for running out of memory the answer is determined by the text alone; `list` gives the text `listing`. The laws tie
+//! both to the words of the instructions: a statement has a word exactly where it is how an instruction with that word is written
+//! (`each_word_is_said`), and the listing of any words is assembled to them (`listing_is_read_back`).
+//!
+//! Read `specs/Lines.antt` first, from there `Operands`, `Fields`, `Numbers` and `Characters`, then `specs/Assembly.antt`; `specs/Spelling.antt` and
+//! `specs/Meaning.antt` say how an instruction is written. Of the code read `assembling` first.
+#![tactic(auto)]
+
+mod assembling;
+mod class;
+mod fault;
+mod field;
+mod form;
+mod instruction;
+mod laws;
+mod line;
+mod listing;
+mod names;
+mod numbers;
+mod operands;
+mod row;
+
+pub use assembling::{MAX_ASSEMBLY_BYTES, assemble};
+pub use fault::{AsmError, AsmFault, FaultKind};
+pub use laws::{each_word_is_said, listing_is_read_back, only_names_fail_later};
+pub use listing::list;

@@ -1,0 +1,148 @@
+//! Numbers and registers as they are written. A number of 2^32 or more counts as 2^32, which is in no range.
+ghost use Rattle.std.specs.Prelude.{◌≡◌, ◌≤◌, option_map, pos, neg_ℤ, true, IfSome};
+ghost use Rattle.rv_text.specs.Fields.{within};
+ghost use Rattle.std.specs.Char.{digit_value as the_digit_value};
+ghost use Rattle.std.specs.Str.Parse.{digits_value};
+ghost use Rattle.rv_text.specs.Numbers.{natural_in, hex_in, number_in, register_in as the_register_in};
+ghost use Rattle.rv_text.specs.Capped.{capped as the_capped, capped_integer};
+
+use crate::class::{Class, is_every};
+
+/// What larger numbers count as.
+const CAP: u64 = 4_294_967_296;
+
+/// The value of a digit, and 36 of another character.
+fn digit_value(c: u8) -> u64
+    ensures value { result ≡ the_digit_value c }
+    ensures most { result ≤ 36 }
+{
+    match c {
+        b'0'..=b'9' => (c - b'0') as u64,
+        b'A'..=b'Z' => (c - b'A' + 10) as u64,
+        b'a'..=b'z' => (c - b'a' + 10) as u64,
+        _ => 36,
+    }
+}
+
+/// The number, but at most the cap.
+fn capped(n: u64) -> u64
+    ensures value { result ≡ the_capped n }
+    ensures most { result ≤ 4294967296 }
+{
+    if n < CAP { n } else { CAP }
+}
+
+/// The number that decimal digits are, capped.
+#[tactic(auto, using(crate::proofs::CappedLemmas::value_rules))]
+fn decimal_value(digits: &[u8]) -> u64
+    ensures value { result ≡ the_capped (digits_value 10 digits.now) }
+    ensures most { result ≤ 4294967296 }
+{
+    let mut n = 0;
+    'digits: for c in digits {
+        n = capped(n * 10 + digit_value(*c));
+    }
+    n
+}
+
+/// The number that hexadecimal digits are, capped.
+#[tactic(auto, using(crate::proofs::CappedLemmas::value_rules))]
+fn hex_value(digits: &[u8]) -> u64
+    ensures value { result ≡ the_capped (digits_value 16 digits.now) }
+    ensures most { result ≤ 4294967296 }
+{
+    let mut n = 0;
+    'digits: for c in digits {
+        n = capped(n * 16 + digit_value(*c));
+    }
+    n
+}
+
+/// The natural number that a text is in decimal, capped, and `None` where it is another text or has leading zeros.
+fn natural(text: &[u8]) -> Option<u64>
+    ensures { result ≡ option_map the_capped (natural_in text.now) }
+{
+    let is_form = match text {
+        [] => false,
+        [b'0', _, ..] => false,
+        _ => is_every(text, Class::Decimal),
+    };
+    if is_form {
+        Some(decimal_value(text))
+    } else {
+        None
+    }
+}
+
+/// A capped number with a sign.
+fn signed(n: u64) -> i64
+    requires { n ≤ 4294967296 }
+    ensures { result ≡ pos n }
+{
+    n as i64
+}
+
+/// A capped number with the other sign.
+fn negated(n: u64) -> i64
+    requires { n ≤ 4294967296 }
+    ensures { result ≡ neg_ℤ (pos n) }
+{
+    -(n as i64)
+}
+
+/// The number that a text is in decimal, capped.
+fn positive(text: &[u8]) -> Option<i64>
+    ensures { result ≡ option_map capped_integer (option_map pos (natural_in text.now)) }
+{
+    match natural(text) {
+        Some(n) => Some(signed(n)),
+        None => None,
+    }
+}
+
+/// The number that a text is in decimal behind a `-`, capped.
+#[tactic(auto, using(crate::proofs::CappedLemmas::sign_rules))]
+fn negative(digits: &[u8]) -> Option<i64>
+    ensures { result ≡ option_map capped_integer (option_map (λ n. neg_ℤ (pos n)) (natural_in digits.now)) }
+{
+    match natural(digits) {
+        Some(n) => Some(negated(n)),
+        None => None,
+    }
+}
+
+/// The number that hexadecimal digits are, capped.
+fn hexadecimal(digits: &[u8]) -> Option<i64>
+    ensures { result ≡ option_map capped_integer (option_map pos (hex_in digits.now)) }
+{
+    if !digits.is_empty() && is_every(digits, Class::Hexadecimal) {
+        Some(signed(hex_value(digits)))
+    } else {
+        None
+    }
+}
+
+/// The number that a text is, capped on both sides: decimal with an optional `-`, or `0x` and hexadecimal digits.
+pub fn number(text: &[u8]) -> Option<i64>
+    ensures { result ≡ option_map capped_integer (number_in text.now) }
+{
+    match text {
+        [b'-', digits @ ..] => negative(digits),
+        [b'0', b'x', digits @ ..] => hexadecimal(digits),
+        _ => positive(text),
+    }
+}
+
+/// The number of a register, `x0` to `x31`, and `None` where the text is none of them.
+pub fn register_in(text: &[u8]) -> Option<i64>
+    ensures value { result ≡ the_register_in text.now }
+    ensures in_range { IfSome result (λ z. within (pos 0) (pos 31) z ≡ true) }
+{
+    match text {
+        [b'x', digits @ ..] => match natural(digits) {
+            Some(n) => { if n < 32 { Some(n as i64) } else { None } }
+            None => None,
+        },
+        _ => None,
+    }
+}

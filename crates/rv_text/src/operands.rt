@@ -1,0 +1,189 @@
+//! The operands of a line.
+ghost use Rattle.std.specs.Prelude.{◌≡◌, ◌<◌, ◌≤◌, ◌^◌, ◌+◌, true, IfOk, option_map};
+ghost use Rattle.rv_text.specs.Fields.{most_at, is_in as the_is_in, is_register as the_is_register};
+ghost use Rattle.rv_text.specs.Numbers.{number_in};
+ghost use Rattle.rv_text.specs.Faults.{earlier as the_earlier};
+ghost use Rattle.rv_text.specs.Operands.{ranged as the_ranged, registered_in, distant, written as the_written, operand_in, operands_in, after_operand, next_operand, after_mark as the_after_mark, after_slot as the_after_slot};
+ghost use Rattle.rv_text.specs.Rows.{most_in};
+ghost use Rattle.rv_text.specs.Places.{distances_in};
+ghost use Rattle.rv_text.specs.Sums.{bits_of, sum_of, plus as the_plus};
+
+use crate::class::{Class, is_name, skip, split_run};
+use crate::fault::FaultKind;
+use crate::field::{Field, is_in, is_register, is_target, placed_at};
+use crate::form::{Mark, Slot, character, field_of};
+use crate::names::{Scope, distance};
+use crate::numbers::{number, register_in};
+
+/// A number that must be in its range.
+fn ranged(field: Field, value: i64) -> Result<i64, FaultKind>
+    ensures value { result ≡ the_ranged field value }
+    ensures in_range { IfOk result (λ z. the_is_in field z ≡ true) }
+{
+    if is_in(field, value) {
+        Ok(value)
+    } else {
+        Err(FaultKind::OutOfRange)
+    }
+}
+
+/// The value of a register's operand.
+#[tactic(auto, using(crate::proofs::Ranges::register_rules))]
+fn register_operand(field: Field, text: &[u8]) -> Result<i64, FaultKind>
+    requires { the_is_register field ≡ true }
+    ensures value { result ≡ registered_in text.now }
+    ensures in_range { IfOk result (λ z. the_is_in field z ≡ true) }
+{
+    if !is_name(text) {
+        return Err(FaultKind::OtherForm);
+    }
+    match register_in(text) {
+        Some(n) => Ok(n),
+        None => Err(FaultKind::NoRegister),
+    }
+}
+
+/// The value of a name that stands for a distance.
+fn target_operand(field: Field, name: &[u8], scope: &Scope<'_, '_>) -> Result<i64, FaultKind>
+    ensures value { result ≡ distant field (distances_in scope.now name.now) }
+    ensures in_range { IfOk result (λ z. the_is_in field z ≡ true) }
+{
+    match distance(scope, name) {
+        Some(offset) => ranged(field, offset),
+        None => Err(FaultKind::Undefined),
+    }
+}
+
+/// The value of a number, where there is one.
+fn written(field: Field, number: Option<i64>) -> Result<i64, FaultKind>
+    ensures value { result ≡ the_written field number }
+    ensures in_range { IfOk result (λ z. the_is_in field z ≡ true) }
+{
+    match number {
+        Some(value) => ranged(field, value),
+        None => Err(FaultKind::OtherForm),
+    }
+}
+
+/// The value of a number's operand.
+#[tactic(auto, using(crate::proofs::CappedLemmas::ranged_rules))]
+fn number_operand(field: Field, text: &[u8]) -> Result<i64, FaultKind>
+    ensures value { result ≡ the_written field (number_in text.now) }
+    ensures in_range { IfOk result (λ z. the_is_in field z ≡ true) }
+{
+    written(field, number(text))
+}
+
+/// The value of an operand.
+fn operand(field: Field, text: &[u8], scope: &Scope<'_, '_>) -> Result<i64, FaultKind>
+    ensures value { result ≡ operand_in (distances_in scope.now) field text.now }
+    ensures in_range { IfOk result (λ z. the_is_in field z ≡ true) }
+{
+    if is_register(field) {
+        register_operand(field, text)
+    } else if is_target(field) && is_name(text) {
+        target_operand(field, text, scope)
+    } else {
+        number_operand(field, text)
+    }
+}
+
+/// The bits of an operand in the word.
+fn operand_bits(field: Field, text: &[u8], scope: &Scope<'_, '_>) -> Result<u32, FaultKind>
+    ensures bits { result ≡ bits_of field (operand_in (distances_in scope.now) field text.now) }
+    ensures most { IfOk result (λ bits. bits ≤ most_at field) }
+{
+    match operand(field, text, scope) {
+        Ok(value) => Ok(placed_at(field, value)),
+        Err(kind) => Err(kind),
+    }
+}
+
+/// Of two faults of a line the one that counts.
+fn earlier(one: FaultKind, other: FaultKind) -> FaultKind
+    ensures { result ≡ the_earlier one other }
+{
+    if other.number() < one.number() {
+        other
+    } else {
+        one
+    }
+}
+
+/// The bits of two parts of the operands, or the fault that counts.
+fn plus(one: Result<u32, FaultKind>, other: Result<u32, FaultKind>) -> Result<u32, FaultKind>
+    requires { IfOk one (λ m. IfOk other (λ n. m + n < 2 ^ 32)) }
+    ensures { result ≡ the_plus one other }
+{
+    match one {
+        Ok(m) => match other {
+            Ok(n) => Ok(m + n),
+            Err(kind) => Err(kind),
+        },
+        Err(kind) => match other {
+            Ok(_) => Err(kind),
+            Err(another) => Err(earlier(kind, another)),
+        },
+    }
+}
+
+/// The characters of the next operand, and what follows them.
+fn split_operand(text: &[u8]) -> (&[u8], &[u8])
+    ensures operand { result.0.now ≡ next_operand text.now }
+    ensures rest { result.1.now ≡ after_operand text.now }
+{
+    let (operand, rest) = split_run(skip(text), Class::Operand);
+    (operand, skip(rest))
+}
+
+/// What follows a mark, where it stands there.
+fn after_mark(mark: Mark, text: &[u8]) -> Option<&[u8]>
+    ensures { option_map (λ rest. rest.now) result ≡ the_after_mark mark text.now }
+{
+    match text {
+        [first, rest @ ..] => {
+            if *first == character(mark) {
+                Some(rest)
+            } else {
+                None
+            }
+        }
+        [] => None,
+    }
+}
+
+/// What follows a slot's mark, where it has one.
+fn after_slot(slot: Slot, text: &[u8]) -> Option<&[u8]>
+    ensures { option_map (λ rest. rest.now) result ≡ the_after_slot slot text.now }
+{
+    match slot {
+        Slot::Last(_) => Some(text),
+        Slot::UpTo(_, mark) => after_mark(mark, text),
+    }
+}
+
+/// The bits of the operands that slots ask for. It calls itself once for each slot, of which there are at most three.
+pub fn operands_bits(slots: &[Slot], text: &[u8], scope: &Scope<'_, '_>) -> Result<u32, FaultKind>
+    requires { most_in slots.now < 2 ^ 32 }
+    ensures bits { result ≡ sum_of slots.now (operands_in (distances_in scope.now) slots.now text.now) }
+    ensures most { IfOk result (λ bits. bits ≤ most_in slots.now) }
+{
+    match slots {
+        [] => {
+            if skip(text).is_empty() {
+                Ok(0)
+            } else {
+                Err(FaultKind::OtherForm)
+            }
+        }
+        [slot, others @ ..] => {
+            let (operand, rest) = split_operand(text);
+            let first = operand_bits(field_of(*slot), operand, scope);
+            let more = match after_slot(*slot, rest) {
+                Some(rest) => operands_bits(others, rest, scope),
+                None => Err(FaultKind::OtherForm),
+            };
+            plus(first, more)
+        }
+    }
+}

@@ -1,0 +1,7 @@
+//! Tests of assembly text.
+//!
+//! No layer of the product stands on this crate.
+#![tactic(auto)]
+
+#[cfg(test)]
+mod rv_text_test;
