@@ -1,6 +1,9 @@
-ghost use Rattle.std.specs.Prelude.{◌≡◌, ◌≢◌, ◌↔◌, ◌⊎◌, ℕ, suc, ◌+◌, ◌*◌, ◌/◌, ◌%◌, ◌^◌, ◌<◌, ◌≤◌, List, length};
+ghost use Rattle.std.specs.Prelude.{◌≡◌, ◌≢◌, ◌↔◌, ◌⊎◌, ℕ, suc, ◌+◌, ◌*◌, ◌-◌, ◌/◌, ◌%◌, ◌^◌, ◌<◌, ◌≤◌, ◌||◌, Bool, true, List, length};
 ghost use Rattle.digest_core.specs.Text.{node_text};
-ghost use Rattle.merkle_nodes.specs.Node.{node, empty_node};
+ghost use Rattle.rd_base.specs.declared.digest.Digest32.{Digest32};
+ghost use Rattle.merkle_nodes.specs.Node.{node, empty_node, beside, digest_at};
+ghost use Rattle.merkle_nodes.specs.Heap.{IsHeap};
+ghost use Rattle.merkle_nodes.specs.Renewals.{how_many, is_changed, renewals};
 ghost use Rattle.merkle_nodes.specs.Opening.{joined, Opens, opened, AreSiblings};
 ghost use Rattle.merkle_nodes.specs.Split.{IsSplitAt};
 
@@ -64,4 +67,39 @@ pub fn two_paths_agree_or_split()
         digest (opened digest a s n k) ≡ digest (opened digest b t n k) →
         ((a ≡ b) × ((l : ℕ) → l < n → s l ≡ t l))
         ⊎ ((l : ℕ) × (l ≤ n) × IsSplitAt digest a s b t k l) }
+{}
+
+/// A path that climbs to a node of a tree shows the leaf's string and the siblings of the tree, or at some level a string that is
+/// not the tree's with one digest as the tree's.
+pub fn paths_show_the_tree_or_split()
+    ensures paths { (digest : List ℕ → List ℕ) → ((bytes : List ℕ) → length (digest bytes) ≡ 32) →
+        (leaf : ℕ → List ℕ) (a : List ℕ) (s : ℕ → List ℕ) (n k : ℕ) → ((l : ℕ) → l < n → length (s l) ≡ 32) →
+        digest (opened digest a s n k) ≡ node digest leaf n (k / 2 ^ n) →
+        ((a ≡ leaf k) × AreSiblings digest leaf n k s)
+        ⊎ ((l : ℕ) × (l ≤ n) × IsSplitAt digest a s (leaf k) (λ i. node digest leaf i (beside (k / 2 ^ i))) k l) }
+{}
+
+/// A heap is the tree over its leaves: node k of a level below m others stands at 2^m + k.
+pub fn heaps_are_trees()
+    ensures nodes { (digest : List ℕ → List ℕ) (nodes : List Digest32) (leaf : ℕ → List ℕ) (n : ℕ) → IsHeap digest nodes n leaf →
+        (l m k : ℕ) → m + l ≡ n → k < 2 ^ m → digest_at nodes (2 ^ m + k) ≡ node digest leaf l k }
+{}
+
+/// Where the leaves of a heap are marked that have changed, and a node above them exactly where one of the two below it is, as
+/// many nodes are marked as have to be made anew, and the root is marked exactly where some leaf is.
+pub fn renewals_are_marked()
+    ensures many { (marked changed : ℕ → Bool) (n : ℕ) → ((k : ℕ) → k < 2 ^ n → marked (2 ^ n + k) ≡ changed k) →
+        ((i : ℕ) → 1 ≤ i → i < 2 ^ n → marked i ≡ (marked (2 * i) || marked (2 * i + 1))) →
+        how_many (λ k. marked (2 ^ n + k)) (2 ^ n) + how_many (λ k. marked (1 + k)) (2 ^ n - 1) ≡ renewals changed n }
+    ensures root { (marked changed : ℕ → Bool) (n : ℕ) → ((k : ℕ) → k < 2 ^ n → marked (2 ^ n + k) ≡ changed k) →
+        ((i : ℕ) → 1 ≤ i → i < 2 ^ n → marked i ≡ (marked (2 * i) || marked (2 * i + 1))) → marked 1 ≡ is_changed changed n 0 }
+{}
+
+/// At most a leaf and the nodes above it are made anew for each leaf that has changed (`few`), and none where none has (`none`);
+/// where one has changed the root has (`root`), and where the root has one has (`some`).
+pub fn renewals_are_few()
+    ensures few { (changed : ℕ → Bool) (n : ℕ) → renewals changed n ≤ (n + 1) * how_many changed (2 ^ n) }
+    ensures most { (changed : ℕ → Bool) (n : ℕ) → renewals changed n < 2 ^ (n + 1) }
+    ensures root { (changed : ℕ → Bool) (n k : ℕ) → k < 2 ^ n → changed k ≡ true → is_changed changed n 0 ≡ true }
+    ensures some { (changed : ℕ → Bool) (n : ℕ) → is_changed changed n 0 ≡ true → 0 < how_many changed (2 ^ n) }
 {}

@@ -2,17 +2,27 @@
 //!
 //! A tree is given by a digest function and the string of each leaf; nothing here holds one. The layers above may rely
 //! on the definition of a node (`specs/Node.antt`), on the laws about nodes and paths (`laws`), and on the calls that
-//! climb a path from its leaf (`climb`, `climb_counted`) and make the nodes over equal leaves (`fill_empty_nodes`). Read `specs/Node.antt` and `specs/Opening.antt` first, then `laws`.
+//! climb a path from its leaf (`climb`, `climb_counted`) and make the nodes over equal leaves (`fill_empty_nodes`). A tree may
+//! be kept as a heap of digests (`specs/Heap.antt`, the law `heaps_are_trees`), of which `renew_nodes` digests those nodes anew
+//! that stand above changed leaves, and no others (`specs/Renewals.antt`). Read `specs/Node.antt` and `specs/Opening.antt` first,
+//! then `laws`.
 #![tactic(auto)]
 
 mod climbing;
 mod empty;
+mod heap;
+mod heap_path;
 mod laws;
+mod strings;
 
 pub use climbing::{climb, climb_counted, digest_counted, joined_text};
 pub use empty::fill_empty_nodes;
+pub use heap::{fill_empty_heap, renew_nodes};
+pub use heap_path::fill_heap_path;
 pub use laws::{
-    changed_leaves_climb_with_old_siblings, climbing_is_opening, node_equations,
+    changed_leaves_climb_with_old_siblings, climbing_is_opening, heaps_are_trees, node_equations,
     nodes_depend_on_leaves_below, nodes_over_one_string_are_empty, opened_equations,
-    paths_climb_to_nodes, two_paths_agree_or_split,
+    paths_climb_to_nodes, paths_show_the_tree_or_split, renewals_are_few, renewals_are_marked,
+    two_paths_agree_or_split,
 };
+pub use strings::paths_open_strings_of_the_tree;

@@ -1,4 +1,4 @@
-use Rattle.std.proofs.Common.{ℕ, ◌+◌, ◌-◌, ◌≡◌, ap, ◌∙◌, sym, arith}
+use Rattle.std.proofs.Common.{◌+◌, ◌-◌, ◌≡◌, ap, ◌∙◌, sym, arith}
 use Rattle.digest_core.specs.Text.{node_text}
 use Rattle.merkle_nodes.specs.Node.{empty_node}
 use Rattle.merkle_nodes.proofs.EmptyLemmas.{empty-first, empty-next}
