@@ -1,134 +1,116 @@
--- A page's nodes are those of its memory.
-use Rattle.std.proofs.Common.{◌≡◌, ◌≢◌, ℕ, zero, suc, ◌+◌, ◌-◌, ◌*◌, ◌/◌, ◌%◌, ◌^◌, ◌<◌, ◌≤◌, List, [], ◌∷◌, ◌++◌, Some, None, true≢false, take, drop, length, set, refl, sym, ap, ◌∙◌, subst, arith, ⊎_elim, get_or-set_same, get_or-set_other}
+-- The pages of a memory, and what is kept of them.
+use Rattle.std.proofs.Common.{◌≡◌, ◌≢◌, ℕ, zero, suc, ◌+◌, ◌*◌, ◌/◌, ◌%◌, ◌<◌, ◌≤◌, List, [], ◌∷◌, ◌++◌, Option, Some, None, true, false, true≢false, is_some, take, drop, length, map, replicate, refl, sym, ap, ◌∙◌, arith, ⊎_elim}
+use Rattle.std.specs.List.{range_with_len}
 use Rattle.std.proofs.lemmas.Bool.{cases_eq}
+use Rattle.std.proofs.lemmas.List.{get_or-replicate, replicate-append-replicate}
+use Rattle.mem_plain.specs.Contents.{Contents, IsUsed, chunk_at, byte_at}
 use Rattle.rd_base.specs.declared.digest.Digest32.{Digest32}
-use Rattle.mem_plain.specs.Contents.{Contents, IsUsed}
-use Rattle.digest_core.specs.Text.{node_text}
-use Rattle.mem_tree.specs.Memory.{memory_leaf, memory_node}
-use Rattle.merkle_nodes.specs.Node.{node, digest_at}
+use Rattle.digest_core.specs.Text.{leaf_text}
+use Rattle.merkle_nodes.specs.Heap.{IsHeap, is_marked}
+use Rattle.mem_tree.specs.Memory.{SamePage}
+use Rattle.mem_tree.specs.Page.{IsMade, IsMadeTree, IsPageOf, chunk_in, leaf_of, page_chunk, zero_chunks}
+use Rattle.mem_tree.specs.Costs.{differs, has_changed, is_filled}
 use Rattle.mem_tree.specs.declared.kept.PageTree.{PageTree}
-use Rattle.mem_tree.proofs.MemoryLemmas.{EmptyLaw, node-unused, page-under}
-use Rattle.mem_tree.specs.Page.{AreLeaves, AreJoined, AreNodesOf, IsPageTree, place_of}
+use Rattle.mem_tree.proofs.MemoryLemmas.{bytes-same, listed-zeros, used-same, zero-or}
+use Rattle.mem_tree.proofs.CostLemmas.{RootLaw, SomeLaw, different-same, different-apart, none-changed}
 
-node-zero : (digest : List ℕ → List ℕ) (leaf : ℕ → List ℕ) (k : ℕ) → node digest leaf 0 k ≡ digest (leaf k)
-unfolding node
-node-zero digest leaf k = refl
-
-pub node-suc : (digest : List ℕ → List ℕ) (leaf : ℕ → List ℕ) (l k : ℕ) → node digest leaf (suc l) k ≡ digest (node_text (node digest leaf l (2 * k)) (node digest leaf l (2 * k + 1)))
-unfolding node
-node-suc digest leaf l k = refl
-
-module _ (digest : List ℕ → List ℕ) (nodes : List Digest32) (m : Contents) (page : ℕ) (leaves : AreLeaves digest nodes m page 128) (joined : AreJoined digest nodes 1) where
-  -- one level of the page stands at w to 2 * w
-  abbrev Level : ℕ → ℕ → Type 0
-  Level l w = (r : ℕ) → r < w → digest_at nodes (w + r) ≡ memory_node digest m l (w * page + r)
-
-  up : (l w : ℕ) → 1 ≤ w → w ≤ 64 → Level l (2 * w) → Level (suc l) w
-  up l w some low below r lt =
-      let left : 2 * (w + r) ≡ 2 * w + 2 * r = omega arith in
-      let right : 2 * (w + r) + 1 ≡ 2 * w + (2 * r + 1) = omega arith in
-      let first : 2 * w * page + 2 * r ≡ 2 * (w * page + r) = omega arith in
-      let second : 2 * w * page + (2 * r + 1) ≡ 2 * (w * page + r) + 1 = omega arith in
-      joined (w + r) (omega arith) (omega arith)
-      ∙ (ap (λ x. digest (node_text x (digest_at nodes (2 * (w + r) + 1)))) (ap (digest_at nodes) left ∙ (below (2 * r) (omega arith) ∙ ap (memory_node digest m l) first))
-      ∙ (ap (λ y. digest (node_text (memory_node digest m l (2 * (w * page + r))) y)) (ap (digest_at nodes) right ∙ (below (2 * r + 1) (omega arith) ∙ ap (memory_node digest m l) second))
-      ∙ sym (node-suc digest (memory_leaf m) l (w * page + r))))
-
-  level0 : Level 0 128
-  level0 r lt = leaves r lt ∙ sym (node-zero digest (memory_leaf m) (128 * page + r))
-
-  level1 : Level 1 64
-  level1 = up 0 64 (omega arith) (omega arith) level0
-
-  level2 : Level 2 32
-  level2 = up 1 32 (omega arith) (omega arith) level1
-
-  level3 : Level 3 16
-  level3 = up 2 16 (omega arith) (omega arith) level2
-
-  level4 : Level 4 8
-  level4 = up 3 8 (omega arith) (omega arith) level3
-
-  level5 : Level 5 4
-  level5 = up 4 4 (omega arith) (omega arith) level4
-
-  level6 : Level 6 2
-  level6 = up 5 2 (omega arith) (omega arith) level5
-
-  level7 : Level 7 1
-  level7 = up 6 1 (omega arith) (omega arith) level6
-
-  at_place : (l w k : ℕ) → 1 ≤ w → Level l w → w * page + k % w ≡ k → k % w < w → digest_at nodes (w + k % w) ≡ memory_node digest m l k
-  at_place l w k some level whole low = level (k % w) low ∙ ap (memory_node digest m l) whole
-
-  inside : (l k : ℕ) → l < 7 → k / 2 ^ (7 - l) ≡ page → digest_at nodes (place_of l k) ≡ memory_node digest m l k
-  inside zero k low at = at_place 0 128 k (omega arith) level0 (omega arith) (omega arith)
-  inside (suc zero) k low at = at_place 1 64 k (omega arith) level1 (omega arith) (omega arith)
-  inside (suc (suc zero)) k low at = at_place 2 32 k (omega arith) level2 (omega arith) (omega arith)
-  inside (suc (suc (suc zero))) k low at = at_place 3 16 k (omega arith) level3 (omega arith) (omega arith)
-  inside (suc (suc (suc (suc zero)))) k low at = at_place 4 8 k (omega arith) level4 (omega arith) (omega arith)
-  inside (suc (suc (suc (suc (suc zero))))) k low at = at_place 5 4 k (omega arith) level5 (omega arith) (omega arith)
-  inside (suc (suc (suc (suc (suc (suc zero)))))) k low at = at_place 6 2 k (omega arith) level6 (omega arith) (omega arith)
-  inside (suc (suc (suc (suc (suc (suc (suc l))))))) k low at = absurd (omega arith)
-
-  pub page-is : AreNodesOf digest nodes m page
-  page-is = record {
-    inside = inside;
-    root = level7 0 (omega arith) ∙ ap (memory_node digest m 7) (omega arith);
-  }
-
-module _ (nodes : List Digest32) (place : ℕ) (x : Digest32) where
-  pub place-here : place < length nodes → digest_at (set nodes place x) place ≡ x.0
-  place-here fits = ap (λ (d : Digest32). d.0) (get_or-set_same nodes place x (record { 0 = [] }) fits)
-
-  pub place-elsewhere : (i : ℕ) → i ≢ place → digest_at (set nodes place x) i ≡ digest_at nodes i
-  place-elsewhere i apart = ap (λ (d : Digest32). d.0) (get_or-set_other nodes place i x (record { 0 = [] }) apart)
-
-pub leaves-set : (digest : List ℕ → List ℕ) (nodes : List Digest32) (m : Contents) (page n : ℕ) (x : Digest32) → length nodes ≡ 256 → n < 128
-    → x.0 ≡ digest (memory_leaf m (128 * page + n)) → AreLeaves digest nodes m page n → AreLeaves digest (set nodes (128 + n) x) m page (n + 1)
-leaves-set digest nodes m page n x len low is leaves i lt = ⊎_elim
-    (λ same. ap (λ j. digest_at (set nodes (128 + n) x) (128 + j)) same ∙ (place-here nodes (128 + n) x (omega arith) ∙ (is ∙ ap (λ j. digest (memory_leaf m (128 * page + j))) (sym same))))
-    (λ apart. place-elsewhere nodes (128 + n) x (128 + i) (λ e. apart (omega arith)) ∙ leaves i (omega arith))
-    (cases_eq i n)
-
-pub joined-set : (digest : List ℕ → List ℕ) (nodes : List Digest32) (place : ℕ) (x : Digest32) → length nodes ≡ 256 → 1 ≤ place → place < 128
-    → x.0 ≡ digest (node_text (digest_at nodes (2 * place)) (digest_at nodes (2 * place + 1))) → AreJoined digest nodes (place + 1) → AreJoined digest (set nodes place x) place
-joined-set digest nodes place x len some low is joined i from lt =
-    let left = place-elsewhere nodes place x (2 * i) (λ e. absurd (omega arith)) in
-    let right = place-elsewhere nodes place x (2 * i + 1) (λ e. absurd (omega arith)) in
-    here left right ∙ (ap (λ a. digest (node_text a (digest_at nodes (2 * i + 1)))) (sym left) ∙ ap (λ b. digest (node_text (digest_at (set nodes place x) (2 * i)) b)) (sym right))
-  where
-    here : digest_at (set nodes place x) (2 * i) ≡ digest_at nodes (2 * i) → digest_at (set nodes place x) (2 * i + 1) ≡ digest_at nodes (2 * i + 1)
-        → digest_at (set nodes place x) i ≡ digest (node_text (digest_at nodes (2 * i)) (digest_at nodes (2 * i + 1)))
-    here left right = ⊎_elim
-        (λ same. ap (digest_at (set nodes place x)) same ∙ (place-here nodes place x (omega arith) ∙ (is ∙ ap (λ j. digest (node_text (digest_at nodes (2 * j)) (digest_at nodes (2 * j + 1)))) (sym same))))
-        (λ apart. place-elsewhere nodes place x i apart ∙ joined i (omega arith) lt)
-        (cases_eq i place)
+pub page_chunk-is : (m : Contents) (page j : ℕ) → page_chunk m page j ≡ chunk_at m (128 * page + j)
+unfolding page_chunk
+page_chunk-is m page j = refl
 
 -- a slice that was written whole
-pub written-whole : (n : ℕ) (xs ys : List Digest32) → length xs ≡ n → length ys ≡ n → take n (xs ++ drop (length xs) ys) ≡ xs
-written-whole n [] [] left right = let e : n ≡ 0 = omega arith in ap (λ i. take i []) e
+pub written-whole : {A : Type 0} (n : ℕ) (xs ys : List A) → length xs ≡ n → length ys ≡ n → take n (xs ++ drop (length xs) ys) ≡ xs
+written-whole {A} n [] [] left right = let e : n ≡ 0 = omega arith in ap (λ i. take {A = A} i []) e
 written-whole n [] (y ∷ ys) left right = absurd (omega arith)
 written-whole n (x ∷ xs) [] left right = absurd (omega arith)
 written-whole zero (x ∷ xs) (y ∷ ys) left right = absurd (omega arith)
 written-whole (suc n) (x ∷ xs) (y ∷ ys) left right = ap (λ l. x ∷ l) (written-whole n xs ys (omega arith) (omega arith))
 
--- one place more of a list whose places are a function's
-pub places-set : (f : ℕ → List ℕ) (nodes : List Digest32) (n : ℕ) (x : Digest32) → n < length nodes → x.0 ≡ f n
-    → ((i : ℕ) → i < n → digest_at nodes i ≡ f i) → (i : ℕ) → i < n + 1 → digest_at (set nodes n x) i ≡ f i
-places-set f nodes n x fits is before i lt = ⊎_elim
-    (λ same. ap (digest_at (set nodes n x)) same ∙ (place-here nodes n x fits ∙ (is ∙ ap f (sym same))))
-    (λ apart. place-elsewhere nodes n x i apart ∙ before i (omega arith))
-    (cases_eq i n)
+pub zero-at : (j : ℕ) → j < 128 → chunk_in zero_chunks j ≡ replicate 32 0
+unfolding zero_chunks
+zero-at j low = get_or-replicate 128 j (replicate 32 0) [] low
 
--- the heap of a used page
-pub used-page : (digest : List ℕ → List ℕ) (tree : PageTree) (m : Contents) (page : ℕ) → AreNodesOf digest tree.nodes.items m page → IsUsed m page → IsPageTree digest (Some tree) m page
-used-page digest tree m page are used empties empty = record { inside = are.inside; root = are.root; used = (λ is. used, λ is. refl) }
+pub zero_chunks-are : (chunks : List (List ℕ)) → chunks ≡ replicate 128 (replicate 32 0) → chunks ≡ zero_chunks
+unfolding zero_chunks
+zero_chunks-are chunks is = is
 
--- no heap, for an unused page
-pub unused-page : EmptyLaw → (digest : List ℕ → List ℕ) (m : Contents) (page : ℕ) → ¬ IsUsed m page → IsPageTree digest None m page
-unused-page law digest m page unused empties empty = record {
-  inside = λ l k lt at. empty l (omega arith) ∙ sym (node-unused law digest m l k (λ j under. subst (λ p. ¬ IsUsed m p) (sym (page-under l j k lt under ∙ at)) unused));
-  root = empty 7 (omega arith) ∙ sym (node-unused law digest m 7 page (λ j at. subst (λ p. ¬ IsUsed m p) (sym at) unused));
+-- the chunks of an unused page are zeros
+pub unused-chunk : (m : Contents) (page j : ℕ) → j < 128 → ¬ IsUsed m page → page_chunk m page j ≡ replicate 32 0
+unused-chunk m page j low unused =
+    page_chunk-is m page j ∙ listed-zeros (λ i. byte_at m (32 * (128 * page + j) + i)) 0 32 (λ i lt. zero-or (byte_at m (32 * (128 * page + j) + i)) (λ used. unused (32 * (128 * page + j) + i, omega arith, used)))
+
+-- and where a chunk is of zeros, so is each of its bytes
+zeros-listed : (f : ℕ → ℕ) (s n : ℕ) → map f (range_with_len s n) ≡ replicate n 0 → (i : ℕ) → s ≤ i → i < s + n → f i ≡ 0
+zeros-listed f s zero same i from to = absurd (omega arith)
+zeros-listed f s (suc n) same i from to =
+    let head : f s ≡ 0 = cc in
+    let tail : map f (range_with_len (s + 1) n) ≡ replicate n 0 = cc in
+    ⊎_elim (λ here. ap f here ∙ head) (λ apart. zeros-listed f (s + 1) n tail i (omega arith) (omega arith)) (cases_eq i s)
+
+pub used-chunk : (m : Contents) (page : ℕ) → IsUsed m page → (j : ℕ) × (j < 128) × (page_chunk m page j ≢ replicate 32 0)
+used-chunk m page used =
+    let a = used.0 in
+    let j = a / 32 % 128 in
+    (j, omega arith, λ zeros. used.2 (byte a (omega (arith, used.1)) (zeros-listed (λ i. byte_at m (32 * (128 * page + j) + i)) 0 32 (sym (page_chunk-is m page j) ∙ zeros) (a % 32) (omega arith) (omega arith))))
+  where
+    byte : (a : ℕ) → 32 * (128 * page + a / 32 % 128) + a % 32 ≡ a → byte_at m (32 * (128 * page + a / 32 % 128) + a % 32) ≡ 0 → byte_at m a ≡ 0
+    byte a at is = ap (byte_at m) (sym at) ∙ is
+
+-- what is kept of a page that isn't used
+pub unused-page : (m : Contents) (page : ℕ) → ¬ IsUsed m page → IsPageOf None m page
+unused-page m page unused = record {
+  chunks = λ j low. zero-at j low ∙ sym (unused-chunk m page j low unused);
   used = (λ is. absurd (true≢false (sym is)), λ used. absurd (unused used));
 }
+
+-- and of one that is
+pub used-page : (digest : List ℕ → List ℕ) (tree : PageTree) (m : Contents) (page : ℕ) → IsUsed m page → ((j : ℕ) → j < 128 → chunk_in tree.chunks.items j ≡ page_chunk m page j) → IsPageOf (Some tree) m page
+used-page digest tree m page used chunks = record { chunks = chunks; used = (λ is. used, λ is. refl) }
+
+pub used-some : (tree : PageTree) (m : Contents) (page : ℕ) → IsUsed m page → ((j : ℕ) → j < 128 → chunk_in tree.chunks.items j ≡ page_chunk m page j) → (j : ℕ) × (j < 128) × (chunk_in tree.chunks.items j ≢ replicate 32 0)
+used-some tree m page used chunks = let found = used-chunk m page used in (found.0, found.1, λ e. found.2 (sym (chunks found.0 found.1) ∙ e))
+
+-- memory is the same in a page
+pub page-moved : (o : Option PageTree) (m n : Contents) (page : ℕ) → SamePage m n page → IsPageOf o m page → IsPageOf o n page
+page-moved o m n page same is = record {
+  chunks = λ j low. is.chunks j low ∙ (page_chunk-is m page j
+      ∙ (bytes-same (λ i. byte_at m (32 * (128 * page + j) + i)) (λ i. byte_at n (32 * (128 * page + j) + i)) 0 32 (λ i from to. same (32 * (128 * page + j) + i) (omega arith))
+      ∙ sym (page_chunk-is n page j)));
+  used = (λ is'. used-same m n page same (is.used.0 is'), λ used. is.used.1 (used-same n m page (λ a at. sym (same a at)) used));
+}
+
+-- a page is filled exactly where it is used
+module _ (root : RootLaw) (some : SomeLaw) (m : Contents) (page : ℕ) where
+  pub unused-filled : ¬ IsUsed m page → is_filled m page ≡ false
+  unused-filled unused = none-changed some (differs None m page) (λ j low. different-same (chunk_in zero_chunks j) (page_chunk m page j) (zero-at j low ∙ sym (unused-chunk m page j low unused)))
+
+  pub used-filled : IsUsed m page → is_filled m page ≡ true
+  used-filled used = let found = used-chunk m page used in root (differs None m page) 7 found.0 found.1 (different-apart (chunk_in zero_chunks found.0) (page_chunk m page found.0) (λ e. found.2 (sym e ∙ zero-at found.0 found.1)))
+
+  -- a page that was kept and is of zeros now has changed
+  pub emptied : (digest : List ℕ → List ℕ) (tree : PageTree) → IsMade digest tree → ¬ IsUsed m page → has_changed (Some tree) m page ≡ true
+  emptied digest tree made unused =
+      let found = made.some in
+      root (differs (Some tree) m page) 7 found.0 found.1 (different-apart (chunk_in tree.chunks.items found.0) (page_chunk m page found.0) (λ e. found.2 (e ∙ unused-chunk m page found.0 found.1 unused)))
+
+  pub was-kept : (digest : List ℕ → List ℕ) (before : Option PageTree) → IsMadeTree digest before → ¬ IsUsed m page → is_some before ≡ has_changed before m page
+  was-kept digest (Some tree) made unused = sym (emptied digest tree made unused)
+  was-kept digest None made unused = sym (unused-filled unused)
+
+pub none-marked : (n i : ℕ) → is_marked (replicate n false) i ≡ false
+none-marked zero zero = refl
+none-marked zero (suc i) = refl
+none-marked (suc n) zero = refl
+none-marked (suc n) (suc i) = none-marked n i
+
+-- the heap over chunks of zeros
+pub zero-heap : (digest : List ℕ → List ℕ) (nodes : List Digest32) (chunks : List (List ℕ)) → chunks ≡ zero_chunks
+    → IsHeap digest nodes 7 (λ _. leaf_text (replicate 32 0)) → IsHeap digest nodes 7 (leaf_of chunks)
+zero-heap digest nodes chunks is heap = record {
+  whole = heap.whole;
+  leaves = λ k low. heap.leaves k low ∙ ap (λ c. digest (leaf_text c)) (sym (ap (λ (cs : List (List ℕ)). chunk_in cs k) is ∙ zero-at k low));
+  joined = heap.joined;
+}
+
+pub one-more : {A : Type 0} (x : A) (n : ℕ) → replicate n x ++ x ∷ [] ≡ replicate (n + 1) x
+one-more x n = replicate-append-replicate n 1 x

@@ -1,29 +1,46 @@
--- Derived. The subtree of one page, as a heap of 256 digests: its root at 1, the nodes below node i at 2 * i and 2 * i + 1, so
--- that its leaves stand from 128 on.
-use Rattle.std.specs.Prelude.{◌≡◌, ◌↔◌, ℕ, ◌+◌, ◌-◌, ◌*◌, ◌/◌, ◌%◌, ◌^◌, ◌<◌, ◌≤◌, List, Option, Some, None, true, is_some}
+-- Derived. The subtree of one page, as a heap of 256 digests, beside the 128 chunks over which it stands.
+use Rattle.std.specs.Prelude.{◌≡◌, ◌≢◌, ◌↔◌, ℕ, ◌+◌, ◌-◌, ◌*◌, ◌%◌, ◌^◌, ◌<◌, List, [], Option, Some, None, true, is_some, replicate, slice_index_or}
 use Rattle.rd_base.specs.declared.digest.Digest32.{Digest32}
-use Rattle.mem_plain.specs.Contents.{Contents, IsUsed}
-use Rattle.digest_core.specs.Text.{node_text}
+use Rattle.mem_plain.specs.Contents.{Contents, IsUsed, chunk_at}
+use Rattle.digest_core.specs.Text.{leaf_text}
 use Rattle.merkle_nodes.specs.Node.{digest_at}
-use Rattle.mem_tree.specs.Memory.{memory_leaf, memory_node, zero_node}
+use Rattle.merkle_nodes.specs.Heap.{IsHeap}
+use Rattle.mem_tree.specs.Memory.{zero_node}
 use Rattle.mem_tree.specs.declared.kept.PageTree.{PageTree}
 
--- the first n leaves of a page stand from 128 on
-abbrev pub AreLeaves : (List ℕ → List ℕ) → List Digest32 → Contents → ℕ → ℕ → Type 0
-AreLeaves digest nodes m page n = (i : ℕ) → i < n → digest_at nodes (128 + i) ≡ digest (memory_leaf m (128 * page + i))
+-- chunk j of a page of a memory
+unfoldable pub page_chunk : Contents → ℕ → ℕ → List ℕ
+page_chunk m page j = chunk_at m (128 * page + j)
 
--- each node above the leaves, from a place on, is the digest of the two below it
-abbrev pub AreJoined : (List ℕ → List ℕ) → List Digest32 → ℕ → Type 0
-AreJoined digest nodes from = (i : ℕ) → from ≤ i → i < 128 → digest_at nodes i ≡ digest (node_text (digest_at nodes (2 * i)) (digest_at nodes (2 * i + 1)))
+-- chunk j of some
+abbrev pub chunk_in : List (List ℕ) → ℕ → List ℕ
+chunk_in chunks j = slice_index_or chunks j []
+
+-- the leaf strings of chunks
+abbrev pub leaf_of : List (List ℕ) → ℕ → List ℕ
+leaf_of chunks j = leaf_text (chunk_in chunks j)
+
+-- the chunks of a page of zeros
+unfoldable pub zero_chunks : List (List ℕ)
+zero_chunks = replicate 128 (replicate 32 0)
+
+-- chunk j that is kept of a page; of a page that isn't kept, zeros
+abbrev pub kept_chunk : Option PageTree → ℕ → List ℕ
+kept_chunk (Some tree) j = chunk_in tree.chunks.items j
+kept_chunk None j = chunk_in zero_chunks j
 
 -- where node k of a level below 7 stands in the heap of its page
 abbrev pub place_of : ℕ → ℕ → ℕ
 place_of l k = 2 ^ (7 - l) + k % 2 ^ (7 - l)
 
--- the heap has the nodes of a memory's page
-pub record AreNodesOf (digest : List ℕ → List ℕ) (nodes : List Digest32) (m : Contents) (page : ℕ) : Type 0 where
-  pub inside : (l k : ℕ) → l < 7 → k / 2 ^ (7 - l) ≡ page → digest_at nodes (place_of l k) ≡ memory_node digest m l k
-  pub root : digest_at nodes 1 ≡ memory_node digest m 7 page
+-- the heap is the tree over the chunks beside it, of which one at least isn't of zeros
+pub record IsMade (digest : List ℕ → List ℕ) (tree : PageTree) : Type 0 where
+  pub heap : IsHeap digest tree.nodes.items 7 (leaf_of tree.chunks.items)
+  pub some : (j : ℕ) × (j < 128) × (chunk_in tree.chunks.items j ≢ replicate 32 0)
+
+abbrev pub IsMadeTree : (List ℕ → List ℕ) → Option PageTree → Type 0
+IsMadeTree digest (Some tree) = IsMade digest tree
+IsMadeTree digest None = Unit {0}
 
 -- the node of each level over chunks of zeros
 abbrev pub AreEmpty : (List ℕ → List ℕ) → List Digest32 → Type 0
@@ -39,12 +56,12 @@ abbrev pub kept_or : Option Digest32 → List ℕ → List ℕ
 kept_or (Some digest) empty = digest.0
 kept_or None empty = empty
 
--- a page's subtree is there exactly where the page is used, and its nodes, or the empty ones, are the memory's
-pub record IsPageOf (digest : List ℕ → List ℕ) (empties : List Digest32) (tree : Option PageTree) (m : Contents) (page : ℕ) : Type 0 where
-  pub inside : (l k : ℕ) → l < 7 → k / 2 ^ (7 - l) ≡ page → heap_node tree (place_of l k) (digest_at empties l) ≡ memory_node digest m l k
-  pub root : heap_node tree 1 (digest_at empties 7) ≡ memory_node digest m 7 page
+-- the chunks that are kept of a page are the memory's, and it is kept exactly where it holds a byte other than 0
+pub record IsPageOf (tree : Option PageTree) (m : Contents) (page : ℕ) : Type 0 where
+  pub chunks : (j : ℕ) → j < 128 → kept_chunk tree j ≡ page_chunk m page j
   pub used : (is_some tree ≡ true) ↔ IsUsed m page
 
--- the same for the empty nodes of whatever tree
-abbrev pub IsPageTree : (List ℕ → List ℕ) → Option PageTree → Contents → ℕ → Type 0
-IsPageTree digest tree m page = (empties : List Digest32) → AreEmpty digest empties → IsPageOf digest empties tree m page
+-- such a page, whose heap is that of its chunks
+pub record IsPageTree (digest : List ℕ → List ℕ) (tree : Option PageTree) (m : Contents) (page : ℕ) : Type 0 where
+  pub made : IsMadeTree digest tree
+  pub page_of : IsPageOf tree m page

@@ -1,7 +1,7 @@
 -- To believe: `Tree`, `is_among` and `SameBut`, which say what a refreshed tree is promised of. The rest is derived: when a kept tree
 -- is the tree of a memory, but for its touched pages, the relation that every call of `MemTree` keeps, and from which its root and
 -- its paths are those of the definition.
-use Rattle.std.specs.Prelude.{◌≡◌, ◌↔◌, ℕ, ◌+◌, ◌-◌, ◌*◌, ◌/◌, ◌^◌, ◌<◌, ◌≤◌, List, Option, Bool, true, false, is_some}
+use Rattle.std.specs.Prelude.{◌≡◌, ℕ, ◌+◌, ◌-◌, ◌*◌, ◌/◌, ◌^◌, ◌<◌, List, [], Option, Bool, true, false, ◌||◌, is_some}
 use Rattle.std.specs.Ordering.{nat_cmp, ordering_then}
 use Rattle.std.specs.declared.cmp.Ordering.{Ordering}
 use Rattle.std.specs.List.{list_any}
@@ -9,10 +9,10 @@ use Rattle.std.specs.Map.{lookup}
 use Rattle.std.specs.BTreeMap.{is_at}
 use Rattle.rd_base.specs.declared.digest.Digest32.{Digest32}
 use Rattle.digest_core.specs.Text.{node_text}
-use Rattle.mem_plain.specs.Contents.{Contents, IsUsed}
+use Rattle.mem_plain.specs.Contents.{Contents}
 use Rattle.merkle_nodes.specs.Node.{digest_at}
-use Rattle.mem_tree.specs.Memory.{memory_node, SamePage}
-use Rattle.mem_tree.specs.Page.{place_of, heap_node, kept_or, AreEmpty}
+use Rattle.mem_tree.specs.Memory.{SamePage}
+use Rattle.mem_tree.specs.Page.{place_of, heap_node, kept_or, AreEmpty, IsMadeTree, IsPageOf}
 use Rattle.mem_tree.specs.declared.kept.PageTree.{PageTree}
 use Rattle.mem_tree.specs.declared.kept.Nodes.{Nodes}
 
@@ -25,10 +25,11 @@ pub record Kept : Type 0 where
 abbrev pub kept_of : Nodes → Kept
 kept_of nodes = record { pages = nodes.pages.entries; upper = nodes.upper.entries; empties = nodes.empties }
 
--- what a tree is to contracts: these, and the pages that were touched since the last refresh
+-- what a tree is to contracts: these, the pages that were touched since the last refresh, and whether the last refresh failed
 pub record Tree : Type 0 where
   pub nodes : Kept
   pub touched : List ℕ
+  pub failed : Bool
 
 -- a page is among these
 abbrev pub is_among : List ℕ → ℕ → Bool
@@ -45,22 +46,47 @@ page_node t l k = heap_node (page_at t (k / 2 ^ (7 - l))) (place_of l k) (digest
 abbrev pub by_place : ℕ × ℕ → ℕ × ℕ → Ordering
 by_place p q = ordering_then (nat_cmp p.0 q.0) (nat_cmp p.1 q.1)
 
--- node k of level 7 + n
+-- node k of level 7 + n, where it is kept
+abbrev pub upper_at : Kept → ℕ → ℕ → Option Digest32
+upper_at t n k = lookup (is_at (by_place (n, k))) t.upper
+
 abbrev pub upper_node : Kept → ℕ → ℕ → List ℕ
-upper_node t n k = kept_or (lookup (is_at (by_place (n, k))) t.upper) (digest_at t.empties (7 + n))
+upper_node t n k = kept_or (upper_at t n k) (digest_at t.empties (7 + n))
 
--- the node at each level above a page, up to 7 + top, is the digest of the two below it, and the lowest one is given
-pub record IsRaised (digest : List ℕ → List ℕ) (t : Kept) (page : ℕ) (root : List ℕ) (top : ℕ) : Type 0 where
-  pub lowest : upper_node t 0 page ≡ root
-  pub joined : (n : ℕ) → n < top → upper_node t (n + 1) (page / 2 ^ (n + 1))
-      ≡ digest (node_text (upper_node t n (2 * (page / 2 ^ (n + 1)))) (upper_node t n (2 * (page / 2 ^ (n + 1)) + 1)))
+-- a node is the digest of two, and is kept exactly where one of them is; the empty nodes of their level and of its own are given
+pub record IsOfTwo (digest : List ℕ → List ℕ) (node left right : Option Digest32) (below empty : List ℕ) : Type 0 where
+  pub digest_is : kept_or node empty ≡ digest (node_text (kept_or left below) (kept_or right below))
+  pub kept : is_some node ≡ (is_some left || is_some right)
 
--- each node that stands neither in nor above a stale page is the memory's; and of the pages that aren't stale those are kept that
--- hold a byte other than 0, and no others
+-- so is node k of level 7 + n + 1
+abbrev pub IsJoinedAbove : (List ℕ → List ℕ) → Kept → ℕ → ℕ → Type 0
+IsJoinedAbove digest t n k = IsOfTwo digest (upper_at t (n + 1) k) (upper_at t n (2 * k)) (upper_at t n (2 * k + 1)) (digest_at t.empties (7 + n)) (digest_at t.empties (7 + (n + 1)))
+
+-- a node is the root of a page's heap, and is kept exactly where the heap is
+pub record IsRoot (node : Option Digest32) (tree : Option PageTree) : Type 0 where
+  pub digest_is : (empty : List ℕ) → kept_or node empty ≡ heap_node tree 1 empty
+  pub kept : is_some node ≡ is_some tree
+
+-- from a page's root up to level 7 + top, each node above the page is the digest of two
+pub record IsRaised (digest : List ℕ → List ℕ) (t : Kept) (page : ℕ) (root : Option Digest32) (top : ℕ) : Type 0 where
+  pub lowest : upper_at t 0 page ≡ root
+  pub joined : (n : ℕ) → n < top → IsJoinedAbove digest t n (page / 2 ^ (n + 1))
+  pub kept : is_some root ≡ true → is_some (upper_at t top (page / 2 ^ top)) ≡ true
+
+-- each node that stands neither at nor above a stale page is the root of its page, or the digest of the two below it. So nothing is
+-- kept above pages but over pages that are kept, or stale
+pub record IsJoinedBut (digest : List ℕ → List ℕ) (t : Kept) (stale : List ℕ) : Type 0 where
+  pub roots : (p : ℕ) → is_among stale p ≡ false → IsRoot (upper_at t 0 p) (page_at t p)
+  pub above : (n k : ℕ) → n < 20 → ((p : ℕ) → p / 2 ^ (n + 1) ≡ k → is_among stale p ≡ false) → IsJoinedAbove digest t n k
+
+-- the heap of each page is the tree over its chunks, be the page stale or not
+abbrev pub AllMade : (List ℕ → List ℕ) → Kept → Type 0
+AllMade digest t = (p : ℕ) → IsMadeTree digest (page_at t p)
+
+-- each page that isn't stale is the memory's: it is kept exactly where it holds a byte other than 0; and the nodes above are joined
 pub record IsOver (digest : List ℕ → List ℕ) (t : Kept) (stale : List ℕ) (m : Contents) : Type 0 where
-  pub inside : (l k : ℕ) → l < 7 → is_among stale (k / 2 ^ (7 - l)) ≡ false → page_node t l k ≡ memory_node digest m l k
-  pub over : (n k : ℕ) → n ≤ 20 → ((p : ℕ) → p / 2 ^ n ≡ k → is_among stale p ≡ false) → upper_node t n k ≡ memory_node digest m (7 + n) k
-  pub used : (p : ℕ) → is_among stale p ≡ false → (is_some (page_at t p) ≡ true) ↔ IsUsed m p
+  pub pages : (p : ℕ) → is_among stale p ≡ false → IsPageOf (page_at t p) m p
+  pub joined : IsJoinedBut digest t stale
 
 -- the tree is a memory's, but for the touched pages
 abbrev pub IsTreeOf : (List ℕ → List ℕ) → Tree → Contents → Type 0
@@ -70,7 +96,11 @@ IsTreeOf digest t m = IsOver digest t.nodes t.touched m
 abbrev pub SameBut : List ℕ → Contents → Contents → Type 0
 SameBut pages m n = (p : ℕ) → is_among pages p ≡ false → SamePage m n p
 
--- what holds of every tree: the empty node of each level stands at its place, and each touched page is one of the 2^20 pages
+-- what holds of every tree: the empty node of each level stands at its place; each touched page is one of the 2^20 pages; each heap
+-- is made of its chunks; the nodes above are joined, but for those of touched pages, and for none of them unless a refresh failed
 pub record IsWhole (digest : List ℕ → List ℕ) (t : Tree) : Type 0 where
   pub empty : AreEmpty digest t.nodes.empties
   pub pages : (p : ℕ) → is_among t.touched p ≡ true → p < 2 ^ 20
+  pub made : AllMade digest t.nodes
+  pub joined : IsJoinedBut digest t.nodes t.touched
+  pub whole : t.failed ≡ false → IsJoinedBut digest t.nodes []

@@ -1,14 +1,14 @@
-ghost use Rattle.std.specs.Prelude.{◌≡◌, ◌<◌, ◌^◌, ℕ, [], IfOk, All, true};
+ghost use Rattle.std.specs.Prelude.{◌≡◌, ◌<◌, ◌^◌, ℕ, [], length, IfOk, All, true};
 ghost use Rattle.std.specs.List.{AllZip};
 ghost use Rattle.mem_plain.specs.Contents.{IsUsed};
-ghost use Rattle.mem_tree.specs.Page.{AreEmpty, IsPageTree};
-ghost use Rattle.mem_tree.specs.Tree.{kept_of, IsOver, is_among};
+ghost use Rattle.mem_tree.specs.Page.{AreEmpty, IsPageOf, IsPageTree};
+ghost use Rattle.mem_tree.specs.Tree.{kept_of, page_at, AllMade, IsJoinedBut, is_among};
 
 use crate::kept::{Nodes, PageTree};
-use crate::page::page_tree;
+use crate::page::page_tree_after;
 use digest_core::{Digester, leaf_text};
 use mem_plain::PlainMem;
-use merkle_nodes::{fill_empty_nodes, nodes_over_one_string_are_empty};
+use merkle_nodes::fill_empty_nodes;
 use rayon::prelude::*;
 use rd_base::{Digest32, Memory, Steps};
 use std::alloc::{AllocError, Global};
@@ -34,6 +34,7 @@ fn used_pages(alloc: Global, mem: &PlainMem) -> Result<Vec<u32>, Memory>
 fn page_tree_in<D: Digester, L: Ledger>(
     d: D,
     alloc: Global,
+    empties: &[Digest32],
     mem: &PlainMem,
     page: u32,
     blank: Blank,
@@ -42,23 +43,29 @@ fn page_tree_in<D: Digester, L: Ledger>(
     requires parts { blank.parts ≡ L.parts }
     requires one { L.parts ≡ 1 }
     requires page { page < 2 ^ 20 }
+    requires levels { length empties.now ≡ 28 }
+    requires empty { AreEmpty D.digest_of empties.now }
     ensures { IfOk result (λ tree. IsPageTree D.digest_of tree mem.now page) }
 {
     let mut steps = Steps::<L>::new(blank);
-    page_tree(d, alloc, mem, page, &mut steps)
+    let (tree, _changed) = page_tree_after(d, alloc, empties, None, mem, page, &mut steps)?;
+    Ok(tree)
 }
 
 /// The subtree of a page, uncounted.
 fn plain_page_tree<D: Digester>(
     d: D,
     alloc: Global,
+    empties: &[Digest32],
     mem: &PlainMem,
     page: u32,
 ) -> Result<Option<PageTree>, Memory>
-    requires { page < 2 ^ 20 }
+    requires page { page < 2 ^ 20 }
+    requires levels { length empties.now ≡ 28 }
+    requires empty { AreEmpty D.digest_of empties.now }
     ensures { IfOk result (λ tree. IsPageTree D.digest_of tree mem.now page) }
 {
-    page_tree_in::<D, Brand>(d, alloc, mem, page, Blank::new(1))
+    page_tree_in::<D, Brand>(d, alloc, empties, mem, page, Blank::new(1))
 }
 
 /// The subtrees of pages, in their order, from as many threads as there are processors.
@@ -66,10 +73,13 @@ fn trees_of<R: Threads + Sync, D: Digester + Send + Sync>(
     rt: &R,
     alloc: Global,
     d: D,
+    empties: &[Digest32],
     mem: &PlainMem,
     pages: &[u32],
 ) -> Result<Vec<Result<Option<PageTree>, Memory>>, AllocError>
-    requires { All (λ page. page < 2 ^ 20) pages.now }
+    requires pages { All (λ page. page < 2 ^ 20) pages.now }
+    requires levels { length empties.now ≡ 28 }
+    requires empty { AreEmpty D.digest_of empties.now }
     ensures { IfOk result (λ trees. AllZip (λ page tree. IfOk tree (λ t. IsPageTree D.digest_of t mem.now page))
         pages.now trees.items) }
 {
@@ -77,9 +87,11 @@ fn trees_of<R: Threads + Sync, D: Digester + Send + Sync>(
         .par_iter()
         .map(
             |page: &u32| -> Result<Option<PageTree>, Memory>
-                requires { page.now < 2 ^ 20 }
+                requires page { page.now < 2 ^ 20 }
+                requires levels { length empties.now ≡ 28 }
+                requires empty { AreEmpty D.digest_of empties.now }
                 ensures { IfOk result (λ tree. IsPageTree D.digest_of tree mem.entry.now page.now) }
-            { plain_page_tree(d, alloc, mem, *page) },
+            { plain_page_tree(d, alloc, empties, mem, *page) },
         )
         .collect(rt, alloc)
 }
@@ -109,14 +121,15 @@ fn nodes_in<R: Threads + Sync, D: Digester + Send + Sync, L: Ledger>(
     requires name { blank.name ≡ L.name }
     requires parts { blank.parts ≡ L.parts }
     requires one { L.parts ≡ 1 }
-    ensures over { IfOk result (λ nodes. IsOver D.digest_of (kept_of nodes) [] mem.now) }
+    ensures pages { IfOk result (λ nodes. (p : ℕ) → IsPageOf (page_at (kept_of nodes) p) mem.now p) }
+    ensures made { IfOk result (λ nodes. AllMade D.digest_of (kept_of nodes)) }
+    ensures joined { IfOk result (λ nodes. IsJoinedBut D.digest_of (kept_of nodes) []) }
     ensures empty { IfOk result (λ nodes. AreEmpty D.digest_of nodes.empties) }
 {
-    nodes_over_one_string_are_empty();
     let mut steps = Steps::<L>::new(blank);
     let mut left = used_pages(alloc, mem)?;
-    let mut trees = trees_of(rt, alloc, d, mem, &left)?;
     let mut nodes = no_nodes(alloc, d);
+    let mut trees = trees_of(rt, alloc, d, &nodes.empties, mem, &left)?;
     'pages: while let Some(page) = left.pop() {
         let Some(tree) = trees.pop() else {
             unreachable!()
@@ -133,7 +146,9 @@ pub(crate) fn nodes_of<R: Threads + Sync, D: Digester + Send + Sync>(
     d: D,
     mem: &PlainMem,
 ) -> Result<Nodes, Memory>
-    ensures over { IfOk result (λ nodes. IsOver D.digest_of (kept_of nodes) [] mem.now) }
+    ensures pages { IfOk result (λ nodes. (p : ℕ) → IsPageOf (page_at (kept_of nodes) p) mem.now p) }
+    ensures made { IfOk result (λ nodes. AllMade D.digest_of (kept_of nodes)) }
+    ensures joined { IfOk result (λ nodes. IsJoinedBut D.digest_of (kept_of nodes) []) }
     ensures empty { IfOk result (λ nodes. AreEmpty D.digest_of nodes.empties) }
 {
     nodes_in::<R, D, Brand>(rt, alloc, d, mem, Blank::new(1))

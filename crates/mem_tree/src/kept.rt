@@ -3,11 +3,14 @@ ghost use Rattle.std.specs.Prelude.{◌≡◌, length, vec_len};
 use rd_base::Digest32;
 use std::collections::BTreeMap;
 
-/// The nodes of a page's subtree: the root at 1, and the two below node `i` at `2 * i` and `2 * i + 1`.
+/// The nodes of a page's subtree, with the root at 1 and the two below node `i` at `2 * i` and `2 * i + 1`; and the chunks over
+/// which it stands.
 #[derive(Drop)]
 pub struct PageTree {
     pub nodes: Vec<Digest32>,
+    pub chunks: Vec<[u8; 32]>,
     ghost whole: { vec_len nodes ≡ 256 },
+    ghost parts: { vec_len chunks ≡ 128 },
 }
 
 /// The nodes of a tree that are kept: the subtrees of pages by the page's number; the nodes from the pages' roots up by how

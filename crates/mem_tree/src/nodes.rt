@@ -1,16 +1,16 @@
-ghost use Rattle.std.specs.Prelude.{◌≡◌, ◌≢◌, ◌⊎◌, ◌+◌, ◌-◌, ◌*◌, ◌/◌, ◌≤◌, ◌<◌, ◌^◌, ℕ, List, [], length, OnOk, OnErr, Option, false, true};
-ghost use Rattle.rd_base.specs.declared.digest.Digest32.{Digest32};
+ghost use Rattle.std.specs.Prelude.{◌≡◌, ◌≢◌, ◌⊎◌, ◌+◌, ◌-◌, ◌*◌, ◌/◌, ◌≤◌, ◌<◌, ◌^◌, ◌||◌, ℕ, List, [], length, OnOk, OnErr, Option, None, is_some, false, true};
 ghost use Rattle.digest_core.specs.Text.{node_text as node_string};
 ghost use Rattle.mem_plain.specs.Contents.{Contents};
 ghost use Rattle.merkle_nodes.specs.Node.{digest_at};
-ghost use Rattle.mem_tree.specs.Page.{AreEmpty, kept_or, IsPageOf};
-ghost use Rattle.mem_tree.specs.Tree.{kept_of, page_at, page_node as node_in_page, upper_node as node_above, IsRaised, IsOver, is_among};
+ghost use Rattle.mem_tree.specs.Page.{AreEmpty, IsMadeTree, IsPageOf, kept_or};
+ghost use Rattle.mem_tree.specs.Tree.{kept_of, page_at, page_node as node_in_page, upper_at, upper_node as node_above, AllMade, IsJoinedBut, IsOfTwo, IsRaised, is_among};
+ghost use Rattle.mem_tree.specs.Costs.{changed_chunks, needs, page_changes, page_needs};
 
 use crate::kept::{Nodes, PageTree};
-use crate::page::{page_tree, root_of};
+use crate::page::{page_tree_after, root_of};
 use digest_core::{Digester, node_text};
 use mem_plain::PlainMem;
-use merkle_nodes::digest_counted;
+use merkle_nodes::{digest_counted, renewals_are_few};
 use rd_base::{Digest32, Memory, Steps};
 use std::alloc::Global;
 use std::collections::BTreeSet;
@@ -62,9 +62,21 @@ impl Nodes {
         }
     }
 
+    /// Takes a page's subtree out, where one is kept.
+    fn take_page(&mut self, page: u32) -> Option<PageTree>
+        ensures taken { result ≡ page_at (kept_of self.old) page }
+        ensures here { page_at (kept_of self.new) page ≡ None }
+        ensures elsewhere { (p : ℕ) → p ≢ page → page_at (kept_of self.new) p ≡ page_at (kept_of self.old) p }
+        ensures upper { self.new.upper ≡ self.old.upper }
+        ensures empties { self.new.empties ≡ self.old.empties }
+    {
+        self.pages.remove(&page)
+    }
+
     /// Keeps a page's subtree, or none where the page is empty. An `Err` is out of memory, and changes nothing.
     fn put_page(&mut self, page: u32, tree: Option<PageTree>) -> Result<(), Memory>
         ensures here { OnOk result (page_at (kept_of self.new) page ≡ tree) }
+        ensures err { OnErr result (page_at (kept_of self.new) page ≡ page_at (kept_of self.old) page) }
         ensures elsewhere { (p : ℕ) → p ≢ page → page_at (kept_of self.new) p ≡ page_at (kept_of self.old) p }
         ensures upper { self.new.upper ≡ self.old.upper }
         ensures empties { self.new.empties ≡ self.old.empties }
@@ -83,8 +95,8 @@ impl Nodes {
 
     /// Keeps a node above the pages' roots, or none where it is the empty one. An `Err` is out of memory, and changes nothing.
     fn put_upper(&mut self, above: u8, k: u32, node: Option<Digest32>) -> Result<(), Memory>
-        ensures here { OnOk result (node_above (kept_of self.new) above k ≡ kept_or node (digest_at self.old.empties (7 + above))) }
-        ensures elsewhere { (n q : ℕ) → (n ≢ above) ⊎ (q ≢ k) → node_above (kept_of self.new) n q ≡ node_above (kept_of self.old) n q }
+        ensures here { OnOk result (upper_at (kept_of self.new) above k ≡ node) }
+        ensures elsewhere { (n q : ℕ) → (n ≢ above) ⊎ (q ≢ k) → upper_at (kept_of self.new) n q ≡ upper_at (kept_of self.old) n q }
         ensures pages { self.new.pages ≡ self.old.pages }
         ensures empties { self.new.empties ≡ self.old.empties }
     {
@@ -113,6 +125,8 @@ impl Nodes {
         requires empty { AreEmpty D.digest_of self.now.empties }
         ensures node { kept_or result (digest_at self.now.empties (7 + (above + 1))) ≡ D.digest_of
             (node_string (node_above (kept_of self.now) above (2 * k)) (node_above (kept_of self.now) above (2 * k + 1))) }
+        ensures kept { is_some result ≡ (is_some (upper_at (kept_of self.now) above (2 * k)) || is_some (upper_at (kept_of self.now) above (2 * k + 1))) }
+        ensures counted { is_some result ≡ true → steps.new ≡ steps.old + 1 }
         ensures steps { steps.new ≤ steps.old + 1 }
         ensures more { steps.old ≤ steps.new }
     {
@@ -126,8 +140,8 @@ impl Nodes {
         Some(digest_counted(d, &node_text(&left, &right), steps))
     }
 
-    /// Puts a page's root into its place and joins the nodes above it anew, with a step for each. An `Err` is out of memory,
-    /// and leaves all nodes that don't stand above the page.
+    /// Puts a page's root into its place and joins the nodes above it anew, with a step for each: 20 where there is a root. An
+    /// `Err` is out of memory, and leaves all nodes that don't stand above the page.
     fn raise<D: Digester, L: Ledger>(
         &mut self,
         d: D,
@@ -137,10 +151,11 @@ impl Nodes {
     ) -> Result<(), Memory>
         requires page { page < 2 ^ 20 }
         requires empty { AreEmpty D.digest_of self.old.empties }
-        ensures raised { OnOk result (IsRaised D.digest_of (kept_of self.new) page (kept_or root (digest_at self.old.empties 7)) 20) }
-        ensures elsewhere { (n k : ℕ) → k ≢ page / 2 ^ n → node_above (kept_of self.new) n k ≡ node_above (kept_of self.old) n k }
+        ensures raised { OnOk result (IsRaised D.digest_of (kept_of self.new) page root 20) }
+        ensures elsewhere { (n k : ℕ) → k ≢ page / 2 ^ n → upper_at (kept_of self.new) n k ≡ upper_at (kept_of self.old) n k }
         ensures pages { self.new.pages ≡ self.old.pages }
         ensures empties { self.new.empties ≡ self.old.empties }
+        ensures counted { OnOk result (is_some root ≡ true → steps.new ≡ steps.old + 20) }
         ensures steps { steps.new ≤ steps.old + 20 }
         ensures more { steps.old ≤ steps.new }
     {
@@ -165,13 +180,16 @@ impl Nodes {
     ) -> Result<(), Memory>
         requires page { page < 2 ^ 20 }
         requires empty { AreEmpty D.digest_of self.old.empties }
-        ensures placed { OnOk result ((stale left : List ℕ) (m : Contents) → IsOver D.digest_of (kept_of self.old) stale m →
-            IsPageOf D.digest_of self.old.empties tree m page →
+        ensures joined { OnOk result ((stale left : List ℕ) → IsJoinedBut D.digest_of (kept_of self.old) stale →
             ((p : ℕ) → p ≢ page → is_among left p ≡ false → is_among stale p ≡ false) →
-            IsOver D.digest_of (kept_of self.new) left m) }
-        ensures kept { (stale : List ℕ) (m : Contents) → IsOver D.digest_of (kept_of self.old) stale m →
-            is_among stale page ≡ true → IsOver D.digest_of (kept_of self.new) stale m }
+            IsJoinedBut D.digest_of (kept_of self.new) left) }
+        ensures kept { (stale : List ℕ) → IsJoinedBut D.digest_of (kept_of self.old) stale →
+            is_among stale page ≡ true → IsJoinedBut D.digest_of (kept_of self.new) stale }
+        ensures here { OnOk result (page_at (kept_of self.new) page ≡ tree) }
+        ensures elsewhere { (p : ℕ) → p ≢ page → page_at (kept_of self.new) p ≡ page_at (kept_of self.old) p }
+        ensures made { AllMade D.digest_of (kept_of self.old) → IsMadeTree D.digest_of tree → AllMade D.digest_of (kept_of self.new) }
         ensures empties { self.new.empties ≡ self.old.empties }
+        ensures counted { OnOk result (is_some tree ≡ true → steps.new ≡ steps.old + 20) }
         ensures steps { steps.new ≤ steps.old + 20 }
         ensures more { steps.old ≤ steps.new }
     {
@@ -181,27 +199,91 @@ impl Nodes {
         Ok(())
     }
 
-    /// Computes the touched pages and the nodes above them anew, with a step for each digest. An `Err` is out of memory, and
-    /// leaves all nodes that stand neither in nor above a touched page.
+    /// Puts a page's subtree back, none of whose chunks has changed. An `Err` is out of memory.
+    fn put_back(&mut self, page: u32, tree: Option<PageTree>) -> Result<(), Memory>
+        ensures kept { (digest : List ℕ → List ℕ) (stale : List ℕ) → IsJoinedBut digest (kept_of self.old) stale →
+            is_among stale page ≡ true → IsJoinedBut digest (kept_of self.new) stale }
+        ensures here { OnOk result (page_at (kept_of self.new) page ≡ tree) }
+        ensures elsewhere { (p : ℕ) → p ≢ page → page_at (kept_of self.new) p ≡ page_at (kept_of self.old) p }
+        ensures made { (digest : List ℕ → List ℕ) → AllMade digest (kept_of self.old) → IsMadeTree digest tree → AllMade digest (kept_of self.new) }
+        ensures upper { self.new.upper ≡ self.old.upper }
+        ensures empties { self.new.empties ≡ self.old.empties }
+    {
+        self.put_page(page, tree)
+    }
+
+    /// Makes a page and the nodes above it those of a memory, with a step for each digest; a page that hasn't changed takes none,
+    /// unless an earlier refresh failed. An `Err` is out of memory, and leaves all nodes that stand neither in nor above the page.
+    fn renew_page<D: Digester, L: Ledger>(
+        &mut self,
+        d: D,
+        alloc: Global,
+        page: u32,
+        failed: bool,
+        mem: &PlainMem,
+        steps: &mut Steps<L>,
+    ) -> Result<(), Memory>
+        requires page { page < 2 ^ 20 }
+        requires empty { AreEmpty D.digest_of self.old.empties }
+        requires made { AllMade D.digest_of (kept_of self.old) }
+        ensures page { OnOk result (IsPageOf (page_at (kept_of self.new) page) mem.now page) }
+        ensures elsewhere { (p : ℕ) → p ≢ page → page_at (kept_of self.new) p ≡ page_at (kept_of self.old) p }
+        ensures made { AllMade D.digest_of (kept_of self.new) }
+        ensures whole { OnOk result (IsJoinedBut D.digest_of (kept_of self.old) [] → IsJoinedBut D.digest_of (kept_of self.new) []) }
+        ensures fresh { OnOk result (failed ≡ true → (stale left : List ℕ) → IsJoinedBut D.digest_of (kept_of self.old) stale →
+            ((p : ℕ) → p ≢ page → is_among left p ≡ false → is_among stale p ≡ false) →
+            IsJoinedBut D.digest_of (kept_of self.new) left) }
+        ensures kept { (stale : List ℕ) → IsJoinedBut D.digest_of (kept_of self.old) stale →
+            is_among stale page ≡ true → IsJoinedBut D.digest_of (kept_of self.new) stale }
+        ensures empties { self.new.empties ≡ self.old.empties }
+        ensures steps { steps.new ≤ steps.old + 275 }
+        ensures few { failed ≡ false → steps.new ≤ steps.old + 28 * page_changes (page_at (kept_of self.old) page) mem.now page }
+        ensures least { OnOk result (steps.old + page_needs (page_at (kept_of self.old) page) mem.now page ≤ steps.new) }
+        ensures more { steps.old ≤ steps.new }
+    {
+        renewals_are_few();
+        let before = self.take_page(page);
+        let (tree, changed) = page_tree_after(d, alloc, &self.empties, before, mem, page, steps)?;
+        if changed || failed {
+            self.place(d, page, tree, steps)?;
+            return Ok(());
+        }
+        self.put_back(page, tree)?;
+        Ok(())
+    }
+
+    /// Makes the touched pages and the nodes above them those of a memory, with a step for each digest. Each page that hasn't
+    /// changed takes none, unless an earlier refresh failed. An `Err` is out of memory, and leaves all nodes that stand neither in
+    /// nor above a touched page.
     pub(crate) fn refresh<D: Digester, L: Ledger>(
         &mut self,
         d: D,
         alloc: Global,
         touched: &BTreeSet<u32>,
+        failed: bool,
         mem: &PlainMem,
         steps: &mut Steps<L>,
     ) -> Result<(), Memory>
         requires pages { (p : ℕ) → is_among touched.now.keys p ≡ true → p < 2 ^ 20 }
         requires empty { AreEmpty D.digest_of self.old.empties }
-        ensures fresh { OnOk result (IsOver D.digest_of (kept_of self.old) touched.now.keys mem.now → IsOver D.digest_of (kept_of self.new) [] mem.now) }
-        ensures kept { (m : Contents) → IsOver D.digest_of (kept_of self.old) touched.now.keys m → IsOver D.digest_of (kept_of self.new) touched.now.keys m }
+        requires made { AllMade D.digest_of (kept_of self.old) }
+        requires joined { IsJoinedBut D.digest_of (kept_of self.old) touched.now.keys }
+        requires whole { failed ≡ false → IsJoinedBut D.digest_of (kept_of self.old) [] }
+        ensures pages { OnOk result (((p : ℕ) → is_among touched.now.keys p ≡ false → IsPageOf (page_at (kept_of self.old) p) mem.now p) →
+            (p : ℕ) → IsPageOf (page_at (kept_of self.new) p) mem.now p) }
+        ensures others { (p : ℕ) → is_among touched.now.keys p ≡ false → page_at (kept_of self.new) p ≡ page_at (kept_of self.old) p }
+        ensures made { AllMade D.digest_of (kept_of self.new) }
+        ensures joined { IsJoinedBut D.digest_of (kept_of self.new) touched.now.keys }
+        ensures whole { OnOk result (IsJoinedBut D.digest_of (kept_of self.new) []) }
         ensures empties { self.new.empties ≡ self.old.empties }
         ensures steps { steps.new ≤ steps.old + 275 * length touched.now.keys }
+        ensures few { failed ≡ false → steps.new ≤ steps.old + 28 * changed_chunks (kept_of self.old) mem.now touched.now.keys }
+        ensures least { OnOk result (steps.old + needs (kept_of self.old) mem.now touched.now.keys ≤ steps.new) }
+        ensures more { steps.old ≤ steps.new }
         ensures some { OnErr result (0 < length touched.now.keys) }
     {
         'pages: for page in touched.iter() {
-            let tree = page_tree(d, alloc, mem, *page, steps)?;
-            self.place(d, *page, tree, steps)?;
+            self.renew_page(d, alloc, *page, failed, mem, steps)?;
         }
         Ok(())
     }

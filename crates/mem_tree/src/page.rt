@@ -1,22 +1,30 @@
-ghost use Rattle.std.specs.Prelude.{◌≡◌, ◌↔◌, ◌+◌, ◌*◌, ◌≤◌, ◌<◌, ◌^◌, ℕ, List, length, IfOk, IsTrue};
+ghost use Rattle.std.specs.Prelude.{◌≡◌, ◌↔◌, ◌+◌, ◌*◌, ◌≤◌, ◌<◌, ◌^◌, ℕ, List, Some, None, length, vec_len, is_some, false, IfOk, OnErr, OnOk, IsTrue};
 ghost use Rattle.mem_plain.specs.Contents.{IsUsed};
 ghost use Rattle.merkle_nodes.specs.Node.{digest_at};
-ghost use Rattle.mem_tree.specs.Memory.{memory_leaf};
-ghost use Rattle.mem_tree.specs.Page.{AreLeaves, AreJoined, AreNodesOf, heap_node, kept_or, IsPageTree};
+ghost use Rattle.merkle_nodes.specs.Heap.{HasLeaves, IsHeap, is_marked};
+ghost use Rattle.merkle_nodes.specs.Renewals.{how_many, is_changed, renewals};
+ghost use Rattle.mem_tree.specs.Page.{AreEmpty, IsMadeTree, IsPageTree, chunk_in, heap_node, kept_or, leaf_of, page_chunk, zero_chunks};
+ghost use Rattle.mem_tree.specs.Tree.{IsRoot};
+ghost use Rattle.mem_tree.specs.Costs.{are_different, differs, has_changed, page_changes, page_renewals};
 
 use crate::kept::PageTree;
-use digest_core::{Digester, leaf_text, node_text};
+use digest_core::{Digester, leaf_text};
 use mem_plain::PlainMem;
-use merkle_nodes::{digest_counted, nodes_over_one_string_are_empty};
+use merkle_nodes::{
+    digest_counted, fill_empty_heap, renew_nodes, renewals_are_few, renewals_are_marked,
+};
 use rd_base::{Digest32, Memory, Steps};
 use std::alloc::Global;
 use std::sync::ledger::Ledger;
 
 /// How many chunks a page has.
-const PAGE_CHUNKS: u32 = 128;
+const PAGE_CHUNKS: usize = 128;
 
 /// How many places the heap of a page has; the first is not used.
 const HEAP_PLACES: usize = 256;
+
+/// How many levels of nodes stand below the root of a page.
+const PAGE_LEVELS: u32 = 7;
 
 /// Whether some byte of a page isn't 0.
 fn is_used(mem: &PlainMem, page: u32) -> bool
@@ -28,83 +36,180 @@ fn is_used(mem: &PlainMem, page: u32) -> bool
     }
 }
 
-/// Writes the leaves of a page, with a step for each.
-fn fill_leaves<D: Digester, L: Ledger>(
+/// A chunk of a page.
+fn chunk_of(mem: &PlainMem, page: u32, j: usize) -> [u8; 32]
+    requires page { page < 2 ^ 20 }
+    requires chunk { j < 128 }
+    ensures { result ≡ page_chunk mem.now page j }
+{
+    mem.chunk(128 * page + j as u32)
+}
+
+/// Whether two chunks have the same bytes.
+fn is_same(chunk: &[u8; 32], other: &[u8; 32]) -> bool
+    ensures { IsTrue result ↔ (chunk.now ≡ other.now) }
+{
+    *chunk == *other
+}
+
+/// Digests those leaves of a page anew whose chunks have changed, with a step for each, and marks them.
+fn renew_leaves<D: Digester, L: Ledger>(
     d: D,
     nodes: &mut [Digest32],
+    chunks: &mut [[u8; 32]],
+    marks: &mut [bool],
     mem: &PlainMem,
     page: u32,
     steps: &mut Steps<L>,
 )
     requires page { page < 2 ^ 20 }
     requires len { length nodes.old ≡ 256 }
-    ensures leaves { AreLeaves D.digest_of nodes.new mem.now page 128 }
-    ensures steps { steps.new ≡ steps.old + 128 }
+    requires parts { length chunks.old ≡ 128 }
+    requires marks { length marks.old ≡ 256 }
+    requires leaves { HasLeaves D.digest_of nodes.old 128 (leaf_of chunks.old) 128 }
+    requires unmarked { (i : ℕ) → is_marked marks.old i ≡ false }
+    ensures leaves { HasLeaves D.digest_of nodes.new 128 (leaf_of chunks.new) 128 }
+    ensures chunks { (j : ℕ) → j < 128 → chunk_in chunks.new j ≡ page_chunk mem.now page j }
+    ensures kept { (i : ℕ) → is_marked marks.new i ≡ false → digest_at nodes.new i ≡ digest_at nodes.old i }
+    ensures low { (i : ℕ) → i < 128 → is_marked marks.new i ≡ false }
+    ensures marks { (j : ℕ) → j < 128 → is_marked marks.new (128 + j) ≡ are_different (chunk_in chunks.old j) (page_chunk mem.now page j) }
+    ensures steps { steps.new ≡ steps.old + how_many (λ j. is_marked marks.new (128 + j)) 128 }
 {
     'chunks: for j in 0..PAGE_CHUNKS {
-        let chunk = mem.chunk(PAGE_CHUNKS * page + j);
-        let leaf = digest_counted(d, &leaf_text(&chunk), steps);
-        nodes[(PAGE_CHUNKS + j) as usize] = leaf;
+        let chunk = chunk_of(mem, page, j);
+        if !is_same(&chunks[j], &chunk) {
+            let leaf = digest_counted(d, &leaf_text(&chunk), steps);
+            nodes[PAGE_CHUNKS + j] = leaf;
+            chunks[j] = chunk;
+            marks[PAGE_CHUNKS + j] = true;
+        }
     }
 }
 
-/// Writes the nodes above the leaves, with a step for each.
-fn join_nodes<D: Digester, L: Ledger>(d: D, nodes: &mut [Digest32], steps: &mut Steps<L>)
-    requires len { length nodes.old ≡ 256 }
-    ensures joined { AreJoined D.digest_of nodes.new 1 }
-    ensures kept { (i : ℕ) → 128 ≤ i → digest_at nodes.new i ≡ digest_at nodes.old i }
-    ensures steps { steps.new ≡ steps.old + 127 }
+/// Marks of a heap's places, none of which is marked.
+fn no_marks() -> [bool; 256]
+    ensures none { (i : ℕ) → is_marked result i ≡ false }
 {
-    'nodes: for k in 0..127usize {
-        let i = 127 - k;
-        let text = node_text(&nodes[2 * i], &nodes[2 * i + 1]);
-        let node = digest_counted(d, &text, steps);
-        nodes[i] = node;
-    }
+    [false; HEAP_PLACES]
 }
 
-/// The heap of a page, with a step for each of its 255 nodes.
-fn heap_of<D: Digester, L: Ledger>(
+/// Makes a heap and the chunks beside it those of a page, with a step for each changed chunk and each node above one, and tells
+/// whether some chunk has changed.
+fn renew<D: Digester, L: Ledger>(
     d: D,
-    alloc: Global,
+    nodes: &mut [Digest32],
+    chunks: &mut [[u8; 32]],
     mem: &PlainMem,
     page: u32,
     steps: &mut Steps<L>,
-) -> Result<PageTree, Memory>
-    requires { page < 2 ^ 20 }
-    ensures nodes { IfOk result (λ tree. AreNodesOf D.digest_of tree.nodes.items mem.now page) }
-    ensures steps { steps.new ≤ steps.old + 255 }
-    ensures more { steps.old ≤ steps.new }
+) -> bool
+    requires page { page < 2 ^ 20 }
+    requires parts { length chunks.old ≡ 128 }
+    requires heap { IsHeap D.digest_of nodes.old 7 (leaf_of chunks.old) }
+    ensures heap { IsHeap D.digest_of nodes.new 7 (leaf_of chunks.new) }
+    ensures chunks { (j : ℕ) → j < 128 → chunk_in chunks.new j ≡ page_chunk mem.now page j }
+    ensures changed { result ≡ is_changed (λ j. are_different (chunk_in chunks.old j) (page_chunk mem.now page j)) 7 0 }
+    ensures same { result ≡ false → digest_at nodes.new 1 ≡ digest_at nodes.old 1 }
+    ensures steps { steps.new ≡ steps.old + renewals (λ j. are_different (chunk_in chunks.old j) (page_chunk mem.now page j)) 7 }
+{
+    renewals_are_marked();
+    let mut marks = no_marks();
+    renew_leaves(d, nodes, chunks, &mut marks, mem, page, steps);
+    renew_nodes(d, nodes, &mut marks, PAGE_CHUNKS, steps);
+    marks[1]
+}
+
+/// The subtree of a page from an earlier one, and whether some chunk has changed.
+fn renewed<D: Digester, L: Ledger>(
+    d: D,
+    tree: PageTree,
+    mem: &PlainMem,
+    page: u32,
+    steps: &mut Steps<L>,
+) -> (PageTree, bool)
+    requires page { page < 2 ^ 20 }
+    requires heap { IsHeap D.digest_of tree.nodes.items 7 (leaf_of tree.chunks.items) }
+    ensures heap { IsHeap D.digest_of result.0.nodes.items 7 (leaf_of result.0.chunks.items) }
+    ensures chunks { (j : ℕ) → j < 128 → chunk_in result.0.chunks.items j ≡ page_chunk mem.now page j }
+    ensures changed { result.1 ≡ has_changed (Some tree) mem.now page }
+    ensures same { result.1 ≡ false → digest_at result.0.nodes.items 1 ≡ digest_at tree.nodes.items 1 }
+    ensures steps { steps.new ≡ steps.old + renewals (differs (Some tree) mem.now page) 7 }
+{
+    let PageTree {
+        mut nodes,
+        mut chunks,
+    } = tree;
+    let changed = renew(d, &mut nodes, &mut chunks, mem, page, steps);
+    (PageTree { nodes, chunks }, changed)
+}
+
+/// The chunks of a page of zeros. An `Err` is out of memory.
+fn no_bytes(alloc: Global) -> Result<Vec<[u8; 32]>, Memory>
+    ensures items { IfOk result (λ v. v.items ≡ zero_chunks) }
+    ensures len { IfOk result (λ v. vec_len v ≡ 128) }
+{
+    let mut chunks = Vec::with_capacity(alloc, PAGE_CHUNKS)?;
+    'chunks: for _k in 0..PAGE_CHUNKS {
+        chunks.push([0; 32])?;
+    }
+    Ok(chunks)
+}
+
+/// The subtree of a page of zeros, from the empty node of each level. It makes no digest. An `Err` is out of memory.
+fn zeros(alloc: Global, empties: &[Digest32]) -> Result<PageTree, Memory>
+    requires { length empties.now ≡ 28 }
+    ensures heap { (digest : List ℕ → List ℕ) → AreEmpty digest empties.now →
+        IfOk result (λ tree. IsHeap digest tree.nodes.items 7 (leaf_of tree.chunks.items)) }
+    ensures chunks { IfOk result (λ tree. tree.chunks.items ≡ zero_chunks) }
 {
     let mut nodes = vec![in alloc; Digest32::ZERO; HEAP_PLACES]?;
-    fill_leaves(d, &mut nodes, mem, page, steps);
-    join_nodes(d, &mut nodes, steps);
-    Ok(PageTree { nodes })
+    let chunks = no_bytes(alloc)?;
+    fill_empty_heap(empties, &mut nodes, PAGE_LEVELS);
+    Ok(PageTree { nodes, chunks })
 }
 
-/// The subtree of a page, or `None` where every byte of the page is 0; with a step for each node. An `Err` is out of memory.
-pub(crate) fn page_tree<D: Digester, L: Ledger>(
+/// The subtree of a page from the one that was kept, or none where every byte of the page is 0, and whether some chunk differs
+/// from what was kept; with a step for each changed chunk and each node above one, where the page isn't empty. An `Err` is out of
+/// memory, and comes only where none was kept.
+pub(crate) fn page_tree_after<D: Digester, L: Ledger>(
     d: D,
     alloc: Global,
+    empties: &[Digest32],
+    before: Option<PageTree>,
     mem: &PlainMem,
     page: u32,
     steps: &mut Steps<L>,
-) -> Result<Option<PageTree>, Memory>
-    requires { page < 2 ^ 20 }
-    ensures nodes { IfOk result (λ tree. IsPageTree D.digest_of tree mem.now page) }
-    ensures steps { steps.new ≤ steps.old + 255 }
-    ensures more { steps.old ≤ steps.new }
+) -> Result<(Option<PageTree>, bool), Memory>
+    requires page { page < 2 ^ 20 }
+    requires levels { length empties.now ≡ 28 }
+    requires empty { AreEmpty D.digest_of empties.now }
+    requires made { IsMadeTree D.digest_of before }
+    ensures tree { IfOk result (λ r. IsPageTree D.digest_of r.0 mem.now page) }
+    ensures changed { IfOk result (λ r. r.1 ≡ has_changed before mem.now page) }
+    ensures same { IfOk result (λ r. r.1 ≡ false → (empty : List ℕ) → heap_node r.0 1 empty ≡ heap_node before 1 empty) }
+    ensures there { IfOk result (λ r. r.1 ≡ false → is_some r.0 ≡ is_some before) }
+    ensures steps { OnOk result (steps.new ≡ steps.old + page_renewals before mem.now page) }
+    ensures none { OnErr result (steps.new ≡ steps.old) }
 {
-    nodes_over_one_string_are_empty();
+    renewals_are_few();
     if !is_used(mem, page) {
-        return Ok(None);
+        return Ok((None, before.is_some()));
     }
-    Ok(Some(heap_of(d, alloc, mem, page, steps)?))
+    match before {
+        Some(tree) => {
+            let (tree, changed) = renewed(d, tree, mem, page, steps);
+            Ok((Some(tree), changed))
+        }
+        None => {
+            let (tree, changed) = renewed(d, zeros(alloc, empties)?, mem, page, steps);
+            Ok((Some(tree), changed))
+        }
+    }
 }
 
 /// The root of a page's subtree, where the subtree is kept.
 pub(crate) fn root_of(tree: &Option<PageTree>) -> Option<Digest32>
-    ensures { (empty : List ℕ) → kept_or result empty ≡ heap_node tree.now 1 empty }
+    ensures { IsRoot result tree.now }
 {
     match tree {
         Some(tree) => Some(tree.nodes[1]),

@@ -33,3 +33,6 @@ step-outside s (Some page) is kept elsewhere q apart = sym (elsewhere s page q (
 
 pub same-named : (page : Option ℕ) (x y : ℕ) → page ≡ Some x → page ≡ Some y → x ≡ y
 same-named page x y first second = cc
+
+pub none-named : (page : Option ℕ) (x : ℕ) → page ≡ None → page ≡ Some x → ⊥
+none-named page x none some = cc

@@ -150,17 +150,17 @@ fn digests_after(
     Ok(made.load(Ordering::SeqCst).wrapping_sub(before))
 }
 
-/// An empty tree takes 28 digests, one for each level. A page takes 128 for its chunks, 127 for the nodes over these and 20 for
-/// the nodes above it. A page of zeros takes none, and none above it, once no page below them holds a byte other than 0.
+/// An empty tree takes 28 digests, one for each level. A page with one chunk takes one for it, 7 for the nodes over it in the page and
+/// 20 for the nodes above. A page of zeros takes none, and none above it, once no page below them holds a byte other than 0.
 #[test]
 fn no_digest_is_made_above_a_page_filled_with_zeros(rt: HostRuntime) -> Result<(), Fail> {
     let rows: [(u32, u32, u64); 6] = [
-        (0x1234_5678, 1, 275),
+        (0x1234_5678, 1, 28),
         (0x1234_5678, 0, 0),
         (0x1234_5678, 0, 0),
-        (0x1234_5678, 0x80, 275),
+        (0x1234_5678, 0x80, 28),
         // the page beside it; and once that holds zeros again, the nodes above the two pages
-        (0x1234_4000, 7, 275),
+        (0x1234_4000, 7, 28),
         (0x1234_4000, 0, 20),
     ];
     let made = AtomicU64::new(0);
@@ -177,6 +177,39 @@ fn no_digest_is_made_above_a_page_filled_with_zeros(rt: HostRuntime) -> Result<(
             want,
             "{byte} at {addr}"
         );
+    }
+    Ok(())
+}
+
+/// A refresh digests the chunks that differ from those that are kept, and each node above one of them once within a page: of a
+/// store to one chunk 28, of two stores that leave the chunk as it was none, of the first and the last chunk of a page 2 leaves, 12
+/// nodes below the page's root, this and the 20 above it.
+#[test]
+fn a_refresh_digests_changed_chunks_and_the_nodes_above(rt: HostRuntime) -> Result<(), Fail> {
+    let rows: [(&[(u32, u32)], u64); 6] = [
+        (&[(0x7000, 1)], 28),
+        (&[(0x7000, 1)], 0),
+        (&[(0x7000, 2), (0x7000, 1)], 0),
+        (&[(0x7000, 3), (0x7001, 3)], 28),
+        (&[(0x7000, 4), (0x7fff, 4)], 35),
+        // two pages beside one another, each with the 20 nodes above it
+        (&[(0x7000, 5), (0x8000, 5)], 56),
+    ];
+    let made = AtomicU64::new(0);
+    let counted = Counted {
+        of: Sha256,
+        made: &made,
+    };
+    let mut mem = PlainMem::new(rt.alloc());
+    let mut tree = MemTree::build(&rt, rt.alloc(), counted, &mem)?;
+    for (stores, want) in rows {
+        let before = made.load(Ordering::SeqCst);
+        for (addr, byte) in stores {
+            mem.store(*addr, 1, *byte)?;
+            tree.touch(*addr / 4096)?;
+        }
+        tree.refresh(&mem)?;
+        assert_eq!(rt; made.load(Ordering::SeqCst).wrapping_sub(before), want);
     }
     Ok(())
 }

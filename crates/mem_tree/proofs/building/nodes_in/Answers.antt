@@ -1,11 +1,13 @@
-use Rattle.std.proofs.Common.{◌≡◌, ◌<◌, ℕ, [], ◌∷◌, ◌++◌, All, IfOk, Option, Result, true≢false, ◌∙◌, sym, subst, arith}
+use Rattle.std.proofs.Common.{◌≡◌, ◌<◌, ℕ, [], ◌∷◌, ◌++◌, All, IfOk, Option, Result, false, true≢false, refl, ◌∙◌, sym, subst, arith, ⊎_elim}
 use Rattle.std.specs.List.{AllZip}
+use Rattle.std.proofs.lemmas.Bool.{cases_eq}
 use Rattle.rd_base.specs.declared.memory.Memory.{Memory}
-use Rattle.mem_tree.specs.Page.{AreEmpty, IsPageTree}
-use Rattle.mem_tree.specs.Tree.{kept_of, IsOver}
+use Rattle.mem_tree.specs.Page.{AreEmpty, IsMadeTree, IsPageOf, IsPageTree}
+use Rattle.mem_tree.specs.Tree.{kept_of, page_at, is_among}
 use Rattle.mem_tree.specs.declared.kept.PageTree.{PageTree}
 use Rattle.mem_tree.proofs.AmongLemmas.{among-but_last, zip-last, zip-none, no-items, all-front, all-last}
-use Rattle.mem_tree.proofs.TreeLemmas.{nothing-over}
+use Rattle.mem_tree.proofs.JoinedLemmas.{nothing-joined, nothing-at}
+use Rattle.mem_tree.proofs.PageLemmas.{unused-page}
 use Rattle.mem_tree.proofs.building.nodes_in.Goals as goal
 
 pub pages-init : goal.pages-init
@@ -14,12 +16,14 @@ pages-init g c =
     let m = c.args.mem.now in
     let left = c.in_ok-left.left.items in
     let nodes = c.no_nodes-nodes.result in
+    let none = nothing-at (kept_of nodes) c.no_nodes-nodes.ensures.pages in
     record {
       pages = c.in_ok-left.ensures.pages;
       trees = subst (λ xs. AllZip (λ page tree. IfOk tree (λ t. IsPageTree digest t m page)) xs c.in_ok-trees.trees.items) c.deref.ensures.value c.in_ok-trees.ensures;
       empty = c.no_nodes-nodes.ensures.empty;
-      over = nothing-over c.nodes_over_one_string_are_empty.ensures.empty digest (kept_of nodes) left m c.no_nodes-nodes.ensures.pages c.no_nodes-nodes.ensures.upper c.no_nodes-nodes.ensures.empty
-          (λ p fresh used. true≢false (sym (c.in_ok-left.ensures.used p used) ∙ fresh));
+      made = λ p. subst (IsMadeTree digest) (sym (none p)) tt;
+      joined = nothing-joined digest (kept_of nodes) c.no_nodes-nodes.ensures.pages c.no_nodes-nodes.ensures.upper c.no_nodes-nodes.ensures.empty;
+      are = λ p fresh. subst (λ (o : Option PageTree). IsPageOf o m p) (sym (none p)) (unused-page m p (λ used. true≢false (sym (c.in_ok-left.ensures.used p used) ∙ fresh)));
     }
 
 pub unreachable-requires : goal.unreachable-requires
@@ -47,6 +51,11 @@ pages-preserved g c =
       pages = all-front (λ p. p < 1048576) left page (subst (λ xs. All (λ p. p < 1048576) xs) popped c.pages.invariant.pages);
       trees = zips.0;
       empty = subst (AreEmpty digest) (sym c.place.ensures.empties) c.pages.invariant.empty;
-      over = c.in_ok-place.ensures.placed (left ++ page ∷ []) left m (subst (λ l. IsOver digest (kept_of c.pages.nodes) l m) popped c.pages.invariant.over)
-          (tree c.pages.nodes.empties c.pages.invariant.empty) (λ p apart. among-but_last left page p apart);
+      made = c.place.ensures.made c.pages.invariant.made tree.made;
+      joined = c.in_ok-place.ensures.joined [] [] c.pages.invariant.joined (λ p apart fresh. refl);
+      are = λ p fresh. ⊎_elim
+          (λ same. subst (λ q. IsPageOf (page_at (kept_of c.place.new.self) q) m q) (sym same) (subst (λ (o : Option PageTree). IsPageOf o m page) (sym c.in_ok-place.ensures.here) tree.page_of))
+          (λ other. subst (λ (o : Option PageTree). IsPageOf o m p) (sym (c.place.ensures.elsewhere p other))
+          (c.pages.invariant.are p (subst (λ l. is_among l p ≡ false) (sym popped) (among-but_last left page p other fresh))))
+          (cases_eq p page);
     }

@@ -1,14 +1,28 @@
-use Rattle.std.proofs.Common.{◌≡◌, ◌+◌, ◌*◌, ◌≤◌, ℕ, length, true}
-use Rattle.mem_plain.specs.Contents.{Contents}
-use Rattle.mem_tree.specs.Tree.{kept_of, IsOver, is_among}
+use Rattle.std.proofs.Common.{◌≡◌, ◌+◌, ◌*◌, ◌≤◌, ℕ, [], length, true, false}
+use Rattle.std.specs.Ordering.{nat_cmp}
+use Rattle.std.specs.List.Sorted.{IsStrictlySortedBy}
+use Rattle.mem_tree.specs.Page.{IsPageOf}
+use Rattle.mem_tree.specs.Tree.{kept_of, page_at, AllMade, IsJoinedBut, is_among}
+use Rattle.mem_tree.specs.Costs.{changed_chunks, needs}
 use Rattle.mem_tree.proofs.kept.Nodes.refresh.Given as goal
 
+-- what is left to do follows from the pages that the iterator still has
 abbrev pub invariant-pages : goal.invariant-pages
 invariant-pages g l = record {
-  fresh : IsOver g.D.Digester.digest_of (kept_of l.fn.self) l.touched.keys l.mem → IsOver g.D.Digester.digest_of (kept_of l.self) l.page-iterator l.mem;
-  kept : (m : Contents) → IsOver g.D.Digester.digest_of (kept_of l.fn.self) l.touched.keys m → IsOver g.D.Digester.digest_of (kept_of l.self) l.touched.keys m;
-  empties : l.self.empties ≡ l.fn.self.empties;
+  sorted : IsStrictlySortedBy nat_cmp l.page-iterator;
   among : (p : ℕ) → is_among l.page-iterator p ≡ true → is_among l.touched.keys p ≡ true;
   rest : length l.page-iterator ≤ length l.touched.keys;
+  pages : ((p : ℕ) → is_among l.touched.keys p ≡ false → IsPageOf (page_at (kept_of l.fn.self) p) l.mem p) →
+      (p : ℕ) → is_among l.page-iterator p ≡ false → IsPageOf (page_at (kept_of l.self) p) l.mem p;
+  others : (p : ℕ) → is_among l.touched.keys p ≡ false → page_at (kept_of l.self) p ≡ page_at (kept_of l.fn.self) p;
+  left : (p : ℕ) → is_among l.page-iterator p ≡ true → page_at (kept_of l.self) p ≡ page_at (kept_of l.fn.self) p;
+  made : AllMade g.D.Digester.digest_of (kept_of l.self);
+  joined : IsJoinedBut g.D.Digester.digest_of (kept_of l.self) l.touched.keys;
+  fresh : l.failed ≡ true → IsJoinedBut g.D.Digester.digest_of (kept_of l.self) l.page-iterator;
+  whole : l.failed ≡ false → IsJoinedBut g.D.Digester.digest_of (kept_of l.self) [];
+  empties : l.self.empties ≡ l.fn.self.empties;
   steps : l.steps + 275 * length l.page-iterator ≤ l.initial.steps + 275 * length l.touched.keys;
+  few : l.failed ≡ false → l.steps + 28 * changed_chunks (kept_of l.fn.self) l.mem l.page-iterator ≤ l.initial.steps + 28 * changed_chunks (kept_of l.fn.self) l.mem l.touched.keys;
+  least : l.initial.steps + needs (kept_of l.fn.self) l.mem l.touched.keys ≤ l.steps + needs (kept_of l.fn.self) l.mem l.page-iterator;
+  more : l.initial.steps ≤ l.steps;
 }

@@ -1,0 +1,5 @@
+use Rattle.mem_tree.proofs.PageLemmas.{none-marked}
+use Rattle.mem_tree.proofs.page.no_marks.Goals as goal
+
+pub returns : goal.returns
+returns c = record { none = none-marked 256 }
