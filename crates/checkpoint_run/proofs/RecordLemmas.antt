@@ -14,7 +14,7 @@ use Rattle.checkpoint_run.specs.TamperedRun.{run_from}
 use Rattle.checkpoint_run.specs.Versions.{is_among, AreBelow, IsShownBut}
 use Rattle.checkpoint_run.specs.NamedPages.{IsNamed, ArePages}
 use Rattle.checkpoint_run.specs.WrittenPages.{stored_by, flipped_by, written_by, how_many, writes}
-use Rattle.checkpoint_run.specs.Keeping.{Stands, AllStand, IsAdded, at_first}
+use Rattle.checkpoint_run.specs.Keeping.{Stands, AllStand, IsAdded, at_first, state_by}
 use Rattle.checkpoint_run.specs.UnderWay.{AllChained}
 use Rattle.checkpoint_run.specs.declared.checkpoint.Checkpoint.{Checkpoint}
 use Rattle.checkpoint_run.specs.declared.version.Version.{Version}
@@ -136,7 +136,9 @@ all_stand_added cs new versions s ctl run every all added pc status len here =
     subst Q (sym added.pushed) (pushed (λ k c. Stands c versions s.output (run (k * every))) cs added.checkpoint all (record {
       versions_there = omega (arith, added.versions_are);
       output_there = omega (arith, ap (λ x. x.out_len) added.ctl_is, len);
-      state = rw (added.regs_are, ap (λ x. x.pc) added.ctl_is ∙ pc, whole, added.memory_is, ap (λ x. x.status) added.ctl_is ∙ status, out) (sym here);
+      state =
+          let P : State → Type 0 = λ x. state_by added.checkpoint versions s.output x.version x.input ≡ x in
+          subst P (sym here) (rw (added.regs_are, ap (λ x. x.pc) added.ctl_is ∙ pc, whole, added.memory_is, ap (λ x. x.status) added.ctl_is ∙ status, out) refl);
     }))
 
 -- the number of checkpoints, at a step that is due and at one that isn't

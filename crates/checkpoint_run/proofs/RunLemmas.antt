@@ -63,6 +63,34 @@ early steps s (suc i) = ⊎_elim
     rw (le-ltb i steps after) (early steps s i ∙ ap (state_at s) same))
     (cases_lt i steps)
 
+-- a run keeps the version and the input
+abbrev pub KeepsInput : Type 0
+KeepsInput = (s : State) → ((step s).version ≡ s.version) × ((step s).input ≡ s.input)
+
+-- the law of one step, from that of so many
+pub kept_by : ((s : State) (n : ℕ) → (state_at s n).version ≡ s.version) → ((s : State) (n : ℕ) → (state_at s n).input ≡ s.input) → KeepsInput
+kept_by version input s = (version s 1, input s 1)
+
+tampered_input : (t : Tamper) (i : ℕ) (s : State) → ((tampered t i s).version ≡ s.version) × ((tampered t i s).input ≡ s.input)
+tampered_input Untouched i s = (refl, refl)
+tampered_input (Flip at addr mask) i s = elim (eqb i at) as (λ b. ((cond b (flipped s addr mask) s).version ≡ s.version) × ((cond b (flipped s addr mask) s).input ≡ s.input)) [ true ↦ (refl, refl) | false ↦ (refl, refl) ]
+tampered_input (Register at reg value) i s = elim (eqb i at) as (λ b. ((cond b (with_value s reg value) s).version ≡ s.version) × ((cond b (with_value s reg value) s).input ≡ s.input)) [ true ↦ (refl, refl) | false ↦ (refl, refl) ]
+tampered_input (Early steps) i s = (refl, refl)
+
+followed_input : KeepsInput → (t : Tamper) (i : ℕ) (s : State) → ((followed t i s).version ≡ s.version) × ((followed t i s).input ≡ s.input)
+followed_input keeps Untouched i s = keeps s
+followed_input keeps (Flip at addr mask) i s = keeps s
+followed_input keeps (Register at reg value) i s = keeps s
+followed_input keeps (Early steps) i s = elim (ltb i steps) as (λ b. ((cond b (step s) s).version ≡ s.version) × ((cond b (step s) s).input ≡ s.input)) [ true ↦ keeps s | false ↦ (refl, refl) ]
+
+pub run_input : KeepsInput → (t : Tamper) (first : State) (i : ℕ) → ((run_from t first i).version ≡ first.version) × ((run_from t first i).input ≡ first.input)
+run_input keeps t first zero = (refl, refl)
+run_input keeps t first (suc i) =
+    let before = run_input keeps t first i in
+    let stepped = followed_input keeps t i (run_from t first i) in
+    let here = tampered_input t (i + 1) (followed t i (run_from t first i)) in
+    (here.0 ∙ (stepped.0 ∙ before.0), here.1 ∙ (stepped.1 ∙ before.1))
+
 -- one more step keeps a stop
 pub tampered_status : (t : Tamper) (i : ℕ) (s : State) → (tampered t i s).status ≡ s.status
 tampered_status Untouched i s = refl

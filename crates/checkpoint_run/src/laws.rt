@@ -1,10 +1,12 @@
-ghost use Rattle.std.specs.Prelude.{◌≡◌, ◌⊎◌, ◌↔◌, ℕ, ◌+◌, ◌<◌, ◌≤◌, ◌∷◌, [], List, Option, None, length, get_or, min};
+ghost use Rattle.std.specs.Prelude.{◌≡◌, ◌⊎◌, ◌↔◌, ℕ, ◌+◌, ◌<◌, ◌≤◌, ◌∷◌, [], List, Option, None, length, get_or, min, true, false};
 ghost use Rattle.rd_base.specs.declared.tamper.Tamper.{Tamper};
 ghost use Rattle.rd_base.specs.declared.tamper.Tamper.TheVariants.{Untouched, Flip, Register, Early};
 ghost use Rattle.rv_step.specs.State.{State};
 ghost use Rattle.rv_step.specs.Step.{state_at};
 ghost use Rattle.checkpoint_run.specs.NamedPages.{IsNamed};
-ghost use Rattle.checkpoint_run.specs.TamperedRun.{run_from, run_at, tampered, still};
+ghost use Rattle.checkpoint_run.specs.TamperedRun.{run_from, run_at, tampered, first_stop, still};
+ghost use Rattle.checkpoint_run.specs.AtRest.{rests};
+ghost use Rattle.rd_base.specs.Status.{is_running};
 
 use rv_step::stopped_states_stay;
 
@@ -24,6 +26,18 @@ pub fn tampered_runs()
     ensures early { (steps : ℕ) (s : State) (i : ℕ) → run_at (Early steps) s i ≡ state_at s (min i steps) }
     ensures within { (t : Tamper) (first : State) (bound : ℕ) → still t first bound ≤ bound }
     ensures stands { (t : Tamper) (first : State) (bound i : ℕ) → still t first bound ≤ i → i ≤ bound → run_from t first i ≡ run_from t first (still t first bound) }
+{
+    stopped_states_stay();
+}
+
+/// The first stop of a run below a step is the first: below it each state runs (`runs_before`), and where it is below the step
+/// its state has stopped (`stops`). A run rests at no step before the one from which it stands still (`moves_before`), and there
+/// it rests where it isn't at the bound (`rests_there`).
+pub fn stops_come_first()
+    ensures runs_before { (t : Tamper) (first : State) (n k : ℕ) → k < first_stop t first n → is_running (run_from t first k).status ≡ true }
+    ensures stops { (t : Tamper) (first : State) (n : ℕ) → first_stop t first n < n → is_running (run_from t first (first_stop t first n)).status ≡ false }
+    ensures moves_before { (t : Tamper) (first : State) (bound k : ℕ) → k < still t first bound → rests t bound k (run_from t first k) ≡ false }
+    ensures rests_there { (t : Tamper) (first : State) (bound : ℕ) → still t first bound < bound → rests t bound (still t first bound) (run_from t first (still t first bound)) ≡ true }
 {
     stopped_states_stay();
 }

@@ -2,10 +2,10 @@
 //!
 //! The run of a prover is the machine's own run with what a tamper does to it (`specs/TamperedRun.antt`). `record_run` makes
 //! it from a machine and keeps a checkpoint at every so many steps, none of them after the step from which the run stands
-//! still. The layers above may rely on this: `machine_at` gives the machine of a checkpoint, and `next` the machine of the
-//! next step, with the pages that were written; so each state of the run is had by replaying fewer steps than lie between two
+//! still. The layers above may rely on this: `machine_at` gives the machine of a checkpoint, and `next` takes it to the next
+//! step where it is, and tells the pages that were written; so each state of the run is had by replaying fewer steps than lie between two
 //! checkpoints. Both keep the chain by the digester that recorded the run. Laws of the run, in the words of the machine's
-//! own, are `tampered_runs`.
+//! own, are `tampered_runs` and `stops_come_first`.
 //!
 //! The output stands once in a run. A checkpoint takes one version of each page that was written since the checkpoint before,
 //! and of no other (the clauses of `add_checkpoint` and `note`); which pages a step writes says `specs/WrittenPages.antt`. So,
@@ -23,5 +23,5 @@ mod tampering;
 mod version;
 mod versions;
 
-pub use laws::{pages_of_two_places, tampered_runs};
+pub use laws::{pages_of_two_places, stops_come_first, tampered_runs};
 pub use run::{Run, machine_at, next, record_run};

@@ -33,12 +33,7 @@ fn first_machine(machine: &Machine, tamper: &Tamper) -> Result<Machine, Memory>
     ensures state { IfOk result (λ m. state_of m ≡ tampered tamper.now 0 (state_of machine.now)) }
     ensures chained { (digest : List ℕ → List ℕ) → IsChained digest machine.now → IfOk result (λ m. IsChained digest m) }
 {
-    let mut first = Machine {
-        regs: machine.regs,
-        ctl: machine.ctl,
-        mem: machine.mem.copy()?,
-        output: machine.output.clone()?,
-    };
+    let mut first = machine.copy()?;
     tamper_at(tamper, 0, &mut first)?;
     Ok(first)
 }
@@ -80,47 +75,33 @@ fn note(changed: &mut BTreeSet<u32>, page: Option<u32>) -> Result<(), Memory>
     }
 }
 
-/// The recording at the next step. An `Err` is out of memory.
+/// Takes the recording to the next step. An `Err` is out of memory.
 pub fn go_on<D: Digester>(
     d: D,
     tamper: &Tamper,
     every: u32,
-    recording: Recording,
-) -> Result<Recording, Memory>
+    recording: &mut Recording,
+) -> Result<(), Memory>
     requires every { 0 < every }
-    requires room { recording.at + 1 < 2 ^ 64 }
-    requires chained { IsChained D.digest_of recording.machine }
-    requires pages { AreBelow recording.changed.keys }
-    requires shown { IsShownBut recording.versions.items recording.changed.keys recording.machine.mem }
-    ensures at { IfOk result (λ r. r.at ≡ recording.at + 1) }
-    ensures under_way { (first : State) → IsUnderWay D.digest_of tamper.now first every recording → IfOk result (λ r. IsUnderWay D.digest_of tamper.now first every r) }
+    requires room { recording.old.at + 1 < 2 ^ 64 }
+    requires chained { IsChained D.digest_of recording.old.machine }
+    requires pages { AreBelow recording.old.changed.keys }
+    requires shown { IsShownBut recording.old.versions.items recording.old.changed.keys recording.old.machine.mem }
+    ensures at { OnOk result (recording.new.at ≡ recording.old.at + 1) }
+    ensures under_way { (first : State) → IsUnderWay D.digest_of tamper.now first every recording.old → OnOk result (IsUnderWay D.digest_of tamper.now first every recording.new) }
 {
-    let Recording {
-        machine,
-        at,
-        mut changed,
-        mut versions,
-        mut checkpoints,
-    } = recording;
-    let (machine, pages) = follow(d, tamper, at, machine)?;
-    let at = at + 1;
-    note(&mut changed, pages[0])?;
-    note(&mut changed, pages[1])?;
-    if at % u64::from(every) != 0 {
-        return Ok(Recording {
-            machine,
-            at,
-            changed,
-            versions,
-            checkpoints,
-        });
+    let pages = follow(d, tamper, recording.at, &mut recording.machine)?;
+    recording.at += 1;
+    note(&mut recording.changed, pages[0])?;
+    note(&mut recording.changed, pages[1])?;
+    if recording.at % u64::from(every) != 0 {
+        return Ok(());
     }
-    add_checkpoint(&machine, &mut changed, &mut versions, &mut checkpoints)?;
-    Ok(Recording {
-        machine,
-        at,
-        changed,
-        versions,
-        checkpoints,
-    })
+    add_checkpoint(
+        &recording.machine,
+        &mut recording.changed,
+        &mut recording.versions,
+        &mut recording.checkpoints,
+    )?;
+    Ok(())
 }

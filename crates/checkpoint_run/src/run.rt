@@ -1,4 +1,4 @@
-ghost use Rattle.std.specs.Prelude.{◌≡◌, ◌+◌, ◌*◌, ◌/◌, ◌<◌, ◌≤◌, ℕ, IfOk, List, length};
+ghost use Rattle.std.specs.Prelude.{◌≡◌, ◌+◌, ◌*◌, ◌/◌, ◌<◌, ◌≤◌, ℕ, IfOk, OnOk, List, length};
 ghost use Rattle.mem_plain.specs.Contents.{byte_at};
 ghost use Rattle.rv_step.specs.State.{state_of, IsChained};
 ghost use Rattle.checkpoint_run.specs.TamperedRun.{tampered};
@@ -13,7 +13,7 @@ use crate::version::Version;
 use crate::versions::restored;
 use digest_core::Digester;
 use rd_base::{Memory, Tamper};
-use rv_step::{Machine, stopped_states_stay};
+use rv_step::{Machine, runs_keep_the_input, stopped_states_stay};
 use std::alloc::Global;
 use std::marker::Model;
 
@@ -33,6 +33,9 @@ pub struct Run {
     versions: Vec<Version>,
     /// The whole output.
     output: Vec<u8>,
+    /// The version of the machine, and the input that it keeps.
+    version: u8,
+    input: Vec<u8>,
 }
 
 impl Model for Run {
@@ -43,9 +46,9 @@ impl Model for Run {
 
     ghost coded = { recorded_code };
 
-    ghost view = { λ r. recorded_by r.tamper r.bound r.every r.checkpoints.items r.versions.items r.output.items };
+    ghost view = { λ r. recorded_by r.tamper r.bound r.every r.checkpoints.items r.versions.items r.output.items r.version r.input.items };
 
-    ghost invariant = { λ r. IsRecorded (recorded_by r.tamper r.bound r.every r.checkpoints.items r.versions.items r.output.items) r.still r.checkpoints.items r.versions.items r.output.items };
+    ghost invariant = { λ r. IsRecorded (recorded_by r.tamper r.bound r.every r.checkpoints.items r.versions.items r.output.items r.version r.input.items) r.still r.checkpoints.items r.versions.items r.output.items r.version r.input.items };
 }
 
 impl Run {
@@ -93,11 +96,12 @@ pub fn record_run<D: Digester>(
     ensures chained { IfOk result (λ r. AreChained D.digest_of r) }
 {
     stopped_states_stay();
+    runs_keep_the_input();
     let mut recording = begin(alloc, machine, &tamper)?;
     'steps: while recording.at < bound
         && !is_at_rest(&tamper, bound, recording.at, &recording.machine)
     {
-        recording = go_on(d, &tamper, every, recording)?;
+        go_on(d, &tamper, every, &mut recording)?;
     }
     let Recording {
         machine: last,
@@ -106,7 +110,12 @@ pub fn record_run<D: Digester>(
         versions,
         ..
     } = recording;
-    let Machine { output, .. } = last;
+    let Machine {
+        output,
+        version,
+        input,
+        ..
+    } = last;
     Ok(Run {
         alloc,
         tamper,
@@ -116,6 +125,8 @@ pub fn record_run<D: Digester>(
         checkpoints,
         versions,
         output,
+        version,
+        input,
     })
 }
 
@@ -127,35 +138,32 @@ pub fn machine_at(run: &Run, checkpoint: u64) -> Result<Machine, Memory>
     ensures state { IfOk result (λ m. state_of m ≡ state_of_step run.now (checkpoint * run.now.every)) }
     ensures chained { (digest : List ℕ → List ℕ) → AreChained digest run.now → IfOk result (λ m. IsChained digest m) }
 {
+    runs_keep_the_input();
     let kept = &run.checkpoints[checkpoint as usize];
     let mem = restored(run.alloc, &run.versions[..kept.versions])?;
     let output = Vec::from_slice(run.alloc, &run.output[..kept.ctl.out_len as usize])?;
-    Ok(Machine {
-        regs: kept.regs,
-        ctl: kept.ctl,
-        mem,
-        output,
-    })
+    let input = Vec::from_slice(run.alloc, &run.input)?;
+    Ok(Machine::of_parts(kept.regs, kept.ctl, mem, output, run.version, input))
 }
 
-/// From the machine of step `i`, which is below the bound, to that of the next step, with the pages that were written: the page
+/// Takes the machine of step `i`, which is below the bound, to the next step, and tells the pages that were written: the page
 /// that the step stores to, and then the page in which the tamper flips a byte. No other page changes. A page goes by its
-/// number, below 2^20. It keeps the chain by the digester `d`. An `Err` is out of memory.
+/// number, below 2^20. It keeps the chain by the digester `d`. An `Err` is out of memory, at some state of the machine.
 pub fn next<D: Digester>(
     d: D,
     run: &Run,
     i: u64,
-    machine: Machine,
-) -> Result<(Machine, [Option<u32>; 2]), Memory>
-    requires chained { IsChained D.digest_of machine }
-    requires at { state_of machine ≡ state_of_step run.now i }
+    machine: &mut Machine,
+) -> Result<[Option<u32>; 2], Memory>
+    requires chained { IsChained D.digest_of machine.old }
+    requires at { state_of machine.old ≡ state_of_step run.now i }
     requires below { i < run.now.bound }
-    ensures state { IfOk result (λ r. state_of r.0 ≡ state_of_step run.now (i + 1)) }
-    ensures chained { IfOk result (λ r. IsChained D.digest_of r.0) }
-    ensures two { IfOk result (λ r. length r.1 ≡ 2) }
-    ensures written { IfOk result (λ r. r.1 ≡ written_by run.now.tamper i (state_of_step run.now i)) }
-    ensures pages { IfOk result (λ r. ArePages r.1) }
-    ensures elsewhere { IfOk result (λ r. (q : ℕ) → ¬ IsNamed (q / 4096) r.1 → byte_at r.0.mem q ≡ byte_at machine.mem q) }
+    ensures state { OnOk result (state_of machine.new ≡ state_of_step run.now (i + 1)) }
+    ensures chained { IsChained D.digest_of machine.new }
+    ensures two { IfOk result (λ pages. length pages ≡ 2) }
+    ensures written { IfOk result (λ pages. pages ≡ written_by run.now.tamper i (state_of_step run.now i)) }
+    ensures pages { IfOk result (λ pages. ArePages pages) }
+    ensures elsewhere { IfOk result (λ pages. (q : ℕ) → ¬ IsNamed (q / 4096) pages → byte_at machine.new.mem q ≡ byte_at machine.old.mem q) }
 {
     let _bound = run.bound();
     follow(d, &run.tamper, i, machine)

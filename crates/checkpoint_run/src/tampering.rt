@@ -10,9 +10,10 @@ ghost use Rattle.checkpoint_run.specs.WrittenPages.{stored_by, flipped_by, writt
 use digest_core::Digester;
 use mem_plain::{PAGE_BYTES, laying_bytes};
 use rd_base::{Memory, Tamper};
-use rv_step::{Machine, one_page_changes, output_only_grows, step, touches};
+use rv_step::{Machine, one_page_changes, output_only_grows, step};
 
 /// Whether nothing more happens up to the bound, from the machine of step `i` on.
+#[inline(always)]
 pub fn is_at_rest(tamper: &Tamper, bound: u64, i: u64, machine: &Machine) -> bool
     ensures { result ≡ rests tamper.now bound i (state_of machine.now) }
 {
@@ -27,6 +28,7 @@ pub fn is_at_rest(tamper: &Tamper, bound: u64, i: u64, machine: &Machine) -> boo
 }
 
 /// What the tamper does to the machine of step `i`, and the page in which it changes a byte. An `Err` is out of memory.
+#[inline(always)]
 pub fn tamper_at(tamper: &Tamper, i: u64, machine: &mut Machine) -> Result<Option<u32>, Memory>
     ensures state { OnOk result (state_of machine.new ≡ tampered tamper.now i (state_of machine.old)) }
     ensures chained { (digest : List ℕ → List ℕ) → IsChained digest machine.old → IsChained digest machine.new }
@@ -72,31 +74,29 @@ fn step_from<D: Digester>(
     {
         return Ok(None);
     }
-    let page = touches(machine);
-    step(machine, &d)?;
+    let page = step(machine, &d)?;
     Ok(page)
 }
 
-/// From the machine of step `i` to that of the next one, and the pages that were written: that of the step's store, and then
+/// Takes the machine of step `i` to the next one, and tells the pages that were written: that of the step's store, and then
 /// that of a byte that is flipped. An `Err` is out of memory.
 pub fn follow<D: Digester>(
     d: D,
     tamper: &Tamper,
     i: u64,
-    machine: Machine,
-) -> Result<(Machine, [Option<u32>; 2]), Memory>
-    requires chained { IsChained D.digest_of machine }
+    machine: &mut Machine,
+) -> Result<[Option<u32>; 2], Memory>
+    requires chained { IsChained D.digest_of machine.old }
     requires room { i + 1 < 2 ^ 64 }
-    ensures state { IfOk result (λ r. state_of r.0 ≡ next_of tamper.now i (state_of machine)) }
-    ensures chained { IfOk result (λ r. IsChained D.digest_of r.0) }
-    ensures adds { IfOk result (λ r. (more : List ℕ) × (r.0.output.items ≡ machine.output.items ++ more)) }
-    ensures two { IfOk result (λ r. length r.1 ≡ 2) }
-    ensures written { IfOk result (λ r. r.1 ≡ written_by tamper.now i (state_of machine)) }
-    ensures pages { IfOk result (λ r. ArePages r.1) }
-    ensures elsewhere { IfOk result (λ r. (q : ℕ) → ¬ IsNamed (q / 4096) r.1 → byte_at r.0.mem q ≡ byte_at machine.mem q) }
+    ensures state { OnOk result (state_of machine.new ≡ next_of tamper.now i (state_of machine.old)) }
+    ensures chained { IsChained D.digest_of machine.new }
+    ensures adds { OnOk result ((more : List ℕ) × (machine.new.output.items ≡ machine.old.output.items ++ more)) }
+    ensures two { IfOk result (λ pages. length pages ≡ 2) }
+    ensures written { IfOk result (λ pages. pages ≡ written_by tamper.now i (state_of machine.old)) }
+    ensures pages { IfOk result (λ pages. ArePages pages) }
+    ensures elsewhere { IfOk result (λ pages. (q : ℕ) → ¬ IsNamed (q / 4096) pages → byte_at machine.new.mem q ≡ byte_at machine.old.mem q) }
 {
-    let mut machine = machine;
-    let stored = step_from(d, tamper, i, &mut machine)?;
-    let tampered = tamper_at(tamper, i + 1, &mut machine)?;
-    Ok((machine, [stored, tampered]))
+    let stored = step_from(d, tamper, i, machine)?;
+    let tampered = tamper_at(tamper, i + 1, machine)?;
+    Ok([stored, tampered])
 }

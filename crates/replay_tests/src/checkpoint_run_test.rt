@@ -186,9 +186,8 @@ fn named_from(alloc: Global, tamper: Tamper, step: u32) -> Result<[Option<u32>; 
     if at > run.still() || at >= run.bound() {
         return Ok([None, None]);
     }
-    let kept = machine_at(&run, u64::from(step))?;
-    let (_after, pages) = next(Sha256, &run, at, kept)?;
-    Ok(pages)
+    let mut kept = machine_at(&run, u64::from(step))?;
+    Ok(next(Sha256, &run, at, &mut kept)?)
 }
 
 #[test]

@@ -45,7 +45,7 @@ fn machine_of(alloc: Global, pages: u32) -> Result<Machine, Memory>
     let mem = PlainMem::new(alloc)
         .lay(0x1_0000, PROGRAM)?
         .lay(0x1_0004, &end.to_le_bytes())?;
-    Machine::new(alloc, mem, 0x1_0000, &[])
+    Machine::new(alloc, 1, mem, 0x1_0000, &[])
 }
 
 // What is printed: the first four bytes of the last root, or the last count.

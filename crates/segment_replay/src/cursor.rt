@@ -52,8 +52,7 @@ fn machine_up_to<D: Digester>(d: D, run: &Run, goal: u64) -> Result<Machine, Mem
     let mut at = checkpoint * every;
     let mut machine = machine_at(run, checkpoint)?;
     'steps: while at < goal {
-        let (stepped, _pages) = next(d, run, at, machine)?;
-        machine = stepped;
+        let _pages = next(d, run, at, &mut machine)?;
         at += 1;
     }
     Ok(machine)
@@ -108,10 +107,10 @@ fn go_on<D: Digester>(d: D, run: &Run, cursor: Cursor<D>) -> Result<Cursor<D>, M
     let _bound = run.bound();
     let Cursor {
         at,
-        machine,
+        mut machine,
         mut tree,
     } = cursor;
-    let (machine, pages) = next(d, run, at, machine)?;
+    let pages = next(d, run, at, &mut machine)?;
     touch_named(&mut tree, pages[0])?;
     touch_named(&mut tree, pages[1])?;
     Ok(Cursor {

@@ -1,0 +1,15 @@
+use Rattle.std.proofs.Common.{arith}
+use Rattle.segment_replay.proofs.cursor.moved_on.Goals as goal
+
+pub steps-preserved : goal.steps-preserved
+steps-preserved g c = record {
+  until = omega (arith, c.in_ok-moved.ensures.at, c.steps-test.true);
+  machine = c.in_ok-moved.ensures.machine;
+  tree = c.in_ok-moved.ensures.tree c.args.cursor.machine.mem c.steps.invariant.tree;
+}
+
+pub returns-clause-tree : goal.returns-clause-tree
+returns-clause-tree g c = record {
+  untouched = c.in_ok-refresh.ensures.untouched;
+  tree_of = c.in_ok-refresh.ensures.tree c.args.cursor.machine.mem c.steps.invariant.tree.tree_of c.steps.invariant.tree.same;
+}
