@@ -5,6 +5,7 @@ use Rattle.std.proofs.lemmas.Bool.Decides.{nat_tests}
 use Rattle.std.specs.List.{AllByRecursion, flat_map}
 use Rattle.rd_base.specs.Regs.{with_register}
 use Rattle.rd_base.specs.Results.{◌>>=◌}
+use Rattle.proof_wire.specs.declared.fault.WireFault.{WireFault}
 use Rattle.proof_wire.specs.Wire.{word}
 use Rattle.proof_wire.specs.Reading.{Read, each_at}
 
@@ -32,11 +33,21 @@ unfolding each_at
 ends read front left bytes total is so_far =
     sym so_far ∙ ap (λ n. with_front front (each_at read n bytes)) is ∙ ap (λ xs. Ok (xs, bytes)) (append-nil front)
 
+-- one can't be read
+pub stops : {A : Type 0} (read : List ℕ → Read A) (front : List A) (left count : ℕ) (bytes : List ℕ) (fault : WireFault) (total : Read (List A))
+    → left ≡ suc count → read bytes ≡ Err fault → with_front front (each_at read left bytes) ≡ total → total ≡ Err fault
+unfolding each_at
+stops read front left count bytes fault total is first so_far = sym so_far ∙ ap (λ n. with_front front (each_at read n bytes)) is ∙ rw first refl
+
 -- a write to another register than x0
 pub with_register-above_zero : (xs : List ℕ) (reg value : ℕ) → 1 ≤ reg → with_register xs reg value ≡ set xs reg value
 with_register-above_zero xs reg value above = grind (arith, nat_tests)
 
 -- ---- writing
+
+-- bytes that were put behind others, and more behind them
+pub put_then : (out first more : List ℕ) {next last : List ℕ} → next ≡ out ++ first → last ≡ next ++ more → last ≡ out ++ (first ++ more)
+put_then out first more put behind = behind ∙ ap (λ bytes. bytes ++ more) put ∙ append_assoc out first more
 
 -- one more at the end
 pub AllByRecursion-push : {A : Type 0} (P : A → Type 0) (xs : List A) (y : A) → AllByRecursion P xs → P y → AllByRecursion P (xs ++ y ∷ [])

@@ -1,14 +1,19 @@
--- To believe for its faults: what bytes are read as, or the first rule that they break. What is read is derived, and
--- tied to the wire forms by the clauses of `decode`.
-use Rattle.std.specs.Prelude.{ℕ, zero, suc, List, [], ◌∷◌, length, take, drop, Option, Some, None, Result, Ok, Err, Bool, true, false, nat_lt, ◌==◌, if◌then◌else◌}
+-- Derived: what bytes are read as, field by field, or the first fault. What is read is tied to the wire forms by the
+-- clauses of `decode`, and the fault to lengths and places by the law `faults_by_places`.
+use Rattle.std.specs.Prelude.{ℕ, zero, suc, List, [], ◌∷◌, length, take, drop, ◌/◌, ◌%◌, Option, Some, None, Result, Ok, Err, Bool, true, false, nat_lt, ◌==◌, if◌then◌else◌}
 use Rattle.std.specs.Int.{w32, w64, from_le_bytes}
 use Rattle.rd_base.specs.declared.digest.Digest32.{Digest32}
 use Rattle.rd_base.specs.declared.status.Status.{Status}
 use Rattle.rd_base.specs.declared.status.Status.TheVariants.{Running, Exited, Trapped}
 use Rattle.rd_base.specs.declared.ctl.Ctl.{Ctl}
 use Rattle.rd_base.specs.declared.claim.Claim.{Claim}
-use Rattle.rd_base.specs.declared.proof.Opening.{Opening}
+use Rattle.rd_base.specs.declared.opened.Opening.{Opening}
+use Rattle.rd_base.specs.declared.opened.RegOpening.{RegOpening}
+use Rattle.rd_base.specs.declared.opened.InOpening.{InOpening}
 use Rattle.rd_base.specs.declared.proof.StepProof.{StepProof}
+use Rattle.rd_base.specs.declared.proof.StepProof2.{StepProof2}
+use Rattle.rd_base.specs.declared.proof.StepProof3.{StepProof3}
+use Rattle.rd_base.specs.declared.proof.Proof.TheVariants.{V1, V2, V3}
 use Rattle.rd_base.specs.declared.answer.Answer.{Answer}
 use Rattle.rd_base.specs.declared.answer.Answer.TheVariants as answers
 use Rattle.rd_base.specs.Results.{◌>>=◌}
@@ -89,21 +94,34 @@ opening_at bytes = do
   path ← each_at digest_at 27 chunk.1
   Ok (record { chunk = chunk.0; path = record { 0 = path.0 } }, path.1)
 
--- an opening where there is one
-unfoldable pub opening_if : Bool → List ℕ → Read (Option Opening)
-opening_if false bytes = Ok (None, bytes)
-opening_if true bytes = do
-  opening ← opening_at bytes
-  Ok (Some opening.0, opening.1)
+unfoldable pub register_opening_at : List ℕ → Read RegOpening
+register_opening_at bytes = do
+  whole ← at_least 164 bytes
+  value ← word_at whole
+  path ← each_at digest_at 5 value.1
+  Ok (record { value = value.0; path = record { 0 = path.0 } }, path.1)
 
--- whether there is a fetched chunk, and whether there is a data chunk
-abbrev pub flags_of : ℕ → Result (Bool × Bool) WireFault
-flags_of flags =
-    if flags == 0 then Ok (false, false)
-    else if flags == 1 then Ok (true, false)
-    else if flags == 2 then Ok (false, true)
-    else if flags == 3 then Ok (true, true)
-    else Err BadTag
+unfoldable pub input_opening_at : List ℕ → Read InOpening
+input_opening_at bytes = do
+  whole ← at_least 512 bytes
+  chunk ← block_at 32 whole
+  path ← each_at digest_at 15 chunk.1
+  Ok (record { chunk = chunk.0; path = record { 0 = path.0 } }, path.1)
+
+-- a value where there is one
+unfoldable pub optional_at : {A : Type 0} → (List ℕ → Read A) → Bool → List ℕ → Read (Option A)
+optional_at read false bytes = Ok (None, bytes)
+optional_at read true bytes = do
+  found ← read bytes
+  Ok (Some found.0, found.1)
+
+-- a number that isn't above the largest
+abbrev pub at_most : ℕ → ℕ → Result ℕ WireFault
+at_most largest n = if nat_lt largest n then Err BadTag else Ok n
+
+-- whether flag 1, 2 or 4 is among these
+abbrev pub has_flag : ℕ → ℕ → Bool
+has_flag number flags = flags / number % 2 == 1
 
 -- an output whose length is this number
 abbrev pub output_at : ℕ → List ℕ → Read (List ℕ)
@@ -120,18 +138,64 @@ claim_at bytes = do
   output ← output_at size.0 size.1
   Ok (record { mem = mem.0; regs = regs.0; ctl = ctl.0; output = output.0 }, output.1)
 
--- a proof behind its tag: 206 bytes, and the openings
-unfoldable pub proof_at : List ℕ → Read StepProof
-proof_at bytes = do
+-- how many roots there are: 1 to 15
+abbrev pub root_count : ℕ → Result ℕ WireFault
+root_count n = if n == 0 then Err BadTag else at_most 15 n
+
+-- several roots behind their tag
+unfoldable pub roots_at : List ℕ → Read (List Digest32)
+roots_at bytes = do
+  number ← byte_at bytes
+  count ← root_count number.0
+  each_at digest_at count number.1
+
+-- a proof of version 1 behind its tag: 206 bytes, and the openings
+unfoldable pub step_proof_at : List ℕ → Read StepProof
+step_proof_at bytes = do
   whole ← at_least 206 bytes
   mem ← digest_at whole
   regs ← registers_at mem.1
   ctl ← control_at regs.1
   byte ← byte_at ctl.1
-  flags ← flags_of byte.0
-  fetch ← opening_if flags.0 byte.1
-  operand ← opening_if flags.1 fetch.1
+  flags ← at_most 3 byte.0
+  fetch ← optional_at opening_at (has_flag 1 flags) byte.1
+  operand ← optional_at opening_at (has_flag 2 flags) fetch.1
   Ok (record { mem = mem.0; regs = regs.0; ctl = ctl.0; fetch = fetch.0; operand = operand.0 }, operand.1)
+
+-- a proof of version 2 behind its tag: 115 bytes, and the openings
+unfoldable pub step_proof_2_at : List ℕ → Read StepProof2
+step_proof_2_at bytes = do
+  whole ← at_least 115 bytes
+  mem ← digest_at whole
+  regs ← digest_at mem.1
+  ctl ← control_at regs.1
+  byte ← byte_at ctl.1
+  number ← byte_at byte.1
+  flags ← at_most 3 byte.0
+  count ← at_most 3 number.0
+  fetch ← optional_at opening_at (has_flag 1 flags) number.1
+  named ← each_at register_opening_at count fetch.1
+  operand ← optional_at opening_at (has_flag 2 flags) named.1
+  Ok (record { mem = mem.0; regs = regs.0; ctl = ctl.0; fetch = fetch.0; named = named.0; operand = operand.0 }, operand.1)
+
+-- a proof of version 3 behind its tag: 151 bytes, and the openings
+unfoldable pub step_proof_3_at : List ℕ → Read StepProof3
+step_proof_3_at bytes = do
+  whole ← at_least 151 bytes
+  mem ← digest_at whole
+  input_len ← word_at mem.1
+  input_root ← digest_at input_len.1
+  regs ← digest_at input_root.1
+  ctl ← control_at regs.1
+  byte ← byte_at ctl.1
+  number ← byte_at byte.1
+  flags ← at_most 7 byte.0
+  count ← at_most 3 number.0
+  fetch ← optional_at opening_at (has_flag 1 flags) number.1
+  named ← each_at register_opening_at count fetch.1
+  operand ← optional_at opening_at (has_flag 2 flags) named.1
+  input ← optional_at input_opening_at (has_flag 4 flags) operand.1
+  Ok (record { mem = mem.0; input_len = input_len.0; input_root = input_root.0; regs = regs.0; ctl = ctl.0; fetch = fetch.0; named = named.0; operand = operand.0; input = input.0 }, input.1)
 
 -- an answer at the front: its tag, and what stands behind it
 unfoldable pub answer_at : List ℕ → Read Answer
@@ -139,7 +203,10 @@ answer_at [] = Err Short
 answer_at (tag ∷ bytes) =
     if tag == 1 then claim_at bytes >>= (λ claim. Ok (answers.Claim claim.0, claim.1))
     else if tag == 2 then digest_at bytes >>= (λ root. Ok (answers.Root root.0, root.1))
-    else if tag == 3 then proof_at bytes >>= (λ proof. Ok (answers.Step proof.0, proof.1))
+    else if tag == 3 then step_proof_at bytes >>= (λ proof. Ok (answers.Step (V1 proof.0), proof.1))
+    else if tag == 4 then step_proof_2_at bytes >>= (λ proof. Ok (answers.Step (V2 proof.0), proof.1))
+    else if tag == 5 then roots_at bytes >>= (λ roots. Ok (answers.Roots roots.0, roots.1))
+    else if tag == 6 then step_proof_3_at bytes >>= (λ proof. Ok (answers.Step (V3 proof.0), proof.1))
     else Err BadTag
 
 -- an answer, and nothing behind it

@@ -1,14 +1,22 @@
 -- To believe. The wire forms: which bytes an answer has.
-use Rattle.std.specs.Prelude.{◌≡◌, ℕ, ◌<◌, ◌^◌, List, [], ◌∷◌, ◌++◌, length, slice_index, take, drop, Option, Some, None}
+use Rattle.std.specs.Prelude.{◌≡◌, ℕ, ◌+◌, ◌<◌, ◌≤◌, ◌^◌, List, [], ◌∷◌, ◌++◌, length, slice_index, take, drop, Option, Some, None}
 use Rattle.std.specs.List.{flat_map, AllByRecursion}
 use Rattle.std.specs.Int.{w32, w64, to_le_bytes}
 use Rattle.rd_base.specs.declared.digest.Digest32.{Digest32}
 use Rattle.rd_base.specs.declared.status.Status.{Status}
 use Rattle.rd_base.specs.declared.status.Status.TheVariants.{Running, Exited, Trapped}
 use Rattle.rd_base.specs.declared.ctl.Ctl.{Ctl}
-use Rattle.rd_base.specs.declared.proof.Opening.{Opening}
+use Rattle.rd_base.specs.declared.opened.Opening.{Opening}
+use Rattle.rd_base.specs.declared.opened.RegOpening.{RegOpening}
+use Rattle.rd_base.specs.declared.opened.InOpening.{InOpening}
+use Rattle.rd_base.specs.declared.claim.Claim as claims
+use Rattle.rd_base.specs.declared.proof.StepProof.{StepProof}
+use Rattle.rd_base.specs.declared.proof.StepProof2.{StepProof2}
+use Rattle.rd_base.specs.declared.proof.StepProof3.{StepProof3}
+use Rattle.rd_base.specs.declared.proof.Proof.{Proof}
+use Rattle.rd_base.specs.declared.proof.Proof.TheVariants.{V1, V2, V3}
 use Rattle.rd_base.specs.declared.answer.Answer.{Answer}
-use Rattle.rd_base.specs.declared.answer.Answer.TheVariants.{Claim, Root, Step}
+use Rattle.rd_base.specs.declared.answer.Answer.TheVariants.{Claim, Root, Roots, Step}
 
 -- A form of values: the bytes that are written for them, and which values have it.
 pub record Form : Type 1 where
@@ -65,31 +73,76 @@ control c = word c.pc ‖ status c.status ‖ double_word c.out_len ‖ digest c
 abbrev pub registers : List ℕ → Form
 registers xs = given (take 1 xs ≡ 0 ∷ []) ‖ each word 31 (drop 1 xs)
 
--- a chunk, and the siblings from the leaf's up: 896 bytes
+-- a chunk of memory, and the siblings from the leaf's up: 896 bytes
 abbrev pub opening : Opening → Form
 opening o = block 32 o.chunk ‖ each digest 27 o.path.0
 
--- 1 where a chunk was fetched, 2 where one was loaded from or stored to, 3 where both were
-abbrev pub flags : Option Opening → Option Opening → ℕ
-flags None None = 0
-flags (Some fetch) None = 1
-flags None (Some operand) = 2
-flags (Some fetch) (Some operand) = 3
+-- a register's value, and the siblings from the leaf's up: 164 bytes
+abbrev pub register_opening : RegOpening → Form
+register_opening o = word o.value ‖ each digest 5 o.path.0
 
--- an opening where there is one, and else no bytes
-abbrev pub optional : Option Opening → Form
-optional None = nothing
-optional (Some o) = opening o
+-- a chunk of the input, and the siblings from the leaf's up: 512 bytes
+abbrev pub input_opening : InOpening → Form
+input_opening o = block 32 o.chunk ‖ each digest 15 o.path.0
+
+-- a value where there is one, and else no bytes
+abbrev pub optional : {A : Type 0} → (A → Form) → Option A → Form
+optional f None = nothing
+optional f (Some x) = f x
+
+-- the number that says that a value is there, and 0 where it isn't
+abbrev pub flag : {A : Type 0} → ℕ → Option A → ℕ
+flag number None = 0
+flag number (Some x) = number
 
 -- the bytes behind the length of a claim's output, at most 4,294,967,295
 abbrev pub output : List ℕ → Form
 output bytes = given (length bytes < 2 ^ 32) ‖ block (length bytes) bytes
 
+-- a claim behind its tag
+abbrev pub claim : claims.Claim → Form
+claim c = digest c.mem ‖ digest c.regs ‖ control c.ctl ‖ double_word (length c.output) ‖ output c.output
+
+-- several roots behind their tag: how many, 1 to 15, and the roots
+abbrev pub roots : List Digest32 → Form
+roots rs = given ((1 ≤ length rs) × (length rs ≤ 15)) ‖ byte (length rs) ‖ each digest (length rs) rs
+
+-- a proof of version 1 behind its tag: flag 1 is the fetched chunk, 2 the data chunk
+abbrev pub step_proof : StepProof → Form
+step_proof p =
+    digest p.mem ‖ registers p.regs ‖ control p.ctl ‖ byte (flag 1 p.fetch + flag 2 p.operand)
+    ‖ optional opening p.fetch ‖ optional opening p.operand
+
+-- how many registers are opened, at most three
+abbrev pub count : List RegOpening → Form
+count named = given (length named ≤ 3) ‖ byte (length named)
+
+-- a proof of version 2 behind its tag, with the flags of version 1
+abbrev pub step_proof_2 : StepProof2 → Form
+step_proof_2 p =
+    digest p.mem ‖ digest p.regs ‖ control p.ctl ‖ byte (flag 1 p.fetch + flag 2 p.operand) ‖ count p.named
+    ‖ optional opening p.fetch ‖ each register_opening (length p.named) p.named ‖ optional opening p.operand
+
+-- a proof of version 3 behind its tag: flag 4 is the input's chunk
+abbrev pub step_proof_3 : StepProof3 → Form
+step_proof_3 p =
+    digest p.mem ‖ word p.input_len ‖ digest p.input_root ‖ digest p.regs ‖ control p.ctl
+    ‖ byte (flag 1 p.fetch + flag 2 p.operand + flag 4 p.input) ‖ count p.named
+    ‖ optional opening p.fetch ‖ each register_opening (length p.named) p.named ‖ optional opening p.operand
+    ‖ optional input_opening p.input
+
+-- the wire form of a proof, each version with its tag
+abbrev pub proof_form : Proof → Form
+proof_form (V1 p) = byte 3 ‖ step_proof p
+proof_form (V2 p) = byte 4 ‖ step_proof_2 p
+proof_form (V3 p) = byte 6 ‖ step_proof_3 p
+
 -- the wire form of an answer
 abbrev pub wire_form : Answer → Form
-wire_form (Claim c) = byte 1 ‖ digest c.mem ‖ digest c.regs ‖ control c.ctl ‖ double_word (length c.output) ‖ output c.output
+wire_form (Claim c) = byte 1 ‖ claim c
 wire_form (Root r) = byte 2 ‖ digest r
-wire_form (Step p) = byte 3 ‖ digest p.mem ‖ registers p.regs ‖ control p.ctl ‖ byte (flags p.fetch p.operand) ‖ optional p.fetch ‖ optional p.operand
+wire_form (Roots rs) = byte 5 ‖ roots rs
+wire_form (Step p) = proof_form p
 
 -- these are the bytes of the answer
 abbrev pub Spells : Answer → List ℕ → Type 0

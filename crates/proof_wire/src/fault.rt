@@ -8,11 +8,12 @@ use thiserror::Error;
 /// Why bytes are no answer that is decoded: the first rule that they break, or out of memory.
 #[derive(Clone, Copy, Debug, PartialEq, Eq, Error)]
 pub enum WireFault {
-    /// There are no bytes; or the fixed part, a claim's output or an opening isn't whole.
+    /// There are no bytes; or the fixed part, a claim's output, an opening or a root isn't whole.
     #[error("the answer isn't whole")]
     Short,
-    /// The first byte is no tag of an answer, or the flags of a proof are above 3.
-    #[error("the tag or the flags aren't known")]
+    /// The first byte is no tag of an answer; or the flags or the count of registers of a proof are above the largest;
+    /// or the count of roots isn't 1 to 15.
+    #[error("the tag, the flags or the count aren't known")]
     BadTag,
     /// The status byte is above 2, or it is that of a running machine and the code isn't 0.
     #[error("the status isn't known")]

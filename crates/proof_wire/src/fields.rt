@@ -1,14 +1,16 @@
 //! Fields at the front of some bytes. Each function gives the field and the bytes behind it.
-ghost use Rattle.std.specs.Prelude.{◌≡◌, ◌≤◌, ◌+◌, length, Ok, IfOk};
+ghost use Rattle.std.specs.Prelude.{◌≡◌, ◌≤◌, ◌+◌, ◌*◌, length, Ok, IfOk};
 ghost use Rattle.rd_base.specs.Results.{Gives};
 ghost use Rattle.proof_wire.specs.declared.fault.WireFault.TheVariants.{Memory};
-ghost use Rattle.proof_wire.specs.Reading.{block_at, byte_at, word_at, double_word_at, digest_at, each_at, status_of, status_at, control_at, registers_at, opening_at, opening_if, flags_of};
+ghost use Rattle.proof_wire.specs.Reading.{block_at, byte_at, word_at, double_word_at, digest_at, each_at, status_of, status_at, control_at, registers_at, opening_at, register_opening_at, input_opening_at, optional_at, at_most, has_flag};
 
 use crate::fault::WireFault;
 use crate::layout::{
-    EXITED, FETCH, FETCH_AND_OPERAND, NO_CHUNK, OPENING_BYTES, OPERAND, RUNNING, TRAPPED,
+    EXITED, INPUT_OPENING_BYTES, OPENING_BYTES, REGISTER_OPENING_BYTES, RUNNING, TRAPPED,
 };
-use rd_base::{Ctl, Digest32, Opening, Path, Regs, Status};
+use rd_base::{
+    Ctl, Digest32, InOpening, InPath, Opening, Path, RegOpening, RegOpenings, RegPath, Regs, Status,
+};
 
 /// A byte.
 #[tactic(auto, unfolding(crate::specs::Reading::byte_at))]
@@ -22,7 +24,7 @@ pub fn read_byte(bytes: &[u8]) -> (u8, &[u8])
 
 /// A number of four bytes.
 #[tactic(auto, unfolding(crate::specs::Reading::word_at))]
-fn read_word(bytes: &[u8]) -> (u32, &[u8])
+pub fn read_word(bytes: &[u8]) -> (u32, &[u8])
     requires { 4 ≤ length bytes.now }
     ensures read { word_at bytes.now ≡ Ok (result.0, result.1.now) }
     ensures rest { length bytes.now ≡ length result.1.now + 4 }
@@ -131,22 +133,22 @@ pub fn read_registers(bytes: &[u8]) -> (Regs, &[u8])
     (regs, rest)
 }
 
-/// The siblings of a Merkle path, the leaf's first.
-fn read_path(bytes: &[u8]) -> (Path, &[u8])
-    requires { 864 ≤ length bytes.now }
-    ensures { each_at digest_at 27 bytes.now ≡ Ok (result.0.0, result.1.now) }
+/// The siblings of a Merkle path over `N` levels, the leaf's first.
+fn read_siblings<const N: usize>(bytes: &[u8]) -> ([Digest32; N], &[u8])
+    requires { 32 * N ≤ length bytes.now }
+    ensures { each_at digest_at N bytes.now ≡ Ok (result.0, result.1.now) }
 {
-    let mut siblings = [Digest32::ZERO; 27];
+    let mut siblings = [Digest32::ZERO; N];
     let mut rest = bytes;
     for sibling in siblings.iter_mut() {
         let (digest, after) = read_digest(rest);
         *sibling = digest;
         rest = after;
     }
-    (Path(siblings), rest)
+    (siblings, rest)
 }
 
-/// A chunk and its Merkle path.
+/// A chunk of memory and its Merkle path.
 #[tactic(auto, unfolding(crate::specs::Reading::opening_at))]
 fn read_opening(bytes: &[u8]) -> Result<(Opening, &[u8]), WireFault>
     ensures { Gives Memory (λ x. (x.0, x.1.now)) result (opening_at bytes.now) }
@@ -155,14 +157,43 @@ fn read_opening(bytes: &[u8]) -> Result<(Opening, &[u8]), WireFault>
         return Err(WireFault::Short);
     }
     let (chunk, rest) = read_block(bytes);
-    let (path, rest) = read_path(rest);
+    let (siblings, rest) = read_siblings::<27>(rest);
+    let path = Path(siblings);
     Ok((Opening { chunk, path }, rest))
 }
 
-/// A chunk and its Merkle path where they are there, and else nothing.
-#[tactic(auto, unfolding(crate::specs::Reading::opening_if))]
+/// A register's value and its Merkle path.
+#[tactic(auto, unfolding(crate::specs::Reading::register_opening_at))]
+fn read_register_opening(bytes: &[u8]) -> Result<(RegOpening, &[u8]), WireFault>
+    ensures { Gives Memory (λ x. (x.0, x.1.now)) result (register_opening_at bytes.now) }
+{
+    if bytes.len() < REGISTER_OPENING_BYTES {
+        return Err(WireFault::Short);
+    }
+    let (value, rest) = read_word(bytes);
+    let (siblings, rest) = read_siblings::<5>(rest);
+    let path = RegPath(siblings);
+    Ok((RegOpening { value, path }, rest))
+}
+
+/// A chunk of the input and its Merkle path.
+#[tactic(auto, unfolding(crate::specs::Reading::input_opening_at))]
+fn read_input_opening(bytes: &[u8]) -> Result<(InOpening, &[u8]), WireFault>
+    ensures { Gives Memory (λ x. (x.0, x.1.now)) result (input_opening_at bytes.now) }
+{
+    if bytes.len() < INPUT_OPENING_BYTES {
+        return Err(WireFault::Short);
+    }
+    let (chunk, rest) = read_block(bytes);
+    let (siblings, rest) = read_siblings::<15>(rest);
+    let path = InPath(siblings);
+    Ok((InOpening { chunk, path }, rest))
+}
+
+/// A chunk of memory and its Merkle path where they are there, and else nothing.
+#[tactic(auto, unfolding(crate::specs::Reading::optional_at))]
 pub fn read_opening_if(is_there: bool, bytes: &[u8]) -> Result<(Option<Opening>, &[u8]), WireFault>
-    ensures { Gives Memory (λ x. (x.0, x.1.now)) result (opening_if is_there bytes.now) }
+    ensures { Gives Memory (λ x. (x.0, x.1.now)) result (optional_at opening_at is_there bytes.now) }
 {
     if !is_there {
         return Ok((None, bytes));
@@ -171,15 +202,51 @@ pub fn read_opening_if(is_there: bool, bytes: &[u8]) -> Result<(Option<Opening>,
     Ok((Some(opening), rest))
 }
 
-/// Whether the fetched chunk and whether the data chunk is opened. `BadTag` comes exactly where the flags are above 3.
-pub fn chunks_of(flags: u8) -> Result<(bool, bool), WireFault>
-    ensures { result ≡ flags_of flags }
+/// A chunk of the input and its Merkle path where they are there, and else nothing.
+#[tactic(auto, unfolding(crate::specs::Reading::optional_at))]
+pub fn read_input_if(is_there: bool, bytes: &[u8]) -> Result<(Option<InOpening>, &[u8]), WireFault>
+    ensures { Gives Memory (λ x. (x.0, x.1.now)) result (optional_at input_opening_at is_there bytes.now) }
 {
-    match flags {
-        NO_CHUNK => Ok((false, false)),
-        FETCH => Ok((true, false)),
-        OPERAND => Ok((false, true)),
-        FETCH_AND_OPERAND => Ok((true, true)),
-        _ => Err(WireFault::BadTag),
+    if !is_there {
+        return Ok((None, bytes));
     }
+    let (opening, rest) = read_input_opening(bytes)?;
+    Ok((Some(opening), rest))
+}
+
+/// So many opened registers.
+pub fn read_named(count: u8, bytes: &[u8]) -> Result<(RegOpenings, &[u8]), WireFault>
+    requires { count ≤ 3 }
+    ensures { Gives Memory (λ x. (x.0, x.1.now)) result (each_at register_opening_at count bytes.now) }
+{
+    let mut named = RegOpenings::new();
+    let mut rest = bytes;
+    for _ in 0..count {
+        let (opening, after) = match read_register_opening(rest) {
+            Ok(read) => read,
+            Err(fault) => return Err(fault),
+        };
+        named.push(opening);
+        rest = after;
+    }
+    Ok((named, rest))
+}
+
+/// The number itself where it isn't above the largest. `BadTag` comes exactly where it is.
+pub fn within(largest: u8, number: u8) -> Result<u8, WireFault>
+    ensures { result ≡ at_most largest number }
+{
+    if number <= largest {
+        Ok(number)
+    } else {
+        Err(WireFault::BadTag)
+    }
+}
+
+/// Whether a flag, 1, 2 or 4, is among these.
+pub fn is_set(flag: u8, flags: u8) -> bool
+    requires { 1 ≤ flag }
+    ensures { result ≡ has_flag flag flags }
+{
+    flags / flag % 2 == 1
 }

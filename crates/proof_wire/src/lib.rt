@@ -1,9 +1,9 @@
 //! Wire forms: a prover's answer as bytes, and back.
 //!
 //! The layers above may rely on this: which bytes an answer has is said by a grammar (`specs/Wire.antt`), `encode`
-//! writes them, and `decode` gives an answer exactly where bytes are its, and else the first rule that they break
-//! (`specs/Reading.antt`). An answer has one spelling, bytes spell one answer, and no answer's bytes are a proper
-//! prefix of another's (`laws`). Read `fault` first, then `reading` and `writing`.
+//! writes them, and `decode` gives an answer exactly where bytes are its, and else the first rule that they break, by
+//! their number and places (`specs/FirstFault.antt`). An answer has one spelling, bytes spell one answer, and no
+//! answer's bytes are a proper prefix of another's (`laws`). Read `fault` first, then `reading` and `writing`.
 #![tactic(auto)]
 
 mod fault;
@@ -14,6 +14,8 @@ mod reading;
 mod writing;
 
 pub use fault::WireFault;
-pub use laws::{no_proper_prefix, one_spelling, reading_is_spelling};
+pub use laws::{
+    faults_by_places, no_proper_prefix, one_spelling, reading_is_spelling, spelled_in_bytes,
+};
 pub use reading::decode;
 pub use writing::encode;
