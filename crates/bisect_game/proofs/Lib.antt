@@ -4,3 +4,6 @@ pub mod TruthLemmas
 pub mod RightLemmas
 pub mod FewLemmas
 pub mod DisputeLemmas
+pub mod HalvesLemmas
+pub mod HeldLemmas
+pub mod PlayedLemmas

@@ -1,9 +1,9 @@
 -- A dispute keeps what is right: intervals of the match, roots that differ, and the run's roots for a side whose answers are true.
-use Rattle.std.proofs.Common.{◌≡◌, ◌≢◌, ℕ, ◌+◌, ◌-◌, ◌<◌, ◌≤◌, Bool, true, false, not, ◌&&◌, ◌||◌, if◌then◌else◌, List, [], ◌∷◌, ◌++◌, ◌⊎◌, inl, inr, Option, Some, None, is_some, is_none, refl, ap, arith}
+use Rattle.std.proofs.Common.{◌≡◌, ◌≢◌, ℕ, ◌+◌, ◌<◌, ◌≤◌, Bool, true, false, not, ◌&&◌, ◌||◌, if◌then◌else◌, List, [], ◌∷◌, ◌++◌, ◌⊎◌, inl, inr, Option, Some, None, is_some, is_none, refl, ap, arith}
 use Rattle.rd_base.specs.declared.digest.Digest32.{Digest32}
 use Rattle.bisect_game.specs.declared.interval.Interval.{Interval}
 use Rattle.bisect_game.specs.declared.interval.Round.{Round}
-use Rattle.rd_base.specs.declared.proof.StepProof.{StepProof}
+use Rattle.rd_base.specs.declared.proof.Proof.{Proof}
 use Rattle.rd_base.specs.declared.answer.Answer.{Answer}
 use Rattle.rd_base.specs.declared.answer.Answer.TheVariants as answer
 use Rattle.bisect_game.specs.declared.settled.Settled.{Settled}
@@ -25,7 +25,7 @@ use Rattle.bisect_game.specs.Truth.{Truth, IsRun, IsFit, IsTrueSettled, IsTrueSo
 
 -- a proof round in which both sides have proved ends in a collision
 record Proves (r : Ruling) (agreed own : Digest32) (a : Answer) : Type 0 where
-  proof : StepProof
+  proof : Proof
   is : a ≡ answer.Step proof
   leads : r.leads agreed proof ≡ Some own
 
@@ -37,9 +37,10 @@ proves : (r : Ruling) (agreed own : Digest32) (a : Answer) → is_proved r agree
 proves r agreed own (answer.Step p) e = record { proof = p; is = refl; leads = root-is own (r.leads agreed p) e }
 proves r agreed own (answer.Claim c) e = absurd (cc)
 proves r agreed own (answer.Root x) e = absurd (cc)
+proves r agreed own (answer.Roots xs) e = absurd (cc)
 
 record Stands (r : Ruling) (agreed own : Digest32) (s : Settled) : Type 0 where
-  proof : StepProof
+  proof : Proof
   is : s ≡ Given (answer.Step proof)
   leads : r.leads agreed proof ≡ Some own
 
@@ -97,28 +98,29 @@ unfolding close_of
 none-out r i a b e = none-by _ _ (is_step i) (both_proved r i.agreed a b) e
 
 -- an interval of the match, whose roots differ
-play-by : (rules : Rules) (d : Bisection) (a b : Settled) (o : Option Close) → rules.play.fan ≡ 2 → close_of rules.play.ruling d.place a b ≡ o →
-    d.by_first ≡ Some a → d.by_second ≡ Some b → IsPlay rules d → IsPlay rules (closed_or d (went_on rules.play.fan d a b) o)
-play-by rules d a b (Some c) more e ea eb i = record { sound = i.sound; fit_first = i.fit_first; fit_second = i.fit_second }
-play-by rules d a b None more e ea eb i =
-    let long : is_step d.place ≡ false = close_of-none rules.play.ruling d.place a b e in
-    let n : NoneOut _ _ = none-out rules.play.ruling d.place a b e in
-    let k : IsNarrower d.place (kept (parts_of rules.play.fan d.place) d.place (roots_of a) (roots_of b)) = kept-narrows rules.play.fan d.place (roots_of a) (roots_of b) (omega arith) long in
+play-by : (rules : Rules) (d : Bisection) (a b : Settled) (o : Option Close) → close_of rules.ruling d.place a b ≡ o →
+    d.by_first ≡ Some a → d.by_second ≡ Some b → IsPlay rules d → IsPlay rules (closed_or d (went_on d a b) o)
+play-by rules d a b (Some c) e ea eb i = record { parted = i.parted; sound = i.sound; fit_first = i.fit_first; fit_second = i.fit_second }
+play-by rules d a b None e ea eb i =
+    let long : is_step d.place ≡ false = close_of-none rules.ruling d.place a b e in
+    let n : NoneOut _ _ = none-out rules.ruling d.place a b e in
+    let k : IsNarrower d.place (kept (parts_of d.fan d.place) d.place (roots_of a) (roots_of b)) = kept-narrows d.fan d.place (roots_of a) (roots_of b) i.parted long in
     record {
+      parted = i.parted;
       sound = record {
         some = k.some;
         short = omega (arith, k.high, i.sound.short);
-        differ = kept-apart rules.play.ruling rules.play.fan d.place a b more long i.sound.differ n.first n.second (rw ea at i.fit_first) (rw eb at i.fit_second);
+        differ = kept-apart rules.ruling d.fan d.place a b i.parted long i.sound.differ n.first n.second (rw ea at i.fit_first) (rw eb at i.fit_second);
       };
       fit_first = tt;
       fit_second = tt;
     }
 
-play-advanced : (rules : Rules) (d : Bisection) (a b : Option Settled) → rules.play.fan ≡ 2 → d.by_first ≡ a → d.by_second ≡ b → IsPlay rules d → IsPlay rules (advanced rules.play d a b)
+play-advanced : (rules : Rules) (d : Bisection) (a b : Option Settled) → d.by_first ≡ a → d.by_second ≡ b → IsPlay rules d → IsPlay rules (advanced rules.ruling d a b)
 unfolding decided
-play-advanced rules d (Some a) (Some b) more ea eb i = play-by rules d a b (close_of rules.play.ruling d.place a b) more refl ea eb i
-play-advanced rules d (Some a) None more ea eb i = i
-play-advanced rules d None b more ea eb i = i
+play-advanced rules d (Some a) (Some b) ea eb i = play-by rules d a b (close_of rules.ruling d.place a b) refl ea eb i
+play-advanced rules d (Some a) None ea eb i = i
+play-advanced rules d None b ea eb i = i
 
 -- a side of a dispute that is right so long as its answers are true
 
@@ -137,7 +139,7 @@ own-is : (side : Side) (d : Bisection) (a b : Settled) → d.by_first ≡ Some a
 own-is First d a b ea eb = ea
 own-is Second d a b ea eb = eb
 
-kept-side : (t : Truth) (fan : ℕ) (i : Interval) (side : Side) (a b : Settled) → fan ≡ 2 → is_step i ≡ false → i.lo < i.hi →
+kept-side : (t : Truth) (fan : ℕ) (i : Interval) (side : Side) (a b : Settled) → 1 < fan → is_step i ≡ false → i.lo < i.hi →
     IsTrueSettled t (kind_over fan i.lo i.hi) (own-settled side a b) → HasRoots t side i → HasRoots t side (kept (parts_of fan i) i (roots_of a) (roots_of b))
 kept-side t fan i First a b more long some is h = kept-first t fan i a b more long some is h
 kept-side t fan i Second a b more long some is h = kept-second t fan i a b more long some is h
@@ -160,37 +162,37 @@ own-ended : (side : Side) (d : Bisection) (c : Close) → own_open side (closed_
 own-ended First d c = refl
 own-ended Second d c = refl
 
-right-by : (rules : Rules) (t : Truth) (d : Bisection) (side : Side) (a b : Settled) (o : Option Close) → rules.play.fan ≡ 2 → IsFair rules.play.ruling → IsRun rules t →
-    close_of rules.play.ruling d.place a b ≡ o → d.by_first ≡ Some a → d.by_second ≡ Some b → d.close ≡ None → IsPlay rules d →
-    KeepsRight t rules.play.fan side d → KeepsRight t rules.play.fan side (closed_or d (went_on rules.play.fan d a b) o)
-right-by rules t d side a b (Some c) more fair run e ea eb open_ i keeps truthful =
-    let open_now : IsTrueSoFar t (kind_over rules.play.fan d.place.lo d.place.hi) (own_open side d) = rw (own-ended side d c) at truthful.open_ in
+right-by : (rules : Rules) (t : Truth) (d : Bisection) (side : Side) (a b : Settled) (o : Option Close) → IsFair rules.ruling → IsRun rules t →
+    close_of rules.ruling d.place a b ≡ o → d.by_first ≡ Some a → d.by_second ≡ Some b → d.close ≡ None → IsPlay rules d →
+    KeepsRight t side d → KeepsRight t side (closed_or d (went_on d a b) o)
+right-by rules t d side a b (Some c) fair run e ea eb open_ i keeps truthful =
+    let open_now : IsTrueSoFar t (kind_over d.fan d.place.lo d.place.hi) (own_open side d) = rw (own-ended side d c) at truthful.open_ in
     let was : IsRight t side d = keeps (record { past = truthful.past; open_ = open_now }) in
-    let is : IsTrueSettled t (kind_over rules.play.fan d.place.lo d.place.hi) (own-settled side a b) = rw (own-is side d a b ea eb) at open_now in
+    let is : IsTrueSettled t (kind_over d.fan d.place.lo d.place.hi) (own-settled side a b) = rw (own-is side d a b ea eb) at open_now in
     let l : d.place.lo < rules.bound = omega (arith, i.sound.some, i.sound.short) in
     record {
       agreed = was.agreed;
       own = was.own;
-      stays = stays-closed rules.play.ruling d.place a b c side fair i.sound.differ e
-          (out-side rules.play.ruling t rules.play.fan d.place side a b i.sound.some (record { agreed = was.agreed; own = was.own }) (run.leads d.place.lo l) is);
+      stays = stays-closed rules.ruling d.place a b c side fair i.sound.differ e
+          (out-side rules.ruling t d.fan d.place side a b i.sound.some (record { agreed = was.agreed; own = was.own }) (run.leads d.place.lo l) is);
     }
-right-by rules t d side a b None more fair run e ea eb open_ i keeps truthful =
-    let long : is_step d.place ≡ false = close_of-none rules.play.ruling d.place a b e in
-    let two : AllTrue t rules.play.fan side d.past × _ = true-last t rules.play.fan side d.past (record { lo = d.place.lo; hi = d.place.hi; first = a; second = b }) truthful.past in
-    let is : IsTrueSettled t (kind_over rules.play.fan d.place.lo d.place.hi) (own-settled side a b) = rw own-round at two.1 in
-    let open_now : IsTrueSoFar t (kind_over rules.play.fan d.place.lo d.place.hi) (own_open side d) = rw (own-is side d a b ea eb) is in
+right-by rules t d side a b None fair run e ea eb open_ i keeps truthful =
+    let long : is_step d.place ≡ false = close_of-none rules.ruling d.place a b e in
+    let two : AllTrue t d.fan side d.past × _ = true-last t d.fan side d.past (record { lo = d.place.lo; hi = d.place.hi; first = a; second = b }) truthful.past in
+    let is : IsTrueSettled t (kind_over d.fan d.place.lo d.place.hi) (own-settled side a b) = rw own-round at two.1 in
+    let open_now : IsTrueSoFar t (kind_over d.fan d.place.lo d.place.hi) (own_open side d) = rw (own-is side d a b ea eb) is in
     let was : IsRight t side d = keeps (record { past = two.0; open_ = open_now }) in
-    let k : HasRoots t side (kept (parts_of rules.play.fan d.place) d.place (roots_of a) (roots_of b)) =
-    kept-side t rules.play.fan d.place side a b more long i.sound.some is (record { agreed = was.agreed; own = was.own }) in
+    let k : HasRoots t side (kept (parts_of d.fan d.place) d.place (roots_of a) (roots_of b)) =
+    kept-side t d.fan d.place side a b i.parted long i.sound.some is (record { agreed = was.agreed; own = was.own }) in
     record { agreed = k.agreed; own = k.own; stays = rw open_ (still side) }
 
-right-advanced : (rules : Rules) (t : Truth) (d : Bisection) (side : Side) (a b : Option Settled) → rules.play.fan ≡ 2 → IsFair rules.play.ruling → IsRun rules t →
-    d.by_first ≡ a → d.by_second ≡ b → d.close ≡ None → IsPlay rules d → KeepsRight t rules.play.fan side d → KeepsRight t rules.play.fan side (advanced rules.play d a b)
+right-advanced : (rules : Rules) (t : Truth) (d : Bisection) (side : Side) (a b : Option Settled) → IsFair rules.ruling → IsRun rules t →
+    d.by_first ≡ a → d.by_second ≡ b → d.close ≡ None → IsPlay rules d → KeepsRight t side d → KeepsRight t side (advanced rules.ruling d a b)
 unfolding decided
-right-advanced rules t d side (Some a) (Some b) more fair run ea eb open_ i keeps =
-    right-by rules t d side a b (close_of rules.play.ruling d.place a b) more fair run refl ea eb open_ i keeps
-right-advanced rules t d side (Some a) None more fair run ea eb open_ i keeps = keeps
-right-advanced rules t d side None b more fair run ea eb open_ i keeps = keeps
+right-advanced rules t d side (Some a) (Some b) fair run ea eb open_ i keeps =
+    right-by rules t d side a b (close_of rules.ruling d.place a b) fair run refl ea eb open_ i keeps
+right-advanced rules t d side (Some a) None fair run ea eb open_ i keeps = keeps
+right-advanced rules t d side None b fair run ea eb open_ i keeps = keeps
 
 -- a settled answer keeps a dispute in play, and each side right
 
@@ -200,50 +202,50 @@ none-closed (Some c) e = absurd (cc)
 
 -- before an answer of the first side nothing was settled of it, so that it was true so far
 was-right : (rules : Rules) (t : Truth) (d : Bisection) (s : Settled) (side mine : Side) (e : Bisection) → own_open mine d ≡ None →
-    e.past ≡ d.past → e.place ≡ d.place → e.close ≡ d.close → (side ≢ mine → own_open side e ≡ own_open side d) → (side ≡ mine) ⊎ (side ≢ mine) →
-    KeepsRight t rules.play.fan side d → KeepsRight t rules.play.fan side e
-was-right rules t d s side mine e none past place close other (inl same) keeps truthful =
-    let was : IsRight t side d = keeps (record { past = rw past at truthful.past; open_ = rw (same, none) tt }) in
+    e.fan ≡ d.fan → e.past ≡ d.past → e.place ≡ d.place → e.close ≡ d.close → (side ≢ mine → own_open side e ≡ own_open side d) → (side ≡ mine) ⊎ (side ≢ mine) →
+    KeepsRight t side d → KeepsRight t side e
+was-right rules t d s side mine e none fan past place close other (inl same) keeps truthful =
+    let was : IsRight t side d = keeps (record { past = rw (past, fan) at truthful.past; open_ = rw (same, none) tt }) in
     record { agreed = rw place was.agreed; own = rw place was.own; stays = rw close was.stays }
-was-right rules t d s side mine e none past place close other (inr differ) keeps truthful =
+was-right rules t d s side mine e none fan past place close other (inr differ) keeps truthful =
     let same : own_open side e ≡ own_open side d = other differ in
-    let o : IsTrueSoFar t (kind_over rules.play.fan d.place.lo d.place.hi) (own_open side d) = rw (same, place) at truthful.open_ in
-    let was : IsRight t side d = keeps (record { past = rw past at truthful.past; open_ = o }) in
+    let o : IsTrueSoFar t (kind_over d.fan d.place.lo d.place.hi) (own_open side d) = rw (same, place, fan) at truthful.open_ in
+    let was : IsRight t side d = keeps (record { past = rw (past, fan) at truthful.past; open_ = o }) in
     record { agreed = rw place was.agreed; own = rw place was.own; stays = rw close was.stays }
 
-pub play-first : (rules : Rules) (s : Settled) (d : Bisection) → rules.play.fan ≡ 2 → IsFit rules.play.ruling (kind_over rules.play.fan d.place.lo d.place.hi) s →
-    IsPlay rules d → IsPlay rules (settle_first rules.play s d)
+pub play-first : (rules : Rules) (s : Settled) (d : Bisection) → IsFit rules.ruling (kind_over d.fan d.place.lo d.place.hi) s →
+    IsPlay rules d → IsPlay rules (settle_first rules.ruling s d)
 unfolding settle_first
-play-first rules s d more fit g =
-    play-advanced rules (record d { by_first = Some s }) (Some s) d.by_second more refl refl (record { sound = g.sound; fit_first = fit; fit_second = g.fit_second })
+play-first rules s d fit g =
+    play-advanced rules (record d { by_first = Some s }) (Some s) d.by_second refl refl (record { parted = g.parted; sound = g.sound; fit_first = fit; fit_second = g.fit_second })
 
-pub play-second : (rules : Rules) (s : Settled) (d : Bisection) → rules.play.fan ≡ 2 → IsFit rules.play.ruling (kind_over rules.play.fan d.place.lo d.place.hi) s →
-    IsPlay rules d → IsPlay rules (settle_second rules.play s d)
+pub play-second : (rules : Rules) (s : Settled) (d : Bisection) → IsFit rules.ruling (kind_over d.fan d.place.lo d.place.hi) s →
+    IsPlay rules d → IsPlay rules (settle_second rules.ruling s d)
 unfolding settle_second
-play-second rules s d more fit g =
-    play-advanced rules (record d { by_second = Some s }) d.by_first (Some s) more refl refl (record { sound = g.sound; fit_first = g.fit_first; fit_second = fit })
+play-second rules s d fit g =
+    play-advanced rules (record d { by_second = Some s }) d.by_first (Some s) refl refl (record { parted = g.parted; sound = g.sound; fit_first = g.fit_first; fit_second = fit })
 
-right-of-first : (rules : Rules) (t : Truth) (s : Settled) (d : Bisection) (side : Side) → d.by_first ≡ None → KeepsRight t rules.play.fan side d → KeepsRight t rules.play.fan side (record d { by_first = Some s })
-right-of-first rules t s d First none keeps = was-right rules t d s First First (record d { by_first = Some s }) none refl refl refl (λ n. absurd (n refl)) (inl refl) keeps
-right-of-first rules t s d Second none keeps = was-right rules t d s Second First (record d { by_first = Some s }) none refl refl refl (λ n. refl) (inr (λ (same : Second ≡ First). cc)) keeps
+right-of-first : (rules : Rules) (t : Truth) (s : Settled) (d : Bisection) (side : Side) → d.by_first ≡ None → KeepsRight t side d → KeepsRight t side (record d { by_first = Some s })
+right-of-first rules t s d First none keeps = was-right rules t d s First First (record d { by_first = Some s }) none refl refl refl refl (λ n. absurd (n refl)) (inl refl) keeps
+right-of-first rules t s d Second none keeps = was-right rules t d s Second First (record d { by_first = Some s }) none refl refl refl refl (λ n. refl) (inr (λ (same : Second ≡ First). cc)) keeps
 
-right-of-second : (rules : Rules) (t : Truth) (s : Settled) (d : Bisection) (side : Side) → d.by_second ≡ None → KeepsRight t rules.play.fan side d → KeepsRight t rules.play.fan side (record d { by_second = Some s })
-right-of-second rules t s d First none keeps = was-right rules t d s First Second (record d { by_second = Some s }) none refl refl refl (λ n. refl) (inr (λ (same : First ≡ Second). cc)) keeps
-right-of-second rules t s d Second none keeps = was-right rules t d s Second Second (record d { by_second = Some s }) none refl refl refl (λ n. absurd (n refl)) (inl refl) keeps
+right-of-second : (rules : Rules) (t : Truth) (s : Settled) (d : Bisection) (side : Side) → d.by_second ≡ None → KeepsRight t side d → KeepsRight t side (record d { by_second = Some s })
+right-of-second rules t s d First none keeps = was-right rules t d s First Second (record d { by_second = Some s }) none refl refl refl refl (λ n. refl) (inr (λ (same : First ≡ Second). cc)) keeps
+right-of-second rules t s d Second none keeps = was-right rules t d s Second Second (record d { by_second = Some s }) none refl refl refl refl (λ n. absurd (n refl)) (inl refl) keeps
 
-pub right-first : (rules : Rules) (t : Truth) (s : Settled) (d : Bisection) (side : Side) → rules.play.fan ≡ 2 → IsFair rules.play.ruling → IsRun rules t → is_some d.close ≡ false → d.by_first ≡ None →
-    IsFit rules.play.ruling (kind_over rules.play.fan d.place.lo d.place.hi) s → IsPlay rules d → KeepsRight t rules.play.fan side d → KeepsRight t rules.play.fan side (settle_first rules.play s d)
+pub right-first : (rules : Rules) (t : Truth) (s : Settled) (d : Bisection) (side : Side) → IsFair rules.ruling → IsRun rules t → is_some d.close ≡ false → d.by_first ≡ None →
+    IsFit rules.ruling (kind_over d.fan d.place.lo d.place.hi) s → IsPlay rules d → KeepsRight t side d → KeepsRight t side (settle_first rules.ruling s d)
 unfolding settle_first
-right-first rules t s d side more fair run still none fit g keeps =
-    right-advanced rules t (record d { by_first = Some s }) side (Some s) d.by_second more fair run refl refl (none-closed d.close still)
-    (record { sound = g.sound; fit_first = fit; fit_second = g.fit_second }) (right-of-first rules t s d side none keeps)
+right-first rules t s d side fair run still none fit g keeps =
+    right-advanced rules t (record d { by_first = Some s }) side (Some s) d.by_second fair run refl refl (none-closed d.close still)
+    (record { parted = g.parted; sound = g.sound; fit_first = fit; fit_second = g.fit_second }) (right-of-first rules t s d side none keeps)
 
-pub right-second : (rules : Rules) (t : Truth) (s : Settled) (d : Bisection) (side : Side) → rules.play.fan ≡ 2 → IsFair rules.play.ruling → IsRun rules t → is_some d.close ≡ false → d.by_second ≡ None →
-    IsFit rules.play.ruling (kind_over rules.play.fan d.place.lo d.place.hi) s → IsPlay rules d → KeepsRight t rules.play.fan side d → KeepsRight t rules.play.fan side (settle_second rules.play s d)
+pub right-second : (rules : Rules) (t : Truth) (s : Settled) (d : Bisection) (side : Side) → IsFair rules.ruling → IsRun rules t → is_some d.close ≡ false → d.by_second ≡ None →
+    IsFit rules.ruling (kind_over d.fan d.place.lo d.place.hi) s → IsPlay rules d → KeepsRight t side d → KeepsRight t side (settle_second rules.ruling s d)
 unfolding settle_second
-right-second rules t s d side more fair run still none fit g keeps =
-    right-advanced rules t (record d { by_second = Some s }) side d.by_first (Some s) more fair run refl refl (none-closed d.close still)
-    (record { sound = g.sound; fit_first = g.fit_first; fit_second = fit }) (right-of-second rules t s d side none keeps)
+right-second rules t s d side fair run still none fit g keeps =
+    right-advanced rules t (record d { by_second = Some s }) side d.by_first (Some s) fair run refl refl (none-closed d.close still)
+    (record { parted = g.parted; sound = g.sound; fit_first = g.fit_first; fit_second = fit }) (right-of-second rules t s d side none keeps)
 
 -- the two sides as one
 
@@ -252,33 +254,33 @@ asks-first None None e = (refl, refl)
 asks-first None (Some c) e = absurd (cc)
 asks-first (Some s) c e = absurd (cc)
 
-play-side : (rules : Rules) (by : Side) (s : Settled) (d : Bisection) → rules.play.fan ≡ 2 → IsFit rules.play.ruling (kind_over rules.play.fan d.place.lo d.place.hi) s →
-    IsPlay rules d → IsPlay rules (settle_side rules.play by s d)
-play-side rules First s d two fit g = play-first rules s d two fit g
-play-side rules Second s d two fit g = play-second rules s d two fit g
+play-side : (rules : Rules) (by : Side) (s : Settled) (d : Bisection) → IsFit rules.ruling (kind_over d.fan d.place.lo d.place.hi) s →
+    IsPlay rules d → IsPlay rules (settle_side rules.ruling by s d)
+play-side rules First s d fit g = play-first rules s d fit g
+play-side rules Second s d fit g = play-second rules s d fit g
 
-right-side : (rules : Rules) (t : Truth) (by : Side) (s : Settled) (d : Bisection) (side : Side) → rules.play.fan ≡ 2 → IsFair rules.play.ruling → IsRun rules t → asks by d ≡ true →
-    IsFit rules.play.ruling (kind_over rules.play.fan d.place.lo d.place.hi) s → IsPlay rules d → KeepsRight t rules.play.fan side d → KeepsRight t rules.play.fan side (settle_side rules.play by s d)
-right-side rules t First s d side two fair run open_ fit g keeps =
+right-side : (rules : Rules) (t : Truth) (by : Side) (s : Settled) (d : Bisection) (side : Side) → IsFair rules.ruling → IsRun rules t → asks by d ≡ true →
+    IsFit rules.ruling (kind_over d.fan d.place.lo d.place.hi) s → IsPlay rules d → KeepsRight t side d → KeepsRight t side (settle_side rules.ruling by s d)
+right-side rules t First s d side fair run open_ fit g keeps =
     let a : (d.by_first ≡ None) × (is_some d.close ≡ false) = asks-first d.by_first d.close open_ in
-    right-first rules t s d side two fair run a.1 a.0 fit g keeps
-right-side rules t Second s d side two fair run open_ fit g keeps =
+    right-first rules t s d side fair run a.1 a.0 fit g keeps
+right-side rules t Second s d side fair run open_ fit g keeps =
     let a : (d.by_second ≡ None) × (is_some d.close ≡ false) = asks-first d.by_second d.close open_ in
-    right-second rules t s d side two fair run a.1 a.0 fit g keeps
+    right-second rules t s d side fair run a.1 a.0 fit g keeps
 
 pub invariant_is_kept : InvariantIsKept
 invariant_is_kept = record { play = play-side; right = right-side }
 
 -- a proof of a side with true answers proves
 
-proved-by : (rules : Rules) (t : Truth) (i : Interval) (own : Digest32) (o : Option Settled) → IsRun rules t → i.lo < i.hi → i.hi ≤ rules.bound →
-    i.agreed ≡ t.root i.lo → own ≡ t.root i.hi → IsTrueSoFar t (kind_over rules.play.fan i.lo i.hi) o → IsProvedBy rules.play.ruling i own o
-proved-by rules t i own (Some (Given a)) run some short agreed mine is = λ (step : is_step i ≡ true).
-    proved rules.play.ruling t i a own step some agreed mine (run.leads i.lo (omega (arith, some, short))) (rw step at is)
-proved-by rules t i own (Some (Faulty a)) run some short agreed mine is = tt
-proved-by rules t i own (Some Spent) run some short agreed mine is = tt
-proved-by rules t i own None run some short agreed mine is = tt
+proved-by : (rules : Rules) (t : Truth) (fan : ℕ) (i : Interval) (own : Digest32) (o : Option Settled) → IsRun rules t → i.lo < i.hi → i.hi ≤ rules.bound →
+    i.agreed ≡ t.root i.lo → own ≡ t.root i.hi → IsTrueSoFar t (kind_over fan i.lo i.hi) o → IsProvedBy rules.ruling i own o
+proved-by rules t fan i own (Some (Given a)) run some short agreed mine is = λ (step : is_step i ≡ true).
+    proved rules.ruling t i a own step some agreed mine (run.leads i.lo (omega (arith, some, short))) (rw step at is)
+proved-by rules t fan i own (Some (Faulty a)) run some short agreed mine is = tt
+proved-by rules t fan i own (Some Spent) run some short agreed mine is = tt
+proved-by rules t fan i own None run some short agreed mine is = tt
 
 pub true_proofs_prove : TrueProofsProve
 true_proofs_prove rules t side d run play truthful right =
-    proved-by rules t d.place (own_root side d.place) (own_open side d) run play.sound.some play.sound.short right.agreed right.own truthful.open_
+    proved-by rules t d.fan d.place (own_root side d.place) (own_open side d) run play.sound.some play.sound.short right.agreed right.own truthful.open_

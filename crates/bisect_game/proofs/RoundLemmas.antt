@@ -9,7 +9,6 @@ use Rattle.bisect_game.proofs.CutLemmas.{IsPart, part, below}
 use Rattle.bisect_game.specs.Bisection.{Bisection, cut, kept, parts_of, went_on, closed_or, decided, roots_of, agreeing}
 use Rattle.bisect_game.specs.Closing.{is_step, both_proved, close_of}
 use Rattle.bisect_game.specs.Laws.{IsNarrower, HasClosed, RoundsNarrow, ProofRoundCloses}
-use Rattle.bisect_game.specs.Rules.{Play}
 use Rattle.bisect_game.specs.Ruling.{Ruling}
 
 pub kept-narrows : (fan : ℕ) (i : Interval) (xs ys : List Digest32) → 1 < fan → is_step i ≡ false → IsNarrower i (kept (parts_of fan i) i xs ys)
@@ -32,23 +31,23 @@ pub close_of-none : (r : Ruling) (i : Interval) (a b : Settled) → close_of r i
 unfolding close_of
 close_of-none r i a b e = closes _ (is_step i) _ (both_proved r i.agreed a b) e
 
-decided-by : (play : Play) (d : Bisection) (a b : Settled) (o : Option Close) → 1 < play.fan → (o ≡ None → is_step d.place ≡ false) →
-    HasClosed d (closed_or d (went_on play.fan d a b) o) ⊎ IsNarrower d.place (closed_or d (went_on play.fan d a b) o).place
-decided-by play d a b (Some c) more h = inl (record { closed = refl; stays = refl })
-decided-by play d a b None more h = inr (kept-narrows play.fan d.place (roots_of a) (roots_of b) more (h refl))
+decided-by : (ruling : Ruling) (d : Bisection) (a b : Settled) (o : Option Close) → 1 < d.fan → (o ≡ None → is_step d.place ≡ false) →
+    HasClosed d (closed_or d (went_on d a b) o) ⊎ IsNarrower d.place (closed_or d (went_on d a b) o).place
+decided-by ruling d a b (Some c) more h = inl (record { closed = refl; stays = refl })
+decided-by ruling d a b None more h = inr (kept-narrows d.fan d.place (roots_of a) (roots_of b) more (h refl))
 
 pub rounds_narrow : RoundsNarrow
 unfolding decided
-rounds_narrow rules d a b more = decided-by rules d a b (close_of rules.ruling d.place a b) more (close_of-none rules.ruling d.place a b)
+rounds_narrow ruling d a b more = decided-by ruling d a b (close_of ruling d.place a b) more (close_of-none ruling d.place a b)
 
 -- the proof round closes its dispute
 
-proof-by : (play : Play) (d : Bisection) (a b : Settled) (x step : Bool) (c m : Close) → step ≡ true →
-    HasClosed d (closed_or d (went_on play.fan d a b) (if x then Some c else if step then Some m else None))
-proof-by play d a b true step c m e = record { closed = refl; stays = refl }
-proof-by play d a b false true c m e = record { closed = refl; stays = refl }
-proof-by play d a b false false c m e = absurd (cc)
+proof-by : (ruling : Ruling) (d : Bisection) (a b : Settled) (x step : Bool) (c m : Close) → step ≡ true →
+    HasClosed d (closed_or d (went_on d a b) (if x then Some c else if step then Some m else None))
+proof-by ruling d a b true step c m e = record { closed = refl; stays = refl }
+proof-by ruling d a b false true c m e = record { closed = refl; stays = refl }
+proof-by ruling d a b false false c m e = absurd (cc)
 
 pub proof_round_closes : ProofRoundCloses
 unfolding decided close_of
-proof_round_closes play d a b step = proof-by play d a b _ (is_step d.place) _ (both_proved play.ruling d.place.agreed a b) step
+proof_round_closes ruling d a b step = proof-by ruling d a b _ (is_step d.place) _ (both_proved ruling d.place.agreed a b) step

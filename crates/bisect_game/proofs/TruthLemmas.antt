@@ -1,7 +1,7 @@
 -- A side whose answers are true has the run's roots, and stays.
-use Rattle.std.proofs.Common.{◌≡◌, ◌≢◌, ℕ, zero, suc, ◌+◌, ◌-◌, ◌*◌, ◌/◌, ◌<◌, ◌≤◌, min, nat_le, Bool, true, false, List, [], ◌∷◌, ◌++◌, length, inl, inr, Some, refl, sym, ◌∙◌, ap, arith, get_or}
+use Rattle.std.proofs.Common.{◌≡◌, ◌≢◌, ℕ, zero, suc, ◌+◌, ◌-◌, ◌<◌, ◌≤◌, min, nat_le, Bool, true, false, List, [], ◌∷◌, ◌++◌, ◌==◌, if◌then◌else◌, map, length, inl, inr, Some, refl, sym, ◌∙◌, ap, arith, get_or}
 use Rattle.std.proofs.lemmas.Bool.Decides.{nat_tests}
-use Rattle.std.proofs.lemmas.Nat.{div-mul-add}
+use Rattle.std.proofs.lemmas.List.{length-map}
 use Rattle.std.proofs.lemmas.Slice.Eq.{bytes_eq-Decides}
 use Rattle.rd_base.specs.declared.digest.Digest32.{Digest32}
 use Rattle.bisect_game.specs.declared.interval.Interval.{Interval}
@@ -12,9 +12,10 @@ use Rattle.bisect_game.specs.declared.settled.Settled.{Settled}
 use Rattle.bisect_game.specs.declared.settled.Settled.TheVariants.{Given, Faulty, Spent}
 use Rattle.bisect_game.specs.declared.side.Side.{Side}
 use Rattle.bisect_game.specs.declared.side.Side.TheVariants.{First, Second}
-use Rattle.bisect_game.proofs.CutLemmas.{either}
-use Rattle.bisect_game.specs.Bisection.{cut, kept, kind_over, parts_of, roots_of, roots_in, agreeing}
+use Rattle.bisect_game.proofs.CutLemmas.{either, cut-first, cut-last}
+use Rattle.bisect_game.specs.Bisection.{cut, cuts_from, cuts, kept, kind_over, parts_of, roots_of, roots_in, agreeing}
 use Rattle.bisect_game.specs.Closing.{is_step, is_out, is_proved}
+use Rattle.bisect_game.specs.Laws.{TrueAnswersFit}
 use Rattle.bisect_game.specs.Rules.{is_fit}
 use Rattle.bisect_game.specs.Ruling.{Ruling, same_digest}
 use Rattle.bisect_game.specs.Truth.{Truth, IsFit, IsTrueAnswer, IsTrueSettled, own_root}
@@ -41,21 +42,7 @@ same-turned x y =
 
 -- the roots at so many cuts, from the one with this number on
 abbrev roots_at : (ℕ → Digest32) → ℕ → ℕ → ℕ → ℕ → ℕ → List Digest32
-roots_at root lo hi parts j zero = []
-roots_at root lo hi parts j (suc n) = root (cut lo hi parts j) ∷ roots_at root lo hi parts (j + 1) n
-
--- the first cut is the beginning, the last the end
-
-pub cut-first : (lo hi parts : ℕ) → 0 < parts → cut lo hi parts 0 ≡ lo
-unfolding cut
-cut-first lo hi parts some = omega arith
-
-pub cut-last : (lo hi parts : ℕ) → 0 < parts → lo ≤ hi → cut lo hi parts parts ≡ hi
-unfolding cut
-cut-last lo hi parts some le =
-    let turned : parts * (hi - lo) ≡ (hi - lo) * parts + 0 = omega arith in
-    let q : (parts * (hi - lo)) / parts ≡ hi - lo = ap (λ (x : ℕ). x / parts) turned ∙ div-mul-add (hi - lo) parts 0 some in
-    omega arith
+roots_at root lo hi parts j n = map root (cuts_from lo hi parts j n)
 
 -- the roots at the cuts, before which the first and after which the last stands
 
@@ -74,21 +61,25 @@ nth-back root other lo hi parts j (suc n) (suc k) le =
 
 -- what a true answer has of roots
 
-one-root : (t : Truth) (lo hi parts : ℕ) (a : Answer) → parts ≡ 2 → IsTrueAnswer t (kind.Root (cut lo hi parts 1)) a →
-    roots_in a ≡ roots_at t.root lo hi parts 1 (parts - 1)
-one-root t lo hi parts (answer.Root x) two is =
-    let one : parts - 1 ≡ 1 = omega arith in
-    rw one (ap (λ (y : Digest32). y ∷ []) is)
-one-root t lo hi parts (answer.Claim c) two is = absurd is
-one-root t lo hi parts (answer.Step p) two is = absurd is
+true-by : (t : Truth) (lo hi fan : ℕ) (two : Bool) (a : Answer) → (fan == 2) ≡ two → 1 < fan → 1 < hi - lo →
+    IsTrueAnswer t (if two then kind.Root (cut lo hi 2 1) else kind.Roots lo hi (min fan (hi - lo))) a →
+    roots_in a ≡ roots_at t.root lo hi (min fan (hi - lo)) 1 (min fan (hi - lo) - 1)
+true-by t lo hi fan true (answer.Root x) e more wide is =
+    let parts : min fan (hi - lo) ≡ 2 = grind (arith, nat_tests) in
+    rw parts (ap (λ (y : Digest32). y ∷ []) is)
+true-by t lo hi fan true (answer.Roots xs) e more wide is = absurd is
+true-by t lo hi fan true (answer.Claim c) e more wide is = absurd is
+true-by t lo hi fan true (answer.Step p) e more wide is = absurd is
+true-by t lo hi fan false (answer.Roots xs) e more wide is = is
+true-by t lo hi fan false (answer.Root x) e more wide is = absurd is
+true-by t lo hi fan false (answer.Claim c) e more wide is = absurd is
+true-by t lo hi fan false (answer.Step p) e more wide is = absurd is
 
-true-roots : (t : Truth) (fan lo hi : ℕ) (s : Settled) → fan ≡ 2 → nat_le (hi - lo) 1 ≡ false → IsTrueSettled t (kind_over fan lo hi) s →
+true-roots : (t : Truth) (fan lo hi : ℕ) (s : Settled) → 1 < fan → nat_le (hi - lo) 1 ≡ false → IsTrueSettled t (kind_over fan lo hi) s →
     roots_of s ≡ roots_at t.root lo hi (min fan (hi - lo)) 1 (min fan (hi - lo) - 1)
-true-roots t fan lo hi (Given a) two long is =
-    let wide : 1 < hi - lo = grind (arith, nat_tests) in
-    one-root t lo hi (min fan (hi - lo)) a (omega arith) (rw long at is)
-true-roots t fan lo hi (Faulty a) two long is = absurd is
-true-roots t fan lo hi Spent two long is = absurd is
+true-roots t fan lo hi (Given a) more long is = true-by t lo hi fan (fan == 2) a refl more (grind (arith, nat_tests)) (rw long at is)
+true-roots t fan lo hi (Faulty a) more long is = absurd is
+true-roots t fan lo hi Spent more long is = absurd is
 
 -- the part that is kept has the run's roots at its ends
 
@@ -107,7 +98,7 @@ kept-roots t lo hi agreed own parts xs j x y more le below is a o =
     rw (is, a0, o0) (nth-front t.root x lo hi parts 0 (parts - 1) j below ∙ ap (λ (m : ℕ). t.root (cut lo hi parts m)) (omega arith), nth-back t.root y lo hi parts 1 (parts - 1) j below ∙ ap (λ (m : ℕ). t.root (cut lo hi parts m)) (omega arith))
 
 -- the side of a round that goes on
-pub kept-first : (t : Truth) (fan : ℕ) (i : Interval) (a b : Settled) → fan ≡ 2 → is_step i ≡ false → i.lo < i.hi → IsTrueSettled t (kind_over fan i.lo i.hi) a →
+pub kept-first : (t : Truth) (fan : ℕ) (i : Interval) (a b : Settled) → 1 < fan → is_step i ≡ false → i.lo < i.hi → IsTrueSettled t (kind_over fan i.lo i.hi) a →
     HasRoots t First i → HasRoots t First (kept (parts_of fan i) i (roots_of a) (roots_of b))
 kept-first t fan i a b more long some is h =
     let wide : 1 < i.hi - i.lo = grind (arith, nat_tests) in
@@ -142,7 +133,7 @@ same-front a other (x ∷ xs) (y ∷ ys) (suc j) le =
           absurd (omega arith)
     ]
 
-pub kept-second : (t : Truth) (fan : ℕ) (i : Interval) (a b : Settled) → fan ≡ 2 → is_step i ≡ false → i.lo < i.hi → IsTrueSettled t (kind_over fan i.lo i.hi) b →
+pub kept-second : (t : Truth) (fan : ℕ) (i : Interval) (a b : Settled) → 1 < fan → is_step i ≡ false → i.lo < i.hi → IsTrueSettled t (kind_over fan i.lo i.hi) b →
     HasRoots t Second i → HasRoots t Second (kept (parts_of fan i) i (roots_of a) (roots_of b))
 kept-second t fan i a b more long some is h =
     let wide : 1 < i.hi - i.lo = grind (arith, nat_tests) in
@@ -162,6 +153,7 @@ proved r t i (answer.Step p) own step some a o leads is =
     rw (is, a, leads, short, o) (same-digests (t.root i.hi) (t.root i.hi) refl)
 proved r t i (answer.Claim c) own step some a o leads is = absurd is
 proved r t i (answer.Root x) own step some a o leads is = absurd is
+proved r t i (answer.Roots xs) own step some a o leads is = absurd is
 
 pub not-out : (r : Ruling) (t : Truth) (fan : ℕ) (i : Interval) (own : Digest32) (s : Settled) (step : Bool) → is_step i ≡ step → i.lo < i.hi → i.agreed ≡ t.root i.lo → own ≡ t.root i.hi →
     r.leads (t.root i.lo) (t.proof i.lo) ≡ Some (t.root (i.lo + 1)) → IsTrueSettled t (kind_over fan i.lo i.hi) s → is_out r i own s ≡ false
@@ -188,23 +180,62 @@ apart f s u v (x ∷ xs) (y ∷ ys) n j differ lx ly is =
           rw z (same-not x y e)
     ]
 
-fit-root : (r : Ruling) (lo hi parts : ℕ) (a : Answer) → parts ≡ 2 → is_fit r (kind.Root (cut lo hi parts 1)) a ≡ true → length (roots_in a) ≡ parts - 1
-fit-root r lo hi parts (answer.Root x) two is = omega arith
-fit-root r lo hi parts (answer.Claim c) two is = absurd (cc)
-fit-root r lo hi parts (answer.Step p) two is = absurd (cc)
+eqb-is : (m n : ℕ) → (m == n) ≡ true → m ≡ n
+eqb-is m n e = grind (arith, nat_tests)
+
+fit-by : (r : Ruling) (lo hi fan : ℕ) (two : Bool) (a : Answer) → (fan == 2) ≡ two → 1 < fan → 1 < hi - lo →
+    is_fit r (if two then kind.Root (cut lo hi 2 1) else kind.Roots lo hi (min fan (hi - lo))) a ≡ true → length (roots_in a) ≡ min fan (hi - lo) - 1
+fit-by r lo hi fan true (answer.Root x) e more wide is = let two : fan ≡ 2 = eqb-is fan 2 e in omega arith
+fit-by r lo hi fan true (answer.Roots xs) e more wide is = absurd (cc)
+fit-by r lo hi fan true (answer.Claim c) e more wide is = absurd (cc)
+fit-by r lo hi fan true (answer.Step p) e more wide is = absurd (cc)
+fit-by r lo hi fan false (answer.Roots xs) e more wide is = eqb-is (length xs) (min fan (hi - lo) - 1) is
+fit-by r lo hi fan false (answer.Root x) e more wide is = absurd (cc)
+fit-by r lo hi fan false (answer.Claim c) e more wide is = absurd (cc)
+fit-by r lo hi fan false (answer.Step p) e more wide is = absurd (cc)
 
 -- a settled answer of a round that goes on has as many roots as there are cuts
-fit-length : (r : Ruling) (fan : ℕ) (i : Interval) (own : Digest32) (s : Settled) → fan ≡ 2 → is_step i ≡ false → is_out r i own s ≡ false → IsFit r (kind_over fan i.lo i.hi) s →
+fit-length : (r : Ruling) (fan : ℕ) (i : Interval) (own : Digest32) (s : Settled) → 1 < fan → is_step i ≡ false → is_out r i own s ≡ false → IsFit r (kind_over fan i.lo i.hi) s →
     length (roots_of s) ≡ min fan (i.hi - i.lo) - 1
-fit-length r fan i own (Given a) two long stays fit =
-    let wide : 1 < i.hi - i.lo = grind (arith, nat_tests) in
-    fit-root r i.lo i.hi (min fan (i.hi - i.lo)) a (omega arith) (rw long at fit)
-fit-length r fan i own (Faulty a) two long stays fit = absurd (cc)
-fit-length r fan i own Spent two long stays fit = absurd (cc)
+fit-length r fan i own (Given a) more long stays fit = fit-by r i.lo i.hi fan (fan == 2) a refl more (grind (arith, nat_tests)) (rw long at fit)
+fit-length r fan i own (Faulty a) more long stays fit = absurd (cc)
+fit-length r fan i own Spent more long stays fit = absurd (cc)
 
-pub kept-apart : (r : Ruling) (fan : ℕ) (i : Interval) (a b : Settled) → fan ≡ 2 → is_step i ≡ false → i.first ≢ i.second →
+pub kept-apart : (r : Ruling) (fan : ℕ) (i : Interval) (a b : Settled) → 1 < fan → is_step i ≡ false → i.first ≢ i.second →
     is_out r i i.first a ≡ false → is_out r i i.second b ≡ false → IsFit r (kind_over fan i.lo i.hi) a → IsFit r (kind_over fan i.lo i.hi) b →
     (kept (parts_of fan i) i (roots_of a) (roots_of b)).first ≢ (kept (parts_of fan i) i (roots_of a) (roots_of b)).second
 kept-apart r fan i a b more long differ sa sb fa fb =
     apart i.first i.second i.first i.second (roots_of a) (roots_of b) (min fan (i.hi - i.lo) - 1) _ differ
     (fit-length r fan i i.first a more long sa fa) (fit-length r fan i i.second b more long sb fb) refl
+
+-- a true answer fits what was asked
+
+eqb-same : (n : ℕ) → (n == n) ≡ true
+eqb-same n = grind (arith, nat_tests)
+
+from-count : (lo hi parts j n : ℕ) → length (cuts_from lo hi parts j n) ≡ n
+from-count lo hi parts j zero = refl
+from-count lo hi parts j (suc n) = ap suc (from-count lo hi parts (j + 1) n)
+
+roots-fit : (t : Truth) (lo hi parts : ℕ) (roots : List Digest32) → roots ≡ map t.root (cuts lo hi parts) → (length roots == parts - 1) ≡ true
+roots-fit t lo hi parts roots is =
+    let count : length roots ≡ parts - 1 = ap length is ∙ (length-map (cuts lo hi parts) t.root ∙ from-count lo hi parts 1 (parts - 1)) in
+    rw count (eqb-same (parts - 1))
+
+pub true_answers_fit : TrueAnswersFit
+true_answers_fit r t kind.Claim (answer.Claim c) sound is = rw is sound
+true_answers_fit r t kind.Claim (answer.Root x) sound is = absurd is
+true_answers_fit r t kind.Claim (answer.Roots xs) sound is = absurd is
+true_answers_fit r t kind.Claim (answer.Step p) sound is = absurd is
+true_answers_fit r t (kind.Root i) (answer.Claim c) sound is = absurd is
+true_answers_fit r t (kind.Root i) (answer.Root x) sound is = refl
+true_answers_fit r t (kind.Root i) (answer.Roots xs) sound is = absurd is
+true_answers_fit r t (kind.Root i) (answer.Step p) sound is = absurd is
+true_answers_fit r t (kind.Roots lo hi parts) (answer.Claim c) sound is = absurd is
+true_answers_fit r t (kind.Roots lo hi parts) (answer.Root x) sound is = absurd is
+true_answers_fit r t (kind.Roots lo hi parts) (answer.Roots xs) sound is = roots-fit t lo hi parts xs is
+true_answers_fit r t (kind.Roots lo hi parts) (answer.Step p) sound is = absurd is
+true_answers_fit r t (kind.Proof i) (answer.Claim c) sound is = absurd is
+true_answers_fit r t (kind.Proof i) (answer.Root x) sound is = absurd is
+true_answers_fit r t (kind.Proof i) (answer.Roots xs) sound is = absurd is
+true_answers_fit r t (kind.Proof i) (answer.Step p) sound is = refl

@@ -4,7 +4,8 @@ use Rattle.std.specs.Fn.{iterate}
 use Rattle.rd_base.specs.declared.digest.Digest32.{Digest32}
 use Rattle.bisect_game.specs.declared.question.Question.{Question}
 use Rattle.bisect_game.specs.declared.settled.Settled.{Settled}
-use Rattle.bisect_game.specs.Rules.{Play, Rules}
+use Rattle.bisect_game.specs.Ruling.{Ruling}
+use Rattle.bisect_game.specs.Rules.{Rules}
 use Rattle.bisect_game.specs.Bisection.{Bisection, question_of, is_closed, advance}
 
 -- what each prover's answer to a question is settled as, where it is
@@ -17,6 +18,7 @@ dispute_of rules stage number x y =
     record {
       stage = stage;
       number = number;
+      fan = rules.fan;
       first = x.0;
       second = y.0;
       place = record { lo = 0; hi = rules.bound; agreed = rules.start; first = x.1; second = y.1 };
@@ -31,17 +33,17 @@ or_else (Some s) t = Some s
 or_else None t = t
 
 -- what is settled of the round, with what the answers have beside it
-abbrev pub filled : Play → Answers → Bisection → Bisection
-filled play f d =
+abbrev pub filled : Answers → Bisection → Bisection
+filled f d =
     record d {
-      by_first = or_else d.by_first (f d.first (question_of play.fan d));
-      by_second = or_else d.by_second (f d.second (question_of play.fan d));
+      by_first = or_else d.by_first (f d.first (question_of d));
+      by_second = or_else d.by_second (f d.second (question_of d));
     }
 
 -- one round over the answers
-unfoldable pub round_over : Play → Answers → Bisection → Bisection
-round_over play f d = if is_closed d then d else advance play (filled play f d)
+unfoldable pub round_over : Ruling → Answers → Bisection → Bisection
+round_over ruling f d = if is_closed d then d else advance ruling (filled f d)
 
 -- a dispute over the answers, as far as they go: never more rounds than steps
 unfoldable pub played : Rules → Answers → Bisection → Bisection
-played rules f d = iterate (round_over rules.play f) rules.bound d
+played rules f d = iterate (round_over rules.ruling f) rules.bound d

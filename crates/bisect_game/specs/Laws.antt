@@ -1,14 +1,21 @@
 -- To believe: what is promised of every dispute, whatever is settled. The law `bisection_laws` shows each of these, and
--- `sides_settle_in_any_order` the last.
-use Rattle.std.specs.Prelude.{◌≡◌, ◌≢◌, ℕ, ◌-◌, ◌*◌, ◌^◌, ◌<◌, ◌≤◌, true, ◌⊎◌, length, None}
+-- `cuts_divide`, `halves_are_bisection` and `sides_settle_in_any_order` those that are named so.
+use Rattle.std.specs.Prelude.{◌≡◌, ◌≢◌, ℕ, ◌+◌, ◌-◌, ◌*◌, ◌^◌, ◌<◌, ◌≤◌, true, false, ◌⊎◌, length, None}
+use Rattle.rd_base.specs.declared.digest.Digest32.{Digest32}
+use Rattle.rd_base.specs.declared.answer.Answer.{Answer}
+use Rattle.rd_base.specs.declared.answer.Answer.TheVariants as answer
+use Rattle.bisect_game.specs.declared.question.Kind.{Kind}
+use Rattle.bisect_game.specs.declared.question.Kind.TheVariants as kind
 use Rattle.bisect_game.specs.declared.interval.Interval.{Interval}
 use Rattle.bisect_game.specs.declared.settled.Settled.{Settled}
+use Rattle.bisect_game.specs.declared.settled.Settled.TheVariants.{Given}
 use Rattle.bisect_game.specs.declared.side.Side.{Side}
-use Rattle.bisect_game.specs.Ruling.{IsFair}
-use Rattle.bisect_game.specs.Rules.{Play, Rules}
+use Rattle.bisect_game.specs.Ruling.{Ruling, IsFair, same_digest}
+use Rattle.bisect_game.specs.Rules.{Rules, is_fit}
 use Rattle.bisect_game.specs.Closing.{is_step}
-use Rattle.bisect_game.specs.Bisection.{Bisection, kind_over, rounds_of, proof_rounds_in, decided, is_closed, asks, settle_side, settle_first, settle_second}
-use Rattle.bisect_game.specs.Truth.{Truth, IsRun, IsFit, IsFitSoFar, IsTruthful, IsRight, IsProved}
+use Rattle.bisect_game.specs.Bisection.{Bisection, cut, middle, kind_over, rounds_of, proof_rounds_in, decided, is_closed, asks, settle_side, settle_first, settle_second}
+use Rattle.bisect_game.specs.OverAnswers.{SettledIsHeld, PlayedOverAnswers}
+use Rattle.bisect_game.specs.Truth.{Truth, IsRun, IsTrueAnswer, IsFit, IsFitSoFar, IsTruthful, IsRight, IsProved}
 
 -- an interval that is not empty, lies within another, and is shorter
 pub record IsNarrower (i j : Interval) : Type 0 where
@@ -22,13 +29,36 @@ pub record HasClosed (d e : Bisection) : Type 0 where
   pub closed : is_closed e ≡ true
   pub stays : e.place ≡ d.place
 
+-- the cuts of an interval divide it: they begin and end with it, and no part is empty
+pub record CutsDivide : Type 0 where
+  pub begin : (lo hi parts : ℕ) → 0 < parts → cut lo hi parts 0 ≡ lo
+  pub end_ : (lo hi parts : ℕ) → 0 < parts → lo ≤ hi → cut lo hi parts parts ≡ hi
+  pub rise : (lo hi parts j : ℕ) → 0 < parts → parts ≤ hi - lo → j < parts → cut lo hi parts j < cut lo hi parts (j + 1)
+  pub between : (lo hi parts j : ℕ) → 1 < parts → parts ≤ hi - lo → 0 < j → j < parts → (lo < cut lo hi parts j) × (cut lo hi parts j < hi)
+
+-- the two halves of an interval, with the roots that both sides gave at its middle
+abbrev pub above : Interval → Digest32 → Interval
+above i x = record i { lo = middle i.lo i.hi; agreed = x }
+
+abbrev pub below : Interval → Digest32 → Digest32 → Interval
+below i x y = record i { hi = middle i.lo i.hi; first = x; second = y }
+
+-- rounds of two parts are bisection: the root at the middle is asked, equal roots go on above it, and different ones below
+pub record HalvesAreBisection : Type 0 where
+  pub middle_ : (lo hi : ℕ) → cut lo hi 2 1 ≡ middle lo hi
+  pub asked : (lo hi : ℕ) → 1 < hi - lo → kind_over 2 lo hi ≡ kind.Root (middle lo hi)
+  pub equal : (ruling : Ruling) (d : Bisection) (x y : Digest32) → d.fan ≡ 2 → is_step d.place ≡ false → same_digest x y ≡ true →
+      (decided ruling d (Given (answer.Root x)) (Given (answer.Root y))).place ≡ above d.place x
+  pub different : (ruling : Ruling) (d : Bisection) (x y : Digest32) → d.fan ≡ 2 → is_step d.place ≡ false → same_digest x y ≡ false →
+      (decided ruling d (Given (answer.Root x)) (Given (answer.Root y))).place ≡ below d.place x y
+
 -- a round closes its dispute, or narrows its interval
 abbrev pub RoundsNarrow : Type 0
-RoundsNarrow = (play : Play) (d : Bisection) (a b : Settled) → 1 < play.fan → HasClosed d (decided play d a b) ⊎ IsNarrower d.place (decided play d a b).place
+RoundsNarrow = (ruling : Ruling) (d : Bisection) (a b : Settled) → 1 < d.fan → HasClosed d (decided ruling d a b) ⊎ IsNarrower d.place (decided ruling d a b).place
 
 -- the proof round closes its dispute, whatever the answers are
 abbrev pub ProofRoundCloses : Type 0
-ProofRoundCloses = (play : Play) (d : Bisection) (a b : Settled) → is_step d.place ≡ true → HasClosed d (decided play d a b)
+ProofRoundCloses = (ruling : Ruling) (d : Bisection) (a b : Settled) → is_step d.place ≡ true → HasClosed d (decided ruling d a b)
 
 -- an interval of a match: not empty, within the bound, and with different roots at its end
 pub record IsDisputed (bound : ℕ) (i : Interval) : Type 0 where
@@ -36,52 +66,61 @@ pub record IsDisputed (bound : ℕ) (i : Interval) : Type 0 where
   pub short : i.hi ≤ bound
   pub differ : i.first ≢ i.second
 
--- a dispute in play: its interval is disputed, and what is settled of the last round fits what was asked
+-- a dispute in play: a round cuts its interval, which is disputed, and what is settled of the last round fits what was asked
 pub record IsPlay (rules : Rules) (d : Bisection) : Type 0 where
+  pub parted : 1 < d.fan
   pub sound : IsDisputed rules.bound d.place
-  pub fit_first : IsFitSoFar rules.play.ruling (kind_over rules.play.fan d.place.lo d.place.hi) d.by_first
-  pub fit_second : IsFitSoFar rules.play.ruling (kind_over rules.play.fan d.place.lo d.place.hi) d.by_second
+  pub fit_first : IsFitSoFar rules.ruling (kind_over d.fan d.place.lo d.place.hi) d.by_first
+  pub fit_second : IsFitSoFar rules.ruling (kind_over d.fan d.place.lo d.place.hi) d.by_second
 
 -- bisection's invariant: a side whose answers so far are given and true has the run's roots, and is not out
-abbrev pub KeepsRight : Truth → ℕ → Side → Bisection → Type 0
-KeepsRight truth fan side d = IsTruthful truth fan side d → IsRight truth side d
+abbrev pub KeepsRight : Truth → Side → Bisection → Type 0
+KeepsRight truth side d = IsTruthful truth side d → IsRight truth side d
 
 -- an answer of either side, whatever it is, keeps both
 pub record InvariantIsKept : Type 0 where
-  pub play : (rules : Rules) (by : Side) (s : Settled) (d : Bisection) → rules.play.fan ≡ 2 →
-      IsFit rules.play.ruling (kind_over rules.play.fan d.place.lo d.place.hi) s → IsPlay rules d → IsPlay rules (settle_side rules.play by s d)
+  pub play : (rules : Rules) (by : Side) (s : Settled) (d : Bisection) →
+      IsFit rules.ruling (kind_over d.fan d.place.lo d.place.hi) s → IsPlay rules d → IsPlay rules (settle_side rules.ruling by s d)
   pub right : (rules : Rules) (truth : Truth) (by : Side) (s : Settled) (d : Bisection) (side : Side) →
-      rules.play.fan ≡ 2 → IsFair rules.play.ruling → IsRun rules truth → asks by d ≡ true →
-      IsFit rules.play.ruling (kind_over rules.play.fan d.place.lo d.place.hi) s → IsPlay rules d →
-      KeepsRight truth rules.play.fan side d → KeepsRight truth rules.play.fan side (settle_side rules.play by s d)
+      IsFair rules.ruling → IsRun rules truth → asks by d ≡ true →
+      IsFit rules.ruling (kind_over d.fan d.place.lo d.place.hi) s → IsPlay rules d →
+      KeepsRight truth side d → KeepsRight truth side (settle_side rules.ruling by s d)
 
 -- and a proof that it gave leads from the agreed root to its own
 abbrev pub TrueProofsProve : Type 0
 TrueProofsProve = (rules : Rules) (truth : Truth) (side : Side) (d : Bisection) → IsRun rules truth → IsPlay rules d →
-    IsTruthful truth rules.play.fan side d → IsRight truth side d → IsProved rules.play.ruling side d
+    IsTruthful truth side d → IsRight truth side d → IsProved rules.ruling side d
 
 -- a dispute that has had few rounds for the length of its interval
 pub record IsFew (fan bound : ℕ) (i : Interval) (rounds : ℕ) : Type 0 where
   pub few : (i.hi - i.lo - 1) * fan ^ rounds < bound
   pub asked : fan ^ rounds < fan * bound
 
--- an answer of either side keeps the rounds few: with two parts 2^k < 2N for k rounds, and no proof round goes on
+-- an answer of either side keeps the rounds few: F^k < F * N for k rounds of F parts over the bound N, so that there are never
+-- more than N has binary digits; and no proof round goes on
 pub record RoundsAreFew : Type 0 where
-  pub kept : (rules : Rules) (by : Side) (s : Settled) (d : Bisection) → 1 < rules.play.fan → IsFew rules.play.fan rules.bound d.place (length d.past) →
-      IsFew rules.play.fan rules.bound (settle_side rules.play by s d).place (length (settle_side rules.play by s d).past)
-  pub few : (rules : Rules) (d : Bisection) → 1 < rules.play.fan → IsFew rules.play.fan rules.bound d.place (length d.past) →
-      rules.play.fan ^ rounds_of d < rules.play.fan * rules.bound
-  pub last : (play : Play) (by : Side) (s : Settled) (d : Bisection) → proof_rounds_in d.past ≡ 0 → proof_rounds_in (settle_side play by s d).past ≡ 0
+  pub kept : (ruling : Ruling) (bound : ℕ) (by : Side) (s : Settled) (d : Bisection) → 1 < d.fan → IsFew d.fan bound d.place (length d.past) →
+      IsFew d.fan bound (settle_side ruling by s d).place (length (settle_side ruling by s d).past)
+  pub few : (bound : ℕ) (d : Bisection) → 1 < d.fan → IsFew d.fan bound d.place (length d.past) → d.fan ^ rounds_of d < d.fan * bound
+  pub digits : (fan bound rounds count : ℕ) → 1 < fan → fan ^ rounds < fan * bound → bound < 2 ^ count → rounds ≤ count
+  pub last : (ruling : Ruling) (by : Side) (s : Settled) (d : Bisection) → proof_rounds_in d.past ≡ 0 → proof_rounds_in (settle_side ruling by s d).past ≡ 0
+
+-- the true answer to what is asked is taken as given
+abbrev pub TrueAnswersFit : Type 0
+TrueAnswersFit = (ruling : Ruling) (truth : Truth) (k : Kind) (a : Answer) → ruling.is_sound truth.claim ≡ true → IsTrueAnswer truth k a → is_fit ruling k a ≡ true
 
 pub record BisectionLaws : Type 0 where
   pub narrow : RoundsNarrow
   pub proof : ProofRoundCloses
   pub invariant : InvariantIsKept
+  pub fits : TrueAnswersFit
   pub proofs : TrueProofsProve
   pub few : RoundsAreFew
+  pub held : SettledIsHeld
+  pub played : PlayedOverAnswers
 
 -- the order in which the two sides settle changes nothing
 abbrev pub OrderOfSidesIsFree : Type 0
 OrderOfSidesIsFree =
-    (play : Play) (d : Bisection) (a b : Settled) → d.by_first ≡ None → d.by_second ≡ None →
-    settle_second play b (settle_first play a d) ≡ settle_first play a (settle_second play b d)
+    (ruling : Ruling) (d : Bisection) (a b : Settled) → d.by_first ≡ None → d.by_second ≡ None →
+    settle_second ruling b (settle_first ruling a d) ≡ settle_first ruling a (settle_second ruling b d)

@@ -5,5 +5,7 @@ pub mod Bisection
 pub mod Closing
 pub mod Disputes
 pub mod Truth
+pub mod Held
+pub mod OverAnswers
 pub mod Laws
 pub mod Narrowing

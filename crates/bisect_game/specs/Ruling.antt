@@ -2,17 +2,17 @@
 use Rattle.std.specs.Prelude.{◌≡◌, ◌≢◌, ℕ, List, Bool, true, Option, Some, None, Contains, bytes_eq}
 use Rattle.rd_base.specs.declared.digest.Digest32.{Digest32}
 use Rattle.rd_base.specs.declared.claim.Claim.{Claim}
-use Rattle.rd_base.specs.declared.proof.StepProof.{StepProof}
+use Rattle.rd_base.specs.declared.proof.Proof.{Proof}
 
 -- the decisions of a judge as functions, the strings that a claim or a proof opens, and the digest of a string
 pub record Ruling : Type 0 where
   pub is_sound : Claim → Bool
   pub root_of : Claim → Digest32
-  pub leads : Digest32 → StepProof → Option Digest32
+  pub leads : Digest32 → Proof → Option Digest32
   pub claim_collision : Claim → Claim → Option (List ℕ × List ℕ)
-  pub step_collision : Digest32 → StepProof → StepProof → Option (List ℕ × List ℕ)
+  pub step_collision : Digest32 → Proof → Proof → Option (List ℕ × List ℕ)
   pub opened_by_claim : Claim → List (List ℕ)
-  pub opened_by_step : StepProof → List (List ℕ)
+  pub opened_by_step : Proof → List (List ℕ)
   pub digest : List ℕ → List ℕ
 
 -- two different strings of one digest, the first among those that one answer opens, the second among those that another
@@ -32,9 +32,9 @@ pub record IsFair (ruling : Ruling) : Type 0 where
   pub claims_equal : (x : Claim) → ruling.claim_collision x x ≡ None
   pub claim_collisions : (x y : Claim) (pair : List ℕ × List ℕ) → ruling.claim_collision x y ≡ Some pair →
       IsCollision ruling (ruling.opened_by_claim x) (ruling.opened_by_claim y) pair
-  pub steps_collide : (from : Digest32) (x y : StepProof) (b c : Digest32) → ruling.leads from x ≡ Some b → ruling.leads from y ≡ Some c → b ≢ c →
+  pub steps_collide : (from : Digest32) (x y : Proof) (b c : Digest32) → ruling.leads from x ≡ Some b → ruling.leads from y ≡ Some c → b ≢ c →
       (pair : List ℕ × List ℕ) × (ruling.step_collision from x y ≡ Some pair)
-  pub step_collisions : (from : Digest32) (x y : StepProof) (pair : List ℕ × List ℕ) → ruling.step_collision from x y ≡ Some pair →
+  pub step_collisions : (from : Digest32) (x y : Proof) (pair : List ℕ × List ℕ) → ruling.step_collision from x y ≡ Some pair →
       IsCollision ruling (ruling.opened_by_step x) (ruling.opened_by_step y) pair
 
 -- two digests have the same bytes

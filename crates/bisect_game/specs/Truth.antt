@@ -1,8 +1,8 @@
 -- To believe: what a run is to the game, the answers that are true of it, and what a side with true answers is owed.
-use Rattle.std.specs.Prelude.{◌≡◌, ℕ, ◌+◌, ◌<◌, Bool, true, false, List, [], ◌∷◌, Option, Some, None}
+use Rattle.std.specs.Prelude.{◌≡◌, ℕ, ◌+◌, ◌<◌, Bool, true, false, List, [], ◌∷◌, map, Option, Some, None}
 use Rattle.rd_base.specs.declared.digest.Digest32.{Digest32}
 use Rattle.rd_base.specs.declared.claim.Claim.{Claim}
-use Rattle.rd_base.specs.declared.proof.StepProof.{StepProof}
+use Rattle.rd_base.specs.declared.proof.Proof.{Proof}
 use Rattle.rd_base.specs.declared.answer.Answer.{Answer}
 use Rattle.rd_base.specs.declared.answer.Answer.TheVariants as answer
 use Rattle.bisect_game.specs.declared.question.Kind.{Kind}
@@ -18,26 +18,27 @@ use Rattle.bisect_game.specs.declared.side.Side.TheVariants.{First, Second}
 use Rattle.bisect_game.specs.Ruling.{Ruling}
 use Rattle.bisect_game.specs.Rules.{Rules, is_fit}
 use Rattle.bisect_game.specs.Closing.{is_step, is_proved}
-use Rattle.bisect_game.specs.Bisection.{Bisection, kind_over}
+use Rattle.bisect_game.specs.Bisection.{Bisection, cuts, kind_over}
 
 -- the roots of a run by step, the proof of each step, and the claim
 pub record Truth : Type 0 where
   pub root : ℕ → Digest32
-  pub proof : ℕ → StepProof
+  pub proof : ℕ → Proof
   pub claim : Claim
 
 -- root 0 is the match's, the proof of a step leads from its root to the next one, and the claim is sound and has the root
 -- at the bound
 pub record IsRun (rules : Rules) (truth : Truth) : Type 0 where
   pub begins : truth.root 0 ≡ rules.start
-  pub leads : (i : ℕ) → i < rules.bound → rules.play.ruling.leads (truth.root i) (truth.proof i) ≡ Some (truth.root (i + 1))
-  pub sound : rules.play.ruling.is_sound truth.claim ≡ true
-  pub ends : rules.play.ruling.root_of truth.claim ≡ truth.root rules.bound
+  pub leads : (i : ℕ) → i < rules.bound → rules.ruling.leads (truth.root i) (truth.proof i) ≡ Some (truth.root (i + 1))
+  pub sound : rules.ruling.is_sound truth.claim ≡ true
+  pub ends : rules.ruling.root_of truth.claim ≡ truth.root rules.bound
 
 -- the true answer to what is asked
 abbrev pub IsTrueAnswer : Truth → Kind → Answer → Type 0
 IsTrueAnswer truth kind.Claim (answer.Claim claim) = claim ≡ truth.claim
 IsTrueAnswer truth (kind.Root step) (answer.Root root) = root ≡ truth.root step
+IsTrueAnswer truth (kind.Roots lo hi parts) (answer.Roots roots) = roots ≡ map truth.root (cuts lo hi parts)
 IsTrueAnswer truth (kind.Proof step) (answer.Step proof) = proof ≡ truth.proof step
 IsTrueAnswer truth _ _ = ⊥
 
@@ -93,9 +94,9 @@ AllTrue truth fan side [] = Unit {0}
 AllTrue truth fan side (r ∷ rs) = IsTrueSettled truth (kind_over fan r.lo r.hi) (own_answer side r) × AllTrue truth fan side rs
 
 -- each answer of a side so far is given and true
-pub record IsTruthful (truth : Truth) (fan : ℕ) (side : Side) (d : Bisection) : Type 0 where
-  pub past : AllTrue truth fan side d.past
-  pub open_ : IsTrueSoFar truth (kind_over fan d.place.lo d.place.hi) (own_open side d)
+pub record IsTruthful (truth : Truth) (side : Side) (d : Bisection) : Type 0 where
+  pub past : AllTrue truth d.fan side d.past
+  pub open_ : IsTrueSoFar truth (kind_over d.fan d.place.lo d.place.hi) (own_open side d)
 
 -- the agreed root is the run's at lo, the side's own root is the run's at hi, and the side is not out
 pub record IsRight (truth : Truth) (side : Side) (d : Bisection) : Type 0 where

@@ -1,7 +1,7 @@
 ghost use denote.Param.Send.{IsSync};
 ghost use Rattle.std.specs.Prelude.{◌≡◌, ◌≤◌, ◌<◌, is_none, IfOk, ℕ, Option};
 ghost use Rattle.rd_base.specs.declared.answer.Answer.{Answer};
-ghost use Rattle.bisect_game.specs.Says.{Says};
+ghost use Rattle.bisect_game.specs.Says.{Says, GiveOneAnswer};
 ghost use Rattle.bisect_game.specs.declared.question.Question.{Question};
 
 use crate::question::Question;
@@ -30,6 +30,9 @@ pub trait Provers {
         requires some { 0 < p }
         requires few { p ≤ many (names self.now) }
         ensures { result ≡ is_none (says (names self.now) p question.now passes) };
+
+    /// To one question a prover gives one answer, after however many passes.
+    ghost give_one_answer: { (n : Self.Names) → GiveOneAnswer (says n) };
 }
 
 /// What one prover answers. It keeps an allocator of its own, and each call keeps its meaning.

@@ -7,14 +7,14 @@ ghost use Rattle.bisect_game.specs.Truth.{own_open};
 use crate::interval::{Interval, Round};
 use crate::judge::Judge;
 use crate::question::Question;
-use crate::rounds::{close_of, kept, kind_over};
+use crate::rounds::{close_of, kept, kind_over, parts_of};
 use crate::settled::{Close, Settled};
 use crate::side::Side;
 use rd_base::{Digest32, Memory, Qid};
 use std::alloc::Global;
 use std::marker::Model;
 
-/// The most rounds that can go on below a bound of 2^32.
+/// The most rounds that can go on below a bound of 2^32, whatever the fan.
 const MOST_ROUNDS: usize = 32;
 
 /// The memory of one dispute.
@@ -22,28 +22,32 @@ const MOST_ROUNDS: usize = 32;
 pub struct Room {
     rounds: Vec<Round>,
     bound: u64,
+    fan: u32,
 }
 
 impl Model for Room {
     ghost use Rattle.std.specs.Prelude.{◌≡◌, ◌<◌, ◌≤◌, ◌^◌, [], ℕ, vec_capacity};
 
-    ghost Value = { ℕ };
+    ghost Value = { ℕ × ℕ };
 
-    ghost view = { λ r. r.bound };
+    ghost view = { λ r. (r.bound, r.fan) };
 
-    ghost invariant = { λ r. (0 < r.bound) × (r.bound < 2 ^ 32) × (r.rounds.items ≡ []) × (32 ≤ vec_capacity r.rounds) };
+    ghost invariant = { λ r. (0 < r.bound) × (r.bound < 2 ^ 32) × (1 < r.fan) × (r.fan ≤ 16) × (r.rounds.items ≡ []) × (32 ≤ vec_capacity r.rounds) };
 }
 
 impl Room {
-    /// Room for a dispute over `bound` steps, from 1 to 2^32 - 1.
-    pub fn new(alloc: Global, bound: u64) -> Result<Room, Memory>
+    /// Room for a dispute over `bound` steps, from 1 to 2^32 - 1, of which a round cuts its interval in `fan` parts, from 2 to 16.
+    pub fn new(alloc: Global, bound: u64, fan: u32) -> Result<Room, Memory>
         requires some { 0 < bound }
         requires short { bound < 2 ^ 32 }
-        ensures { IfOk result (λ room. room ≡ bound) }
+        requires parted { 1 < fan }
+        requires few_parts { fan ≤ 16 }
+        ensures { IfOk result (λ room. room ≡ (bound, fan)) }
     {
         Ok(Room {
             rounds: Vec::with_capacity(alloc, MOST_ROUNDS)?,
             bound,
+            fan,
         })
     }
 }
@@ -53,6 +57,7 @@ impl Room {
 pub struct Dispute {
     stage: u32,
     number: u32,
+    fan: u32,
     first: u32,
     second: u32,
     place: Interval,
@@ -72,6 +77,7 @@ impl Model for Dispute {
     ghost view = { λ d. record {
       stage = d.stage;
       number = d.number;
+      fan = d.fan;
       first = d.first;
       second = d.second;
       place = d.place;
@@ -81,7 +87,7 @@ impl Model for Dispute {
       close = d.close;
     } };
 
-    ghost invariant = { λ d. IsKept d.place (vec_len d.past) (vec_capacity d.past) d.by_first d.by_second d.close };
+    ghost invariant = { λ d. IsKept d.fan d.place (vec_len d.past) (vec_capacity d.past) d.by_first d.by_second d.close };
 }
 
 impl Dispute {
@@ -95,12 +101,13 @@ impl Dispute {
         first: (u32, Digest32),
         second: (u32, Digest32),
     ) -> Dispute
-        ensures { result ≡ record { stage = stage; number = number; first = first.0; second = second.0; place = record { lo = 0; hi = room; agreed = start; first = first.1; second = second.1 }; past = []; by_first = None; by_second = None; close = None } }
+        ensures { result ≡ record { stage = stage; number = number; fan = room.1; first = first.0; second = second.0; place = record { lo = 0; hi = room.0; agreed = start; first = first.1; second = second.1 }; past = []; by_first = None; by_second = None; close = None } }
     {
-        let Room { rounds, bound } = room;
+        let Room { rounds, bound, fan } = room;
         Dispute {
             stage,
             number,
+            fan,
             first: first.0,
             second: second.0,
             place: Interval {
@@ -129,6 +136,13 @@ impl Dispute {
         ensures { result ≡ self.now.number }
     {
         self.number
+    }
+
+    /// In how many parts a round cuts its interval, where it has so many steps.
+    pub fn fan(&self) -> u32
+        ensures { result ≡ self.now.fan }
+    {
+        self.fan
     }
 
     /// The number of the prover on this side.
@@ -175,7 +189,7 @@ impl Dispute {
 
     /// The open question of a side; `None` exactly where the side has settled this round or the dispute is closed.
     pub fn question(&self, side: Side) -> Option<Question>
-        ensures { result ≡ (if asks side self.now then Some (question_of 2 self.now) else None) }
+        ensures { result ≡ (if asks side self.now then Some (question_of self.now) else None) }
     {
         let settled = match side {
             Side::First => self.by_first.is_some(),
@@ -190,14 +204,14 @@ impl Dispute {
                 dispute: self.number,
                 round: self.past.len() as u32 + 1,
             },
-            kind: kind_over(lo, hi),
+            kind: kind_over(self.fan, lo, hi),
         })
     }
 
     /// The open question of a side is settled. The round is decided once both sides are settled.
     pub fn settle<J: Judge>(&mut self, judge: &J, side: Side, settled: Settled)
         requires { asks side self.old ≡ true }
-        ensures { self.new ≡ settle_side (record { ruling = J.ruling (J.names judge.now); fan = 2 }) side settled self.old }
+        ensures { self.new ≡ settle_side (J.ruling (J.names judge.now)) side settled self.old }
     {
         match side {
             Side::First => match self.by_second.take() {
@@ -229,7 +243,7 @@ impl Dispute {
 
     /// A round of which both sides are settled closes the dispute, or the dispute goes on.
     fn decide<J: Judge>(&mut self, judge: &J, first: Settled, second: Settled)
-        ensures { self.new ≡ decided (record { ruling = J.ruling (J.names judge.now); fan = 2 }) (record self.old { by_first = Some first; by_second = Some second }) first second }
+        ensures { self.new ≡ decided (J.ruling (J.names judge.now)) (record self.old { by_first = Some first; by_second = Some second }) first second }
     {
         match close_of(judge, self.place, &first, &second) {
             Some(close) => {
@@ -241,13 +255,13 @@ impl Dispute {
         }
     }
 
-    /// A round that closes nothing is put behind, and the dispute goes on with the half that is kept.
+    /// A round that closes nothing is put behind, and the dispute goes on with the part that is kept.
     fn go_on(&mut self, first: Settled, second: Settled)
         requires long { is_step self.old.place ≡ false }
-        ensures { self.new ≡ went_on 2 self.old first second }
+        ensures { self.new ≡ went_on self.old first second }
     {
         let Interval { lo, hi, .. } = self.place;
-        self.place = kept(self.place, &first, &second);
+        self.place = kept(self.place, parts_of(self.fan, lo, hi), &first, &second);
         self.past.push_reserved(Round {
             lo,
             hi,

@@ -1,7 +1,7 @@
 ghost use Rattle.std.specs.Prelude.{◌≡◌};
 ghost use Rattle.bisect_game.specs.Ruling.{Ruling, IsFair};
 
-use rd_base::{Claim, Digest32, OpenText, StepProof};
+use rd_base::{Claim, Digest32, OpenText, Proof};
 
 /// Who decides about answers.
 pub trait Judge {
@@ -22,7 +22,7 @@ pub trait Judge {
         ensures { result ≡ (ruling (names self.now)).root_of claim.now };
 
     /// The root to which a proof leads from the root `from`; `None` where it leads nowhere.
-    fn leads(&self, from: Digest32, proof: &StepProof) -> Option<Digest32>
+    fn leads(&self, from: Digest32, proof: &Proof) -> Option<Digest32>
         ensures { result ≡ (ruling (names self.now)).leads from proof.now };
 
     /// Two different strings of one digest, the first opened by the first claim, the second by the second.
@@ -34,8 +34,8 @@ pub trait Judge {
     fn step_collision(
         &self,
         from: Digest32,
-        first: &StepProof,
-        second: &StepProof,
+        first: &Proof,
+        second: &Proof,
     ) -> Option<(OpenText, OpenText)>
         ensures { result ≡ (ruling (names self.now)).step_collision from first.now second.now };
 

@@ -1,13 +1,31 @@
-ghost use Rattle.bisect_game.specs.Laws.{BisectionLaws, OrderOfSidesIsFree};
+ghost use Rattle.bisect_game.specs.Held.{DisputesArePlayed};
+ghost use Rattle.bisect_game.specs.Laws.{BisectionLaws, CutsDivide, HalvesAreBisection, OrderOfSidesIsFree};
 
 /// What every dispute keeps, whatever is settled: a round closes it or narrows its interval, and the proof round closes it;
 /// a side whose answers so far are given and true has the run's roots and is not out (bisection's invariant), and its proof
-/// proves; with k bisection rounds `2^k < 2N` for the bound N, and no proof round goes on.
+/// proves; a true answer is taken as given; with k bisection rounds of F parts `F^k < F * N` for the bound N, so at most as many as N has binary digits, and no
+/// proof round goes on; what is settled stays held, and an answer that comes before its turn changes nothing of the end.
 pub fn bisection_laws()
     ensures { BisectionLaws }
+{}
+
+/// The cuts of an interval divide it: cut 0 is its beginning, the last its end, and no part between two cuts is empty.
+pub fn cuts_divide()
+    ensures { CutsDivide }
+{}
+
+/// With the fan 2 a dispute is bisection as it is known: the root at the middle is asked, rounded down; where the two roots are
+/// equal the interval above it is kept, and where they differ the one below.
+pub fn halves_are_bisection()
+    ensures { HalvesAreBisection }
 {}
 
 /// The order in which the two sides of a round settle changes nothing.
 pub fn sides_settle_in_any_order()
     ensures { OrderOfSidesIsFree }
+{}
+
+/// A dispute after any settles, in any order, is the one that is played over the answers that it holds.
+pub fn disputes_are_played_over_their_answers()
+    ensures { DisputesArePlayed }
 {}

@@ -1,5 +1,6 @@
 //! One dispute by bisection: two provers claim different roots of the same run, and rounds narrow the interval from a
-//! step on which they agree to a step on which they differ, until one step is left, of which both are asked for a proof.
+//! step on which they agree to a step on which they differ, until one step is left, of which both are asked for a proof. A round
+//! cuts the interval in as many parts as the dispute's fan says, from 2 to 16, and keeps one of them.
 //!
 //! It knows no machine and no hash: what is sound, which root a claim has, where a proof leads and what a collision is
 //! says a `Judge`, with laws that every judge proves. The layers above may rely on this: each call of a `Dispute` is the
@@ -17,13 +18,18 @@ mod question;
 mod rounds;
 mod settled;
 mod side;
+mod steps;
 
 pub use answerer::{Answerer, Provers};
 pub use dispute::{Dispute, Room};
 pub use interval::{Interval, Round};
 pub use judge::Judge;
-pub use laws::{bisection_laws, sides_settle_in_any_order};
+pub use laws::{
+    bisection_laws, cuts_divide, disputes_are_played_over_their_answers, halves_are_bisection,
+    sides_settle_in_any_order,
+};
 pub use question::{Kind, Question};
-pub use rounds::same_digest;
+pub use rounds::{cut, kept_part, parts_of, same_digest};
 pub use settled::{Close, Settled};
 pub use side::Side;
+pub use steps::steps_asked;

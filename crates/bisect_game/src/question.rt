@@ -7,6 +7,15 @@ pub enum Kind {
     Claim,
     /// The root of the state after so many steps.
     Root(u64),
+    /// The roots of the states at the cuts between the ends of an interval, in their order.
+    Roots {
+        /// The step at which the interval begins.
+        lo: u64,
+        /// The step at which it ends.
+        hi: u64,
+        /// In how many parts it is cut: one more than there are roots.
+        parts: u32,
+    },
     /// The proof of the step with this number, from 0.
     Proof(u64),
 }

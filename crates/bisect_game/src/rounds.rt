@@ -1,6 +1,6 @@
 ghost use Rattle.std.specs.Prelude.{◌≡◌, ◌+◌, ◌-◌, ◌<◌, ◌≤◌, ◌^◌, ◌∷◌, ◌++◌, [], length, min, slice_index_or};
 ghost use Rattle.bisect_game.specs.Ruling.{same_digest};
-ghost use Rattle.bisect_game.specs.Bisection.{cut, kept, kind_over, roots_of, agreeing};
+ghost use Rattle.bisect_game.specs.Bisection.{cut, kept_part, kept, kind_over, roots_of, agreeing};
 ghost use Rattle.bisect_game.specs.Closing.{is_out, is_proved, both_proved, close_of};
 
 use crate::interval::Interval;
@@ -10,9 +10,6 @@ use crate::settled::{Close, Settled};
 use rd_base::{Answer, Digest32};
 use std::slice;
 
-/// In how many parts a round cuts its interval.
-pub(crate) const FAN: u64 = 2;
-
 /// Whether two digests have the same bytes.
 pub fn same_digest(first: &Digest32, second: &Digest32) -> bool
     ensures { result ≡ same_digest first.now second.now }
@@ -20,27 +17,50 @@ pub fn same_digest(first: &Digest32, second: &Digest32) -> bool
     first.0 == second.0
 }
 
-/// The `j`-th cut of an interval in two parts: the beginning, the middle rounded down, or the end.
+/// The `j`-th cut of an interval in so many parts (2 to 16, at most its steps): `lo + j * (hi - lo) / parts`, rounded down. Cut 0 is
+/// its beginning, the last its end, and of two parts cut 1 the middle.
 #[tactic(auto, unfolding(crate::specs::Bisection::cut))]
-fn cut(lo: u64, hi: u64, j: u64) -> u64
-    requires few { j ≤ 2 }
-    requires rising { lo ≤ hi }
-    requires short { hi < 2 ^ 32 }
-    ensures { result ≡ cut lo hi 2 j }
+pub fn cut(lo: u64, hi: u64, parts: u32, j: u32) -> u64
+    requires parted { 1 < parts }
+    requires few_parts { parts ≤ 16 }
+    requires long { parts ≤ hi - lo }
+    requires few { j ≤ parts }
+    ensures is { result ≡ cut lo hi parts j }
+    ensures low { lo ≤ result }
+    ensures high { result ≤ hi }
 {
-    lo + j * (hi - lo) / FAN
+    let steps = u128::from(hi - lo);
+    lo + (u128::from(j) * steps / u128::from(parts)) as u64
+}
+
+/// In how many parts a round cuts an interval: never more than it has steps.
+pub fn parts_of(fan: u32, lo: u64, hi: u64) -> u32
+    ensures { result ≡ min fan (hi - lo) }
+{
+    let steps = hi.saturating_sub(lo);
+    if u64::from(fan) <= steps {
+        fan
+    } else {
+        steps as u32
+    }
 }
 
 /// What is asked over an interval.
-pub(crate) fn kind_over(lo: u64, hi: u64) -> Kind
+pub(crate) fn kind_over(fan: u32, lo: u64, hi: u64) -> Kind
+    requires parted { 1 < fan }
     requires some { lo < hi }
-    requires short { hi < 2 ^ 32 }
-    ensures { result ≡ kind_over 2 lo hi }
+    ensures { result ≡ kind_over fan lo hi }
 {
     if hi - lo <= 1 {
         Kind::Proof(lo)
+    } else if fan == 2 {
+        Kind::Root(cut(lo, hi, 2, 1))
     } else {
-        Kind::Root(cut(lo, hi, 1))
+        Kind::Roots {
+            lo,
+            hi,
+            parts: parts_of(fan, lo, hi),
+        }
     }
 }
 
@@ -50,23 +70,33 @@ fn roots_of(settled: &Settled) -> &[Digest32]
 {
     match settled {
         Settled::Given(Answer::Root(root)) => slice::from_ref(root),
+        Settled::Given(Answer::Roots(roots)) => roots.as_slice(),
         _ => &[],
     }
 }
 
-/// How many roots are the same before the first that differ, at most one.
-fn agreeing(first: &[Digest32], second: &[Digest32]) -> usize
-    ensures few { result ≡ min (agreeing first.now second.now) 1 }
+/// How many roots are the same before the first that differ, at most so many.
+fn agreeing(first: &[Digest32], second: &[Digest32], most: usize) -> usize
+    ensures is { result ≡ min (agreeing first.now second.now) most }
     ensures first { result ≤ length first.now }
     ensures second { result ≤ length second.now }
 {
-    match first {
-        [] => 0,
-        [mine, ..] => match second {
-            [] => 0,
-            [yours, ..] => { if same_digest(mine, yours) { 1 } else { 0 } }
-        },
+    let mut j = 0;
+    while j < most && j < first.len() && j < second.len() && same_digest(&first[j], &second[j]) {
+        j += 1;
     }
+    j
+}
+
+/// The part of so many that is kept, counted from 0, by the roots of both sides at the cuts: the first at whose end they differ, or
+/// the last where they are the same at all cuts.
+pub fn kept_part(parts: u32, first: &[Digest32], second: &[Digest32]) -> u32
+    ensures is { result ≡ kept_part parts first.now second.now }
+    ensures within { result ≤ parts - 1 }
+    ensures first { result ≤ length first.now }
+    ensures second { result ≤ length second.now }
+{
+    agreeing(first, second, (parts as usize).saturating_sub(1)) as u32
 }
 
 /// The root at a cut, of which the first stands before the list.
@@ -85,21 +115,22 @@ fn after(roots: &[Digest32], last: Digest32, j: usize) -> Digest32
     if j < roots.len() { roots[j] } else { last }
 }
 
-/// The half whose ends differ.
-pub(crate) fn kept(place: Interval, first: &Settled, second: &Settled) -> Interval
-    requires long { 2 ≤ place.hi - place.lo }
-    requires short { place.hi < 2 ^ 32 }
-    ensures { result ≡ kept 2 place (roots_of first.now) (roots_of second.now) }
+/// The part whose ends differ, of an interval in so many parts.
+pub(crate) fn kept(place: Interval, parts: u32, first: &Settled, second: &Settled) -> Interval
+    requires parted { 1 < parts }
+    requires few_parts { parts ≤ 16 }
+    requires long { parts ≤ place.hi - place.lo }
+    ensures { result ≡ kept parts place (roots_of first.now) (roots_of second.now) }
 {
     let mine = roots_of(first);
     let yours = roots_of(second);
-    let j = agreeing(mine, yours);
-    let agreed = before(place.agreed, mine, j);
-    let my_root = after(mine, place.first, j);
-    let your_root = after(yours, place.second, j);
+    let j = kept_part(parts, mine, yours);
+    let agreed = before(place.agreed, mine, j as usize);
+    let my_root = after(mine, place.first, j as usize);
+    let your_root = after(yours, place.second, j as usize);
     Interval {
-        lo: cut(place.lo, place.hi, j as u64),
-        hi: cut(place.lo, place.hi, j as u64 + 1),
+        lo: cut(place.lo, place.hi, parts, j),
+        hi: cut(place.lo, place.hi, parts, j + 1),
         agreed,
         first: my_root,
         second: your_root,

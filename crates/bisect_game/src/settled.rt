@@ -5,9 +5,9 @@ use rd_base::{Answer, OpenText};
 /// What a question of one prover ended as.
 #[derive(Debug, Drop)]
 pub enum Settled {
-    /// An answer of the kind that was asked; of a claim, a sound one.
+    /// An answer of the kind that was asked; of a claim, a sound one; of roots, one for each cut.
     Given(Answer),
-    /// An answer of another kind, or an unsound claim.
+    /// An answer of another kind, an unsound claim, or a list of another length than the cuts.
     Faulty(Answer),
     /// The prover passed once more than the patience.
     Spent,
