@@ -2,6 +2,7 @@
 use Rattle.std.proofs.Common.{◌≡◌, ◌≢◌, ℕ, zero, suc, ◌+◌, ◌-◌, ◌<◌, ◌≤◌, Bool, true, false, ◌||◌, ◌==◌, if◌then◌else◌, List, [], ◌∷◌, ◌++◌, length, map, slice_get, slice_set, ◌⊎◌, inl, inr, Option, Some, None, refl, ◌∙◌, ap, subst, arith}
 use Rattle.std.proofs.lemmas.Bool.Decides.{nat_tests}
 use Rattle.std.specs.Fn.{iterate}
+use Rattle.bisect_game.specs.Ruling.{Ruling}
 use Rattle.bisect_game.specs.declared.interval.Interval.{Interval}
 use Rattle.bisect_game.specs.declared.interval.Round.{Round}
 use Rattle.rd_base.specs.declared.answer.Qid.{Qid}
@@ -13,7 +14,7 @@ use Rattle.bisect_game.specs.declared.settled.Close.{Close}
 use Rattle.bisect_game.specs.Bisection.{Bisection, kind_over, question_of, is_closed, advanced, decided, closed_or, went_on, settle_first, settle_second}
 use Rattle.bisect_game.specs.Closing.{close_of}
 use Rattle.bisect_game.specs.Disputes.{Answers, filled, round_over, played}
-use Rattle.bisect_game.specs.Rules.{Play, Rules}
+use Rattle.bisect_game.specs.Rules.{Rules}
 use Rattle.bisect_game.specs.Says.{Says}
 use Rattle.tournament.proofs.JournalLemmas.{AreCounts, counts-begun, turned, Turned, Passed, Settles, counts-turn, turns-keep, at-other}
 use Rattle.tournament.proofs.OnceLemmas.{IsApart, IsOpen, opens, not-eqb, stays-asked}
@@ -29,25 +30,25 @@ use Rattle.tournament.specs.Moves.{MatchState, begun, passes_of, settled_by, mov
 use Rattle.bisect_game.specs.Laws.{BisectionLaws}
 
 -- a dispute that another goes on from
-pub record GoesOn (fan : ℕ) (d e : Bisection) : Type 0 where
+pub record GoesOn (d e : Bisection) : Type 0 where
   pub number : e.number ≡ d.number
   pub first : e.first ≡ d.first
   pub second : e.second ≡ d.second
-  pub kinds : (k : ℕ) (x : Kind) → kind_in fan d.place d.past k ≡ Some x → kind_in fan e.place e.past k ≡ Some x
+  pub kinds : (k : ℕ) (x : Kind) → kind_in d.fan d.place d.past k ≡ Some x → kind_in e.fan e.place e.past k ≡ Some x
 
-abbrev pub AllGoOn : ℕ → List Bisection → List Bisection → Type 0
-AllGoOn fan [] es = Unit {0}
-AllGoOn fan (d ∷ ds) [] = ⊥
-AllGoOn fan (d ∷ ds) (e ∷ es) = GoesOn fan d e × AllGoOn fan ds es
+abbrev pub AllGoOn : List Bisection → List Bisection → Type 0
+AllGoOn [] es = Unit {0}
+AllGoOn (d ∷ ds) [] = ⊥
+AllGoOn (d ∷ ds) (e ∷ es) = GoesOn d e × AllGoOn ds es
 
 abbrev pub Numbered : ℕ → List Bisection → Type 0
 Numbered n [] = Unit {0}
 Numbered n (d ∷ ds) = d.number ≡ n × Numbered (n + 1) ds
 
 -- numbered from here on, and asked
-pub record IsAskedIn (fan p n : ℕ) (q : Question) (ds : List Bisection) : Type 0 where
+pub record IsAskedIn (p n : ℕ) (q : Question) (ds : List Bisection) : Type 0 where
   pub after : n ≤ q.qid.dispute
-  pub kind : asked_in fan p q.qid ds ≡ Some q.kind
+  pub kind : asked_in p q.qid ds ≡ Some q.kind
 
 -- what a legal journal keeps on its way to the record of its case
 pub record IsOnWay (rules : Rules) (says : Says) (n : ℕ) (st : MatchState) : Type 0 where
@@ -57,30 +58,30 @@ pub record IsOnWay (rules : Rules) (says : Says) (n : ℕ) (st : MatchState) : T
   pub reaches : Reaches (stage_over rules (answers_of rules says)) st.record_ (bracket rules (answers_of rules says))
 
 module _ (laws : BisectionLaws) where
-  on-same : (fan : ℕ) (d : Bisection) → GoesOn fan d d
-  on-same fan d = record { number = refl; first = refl; second = refl; kinds = λ k x e. e }
+  on-same : (d : Bisection) → GoesOn d d
+  on-same d = record { number = refl; first = refl; second = refl; kinds = λ k x e. e }
 
-  on-further : (fan : ℕ) (c d e : Bisection) → GoesOn fan c d → GoesOn fan d e → GoesOn fan c e
-  on-further fan c d e g h = record {
+  on-further : (c d e : Bisection) → GoesOn c d → GoesOn d e → GoesOn c e
+  on-further c d e g h = record {
     number = h.number ∙ g.number;
     first = h.first ∙ g.first;
     second = h.second ∙ g.second;
     kinds = λ k x is. h.kinds k x (g.kinds k x is);
   }
 
-  all-same : (fan : ℕ) (ds : List Bisection) → AllGoOn fan ds ds
-  all-same fan [] = tt
-  all-same fan (d ∷ ds) = (on-same fan d, all-same fan ds)
+  all-same : (ds : List Bisection) → AllGoOn ds ds
+  all-same [] = tt
+  all-same (d ∷ ds) = (on-same d, all-same ds)
 
-  all-further : (fan : ℕ) (cs ds es : List Bisection) → AllGoOn fan cs ds → AllGoOn fan ds es → AllGoOn fan cs es
-  all-further fan [] ds es g h = tt
-  all-further fan (c ∷ cs) [] es g h = absurd g
-  all-further fan (c ∷ cs) (d ∷ ds) [] g h = absurd h
-  all-further fan (c ∷ cs) (d ∷ ds) (e ∷ es) g h = (on-further fan c d e g.0 h.0, all-further fan cs ds es g.1 h.1)
+  all-further : (cs ds es : List Bisection) → AllGoOn cs ds → AllGoOn ds es → AllGoOn cs es
+  all-further [] ds es g h = tt
+  all-further (c ∷ cs) [] es g h = absurd g
+  all-further (c ∷ cs) (d ∷ ds) [] g h = absurd h
+  all-further (c ∷ cs) (d ∷ ds) (e ∷ es) g h = (on-further c d e g.0 h.0, all-further cs ds es g.1 h.1)
 
-  all-append : (fan : ℕ) (ds es : List Bisection) → AllGoOn fan ds (ds ++ es)
-  all-append fan [] es = tt
-  all-append fan (d ∷ ds) es = (on-same fan d, all-append fan ds es)
+  all-append : (ds es : List Bisection) → AllGoOn ds (ds ++ es)
+  all-append [] es = tt
+  all-append (d ∷ ds) es = (on-same d, all-append ds es)
 
   -- rounds, stages and the bracket go on
 
@@ -90,84 +91,84 @@ module _ (laws : BisectionLaws) where
   kinds-more fan i j r (y ∷ past) zero x el eh e = e
   kinds-more fan i j r (y ∷ past) (suc k) x el eh e = kinds-more fan i j r past k x el eh e
 
-  on-decided : (fan : ℕ) (play : Play) (d : Bisection) (a b : Settled) (o : Option Close) → GoesOn fan d (closed_or d (went_on play.fan d a b) o)
-  on-decided fan play d a b (Some c) = record { number = refl; first = refl; second = refl; kinds = λ k x e. e }
-  on-decided fan play d a b None = record { number = refl; first = refl; second = refl; kinds = λ k x e. kinds-more fan d.place (closed_or d (went_on play.fan d a b) None).place (record { lo = d.place.lo; hi = d.place.hi; first = a; second = b }) d.past k x refl refl e }
+  on-decided : (ruling : Ruling) (d : Bisection) (a b : Settled) (o : Option Close) → GoesOn d (closed_or d (went_on d a b) o)
+  on-decided ruling d a b (Some c) = record { number = refl; first = refl; second = refl; kinds = λ k x e. e }
+  on-decided ruling d a b None = record { number = refl; first = refl; second = refl; kinds = λ k x e. kinds-more d.fan d.place (closed_or d (went_on d a b) None).place (record { lo = d.place.lo; hi = d.place.hi; first = a; second = b }) d.past k x refl refl e }
 
-  pub on-advanced : (fan : ℕ) (play : Play) (d : Bisection) (a b : Option Settled) → GoesOn fan d (advanced play d a b)
+  pub on-advanced : (ruling : Ruling) (d : Bisection) (a b : Option Settled) → GoesOn d (advanced ruling d a b)
   unfolding decided
-  on-advanced fan play d (Some a) (Some b) = on-decided fan play d a b (close_of play.ruling d.place a b)
-  on-advanced fan play d (Some a) None = on-same fan d
-  on-advanced fan play d None b = on-same fan d
+  on-advanced ruling d (Some a) (Some b) = on-decided ruling d a b (close_of ruling d.place a b)
+  on-advanced ruling d (Some a) None = on-same d
+  on-advanced ruling d None b = on-same d
 
-  on-round : (fan : ℕ) (play : Play) (f : Answers) (d : Bisection) → GoesOn fan d (round_over play f d)
-  on-round fan play f d =
+  on-round : (ruling : Ruling) (f : Answers) (d : Bisection) → GoesOn d (round_over ruling f d)
+  on-round ruling f d =
       elim (either (is_closed d)) [
-        | inl closed ↦ rw (round-closed play f d closed) (on-same fan d)
+        | inl closed ↦ rw (round-closed ruling f d closed) (on-same d)
         | inr open_ ↦
-            let filled_ : GoesOn fan d (filled play f d) = record { number = refl; first = refl; second = refl; kinds = λ k x e. e } in
-            rw (round-open play f d open_) (on-further fan d (filled play f d) _ filled_ (on-advanced fan play (filled play f d) (filled play f d).by_first (filled play f d).by_second))
+            let filled_ : GoesOn d (filled f d) = record { number = refl; first = refl; second = refl; kinds = λ k x e. e } in
+            rw (round-open ruling f d open_) (on-further d (filled f d) _ filled_ (on-advanced ruling (filled f d) (filled f d).by_first (filled f d).by_second))
       ]
 
-  on-rounds : (fan : ℕ) (play : Play) (f : Answers) (n : ℕ) (d : Bisection) → GoesOn fan d (iterate (round_over play f) n d)
-  on-rounds fan play f zero d = on-same fan d
-  on-rounds fan play f (suc n) d = on-further fan d (round_over play f d) _ (on-round fan play f d) (on-rounds fan play f n (round_over play f d))
+  on-rounds : (ruling : Ruling) (f : Answers) (n : ℕ) (d : Bisection) → GoesOn d (iterate (round_over ruling f) n d)
+  on-rounds ruling f zero d = on-same d
+  on-rounds ruling f (suc n) d = on-further d (round_over ruling f d) _ (on-round ruling f d) (on-rounds ruling f n (round_over ruling f d))
 
-  all-played : (fan : ℕ) (rules : Rules) (f : Answers) (ds : List Bisection) → AllGoOn fan ds (map (played rules f) ds)
+  all-played : (rules : Rules) (f : Answers) (ds : List Bisection) → AllGoOn ds (map (played rules f) ds)
   unfolding played
-  all-played fan rules f [] = tt
-  all-played fan rules f (d ∷ ds) = (on-rounds fan rules.play f rules.bound d, all-played fan rules f ds)
+  all-played rules f [] = tt
+  all-played rules f (d ∷ ds) = (on-rounds rules.ruling f rules.bound d, all-played rules f ds)
 
-  all-opened : (fan : ℕ) (rules : Rules) (t : Record) → AllGoOn fan t.disputes (stage_opened rules t).disputes
-  all-opened fan rules t =
+  all-opened : (rules : Rules) (t : Record) → AllGoOn t.disputes (stage_opened rules t).disputes
+  all-opened rules t =
       elim (either (is_stage_due rules t)) [
-        | inl due ↦ rw (opened-due rules t due) (all-append fan t.disputes _)
-        | inr not_due ↦ rw (opened-not rules t not_due) (all-same fan t.disputes)
+        | inl due ↦ rw (opened-due rules t due) (all-append t.disputes _)
+        | inr not_due ↦ rw (opened-not rules t not_due) (all-same t.disputes)
       ]
 
-  all-carried : (fan : ℕ) (rules : Rules) (f : Answers) (t : Record) → AllGoOn fan t.disputes (carried rules f t).disputes
+  all-carried : (rules : Rules) (f : Answers) (t : Record) → AllGoOn t.disputes (carried rules f t).disputes
   unfolding carried
-  all-carried fan rules f t = all-played fan rules f t.disputes
+  all-carried rules f t = all-played rules f t.disputes
 
-  all-stages : (fan : ℕ) (rules : Rules) (f : Answers) (n : ℕ) (t : Record) → AllGoOn fan t.disputes (iterate (stage_over rules f) n t).disputes
-  all-stages fan rules f zero t = all-same fan t.disputes
-  all-stages fan rules f (suc n) t =
-      all-further fan t.disputes (stage_over rules f t).disputes _
-      (all-further fan t.disputes (carried rules f t).disputes _ (all-carried fan rules f t) (all-opened fan rules (carried rules f t)))
-      (all-stages fan rules f n (stage_over rules f t))
+  all-stages : (rules : Rules) (f : Answers) (n : ℕ) (t : Record) → AllGoOn t.disputes (iterate (stage_over rules f) n t).disputes
+  all-stages rules f zero t = all-same t.disputes
+  all-stages rules f (suc n) t =
+      all-further t.disputes (stage_over rules f t).disputes _
+      (all-further t.disputes (carried rules f t).disputes _ (all-carried rules f t) (all-opened rules (carried rules f t)))
+      (all-stages rules f n (stage_over rules f t))
 
   -- what is asked under a number is asked under it further on
 
-  kind-on : (fan round : ℕ) (d e : Bisection) (x : Kind) → GoesOn fan d e → kind_of fan d round ≡ Some x → kind_of fan e round ≡ Some x
-  kind-on fan round d e x g is =
+  kind-on : (round : ℕ) (d e : Bisection) (x : Kind) → GoesOn d e → kind_of d round ≡ Some x → kind_of e round ≡ Some x
+  kind-on round d e x g is =
       elim (either (round == 0)) [
-        | inl zero_ ↦ let none : kind_of fan d round ≡ None = rw zero_ refl in absurd (cc)
+        | inl zero_ ↦ let none : kind_of d round ≡ None = rw zero_ refl in absurd (cc)
         | inr more ↦ rw more (g.kinds (round - 1) x (rw more at is))
       ]
 
-  side-on : (fan round : ℕ) (d e : Bisection) (x : Kind) (b : Bool) → GoesOn fan d e → (if b then kind_of fan d round else None) ≡ Some x → (if b then kind_of fan e round else None) ≡ Some x
-  side-on fan round d e x true g is = kind-on fan round d e x g is
-  side-on fan round d e x false g is = absurd (cc)
+  side-on : (round : ℕ) (d e : Bisection) (x : Kind) (b : Bool) → GoesOn d e → (if b then kind_of d round else None) ≡ Some x → (if b then kind_of e round else None) ≡ Some x
+  side-on round d e x true g is = kind-on round d e x g is
+  side-on round d e x false g is = absurd (cc)
 
-  here-on : (fan p : ℕ) (qid : Qid) (d e : Bisection) (ds es : List Bisection) (x : Kind) (a b : Bool) → GoesOn fan d e →
-      (if a then (if b then kind_of fan d qid.round else None) else asked_in fan p qid ds) ≡ Some x → (asked_in fan p qid ds ≡ Some x → asked_in fan p qid es ≡ Some x) →
-      (if a then (if b then kind_of fan e qid.round else None) else asked_in fan p qid es) ≡ Some x
-  here-on fan p qid d e ds es x true b g is r = side-on fan qid.round d e x b g is
-  here-on fan p qid d e ds es x false b g is r = r is
+  here-on : (p : ℕ) (qid : Qid) (d e : Bisection) (ds es : List Bisection) (x : Kind) (a b : Bool) → GoesOn d e →
+      (if a then (if b then kind_of d qid.round else None) else asked_in p qid ds) ≡ Some x → (asked_in p qid ds ≡ Some x → asked_in p qid es ≡ Some x) →
+      (if a then (if b then kind_of e qid.round else None) else asked_in p qid es) ≡ Some x
+  here-on p qid d e ds es x true b g is r = side-on qid.round d e x b g is
+  here-on p qid d e ds es x false b g is r = r is
 
-  asked-on : (fan p : ℕ) (qid : Qid) (ds es : List Bisection) (x : Kind) → AllGoOn fan ds es → asked_in fan p qid ds ≡ Some x → asked_in fan p qid es ≡ Some x
-  asked-on fan p qid [] es x g is = absurd (cc)
-  asked-on fan p qid (d ∷ ds) [] x g is = absurd g
-  asked-on fan p qid (d ∷ ds) (e ∷ es) x g is =
-      let h : GoesOn fan d e = g.0 in
+  asked-on : (p : ℕ) (qid : Qid) (ds es : List Bisection) (x : Kind) → AllGoOn ds es → asked_in p qid ds ≡ Some x → asked_in p qid es ≡ Some x
+  asked-on p qid [] es x g is = absurd (cc)
+  asked-on p qid (d ∷ ds) [] x g is = absurd g
+  asked-on p qid (d ∷ ds) (e ∷ es) x g is =
+      let h : GoesOn d e = g.0 in
       rw (h.number, h.first, h.second)
-      (here-on fan p qid d e ds es x (d.number == qid.dispute) ((d.first == p) || (d.second == p)) h is (λ further. asked-on fan p qid ds es x g.1 further))
+      (here-on p qid d e ds es x (d.number == qid.dispute) ((d.first == p) || (d.second == p)) h is (λ further. asked-on p qid ds es x g.1 further))
 
-  pub asked-further : (rules : Rules) (t u : Record) (p : ℕ) (qid : Qid) (x : Kind) → AllGoOn rules.play.fan t.disputes u.disputes → asked rules t p qid ≡ Some x → asked rules u p qid ≡ Some x
+  pub asked-further : (rules : Rules) (t u : Record) (p : ℕ) (qid : Qid) (x : Kind) → AllGoOn t.disputes u.disputes → asked rules t p qid ≡ Some x → asked rules u p qid ≡ Some x
   asked-further rules t u p qid x g is =
       elim (either (qid.dispute == 0)) [
         | inl claim ↦ rw claim (rw claim at is)
-        | inr dispute ↦ rw dispute (asked-on rules.play.fan p qid t.disputes u.disputes x g (rw dispute at is))
+        | inr dispute ↦ rw dispute (asked-on p qid t.disputes u.disputes x g (rw dispute at is))
       ]
 
   -- disputes are numbered on
@@ -189,18 +190,18 @@ module _ (laws : BisectionLaws) where
         | inr not_due ↦ rw (opened-not rules t not_due) a
       ]
 
-  number-first : (play : Play) (s : Settled) (d : Bisection) → (settle_first play s d).number ≡ d.number
+  number-first : (ruling : Ruling) (s : Settled) (d : Bisection) → (settle_first ruling s d).number ≡ d.number
   unfolding settle_first
-  number-first play s d = let g : GoesOn 0 (record d { by_first = Some s }) (advanced play (record d { by_first = Some s }) (Some s) d.by_second) = on-advanced 0 play (record d { by_first = Some s }) (Some s) d.by_second in g.number
+  number-first ruling s d = let g : GoesOn (record d { by_first = Some s }) (advanced ruling (record d { by_first = Some s }) (Some s) d.by_second) = on-advanced ruling (record d { by_first = Some s }) (Some s) d.by_second in g.number
 
-  number-second : (play : Play) (s : Settled) (d : Bisection) → (settle_second play s d).number ≡ d.number
+  number-second : (ruling : Ruling) (s : Settled) (d : Bisection) → (settle_second ruling s d).number ≡ d.number
   unfolding settle_second
-  number-second play s d = let g : GoesOn 0 (record d { by_second = Some s }) (advanced play (record d { by_second = Some s }) d.by_first (Some s)) = on-advanced 0 play (record d { by_second = Some s }) d.by_first (Some s) in g.number
+  number-second ruling s d = let g : GoesOn (record d { by_second = Some s }) (advanced ruling (record d { by_second = Some s }) d.by_first (Some s)) = on-advanced ruling (record d { by_second = Some s }) d.by_first (Some s) in g.number
 
   numbered-choice : (rules : Rules) (n p : ℕ) (s : Settled) (d : Bisection) (ds : List Bisection) (x y : Bool) → Numbered n (d ∷ ds) → Numbered (n + 1) (settled_in rules p s ds) →
-      Numbered n (if x then settle_first rules.play s d ∷ ds else if y then settle_second rules.play s d ∷ ds else d ∷ settled_in rules p s ds)
-  numbered-choice rules n p s d ds true y a r = (number-first rules.play s d ∙ a.0, a.1)
-  numbered-choice rules n p s d ds false true a r = (number-second rules.play s d ∙ a.0, a.1)
+      Numbered n (if x then settle_first rules.ruling s d ∷ ds else if y then settle_second rules.ruling s d ∷ ds else d ∷ settled_in rules p s ds)
+  numbered-choice rules n p s d ds true y a r = (number-first rules.ruling s d ∙ a.0, a.1)
+  numbered-choice rules n p s d ds false true a r = (number-second rules.ruling s d ∙ a.0, a.1)
   numbered-choice rules n p s d ds false false a r = (a.0, r)
 
   numbered-settled : (rules : Rules) (n p : ℕ) (s : Settled) (ds : List Bisection) → Numbered n ds → Numbered n (settled_in rules p s ds)
@@ -222,11 +223,11 @@ module _ (laws : BisectionLaws) where
   last-kind fan i [] = refl
   last-kind fan i (x ∷ past) = last-kind fan i past
 
-  this-kind : (fan : ℕ) (d : Bisection) → kind_of fan d (length d.past + 1) ≡ Some (kind_over fan d.place.lo d.place.hi)
-  this-kind fan d =
+  this-kind : (d : Bisection) → kind_of d (length d.past + 1) ≡ Some (kind_over d.fan d.place.lo d.place.hi)
+  this-kind d =
       let e : (length d.past + 1 == 0) ≡ false = not-eqb (length d.past + 1) 0 (λ z. omega arith) in
       let n : length d.past + 1 - 1 ≡ length d.past = omega arith in
-      rw (e, n) (last-kind fan d.place d.past)
+      rw (e, n) (last-kind d.fan d.place d.past)
 
   or-left : (a b : Bool) → a ≡ true → (a || b) ≡ true
   or-left a b e = rw e refl
@@ -238,33 +239,33 @@ module _ (laws : BisectionLaws) where
   eqb-same : (n : ℕ) → (n == n) ≡ true
   eqb-same n = grind (arith, nat_tests)
 
-  asked-here : (fan p n : ℕ) (d : Bisection) (ds : List Bisection) → ((d.first == p) || (d.second == p)) ≡ true → asked_in fan p (question_of fan d).qid (d ∷ ds) ≡ Some (question_of fan d).kind
-  asked-here fan p n d ds side = rw (eqb-same d.number, side) (this-kind fan d)
+  asked-here : (p n : ℕ) (d : Bisection) (ds : List Bisection) → ((d.first == p) || (d.second == p)) ≡ true → asked_in p (question_of d).qid (d ∷ ds) ≡ Some (question_of d).kind
+  asked-here p n d ds side = rw (eqb-same d.number, side) (this-kind d)
 
-  asked-by : (fan p n : ℕ) (q : Question) (d : Bisection) (ds : List Bisection) (x y : Bool) → asks_first p d ≡ x → asks_second p d ≡ y → d.number ≡ n →
-      (if x || y then Some (question_of fan d) else question_in fan p ds) ≡ Some q → (question_in fan p ds ≡ Some q → IsAskedIn fan p (n + 1) q ds) → IsAskedIn fan p n q (d ∷ ds)
-  asked-by fan p n q d ds true y ex ey num e r =
+  asked-by : (p n : ℕ) (q : Question) (d : Bisection) (ds : List Bisection) (x y : Bool) → asks_first p d ≡ x → asks_second p d ≡ y → d.number ≡ n →
+      (if x || y then Some (question_of d) else question_in p ds) ≡ Some q → (question_in p ds ≡ Some q → IsAskedIn p (n + 1) q ds) → IsAskedIn p n q (d ∷ ds)
+  asked-by p n q d ds true y ex ey num e r =
       let a : ((d.first == p) ≡ true) × IsOpen d.by_first d.close = opens (d.first == p) d.by_first d.close ex in
-      let same : question_of fan d ≡ q = cc in
-      rw (← same) (record { after = omega (arith, num); kind = asked-here fan p n d ds (or-left _ _ a.0) })
-  asked-by fan p n q d ds false true ex ey num e r =
+      let same : question_of d ≡ q = cc in
+      rw (← same) (record { after = omega (arith, num); kind = asked-here p n d ds (or-left _ _ a.0) })
+  asked-by p n q d ds false true ex ey num e r =
       let a : ((d.second == p) ≡ true) × IsOpen d.by_second d.close = opens (d.second == p) d.by_second d.close ey in
-      let same : question_of fan d ≡ q = cc in
-      rw (← same) (record { after = omega (arith, num); kind = asked-here fan p n d ds (or-right _ _ a.0) })
-  asked-by fan p n q d ds false false ex ey num e r =
-      let i : IsAskedIn fan p (n + 1) q ds = r e in
+      let same : question_of d ≡ q = cc in
+      rw (← same) (record { after = omega (arith, num); kind = asked-here p n d ds (or-right _ _ a.0) })
+  asked-by p n q d ds false false ex ey num e r =
+      let i : IsAskedIn p (n + 1) q ds = r e in
       let other : (d.number == q.qid.dispute) ≡ false = not-eqb d.number q.qid.dispute (λ z. omega (arith, i.after, num)) in
       record { after = omega (arith, i.after); kind = rw other i.kind }
 
-  asked-open : (fan p n : ℕ) (q : Question) (ds : List Bisection) → Numbered n ds → question_in fan p ds ≡ Some q → IsAskedIn fan p n q ds
-  asked-open fan p n q [] a e = absurd (cc)
-  asked-open fan p n q (d ∷ ds) a e = asked-by fan p n q d ds (asks_first p d) (asks_second p d) refl refl a.0 e (λ further. asked-open fan p (n + 1) q ds a.1 further)
+  asked-open : (p n : ℕ) (q : Question) (ds : List Bisection) → Numbered n ds → question_in p ds ≡ Some q → IsAskedIn p n q ds
+  asked-open p n q [] a e = absurd (cc)
+  asked-open p n q (d ∷ ds) a e = asked-by p n q d ds (asks_first p d) (asks_second p d) refl refl a.0 e (λ further. asked-open p (n + 1) q ds a.1 further)
 
   open-by : (rules : Rules) (p : ℕ) (q : Question) (t : Record) (b : Bool) → Numbered 1 t.disputes →
-      (if b then Some claim_question else question_in rules.play.fan p t.disputes) ≡ Some q → asked rules t p q.qid ≡ Some q.kind
+      (if b then Some claim_question else question_in p t.disputes) ≡ Some q → asked rules t p q.qid ≡ Some q.kind
   open-by rules p q t true a e = let same : claim_question ≡ q = cc in rw (← same) refl
   open-by rules p q t false a e =
-      let i : IsAskedIn rules.play.fan p 1 q t.disputes = asked-open rules.play.fan p 1 q t.disputes a e in
+      let i : IsAskedIn p 1 q t.disputes = asked-open p 1 q t.disputes a e in
       let no_claim : (q.qid.dispute == 0) ≡ false = not-eqb q.qid.dispute 0 (λ z. omega (arith, i.after)) in
       rw no_claim i.kind
 
@@ -280,7 +281,7 @@ module _ (laws : BisectionLaws) where
   reach_on h x y z (inr e) fixed (zero, r) = (zero, e ∙ (ap h r ∙ fixed))
   reach_on h x y z (inr e) fixed (suc n, r) = (n, ap (iterate h n) e ∙ r)
 
-  way-by : (rules : Rules) (says : Says) (n : ℕ) (st u : MatchState) (p : ℕ) (q : Question) → 0 < rules.provers → 1 < rules.play.fan → 0 < rules.bound → 0 < p → open_question rules st.record_ p ≡ Some q →
+  way-by : (rules : Rules) (says : Says) (n : ℕ) (st u : MatchState) (p : ℕ) (q : Question) → 0 < rules.provers → 1 < rules.fan → 0 < rules.bound → 0 < p → open_question rules st.record_ p ≡ Some q →
       Turned rules says st p q u → IsOnWay rules says n st → IsOnWay rules says (suc n) u
   way-by rules says n st u p q some more long numbered asked (Passed same cs) i =
       record { counts = cs; played = rw same i.played; numbered = rw same i.numbered; reaches = rw same i.reaches }
@@ -299,7 +300,7 @@ module _ (laws : BisectionLaws) where
   unfolding bracket
   way-begun rules says some = record { counts = (counts-begun laws) rules says; played = (played-nothing laws) rules some; numbered = tt; reaches = (rules.provers, refl) }
 
-  pub way-turn : (rules : Rules) (says : Says) → 0 < rules.provers → 1 < rules.play.fan → 0 < rules.bound → (n : ℕ) (st : MatchState) (p : ℕ) (q : Question) → 0 < p → open_question rules st.record_ p ≡ Some q →
+  pub way-turn : (rules : Rules) (says : Says) → 0 < rules.provers → 1 < rules.fan → 0 < rules.bound → (n : ℕ) (st : MatchState) (p : ℕ) (q : Question) → 0 < p → open_question rules st.record_ p ≡ Some q →
       IsOnWay rules says n st → IsOnWay rules says (suc n) (turn rules says st p q)
   way-turn rules says some more long n st p q numbered asked i =
       way-by rules says n st (turn rules says st p q) p q some more long numbered asked ((turned laws) rules says st p q numbered asked i.counts) i
@@ -308,14 +309,14 @@ module _ (laws : BisectionLaws) where
       asked rules (bracket rules (answers_of rules says)) p q.qid ≡ Some q.kind
   way-asked rules says n st p q i e =
       let here : asked rules st.record_ p q.qid ≡ Some q.kind = open-asked rules p q st.record_ i.numbered e in
-      let on : AllGoOn rules.play.fan st.record_.disputes (bracket rules (answers_of rules says)).disputes =
-      rw i.reaches.1 at (all-stages rules.play.fan rules (answers_of rules says) i.reaches.0 st.record_) in
+      let on : AllGoOn st.record_.disputes (bracket rules (answers_of rules says)).disputes =
+      rw i.reaches.1 at (all-stages rules (answers_of rules says) i.reaches.0 st.record_) in
       asked-further rules st.record_ (bracket rules (answers_of rules says)) p q.qid q.kind on here
 
   pub asked_by_the_case : AskedByTheCase
   asked_by_the_case rules says ps p q playable legal numbered e =
       let some : 0 < rules.provers = playable.some in
-      let more : 1 < rules.play.fan = omega (arith, playable.halves) in
+      let more : 1 < rules.fan = playable.parted in
       let long : 0 < rules.bound = playable.steps in
       let i : IsOnWay rules says (0 + length ps) (turns rules says ps (begun rules)) =
       (turns-keep laws) rules says (IsOnWay rules says) (way-turn rules says some more long) ps 0 (begun rules) legal (way-begun rules says some) in

@@ -13,7 +13,7 @@ use Rattle.tournament.proofs.CountLemmas.{IsOrdered, ordered-settle, ordered-not
 use Rattle.tournament.proofs.JournalLemmas.{ends-journal, counts-begun}
 use Rattle.tournament.proofs.OpenedLemmas.{opened-not, opened-due}
 use Rattle.tournament.proofs.ReachLemmas.{either, iterate-fixed, reach_one}
-use Rattle.tournament.proofs.RoundLemmas.{IsWithin, within-advanced, enough}
+use Rattle.tournament.proofs.RoundLemmas.{IsWithin, within-advanced}
 use Rattle.tournament.proofs.SidesLemmas.{round-closed, round-open}
 use Rattle.tournament.proofs.StageLemmas.{AllWithin, within-opened, Ends, played-nothing}
 use Rattle.tournament.specs.Bracket.{Record, claim_question, pairs, last_stage, disputes_of, is_stage_due, stage_opened, claims_over, carried, stage_over, nothing_settled, bracket, open_question}
@@ -27,18 +27,18 @@ Grows rules f t = (stage_over rules f (stage_over rules f t) ≡ stage_over rule
 module _ (laws : BisectionLaws) where
   -- intervals stay within
 
-  within-round : (rules : Rules) (f : Answers) (d : Bisection) → 1 < rules.play.fan → IsWithin rules d → IsWithin rules (round_over rules.play f d)
+  within-round : (rules : Rules) (f : Answers) (d : Bisection) → 1 < rules.fan → IsWithin rules d → IsWithin rules (round_over rules.ruling f d)
   within-round rules f d more w =
       elim (either (is_closed d)) [
-        | inl closed ↦ rw (round-closed rules.play f d closed) w
-        | inr still ↦ rw (round-open rules.play f d still) ((within-advanced laws) rules (filled rules.play f d) (filled rules.play f d).by_first (filled rules.play f d).by_second more (record { some = w.some; high = w.high; past = w.past }))
+        | inl closed ↦ rw (round-closed rules.ruling f d closed) w
+        | inr still ↦ rw (round-open rules.ruling f d still) ((within-advanced laws) rules (filled f d) (filled f d).by_first (filled f d).by_second more (record { fanned = w.fanned; some = w.some; high = w.high; past = w.past }))
       ]
 
-  within-rounds : (rules : Rules) (f : Answers) (n : ℕ) (d : Bisection) → 1 < rules.play.fan → IsWithin rules d → IsWithin rules (iterate (round_over rules.play f) n d)
+  within-rounds : (rules : Rules) (f : Answers) (n : ℕ) (d : Bisection) → 1 < rules.fan → IsWithin rules d → IsWithin rules (iterate (round_over rules.ruling f) n d)
   within-rounds rules f zero d more w = w
-  within-rounds rules f (suc n) d more w = within-rounds rules f n (round_over rules.play f d) more (within-round rules f d more w)
+  within-rounds rules f (suc n) d more w = within-rounds rules f n (round_over rules.ruling f d) more (within-round rules f d more w)
 
-  within-played : (rules : Rules) (f : Answers) (ds : List Bisection) → 1 < rules.play.fan → AllWithin rules ds → AllWithin rules (map (played rules f) ds)
+  within-played : (rules : Rules) (f : Answers) (ds : List Bisection) → 1 < rules.fan → AllWithin rules ds → AllWithin rules (map (played rules f) ds)
   unfolding played
   within-played rules f [] more w = tt
   within-played rules f (d ∷ ds) more w = (within-rounds rules f rules.bound d more w.0, within-played rules f ds more w.1)
@@ -54,22 +54,22 @@ module _ (laws : BisectionLaws) where
   claims-twice f p (Some s ∷ ss) = ap (λ (zs : List (Option Settled)). Some s ∷ zs) (claims-twice f (p + 1) ss)
   claims-twice f p (None ∷ ss) = rw (or-none (f p claim_question), claims-twice f (p + 1) ss) refl
 
-  played-twice : (rules : Rules) (f : Answers) (ds : List Bisection) → 1 < rules.play.fan → AllWithin rules ds → map (played rules f) (map (played rules f) ds) ≡ map (played rules f) ds
+  played-twice : (rules : Rules) (f : Answers) (ds : List Bisection) → 1 < rules.fan → AllWithin rules ds → map (played rules f) (map (played rules f) ds) ≡ map (played rules f) ds
   unfolding played
   played-twice rules f [] more w = refl
   played-twice rules f (d ∷ ds) more w =
-      let e : round_over rules.play f (iterate (round_over rules.play f) rules.bound d) ≡ iterate (round_over rules.play f) rules.bound d = (enough laws) rules.play f rules.bound d more w.0.some (omega (arith, w.0.high)) in
-      rw (iterate-fixed (round_over rules.play f) rules.bound (iterate (round_over rules.play f) rules.bound d) e, played-twice rules f ds more w.1) refl
+      let e : round_over rules.ruling f (iterate (round_over rules.ruling f) rules.bound d) ≡ iterate (round_over rules.ruling f) rules.bound d = laws.played.enough rules.ruling f rules.bound d (omega (arith, more, w.0.fanned)) w.0.some (omega (arith, w.0.high)) in
+      rw (iterate-fixed (round_over rules.ruling f) rules.bound (iterate (round_over rules.ruling f) rules.bound d) e, played-twice rules f ds more w.1) refl
 
-  carried-twice : (rules : Rules) (f : Answers) (t : Record) → 1 < rules.play.fan → AllWithin rules t.disputes → carried rules f (carried rules f t) ≡ carried rules f t
+  carried-twice : (rules : Rules) (f : Answers) (t : Record) → 1 < rules.fan → AllWithin rules t.disputes → carried rules f (carried rules f t) ≡ carried rules f t
   unfolding carried
   carried-twice rules f t more w = rw (claims-twice f 1 t.claims, played-twice rules f t.disputes more w) refl
 
-  within-stage : (rules : Rules) (f : Answers) (t : Record) → 1 < rules.play.fan → 0 < rules.bound → AllWithin rules t.disputes → AllWithin rules (stage_over rules f t).disputes
+  within-stage : (rules : Rules) (f : Answers) (t : Record) → 1 < rules.fan → 0 < rules.bound → AllWithin rules t.disputes → AllWithin rules (stage_over rules f t).disputes
   unfolding carried
   within-stage rules f t more long w = (within-opened laws) rules (carried rules f t) long (within-played rules f t.disputes more w)
 
-  pub within-stages : (rules : Rules) (f : Answers) (n : ℕ) (t : Record) → 1 < rules.play.fan → 0 < rules.bound → AllWithin rules t.disputes → AllWithin rules (iterate (stage_over rules f) n t).disputes
+  pub within-stages : (rules : Rules) (f : Answers) (n : ℕ) (t : Record) → 1 < rules.fan → 0 < rules.bound → AllWithin rules t.disputes → AllWithin rules (iterate (stage_over rules f) n t).disputes
   within-stages rules f zero t more long w = w
   within-stages rules f (suc n) t more long w = within-stages rules f n (stage_over rules f t) more long (within-stage rules f t more long w)
 
@@ -87,12 +87,12 @@ module _ (laws : BisectionLaws) where
   new-length rules g n [] = refl
   new-length rules g n (p ∷ ps) = ap suc (new-length rules g (n + 1) ps)
 
-  still : (rules : Rules) (f : Answers) (t : Record) → 1 < rules.play.fan → AllWithin rules t.disputes → stage_opened rules (carried rules f t) ≡ carried rules f t →
+  still : (rules : Rules) (f : Answers) (t : Record) → 1 < rules.fan → AllWithin rules t.disputes → stage_opened rules (carried rules f t) ≡ carried rules f t →
       stage_over rules f (stage_over rules f t) ≡ stage_over rules f t
   still rules f t more w e =
       ap (λ (u : Record). stage_opened rules (carried rules f u)) e ∙ ap (stage_opened rules) (carried-twice rules f t more w)
 
-  grows-by : (rules : Rules) (f : Answers) (t : Record) (ps : List ((ℕ × Claim) × (ℕ × Claim))) → 1 < rules.play.fan → AllWithin rules t.disputes → is_stage_due rules (carried rules f t) ≡ true →
+  grows-by : (rules : Rules) (f : Answers) (t : Record) (ps : List ((ℕ × Claim) × (ℕ × Claim))) → 1 < rules.fan → AllWithin rules t.disputes → is_stage_due rules (carried rules f t) ≡ true →
       pairs rules (carried rules f t) ≡ ps → Grows rules f t
   grows-by rules f t [] more w due e =
       inl (still rules f t more w (opened-due rules (carried rules f t) due ∙ rw (e, append-nil) refl))
@@ -102,27 +102,27 @@ module _ (laws : BisectionLaws) where
       let k : length (pairs rules (carried rules f t)) ≡ suc (length ps) = ap length e in
       inr (omega (arith, n, k, carried-length rules f t))
 
-  grows : (rules : Rules) (f : Answers) (t : Record) → 1 < rules.play.fan → AllWithin rules t.disputes → Grows rules f t
+  grows : (rules : Rules) (f : Answers) (t : Record) → 1 < rules.fan → AllWithin rules t.disputes → Grows rules f t
   grows rules f t more w =
       elim (either (is_stage_due rules (carried rules f t))) [
         | inl due ↦ grows-by rules f t (pairs rules (carried rules f t)) more w due refl
         | inr not_due ↦ inl (still rules f t more w (opened-not rules (carried rules f t) not_due))
       ]
 
-  longer : (rules : Rules) (f : Answers) (t : Record) → 1 < rules.play.fan → AllWithin rules t.disputes → length t.disputes ≤ length (stage_over rules f t).disputes
+  longer : (rules : Rules) (f : Answers) (t : Record) → 1 < rules.fan → AllWithin rules t.disputes → length t.disputes ≤ length (stage_over rules f t).disputes
   longer rules f t more w =
       elim (either (is_stage_due rules (carried rules f t))) [
         | inl due ↦ rw (opened-due rules (carried rules f t) due, length-append (carried rules f t).disputes _, carried-length rules f t) (omega arith)
         | inr not_due ↦ rw (opened-not rules (carried rules f t) not_due, carried-length rules f t) (omega arith)
       ]
 
-  longer-all : (rules : Rules) (f : Answers) (n : ℕ) (t : Record) → 1 < rules.play.fan → 0 < rules.bound → AllWithin rules t.disputes → length t.disputes ≤ length (iterate (stage_over rules f) n t).disputes
+  longer-all : (rules : Rules) (f : Answers) (n : ℕ) (t : Record) → 1 < rules.fan → 0 < rules.bound → AllWithin rules t.disputes → length t.disputes ≤ length (iterate (stage_over rules f) n t).disputes
   longer-all rules f zero t more long w = omega arith
   longer-all rules f (suc n) t more long w =
       omega (arith, longer rules f t more w, longer-all rules f n (stage_over rules f t) more long (within-stage rules f t more long w))
 
   -- after so many stages either nothing changes any more, or there are so many disputes
-  pub reach-fixed : (rules : Rules) (f : Answers) (n : ℕ) (t : Record) → 1 < rules.play.fan → 0 < rules.bound → AllWithin rules t.disputes →
+  pub reach-fixed : (rules : Rules) (f : Answers) (n : ℕ) (t : Record) → 1 < rules.fan → 0 < rules.bound → AllWithin rules t.disputes →
       (stage_over rules f (iterate (stage_over rules f) n t) ≡ iterate (stage_over rules f) n t) ⊎ (length t.disputes + n ≤ length (iterate (stage_over rules f) n t).disputes)
   reach-fixed rules f zero t more long w = inr (omega arith)
   reach-fixed rules f (suc n) t more long w =
@@ -141,7 +141,7 @@ module _ (laws : BisectionLaws) where
   iterate-add h (suc n) m x = let e : suc n + m ≡ suc (n + m) = omega arith in ap (λ (k : ℕ). iterate h k x) e ∙ iterate-add h n m (h x)
 
   -- a record with fewer disputes than provers, at which the stages end, is the bracket's
-  pub bracket-is : (rules : Rules) (f : Answers) (z : Record) → 1 < rules.play.fan → 0 < rules.bound → Ends rules f (nothing_settled rules) z → length z.disputes < rules.provers →
+  pub bracket-is : (rules : Rules) (f : Answers) (z : Record) → 1 < rules.fan → 0 < rules.bound → Ends rules f (nothing_settled rules) z → length z.disputes < rules.provers →
       z ≡ bracket rules f
   unfolding bracket
   bracket-is rules f z more long e few =
@@ -183,7 +183,7 @@ module _ (laws : BisectionLaws) where
   pub record_of_case : RecordOfCase
   record_of_case rules says ps playable legal c =
       let some : 0 < rules.provers = playable.some in
-      let more : 1 < rules.play.fan = omega (arith, playable.halves) in
+      let more : 1 < rules.fan = playable.parted in
       let long : 0 < rules.bound = playable.steps in
       let e : Ends rules (answers_of rules says) (nothing_settled rules) (turns rules says ps (begun rules)).record_ =
       (ends-journal laws) rules says ps (begun rules) more long ((played-nothing laws) rules some) ((counts-begun laws) rules says) legal c in

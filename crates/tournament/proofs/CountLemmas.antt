@@ -11,7 +11,7 @@ use Rattle.bisect_game.specs.declared.settled.Close.{Close}
 use Rattle.bisect_game.specs.declared.settled.Close.TheVariants.{Out, Collision}
 use Rattle.bisect_game.specs.Bisection.{Bisection, settle_first, settle_second, closed_or, went_on, decided, advanced}
 use Rattle.bisect_game.specs.Closing.{both_proved, closed_by, close_of, is_out, is_step}
-use Rattle.bisect_game.specs.Rules.{Rules, Play}
+use Rattle.bisect_game.specs.Rules.{Rules}
 use Rattle.bisect_game.specs.Ruling.{Ruling, same_digest}
 use Rattle.tournament.proofs.OpenedLemmas.{opened-not, opened-due}
 use Rattle.tournament.proofs.ReachLemmas.{either}
@@ -197,7 +197,7 @@ pub record IsStaged (rules : Rules) (t : Record) : Type 0 where
   pub now : List Bisection
   pub parts : t.disputes ≡ past ++ now
   pub over : all_out past ≡ true
-  pub sides : SidesOf (pairs_of rules.play.ruling rules.provers (live_from past 1 t.claims)) now
+  pub sides : SidesOf (pairs_of rules.ruling rules.provers (live_from past 1 t.claims)) now
   pub few : length past + length (live_from past 1 t.claims) ≤ rules.provers
   pub some : 0 < length now
 
@@ -210,8 +210,8 @@ pub record IsCounted (rules : Rules) (t : Record) : Type 0 where
 fewer-by : (rules : Rules) (t : Record) → 0 < rules.provers → (t.disputes ≡ []) ⊎ IsStaged rules t → length t.disputes < rules.provers
 fewer-by rules t some (inl none) = rw none some
 fewer-by rules t some (inr s) =
-    let n : length s.now ≡ length (pairs_of rules.play.ruling rules.provers (live_from s.past 1 t.claims)) = sides-length _ s.now s.sides in
-    let f : FewPairs (λ p. true) (live_from s.past 1 t.claims) (pairs_of rules.play.ruling rules.provers (live_from s.past 1 t.claims)) = few-pairs rules.play.ruling (λ p. true) rules.provers (live_from s.past 1 t.claims) in
+    let n : length s.now ≡ length (pairs_of rules.ruling rules.provers (live_from s.past 1 t.claims)) = sides-length _ s.now s.sides in
+    let f : FewPairs (λ p. true) (live_from s.past 1 t.claims) (pairs_of rules.ruling rules.provers (live_from s.past 1 t.claims)) = few-pairs rules.ruling (λ p. true) rules.provers (live_from s.past 1 t.claims) in
     rw (s.parts, length-append s.past s.now) (omega (arith, n, f.half, s.few, s.some))
 
 pub fewer : (rules : Rules) (t : Record) → 0 < rules.provers → IsCounted rules t → length t.disputes < rules.provers
@@ -226,7 +226,7 @@ asked-not false o c e = refl
 asked-not true None None e = absurd (cc)
 
 past-choice : (rules : Rules) (p : ℕ) (s : Settled) (d : Bisection) (ds : List Bisection) (es : List Bisection) (x y : Bool) → x ≡ false → y ≡ false → ds ≡ es →
-    (if x then settle_first rules.play s d ∷ ds else if y then settle_second rules.play s d ∷ ds else d ∷ ds) ≡ d ∷ es
+    (if x then settle_first rules.ruling s d ∷ ds else if y then settle_second rules.ruling s d ∷ ds else d ∷ ds) ≡ d ∷ es
 past-choice rules p s d ds es true y ex ey e = absurd (cc)
 past-choice rules p s d ds es false true ex ey e = absurd (cc)
 past-choice rules p s d ds es false false ex ey e = ap (λ (zs : List Bisection). d ∷ zs) e
@@ -240,9 +240,9 @@ settled-past rules p s (d ∷ ds) es e =
     rw (ex, ey) (ap (λ (zs : List Bisection). d ∷ zs) (settled-past rules p s ds es two.1))
 
 sides-choice : (rules : Rules) (p : ℕ) (s : Settled) (q : Pair) (ps : List Pair) (d : Bisection) (ds : List Bisection) (x y : Bool) → SidesOf (q ∷ ps) (d ∷ ds) → SidesOf ps (settled_in rules p s ds) →
-    SidesOf (q ∷ ps) (if x then settle_first rules.play s d ∷ ds else if y then settle_second rules.play s d ∷ ds else d ∷ settled_in rules p s ds)
-sides-choice rules p s q ps d ds true y i r = let k : SameSides d (settle_first rules.play s d) = sides-first rules.play s d in (k.first ∙ i.0, k.second ∙ i.1, i.2)
-sides-choice rules p s q ps d ds false true i r = let k : SameSides d (settle_second rules.play s d) = sides-second rules.play s d in (k.first ∙ i.0, k.second ∙ i.1, i.2)
+    SidesOf (q ∷ ps) (if x then settle_first rules.ruling s d ∷ ds else if y then settle_second rules.ruling s d ∷ ds else d ∷ settled_in rules p s ds)
+sides-choice rules p s q ps d ds true y i r = let k : SameSides d (settle_first rules.ruling s d) = sides-first rules.ruling s d in (k.first ∙ i.0, k.second ∙ i.1, i.2)
+sides-choice rules p s q ps d ds false true i r = let k : SameSides d (settle_second rules.ruling s d) = sides-second rules.ruling s d in (k.first ∙ i.0, k.second ∙ i.1, i.2)
 sides-choice rules p s q ps d ds false false i r = (i.0, i.1, r)
 
 sides-settled : (rules : Rules) (p : ℕ) (s : Settled) (ps : List Pair) (ds : List Bisection) → SidesOf ps ds → SidesOf ps (settled_in rules p s ds)
@@ -279,9 +279,9 @@ next-few rules t outs c (inl none) = rw none (omega (arith, live-few [] 1 t.clai
 next-few rules t outs c (inr s) =
     let o : all_out s.now ≡ true = out-second s.past s.now (rw s.parts at outs) in
     let h : AllHonest s.now = honest-second s.past s.now (rw s.parts at c.honest) in
-    let n : length s.now ≡ length (pairs_of rules.play.ruling rules.provers (live_from s.past 1 t.claims)) = sides-length _ s.now s.sides in
-    let f : FewPairs (is_out_in s.now) (live_from s.past 1 t.claims) (pairs_of rules.play.ruling rules.provers (live_from s.past 1 t.claims)) = few-pairs rules.play.ruling (is_out_in s.now) rules.provers (live_from s.past 1 t.claims) in
-    let one : OneOut (is_out_in s.now) (pairs_of rules.play.ruling rules.provers (live_from s.past 1 t.claims)) = stage-out _ s.now s.sides o h in
+    let n : length s.now ≡ length (pairs_of rules.ruling rules.provers (live_from s.past 1 t.claims)) = sides-length _ s.now s.sides in
+    let f : FewPairs (is_out_in s.now) (live_from s.past 1 t.claims) (pairs_of rules.ruling rules.provers (live_from s.past 1 t.claims)) = few-pairs rules.ruling (is_out_in s.now) rules.provers (live_from s.past 1 t.claims) in
+    let one : OneOut (is_out_in s.now) (pairs_of rules.ruling rules.provers (live_from s.past 1 t.claims)) = stage-out _ s.now s.sides o h in
     rw (s.parts, length-append s.past s.now, live-append s.past s.now 1 t.claims) (omega (arith, n, f.rest one, s.few))
 
 staged-next : (rules : Rules) (t : Record) → (q : Pair) (ps : List Pair) → pairs rules t ≡ q ∷ ps → all_out t.disputes ≡ true → IsCounted rules t →
@@ -316,28 +316,28 @@ honest-of : (r : Ruling) (i : Interval) (a b : Settled) (c : Close) → close_of
 unfolding close_of
 honest-of r i a b c e = honest-close (is_out r i i.first a) (is_out r i i.second b) (is_step i) (both_proved r i.agreed a b) c e (honest-meeting r i.agreed a b)
 
-honest-by : (play : Play) (d : Bisection) (a b : Settled) (o : Option Close) → close_of play.ruling d.place a b ≡ o → IsHonest d.close → IsHonest (closed_or d (went_on play.fan d a b) o).close
-honest-by play d a b (Some c) e h = honest-of play.ruling d.place a b c e
-honest-by play d a b None e h = h
+honest-by : (ruling : Ruling) (d : Bisection) (a b : Settled) (o : Option Close) → close_of ruling d.place a b ≡ o → IsHonest d.close → IsHonest (closed_or d (went_on d a b) o).close
+honest-by ruling d a b (Some c) e h = honest-of ruling d.place a b c e
+honest-by ruling d a b None e h = h
 
-pub honest-advanced : (play : Play) (d : Bisection) (a b : Option Settled) → IsHonest d.close → IsHonest (advanced play d a b).close
+pub honest-advanced : (ruling : Ruling) (d : Bisection) (a b : Option Settled) → IsHonest d.close → IsHonest (advanced ruling d a b).close
 unfolding decided
-honest-advanced play d (Some a) (Some b) h = honest-by play d a b (close_of play.ruling d.place a b) refl h
-honest-advanced play d (Some a) None h = h
-honest-advanced play d None b h = h
+honest-advanced ruling d (Some a) (Some b) h = honest-by ruling d a b (close_of ruling d.place a b) refl h
+honest-advanced ruling d (Some a) None h = h
+honest-advanced ruling d None b h = h
 
-honest-first : (play : Play) (s : Settled) (d : Bisection) → IsHonest d.close → IsHonest (settle_first play s d).close
+honest-first : (ruling : Ruling) (s : Settled) (d : Bisection) → IsHonest d.close → IsHonest (settle_first ruling s d).close
 unfolding settle_first
-honest-first play s d h = honest-advanced play (record d { by_first = Some s }) (Some s) d.by_second h
+honest-first ruling s d h = honest-advanced ruling (record d { by_first = Some s }) (Some s) d.by_second h
 
-honest-second-side : (play : Play) (s : Settled) (d : Bisection) → IsHonest d.close → IsHonest (settle_second play s d).close
+honest-second-side : (ruling : Ruling) (s : Settled) (d : Bisection) → IsHonest d.close → IsHonest (settle_second ruling s d).close
 unfolding settle_second
-honest-second-side play s d h = honest-advanced play (record d { by_second = Some s }) d.by_first (Some s) h
+honest-second-side ruling s d h = honest-advanced ruling (record d { by_second = Some s }) d.by_first (Some s) h
 
 honest-choice : (rules : Rules) (p : ℕ) (s : Settled) (d : Bisection) (ds : List Bisection) (x y : Bool) → AllHonest (d ∷ ds) → AllHonest (settled_in rules p s ds) →
-    AllHonest (if x then settle_first rules.play s d ∷ ds else if y then settle_second rules.play s d ∷ ds else d ∷ settled_in rules p s ds)
-honest-choice rules p s d ds true y h r = (honest-first rules.play s d h.0, h.1)
-honest-choice rules p s d ds false true h r = (honest-second-side rules.play s d h.0, h.1)
+    AllHonest (if x then settle_first rules.ruling s d ∷ ds else if y then settle_second rules.ruling s d ∷ ds else d ∷ settled_in rules p s ds)
+honest-choice rules p s d ds true y h r = (honest-first rules.ruling s d h.0, h.1)
+honest-choice rules p s d ds false true h r = (honest-second-side rules.ruling s d h.0, h.1)
 honest-choice rules p s d ds false false h r = (h.0, r)
 
 honest-settled : (rules : Rules) (p : ℕ) (s : Settled) (ds : List Bisection) → AllHonest ds → AllHonest (settled_in rules p s ds)
@@ -345,7 +345,7 @@ honest-settled rules p s [] h = tt
 honest-settled rules p s (d ∷ ds) h = honest-choice rules p s d ds (asks_first p d) (asks_second p d) h (honest-settled rules p s ds h.1)
 
 length-settled : (rules : Rules) (p : ℕ) (s : Settled) (d : Bisection) (ds : List Bisection) (x y : Bool) → length (settled_in rules p s ds) ≡ length ds →
-    length (if x then settle_first rules.play s d ∷ ds else if y then settle_second rules.play s d ∷ ds else d ∷ settled_in rules p s ds) ≡ suc (length ds)
+    length (if x then settle_first rules.ruling s d ∷ ds else if y then settle_second rules.ruling s d ∷ ds else d ∷ settled_in rules p s ds) ≡ suc (length ds)
 length-settled rules p s d ds true y e = refl
 length-settled rules p s d ds false true e = refl
 length-settled rules p s d ds false false e = ap suc e

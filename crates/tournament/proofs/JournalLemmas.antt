@@ -167,7 +167,7 @@ module _ (laws : BisectionLaws) where
 
   -- every complete legal journal comes to what the stages over the settled answers come to
 
-  ends-after : (rules : Rules) (says : Says) (st u : MatchState) (p : ℕ) (q : Question) (z : Record) → 0 < p → 1 < rules.play.fan → 0 < rules.bound → IsPlayed rules st.record_ →
+  ends-after : (rules : Rules) (says : Says) (st u : MatchState) (p : ℕ) (q : Question) (z : Record) → 0 < p → 1 < rules.fan → 0 < rules.bound → IsPlayed rules st.record_ →
       open_question rules st.record_ p ≡ Some q → Turned rules says st p q u →
       (IsPlayed rules u.record_ → AreCounts rules says u → Ends rules (answers_of rules says) u.record_ z) →
       Ends rules (answers_of rules says) st.record_ z
@@ -182,7 +182,7 @@ module _ (laws : BisectionLaws) where
             ((steps-settle laws) rules (answers_of rules says) p s q st.record_ some more long i asked is) e.fixed e.reaches;
       }
 
-  pub ends-journal : (rules : Rules) (says : Says) (ps : List ℕ) (st : MatchState) → 1 < rules.play.fan → 0 < rules.bound → IsPlayed rules st.record_ → AreCounts rules says st →
+  pub ends-journal : (rules : Rules) (says : Says) (ps : List ℕ) (st : MatchState) → 1 < rules.fan → 0 < rules.bound → IsPlayed rules st.record_ → AreCounts rules says st →
       Legal rules says ps st → is_complete (turns rules says ps st).record_ ≡ true → Ends rules (answers_of rules says) st.record_ (turns rules says ps st).record_
   ends-journal rules says [] st more long i cs legal c = record { fixed = (complete-fixed laws) rules (answers_of rules says) st.record_ i c; reaches = (0, refl) }
   ends-journal rules says (p ∷ ps) st more long i cs legal c =
@@ -201,7 +201,7 @@ module _ (laws : BisectionLaws) where
   pub order_does_not_matter : OrderDoesNotMatter
   order_does_not_matter rules says ps qs playable lp lq cp cq =
       let some : 0 < rules.provers = playable.some in
-      let more : 1 < rules.play.fan = omega (arith, playable.halves) in
+      let more : 1 < rules.fan = playable.parted in
       let long : 0 < rules.bound = playable.steps in
       let i : IsPlayed rules (nothing_settled rules) = (played-nothing laws) rules some in
       let x : Ends rules (answers_of rules says) (nothing_settled rules) (turns rules says ps (begun rules)).record_ =

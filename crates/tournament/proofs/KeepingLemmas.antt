@@ -8,7 +8,7 @@ use Rattle.bisect_game.specs.declared.settled.Settled.{Settled}
 use Rattle.bisect_game.specs.declared.side.Side.{Side}
 use Rattle.bisect_game.specs.declared.side.Side.TheVariants.{First, Second}
 use Rattle.bisect_game.specs.Bisection.{Bisection, asks, settle_side, settle_first, settle_second}
-use Rattle.bisect_game.specs.Rules.{Play, Rules}
+use Rattle.bisect_game.specs.Rules.{Rules}
 use Rattle.bisect_game.specs.Ruling.{Ruling, same_digest}
 use Rattle.tournament.proofs.OnceLemmas.{both}
 use Rattle.tournament.proofs.OpenedLemmas.{opened-due}
@@ -33,21 +33,21 @@ set-length [] j y = refl
 set-length (d ∷ ds) zero y = refl
 set-length (d ∷ ds) (suc j) y = ap suc (set-length ds j y)
 
-pub stage-kept : (play : Play) (by : Side) (s : Settled) (d : Bisection) → (settle_side play by s d).stage ≡ d.stage
-stage-kept play First s d = let k : SameSides d (settle_first play s d) = sides-first play s d in k.stage
-stage-kept play Second s d = let k : SameSides d (settle_second play s d) = sides-second play s d in k.stage
+pub stage-kept : (ruling : Ruling) (by : Side) (s : Settled) (d : Bisection) → (settle_side ruling by s d).stage ≡ d.stage
+stage-kept ruling First s d = let k : SameSides d (settle_first ruling s d) = sides-first ruling s d in k.stage
+stage-kept ruling Second s d = let k : SameSides d (settle_second ruling s d) = sides-second ruling s d in k.stage
 
-rooms-last : (bound : ℕ) (rs : List ℕ) (r : ℕ) → AllRooms bound (rs ++ r ∷ []) → AllRooms bound rs × (r ≡ bound)
-rooms-last bound [] r a = (tt, a.0)
-rooms-last bound (q ∷ rs) r a = let rest : AllRooms bound rs × (r ≡ bound) = rooms-last bound rs r a.1 in ((a.0, rest.0), rest.1)
+rooms-last : (bound fan : ℕ) (rs : List (ℕ × ℕ)) (r : ℕ × ℕ) → AllRooms bound fan (rs ++ r ∷ []) → AllRooms bound fan rs × (r ≡ (bound, fan))
+rooms-last bound fan [] r a = (tt, a.0)
+rooms-last bound fan (q ∷ rs) r a = let rest : AllRooms bound fan rs × (r ≡ (bound, fan)) = rooms-last bound fan rs r a.1 in ((a.0, rest.0), rest.1)
 
-pub sheet-room : (t : Setup) (r : Record) (free : ℕ) (rooms rest : List ℕ) (room : ℕ) → IsSheet t r rooms free → rooms ≡ rest ++ room ∷ [] → room ≡ t.bound
-sheet-room t r free rooms rest room i e = let a : AllRooms t.bound rest × (room ≡ t.bound) = rooms-last t.bound rest room (rw e at i.rooms_) in a.1
+pub sheet-room : (t : Setup) (r : Record) (free : ℕ) (rooms rest : List (ℕ × ℕ)) (room : ℕ × ℕ) → IsSheet t r rooms free → rooms ≡ rest ++ room ∷ [] → room ≡ (t.bound, t.fan)
+sheet-room t r free rooms rest room i e = let a : AllRooms t.bound t.fan rest × (room ≡ (t.bound, t.fan)) = rooms-last t.bound t.fan rest room (rw e at i.rooms_) in a.1
 
-pub sheet-opened : (t : Setup) (r w : Record) (free less stage number : ℕ) (rooms rest : List ℕ) (room : ℕ) (x y : ℕ × Digest32) (d : Bisection) → IsSheet t r rooms free →
+pub sheet-opened : (t : Setup) (r w : Record) (free less stage number : ℕ) (rooms rest : List (ℕ × ℕ)) (room : ℕ × ℕ) (x y : ℕ × Digest32) (d : Bisection) → IsSheet t r rooms free →
     rooms ≡ rest ++ room ∷ [] → w ≡ and_also r (d ∷ []) → d.stage ≡ stage → stage ≤ length r.disputes + 1 → less + 1 ≡ free → IsSheet t w rest less
 sheet-opened t r w free less stage number rooms rest room x y d i er ew es few el =
-    let a : AllRooms t.bound rest × (room ≡ t.bound) = rooms-last t.bound rest room (rw er at i.rooms_) in
+    let a : AllRooms t.bound t.fan rest × (room ≡ (t.bound, t.fan)) = rooms-last t.bound t.fan rest room (rw er at i.rooms_) in
     let n : length w.disputes ≡ length r.disputes + 1 = ap (λ (z : Record). length z.disputes) ew ∙ length-append r.disputes (d ∷ []) in
     let g : last_stage w.disputes ≡ max (last_stage r.disputes) (max d.stage 0) = ap (λ (z : Record). last_stage z.disputes) ew ∙ stages-append r.disputes (d ∷ []) in
     record {
@@ -55,6 +55,8 @@ sheet-opened t r w free less stage number rooms rest room x y d i er ew es few e
       few = i.few;
       steps = i.steps;
       short = i.short;
+      parted = i.parted;
+      few_parts = i.few_parts;
       claims_ = ap (λ (z : Record). length z.claims) ew ∙ i.claims_;
       stages = omega (arith, g, n, es, few, i.stages);
       rooms_ = a.0;
@@ -63,8 +65,8 @@ sheet-opened t r w free less stage number rooms rest room x y d i er ew es few e
 
 -- one dispute more
 
-pub one-opened : (t : Setup) (r w : Record) (stage number room : ℕ) (x y : ℕ × Digest32) (d : Bisection) → w ≡ and_also r (d ∷ []) → number ≡ length r.disputes + 1 → room ≡ t.bound →
-    d ≡ record { stage = stage; number = number; first = x.0; second = y.0; place = record { lo = 0; hi = room; agreed = t.start; first = x.1; second = y.1 }; past = []; by_first = None; by_second = None; close = None } →
+pub one-opened : (t : Setup) (r w : Record) (stage number : ℕ) (room : ℕ × ℕ) (x y : ℕ × Digest32) (d : Bisection) → w ≡ and_also r (d ∷ []) → number ≡ length r.disputes + 1 → room ≡ (t.bound, t.fan) →
+    d ≡ record { stage = stage; number = number; fan = room.1; first = x.0; second = y.0; place = record { lo = 0; hi = room.0; agreed = t.start; first = x.1; second = y.1 }; past = []; by_first = None; by_second = None; close = None } →
     w ≡ and_also r (dispute_at t stage (length r.disputes + 1) x y ∷ [])
 one-opened t r w stage number room x y d ew en er ed =
     let same : d ≡ dispute_at t stage (length r.disputes + 1) x y = ed ∙ rw (er, en) refl in
@@ -101,7 +103,7 @@ asked-within p i side ds hs same e = let w : i < 0 + length hs = within-from 0 p
 pub record AskedAt (rules : Rules) (p j : ℕ) (s : Settled) (side : Side) (hs : List Bisection) (x : Bisection) : Type 0 where
   pub within : j < length hs
   pub asks_ : asks_of side p (slice_index_or hs j x) ≡ true
-  pub settles : (y : Bisection) → y ≡ settle_side rules.play side s (slice_index_or hs j x) → settled_in rules p s hs ≡ slice_set hs j y
+  pub settles : (y : Bisection) → y ≡ settle_side rules.ruling side s (slice_index_or hs j x) → settled_in rules p s hs ≡ slice_set hs j y
 
 at-choice : (rules : Rules) (k p i j : ℕ) (s : Settled) (side : Side) (h : Bisection) (hs : List Bisection) (x : Bisection) (a b : Bool) → asks_first p h ≡ a → asks_second p h ≡ b → i ≡ k + j →
     (if a then Some (k, First) else if b then Some (k, Second) else asked_from (k + 1) p hs) ≡ Some (i, side) → ((m : ℕ) → asked_from (k + 1) p hs ≡ Some (i, side) → i ≡ k + 1 + m → AskedAt rules p m s side hs x) →
@@ -141,9 +143,9 @@ asked-asks rules p i s side ds hs x same e at =
 -- a settled answer keeps the sheet
 
 stage-choice : (rules : Rules) (p : ℕ) (s : Settled) (d : Bisection) (ds : List Bisection) (x y : Bool) → last_stage (settled_in rules p s ds) ≡ last_stage ds →
-    last_stage (if x then settle_first rules.play s d ∷ ds else if y then settle_second rules.play s d ∷ ds else d ∷ settled_in rules p s ds) ≡ max d.stage (last_stage ds)
-stage-choice rules p s d ds true y e = ap (λ (n : ℕ). max n (last_stage ds)) (stage-kept rules.play First s d)
-stage-choice rules p s d ds false true e = ap (λ (n : ℕ). max n (last_stage ds)) (stage-kept rules.play Second s d)
+    last_stage (if x then settle_first rules.ruling s d ∷ ds else if y then settle_second rules.ruling s d ∷ ds else d ∷ settled_in rules p s ds) ≡ max d.stage (last_stage ds)
+stage-choice rules p s d ds true y e = ap (λ (n : ℕ). max n (last_stage ds)) (stage-kept rules.ruling First s d)
+stage-choice rules p s d ds false true e = ap (λ (n : ℕ). max n (last_stage ds)) (stage-kept rules.ruling Second s d)
 stage-choice rules p s d ds false false e = ap (λ (n : ℕ). max d.stage n) e
 
 stage-settled : (rules : Rules) (p : ℕ) (s : Settled) (ds : List Bisection) → last_stage (settled_in rules p s ds) ≡ last_stage ds
@@ -151,7 +153,7 @@ stage-settled rules p s [] = refl
 stage-settled rules p s (d ∷ ds) = stage-choice rules p s d ds (asks_first p d) (asks_second p d) (stage-settled rules p s ds)
 
 many-choice : (rules : Rules) (p : ℕ) (s : Settled) (d : Bisection) (ds : List Bisection) (x y : Bool) → length (settled_in rules p s ds) ≡ length ds →
-    length (if x then settle_first rules.play s d ∷ ds else if y then settle_second rules.play s d ∷ ds else d ∷ settled_in rules p s ds) ≡ suc (length ds)
+    length (if x then settle_first rules.ruling s d ∷ ds else if y then settle_second rules.ruling s d ∷ ds else d ∷ settled_in rules p s ds) ≡ suc (length ds)
 many-choice rules p s d ds true y e = refl
 many-choice rules p s d ds false true e = refl
 many-choice rules p s d ds false false e = ap suc e
@@ -165,21 +167,23 @@ claims-length [] k o = refl
 claims-length (s ∷ ss) zero o = refl
 claims-length (s ∷ ss) (suc k) o = ap suc (claims-length ss k o)
 
-sheet-by : (rules : Rules) (t : Setup) (r : Record) (rooms : List ℕ) (free p : ℕ) (s : Settled) (b : Bool) → IsSheet t r rooms free →
+sheet-by : (rules : Rules) (t : Setup) (r : Record) (rooms : List (ℕ × ℕ)) (free p : ℕ) (s : Settled) (b : Bool) → IsSheet t r rooms free →
     IsSheet t (if b then record r { claims = slice_set r.claims (p - 1) (Some s) } else record r { disputes = settled_in rules p s r.disputes }) rooms free
-sheet-by rules t r rooms free p s true i = record { some = i.some; few = i.few; steps = i.steps; short = i.short; claims_ = claims-length r.claims (p - 1) (Some s) ∙ i.claims_; stages = i.stages; rooms_ = i.rooms_; room = i.room }
+sheet-by rules t r rooms free p s true i = record { some = i.some; few = i.few; steps = i.steps; short = i.short; parted = i.parted; few_parts = i.few_parts; claims_ = claims-length r.claims (p - 1) (Some s) ∙ i.claims_; stages = i.stages; rooms_ = i.rooms_; room = i.room }
 sheet-by rules t r rooms free p s false i = record {
   some = i.some;
   few = i.few;
   steps = i.steps;
   short = i.short;
+  parted = i.parted;
+  few_parts = i.few_parts;
   claims_ = i.claims_;
   stages = rw (stage-settled rules p s r.disputes, many-settled rules p s r.disputes) i.stages;
   rooms_ = i.rooms_;
   room = rw (many-settled rules p s r.disputes) i.room;
 }
 
-pub sheet-put : (rules : Rules) (t : Setup) (r w : Record) (rooms : List ℕ) (free p : ℕ) (s : Settled) → IsSheet t r rooms free → w ≡ put rules p s r → IsSheet t w rooms free
+pub sheet-put : (rules : Rules) (t : Setup) (r w : Record) (rooms : List (ℕ × ℕ)) (free p : ℕ) (s : Settled) → IsSheet t r rooms free → w ≡ put rules p s r → IsSheet t w rooms free
 sheet-put rules t r w rooms free p s i e = rw e (sheet-by rules t r rooms free p s (claim_missing (slice_get r.claims (p - 1))) i)
 
 -- pairs of sides
@@ -294,7 +298,7 @@ stage-few r t rec xs due e few =
 
 nowhere-choice : (rules : Rules) (k p : ℕ) (s : Settled) (d : Bisection) (ds : List Bisection) (a b : Bool) → (if a then Some (k, First) else if b then Some (k, Second) else asked_from (k + 1) p ds) ≡ None →
     (asked_from (k + 1) p ds ≡ None → settled_in rules p s ds ≡ ds) →
-    (if a then settle_first rules.play s d ∷ ds else if b then settle_second rules.play s d ∷ ds else d ∷ settled_in rules p s ds) ≡ d ∷ ds
+    (if a then settle_first rules.ruling s d ∷ ds else if b then settle_second rules.ruling s d ∷ ds else d ∷ settled_in rules p s ds) ≡ d ∷ ds
 nowhere-choice rules k p s d ds true b e r = absurd (cc)
 nowhere-choice rules k p s d ds false true e r = absurd (cc)
 nowhere-choice rules k p s d ds false false e r = ap (λ (zs : List Bisection). d ∷ zs) (r e)
@@ -321,6 +325,6 @@ pub filled-live : (r : Ruling) (rec : Record) (hs gs : List Bisection) (cs bs : 
     xs ≡ zs ++ sides r (live_from gs 1 bs) → xs ≡ sides r (live rec)
 filled-live r rec hs gs cs bs xs zs ed ec ea eb ez e = rw (ed, ec) (rw (ez, ea, eb) at e)
 
-pub rooms_more : (bound : ℕ) (rs : List ℕ) (r : ℕ) → AllRooms bound rs → r ≡ bound → AllRooms bound (rs ++ r ∷ [])
-rooms_more bound [] r a e = (e, tt)
-rooms_more bound (q ∷ rs) r a e = (a.0, rooms_more bound rs r a.1 e)
+pub rooms_more : (bound fan : ℕ) (rs : List (ℕ × ℕ)) (r : ℕ × ℕ) → AllRooms bound fan rs → r ≡ (bound, fan) → AllRooms bound fan (rs ++ r ∷ [])
+rooms_more bound fan [] r a e = (e, tt)
+rooms_more bound fan (q ∷ rs) r a e = (a.0, rooms_more bound fan rs r a.1 e)

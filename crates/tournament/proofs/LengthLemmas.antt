@@ -1,17 +1,19 @@
 -- No legal journal is longer than the passes of all questions and one answer of each.
 use Rattle.std.proofs.Common.{◌≡◌, ℕ, zero, suc, ◌+◌, ◌-◌, ◌*◌, ◌<◌, ◌≤◌, Bool, true, false, not, ◌&&◌, ◌||◌, ◌==◌, if◌then◌else◌, List, [], ◌∷◌, ◌++◌, length, replicate, slice_get, slice_set, slice_index, ◌⊎◌, inl, inr, Option, Some, None, is_some, is_none, refl, sym, ◌∙◌, ap, arith, length-append}
 use Rattle.std.proofs.Math.Nat.{mul-le-mul_left}
+use Rattle.bisect_game.specs.Ruling.{Ruling}
 use Rattle.bisect_game.specs.declared.question.Question.{Question}
 use Rattle.bisect_game.specs.declared.settled.Settled.{Settled}
 use Rattle.bisect_game.specs.declared.settled.Close.{Close}
 use Rattle.bisect_game.specs.Bisection.{Bisection, is_closed, question_of, settle_first, settle_second, advanced, decided, closed_or, went_on}
 use Rattle.bisect_game.specs.Closing.{close_of}
-use Rattle.bisect_game.specs.Rules.{Play, Rules}
+use Rattle.bisect_game.specs.Rules.{Rules}
 use Rattle.bisect_game.specs.Says.{Says}
 use Rattle.tournament.proofs.CountLemmas.{IsOrdered, ordered-settle, ordered-nothing, fewer}
 use Rattle.tournament.proofs.FewLemmas.{AllFew, few-settle}
 use Rattle.tournament.proofs.JournalLemmas.{IsCount, AreCounts, counts-begun, count-by, turned, counts-turn, turns-keep}
-use Rattle.tournament.proofs.OnceLemmas.{one_if, IsOpen, opens, is-prover, not-eqb, is-eqb}
+use Rattle.tournament.specs.OpenDisputes.{one_if}
+use Rattle.tournament.proofs.OnceLemmas.{IsOpen, opens, is-prover, not-eqb, is-eqb}
 use Rattle.tournament.proofs.OpenedLemmas.{opened-not, opened-due}
 use Rattle.tournament.proofs.ReachLemmas.{either}
 use Rattle.tournament.specs.Bracket.{Record, claim_question, pairs, last_stage, disputes_of, is_stage_due, stage_opened, asks_first, asks_second, question_in, claim_missing, open_question, settled_in, put, settle}
@@ -79,47 +81,47 @@ module _ (laws : BisectionLaws) where
   there-set (Some t ∷ ss) zero s e = absurd (cc)
   there-set (t ∷ ss) (suc k) s e = omega (arith, there-set ss k s e)
 
-  answered-by : (play : Play) (d : Bisection) (a b : Settled) (o : Option Close) → d.by_first ≡ Some a → d.by_second ≡ Some b → answered_in (closed_or d (went_on play.fan d a b) o) ≡ 2 * length d.past + 2
-  answered-by play d a b (Some c) ea eb = rw (ea, eb) (omega arith)
-  answered-by play d a b None ea eb = omega (arith, length-append d.past (record { lo = d.place.lo; hi = d.place.hi; first = a; second = b } ∷ []))
+  answered-by : (ruling : Ruling) (d : Bisection) (a b : Settled) (o : Option Close) → d.by_first ≡ Some a → d.by_second ≡ Some b → answered_in (closed_or d (went_on d a b) o) ≡ 2 * length d.past + 2
+  answered-by ruling d a b (Some c) ea eb = rw (ea, eb) (omega arith)
+  answered-by ruling d a b None ea eb = omega (arith, length-append d.past (record { lo = d.place.lo; hi = d.place.hi; first = a; second = b } ∷ []))
 
-  answered-advanced : (play : Play) (d : Bisection) (x y : Option Settled) → d.by_first ≡ x → d.by_second ≡ y → answered_in (advanced play d x y) ≡ 2 * length d.past + one_if (is_some x) + one_if (is_some y)
+  answered-advanced : (ruling : Ruling) (d : Bisection) (x y : Option Settled) → d.by_first ≡ x → d.by_second ≡ y → answered_in (advanced ruling d x y) ≡ 2 * length d.past + one_if (is_some x) + one_if (is_some y)
   unfolding decided
-  answered-advanced play d (Some a) (Some b) ex ey = answered-by play d a b (close_of play.ruling d.place a b) ex ey ∙ omega arith
-  answered-advanced play d (Some a) None ex ey = rw (ex, ey) refl
-  answered-advanced play d None y ex ey = rw (ex, ey) refl
+  answered-advanced ruling d (Some a) (Some b) ex ey = answered-by ruling d a b (close_of ruling d.place a b) ex ey ∙ omega arith
+  answered-advanced ruling d (Some a) None ex ey = rw (ex, ey) refl
+  answered-advanced ruling d None y ex ey = rw (ex, ey) refl
 
-  answered-first : (play : Play) (s : Settled) (d : Bisection) → d.by_first ≡ None → answered_in (settle_first play s d) ≡ answered_in d + 1
+  answered-first : (ruling : Ruling) (s : Settled) (d : Bisection) → d.by_first ≡ None → answered_in (settle_first ruling s d) ≡ answered_in d + 1
   unfolding settle_first
-  answered-first play s d e =
+  answered-first ruling s d e =
       let none : one_if (is_some d.by_first) ≡ 0 = rw e refl in
-      omega (arith, none, answered-advanced play (record d { by_first = Some s }) (Some s) d.by_second refl refl)
+      omega (arith, none, answered-advanced ruling (record d { by_first = Some s }) (Some s) d.by_second refl refl)
 
-  answered-second : (play : Play) (s : Settled) (d : Bisection) → d.by_second ≡ None → answered_in (settle_second play s d) ≡ answered_in d + 1
+  answered-second : (ruling : Ruling) (s : Settled) (d : Bisection) → d.by_second ≡ None → answered_in (settle_second ruling s d) ≡ answered_in d + 1
   unfolding settle_second
-  answered-second play s d e =
+  answered-second ruling s d e =
       let none : one_if (is_some d.by_second) ≡ 0 = rw e refl in
-      omega (arith, none, answered-advanced play (record d { by_second = Some s }) d.by_first (Some s) refl refl)
+      omega (arith, none, answered-advanced ruling (record d { by_second = Some s }) d.by_first (Some s) refl refl)
 
   answered-choice : (rules : Rules) (p : ℕ) (s : Settled) (q : Question) (d : Bisection) (ds : List Bisection) (x y : Bool) → asks_first p d ≡ x → asks_second p d ≡ y →
-      (if x || y then Some (question_of rules.play.fan d) else question_in rules.play.fan p ds) ≡ Some q →
-      (question_in rules.play.fan p ds ≡ Some q → answered (settled_in rules p s ds) ≡ answered ds + 1) →
-      answered (if x then settle_first rules.play s d ∷ ds else if y then settle_second rules.play s d ∷ ds else d ∷ settled_in rules p s ds) ≡ answered (d ∷ ds) + 1
+      (if x || y then Some (question_of d) else question_in p ds) ≡ Some q →
+      (question_in p ds ≡ Some q → answered (settled_in rules p s ds) ≡ answered ds + 1) →
+      answered (if x then settle_first rules.ruling s d ∷ ds else if y then settle_second rules.ruling s d ∷ ds else d ∷ settled_in rules p s ds) ≡ answered (d ∷ ds) + 1
   answered-choice rules p s q d ds true y ex ey e r =
       let a : ((d.first == p) ≡ true) × IsOpen d.by_first d.close = opens (d.first == p) d.by_first d.close ex in
-      omega (arith, answered-first rules.play s d a.1.missing)
+      omega (arith, answered-first rules.ruling s d a.1.missing)
   answered-choice rules p s q d ds false true ex ey e r =
       let a : ((d.second == p) ≡ true) × IsOpen d.by_second d.close = opens (d.second == p) d.by_second d.close ey in
-      omega (arith, answered-second rules.play s d a.1.missing)
+      omega (arith, answered-second rules.ruling s d a.1.missing)
   answered-choice rules p s q d ds false false ex ey e r = omega (arith, r e)
 
-  answered-settled : (rules : Rules) (p : ℕ) (s : Settled) (q : Question) (ds : List Bisection) → question_in rules.play.fan p ds ≡ Some q → answered (settled_in rules p s ds) ≡ answered ds + 1
+  answered-settled : (rules : Rules) (p : ℕ) (s : Settled) (q : Question) (ds : List Bisection) → question_in p ds ≡ Some q → answered (settled_in rules p s ds) ≡ answered ds + 1
   answered-settled rules p s q [] e = absurd (cc)
   answered-settled rules p s q (d ∷ ds) e =
       answered-choice rules p s q d ds (asks_first p d) (asks_second p d) refl refl e (λ further. answered-settled rules p s q ds further)
 
   count-put : (rules : Rules) (p : ℕ) (s : Settled) (q : Question) (t : Record) (b : Bool) → claim_missing (slice_get t.claims (p - 1)) ≡ b →
-      (if b then Some claim_question else question_in rules.play.fan p t.disputes) ≡ Some q →
+      (if b then Some claim_question else question_in p t.disputes) ≡ Some q →
       settled_count (if b then record t { claims = slice_set t.claims (p - 1) (Some s) } else record t { disputes = settled_in rules p s t.disputes }) ≡ settled_count t + 1
   count-put rules p s q t true eb e = omega (arith, there-set t.claims (p - 1) s eb)
   count-put rules p s q t false eb e = omega (arith, answered-settled rules p s q t.disputes e)
@@ -152,10 +154,10 @@ module _ (laws : BisectionLaws) where
   one-side None true = omega arith
   one-side None false = omega arith
 
-  few-rounds : (rules : Rules) (k : ℕ) (ds : List Bisection) → IsMost rules.play.fan rules.bound k → AllFew rules ds → answered ds + awaited ds ≤ (2 * (k + 1)) * length ds
+  few-rounds : (rules : Rules) (k : ℕ) (ds : List Bisection) → IsMost rules.fan rules.bound k → AllFew rules ds → answered ds + awaited ds ≤ (2 * (k + 1)) * length ds
   few-rounds rules k [] m h = omega arith
   few-rounds rules k (d ∷ ds) m h =
-      omega (arith, m.most (length d.past) h.0.few.asked, one-side d.by_first (not (is_closed d)), one-side d.by_second (not (is_closed d)), few-rounds rules k ds m h.1)
+      omega (arith, m.most (length d.past) (rw h.0.fanned at h.0.few.asked), one-side d.by_first (not (is_closed d)), one-side d.by_second (not (is_closed d)), few-rounds rules k ds m h.1)
 
   -- the passes on open questions are few
 
@@ -208,15 +210,15 @@ module _ (laws : BisectionLaws) where
         over-asking k n ds,
       )
 
-  asked-once : (fan p : ℕ) (q : Question) (d : Bisection) (ds : List Bisection) (x y : Bool) →
-      (if x || y then Some (question_of fan d) else question_in fan p ds) ≡ Some q → (question_in fan p ds ≡ Some q → 1 ≤ asking ds p) → 1 ≤ one_if x + one_if y + asking ds p
-  asked-once fan p q d ds true y e r = omega arith
-  asked-once fan p q d ds false true e r = omega arith
-  asked-once fan p q d ds false false e r = omega (arith, r e)
+  asked-once : (p : ℕ) (q : Question) (d : Bisection) (ds : List Bisection) (x y : Bool) →
+      (if x || y then Some (question_of d) else question_in p ds) ≡ Some q → (question_in p ds ≡ Some q → 1 ≤ asking ds p) → 1 ≤ one_if x + one_if y + asking ds p
+  asked-once p q d ds true y e r = omega arith
+  asked-once p q d ds false true e r = omega arith
+  asked-once p q d ds false false e r = omega (arith, r e)
 
-  asking-asked : (fan p : ℕ) (q : Question) (ds : List Bisection) → question_in fan p ds ≡ Some q → 1 ≤ asking ds p
-  asking-asked fan p q [] e = absurd (cc)
-  asking-asked fan p q (d ∷ ds) e = asked-once fan p q d ds (asks_first p d) (asks_second p d) e (asking-asked fan p q ds)
+  asking-asked : (p : ℕ) (q : Question) (ds : List Bisection) → question_in p ds ≡ Some q → 1 ≤ asking ds p
+  asking-asked p q [] e = absurd (cc)
+  asking-asked p q (d ∷ ds) e = asked-once p q d ds (asks_first p d) (asks_second p d) e (asking-asked p q ds)
 
   is-missing : (s : Option Settled) → one_if (claim_missing (Some s)) ≡ one_if (is_none s)
   is-missing (Some s) = refl
@@ -238,12 +240,12 @@ module _ (laws : BisectionLaws) where
       total-more most x (total xs) (one_if (claim_missing (Some s))) (one_if (is_none s)) (g k) (missing ss) (over (k + 1) (length ss) g) (is-missing s) here rest
 
   few-by : (rules : Rules) (p n : ℕ) (q : Question) (t : Record) (b : Bool) → n ≤ rules.patience →
-      (if b then Some claim_question else question_in rules.play.fan p t.disputes) ≡ Some q → n ≤ rules.patience * (one_if b + asking t.disputes p)
+      (if b then Some claim_question else question_in p t.disputes) ≡ Some q → n ≤ rules.patience * (one_if b + asking t.disputes p)
   few-by rules p n q t true le e =
       let one : rules.patience * 1 ≤ rules.patience * (1 + asking t.disputes p) = mul-le-mul_left rules.patience (omega arith) in
       omega (arith, one)
   few-by rules p n q t false le e =
-      let one : rules.patience * 1 ≤ rules.patience * (0 + asking t.disputes p) = mul-le-mul_left rules.patience (omega (arith, asking-asked rules.play.fan p q t.disputes e)) in
+      let one : rules.patience * 1 ≤ rules.patience * (0 + asking t.disputes p) = mul-le-mul_left rules.patience (omega (arith, asking-asked p q t.disputes e)) in
       omega (arith, one)
 
   few-at : (rules : Rules) (says : Says) (st : MatchState) (p : ℕ) → (passes_of st p ≡ 0) ⊎ ((q : Question) × (open_question rules st.record_ p ≡ Some q) × IsCount rules says p q (passes_of st p)) →
@@ -276,7 +278,7 @@ module _ (laws : BisectionLaws) where
       spent-settled rules.patience n (settled_count st.record_) (settled_count (settle rules p s st.record_)) (total st.passed) (total (slice_set st.passed (p - 1) 0)) (passes_of st p) le
       (count-settle rules p s q st.record_ e) (omega (arith, total-set st.passed (p - 1) 0 lt)) few
 
-  few-moved : (rules : Rules) (p : ℕ) (st : MatchState) (o : Option Settled) → 1 < rules.play.fan → 0 < rules.bound → AllFew rules st.record_.disputes → AllFew rules (moved rules st p o).record_.disputes
+  few-moved : (rules : Rules) (p : ℕ) (st : MatchState) (o : Option Settled) → 1 < rules.fan → 0 < rules.bound → AllFew rules st.record_.disputes → AllFew rules (moved rules st p o).record_.disputes
   few-moved rules p st None more long h = h
   few-moved rules p st (Some s) more long h = (few-settle laws) rules p s st.record_ more long h
 
@@ -288,7 +290,7 @@ module _ (laws : BisectionLaws) where
   length-moved rules p st None = nat-length st.passed (p - 1) (passes_of st p + 1)
   length-moved rules p st (Some s) = nat-length st.passed (p - 1) 0
 
-  pub spent-turn : (rules : Rules) (says : Says) → 1 < rules.play.fan → 0 < rules.bound → (n : ℕ) (st : MatchState) (p : ℕ) (q : Question) → 0 < p → open_question rules st.record_ p ≡ Some q →
+  pub spent-turn : (rules : Rules) (says : Says) → 1 < rules.fan → 0 < rules.bound → (n : ℕ) (st : MatchState) (p : ℕ) (q : Question) → 0 < p → open_question rules st.record_ p ≡ Some q →
       IsSpent rules says n st → IsSpent rules says (suc n) (turn rules says st p q)
   spent-turn rules says more long n st p q some asked i =
       let o : Option Settled = settled_by rules q (passes_of st p) (says p q (passes_of st p)) in
@@ -323,7 +325,7 @@ module _ (laws : BisectionLaws) where
       let e : (p + 1) * (m + (2 * (k + 1)) * (m - 1)) ≡ (p + 1) * (m + 2 * (m - 1) * (k + 1)) = ap (λ (z : ℕ). (p + 1) * (m + z)) (omega arith) in
       omega (arith, le, few, u, e)
 
-  pub spent-few : (rules : Rules) (says : Says) (n k : ℕ) (st : MatchState) → 0 < rules.provers → IsMost rules.play.fan rules.bound k → IsSpent rules says n st → n ≤ most_entries rules k
+  pub spent-few : (rules : Rules) (says : Says) (n k : ℕ) (st : MatchState) → 0 < rules.provers → IsMost rules.fan rules.bound k → IsSpent rules says n st → n ≤ most_entries rules k
   spent-few rules says n k st some m i =
       enough-by n rules.patience rules.provers k (length st.record_.disputes) (missing st.record_.claims) (there st.record_.claims) (answered st.record_.disputes) (awaited st.record_.disputes) (total st.passed)
       i.entries
@@ -335,7 +337,7 @@ module _ (laws : BisectionLaws) where
   pub spare_is_enough : SpareIsEnough
   spare_is_enough rules says ps k playable m legal =
       let some : 0 < rules.provers = playable.some in
-      let more : 1 < rules.play.fan = omega (arith, playable.halves) in
+      let more : 1 < rules.fan = playable.parted in
       let long : 0 < rules.bound = playable.steps in
       let i : IsSpent rules says (0 + length ps) (turns rules says ps (begun rules)) =
       (turns-keep laws) rules says (IsSpent rules says) (spent-turn rules says more long) ps 0 (begun rules) legal (spent-begun rules says) in

@@ -23,14 +23,14 @@ use Rattle.tournament.proofs.SidesLemmas.{SameSides, sides-first, sides-second}
 use Rattle.tournament.specs.Bracket.{Record, claim_question, is_out_by, is_out_in, claim_in, also, live_from, live, Taken, passed_over, take_other, pairs_of, pairs, last_stage, disputes_of, all_there, is_stage_due, stage_opened, nothing_settled, asks_first, asks_second, question_in, claim_missing, open_question, settled_in, put, settle, is_complete}
 use Rattle.tournament.specs.Settling.{after}
 use Rattle.tournament.specs.Fitting.{MaySettle, AllFit}
-use Rattle.tournament.specs.Theorem.{Stays, HasTrueClaimSoFar, HasTrueClaim, TrueIn, AllTrueIn, AreTrue, RightIn, AllRightIn, AllProvedIn}
+use Rattle.tournament.specs.Theorem.{Stays, is_out_by_claim, HasTrueClaimSoFar, HasTrueClaim, TrueIn, AllTrueIn, AreTrue, RightIn, AllRightIn, AllProvedIn}
 use Rattle.bisect_game.specs.Laws.{BisectionLaws}
 
 -- a dispute in play, in which one prover, whose claim is true, is right so long as its answers are true
 pub record IsGood (rules : Rules) (t : Truth) (claims : List (Option Settled)) (p : ℕ) (d : Bisection) : Type 0 where
   pub play : IsPlay rules d
-  pub right_first : d.first ≡ p → HasTrueClaim t claims p → KeepsRight t rules.play.fan First d
-  pub right_second : d.second ≡ p → HasTrueClaim t claims p → KeepsRight t rules.play.fan Second d
+  pub right_first : d.first ≡ p → HasTrueClaim t claims p → KeepsRight t First d
+  pub right_second : d.second ≡ p → HasTrueClaim t claims p → KeepsRight t Second d
 
 abbrev pub AllGood : Rules → Truth → List (Option Settled) → ℕ → List Bisection → Type 0
 AllGood rules t claims p [] = Unit {0}
@@ -75,7 +75,7 @@ FitClaims r (s ∷ ss) = IsFitSoFar r kind.Claim s × FitClaims r ss
 pub record IsKept (rules : Rules) (t : Truth) (p : ℕ) (r : Record) : Type 0 where
   pub good : AllGood rules t r.claims p r.disputes
   pub begun : all_there r.claims ≡ false → r.disputes ≡ []
-  pub fit : FitClaims rules.play.ruling r.claims
+  pub fit : FitClaims rules.ruling r.claims
 
 module _ (laws : BisectionLaws) where
   good-both : (rules : Rules) (t : Truth) (claims : List (Option Settled)) (p : ℕ) (ds es : List Bisection) → AllGood rules t claims p ds → AllGood rules t claims p es → AllGood rules t claims p (ds ++ es)
@@ -88,42 +88,42 @@ module _ (laws : BisectionLaws) where
   asked true (Some s) c e = absurd (cc)
   asked false o c e = absurd (cc)
 
-  good-first : (rules : Rules) (t : Truth) (claims : List (Option Settled)) (p : ℕ) (s : Settled) (d : Bisection) → rules.play.fan ≡ 2 → IsFair rules.play.ruling → IsRun rules t → IsAsked d.by_first d.close →
-      IsFit rules.play.ruling (kind_over rules.play.fan d.place.lo d.place.hi) s → IsGood rules t claims p d → SameSides d (settle_first rules.play s d) →
-      IsGood rules t claims p (settle_first rules.play s d)
-  good-first rules t claims p s d more fair run a fit g k = record {
-    play = laws.invariant.play rules First s d more fit g.play;
-    right_first = λ same claim. laws.invariant.right rules t First s d First more fair run (rw (a.missing, a.still) refl) fit g.play (g.right_first (sym k.first ∙ same) claim);
-    right_second = λ same claim. laws.invariant.right rules t First s d Second more fair run (rw (a.missing, a.still) refl) fit g.play (g.right_second (sym k.second ∙ same) claim);
+  good-first : (rules : Rules) (t : Truth) (claims : List (Option Settled)) (p : ℕ) (s : Settled) (d : Bisection) → IsFair rules.ruling → IsRun rules t → IsAsked d.by_first d.close →
+      IsFit rules.ruling (kind_over d.fan d.place.lo d.place.hi) s → IsGood rules t claims p d → SameSides d (settle_first rules.ruling s d) →
+      IsGood rules t claims p (settle_first rules.ruling s d)
+  good-first rules t claims p s d fair run a fit g k = record {
+    play = laws.invariant.play rules First s d fit g.play;
+    right_first = λ same claim. laws.invariant.right rules t First s d First fair run (rw (a.missing, a.still) refl) fit g.play (g.right_first (sym k.first ∙ same) claim);
+    right_second = λ same claim. laws.invariant.right rules t First s d Second fair run (rw (a.missing, a.still) refl) fit g.play (g.right_second (sym k.second ∙ same) claim);
   }
 
-  good-second : (rules : Rules) (t : Truth) (claims : List (Option Settled)) (p : ℕ) (s : Settled) (d : Bisection) → rules.play.fan ≡ 2 → IsFair rules.play.ruling → IsRun rules t → IsAsked d.by_second d.close →
-      IsFit rules.play.ruling (kind_over rules.play.fan d.place.lo d.place.hi) s → IsGood rules t claims p d → SameSides d (settle_second rules.play s d) →
-      IsGood rules t claims p (settle_second rules.play s d)
-  good-second rules t claims p s d more fair run a fit g k = record {
-    play = laws.invariant.play rules Second s d more fit g.play;
-    right_first = λ same claim. laws.invariant.right rules t Second s d First more fair run (rw (a.missing, a.still) refl) fit g.play (g.right_first (sym k.first ∙ same) claim);
-    right_second = λ same claim. laws.invariant.right rules t Second s d Second more fair run (rw (a.missing, a.still) refl) fit g.play (g.right_second (sym k.second ∙ same) claim);
+  good-second : (rules : Rules) (t : Truth) (claims : List (Option Settled)) (p : ℕ) (s : Settled) (d : Bisection) → IsFair rules.ruling → IsRun rules t → IsAsked d.by_second d.close →
+      IsFit rules.ruling (kind_over d.fan d.place.lo d.place.hi) s → IsGood rules t claims p d → SameSides d (settle_second rules.ruling s d) →
+      IsGood rules t claims p (settle_second rules.ruling s d)
+  good-second rules t claims p s d fair run a fit g k = record {
+    play = laws.invariant.play rules Second s d fit g.play;
+    right_first = λ same claim. laws.invariant.right rules t Second s d First fair run (rw (a.missing, a.still) refl) fit g.play (g.right_first (sym k.first ∙ same) claim);
+    right_second = λ same claim. laws.invariant.right rules t Second s d Second fair run (rw (a.missing, a.still) refl) fit g.play (g.right_second (sym k.second ∙ same) claim);
   }
 
-  good-choice : (rules : Rules) (t : Truth) (claims : List (Option Settled)) (p who : ℕ) (s : Settled) (d : Bisection) (ds : List Bisection) (x y : Bool) → rules.play.fan ≡ 2 → IsFair rules.play.ruling → IsRun rules t →
+  good-choice : (rules : Rules) (t : Truth) (claims : List (Option Settled)) (p who : ℕ) (s : Settled) (d : Bisection) (ds : List Bisection) (x y : Bool) → IsFair rules.ruling → IsRun rules t →
       asks_first who d ≡ x → asks_second who d ≡ y →
-      ((q : Question) → (if x || y then Some (question_of rules.play.fan d) else question_in rules.play.fan who ds) ≡ Some q → IsFit rules.play.ruling q.kind s) →
+      ((q : Question) → (if x || y then Some (question_of d) else question_in who ds) ≡ Some q → IsFit rules.ruling q.kind s) →
       IsGood rules t claims p d → AllGood rules t claims p ds →
-      (((q : Question) → question_in rules.play.fan who ds ≡ Some q → IsFit rules.play.ruling q.kind s) → AllGood rules t claims p (settled_in rules who s ds)) →
-      AllGood rules t claims p (if x then settle_first rules.play s d ∷ ds else if y then settle_second rules.play s d ∷ ds else d ∷ settled_in rules who s ds)
-  good-choice rules t claims p who s d ds true y more fair run ex ey fit g gs rest =
-      (good-first rules t claims p s d more fair run (asked (d.first == who) d.by_first d.close ex) (fit (question_of rules.play.fan d) refl) g (sides-first rules.play s d), gs)
-  good-choice rules t claims p who s d ds false true more fair run ex ey fit g gs rest =
-      (good-second rules t claims p s d more fair run (asked (d.second == who) d.by_second d.close ey) (fit (question_of rules.play.fan d) refl) g (sides-second rules.play s d), gs)
-  good-choice rules t claims p who s d ds false false more fair run ex ey fit g gs rest = (g, rest fit)
+      (((q : Question) → question_in who ds ≡ Some q → IsFit rules.ruling q.kind s) → AllGood rules t claims p (settled_in rules who s ds)) →
+      AllGood rules t claims p (if x then settle_first rules.ruling s d ∷ ds else if y then settle_second rules.ruling s d ∷ ds else d ∷ settled_in rules who s ds)
+  good-choice rules t claims p who s d ds true y fair run ex ey fit g gs rest =
+      (good-first rules t claims p s d fair run (asked (d.first == who) d.by_first d.close ex) (fit (question_of d) refl) g (sides-first rules.ruling s d), gs)
+  good-choice rules t claims p who s d ds false true fair run ex ey fit g gs rest =
+      (good-second rules t claims p s d fair run (asked (d.second == who) d.by_second d.close ey) (fit (question_of d) refl) g (sides-second rules.ruling s d), gs)
+  good-choice rules t claims p who s d ds false false fair run ex ey fit g gs rest = (g, rest fit)
 
-  good-settled : (rules : Rules) (t : Truth) (claims : List (Option Settled)) (p who : ℕ) (s : Settled) (ds : List Bisection) → rules.play.fan ≡ 2 → IsFair rules.play.ruling → IsRun rules t →
-      ((q : Question) → question_in rules.play.fan who ds ≡ Some q → IsFit rules.play.ruling q.kind s) → AllGood rules t claims p ds → AllGood rules t claims p (settled_in rules who s ds)
-  good-settled rules t claims p who s [] more fair run fit g = tt
-  good-settled rules t claims p who s (d ∷ ds) more fair run fit g =
-      good-choice rules t claims p who s d ds (asks_first who d) (asks_second who d) more fair run refl refl fit g.0 g.1
-      (λ further. good-settled rules t claims p who s ds more fair run further g.1)
+  good-settled : (rules : Rules) (t : Truth) (claims : List (Option Settled)) (p who : ℕ) (s : Settled) (ds : List Bisection) → IsFair rules.ruling → IsRun rules t →
+      ((q : Question) → question_in who ds ≡ Some q → IsFit rules.ruling q.kind s) → AllGood rules t claims p ds → AllGood rules t claims p (settled_in rules who s ds)
+  good-settled rules t claims p who s [] fair run fit g = tt
+  good-settled rules t claims p who s (d ∷ ds) fair run fit g =
+      good-choice rules t claims p who s d ds (asks_first who d) (asks_second who d) fair run refl refl fit g.0 g.1
+      (λ further. good-settled rules t claims p who s ds fair run further g.1)
 
   -- the live provers have the claims that were settled, and those paired have different roots
 
@@ -159,6 +159,7 @@ module _ (laws : BisectionLaws) where
       let at : k + 1 - 1 ≡ k = omega arith in
       (record { numbered = omega arith; is = rw at e }, h)
   live-choice claims k (Some (Given (answer.Root x))) xs false e h = h
+  live-choice claims k (Some (Given (answer.Roots rs))) xs false e h = h
   live-choice claims k (Some (Given (answer.Step x))) xs false e h = h
   live-choice claims k (Some (Faulty a)) xs false e h = h
   live-choice claims k (Some Spent) xs false e h = h
@@ -174,22 +175,22 @@ module _ (laws : BisectionLaws) where
   -- new disputes are good
 
   true-root : (rules : Rules) (t : Truth) (claims : List (Option Settled)) (p : ℕ) (x : ℕ × Claim) → IsRun rules t → HasClaim claims x → x.0 ≡ p → HasTrueClaim t claims p →
-      rules.play.ruling.root_of x.1 ≡ t.root rules.bound
+      rules.ruling.root_of x.1 ≡ t.root rules.bound
   true-root rules t claims p x run h same claim =
       let at : slice_get claims (p - 1) ≡ Some (Some (Given (answer.Claim x.1))) = ap (λ (n : ℕ). slice_get claims (n - 1)) (sym same) ∙ h.is in
       let c : x.1 ≡ t.claim = cc in
-      ap rules.play.ruling.root_of c ∙ run.ends
+      ap rules.ruling.root_of c ∙ run.ends
 
-  good-new : (rules : Rules) (g : ℕ) (t : Truth) (claims : List (Option Settled)) (p n : ℕ) (ps : List ((ℕ × Claim) × (ℕ × Claim))) → 0 < rules.bound → IsRun rules t →
-      AllPaired rules.play.ruling claims ps → AllGood rules t claims p (disputes_of rules g n ps)
-  good-new rules g t claims p n [] long run h = tt
-  good-new rules g t claims p n (x ∷ ps) long run h = (
+  good-new : (rules : Rules) (g : ℕ) (t : Truth) (claims : List (Option Settled)) (p n : ℕ) (ps : List ((ℕ × Claim) × (ℕ × Claim))) → 1 < rules.fan → 0 < rules.bound → IsRun rules t →
+      AllPaired rules.ruling claims ps → AllGood rules t claims p (disputes_of rules g n ps)
+  good-new rules g t claims p n [] more long run h = tt
+  good-new rules g t claims p n (x ∷ ps) more long run h = (
     record {
-      play = record { sound = record { some = long; short = omega arith; differ = h.0.differ }; fit_first = tt; fit_second = tt };
+      play = record { parted = more; sound = record { some = long; short = omega arith; differ = h.0.differ }; fit_first = tt; fit_second = tt };
       right_first = λ same claim truthful. record { agreed = sym run.begins; own = true-root rules t claims p x.0 run h.0.first same claim; stays = refl };
       right_second = λ same claim truthful. record { agreed = sym run.begins; own = true-root rules t claims p x.1 run h.0.second same claim; stays = refl };
     },
-    good-new rules g t claims p (n + 1) ps long run h.1,
+    good-new rules g t claims p (n + 1) ps more long run h.1,
   )
 
   -- claims that fit
@@ -209,19 +210,19 @@ module _ (laws : BisectionLaws) where
   missing-there (Some s ∷ ss) zero e = absurd (cc)
   missing-there (Some s ∷ ss) (suc k) e = missing-there ss k e
 
-  kept-put : (rules : Rules) (t : Truth) (p who : ℕ) (s : Settled) (r : Record) (b : Bool) → claim_missing (slice_get r.claims (who - 1)) ≡ b → rules.play.fan ≡ 2 → IsFair rules.play.ruling → IsRun rules t →
-      ((q : Question) → (if b then Some claim_question else question_in rules.play.fan who r.disputes) ≡ Some q → IsFit rules.play.ruling q.kind s) → IsKept rules t p r →
+  kept-put : (rules : Rules) (t : Truth) (p who : ℕ) (s : Settled) (r : Record) (b : Bool) → claim_missing (slice_get r.claims (who - 1)) ≡ b → IsFair rules.ruling → IsRun rules t →
+      ((q : Question) → (if b then Some claim_question else question_in who r.disputes) ≡ Some q → IsFit rules.ruling q.kind s) → IsKept rules t p r →
       IsKept rules t p (if b then record r { claims = slice_set r.claims (who - 1) (Some s) } else record r { disputes = settled_in rules who s r.disputes })
-  kept-put rules t p who s r true e more fair run fit k =
+  kept-put rules t p who s r true e fair run fit k =
       let none : r.disputes ≡ [] = k.begun (missing-there r.claims (who - 1) e) in
       record {
         good = rw none tt;
         begun = λ _. none;
-        fit = fit-set rules.play.ruling r.claims (who - 1) s k.fit (fit claim_question refl);
+        fit = fit-set rules.ruling r.claims (who - 1) s k.fit (fit claim_question refl);
       }
-  kept-put rules t p who s r false e more fair run fit k =
+  kept-put rules t p who s r false e fair run fit k =
       record {
-        good = good-settled rules t r.claims p who s r.disputes more fair run fit k.good;
+        good = good-settled rules t r.claims p who s r.disputes fair run fit k.good;
         begun = λ (missing : all_there r.claims ≡ false). rw (k.begun missing) refl;
         fit = k.fit;
       }
@@ -230,33 +231,33 @@ module _ (laws : BisectionLaws) where
   and-first true b e = refl
   and-first false b e = absurd (cc)
 
-  kept-opened : (rules : Rules) (t : Truth) (p : ℕ) (r : Record) → 0 < rules.bound → IsRun rules t → IsKept rules t p r → IsKept rules t p (stage_opened rules r)
-  kept-opened rules t p r long run k =
+  kept-opened : (rules : Rules) (t : Truth) (p : ℕ) (r : Record) → 1 < rules.fan → 0 < rules.bound → IsRun rules t → IsKept rules t p r → IsKept rules t p (stage_opened rules r)
+  kept-opened rules t p r more long run k =
       elim (either (is_stage_due rules r)) [
         | inl due ↦
             let there : all_there r.claims ≡ true = and-first _ _ due in
             rw (opened-due rules r due) (record {
               good = good-both rules t r.claims p r.disputes _ k.good
-                  (good-new rules (last_stage r.disputes + 1) t r.claims p (length r.disputes + 1) (pairs rules r) long run (pairs-right rules.play.ruling r.claims rules.provers (live r) (live-right r.claims r.disputes 0 r.claims (λ i. ap (slice_get r.claims) (omega arith)))));
+                  (good-new rules (last_stage r.disputes + 1) t r.claims p (length r.disputes + 1) (pairs rules r) more long run (pairs-right rules.ruling r.claims rules.provers (live r) (live-right r.claims r.disputes 0 r.claims (λ i. ap (slice_get r.claims) (omega arith)))));
               begun = λ (missing : all_there r.claims ≡ false). cc;
               fit = k.fit;
             })
         | inr not_due ↦ rw (opened-not rules r not_due) k
       ]
 
-  fit-asked : (rules : Rules) (r : Record) (p : ℕ) (s : Settled) → MaySettle rules r p s → (q : Question) → open_question rules r p ≡ Some q → IsFit rules.play.ruling q.kind s
+  fit-asked : (rules : Rules) (r : Record) (p : ℕ) (s : Settled) → MaySettle rules r p s → (q : Question) → open_question rules r p ≡ Some q → IsFit rules.ruling q.kind s
   fit-asked rules r p s m q e =
       let one : m.question ≡ q = let both_ : ◌≡◌ {A = Option Question} (Some m.question) (Some q) = sym m.asked ∙ e in cc in
       rw (← one) m.fits
 
-  kept-after : (rules : Rules) (t : Truth) (p : ℕ) (es : List (ℕ × Settled)) (r : Record) → rules.play.fan ≡ 2 → 0 < rules.bound → IsFair rules.play.ruling → IsRun rules t →
+  kept-after : (rules : Rules) (t : Truth) (p : ℕ) (es : List (ℕ × Settled)) (r : Record) → 1 < rules.fan → 0 < rules.bound → IsFair rules.ruling → IsRun rules t →
       AllFit rules es r → IsKept rules t p r → IsKept rules t p (after rules es r)
   unfolding settle
   kept-after rules t p [] r more long fair run fit k = k
   kept-after rules t p (e ∷ es) r more long fair run fit k =
       kept-after rules t p es (settle rules e.0 e.1 r) more long fair run fit.1
-      (kept-opened rules t p (put rules e.0 e.1 r) long run
-      (kept-put rules t p e.0 e.1 r (claim_missing (slice_get r.claims (e.0 - 1))) refl more fair run (fit-asked rules r e.0 e.1 fit.0) k))
+      (kept-opened rules t p (put rules e.0 e.1 r) more long run
+      (kept-put rules t p e.0 e.1 r (claim_missing (slice_get r.claims (e.0 - 1))) refl fair run (fit-asked rules r e.0 e.1 fit.0) k))
 
   -- truthful provers stay
 
@@ -295,10 +296,10 @@ module _ (laws : BisectionLaws) where
       (λ e. let r : IsRight t Second d = here.second (eqb-is d.second p e) in r.stays) in
       (rw (no, rest.0) refl, (here, rest.1))
 
-  pub kept-start : (rules : Rules) (t : Truth) (p : ℕ) (es : List (ℕ × Settled)) → rules.play.fan ≡ 2 → 0 < rules.bound → IsFair rules.play.ruling → IsRun rules t → AllFit rules es (nothing_settled rules) →
+  pub kept-start : (rules : Rules) (t : Truth) (p : ℕ) (es : List (ℕ × Settled)) → 1 < rules.fan → 0 < rules.bound → IsFair rules.ruling → IsRun rules t → AllFit rules es (nothing_settled rules) →
       IsKept rules t p (after rules es (nothing_settled rules))
   kept-start rules t p es more long fair run fit =
-      kept-after rules t p es (nothing_settled rules) more long fair run fit (record { good = tt; begun = λ _. refl; fit = fit-none rules.play.ruling rules.provers })
+      kept-after rules t p es (nothing_settled rules) more long fair run fit (record { good = tt; begun = λ _. refl; fit = fit-none rules.ruling rules.provers })
 
   proved-all : (rules : Rules) (t : Truth) (claims : List (Option Settled)) (p : ℕ) (ds : List Bisection) → IsRun rules t → AllGood rules t claims p ds → AllTrueIn rules t p ds → AllRightIn t p ds → AllProvedIn rules p ds
   proved-all rules t claims p [] run g true_ right = tt
@@ -310,29 +311,34 @@ module _ (laws : BisectionLaws) where
     proved-all rules t claims p ds run g.1 true_.1 right.1,
   )
 
-  stays-from : (rules : Rules) (t : Truth) (p : ℕ) (r : Record) → 0 < p → IsRun rules t → IsKept rules t p r → AllTrueIn rules t p r.disputes → is_out_in r.disputes p ≡ false → AllRightIn t p r.disputes → Stays rules t p r
-  stays-from rules t p r some run k true_ out right = record {
-    is_live = λ claim. live-contains t p r some claim out;
+  not-out-by-claim : (t : Truth) (claims : List (Option Settled)) (p : ℕ) → HasTrueClaimSoFar t claims p → is_out_by_claim (slice_get claims (p - 1)) ≡ false
+  not-out-by-claim t claims p (inl e) = rw e refl
+  not-out-by-claim t claims p (inr e) = rw e refl
+
+  stays-from : (rules : Rules) (t : Truth) (p : ℕ) (r : Record) → 0 < p → IsRun rules t → IsKept rules t p r → HasTrueClaimSoFar t r.claims p → AllTrueIn rules t p r.disputes → is_out_in r.disputes p ≡ false → AllRightIn t p r.disputes → Stays rules t p r
+  stays-from rules t p r some run k so_far true_ out right = record {
+    is_live = rw (not-out-by-claim t r.claims p so_far, out) refl;
+    is_listed = λ claim. live-contains t p r some claim out;
     not_out = out;
     right = right;
     proved = proved-all rules t r.claims p r.disputes run k.good true_ right;
   }
 
-  stays-none : (rules : Rules) (t : Truth) (p : ℕ) (r : Record) → 0 < p → IsRun rules t → IsKept rules t p r → AllTrueIn rules t p r.disputes → r.disputes ≡ [] → Stays rules t p r
-  stays-none rules t p r some run k true_ e = stays-from rules t p r some run k true_ (rw e refl) (rw e tt)
+  stays-none : (rules : Rules) (t : Truth) (p : ℕ) (r : Record) → 0 < p → IsRun rules t → IsKept rules t p r → HasTrueClaimSoFar t r.claims p → AllTrueIn rules t p r.disputes → r.disputes ≡ [] → Stays rules t p r
+  stays-none rules t p r some run k so_far true_ e = stays-from rules t p r some run k so_far true_ (rw e refl) (rw e tt)
 
-  pub settled_stay : (rules : Rules) (t : Truth) (es : List (ℕ × Settled)) (p : ℕ) → ArePlayable rules → IsFair rules.play.ruling → IsRun rules t → 0 < p →
+  pub settled_stay : (rules : Rules) (t : Truth) (es : List (ℕ × Settled)) (p : ℕ) → ArePlayable rules → IsFair rules.ruling → IsRun rules t → 0 < p →
       AllFit rules es (nothing_settled rules) → AreTrue rules t p (after rules es (nothing_settled rules)) → Stays rules t p (after rules es (nothing_settled rules))
   settled_stay rules t es p playable fair run numbered fit true_ =
-      let more : rules.play.fan ≡ 2 = playable.halves in
+      let more : 1 < rules.fan = playable.parted in
       let long : 0 < rules.bound = playable.steps in
       let k : IsKept rules t p (after rules es (nothing_settled rules)) = kept-start rules t p es more long fair run fit in
       elim true_.claim [
-        | inl missing ↦ stays-none rules t p (after rules es (nothing_settled rules)) numbered run k true_.disputes (k.begun (missing-there (after rules es (nothing_settled rules)).claims (p - 1) (ap claim_missing missing)))
+        | inl missing ↦ stays-none rules t p (after rules es (nothing_settled rules)) numbered run k true_.claim true_.disputes (k.begun (missing-there (after rules es (nothing_settled rules)).claims (p - 1) (ap claim_missing missing)))
         | inr claim ↦
             let s : (_ ≡ false) × AllRightIn t p (after rules es (nothing_settled rules)).disputes =
             stays-all rules t (after rules es (nothing_settled rules)).claims p (after rules es (nothing_settled rules)).disputes claim k.good true_.disputes in
-            stays-from rules t p (after rules es (nothing_settled rules)) numbered run k true_.disputes s.0 s.1
+            stays-from rules t p (after rules es (nothing_settled rules)) numbered run k true_.claim true_.disputes s.0 s.1
       ]
 
   -- once nothing is open, the claim is there

@@ -7,25 +7,13 @@ use Rattle.bisect_game.specs.declared.question.Question.{Question}
 use Rattle.bisect_game.specs.declared.settled.Settled.{Settled}
 use Rattle.bisect_game.specs.declared.settled.Close.{Close}
 use Rattle.bisect_game.specs.Bisection.{Bisection, is_closed, question_of, settle_first, settle_second, advanced}
-use Rattle.bisect_game.specs.Rules.{Play, Rules}
+use Rattle.bisect_game.specs.Rules.{Rules}
 use Rattle.bisect_game.specs.Ruling.{Ruling, same_digest}
+use Rattle.tournament.specs.OpenDisputes.{one_if, is_side, open_disputes_of}
 use Rattle.tournament.proofs.OpenedLemmas.{opened-not, opened-due}
 use Rattle.tournament.proofs.ReachLemmas.{either}
 use Rattle.tournament.proofs.SidesLemmas.{SameSides, sides-first, sides-second}
 use Rattle.tournament.specs.Bracket.{Record, claim_question, is_out_in, claim_in, also, live_from, live, Taken, passed_over, take_other, pairs_of, pairs, last_stage, disputes_of, all_there, all_out, put_out, is_stage_due, stage_opened, nothing_settled, asks_first, asks_second, question_in, claim_missing, open_question, settled_in, put, settle}
-
-abbrev pub one_if : Bool → ℕ
-one_if true = 1
-one_if false = 0
-
--- a prover is one of the sides
-abbrev pub touches : ℕ → Bisection → Bool
-touches p d = (d.first == p) || (d.second == p)
-
--- in how many open disputes a prover is
-abbrev pub engaged : ℕ → List Bisection → ℕ
-engaged p [] = 0
-engaged p (d ∷ ds) = one_if (touches p d && not (is_closed d)) + engaged p ds
 
 -- how often a prover stands in a list of live ones
 abbrev times : ℕ → List (ℕ × Claim) → ℕ
@@ -55,17 +43,17 @@ touch false false = omega arith
 
 -- new disputes have each prover as often as the live ones have it
 engaged-by : (rules : Rules) (g : ℕ) (p n k : ℕ) (x : ℕ × Claim) (xs : List (ℕ × Claim)) (t : Taken) → TakenTimes p xs t →
-    engaged p (disputes_of rules g k (pairs_of rules.play.ruling n xs)) ≤ times p xs →
-    ((ys : List (ℕ × Claim)) → engaged p (disputes_of rules g (k + 1) (pairs_of rules.play.ruling n ys)) ≤ times p ys) →
-    engaged p (disputes_of rules g k (elim t [ None ↦ pairs_of rules.play.ruling n xs | Some u ↦ (x, u.0) ∷ pairs_of rules.play.ruling n u.1 ])) ≤ times p (x ∷ xs)
+    open_disputes_of p (disputes_of rules g k (pairs_of rules.ruling n xs)) ≤ times p xs →
+    ((ys : List (ℕ × Claim)) → open_disputes_of p (disputes_of rules g (k + 1) (pairs_of rules.ruling n ys)) ≤ times p ys) →
+    open_disputes_of p (disputes_of rules g k (elim t [ None ↦ pairs_of rules.ruling n xs | Some u ↦ (x, u.0) ∷ pairs_of rules.ruling n u.1 ])) ≤ times p (x ∷ xs)
 engaged-by rules g p n k x xs None c none some = omega (arith, none)
 engaged-by rules g p n k x xs (Some u) c none some = omega (arith, c, some u.1, touch (x.0 == p) (u.0.0 == p))
 
-engaged-new : (rules : Rules) (g : ℕ) (p n k : ℕ) (xs : List (ℕ × Claim)) → engaged p (disputes_of rules g k (pairs_of rules.play.ruling n xs)) ≤ times p xs
+engaged-new : (rules : Rules) (g : ℕ) (p n k : ℕ) (xs : List (ℕ × Claim)) → open_disputes_of p (disputes_of rules g k (pairs_of rules.ruling n xs)) ≤ times p xs
 engaged-new rules g p zero k xs = omega arith
 engaged-new rules g p (suc n) k [] = omega arith
 engaged-new rules g p (suc n) k (x ∷ xs) =
-    engaged-by rules g p n k x xs (take_other rules.play.ruling (rules.play.ruling.root_of x.1) xs) (times-taken rules.play.ruling p (rules.play.ruling.root_of x.1) xs)
+    engaged-by rules g p n k x xs (take_other rules.ruling (rules.ruling.root_of x.1) xs) (times-taken rules.ruling p (rules.ruling.root_of x.1) xs)
     (engaged-new rules g p n k xs) (λ ys. engaged-new rules g p n (k + 1) ys)
 
 -- a list of live provers repeats nobody
@@ -110,11 +98,11 @@ times-once ds p k (s ∷ ss) =
 -- what is true of every record of a match: a prover is in at most one open dispute, and only provers are
 pub record IsApart (rules : Rules) (p : ℕ) (t : Record) : Type 0 where
   pub claims : length t.claims ≡ rules.provers
-  pub one : engaged p t.disputes ≤ 1
-  pub known : rules.provers < p → engaged p t.disputes ≡ 0
-  pub numbered : p ≡ 0 → engaged p t.disputes ≡ 0
+  pub one : open_disputes_of p t.disputes ≤ 1
+  pub known : rules.provers < p → open_disputes_of p t.disputes ≡ 0
+  pub numbered : p ≡ 0 → open_disputes_of p t.disputes ≡ 0
 
-pub engaged-both : (p : ℕ) (ds es : List Bisection) → engaged p (ds ++ es) ≡ engaged p ds + engaged p es
+pub engaged-both : (p : ℕ) (ds es : List Bisection) → open_disputes_of p (ds ++ es) ≡ open_disputes_of p ds + open_disputes_of p es
 engaged-both p [] es = omega arith
 engaged-both p (d ∷ ds) es = omega (arith, engaged-both p ds es)
 
@@ -127,11 +115,11 @@ out-closed true (Some c) e = refl
 out-closed false (Some c) e = refl
 out-closed a None e = absurd (cc)
 
-engaged-out : (p : ℕ) (ds : List Bisection) → all_out ds ≡ true → engaged p ds ≡ 0
+engaged-out : (p : ℕ) (ds : List Bisection) → all_out ds ≡ true → open_disputes_of p ds ≡ 0
 engaged-out p [] e = refl
 engaged-out p (d ∷ ds) e =
     let two : (put_out d.close ≡ true) × (all_out ds ≡ true) = both (put_out d.close) (all_out ds) e in
-    omega (arith, out-closed (touches p d) d.close two.0, engaged-out p ds two.1)
+    omega (arith, out-closed (is_side p d) d.close two.0, engaged-out p ds two.1)
 
 apart-opened : (rules : Rules) (p : ℕ) (t : Record) → IsApart rules p t → IsApart rules p (stage_opened rules t)
 apart-opened rules p t a =
@@ -139,10 +127,10 @@ apart-opened rules p t a =
       | inl due ↦
           let two : (all_there t.claims ≡ true) × (_ ≡ true) = both (all_there t.claims) _ due in
           let outs : (all_out t.disputes ≡ true) × (_ ≡ true) = both (all_out t.disputes) _ two.1 in
-          let none : engaged p t.disputes ≡ 0 = engaged-out p t.disputes outs.0 in
-          let sum : engaged p (t.disputes ++ disputes_of rules (last_stage t.disputes + 1) (length t.disputes + 1) (pairs rules t)) ≡ engaged p t.disputes + engaged p (disputes_of rules (last_stage t.disputes + 1) (length t.disputes + 1) (pairs rules t)) =
+          let none : open_disputes_of p t.disputes ≡ 0 = engaged-out p t.disputes outs.0 in
+          let sum : open_disputes_of p (t.disputes ++ disputes_of rules (last_stage t.disputes + 1) (length t.disputes + 1) (pairs rules t)) ≡ open_disputes_of p t.disputes + open_disputes_of p (disputes_of rules (last_stage t.disputes + 1) (length t.disputes + 1) (pairs rules t)) =
           engaged-both p t.disputes (disputes_of rules (last_stage t.disputes + 1) (length t.disputes + 1) (pairs rules t)) in
-          let new : engaged p (disputes_of rules (last_stage t.disputes + 1) (length t.disputes + 1) (pairs rules t)) ≤ times p (live t) = engaged-new rules (last_stage t.disputes + 1) p rules.provers (length t.disputes + 1) (live t) in
+          let new : open_disputes_of p (disputes_of rules (last_stage t.disputes + 1) (length t.disputes + 1) (pairs rules t)) ≤ times p (live t) = engaged-new rules (last_stage t.disputes + 1) p rules.provers (length t.disputes + 1) (live t) in
           rw (opened-due rules t due) (record {
             claims = a.claims;
             one = omega (arith, sum, none, new, times-once t.disputes p 1 t.claims);
@@ -169,21 +157,21 @@ one-less true false = omega arith
 one-less false b = omega arith
 
 -- who is settled in an open dispute is in no more open disputes than before
-engaged-same : (p : ℕ) (d e : Bisection) → SameSides d e → is_closed d ≡ false → one_if (touches p e && not (is_closed e)) ≤ one_if (touches p d && not (is_closed d))
-engaged-same p d e k still = rw (k.first, k.second, still) (one-less (touches p d) (not (is_closed e)))
+engaged-same : (p : ℕ) (d e : Bisection) → SameSides d e → is_closed d ≡ false → one_if (is_side p e && not (is_closed e)) ≤ one_if (is_side p d && not (is_closed d))
+engaged-same p d e k still = rw (k.first, k.second, still) (one-less (is_side p d) (not (is_closed e)))
 
 engaged-choice : (rules : Rules) (p who : ℕ) (s : Settled) (d : Bisection) (ds : List Bisection) (x y : Bool) → asks_first who d ≡ x → asks_second who d ≡ y →
-    engaged p (settled_in rules who s ds) ≤ engaged p ds →
-    engaged p (if x then settle_first rules.play s d ∷ ds else if y then settle_second rules.play s d ∷ ds else d ∷ settled_in rules who s ds) ≤ engaged p (d ∷ ds)
+    open_disputes_of p (settled_in rules who s ds) ≤ open_disputes_of p ds →
+    open_disputes_of p (if x then settle_first rules.ruling s d ∷ ds else if y then settle_second rules.ruling s d ∷ ds else d ∷ settled_in rules who s ds) ≤ open_disputes_of p (d ∷ ds)
 engaged-choice rules p who s d ds true y ex ey r =
     let a : ((d.first == who) ≡ true) × IsOpen d.by_first d.close = opens (d.first == who) d.by_first d.close ex in
-    omega (arith, engaged-same p d (settle_first rules.play s d) (sides-first rules.play s d) a.1.still)
+    omega (arith, engaged-same p d (settle_first rules.ruling s d) (sides-first rules.ruling s d) a.1.still)
 engaged-choice rules p who s d ds false true ex ey r =
     let a : ((d.second == who) ≡ true) × IsOpen d.by_second d.close = opens (d.second == who) d.by_second d.close ey in
-    omega (arith, engaged-same p d (settle_second rules.play s d) (sides-second rules.play s d) a.1.still)
+    omega (arith, engaged-same p d (settle_second rules.ruling s d) (sides-second rules.ruling s d) a.1.still)
 engaged-choice rules p who s d ds false false ex ey r = omega (arith, r)
 
-engaged-settled : (rules : Rules) (p who : ℕ) (s : Settled) (ds : List Bisection) → engaged p (settled_in rules who s ds) ≤ engaged p ds
+engaged-settled : (rules : Rules) (p who : ℕ) (s : Settled) (ds : List Bisection) → open_disputes_of p (settled_in rules who s ds) ≤ open_disputes_of p ds
 engaged-settled rules p who s [] = omega arith
 engaged-settled rules p who s (d ∷ ds) =
     engaged-choice rules p who s d ds (asks_first who d) (asks_second who d) refl refl (engaged-settled rules p who s ds)
@@ -226,19 +214,19 @@ pub or-right : (a b : Bool) → b ≡ true → (a || b) ≡ true
 or-right true b e = refl
 or-right false b e = e
 
-engaged-in : (fan p : ℕ) (q : Question) (d : Bisection) (ds : List Bisection) (u v : Bool) → asks_first p d ≡ u → asks_second p d ≡ v →
-    (if u || v then Some (question_of fan d) else question_in fan p ds) ≡ Some q → (question_in fan p ds ≡ Some q → 1 ≤ engaged p ds) → 1 ≤ engaged p (d ∷ ds)
-engaged-in fan p q d ds true v eu ev e r =
+engaged-in : (p : ℕ) (q : Question) (d : Bisection) (ds : List Bisection) (u v : Bool) → asks_first p d ≡ u → asks_second p d ≡ v →
+    (if u || v then Some (question_of d) else question_in p ds) ≡ Some q → (question_in p ds ≡ Some q → 1 ≤ open_disputes_of p ds) → 1 ≤ open_disputes_of p (d ∷ ds)
+engaged-in p q d ds true v eu ev e r =
     let a : ((d.first == p) ≡ true) × IsOpen d.by_first d.close = opens (d.first == p) d.by_first d.close eu in
     omega (arith, one-touch (d.first == p) (d.second == p) (is_closed d) (or-left _ _ a.0) a.1.still)
-engaged-in fan p q d ds false true eu ev e r =
+engaged-in p q d ds false true eu ev e r =
     let a : ((d.second == p) ≡ true) × IsOpen d.by_second d.close = opens (d.second == p) d.by_second d.close ev in
     omega (arith, one-touch (d.first == p) (d.second == p) (is_closed d) (or-right _ _ a.0) a.1.still)
-engaged-in fan p q d ds false false eu ev e r = omega (arith, r e)
+engaged-in p q d ds false false eu ev e r = omega (arith, r e)
 
-pub engaged-asked : (fan p : ℕ) (q : Question) (ds : List Bisection) → question_in fan p ds ≡ Some q → 1 ≤ engaged p ds
-engaged-asked fan p q [] e = absurd (cc)
-engaged-asked fan p q (d ∷ ds) e = engaged-in fan p q d ds (asks_first p d) (asks_second p d) refl refl e (engaged-asked fan p q ds)
+pub engaged-asked : (p : ℕ) (q : Question) (ds : List Bisection) → question_in p ds ≡ Some q → 1 ≤ open_disputes_of p ds
+engaged-asked p q [] e = absurd (cc)
+engaged-asked p q (d ∷ ds) e = engaged-in p q d ds (asks_first p d) (asks_second p d) refl refl e (engaged-asked p q ds)
 
 -- only a prover of the match is asked
 
@@ -248,12 +236,12 @@ has-claim (s ∷ ss) zero e = omega arith
 has-claim (s ∷ ss) (suc k) e = omega (arith, has-claim ss k e)
 
 prover-by : (rules : Rules) (p : ℕ) (q : Question) (t : Record) (b : Bool) → claim_missing (slice_get t.claims (p - 1)) ≡ b → 0 < p → IsApart rules p t →
-    (if b then Some claim_question else question_in rules.play.fan p t.disputes) ≡ Some q → p ≤ rules.provers
+    (if b then Some claim_question else question_in p t.disputes) ≡ Some q → p ≤ rules.provers
 prover-by rules p q t true eb some a e = omega (arith, has-claim t.claims (p - 1) eb, a.claims)
 prover-by rules p q t false eb some a e =
     elim (either (nat_le p rules.provers)) [
       | inl le ↦ grind (arith, nat_tests)
-      | inr gt ↦ let past : rules.provers < p = grind (arith, nat_tests) in absurd (omega (arith, a.known past, engaged-asked rules.play.fan p q t.disputes e))
+      | inr gt ↦ let past : rules.provers < p = grind (arith, nat_tests) in absurd (omega (arith, a.known past, engaged-asked p q t.disputes e))
     ]
 
 pub is-prover : (rules : Rules) (p : ℕ) (q : Question) (t : Record) → 0 < p → IsApart rules p t → open_question rules t p ≡ Some q → p ≤ rules.provers
@@ -261,13 +249,13 @@ is-prover rules p q t some a e = prover-by rules p q t (claim_missing (slice_get
 
 -- the open question stays while another prover is settled
 
-first-waits : (play : Play) (s : Settled) (d : Bisection) → d.by_second ≡ None → settle_first play s d ≡ record d { by_first = Some s }
+first-waits : (ruling : Ruling) (s : Settled) (d : Bisection) → d.by_second ≡ None → settle_first ruling s d ≡ record d { by_first = Some s }
 unfolding settle_first
-first-waits play s d e = ap (λ (o : Option Settled). advanced play (record d { by_first = Some s }) (Some s) o) e
+first-waits ruling s d e = ap (λ (o : Option Settled). advanced ruling (record d { by_first = Some s }) (Some s) o) e
 
-second-waits : (play : Play) (s : Settled) (d : Bisection) → d.by_first ≡ None → settle_second play s d ≡ record d { by_second = Some s }
+second-waits : (ruling : Ruling) (s : Settled) (d : Bisection) → d.by_first ≡ None → settle_second ruling s d ≡ record d { by_second = Some s }
 unfolding settle_second
-second-waits play s d e = ap (λ (o : Option Settled). advanced play (record d { by_second = Some s }) o (Some s)) e
+second-waits ruling s d e = ap (λ (o : Option Settled). advanced ruling (record d { by_second = Some s }) o (Some s)) e
 
 and-false : (a b : Bool) → a ≡ false → (a && b) ≡ false
 and-false a b e = rw e refl
@@ -276,55 +264,55 @@ neither : (a b : Bool) → (a || b) ≡ false → (a ≡ false) × (b ≡ false)
 neither true b e = absurd (cc)
 neither false b e = (refl, e)
 
-not-asked : (p : ℕ) (d : Bisection) → touches p d ≡ false → (asks_first p d || asks_second p d) ≡ false
+not-asked : (p : ℕ) (d : Bisection) → is_side p d ≡ false → (asks_first p d || asks_second p d) ≡ false
 not-asked p d e =
     let two : ((d.first == p) ≡ false) × ((d.second == p) ≡ false) = neither (d.first == p) (d.second == p) e in
     rw (two.0, two.1) refl
 
 -- a prover asked further on is no side of an open dispute before
-apart-here : (fan p : ℕ) (q : Question) (d : Bisection) (ds : List Bisection) → engaged p (d ∷ ds) ≤ 1 → is_closed d ≡ false → question_in fan p ds ≡ Some q → touches p d ≡ false
-apart-here fan p q d ds le still e =
-    elim (either (touches p d)) [
-      | inl t ↦ absurd (omega (arith, one-touch (d.first == p) (d.second == p) (is_closed d) t still, engaged-asked fan p q ds e))
+apart-here : (p : ℕ) (q : Question) (d : Bisection) (ds : List Bisection) → open_disputes_of p (d ∷ ds) ≤ 1 → is_closed d ≡ false → question_in p ds ≡ Some q → is_side p d ≡ false
+apart-here p q d ds le still e =
+    elim (either (is_side p d)) [
+      | inl t ↦ absurd (omega (arith, one-touch (d.first == p) (d.second == p) (is_closed d) t still, engaged-asked p q ds e))
       | inr far ↦ far
     ]
 
-passed-by : (fan p : ℕ) (q : Question) (d e : Bisection) (ds : List Bisection) → SameSides d e → touches p d ≡ false → question_in fan p ds ≡ Some q → question_in fan p (e ∷ ds) ≡ Some q
-passed-by fan p q d e ds k apart is =
-    let far : touches p e ≡ false = rw (k.first, k.second) apart in
+passed-by : (p : ℕ) (q : Question) (d e : Bisection) (ds : List Bisection) → SameSides d e → is_side p d ≡ false → question_in p ds ≡ Some q → question_in p (e ∷ ds) ≡ Some q
+passed-by p q d e ds k apart is =
+    let far : is_side p e ≡ false = rw (k.first, k.second) apart in
     rw (not-asked p e far) is
 
 stays-choice : (rules : Rules) (p who : ℕ) (s : Settled) (q : Question) (d : Bisection) (ds : List Bisection) (x y u v : Bool) →
-    asks_first who d ≡ x → asks_second who d ≡ y → asks_first p d ≡ u → asks_second p d ≡ v → who ≢ p → engaged p (d ∷ ds) ≤ 1 →
-    (if u || v then Some (question_of rules.play.fan d) else question_in rules.play.fan p ds) ≡ Some q →
-    (question_in rules.play.fan p ds ≡ Some q → question_in rules.play.fan p (settled_in rules who s ds) ≡ Some q) →
-    question_in rules.play.fan p (if x then settle_first rules.play s d ∷ ds else if y then settle_second rules.play s d ∷ ds else d ∷ settled_in rules who s ds) ≡ Some q
+    asks_first who d ≡ x → asks_second who d ≡ y → asks_first p d ≡ u → asks_second p d ≡ v → who ≢ p → open_disputes_of p (d ∷ ds) ≤ 1 →
+    (if u || v then Some (question_of d) else question_in p ds) ≡ Some q →
+    (question_in p ds ≡ Some q → question_in p (settled_in rules who s ds) ≡ Some q) →
+    question_in p (if x then settle_first rules.ruling s d ∷ ds else if y then settle_second rules.ruling s d ∷ ds else d ∷ settled_in rules who s ds) ≡ Some q
 stays-choice rules p who s q d ds true y true v ex ey eu ev ne le e r =
     let a : ((d.first == who) ≡ true) × IsOpen d.by_first d.close = opens (d.first == who) d.by_first d.close ex in
     let b : ((d.first == p) ≡ true) × IsOpen d.by_first d.close = opens (d.first == p) d.by_first d.close eu in
     absurd (ne (sym (is-eqb d.first who a.0) ∙ is-eqb d.first p b.0))
 stays-choice rules p who s q d ds true y false true ex ey eu ev ne le e r =
     let b : ((d.second == p) ≡ true) × IsOpen d.by_second d.close = opens (d.second == p) d.by_second d.close ev in
-    rw (first-waits rules.play s d b.1.missing, or-right (asks_first p (record d { by_first = Some s })) (asks_second p d) ev) e
+    rw (first-waits rules.ruling s d b.1.missing, or-right (asks_first p (record d { by_first = Some s })) (asks_second p d) ev) e
 stays-choice rules p who s q d ds true y false false ex ey eu ev ne le e r =
     let a : ((d.first == who) ≡ true) × IsOpen d.by_first d.close = opens (d.first == who) d.by_first d.close ex in
-    passed-by rules.play.fan p q d (settle_first rules.play s d) ds (sides-first rules.play s d) (apart-here rules.play.fan p q d ds le a.1.still e) e
+    passed-by p q d (settle_first rules.ruling s d) ds (sides-first rules.ruling s d) (apart-here p q d ds le a.1.still e) e
 stays-choice rules p who s q d ds false true true v ex ey eu ev ne le e r =
     let b : ((d.first == p) ≡ true) × IsOpen d.by_first d.close = opens (d.first == p) d.by_first d.close eu in
-    rw (second-waits rules.play s d b.1.missing, or-left (asks_first p d) (asks_second p (record d { by_second = Some s })) eu) e
+    rw (second-waits rules.ruling s d b.1.missing, or-left (asks_first p d) (asks_second p (record d { by_second = Some s })) eu) e
 stays-choice rules p who s q d ds false true false true ex ey eu ev ne le e r =
     let a : ((d.second == who) ≡ true) × IsOpen d.by_second d.close = opens (d.second == who) d.by_second d.close ey in
     let b : ((d.second == p) ≡ true) × IsOpen d.by_second d.close = opens (d.second == p) d.by_second d.close ev in
     absurd (ne (sym (is-eqb d.second who a.0) ∙ is-eqb d.second p b.0))
 stays-choice rules p who s q d ds false true false false ex ey eu ev ne le e r =
     let a : ((d.second == who) ≡ true) × IsOpen d.by_second d.close = opens (d.second == who) d.by_second d.close ey in
-    passed-by rules.play.fan p q d (settle_second rules.play s d) ds (sides-second rules.play s d) (apart-here rules.play.fan p q d ds le a.1.still e) e
+    passed-by p q d (settle_second rules.ruling s d) ds (sides-second rules.ruling s d) (apart-here p q d ds le a.1.still e) e
 stays-choice rules p who s q d ds false false true v ex ey eu ev ne le e r = rw (eu) e
 stays-choice rules p who s q d ds false false false true ex ey eu ev ne le e r = rw (eu, ev) e
 stays-choice rules p who s q d ds false false false false ex ey eu ev ne le e r = rw (eu, ev) (r e)
 
-stays-settled : (rules : Rules) (p who : ℕ) (s : Settled) (q : Question) (ds : List Bisection) → who ≢ p → engaged p ds ≤ 1 → question_in rules.play.fan p ds ≡ Some q →
-    question_in rules.play.fan p (settled_in rules who s ds) ≡ Some q
+stays-settled : (rules : Rules) (p who : ℕ) (s : Settled) (q : Question) (ds : List Bisection) → who ≢ p → open_disputes_of p ds ≤ 1 → question_in p ds ≡ Some q →
+    question_in p (settled_in rules who s ds) ≡ Some q
 stays-settled rules p who s q [] ne le e = absurd (cc)
 stays-settled rules p who s q (d ∷ ds) ne le e =
     stays-choice rules p who s q d ds (asks_first who d) (asks_second who d) (asks_first p d) (asks_second p d) refl refl refl refl ne le e
@@ -348,12 +336,12 @@ stays-put rules p who s q t false some other ne a e =
       | inr there ↦ rw there (stays-settled rules p who s q t.disputes ne a.one (rw there at e))
     ]
 
-in-append : (fan p : ℕ) (q : Question) (ds es : List Bisection) → question_in fan p ds ≡ Some q → question_in fan p (ds ++ es) ≡ Some q
-in-append fan p q [] es e = absurd (cc)
-in-append fan p q (d ∷ ds) es e =
+in-append : (p : ℕ) (q : Question) (ds es : List Bisection) → question_in p ds ≡ Some q → question_in p (ds ++ es) ≡ Some q
+in-append p q [] es e = absurd (cc)
+in-append p q (d ∷ ds) es e =
     elim (either (asks_first p d || asks_second p d)) [
       | inl here ↦ rw here (rw here at e)
-      | inr there ↦ rw there (in-append fan p q ds es (rw there at e))
+      | inr there ↦ rw there (in-append p q ds es (rw there at e))
     ]
 
 stays-opened : (rules : Rules) (p : ℕ) (q : Question) (t : Record) → open_question rules t p ≡ Some q → open_question rules (stage_opened rules t) p ≡ Some q
@@ -363,7 +351,7 @@ stays-opened rules p q t e =
           rw (opened-due rules t due)
           (elim (either (claim_missing (slice_get t.claims (p - 1)))) [
             | inl here ↦ rw here (rw here at e)
-            | inr there ↦ rw there (in-append rules.play.fan p q t.disputes _ (rw there at e))
+            | inr there ↦ rw there (in-append p q t.disputes _ (rw there at e))
           ])
       | inr not_due ↦ rw (opened-not rules t not_due) e
     ]

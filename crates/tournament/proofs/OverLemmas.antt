@@ -5,61 +5,33 @@ use Rattle.bisect_game.specs.declared.question.Question.{Question}
 use Rattle.bisect_game.specs.declared.settled.Settled.{Settled}
 use Rattle.rd_base.specs.declared.claim.Claim.{Claim}
 use Rattle.bisect_game.specs.declared.settled.Close.{Close}
-use Rattle.bisect_game.specs.Bisection.{Bisection, is_closed, question_of, settle_first, settle_second, advanced, decided, closed_or, went_on}
-use Rattle.bisect_game.specs.Closing.{close_of}
-use Rattle.bisect_game.specs.Rules.{Play, Rules}
+use Rattle.bisect_game.specs.Bisection.{Bisection, is_closed, question_of, settle_first, settle_second}
+use Rattle.bisect_game.specs.Rules.{Rules}
 use Rattle.tournament.proofs.OnceLemmas.{IsApart, both, apart-nothing, apart-settle, engaged-asked, is-prover, or-left, or-right}
 use Rattle.tournament.proofs.OpenedLemmas.{opened-not, opened-due}
 use Rattle.tournament.proofs.ReachLemmas.{either}
 use Rattle.tournament.specs.Bracket.{Record, claim_question, pairs, last_stage, disputes_of, is_stage_due, stage_opened, nothing_settled, asks_first, asks_second, question_in, claim_missing, open_question, settled_in, put, settle, all_there, all_closed, is_complete}
 use Rattle.tournament.specs.Settling.{after}
+use Rattle.bisect_game.specs.OverAnswers.{Waits, IsWaiting}
+use Rattle.bisect_game.specs.declared.side.Side.TheVariants.{First, Second}
 use Rattle.bisect_game.specs.Laws.{BisectionLaws}
 
 -- an open dispute waits for one of its sides
-abbrev pub Moves : Option Settled → Option Settled → Option Close → Type 0
-Moves (Some a) (Some b) None = ⊥
-Moves (Some a) (Some b) (Some c) = Unit {0}
-Moves (Some a) None c = Unit {0}
-Moves None b c = Unit {0}
-
 abbrev pub AllMove : List Bisection → Type 0
 AllMove [] = Unit {0}
-AllMove (d ∷ ds) = Moves d.by_first d.by_second d.close × AllMove ds
+AllMove (d ∷ ds) = IsWaiting d × AllMove ds
 
 -- so somebody is asked in an open one
-pub record IsAsked (fan : ℕ) (ds : List Bisection) : Type 0 where
+pub record IsAsked (ds : List Bisection) : Type 0 where
   pub prover : ℕ
   pub question : Question
-  pub asked : question_in fan prover ds ≡ Some question
+  pub asked : question_in prover ds ≡ Some question
 
 module _ (laws : BisectionLaws) where
-  moves-closed : (a b : Option Settled) (c : Close) → Moves a b (Some c)
-  moves-closed (Some a) (Some b) c = tt
-  moves-closed (Some a) None c = tt
-  moves-closed None b c = tt
-
-  moves-decided : (play : Play) (d : Bisection) (a b : Settled) (o : Option Close) → Moves (closed_or d (went_on play.fan d a b) o).by_first (closed_or d (went_on play.fan d a b) o).by_second (closed_or d (went_on play.fan d a b) o).close
-  moves-decided play d a b (Some c) = moves-closed d.by_first d.by_second c
-  moves-decided play d a b None = tt
-
-  moves-advanced : (play : Play) (d : Bisection) (x y : Option Settled) → d.by_first ≡ x → d.by_second ≡ y → Moves (advanced play d x y).by_first (advanced play d x y).by_second (advanced play d x y).close
-  unfolding decided
-  moves-advanced play d (Some a) (Some b) ex ey = moves-decided play d a b (close_of play.ruling d.place a b)
-  moves-advanced play d (Some a) None ex ey = rw (ex, ey) tt
-  moves-advanced play d None y ex ey = rw (ex) tt
-
-  moves-first : (play : Play) (s : Settled) (d : Bisection) → Moves (settle_first play s d).by_first (settle_first play s d).by_second (settle_first play s d).close
-  unfolding settle_first
-  moves-first play s d = moves-advanced play (record d { by_first = Some s }) (Some s) d.by_second refl refl
-
-  moves-second : (play : Play) (s : Settled) (d : Bisection) → Moves (settle_second play s d).by_first (settle_second play s d).by_second (settle_second play s d).close
-  unfolding settle_second
-  moves-second play s d = moves-advanced play (record d { by_second = Some s }) d.by_first (Some s) refl refl
-
   moves-choice : (rules : Rules) (p : ℕ) (s : Settled) (d : Bisection) (ds : List Bisection) (x y : Bool) → AllMove (d ∷ ds) → AllMove (settled_in rules p s ds) →
-      AllMove (if x then settle_first rules.play s d ∷ ds else if y then settle_second rules.play s d ∷ ds else d ∷ settled_in rules p s ds)
-  moves-choice rules p s d ds true y a r = (moves-first rules.play s d, a.1)
-  moves-choice rules p s d ds false true a r = (moves-second rules.play s d, a.1)
+      AllMove (if x then settle_first rules.ruling s d ∷ ds else if y then settle_second rules.ruling s d ∷ ds else d ∷ settled_in rules p s ds)
+  moves-choice rules p s d ds true y a r = (laws.played.waits rules.ruling First s d, a.1)
+  moves-choice rules p s d ds false true a r = (laws.played.waits rules.ruling Second s d, a.1)
   moves-choice rules p s d ds false false a r = (a.0, r)
 
   moves-settled : (rules : Rules) (p : ℕ) (s : Settled) (ds : List Bisection) → AllMove ds → AllMove (settled_in rules p s ds)
@@ -104,34 +76,34 @@ module _ (laws : BisectionLaws) where
   eqb-same : (n : ℕ) → (n == n) ≡ true
   eqb-same n = grind (arith, nat_tests)
 
-  asked-true : (fan p : ℕ) (d : Bisection) (ds : List Bisection) → (asks_first p d || asks_second p d) ≡ true → IsAsked fan (d ∷ ds)
-  asked-true fan p d ds e = record { prover = p; question = question_of fan d; asked = rw e refl }
+  asked-true : (p : ℕ) (d : Bisection) (ds : List Bisection) → (asks_first p d || asks_second p d) ≡ true → IsAsked (d ∷ ds)
+  asked-true p d ds e = record { prover = p; question = question_of d; asked = rw e refl }
 
-  asked-first : (fan : ℕ) (d : Bisection) (ds : List Bisection) → d.by_first ≡ None → d.close ≡ None → IsAsked fan (d ∷ ds)
-  asked-first fan d ds e f = asked-true fan d.first d ds (or-left (asks_first d.first d) (asks_second d.first d) (rw (eqb-same d.first, e, f) refl))
+  asked-first : (d : Bisection) (ds : List Bisection) → d.by_first ≡ None → d.close ≡ None → IsAsked (d ∷ ds)
+  asked-first d ds e f = asked-true d.first d ds (or-left (asks_first d.first d) (asks_second d.first d) (rw (eqb-same d.first, e, f) refl))
 
-  asked-second : (fan : ℕ) (d : Bisection) (ds : List Bisection) → d.by_second ≡ None → d.close ≡ None → IsAsked fan (d ∷ ds)
-  asked-second fan d ds e f = asked-true fan d.second d ds (or-right (asks_first d.second d) (asks_second d.second d) (rw (eqb-same d.second, e, f) refl))
+  asked-second : (d : Bisection) (ds : List Bisection) → d.by_second ≡ None → d.close ≡ None → IsAsked (d ∷ ds)
+  asked-second d ds e f = asked-true d.second d ds (or-right (asks_first d.second d) (asks_second d.second d) (rw (eqb-same d.second, e, f) refl))
 
-  asked-open : (fan : ℕ) (d : Bisection) (ds : List Bisection) (x y : Option Settled) → d.by_first ≡ x → d.by_second ≡ y → d.close ≡ None → Moves x y None → IsAsked fan (d ∷ ds)
-  asked-open fan d ds (Some a) (Some b) ex ey ec m = absurd m
-  asked-open fan d ds (Some a) None ex ey ec m = asked-second fan d ds ey ec
-  asked-open fan d ds None y ex ey ec m = asked-first fan d ds ex ec
+  asked-open : (d : Bisection) (ds : List Bisection) (x y : Option Settled) → d.by_first ≡ x → d.by_second ≡ y → d.close ≡ None → Waits x y None → IsAsked (d ∷ ds)
+  asked-open d ds (Some a) (Some b) ex ey ec m = absurd m
+  asked-open d ds (Some a) None ex ey ec m = asked-second d ds ey ec
+  asked-open d ds None y ex ey ec m = asked-first d ds ex ec
 
-  asked-further : (fan : ℕ) (d : Bisection) (ds : List Bisection) → IsAsked fan ds → IsAsked fan (d ∷ ds)
-  asked-further fan d ds i =
+  asked-further : (d : Bisection) (ds : List Bisection) → IsAsked ds → IsAsked (d ∷ ds)
+  asked-further d ds i =
       elim (either (asks_first i.prover d || asks_second i.prover d)) [
-        | inl here ↦ asked-true fan i.prover d ds here
+        | inl here ↦ asked-true i.prover d ds here
         | inr further ↦ record { prover = i.prover; question = i.question; asked = rw further i.asked }
       ]
 
-  asked-by : (fan : ℕ) (d : Bisection) (ds : List Bisection) (c : Option Close) → d.close ≡ c → Moves d.by_first d.by_second c → (is_some c && all_closed ds) ≡ false → (all_closed ds ≡ false → IsAsked fan ds) → IsAsked fan (d ∷ ds)
-  asked-by fan d ds (Some c) ec m e r = asked-further fan d ds (r e)
-  asked-by fan d ds None ec m e r = asked-open fan d ds d.by_first d.by_second refl refl ec m
+  asked-by : (d : Bisection) (ds : List Bisection) (c : Option Close) → d.close ≡ c → Waits d.by_first d.by_second c → (is_some c && all_closed ds) ≡ false → (all_closed ds ≡ false → IsAsked ds) → IsAsked (d ∷ ds)
+  asked-by d ds (Some c) ec m e r = asked-further d ds (r e)
+  asked-by d ds None ec m e r = asked-open d ds d.by_first d.by_second refl refl ec m
 
-  asked-some : (fan : ℕ) (ds : List Bisection) → AllMove ds → all_closed ds ≡ false → IsAsked fan ds
-  asked-some fan [] a e = absurd (cc)
-  asked-some fan (d ∷ ds) a e = asked-by fan d ds d.close refl a.0 e (asked-some fan ds a.1)
+  asked-some : (ds : List Bisection) → AllMove ds → all_closed ds ≡ false → IsAsked ds
+  asked-some [] a e = absurd (cc)
+  asked-some (d ∷ ds) a e = asked-by d ds d.close refl a.0 e (asked-some ds a.1)
 
   -- claims
 
@@ -162,10 +134,10 @@ module _ (laws : BisectionLaws) where
             elim (either (all_closed t.disputes)) [
               | inl closed ↦ rw (whole, closed) refl
               | inr open_ ↦
-                  let i : IsAsked rules.play.fan t.disputes = asked-some rules.play.fan t.disputes moves open_ in
+                  let i : IsAsked t.disputes = asked-some t.disputes moves open_ in
                   let e : open_question rules t i.prover ≡ Some i.question = rw (there-at t.claims (i.prover - 1) whole) i.asked in
                   elim (either (i.prover == 0)) [
-                    | inl zero_ ↦ let z : i.prover ≡ 0 = grind (arith, nat_tests) in absurd (let a : IsApart rules i.prover t = apart i.prover in omega (arith, a.numbered z, engaged-asked rules.play.fan i.prover i.question t.disputes i.asked))
+                    | inl zero_ ↦ let z : i.prover ≡ 0 = grind (arith, nat_tests) in absurd (let a : IsApart rules i.prover t = apart i.prover in omega (arith, a.numbered z, engaged-asked i.prover i.question t.disputes i.asked))
                     | inr more ↦ let some : 0 < i.prover = grind (arith, nat_tests) in absurd (some-none i.prover rules t i.question apart none some e)
                   ]
             ]
@@ -186,16 +158,16 @@ module _ (laws : BisectionLaws) where
   closed-not : (p : ℕ) (d : Bisection) → is_closed d ≡ true → (asks_first p d || asks_second p d) ≡ false
   closed-not p d e = rw e (no-side (d.first == p) (is_none d.by_first) (d.second == p) (is_none d.by_second))
 
-  closed-none : (fan p : ℕ) (ds : List Bisection) → all_closed ds ≡ true → question_in fan p ds ≡ None
-  closed-none fan p [] e = refl
-  closed-none fan p (d ∷ ds) e =
+  closed-none : (p : ℕ) (ds : List Bisection) → all_closed ds ≡ true → question_in p ds ≡ None
+  closed-none p [] e = refl
+  closed-none p (d ∷ ds) e =
       let two : (is_closed d ≡ true) × (all_closed ds ≡ true) = both (is_closed d) (all_closed ds) e in
-      rw (closed-not p d two.0) (closed-none fan p ds two.1)
+      rw (closed-not p d two.0) (closed-none p ds two.1)
 
   complete-none : (rules : Rules) (t : Record) (p : ℕ) → is_complete t ≡ true → open_question rules t p ≡ None
   complete-none rules t p e =
       let two : (all_there t.claims ≡ true) × (all_closed t.disputes ≡ true) = both (all_there t.claims) (all_closed t.disputes) e in
-      rw (there-at t.claims (p - 1) two.0) (closed-none rules.play.fan p t.disputes two.1)
+      rw (there-at t.claims (p - 1) two.0) (closed-none p t.disputes two.1)
 
   pub over-after : (rules : Rules) (es : List (ℕ × Settled)) →
       ((p : ℕ) → 0 < p → p ≤ rules.provers → open_question rules (after rules es (nothing_settled rules)) p ≡ None) ↔ (is_complete (after rules es (nothing_settled rules)) ≡ true)

@@ -31,9 +31,9 @@ fit-spent : (r : Ruling) (k : Kind) (s : Settled) (b : Bool) → (if b then None
 fit-spent r k s true e = absurd (cc)
 fit-spent r k s false e = let same : Spent ≡ s = cc in rw (← same) tt
 
-fit-settled : (rules : Rules) (q : Question) (n : ℕ) (m : Option Answer) (s : Settled) → settled_by rules q n m ≡ Some s → IsFit rules.play.ruling q.kind s
-fit-settled rules q n (Some a) s e = let same : judged rules.play.ruling q.kind a ≡ s = cc in rw (← same) (fit-judged rules.play.ruling q.kind a (is_fit rules.play.ruling q.kind a) refl)
-fit-settled rules q n None s e = fit-spent rules.play.ruling q.kind s (nat_lt n rules.patience) e
+fit-settled : (rules : Rules) (q : Question) (n : ℕ) (m : Option Answer) (s : Settled) → settled_by rules q n m ≡ Some s → IsFit rules.ruling q.kind s
+fit-settled rules q n (Some a) s e = let same : judged rules.ruling q.kind a ≡ s = cc in rw (← same) (fit-judged rules.ruling q.kind a (is_fit rules.ruling q.kind a) refl)
+fit-settled rules q n None s e = fit-spent rules.ruling q.kind s (nat_lt n rules.patience) e
 
 -- a record to which some list that fits comes
 pub record IsSettled (rules : Rules) (t : Record) : Type 0 where
@@ -41,7 +41,7 @@ pub record IsSettled (rules : Rules) (t : Record) : Type 0 where
   pub fit : AllFit rules list (nothing_settled rules)
   pub comes : after rules list (nothing_settled rules) ≡ t
 
-settled-moved : (rules : Rules) (st : MatchState) (p : ℕ) (q : Question) (o : Option Settled) → 0 < p → open_question rules st.record_ p ≡ Some q → ((s : Settled) → o ≡ Some s → IsFit rules.play.ruling q.kind s) →
+settled-moved : (rules : Rules) (st : MatchState) (p : ℕ) (q : Question) (o : Option Settled) → 0 < p → open_question rules st.record_ p ≡ Some q → ((s : Settled) → o ≡ Some s → IsFit rules.ruling q.kind s) →
     IsSettled rules st.record_ → IsSettled rules (moved rules st p o).record_
 settled-moved rules st p q None some asked fits i = i
 settled-moved rules st p q (Some s) some asked fits i = record {

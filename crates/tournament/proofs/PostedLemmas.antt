@@ -75,6 +75,8 @@ match-settled r v u w passed room wide p s some move m et er ft fr ew =
     record {
       some = rw wt m.some;
       steps = rw wt m.steps;
+      parted = rw wt m.parted;
+      few_parts = rw wt m.few_parts;
       counts = rw wt (count-length passed (p - 1) 0 ∙ m.counts);
       reached = rw (wt, wr) (reached-move (rules_of r v.table) (record { record_ = v.record_; passed = passed }) p (Some s) some m.reached move);
       room_ = rw (wt, ew) m.room_;
@@ -92,6 +94,8 @@ match-passed r v passed room p n some few move is m =
     record {
       some = m.some;
       steps = m.steps;
+      parted = m.parted;
+      few_parts = m.few_parts;
       counts = count-length passed (p - 1) (n + 1) ∙ m.counts;
       reached = rw same (reached-move (rules_of r v.table) (record { record_ = v.record_; passed = passed }) p None some m.reached move);
       room_ = m.room_;
@@ -104,7 +108,7 @@ settled-record r v u w p s et er fr = fr ∙ put-settles r v u p s et er
 -- what the laws over lists of posts say of a match
 
 match-playable : (r : Ruling) (s : Sheet) (passed : List ℕ) (room : ℕ) → IsMatch r s passed room → ArePlayable (rules_of r s.table)
-match-playable r s passed room m = record { some = m.some; halves = refl; steps = m.steps }
+match-playable r s passed room m = record { some = m.some; parted = m.parted; few_parts = m.few_parts; steps = m.steps }
 
 match-record : (r : Ruling) (s : Sheet) (passed : List ℕ) (room : ℕ) (m : IsMatch r s passed room) → record_after (rules_of r s.table) m.reached.0 ≡ s.record_
 match-record r s passed room m = ap (λ (st : MatchState). st.record_) m.reached.1

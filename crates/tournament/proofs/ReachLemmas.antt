@@ -1,5 +1,5 @@
 -- Iterating a step until it changes nothing.
-use Rattle.std.proofs.Common.{◌≡◌, ℕ, zero, suc, ◌<◌, Bool, true, false, ◌⊎◌, inl, inr, refl, sym, ◌∙◌, ap, arith}
+use Rattle.std.proofs.Common.{◌≡◌, ℕ, zero, suc, Bool, true, false, ◌⊎◌, inl, inr, refl, sym, ◌∙◌, ap}
 use Rattle.std.specs.Fn.{iterate}
 use Rattle.std.specs.Prelude.{List, ◌≢◌}
 use Rattle.std.proofs.lemmas.Slice.Eq.{bytes_eq-Decides}
@@ -20,14 +20,6 @@ same-not x y e same = let yes : same_digest x y ≡ true = (bytes_eq-Decides x.0
 pub iterate-fixed : {A : Type 0} (h : A → A) (n : ℕ) (x : A) → h x ≡ x → iterate h n x ≡ x
 iterate-fixed h zero x e = refl
 iterate-fixed h (suc n) x e = ap (iterate h n) e ∙ iterate-fixed h n x e
-
-pub iterate-out : {A : Type 0} (h : A → A) (n : ℕ) (x : A) → h (iterate h n x) ≡ iterate h n (h x)
-iterate-out h zero x = refl
-iterate-out h (suc n) x = iterate-out h n (h x)
-
-pub iterate-same : {A : Type 0} (h : A → A) (n : ℕ) (x y : A) → 0 < n → h x ≡ h y → iterate h n x ≡ iterate h n y
-iterate-same h zero x y some e = absurd (omega arith)
-iterate-same h (suc n) x y some e = ap (iterate h n) e
 
 -- a value that no further step changes, and from which steps come to it
 abbrev pub Reaches : {A : Type 0} → (A → A) → A → A → Type 0

@@ -1,52 +1,37 @@
 -- A record of a match is the bracket over the answers that it holds.
-use Rattle.std.proofs.Common.{◌≡◌, ◌≢◌, ℕ, zero, suc, ◌+◌, ◌-◌, ◌<◌, ◌≤◌, Bool, true, false, ◌||◌, ◌==◌, if◌then◌else◌, List, [], ◌∷◌, ◌++◌, length, map, slice_get, slice_set, inl, inr, Option, Some, None, is_some, refl, sym, ◌∙◌, ap, arith}
+use Rattle.std.proofs.Common.{◌≡◌, ◌≢◌, ℕ, zero, suc, ◌+◌, ◌-◌, ◌<◌, ◌≤◌, Bool, true, false, ◌||◌, ◌==◌, if◌then◌else◌, List, [], ◌∷◌, ◌++◌, length, map, slice_get, slice_set, inl, inr, Option, Some, None, refl, sym, ◌∙◌, ap, arith}
 use Rattle.std.proofs.lemmas.Bool.Decides.{nat_tests}
 use Rattle.rd_base.specs.declared.answer.Answer.TheVariants as answer
 use Rattle.rd_base.specs.declared.answer.Qid.{Qid}
 use Rattle.rd_base.specs.declared.claim.Claim.{Claim}
-use Rattle.bisect_game.specs.declared.interval.Round.{Round}
 use Rattle.bisect_game.specs.declared.question.Question.{Question}
-use Rattle.bisect_game.specs.declared.settled.Close.{Close}
 use Rattle.bisect_game.specs.declared.settled.Settled.{Settled}
 use Rattle.bisect_game.specs.declared.settled.Settled.TheVariants.{Given}
-use Rattle.bisect_game.specs.declared.side.Side.{Side}
 use Rattle.bisect_game.specs.declared.side.Side.TheVariants.{First, Second}
-use Rattle.bisect_game.specs.Bisection.{Bisection, question_of, is_closed, closed_or, closed_with, went_on, decided, advanced, advance, settle_first, settle_second}
-use Rattle.bisect_game.specs.Closing.{close_of}
-use Rattle.bisect_game.specs.Disputes.{Answers, or_else, filled, round_over, played}
+use Rattle.bisect_game.specs.Bisection.{Bisection, question_of, settle_first, settle_second}
+use Rattle.bisect_game.specs.Disputes.{Answers, or_else, played}
+use Rattle.bisect_game.specs.Held.{settled_after_rounds, settled_in_round}
+use Rattle.bisect_game.specs.OverAnswers.{HoldsOn}
 use Rattle.bisect_game.specs.Laws.{BisectionLaws}
-use Rattle.bisect_game.specs.Rules.{Play, Rules, ArePlayable}
+use Rattle.bisect_game.specs.Rules.{Rules, ArePlayable}
 use Rattle.bisect_game.specs.Ruling.{Ruling}
-use Rattle.bisect_game.specs.Truth.{own_answer, own_open}
 use Rattle.tournament.specs.Bracket.{Record, claim_question, live, pairs, last_stage, disputes_of, is_stage_due, stage_opened, claims_over, carried, stage_over, nothing_settled, asks_first, asks_second, question_in, claim_missing, open_question, settled_in, put, settle, bracket}
 use Rattle.tournament.specs.Settling.{after, Fits}
 use Rattle.tournament.specs.Posting.{record_after}
 use Rattle.tournament.specs.Fitting.{AllFit}
-use Rattle.tournament.specs.SoFar.{settled_after_rounds, settled_in_round, settled_among, claim_at, answers_in, RecordIsBracket}
+use Rattle.tournament.specs.SoFar.{settled_among, claim_at, answers_in, RecordIsBracket}
 use Rattle.tournament.proofs.AskedLemmas.{Numbered, numbered-settle}
 use Rattle.tournament.proofs.BracketLemmas.{bracket-is}
 use Rattle.tournament.proofs.CountLemmas.{few_disputes}
 use Rattle.tournament.proofs.MatchLemmas.{ArePaired, AllPaired, pairs-right, live-right}
-use Rattle.tournament.proofs.OnceLemmas.{IsOpen, opens, not-eqb, is-eqb}
+use Rattle.tournament.specs.OpenDisputes.{AllApart, OpenDisputesShareNoProver, SidesAreTwoProvers}
+use Rattle.tournament.proofs.OnceLemmas.{IsApart, IsOpen, apart-nothing, opens, not-eqb, is-eqb}
 use Rattle.tournament.proofs.OpenedLemmas.{opened-not, opened-due}
-use Rattle.tournament.proofs.OverLemmas.{Moves, AllMove, moves-after}
+use Rattle.tournament.proofs.OverLemmas.{AllMove, apart-after, moves-after}
 use Rattle.tournament.proofs.PostLemmas.{IsSettled, settled-begun}
-use Rattle.tournament.proofs.ReachLemmas.{either, reach_back, iterate-fixed}
-use Rattle.tournament.proofs.SidesLemmas.{SameSides, sides-first, sides-second, round-closed, round-open}
+use Rattle.tournament.proofs.ReachLemmas.{either, reach_back}
+use Rattle.tournament.proofs.SidesLemmas.{SameSides, sides-first, sides-second}
 use Rattle.tournament.proofs.StageLemmas.{IsPlayed, Ends, played-settle, played-nothing, steps-settle}
-
--- the two sides of a dispute are two provers
-
-abbrev AllApart : List Bisection → Type 0
-AllApart [] = Unit {0}
-AllApart (d ∷ ds) = (d.first ≢ d.second) × AllApart ds
-
--- a dispute that holds each answer that another holds
-record HoldsOn (d e : Bisection) : Type 0 where
-  number : e.number ≡ d.number
-  first : e.first ≡ d.first
-  second : e.second ≡ d.second
-  keeps : (side : Side) (k : ℕ) (s : Settled) → settled_after_rounds side d.past (own_open side d) k ≡ Some s → settled_after_rounds side e.past (own_open side e) k ≡ Some s
 
 abbrev AllHold : List Bisection → List Bisection → Type 0
 AllHold [] es = Unit {0}
@@ -58,9 +43,9 @@ record Holds (t u : Record) : Type 0 where
   disputes : AllHold t.disputes u.disputes
 
 -- each side's answer, by these answers, is what is settled of the last round
-abbrev AllOwn : ℕ → Answers → List Bisection → Type 0
-AllOwn fan f [] = Unit {0}
-AllOwn fan f (d ∷ ds) = (f d.first (question_of fan d) ≡ d.by_first) × (f d.second (question_of fan d) ≡ d.by_second) × AllOwn fan f ds
+abbrev AllOwn : Answers → List Bisection → Type 0
+AllOwn f [] = Unit {0}
+AllOwn f (d ∷ ds) = (f d.first (question_of d) ≡ d.by_first) × (f d.second (question_of d) ≡ d.by_second) × AllOwn f ds
 
 -- what every record of a match keeps
 record IsApartIn (rules : Rules) (t : Record) : Type 0 where
@@ -68,370 +53,262 @@ record IsApartIn (rules : Rules) (t : Record) : Type 0 where
   numbered : Numbered 1 t.disputes
   played : IsPlayed rules t
 
--- rounds
-
-after-more : (side : Side) (past : List Round) (o : Option Settled) (k : ℕ) (s : Settled) → settled_after_rounds side past None k ≡ Some s → settled_after_rounds side past o k ≡ Some s
-after-more side [] o zero s e = absurd (cc)
-after-more side [] o (suc k) s e = e
-after-more side (r ∷ past) o zero s e = e
-after-more side (r ∷ past) o (suc k) s e = after-more side past o k s e
-
-after-on : (side : Side) (past : List Round) (r : Round) (last : Option Settled) (k : ℕ) (s : Settled) → last ≡ Some (own_answer side r) → settled_after_rounds side past last k ≡ Some s → settled_after_rounds side (past ++ r ∷ []) None k ≡ Some s
-after-on side [] r last zero s is e = sym is ∙ e
-after-on side [] r last (suc k) s is e = absurd (cc)
-after-on side (x ∷ past) r last zero s is e = e
-after-on side (x ∷ past) r last (suc k) s is e = after-on side past r last k s is e
-
-after-last : (side : Side) (past : List Round) (last : Option Settled) → settled_after_rounds side past last (length past) ≡ last
-after-last side [] last = refl
-after-last side (r ∷ past) last = after-last side past last
-
-hold-same : (d : Bisection) → HoldsOn d d
-hold-same d = record { number = refl; first = refl; second = refl; keeps = λ side k s e. e }
-
-hold-further : (c d e : Bisection) → HoldsOn c d → HoldsOn d e → HoldsOn c e
-hold-further c d e g h = record {
-  number = h.number ∙ g.number;
-  first = h.first ∙ g.first;
-  second = h.second ∙ g.second;
-  keeps = λ side k s is. h.keeps side k s (g.keeps side k s is);
-}
-
-ended-keeps : (d : Bisection) (c : Close) (side : Side) (k : ℕ) (s : Settled) → settled_after_rounds side d.past (own_open side d) k ≡ Some s → settled_after_rounds side (closed_with d c).past (own_open side (closed_with d c)) k ≡ Some s
-ended-keeps d c First k s e = e
-ended-keeps d c Second k s e = e
-
-went-keeps : (fan : ℕ) (d : Bisection) (a b : Settled) (side : Side) (k : ℕ) (s : Settled) → d.by_first ≡ Some a → d.by_second ≡ Some b →
-    settled_after_rounds side d.past (own_open side d) k ≡ Some s → settled_after_rounds side (went_on fan d a b).past (own_open side (went_on fan d a b)) k ≡ Some s
-went-keeps fan d a b First k s ea eb e = after-on First d.past (record { lo = d.place.lo; hi = d.place.hi; first = a; second = b }) d.by_first k s ea e
-went-keeps fan d a b Second k s ea eb e = after-on Second d.past (record { lo = d.place.lo; hi = d.place.hi; first = a; second = b }) d.by_second k s eb e
-
-hold-by : (play : Play) (d : Bisection) (a b : Settled) (o : Option Close) → d.by_first ≡ Some a → d.by_second ≡ Some b → HoldsOn d (closed_or d (went_on play.fan d a b) o)
-hold-by play d a b (Some c) ea eb = record { number = refl; first = refl; second = refl; keeps = ended-keeps d c }
-hold-by play d a b None ea eb = record { number = refl; first = refl; second = refl; keeps = λ side k s e. went-keeps play.fan d a b side k s ea eb e }
-
-hold-advanced : (play : Play) (d : Bisection) (x y : Option Settled) → d.by_first ≡ x → d.by_second ≡ y → HoldsOn d (advanced play d x y)
-unfolding decided
-hold-advanced play d (Some a) (Some b) ex ey = hold-by play d a b (close_of play.ruling d.place a b) ex ey
-hold-advanced play d (Some a) None ex ey = hold-same d
-hold-advanced play d None y ex ey = hold-same d
-
-put-first-keeps : (d : Bisection) (x : Settled) (side : Side) (k : ℕ) (s : Settled) → d.by_first ≡ None → settled_after_rounds side d.past (own_open side d) k ≡ Some s →
-    settled_after_rounds side d.past (own_open side (record d { by_first = Some x })) k ≡ Some s
-put-first-keeps d x First k s none e = after-more First d.past (Some x) k s (rw none at e)
-put-first-keeps d x Second k s none e = e
-
-put-second-keeps : (d : Bisection) (x : Settled) (side : Side) (k : ℕ) (s : Settled) → d.by_second ≡ None → settled_after_rounds side d.past (own_open side d) k ≡ Some s →
-    settled_after_rounds side d.past (own_open side (record d { by_second = Some x })) k ≡ Some s
-put-second-keeps d x First k s none e = e
-put-second-keeps d x Second k s none e = after-more Second d.past (Some x) k s (rw none at e)
-
-hold-first : (play : Play) (s : Settled) (d : Bisection) → d.by_first ≡ None → HoldsOn d (settle_first play s d)
-unfolding settle_first
-hold-first play s d none =
-    let here : HoldsOn d (record d { by_first = Some s }) = record { number = refl; first = refl; second = refl; keeps = λ side k x e. put-first-keeps d s side k x none e } in
-    hold-further d (record d { by_first = Some s }) _ here (hold-advanced play (record d { by_first = Some s }) (Some s) d.by_second refl refl)
-
-hold-second : (play : Play) (s : Settled) (d : Bisection) → d.by_second ≡ None → HoldsOn d (settle_second play s d)
-unfolding settle_second
-hold-second play s d none =
-    let here : HoldsOn d (record d { by_second = Some s }) = record { number = refl; first = refl; second = refl; keeps = λ side k x e. put-second-keeps d s side k x none e } in
-    hold-further d (record d { by_second = Some s }) _ here (hold-advanced play (record d { by_second = Some s }) d.by_first (Some s) refl refl)
-
--- what was just settled is held
-
-held-first : (play : Play) (s : Settled) (d : Bisection) → settled_after_rounds First (settle_first play s d).past (settle_first play s d).by_first (length d.past) ≡ Some s
-unfolding settle_first
-held-first play s d =
-    let h : HoldsOn (record d { by_first = Some s }) (advanced play (record d { by_first = Some s }) (Some s) d.by_second) = hold-advanced play (record d { by_first = Some s }) (Some s) d.by_second refl refl in
-    h.keeps First (length d.past) s (after-last First d.past (Some s))
-
-held-second : (play : Play) (s : Settled) (d : Bisection) → settled_after_rounds Second (settle_second play s d).past (settle_second play s d).by_second (length d.past) ≡ Some s
-unfolding settle_second
-held-second play s d =
-    let h : HoldsOn (record d { by_second = Some s }) (advanced play (record d { by_second = Some s }) d.by_first (Some s)) = hold-advanced play (record d { by_second = Some s }) d.by_first (Some s) refl refl in
-    h.keeps Second (length d.past) s (after-last Second d.past (Some s))
-
--- disputes and records
-
-all-same : (ds : List Bisection) → AllHold ds ds
-all-same [] = tt
-all-same (d ∷ ds) = (hold-same d, all-same ds)
-
-all-append : (ds es : List Bisection) → AllHold ds (ds ++ es)
-all-append [] es = tt
-all-append (d ∷ ds) es = (hold-same d, all-append ds es)
-
-all-further : (cs ds es : List Bisection) → AllHold cs ds → AllHold ds es → AllHold cs es
-all-further [] ds es g h = tt
-all-further (c ∷ cs) [] es g h = absurd g
-all-further (c ∷ cs) (d ∷ ds) [] g h = absurd h
-all-further (c ∷ cs) (d ∷ ds) (e ∷ es) g h = (hold-further c d e g.0 h.0, all-further cs ds es g.1 h.1)
-
-hold-choice : (rules : Rules) (p : ℕ) (s : Settled) (d : Bisection) (ds : List Bisection) (x y : Bool) → asks_first p d ≡ x → asks_second p d ≡ y → AllHold ds (settled_in rules p s ds) →
-    AllHold (d ∷ ds) (if x then settle_first rules.play s d ∷ ds else if y then settle_second rules.play s d ∷ ds else d ∷ settled_in rules p s ds)
-hold-choice rules p s d ds true y ex ey r =
-    let a : ((d.first == p) ≡ true) × IsOpen d.by_first d.close = opens (d.first == p) d.by_first d.close ex in
-    (hold-first rules.play s d a.1.missing, all-same ds)
-hold-choice rules p s d ds false true ex ey r =
-    let a : ((d.second == p) ≡ true) × IsOpen d.by_second d.close = opens (d.second == p) d.by_second d.close ey in
-    (hold-second rules.play s d a.1.missing, all-same ds)
-hold-choice rules p s d ds false false ex ey r = (hold-same d, r)
-
-hold-settled : (rules : Rules) (p : ℕ) (s : Settled) (ds : List Bisection) → AllHold ds (settled_in rules p s ds)
-hold-settled rules p s [] = tt
-hold-settled rules p s (d ∷ ds) = hold-choice rules p s d ds (asks_first p d) (asks_second p d) refl refl (hold-settled rules p s ds)
-
-hold-claim : (ss : List (Option Settled)) (k j : ℕ) (x s : Settled) → claim_missing (slice_get ss k) ≡ true → claim_at (slice_get ss j) ≡ Some s → claim_at (slice_get (slice_set ss k (Some x)) j) ≡ Some s
-hold-claim [] k j x s missing e = absurd (cc)
-hold-claim (None ∷ ss) zero zero x s missing e = absurd (cc)
-hold-claim (Some y ∷ ss) zero zero x s missing e = absurd (cc)
-hold-claim (o ∷ ss) zero (suc j) x s missing e = e
-hold-claim (o ∷ ss) (suc k) zero x s missing e = e
-hold-claim (o ∷ ss) (suc k) (suc j) x s missing e = hold-claim ss k j x s missing e
-
-holds-put : (rules : Rules) (p : ℕ) (s : Settled) (t : Record) (b : Bool) → claim_missing (slice_get t.claims (p - 1)) ≡ b →
-    Holds t (if b then record t { claims = slice_set t.claims (p - 1) (Some s) } else record t { disputes = settled_in rules p s t.disputes })
-holds-put rules p s t true e = record { claims = λ k x is. hold-claim t.claims (p - 1) k s x e is; disputes = all-same t.disputes }
-holds-put rules p s t false e = record { claims = λ k x is. is; disputes = hold-settled rules p s t.disputes }
-
-holds-opened : (rules : Rules) (t : Record) → Holds t (stage_opened rules t)
-holds-opened rules t =
-    elim (either (is_stage_due rules t)) [
-      | inl due ↦ rw (opened-due rules t due) (record { claims = λ k s e. e; disputes = all-append t.disputes _ })
-      | inr not_due ↦ rw (opened-not rules t not_due) (record { claims = λ k s e. e; disputes = all-same t.disputes })
-    ]
-
-holds-further : (t u v : Record) → Holds t u → Holds u v → Holds t v
-holds-further t u v g h = record { claims = λ k s e. h.claims k s (g.claims k s e); disputes = all-further t.disputes u.disputes v.disputes g.disputes h.disputes }
-
-holds-settle : (rules : Rules) (p : ℕ) (s : Settled) (t : Record) → Holds t (settle rules p s t)
-unfolding settle
-holds-settle rules p s t = holds-further t (put rules p s t) _ (holds-put rules p s t (claim_missing (slice_get t.claims (p - 1))) refl) (holds-opened rules (put rules p s t))
-
-holds-after : (rules : Rules) (es : List (ℕ × Settled)) (t : Record) → Holds t (after rules es t)
-holds-after rules [] t = record { claims = λ k s e. e; disputes = all-same t.disputes }
-holds-after rules (e ∷ es) t = holds-further t (settle rules e.0 e.1 t) _ (holds-settle rules e.0 e.1 t) (holds-after rules es (settle rules e.0 e.1 t))
-
--- so a record has the answers that an earlier one had
-
-side-held : (d e : Bisection) (x y : Bool) (k : ℕ) (s : Settled) → HoldsOn d e →
-    (if x then settled_after_rounds First d.past d.by_first k else if y then settled_after_rounds Second d.past d.by_second k else None) ≡ Some s →
-    (if x then settled_after_rounds First e.past e.by_first k else if y then settled_after_rounds Second e.past e.by_second k else None) ≡ Some s
-side-held d e true y k s h is = h.keeps First k s is
-side-held d e false true k s h is = h.keeps Second k s is
-side-held d e false false k s h is = absurd (cc)
-
-number-held : (p : ℕ) (qid : Qid) (d e : Bisection) (ds es : List Bisection) (b : Bool) (s : Settled) → HoldsOn d e →
-    (if b then settled_in_round p qid.round d else settled_among p qid ds) ≡ Some s → (settled_among p qid ds ≡ Some s → settled_among p qid es ≡ Some s) →
-    (if b then settled_in_round p qid.round e else settled_among p qid es) ≡ Some s
-number-held p qid d e ds es true s h is rest = rw (h.first, h.second) (side-held d e (d.first == p) (d.second == p) (qid.round - 1) s h is)
-number-held p qid d e ds es false s h is rest = rest is
-
-among-held : (p : ℕ) (qid : Qid) (ds es : List Bisection) (s : Settled) → AllHold ds es → settled_among p qid ds ≡ Some s → settled_among p qid es ≡ Some s
-among-held p qid [] es s h is = absurd (cc)
-among-held p qid (d ∷ ds) [] s h is = absurd h
-among-held p qid (d ∷ ds) (e ∷ es) s h is =
-    let g : HoldsOn d e = h.0 in
-    rw g.number (number-held p qid d e ds es (d.number == qid.dispute) s g is (λ further. among-held p qid ds es s h.1 further))
-
-held-by : (t u : Record) (p : ℕ) (q : Question) (s : Settled) (b : Bool) → Holds t u →
-    (if b then claim_at (slice_get t.claims (p - 1)) else settled_among p q.qid t.disputes) ≡ Some s → (if b then claim_at (slice_get u.claims (p - 1)) else settled_among p q.qid u.disputes) ≡ Some s
-held-by t u p q s true h e = h.claims (p - 1) s e
-held-by t u p q s false h e = among-held p q.qid t.disputes u.disputes s h.disputes e
-
-held : (t u : Record) (p : ℕ) (q : Question) (s : Settled) → Holds t u → answers_in t p q ≡ Some s → answers_in u p q ≡ Some s
-held t u p q s h e = held-by t u p q s (q.qid.dispute == 0) h e
-
--- what was just settled is what the record holds of its question
-
-eqb-same : (n : ℕ) → (n == n) ≡ true
-eqb-same n = grind (arith, nat_tests)
-
-claim-set : (ss : List (Option Settled)) (k : ℕ) (s : Settled) → claim_missing (slice_get ss k) ≡ true → claim_at (slice_get (slice_set ss k (Some s)) k) ≡ Some s
-claim-set [] k s e = absurd (cc)
-claim-set (o ∷ ss) zero s e = refl
-claim-set (o ∷ ss) (suc k) s e = claim-set ss k s e
-
--- from this number on, and held
-record IsFound (p n : ℕ) (q : Question) (s : Settled) (ds : List Bisection) : Type 0 where
-  from : n ≤ q.qid.dispute
-  is : settled_among p q.qid ds ≡ Some s
-
-first-found : (play : Play) (p : ℕ) (s : Settled) (d : Bisection) (ds : List Bisection) → (d.first == p) ≡ true → d.by_first ≡ None →
-    settled_among p (question_of play.fan d).qid (settle_first play s d ∷ ds) ≡ Some s
-first-found play p s d ds mine none =
-    let h : HoldsOn d (settle_first play s d) = hold-first play s d none in
-    let n : length d.past + 1 - 1 ≡ length d.past = omega arith in
-    rw (h.number, eqb-same d.number, h.first, mine, n) (held-first play s d)
-
-second-found : (play : Play) (p : ℕ) (s : Settled) (d : Bisection) (ds : List Bisection) → (d.first == p) ≡ false → (d.second == p) ≡ true → d.by_second ≡ None →
-    settled_among p (question_of play.fan d).qid (settle_second play s d ∷ ds) ≡ Some s
-second-found play p s d ds other mine none =
-    let h : HoldsOn d (settle_second play s d) = hold-second play s d none in
-    let n : length d.past + 1 - 1 ≡ length d.past = omega arith in
-    rw (h.number, eqb-same d.number, h.first, other, h.second, mine, n) (held-second play s d)
-
-found-choice : (rules : Rules) (p n : ℕ) (s : Settled) (q : Question) (d : Bisection) (ds : List Bisection) (x y : Bool) → asks_first p d ≡ x → asks_second p d ≡ y → d.number ≡ n → d.first ≢ d.second →
-    (if x || y then Some (question_of rules.play.fan d) else question_in rules.play.fan p ds) ≡ Some q → (question_in rules.play.fan p ds ≡ Some q → IsFound p (n + 1) q s (settled_in rules p s ds)) →
-    IsFound p n q s (if x then settle_first rules.play s d ∷ ds else if y then settle_second rules.play s d ∷ ds else d ∷ settled_in rules p s ds)
-found-choice rules p n s q d ds true y ex ey num apart e rest =
-    let a : ((d.first == p) ≡ true) × IsOpen d.by_first d.close = opens (d.first == p) d.by_first d.close ex in
-    let same : question_of rules.play.fan d ≡ q = cc in
-    rw (← same) (record { from = omega (arith, num); is = first-found rules.play p s d ds a.0 a.1.missing })
-found-choice rules p n s q d ds false true ex ey num apart e rest =
-    let a : ((d.second == p) ≡ true) × IsOpen d.by_second d.close = opens (d.second == p) d.by_second d.close ey in
-    let same : question_of rules.play.fan d ≡ q = cc in
-    let other : (d.first == p) ≡ false = not-eqb d.first p (λ z. apart (z ∙ sym (is-eqb d.second p a.0))) in
-    rw (← same) (record { from = omega (arith, num); is = second-found rules.play p s d ds other a.0 a.1.missing })
-found-choice rules p n s q d ds false false ex ey num apart e rest =
-    let i : IsFound p (n + 1) q s (settled_in rules p s ds) = rest e in
-    let other : (d.number == q.qid.dispute) ≡ false = not-eqb d.number q.qid.dispute (λ z. omega (arith, i.from, num)) in
-    record { from = omega (arith, i.from); is = rw other i.is }
-
-found : (rules : Rules) (p n : ℕ) (s : Settled) (q : Question) (ds : List Bisection) → Numbered n ds → AllApart ds → question_in rules.play.fan p ds ≡ Some q → IsFound p n q s (settled_in rules p s ds)
-found rules p n s q [] num apart e = absurd (cc)
-found rules p n s q (d ∷ ds) num apart e =
-    found-choice rules p n s q d ds (asks_first p d) (asks_second p d) refl refl num.0 apart.0 e (λ further. found rules p (n + 1) s q ds num.1 apart.1 further)
-
-answer-put : (rules : Rules) (p : ℕ) (s : Settled) (q : Question) (t : Record) (b : Bool) → claim_missing (slice_get t.claims (p - 1)) ≡ b → Numbered 1 t.disputes → AllApart t.disputes →
-    (if b then Some claim_question else question_in rules.play.fan p t.disputes) ≡ Some q →
-    answers_in (if b then record t { claims = slice_set t.claims (p - 1) (Some s) } else record t { disputes = settled_in rules p s t.disputes }) p q ≡ Some s
-answer-put rules p s q t true missing num apart e =
-    let same : claim_question ≡ q = cc in
-    rw (← same) (claim-set t.claims (p - 1) s missing)
-answer-put rules p s q t false missing num apart e =
-    let i : IsFound p 1 q s (settled_in rules p s t.disputes) = found rules p 1 s q t.disputes num apart e in
-    let no_claim : (q.qid.dispute == 0) ≡ false = not-eqb q.qid.dispute 0 (λ z. omega (arith, i.from)) in
-    rw no_claim i.is
-
-answer-settled : (rules : Rules) (p : ℕ) (s : Settled) (q : Question) (t : Record) → Numbered 1 t.disputes → AllApart t.disputes → open_question rules t p ≡ Some q → answers_in (settle rules p s t) p q ≡ Some s
-unfolding settle
-answer-settled rules p s q t num apart e =
-    held (put rules p s t) (stage_opened rules (put rules p s t)) p q s (holds-opened rules (put rules p s t))
-    (answer-put rules p s q t (claim_missing (slice_get t.claims (p - 1))) refl num apart e)
-
--- over its own answers a record stays
-
-or-same : (o : Option Settled) → or_else o o ≡ o
-or-same (Some s) = refl
-or-same None = refl
-
-filled-same : (play : Play) (f : Answers) (d : Bisection) → f d.first (question_of play.fan d) ≡ d.by_first → f d.second (question_of play.fan d) ≡ d.by_second → filled play f d ≡ d
-filled-same play f d ea eb =
-    ap (λ (o : Option Settled). record d { by_first = or_else d.by_first o; by_second = or_else d.by_second (f d.second (question_of play.fan d)) }) ea
-    ∙ (ap (λ (o : Option Settled). record d { by_first = or_else d.by_first d.by_first; by_second = or_else d.by_second o }) eb
-    ∙ (ap (λ (o : Option Settled). record d { by_first = o; by_second = or_else d.by_second d.by_second }) (or-same d.by_first)
-    ∙ ap (λ (o : Option Settled). record d { by_first = d.by_first; by_second = o }) (or-same d.by_second)))
-
-waits-by : (play : Play) (d : Bisection) (x y : Option Settled) → Moves x y None → advanced play d x y ≡ d
-waits-by play d (Some a) (Some b) m = absurd m
-waits-by play d (Some a) None m = refl
-waits-by play d None y m = refl
-
-none-closed : (c : Option Close) → is_some c ≡ false → c ≡ None
-none-closed None e = refl
-none-closed (Some c) e = absurd (cc)
-
-round-same : (play : Play) (f : Answers) (d : Bisection) → Moves d.by_first d.by_second d.close → f d.first (question_of play.fan d) ≡ d.by_first → f d.second (question_of play.fan d) ≡ d.by_second → round_over play f d ≡ d
-round-same play f d m ea eb =
-    elim (either (is_closed d)) [
-      | inl closed ↦ round-closed play f d closed
-      | inr open_ ↦ round-open play f d open_ ∙ (ap (advance play) (filled-same play f d ea eb) ∙ waits-by play d d.by_first d.by_second (rw (none-closed d.close open_) at m))
-    ]
-
-played-same : (rules : Rules) (f : Answers) (ds : List Bisection) → AllMove ds → AllOwn rules.play.fan f ds → map (played rules f) ds ≡ ds
-unfolding played
-played-same rules f [] m own = refl
-played-same rules f (d ∷ ds) m own =
-    rw (iterate-fixed (round_over rules.play f) rules.bound d (round-same rules.play f d m.0 own.0 own.1), played-same rules f ds m.1 own.2) refl
-
-claims-own : (f : Answers) (k : ℕ) (ss : List (Option Settled)) → ((i : ℕ) → f (k + i) claim_question ≡ claim_at (slice_get ss i)) → claims_over f k ss ≡ ss
-claims-own f k [] h = refl
-claims-own f k (o ∷ ss) h =
-    let here : f k claim_question ≡ o = ap (λ (n : ℕ). f n claim_question) (omega arith) ∙ h 0 in
-    let rest : claims_over f (k + 1) ss ≡ ss = claims-own f (k + 1) ss (λ i. ap (λ (n : ℕ). f n claim_question) (omega arith) ∙ h (suc i)) in
-    rw (here, rest) (ap (λ (x : Option Settled). x ∷ ss) (or-same o))
-
-abbrev among : List Bisection → Answers
-among ds p q = settled_among p q.qid ds
-
-own-here : (fan : ℕ) (d : Bisection) (ds : List Bisection) → d.first ≢ d.second → (among (d ∷ ds) d.first (question_of fan d) ≡ d.by_first) × (among (d ∷ ds) d.second (question_of fan d) ≡ d.by_second)
-own-here fan d ds apart =
-    let n : length d.past + 1 - 1 ≡ length d.past = omega arith in
-    let far : (d.first == d.second) ≡ false = not-eqb d.first d.second apart in
-    (rw (eqb-same d.number, eqb-same d.first, n) (after-last First d.past d.by_first), rw (eqb-same d.number, far, eqb-same d.second, n) (after-last Second d.past d.by_second))
-
-own-skip : (fan n m : ℕ) (d : Bisection) (ds es : List Bisection) → d.number ≡ n → n < m → Numbered m es → AllOwn fan (among ds) es → AllOwn fan (among (d ∷ ds)) es
-own-skip fan n m d ds [] is lt num own = tt
-own-skip fan n m d ds (e ∷ es) is lt num own =
-    let other : (d.number == e.number) ≡ false = not-eqb d.number e.number (λ z. omega (arith, z, is, lt, num.0)) in
-    (rw other own.0, rw other own.1, own-skip fan n (m + 1) d ds es is (omega arith) num.1 own.2)
-
-own-all : (fan n : ℕ) (ds : List Bisection) → Numbered n ds → AllApart ds → AllOwn fan (among ds) ds
-own-all fan n [] num apart = tt
-own-all fan n (d ∷ ds) num apart =
-    let here : (among (d ∷ ds) d.first (question_of fan d) ≡ d.by_first) × (among (d ∷ ds) d.second (question_of fan d) ≡ d.by_second) = own-here fan d ds apart.0 in
-    (here.0, here.1, own-skip fan n (n + 1) d ds ds num.0 (omega arith) num.1 (own-all fan (n + 1) ds num.1 apart.1))
-
-own-record : (fan n : ℕ) (t : Record) (ds : List Bisection) → 0 < n → Numbered n ds → AllOwn fan (among t.disputes) ds → AllOwn fan (answers_in t) ds
-own-record fan n t [] some num own = tt
-own-record fan n t (d ∷ ds) some num own =
-    let no_claim : (d.number == 0) ≡ false = not-eqb d.number 0 (λ z. omega (arith, z, num.0, some)) in
-    (rw no_claim own.0, rw no_claim own.1, own-record fan (n + 1) t ds (omega arith) num.1 own.2)
-
-claim-own : (t : Record) (k : ℕ) → answers_in t (1 + k) claim_question ≡ claim_at (slice_get t.claims k)
-claim-own t k = let at : 1 + k - 1 ≡ k = omega arith in rw at refl
-
-carried-same : (rules : Rules) (t : Record) → Numbered 1 t.disputes → AllApart t.disputes → AllMove t.disputes → carried rules (answers_in t) t ≡ t
-unfolding carried
-carried-same rules t num apart m =
-    let own : AllOwn rules.play.fan (answers_in t) t.disputes = own-record rules.play.fan 1 t t.disputes (omega arith) num (own-all rules.play.fan 1 t.disputes num apart) in
-    rw (claims-own (answers_in t) 1 t.claims (claim-own t), played-same rules (answers_in t) t.disputes m own) refl
-
--- the sides of a pair are two provers
-
-paired-apart : (r : Ruling) (claims : List (Option Settled)) (x y : ℕ × Claim) → ArePaired r claims x y → x.0 ≢ y.0
-paired-apart r claims x y a same =
-    let here : slice_get claims (y.0 - 1) ≡ Some (Some (Given (answer.Claim x.1))) = ap (λ (n : ℕ). slice_get claims (n - 1)) (sym same) ∙ a.first.is in
-    let there : slice_get claims (y.0 - 1) ≡ Some (Some (Given (answer.Claim y.1))) = a.second.is in
-    let c : x.1 ≡ y.1 = cc in
-    a.differ (ap r.root_of c)
-
-apart-new : (rules : Rules) (g n : ℕ) (claims : List (Option Settled)) (ps : List ((ℕ × Claim) × (ℕ × Claim))) → AllPaired rules.play.ruling claims ps → AllApart (disputes_of rules g n ps)
-apart-new rules g n claims [] h = tt
-apart-new rules g n claims (p ∷ ps) h = (paired-apart rules.play.ruling claims p.0 p.1 h.0, apart-new rules g (n + 1) claims ps h.1)
-
-apart-both : (ds es : List Bisection) → AllApart ds → AllApart es → AllApart (ds ++ es)
-apart-both [] es a b = b
-apart-both (d ∷ ds) es a b = (a.0, apart-both ds es a.1 b)
-
-apart-sides : (d e : Bisection) → SameSides d e → d.first ≢ d.second → e.first ≢ e.second
-apart-sides d e k a = λ same. a (sym k.first ∙ (same ∙ k.second))
-
-apart-choice : (rules : Rules) (p : ℕ) (s : Settled) (d : Bisection) (ds : List Bisection) (x y : Bool) → AllApart (d ∷ ds) → AllApart (settled_in rules p s ds) →
-    AllApart (if x then settle_first rules.play s d ∷ ds else if y then settle_second rules.play s d ∷ ds else d ∷ settled_in rules p s ds)
-apart-choice rules p s d ds true y a r = (apart-sides d _ (sides-first rules.play s d) a.0, a.1)
-apart-choice rules p s d ds false true a r = (apart-sides d _ (sides-second rules.play s d) a.0, a.1)
-apart-choice rules p s d ds false false a r = (a.0, r)
-
-apart-settled : (rules : Rules) (p : ℕ) (s : Settled) (ds : List Bisection) → AllApart ds → AllApart (settled_in rules p s ds)
-apart-settled rules p s [] a = tt
-apart-settled rules p s (d ∷ ds) a = apart-choice rules p s d ds (asks_first p d) (asks_second p d) a (apart-settled rules p s ds a.1)
-
-apart-put : (rules : Rules) (p : ℕ) (s : Settled) (t : Record) (b : Bool) → AllApart t.disputes →
-    AllApart (if b then record t { claims = slice_set t.claims (p - 1) (Some s) } else record t { disputes = settled_in rules p s t.disputes }).disputes
-apart-put rules p s t true a = a
-apart-put rules p s t false a = apart-settled rules p s t.disputes a
-
 module _ (laws : BisectionLaws) where
+  -- disputes and records
+
+  all-same : (ds : List Bisection) → AllHold ds ds
+  all-same [] = tt
+  all-same (d ∷ ds) = (laws.held.same d, all-same ds)
+
+  all-append : (ds es : List Bisection) → AllHold ds (ds ++ es)
+  all-append [] es = tt
+  all-append (d ∷ ds) es = (laws.held.same d, all-append ds es)
+
+  all-further : (cs ds es : List Bisection) → AllHold cs ds → AllHold ds es → AllHold cs es
+  all-further [] ds es g h = tt
+  all-further (c ∷ cs) [] es g h = absurd g
+  all-further (c ∷ cs) (d ∷ ds) [] g h = absurd h
+  all-further (c ∷ cs) (d ∷ ds) (e ∷ es) g h = (laws.held.further c d e g.0 h.0, all-further cs ds es g.1 h.1)
+
+  hold-choice : (rules : Rules) (p : ℕ) (s : Settled) (d : Bisection) (ds : List Bisection) (x y : Bool) → asks_first p d ≡ x → asks_second p d ≡ y → AllHold ds (settled_in rules p s ds) →
+      AllHold (d ∷ ds) (if x then settle_first rules.ruling s d ∷ ds else if y then settle_second rules.ruling s d ∷ ds else d ∷ settled_in rules p s ds)
+  hold-choice rules p s d ds true y ex ey r =
+      let a : ((d.first == p) ≡ true) × IsOpen d.by_first d.close = opens (d.first == p) d.by_first d.close ex in
+      (laws.held.stays rules.ruling First s d a.1.missing, all-same ds)
+  hold-choice rules p s d ds false true ex ey r =
+      let a : ((d.second == p) ≡ true) × IsOpen d.by_second d.close = opens (d.second == p) d.by_second d.close ey in
+      (laws.held.stays rules.ruling Second s d a.1.missing, all-same ds)
+  hold-choice rules p s d ds false false ex ey r = (laws.held.same d, r)
+
+  hold-settled : (rules : Rules) (p : ℕ) (s : Settled) (ds : List Bisection) → AllHold ds (settled_in rules p s ds)
+  hold-settled rules p s [] = tt
+  hold-settled rules p s (d ∷ ds) = hold-choice rules p s d ds (asks_first p d) (asks_second p d) refl refl (hold-settled rules p s ds)
+
+  hold-claim : (ss : List (Option Settled)) (k j : ℕ) (x s : Settled) → claim_missing (slice_get ss k) ≡ true → claim_at (slice_get ss j) ≡ Some s → claim_at (slice_get (slice_set ss k (Some x)) j) ≡ Some s
+  hold-claim [] k j x s missing e = absurd (cc)
+  hold-claim (None ∷ ss) zero zero x s missing e = absurd (cc)
+  hold-claim (Some y ∷ ss) zero zero x s missing e = absurd (cc)
+  hold-claim (o ∷ ss) zero (suc j) x s missing e = e
+  hold-claim (o ∷ ss) (suc k) zero x s missing e = e
+  hold-claim (o ∷ ss) (suc k) (suc j) x s missing e = hold-claim ss k j x s missing e
+
+  holds-put : (rules : Rules) (p : ℕ) (s : Settled) (t : Record) (b : Bool) → claim_missing (slice_get t.claims (p - 1)) ≡ b →
+      Holds t (if b then record t { claims = slice_set t.claims (p - 1) (Some s) } else record t { disputes = settled_in rules p s t.disputes })
+  holds-put rules p s t true e = record { claims = λ k x is. hold-claim t.claims (p - 1) k s x e is; disputes = all-same t.disputes }
+  holds-put rules p s t false e = record { claims = λ k x is. is; disputes = hold-settled rules p s t.disputes }
+
+  holds-opened : (rules : Rules) (t : Record) → Holds t (stage_opened rules t)
+  holds-opened rules t =
+      elim (either (is_stage_due rules t)) [
+        | inl due ↦ rw (opened-due rules t due) (record { claims = λ k s e. e; disputes = all-append t.disputes _ })
+        | inr not_due ↦ rw (opened-not rules t not_due) (record { claims = λ k s e. e; disputes = all-same t.disputes })
+      ]
+
+  holds-further : (t u v : Record) → Holds t u → Holds u v → Holds t v
+  holds-further t u v g h = record { claims = λ k s e. h.claims k s (g.claims k s e); disputes = all-further t.disputes u.disputes v.disputes g.disputes h.disputes }
+
+  holds-settle : (rules : Rules) (p : ℕ) (s : Settled) (t : Record) → Holds t (settle rules p s t)
+  unfolding settle
+  holds-settle rules p s t = holds-further t (put rules p s t) _ (holds-put rules p s t (claim_missing (slice_get t.claims (p - 1))) refl) (holds-opened rules (put rules p s t))
+
+  holds-after : (rules : Rules) (es : List (ℕ × Settled)) (t : Record) → Holds t (after rules es t)
+  holds-after rules [] t = record { claims = λ k s e. e; disputes = all-same t.disputes }
+  holds-after rules (e ∷ es) t = holds-further t (settle rules e.0 e.1 t) _ (holds-settle rules e.0 e.1 t) (holds-after rules es (settle rules e.0 e.1 t))
+
+  -- so a record has the answers that an earlier one had
+
+  side-held : (d e : Bisection) (x y : Bool) (k : ℕ) (s : Settled) → HoldsOn d e →
+      (if x then settled_after_rounds First d.past d.by_first k else if y then settled_after_rounds Second d.past d.by_second k else None) ≡ Some s →
+      (if x then settled_after_rounds First e.past e.by_first k else if y then settled_after_rounds Second e.past e.by_second k else None) ≡ Some s
+  side-held d e true y k s h is = h.keeps First k s is
+  side-held d e false true k s h is = h.keeps Second k s is
+  side-held d e false false k s h is = absurd (cc)
+
+  number-held : (p : ℕ) (qid : Qid) (d e : Bisection) (ds es : List Bisection) (b : Bool) (s : Settled) → HoldsOn d e →
+      (if b then settled_in_round p qid.round d else settled_among p qid ds) ≡ Some s → (settled_among p qid ds ≡ Some s → settled_among p qid es ≡ Some s) →
+      (if b then settled_in_round p qid.round e else settled_among p qid es) ≡ Some s
+  number-held p qid d e ds es true s h is rest = rw (h.first, h.second) (side-held d e (d.first == p) (d.second == p) (qid.round - 1) s h is)
+  number-held p qid d e ds es false s h is rest = rest is
+
+  among-held : (p : ℕ) (qid : Qid) (ds es : List Bisection) (s : Settled) → AllHold ds es → settled_among p qid ds ≡ Some s → settled_among p qid es ≡ Some s
+  among-held p qid [] es s h is = absurd (cc)
+  among-held p qid (d ∷ ds) [] s h is = absurd h
+  among-held p qid (d ∷ ds) (e ∷ es) s h is =
+      let g : HoldsOn d e = h.0 in
+      rw g.number (number-held p qid d e ds es (d.number == qid.dispute) s g is (λ further. among-held p qid ds es s h.1 further))
+
+  held-by : (t u : Record) (p : ℕ) (q : Question) (s : Settled) (b : Bool) → Holds t u →
+      (if b then claim_at (slice_get t.claims (p - 1)) else settled_among p q.qid t.disputes) ≡ Some s → (if b then claim_at (slice_get u.claims (p - 1)) else settled_among p q.qid u.disputes) ≡ Some s
+  held-by t u p q s true h e = h.claims (p - 1) s e
+  held-by t u p q s false h e = among-held p q.qid t.disputes u.disputes s h.disputes e
+
+  held : (t u : Record) (p : ℕ) (q : Question) (s : Settled) → Holds t u → answers_in t p q ≡ Some s → answers_in u p q ≡ Some s
+  held t u p q s h e = held-by t u p q s (q.qid.dispute == 0) h e
+
+  -- what was just settled is what the record holds of its question
+
+  eqb-same : (n : ℕ) → (n == n) ≡ true
+  eqb-same n = grind (arith, nat_tests)
+
+  claim-set : (ss : List (Option Settled)) (k : ℕ) (s : Settled) → claim_missing (slice_get ss k) ≡ true → claim_at (slice_get (slice_set ss k (Some s)) k) ≡ Some s
+  claim-set [] k s e = absurd (cc)
+  claim-set (o ∷ ss) zero s e = refl
+  claim-set (o ∷ ss) (suc k) s e = claim-set ss k s e
+
+  -- from this number on, and held
+  record IsFound (p n : ℕ) (q : Question) (s : Settled) (ds : List Bisection) : Type 0 where
+    from : n ≤ q.qid.dispute
+    is : settled_among p q.qid ds ≡ Some s
+
+  first-found : (ruling : Ruling) (p : ℕ) (s : Settled) (d : Bisection) (ds : List Bisection) → (d.first == p) ≡ true → d.by_first ≡ None →
+      settled_among p (question_of d).qid (settle_first ruling s d ∷ ds) ≡ Some s
+  first-found ruling p s d ds mine none =
+      let h : HoldsOn d (settle_first ruling s d) = laws.held.stays ruling First s d none in
+      let n : length d.past + 1 - 1 ≡ length d.past = omega arith in
+      rw (h.number, eqb-same d.number, h.first, mine, n) (laws.held.holds ruling First s d)
+
+  second-found : (ruling : Ruling) (p : ℕ) (s : Settled) (d : Bisection) (ds : List Bisection) → (d.first == p) ≡ false → (d.second == p) ≡ true → d.by_second ≡ None →
+      settled_among p (question_of d).qid (settle_second ruling s d ∷ ds) ≡ Some s
+  second-found ruling p s d ds other mine none =
+      let h : HoldsOn d (settle_second ruling s d) = laws.held.stays ruling Second s d none in
+      let n : length d.past + 1 - 1 ≡ length d.past = omega arith in
+      rw (h.number, eqb-same d.number, h.first, other, h.second, mine, n) (laws.held.holds ruling Second s d)
+
+  found-choice : (rules : Rules) (p n : ℕ) (s : Settled) (q : Question) (d : Bisection) (ds : List Bisection) (x y : Bool) → asks_first p d ≡ x → asks_second p d ≡ y → d.number ≡ n → d.first ≢ d.second →
+      (if x || y then Some (question_of d) else question_in p ds) ≡ Some q → (question_in p ds ≡ Some q → IsFound p (n + 1) q s (settled_in rules p s ds)) →
+      IsFound p n q s (if x then settle_first rules.ruling s d ∷ ds else if y then settle_second rules.ruling s d ∷ ds else d ∷ settled_in rules p s ds)
+  found-choice rules p n s q d ds true y ex ey num apart e rest =
+      let a : ((d.first == p) ≡ true) × IsOpen d.by_first d.close = opens (d.first == p) d.by_first d.close ex in
+      let same : question_of d ≡ q = cc in
+      rw (← same) (record { from = omega (arith, num); is = first-found rules.ruling p s d ds a.0 a.1.missing })
+  found-choice rules p n s q d ds false true ex ey num apart e rest =
+      let a : ((d.second == p) ≡ true) × IsOpen d.by_second d.close = opens (d.second == p) d.by_second d.close ey in
+      let same : question_of d ≡ q = cc in
+      let other : (d.first == p) ≡ false = not-eqb d.first p (λ z. apart (z ∙ sym (is-eqb d.second p a.0))) in
+      rw (← same) (record { from = omega (arith, num); is = second-found rules.ruling p s d ds other a.0 a.1.missing })
+  found-choice rules p n s q d ds false false ex ey num apart e rest =
+      let i : IsFound p (n + 1) q s (settled_in rules p s ds) = rest e in
+      let other : (d.number == q.qid.dispute) ≡ false = not-eqb d.number q.qid.dispute (λ z. omega (arith, i.from, num)) in
+      record { from = omega (arith, i.from); is = rw other i.is }
+
+  found : (rules : Rules) (p n : ℕ) (s : Settled) (q : Question) (ds : List Bisection) → Numbered n ds → AllApart ds → question_in p ds ≡ Some q → IsFound p n q s (settled_in rules p s ds)
+  found rules p n s q [] num apart e = absurd (cc)
+  found rules p n s q (d ∷ ds) num apart e =
+      found-choice rules p n s q d ds (asks_first p d) (asks_second p d) refl refl num.0 apart.0 e (λ further. found rules p (n + 1) s q ds num.1 apart.1 further)
+
+  answer-put : (rules : Rules) (p : ℕ) (s : Settled) (q : Question) (t : Record) (b : Bool) → claim_missing (slice_get t.claims (p - 1)) ≡ b → Numbered 1 t.disputes → AllApart t.disputes →
+      (if b then Some claim_question else question_in p t.disputes) ≡ Some q →
+      answers_in (if b then record t { claims = slice_set t.claims (p - 1) (Some s) } else record t { disputes = settled_in rules p s t.disputes }) p q ≡ Some s
+  answer-put rules p s q t true missing num apart e =
+      let same : claim_question ≡ q = cc in
+      rw (← same) (claim-set t.claims (p - 1) s missing)
+  answer-put rules p s q t false missing num apart e =
+      let i : IsFound p 1 q s (settled_in rules p s t.disputes) = found rules p 1 s q t.disputes num apart e in
+      let no_claim : (q.qid.dispute == 0) ≡ false = not-eqb q.qid.dispute 0 (λ z. omega (arith, i.from)) in
+      rw no_claim i.is
+
+  answer-settled : (rules : Rules) (p : ℕ) (s : Settled) (q : Question) (t : Record) → Numbered 1 t.disputes → AllApart t.disputes → open_question rules t p ≡ Some q → answers_in (settle rules p s t) p q ≡ Some s
+  unfolding settle
+  answer-settled rules p s q t num apart e =
+      held (put rules p s t) (stage_opened rules (put rules p s t)) p q s (holds-opened rules (put rules p s t))
+      (answer-put rules p s q t (claim_missing (slice_get t.claims (p - 1))) refl num apart e)
+
+  -- over its own answers a record stays
+
+  or-same : (o : Option Settled) → or_else o o ≡ o
+  or-same (Some s) = refl
+  or-same None = refl
+
+  played-same : (rules : Rules) (f : Answers) (ds : List Bisection) → AllMove ds → AllOwn f ds → map (played rules f) ds ≡ ds
+  played-same rules f [] m own = refl
+  played-same rules f (d ∷ ds) m own =
+      rw (laws.played.own rules f d m.0 own.0 own.1, played-same rules f ds m.1 own.2) refl
+
+  claims-own : (f : Answers) (k : ℕ) (ss : List (Option Settled)) → ((i : ℕ) → f (k + i) claim_question ≡ claim_at (slice_get ss i)) → claims_over f k ss ≡ ss
+  claims-own f k [] h = refl
+  claims-own f k (o ∷ ss) h =
+      let here : f k claim_question ≡ o = ap (λ (n : ℕ). f n claim_question) (omega arith) ∙ h 0 in
+      let rest : claims_over f (k + 1) ss ≡ ss = claims-own f (k + 1) ss (λ i. ap (λ (n : ℕ). f n claim_question) (omega arith) ∙ h (suc i)) in
+      rw (here, rest) (ap (λ (x : Option Settled). x ∷ ss) (or-same o))
+
+  abbrev among : List Bisection → Answers
+  among ds p q = settled_among p q.qid ds
+
+  own-here : (d : Bisection) (ds : List Bisection) → d.first ≢ d.second → (among (d ∷ ds) d.first (question_of d) ≡ d.by_first) × (among (d ∷ ds) d.second (question_of d) ≡ d.by_second)
+  own-here d ds apart =
+      let n : length d.past + 1 - 1 ≡ length d.past = omega arith in
+      let far : (d.first == d.second) ≡ false = not-eqb d.first d.second apart in
+      (rw (eqb-same d.number, eqb-same d.first, n) (laws.held.last First d.past d.by_first), rw (eqb-same d.number, far, eqb-same d.second, n) (laws.held.last Second d.past d.by_second))
+
+  own-skip : (n m : ℕ) (d : Bisection) (ds es : List Bisection) → d.number ≡ n → n < m → Numbered m es → AllOwn (among ds) es → AllOwn (among (d ∷ ds)) es
+  own-skip n m d ds [] is lt num own = tt
+  own-skip n m d ds (e ∷ es) is lt num own =
+      let other : (d.number == e.number) ≡ false = not-eqb d.number e.number (λ z. omega (arith, z, is, lt, num.0)) in
+      (rw other own.0, rw other own.1, own-skip n (m + 1) d ds es is (omega arith) num.1 own.2)
+
+  own-all : (n : ℕ) (ds : List Bisection) → Numbered n ds → AllApart ds → AllOwn (among ds) ds
+  own-all n [] num apart = tt
+  own-all n (d ∷ ds) num apart =
+      let here : (among (d ∷ ds) d.first (question_of d) ≡ d.by_first) × (among (d ∷ ds) d.second (question_of d) ≡ d.by_second) = own-here d ds apart.0 in
+      (here.0, here.1, own-skip n (n + 1) d ds ds num.0 (omega arith) num.1 (own-all (n + 1) ds num.1 apart.1))
+
+  own-record : (n : ℕ) (t : Record) (ds : List Bisection) → 0 < n → Numbered n ds → AllOwn (among t.disputes) ds → AllOwn (answers_in t) ds
+  own-record n t [] some num own = tt
+  own-record n t (d ∷ ds) some num own =
+      let no_claim : (d.number == 0) ≡ false = not-eqb d.number 0 (λ z. omega (arith, z, num.0, some)) in
+      (rw no_claim own.0, rw no_claim own.1, own-record (n + 1) t ds (omega arith) num.1 own.2)
+
+  claim-own : (t : Record) (k : ℕ) → answers_in t (1 + k) claim_question ≡ claim_at (slice_get t.claims k)
+  claim-own t k = let at : 1 + k - 1 ≡ k = omega arith in rw at refl
+
+  carried-same : (rules : Rules) (t : Record) → Numbered 1 t.disputes → AllApart t.disputes → AllMove t.disputes → carried rules (answers_in t) t ≡ t
+  unfolding carried
+  carried-same rules t num apart m =
+      let own : AllOwn (answers_in t) t.disputes = own-record 1 t t.disputes (omega arith) num (own-all 1 t.disputes num apart) in
+      rw (claims-own (answers_in t) 1 t.claims (claim-own t), played-same rules (answers_in t) t.disputes m own) refl
+
+  -- the sides of a pair are two provers
+
+  paired-apart : (r : Ruling) (claims : List (Option Settled)) (x y : ℕ × Claim) → ArePaired r claims x y → x.0 ≢ y.0
+  paired-apart r claims x y a same =
+      let here : slice_get claims (y.0 - 1) ≡ Some (Some (Given (answer.Claim x.1))) = ap (λ (n : ℕ). slice_get claims (n - 1)) (sym same) ∙ a.first.is in
+      let there : slice_get claims (y.0 - 1) ≡ Some (Some (Given (answer.Claim y.1))) = a.second.is in
+      let c : x.1 ≡ y.1 = cc in
+      a.differ (ap r.root_of c)
+
+  apart-new : (rules : Rules) (g n : ℕ) (claims : List (Option Settled)) (ps : List ((ℕ × Claim) × (ℕ × Claim))) → AllPaired rules.ruling claims ps → AllApart (disputes_of rules g n ps)
+  apart-new rules g n claims [] h = tt
+  apart-new rules g n claims (p ∷ ps) h = (paired-apart rules.ruling claims p.0 p.1 h.0, apart-new rules g (n + 1) claims ps h.1)
+
+  apart-both : (ds es : List Bisection) → AllApart ds → AllApart es → AllApart (ds ++ es)
+  apart-both [] es a b = b
+  apart-both (d ∷ ds) es a b = (a.0, apart-both ds es a.1 b)
+
+  apart-sides : (d e : Bisection) → SameSides d e → d.first ≢ d.second → e.first ≢ e.second
+  apart-sides d e k a = λ same. a (sym k.first ∙ (same ∙ k.second))
+
+  apart-choice : (rules : Rules) (p : ℕ) (s : Settled) (d : Bisection) (ds : List Bisection) (x y : Bool) → AllApart (d ∷ ds) → AllApart (settled_in rules p s ds) →
+      AllApart (if x then settle_first rules.ruling s d ∷ ds else if y then settle_second rules.ruling s d ∷ ds else d ∷ settled_in rules p s ds)
+  apart-choice rules p s d ds true y a r = (apart-sides d _ (sides-first rules.ruling s d) a.0, a.1)
+  apart-choice rules p s d ds false true a r = (apart-sides d _ (sides-second rules.ruling s d) a.0, a.1)
+  apart-choice rules p s d ds false false a r = (a.0, r)
+
+  apart-settled : (rules : Rules) (p : ℕ) (s : Settled) (ds : List Bisection) → AllApart ds → AllApart (settled_in rules p s ds)
+  apart-settled rules p s [] a = tt
+  apart-settled rules p s (d ∷ ds) a = apart-choice rules p s d ds (asks_first p d) (asks_second p d) a (apart-settled rules p s ds a.1)
+
+  apart-put : (rules : Rules) (p : ℕ) (s : Settled) (t : Record) (b : Bool) → AllApart t.disputes →
+      AllApart (if b then record t { claims = slice_set t.claims (p - 1) (Some s) } else record t { disputes = settled_in rules p s t.disputes }).disputes
+  apart-put rules p s t true a = a
+  apart-put rules p s t false a = apart-settled rules p s t.disputes a
+
   apart-opened : (rules : Rules) (t : Record) → AllApart t.disputes → AllApart (stage_opened rules t).disputes
   apart-opened rules t a =
       elim (either (is_stage_due rules t)) [
         | inl due ↦
             rw (opened-due rules t due) (apart-both t.disputes _ a
             (apart-new rules (last_stage t.disputes + 1) (length t.disputes + 1) t.claims (pairs rules t)
-            ((pairs-right laws) rules.play.ruling t.claims rules.provers (live t) ((live-right laws) t.claims t.disputes 0 t.claims (λ i. ap (slice_get t.claims) (omega arith))))))
+            ((pairs-right laws) rules.ruling t.claims rules.provers (live t) ((live-right laws) t.claims t.disputes 0 t.claims (λ i. ap (slice_get t.claims) (omega arith))))))
         | inr not_due ↦ rw (opened-not rules t not_due) a
       ]
 
@@ -439,20 +316,20 @@ module _ (laws : BisectionLaws) where
   unfolding settle
   apart-settle rules p s t a = apart-opened rules (put rules p s t) (apart-put rules p s t (claim_missing (slice_get t.claims (p - 1))) a)
 
-  kept-settle : (rules : Rules) (p : ℕ) (s : Settled) (t : Record) → 1 < rules.play.fan → 0 < rules.bound → IsApartIn rules t → IsApartIn rules (settle rules p s t)
+  kept-settle : (rules : Rules) (p : ℕ) (s : Settled) (t : Record) → 1 < rules.fan → 0 < rules.bound → IsApartIn rules t → IsApartIn rules (settle rules p s t)
   kept-settle rules p s t more long i = record {
     apart = apart-settle rules p s t i.apart;
     numbered = (numbered-settle laws) rules p s t i.numbered;
     played = (played-settle laws) rules p s t more long i.played;
   }
 
-  kept-after : (rules : Rules) (es : List (ℕ × Settled)) (t : Record) → 1 < rules.play.fan → 0 < rules.bound → IsApartIn rules t → IsApartIn rules (after rules es t)
+  kept-after : (rules : Rules) (es : List (ℕ × Settled)) (t : Record) → 1 < rules.fan → 0 < rules.bound → IsApartIn rules t → IsApartIn rules (after rules es t)
   kept-after rules [] t more long i = i
   kept-after rules (e ∷ es) t more long i = kept-after rules es (settle rules e.0 e.1 t) more long (kept-settle rules e.0 e.1 t more long i)
 
   -- the answers that it holds at the end are those that were settled
 
-  fits-own : (rules : Rules) (f : Answers) (es : List (ℕ × Settled)) (t : Record) → 1 < rules.play.fan → 0 < rules.bound → IsApartIn rules t → AllFit rules es t →
+  fits-own : (rules : Rules) (f : Answers) (es : List (ℕ × Settled)) (t : Record) → 1 < rules.fan → 0 < rules.bound → IsApartIn rules t → AllFit rules es t →
       ((p : ℕ) (q : Question) (s : Settled) → answers_in (after rules es t) p q ≡ Some s → f p q ≡ Some s) → Fits rules f es t
   fits-own rules f [] t more long i fit below = tt
   fits-own rules f (e ∷ es) t more long i fit below = (
@@ -467,7 +344,7 @@ module _ (laws : BisectionLaws) where
     fits-own rules f es (settle rules e.0 e.1 t) more long (kept-settle rules e.0 e.1 t more long i) fit.1 below,
   )
 
-  ends-own : (rules : Rules) (f : Answers) (es : List (ℕ × Settled)) (t : Record) → 1 < rules.play.fan → 0 < rules.bound → IsPlayed rules t →
+  ends-own : (rules : Rules) (f : Answers) (es : List (ℕ × Settled)) (t : Record) → 1 < rules.fan → 0 < rules.bound → IsPlayed rules t →
       Fits rules f es t → stage_over rules f (after rules es t) ≡ after rules es t → Ends rules f t (after rules es t)
   ends-own rules f [] t more long i fits fixed = record { fixed = fixed; reaches = (0, refl) }
   ends-own rules f (e ∷ es) t more long i fits fixed =
@@ -482,7 +359,7 @@ module _ (laws : BisectionLaws) where
       after rules es (nothing_settled rules) ≡ bracket rules (answers_in (after rules es (nothing_settled rules)))
   bracket-own rules es playable fit =
       let some : 0 < rules.provers = playable.some in
-      let more : 1 < rules.play.fan = omega (arith, playable.halves) in
+      let more : 1 < rules.fan = playable.parted in
       let long : 0 < rules.bound = playable.steps in
       let begun : IsApartIn rules (nothing_settled rules) = record { apart = tt; numbered = tt; played = (played-nothing laws) rules some } in
       let i : IsApartIn rules (after rules es (nothing_settled rules)) = kept-after rules es (nothing_settled rules) more long begun in
@@ -498,3 +375,16 @@ module _ (laws : BisectionLaws) where
   record_is_bracket rules xs playable =
       let i : IsSettled rules (record_after rules xs) = settled-begun rules xs in
       rw i.comes at (bracket-own rules i.list playable i.fit)
+
+  pub open_disputes_share_no_prover : OpenDisputesShareNoProver
+  open_disputes_share_no_prover rules xs p =
+      let i : IsSettled rules (record_after rules xs) = settled-begun rules xs in
+      let a : IsApart rules p (record_after rules xs) = rw i.comes at ((apart-after laws) rules p i.list (nothing_settled rules) (apart-nothing rules p)) in
+      a.one
+
+  pub sides_are_two_provers : SidesAreTwoProvers
+  sides_are_two_provers rules xs playable =
+      let i : IsSettled rules (record_after rules xs) = settled-begun rules xs in
+      let begun : IsApartIn rules (nothing_settled rules) = record { apart = tt; numbered = tt; played = (played-nothing laws) rules playable.some } in
+      let k : IsApartIn rules (record_after rules xs) = rw i.comes at (kept-after rules i.list (nothing_settled rules) playable.parted playable.steps begun) in
+      k.apart

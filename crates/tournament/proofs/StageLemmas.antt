@@ -5,12 +5,13 @@ use Rattle.rd_base.specs.declared.claim.Claim.{Claim}
 use Rattle.bisect_game.specs.declared.question.Question.{Question}
 use Rattle.bisect_game.specs.declared.settled.Settled.{Settled}
 use Rattle.bisect_game.specs.declared.settled.Close.{Close}
+use Rattle.bisect_game.specs.declared.side.Side.TheVariants.{First, Second}
 use Rattle.bisect_game.specs.Bisection.{Bisection, is_closed, question_of, settle_first, settle_second}
 use Rattle.bisect_game.specs.Disputes.{Answers, played, or_else}
 use Rattle.bisect_game.specs.Rules.{Rules}
 use Rattle.tournament.proofs.OpenedLemmas.{opened-not, opened-due, opened-twice}
 use Rattle.tournament.proofs.ReachLemmas.{either, Reaches, reach_back, reach_one}
-use Rattle.tournament.proofs.RoundLemmas.{IsWithin, steps-first, steps-second, played-steps, played-closed, within-first, within-second}
+use Rattle.tournament.proofs.RoundLemmas.{IsWithin, within-first, within-second}
 use Rattle.tournament.specs.Bracket.{Record, claim_question, pairs, last_stage, disputes_of, all_there, all_out, put_out, is_stage_due, stage_opened, claims_over, carried, stage_over, nothing_settled, asks_first, asks_second, question_in, claim_missing, open_question, settled_in, put, settle, is_complete, all_closed}
 use Rattle.tournament.specs.Settling.{after, Fits, OneRecord}
 use Rattle.bisect_game.specs.Laws.{BisectionLaws}
@@ -63,7 +64,7 @@ module _ (laws : BisectionLaws) where
   played-all rules f [] e = refl
   played-all rules f (d ∷ ds) e =
       let two : (is_closed d ≡ true) × (all_closed ds ≡ true) = both (is_closed d) (all_closed ds) e in
-      rw ((played-closed laws) rules f d two.0, played-all rules f ds two.1) refl
+      rw (laws.played.closed rules f d two.0, played-all rules f ds two.1) refl
 
   closed-out : (c : Option Close) → put_out c ≡ true → is_some c ≡ true
   closed-out (Some c) e = refl
@@ -86,45 +87,45 @@ module _ (laws : BisectionLaws) where
 
   -- the first dispute that asks, by either side
   put-choice : (rules : Rules) (f : Answers) (p : ℕ) (s : Settled) (q : Question) (d : Bisection) (ds : List Bisection) (x y : Bool) →
-      (if x || y then Some (question_of rules.play.fan d) else question_in rules.play.fan p ds) ≡ Some q → f p q ≡ Some s →
-      (x ≡ true → f p (question_of rules.play.fan d) ≡ Some s → played rules f (settle_first rules.play s d) ≡ played rules f d) →
-      (y ≡ true → f p (question_of rules.play.fan d) ≡ Some s → played rules f (settle_second rules.play s d) ≡ played rules f d) →
-      (question_in rules.play.fan p ds ≡ Some q → map (played rules f) (settled_in rules p s ds) ≡ map (played rules f) ds) →
-      map (played rules f) (if x then settle_first rules.play s d ∷ ds else if y then settle_second rules.play s d ∷ ds else d ∷ settled_in rules p s ds)
+      (if x || y then Some (question_of d) else question_in p ds) ≡ Some q → f p q ≡ Some s →
+      (x ≡ true → f p (question_of d) ≡ Some s → played rules f (settle_first rules.ruling s d) ≡ played rules f d) →
+      (y ≡ true → f p (question_of d) ≡ Some s → played rules f (settle_second rules.ruling s d) ≡ played rules f d) →
+      (question_in p ds ≡ Some q → map (played rules f) (settled_in rules p s ds) ≡ map (played rules f) ds) →
+      map (played rules f) (if x then settle_first rules.ruling s d ∷ ds else if y then settle_second rules.ruling s d ∷ ds else d ∷ settled_in rules p s ds)
       ≡ map (played rules f) (d ∷ ds)
   put-choice rules f p s q d ds true y e is h1 h2 rest =
-      let same : question_of rules.play.fan d ≡ q = cc in
+      let same : question_of d ≡ q = cc in
       ap (λ (z : Bisection). z ∷ map (played rules f) ds) (h1 refl (ap (f p) same ∙ is))
   put-choice rules f p s q d ds false true e is h1 h2 rest =
-      let same : question_of rules.play.fan d ≡ q = cc in
+      let same : question_of d ≡ q = cc in
       ap (λ (z : Bisection). z ∷ map (played rules f) ds) (h2 refl (ap (f p) same ∙ is))
   put-choice rules f p s q d ds false false e is h1 h2 rest = ap (λ (zs : List Bisection). played rules f d ∷ zs) (rest e)
 
-  played-put : (rules : Rules) (f : Answers) (p : ℕ) (s : Settled) (q : Question) (ds : List Bisection) → 1 < rules.play.fan → 0 < rules.bound → AllWithin rules ds →
-      question_in rules.play.fan p ds ≡ Some q → f p q ≡ Some s → map (played rules f) (settled_in rules p s ds) ≡ map (played rules f) ds
+  played-put : (rules : Rules) (f : Answers) (p : ℕ) (s : Settled) (q : Question) (ds : List Bisection) → 1 < rules.fan → 0 < rules.bound → AllWithin rules ds →
+      question_in p ds ≡ Some q → f p q ≡ Some s → map (played rules f) (settled_in rules p s ds) ≡ map (played rules f) ds
   played-put rules f p s q [] more long w e is = absurd (cc)
   played-put rules f p s q (d ∷ ds) more long w e is =
       put-choice rules f p s q d ds (asks_first p d) (asks_second p d) e is
       (λ first here.
       let a : ((d.first == p) ≡ true) × IsAsked d.by_first d.close = asked (d.first == p) d.by_first d.close first in
-      let at : f d.first (question_of rules.play.fan d) ≡ Some s = ap (λ (n : ℕ). f n (question_of rules.play.fan d)) (eqb-is d.first p a.0) ∙ here in
-      (played-steps laws) rules f d (settle_first rules.play s d) more long w.0 ((steps-first laws) rules.play f d s a.1.still a.1.missing at))
+      let at : f d.first (question_of d) ≡ Some s = ap (λ (n : ℕ). f n (question_of d)) (eqb-is d.first p a.0) ∙ here in
+      laws.played.settled rules f First s d (omega (arith, more, w.0.fanned)) long w.0.some w.0.high (rw (a.1.missing, a.1.still) refl) at)
       (λ second here.
       let a : ((d.second == p) ≡ true) × IsAsked d.by_second d.close = asked (d.second == p) d.by_second d.close second in
-      let at : f d.second (question_of rules.play.fan d) ≡ Some s = ap (λ (n : ℕ). f n (question_of rules.play.fan d)) (eqb-is d.second p a.0) ∙ here in
-      (played-steps laws) rules f d (settle_second rules.play s d) more long w.0 ((steps-second laws) rules.play f d s a.1.still a.1.missing at))
+      let at : f d.second (question_of d) ≡ Some s = ap (λ (n : ℕ). f n (question_of d)) (eqb-is d.second p a.0) ∙ here in
+      laws.played.settled rules f Second s d (omega (arith, more, w.0.fanned)) long w.0.some w.0.high (rw (a.1.missing, a.1.still) refl) at)
       (λ further. played-put rules f p s q ds more long w.1 further is)
 
   -- the intervals stay those of the match
 
-  within-choice : (rules : Rules) (p : ℕ) (s : Settled) (d : Bisection) (ds : List Bisection) (x y : Bool) → 1 < rules.play.fan → IsWithin rules d → AllWithin rules ds →
+  within-choice : (rules : Rules) (p : ℕ) (s : Settled) (d : Bisection) (ds : List Bisection) (x y : Bool) → 1 < rules.fan → IsWithin rules d → AllWithin rules ds →
       AllWithin rules (settled_in rules p s ds) →
-      AllWithin rules (if x then settle_first rules.play s d ∷ ds else if y then settle_second rules.play s d ∷ ds else d ∷ settled_in rules p s ds)
+      AllWithin rules (if x then settle_first rules.ruling s d ∷ ds else if y then settle_second rules.ruling s d ∷ ds else d ∷ settled_in rules p s ds)
   within-choice rules p s d ds true y more w ws rest = ((within-first laws) rules s d more w, ws)
   within-choice rules p s d ds false true more w ws rest = ((within-second laws) rules s d more w, ws)
   within-choice rules p s d ds false false more w ws rest = (w, rest)
 
-  within-settled : (rules : Rules) (p : ℕ) (s : Settled) (ds : List Bisection) → 1 < rules.play.fan → AllWithin rules ds → AllWithin rules (settled_in rules p s ds)
+  within-settled : (rules : Rules) (p : ℕ) (s : Settled) (ds : List Bisection) → 1 < rules.fan → AllWithin rules ds → AllWithin rules (settled_in rules p s ds)
   within-settled rules p s [] more w = tt
   within-settled rules p s (d ∷ ds) more w =
       within-choice rules p s d ds (asks_first p d) (asks_second p d) more w.0 w.1 (within-settled rules p s ds more w.1)
@@ -135,7 +136,7 @@ module _ (laws : BisectionLaws) where
 
   within-new : (rules : Rules) (g : ℕ) (n : ℕ) (ps : List ((ℕ × Claim) × (ℕ × Claim))) → 0 < rules.bound → AllWithin rules (disputes_of rules g n ps)
   within-new rules g n [] long = tt
-  within-new rules g n (p ∷ ps) long = (record { some = long; high = omega arith; past = tt }, within-new rules g (n + 1) ps long)
+  within-new rules g n (p ∷ ps) long = (record { fanned = refl; some = long; high = omega arith; past = tt }, within-new rules g (n + 1) ps long)
 
   pub within-opened : (rules : Rules) (t : Record) → 0 < rules.bound → AllWithin rules t.disputes → AllWithin rules (stage_opened rules t).disputes
   within-opened rules t long w =
@@ -151,8 +152,8 @@ module _ (laws : BisectionLaws) where
 
   -- a settled answer that is one of these is carried on to the same
   carried-by : (rules : Rules) (f : Answers) (p k : ℕ) (s : Settled) (q : Question) (t : Record) (b : Bool) → p ≡ 1 + k → claim_missing (slice_get t.claims k) ≡ b →
-      1 < rules.play.fan → 0 < rules.bound → AllWithin rules t.disputes →
-      (if b then Some claim_question else question_in rules.play.fan p t.disputes) ≡ Some q → f p q ≡ Some s →
+      1 < rules.fan → 0 < rules.bound → AllWithin rules t.disputes →
+      (if b then Some claim_question else question_in p t.disputes) ≡ Some q → f p q ≡ Some s →
       carried rules f (if b then record t { claims = slice_set t.claims k (Some s) } else record t { disputes = settled_in rules p s t.disputes }) ≡ carried rules f t
   unfolding carried
   carried-by rules f p k s q t true place missing more long w e is =
@@ -162,17 +163,17 @@ module _ (laws : BisectionLaws) where
   carried-by rules f p k s q t false place missing more long w e is = rw (played-put rules f p s q t.disputes more long w e is) refl
 
   carried-put : (rules : Rules) (f : Answers) (p : ℕ) (s : Settled) (q : Question) (t : Record) → 0 < p →
-      1 < rules.play.fan → 0 < rules.bound → AllWithin rules t.disputes → open_question rules t p ≡ Some q → f p q ≡ Some s →
+      1 < rules.fan → 0 < rules.bound → AllWithin rules t.disputes → open_question rules t p ≡ Some q → f p q ≡ Some s →
       carried rules f (put rules p s t) ≡ carried rules f t
   carried-put rules f p s q t numbered more long w e is =
       carried-by rules f p (p - 1) s q t (claim_missing (slice_get t.claims (p - 1))) (omega arith) refl more long w e is
 
-  within-put : (rules : Rules) (p : ℕ) (s : Settled) (t : Record) (b : Bool) → 1 < rules.play.fan → AllWithin rules t.disputes →
+  within-put : (rules : Rules) (p : ℕ) (s : Settled) (t : Record) (b : Bool) → 1 < rules.fan → AllWithin rules t.disputes →
       AllWithin rules (if b then record t { claims = slice_set t.claims (p - 1) (Some s) } else record t { disputes = settled_in rules p s t.disputes }).disputes
   within-put rules p s t true more w = w
   within-put rules p s t false more w = within-settled rules p s t.disputes more w
 
-  pub played-settle : (rules : Rules) (p : ℕ) (s : Settled) (t : Record) → 1 < rules.play.fan → 0 < rules.bound → IsPlayed rules t → IsPlayed rules (settle rules p s t)
+  pub played-settle : (rules : Rules) (p : ℕ) (s : Settled) (t : Record) → 1 < rules.fan → 0 < rules.bound → IsPlayed rules t → IsPlayed rules (settle rules p s t)
   unfolding settle
   played-settle rules p s t more long i =
       record {
@@ -181,7 +182,7 @@ module _ (laws : BisectionLaws) where
       }
 
   -- the answers are carried on to the same stage
-  pub steps-settle : (rules : Rules) (f : Answers) (p : ℕ) (s : Settled) (q : Question) (t : Record) → 0 < p → 1 < rules.play.fan → 0 < rules.bound → IsPlayed rules t →
+  pub steps-settle : (rules : Rules) (f : Answers) (p : ℕ) (s : Settled) (q : Question) (t : Record) → 0 < p → 1 < rules.fan → 0 < rules.bound → IsPlayed rules t →
       open_question rules t p ≡ Some q → f p q ≡ Some s →
       (stage_over rules f (settle rules p s t) ≡ stage_over rules f t) ⊎ (settle rules p s t ≡ stage_over rules f t)
   unfolding settle
@@ -202,7 +203,7 @@ module _ (laws : BisectionLaws) where
       ap (stage_opened rules) (carried-due rules f t two.0 two.1) ∙ i.rests
 
   -- every complete list comes to what the stages over the answers come to
-  pub ends : (rules : Rules) (f : Answers) (es : List (ℕ × Settled)) (t : Record) → 1 < rules.play.fan → 0 < rules.bound → IsPlayed rules t →
+  pub ends : (rules : Rules) (f : Answers) (es : List (ℕ × Settled)) (t : Record) → 1 < rules.fan → 0 < rules.bound → IsPlayed rules t →
       Fits rules f es t → is_complete (after rules es t) ≡ true → Ends rules f t (after rules es t)
   ends rules f [] t more long i fits c = record { fixed = complete-fixed rules f t i c; reaches = (0, refl) }
   ends rules f (e ∷ es) t more long i fits c =
@@ -228,7 +229,7 @@ module _ (laws : BisectionLaws) where
   pub one_record : OneRecord
   one_record rules f es gs playable fe fg ce cg =
       let some : 0 < rules.provers = playable.some in
-      let more : 1 < rules.play.fan = omega (arith, playable.halves) in
+      let more : 1 < rules.fan = playable.parted in
       let long : 0 < rules.bound = playable.steps in
       let i : IsPlayed rules (nothing_settled rules) = played-nothing rules some in
       let x : Ends rules f (nothing_settled rules) (after rules es (nothing_settled rules)) = ends rules f es (nothing_settled rules) more long i fe ce in

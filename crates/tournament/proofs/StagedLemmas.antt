@@ -1,54 +1,46 @@
 -- The bracket has fewer disputes than provers, and no stage changes it.
 use Rattle.std.proofs.Common.{◌≡◌, ℕ, zero, suc, ◌+◌, ◌<◌, true, false, List, [], ◌∷◌, ◌++◌, length, map, ◌⊎◌, inl, inr, Option, refl, ◌∙◌, ap, arith}
 use Rattle.std.specs.Fn.{iterate}
+use Rattle.bisect_game.specs.Ruling.{Ruling}
 use Rattle.bisect_game.specs.declared.settled.Settled.{Settled}
-use Rattle.bisect_game.specs.Bisection.{Bisection, advanced, is_closed}
+use Rattle.bisect_game.specs.Bisection.{Bisection, is_closed}
 use Rattle.bisect_game.specs.Disputes.{Answers, filled, round_over, played}
-use Rattle.bisect_game.specs.Rules.{Play, Rules}
+use Rattle.bisect_game.specs.Rules.{Rules}
 use Rattle.tournament.proofs.BracketLemmas.{reach-fixed}
 use Rattle.tournament.proofs.CountLemmas.{Pair, SidesOf, AllHonest, IsHonest, IsStaged, IsOrdered, honest-advanced, ordered-opened, ordered-nothing, fewer}
 use Rattle.tournament.proofs.ReachLemmas.{either}
-use Rattle.tournament.proofs.SidesLemmas.{SameSides, sides-advanced, round-closed, round-open}
+use Rattle.tournament.proofs.SidesLemmas.{SameSides, sides-round, round-closed, round-open}
 use Rattle.tournament.proofs.StageLemmas.{claims-full, played-all, all-out}
 use Rattle.tournament.specs.Bracket.{Record, all_there, claims_over, carried, stage_over, nothing_settled, bracket}
 use Rattle.bisect_game.specs.Laws.{BisectionLaws}
 
 module _ (laws : BisectionLaws) where
-  sides-round : (play : Play) (f : Answers) (d : Bisection) → SameSides d (round_over play f d)
-  sides-round play f d =
-      elim (either (is_closed d)) [
-        | inl closed ↦ rw (round-closed play f d closed) (record { first = refl; second = refl; stage = refl })
-        | inr open_ ↦
-            let k : SameSides (filled play f d) (advanced play (filled play f d) (filled play f d).by_first (filled play f d).by_second) = sides-advanced play (filled play f d) (filled play f d).by_first (filled play f d).by_second in
-            rw (round-open play f d open_) (record { first = k.first; second = k.second; stage = k.stage })
-      ]
-
-  sides-rounds : (play : Play) (f : Answers) (n : ℕ) (d : Bisection) → SameSides d (iterate (round_over play f) n d)
-  sides-rounds play f zero d = record { first = refl; second = refl; stage = refl }
-  sides-rounds play f (suc n) d =
-      let k : SameSides d (round_over play f d) = sides-round play f d in
-      let l : SameSides (round_over play f d) (iterate (round_over play f) n (round_over play f d)) = sides-rounds play f n (round_over play f d) in
-      record { first = l.first ∙ k.first; second = l.second ∙ k.second; stage = l.stage ∙ k.stage }
+  sides-rounds : (ruling : Ruling) (f : Answers) (n : ℕ) (d : Bisection) → SameSides d (iterate (round_over ruling f) n d)
+  sides-rounds ruling f zero d = record { first = refl; second = refl; stage = refl; fan = refl }
+  sides-rounds ruling f (suc n) d =
+      let k : SameSides d (round_over ruling f d) = sides-round ruling f d in
+      let l : SameSides (round_over ruling f d) (iterate (round_over ruling f) n (round_over ruling f d)) = sides-rounds ruling f n (round_over ruling f d) in
+      record { first = l.first ∙ k.first; second = l.second ∙ k.second; stage = l.stage ∙ k.stage; fan = l.fan ∙ k.fan }
 
   pub sides-played : (rules : Rules) (f : Answers) (d : Bisection) → SameSides d (played rules f d)
   unfolding played
-  sides-played rules f d = sides-rounds rules.play f rules.bound d
+  sides-played rules f d = sides-rounds rules.ruling f rules.bound d
 
-  honest-round : (play : Play) (f : Answers) (d : Bisection) → IsHonest d.close → IsHonest (round_over play f d).close
-  honest-round play f d h =
+  honest-round : (ruling : Ruling) (f : Answers) (d : Bisection) → IsHonest d.close → IsHonest (round_over ruling f d).close
+  honest-round ruling f d h =
       elim (either (is_closed d)) [
-        | inl closed ↦ rw (round-closed play f d closed) h
-        | inr open_ ↦ rw (round-open play f d open_) (honest-advanced play (filled play f d) (filled play f d).by_first (filled play f d).by_second h)
+        | inl closed ↦ rw (round-closed ruling f d closed) h
+        | inr open_ ↦ rw (round-open ruling f d open_) (honest-advanced ruling (filled f d) (filled f d).by_first (filled f d).by_second h)
       ]
 
-  honest-rounds : (play : Play) (f : Answers) (n : ℕ) (d : Bisection) → IsHonest d.close → IsHonest (iterate (round_over play f) n d).close
-  honest-rounds play f zero d h = h
-  honest-rounds play f (suc n) d h = honest-rounds play f n (round_over play f d) (honest-round play f d h)
+  honest-rounds : (ruling : Ruling) (f : Answers) (n : ℕ) (d : Bisection) → IsHonest d.close → IsHonest (iterate (round_over ruling f) n d).close
+  honest-rounds ruling f zero d h = h
+  honest-rounds ruling f (suc n) d h = honest-rounds ruling f n (round_over ruling f d) (honest-round ruling f d h)
 
   honest-played : (rules : Rules) (f : Answers) (ds : List Bisection) → AllHonest ds → AllHonest (map (played rules f) ds)
   unfolding played
   honest-played rules f [] h = tt
-  honest-played rules f (d ∷ ds) h = (honest-rounds rules.play f rules.bound d h.0, honest-played rules f ds h.1)
+  honest-played rules f (d ∷ ds) h = (honest-rounds rules.ruling f rules.bound d h.0, honest-played rules f ds h.1)
 
   sides-all : (rules : Rules) (f : Answers) (ps : List Pair) (ds : List Bisection) → SidesOf ps ds → SidesOf ps (map (played rules f) ds)
   sides-all rules f [] [] i = tt
@@ -112,7 +104,7 @@ module _ (laws : BisectionLaws) where
   unfolding bracket
   bracket-ordered rules f = ordered-stages rules f rules.provers (nothing_settled rules) (ordered-nothing rules)
 
-  pub bracket-fixed : (rules : Rules) (f : Answers) → 0 < rules.provers → 1 < rules.play.fan → 0 < rules.bound → stage_over rules f (bracket rules f) ≡ bracket rules f
+  pub bracket-fixed : (rules : Rules) (f : Answers) → 0 < rules.provers → 1 < rules.fan → 0 < rules.bound → stage_over rules f (bracket rules f) ≡ bracket rules f
   unfolding bracket
   bracket-fixed rules f some more long =
       let o : IsOrdered rules (iterate (stage_over rules f) rules.provers (nothing_settled rules)) = ordered-stages rules f rules.provers (nothing_settled rules) (ordered-nothing rules) in

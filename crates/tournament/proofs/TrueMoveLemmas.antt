@@ -23,45 +23,45 @@ none-spent : (s : Settled) (b : Bool) → b ≡ true → (if b then None else So
 none-spent s true within e = absurd (cc)
 none-spent s false within e = absurd (cc)
 
--- what a true move settles is given and true
-move-settles : (rules : Rules) (t : Truth) (q : Question) (passes : ℕ) (m : Option Answer) (s : Settled) → IsRun rules t → IsTrueMove rules t q passes m → settled_by rules q passes m ≡ Some s → IsTrueSettled t q.kind s
-move-settles rules t q passes (Some a) s run is e =
-    let same : judged rules.play.ruling q.kind a ≡ s = cc in
-    rw (← same) (judged-true rules.play.ruling t q.kind a run.sound is)
-move-settles rules t q passes None s run is e =
-    let yes : nat_lt passes rules.patience ≡ true = grind (arith, nat_tests) in
-    absurd (none-spent s (nat_lt passes rules.patience) yes e)
-
-moved-true : (rules : Rules) (t : Truth) (p other : ℕ) (q : Question) (o : Option Settled) (st : MatchState) → 0 < p → 0 < other → open_question rules st.record_ other ≡ Some q →
-    ((s : Settled) → o ≡ Some s → other ≡ p → IsTrueSettled t q.kind s) → AreTrue rules t p st.record_ → AreTrue rules t p (moved rules st other o).record_
-moved-true rules t p other q None st some far asked own h = h
-moved-true rules t p other q (Some s) st some far asked own h = true-settle rules t p other s q st.record_ some far asked (own s refl) h
-
-posted-if : (rules : Rules) (t : Truth) (p other : ℕ) (q : Question) (m : Option Answer) (st : MatchState) (b : Bool) → IsRun rules t → 0 < p → 0 < other → open_question rules st.record_ other ≡ Some q →
-    (b ≡ true → other ≡ p → IsTrueMove rules t q (passes_of st other) m) → AreTrue rules t p st.record_ →
-    AreTrue rules t p (if b then moved rules st other (settled_by rules q (passes_of st other) m) else st).record_
-posted-if rules t p other q m st true run some far asked own h =
-    moved-true rules t p other q (settled_by rules q (passes_of st other) m) st some far asked (λ s e mine. move-settles rules t q (passes_of st other) m s run (own refl mine) e) h
-posted-if rules t p other q m st false run some far asked own h = h
-
-posted-by : (rules : Rules) (t : Truth) (p other : ℕ) (qid : Qid) (m : Option Answer) (st : MatchState) (o : Option Question) → IsRun rules t → 0 < p → 0 < other → open_question rules st.record_ other ≡ o →
-    ((q : Question) → other ≡ p → open_question rules st.record_ p ≡ Some q → same_qid q.qid qid ≡ true → IsTrueMove rules t q (passes_of st p) m) → AreTrue rules t p st.record_ →
-    AreTrue rules t p (posted_on rules st other qid m o).record_
-posted-by rules t p other qid m st None run some far asked own h = h
-posted-by rules t p other qid m st (Some q) run some far asked own h =
-    posted-if rules t p other q m st (same_qid q.qid qid) run some far asked (λ e mine. rw mine (own q mine (rw mine at asked) e)) h
-
-posts-true : (rules : Rules) (t : Truth) (p : ℕ) (xs : List Post) (st : MatchState) → IsRun rules t → 0 < p → MovesTruly rules t p st xs → AreTrue rules t p st.record_ → AreTrue rules t p (after_posts rules xs st).record_
-posts-true rules t p [] st run some own h = h
-posts-true rules t p (x ∷ xs) st run some own h =
-    posts-true rules t p xs (posted rules st x.prover x.qid x.answer) run some own.1
-    (posted-by rules t p x.prover x.qid x.answer st (open_question rules st.record_ x.prover) run some x.numbered refl own.0 h)
-
-pub true_moves_are_true_answers : TrueMovesAreTrueAnswers
-true_moves_are_true_answers rules t xs p run some within own =
-    posts-true rules t p xs (begun rules) run some own (record { claim = inl (none-yet rules.provers (p - 1) None (omega (arith, some, within))); disputes = tt })
-
 module _ (laws : BisectionLaws) where
+  -- what a true move settles is given and true
+  move-settles : (rules : Rules) (t : Truth) (q : Question) (passes : ℕ) (m : Option Answer) (s : Settled) → IsRun rules t → IsTrueMove rules t q passes m → settled_by rules q passes m ≡ Some s → IsTrueSettled t q.kind s
+  move-settles rules t q passes (Some a) s run is e =
+      let same : judged rules.ruling q.kind a ≡ s = cc in
+      rw (← same) (judged-true laws.fits rules.ruling t q.kind a run.sound is)
+  move-settles rules t q passes None s run is e =
+      let yes : nat_lt passes rules.patience ≡ true = grind (arith, nat_tests) in
+      absurd (none-spent s (nat_lt passes rules.patience) yes e)
+
+  moved-true : (rules : Rules) (t : Truth) (p other : ℕ) (q : Question) (o : Option Settled) (st : MatchState) → 0 < p → 0 < other → open_question rules st.record_ other ≡ Some q →
+      ((s : Settled) → o ≡ Some s → other ≡ p → IsTrueSettled t q.kind s) → AreTrue rules t p st.record_ → AreTrue rules t p (moved rules st other o).record_
+  moved-true rules t p other q None st some far asked own h = h
+  moved-true rules t p other q (Some s) st some far asked own h = true-settle rules t p other s q st.record_ some far asked (own s refl) h
+
+  posted-if : (rules : Rules) (t : Truth) (p other : ℕ) (q : Question) (m : Option Answer) (st : MatchState) (b : Bool) → IsRun rules t → 0 < p → 0 < other → open_question rules st.record_ other ≡ Some q →
+      (b ≡ true → other ≡ p → IsTrueMove rules t q (passes_of st other) m) → AreTrue rules t p st.record_ →
+      AreTrue rules t p (if b then moved rules st other (settled_by rules q (passes_of st other) m) else st).record_
+  posted-if rules t p other q m st true run some far asked own h =
+      moved-true rules t p other q (settled_by rules q (passes_of st other) m) st some far asked (λ s e mine. move-settles rules t q (passes_of st other) m s run (own refl mine) e) h
+  posted-if rules t p other q m st false run some far asked own h = h
+
+  posted-by : (rules : Rules) (t : Truth) (p other : ℕ) (qid : Qid) (m : Option Answer) (st : MatchState) (o : Option Question) → IsRun rules t → 0 < p → 0 < other → open_question rules st.record_ other ≡ o →
+      ((q : Question) → other ≡ p → open_question rules st.record_ p ≡ Some q → same_qid q.qid qid ≡ true → IsTrueMove rules t q (passes_of st p) m) → AreTrue rules t p st.record_ →
+      AreTrue rules t p (posted_on rules st other qid m o).record_
+  posted-by rules t p other qid m st None run some far asked own h = h
+  posted-by rules t p other qid m st (Some q) run some far asked own h =
+      posted-if rules t p other q m st (same_qid q.qid qid) run some far asked (λ e mine. rw mine (own q mine (rw mine at asked) e)) h
+
+  posts-true : (rules : Rules) (t : Truth) (p : ℕ) (xs : List Post) (st : MatchState) → IsRun rules t → 0 < p → MovesTruly rules t p st xs → AreTrue rules t p st.record_ → AreTrue rules t p (after_posts rules xs st).record_
+  posts-true rules t p [] st run some own h = h
+  posts-true rules t p (x ∷ xs) st run some own h =
+      posts-true rules t p xs (posted rules st x.prover x.qid x.answer) run some own.1
+      (posted-by rules t p x.prover x.qid x.answer st (open_question rules st.record_ x.prover) run some x.numbered refl own.0 h)
+
+  pub true_moves_are_true_answers : TrueMovesAreTrueAnswers
+  true_moves_are_true_answers rules t xs p run some within own =
+      posts-true rules t p xs (begun rules) run some own (record { claim = inl (none-yet rules.provers (p - 1) None (omega (arith, some, within))); disputes = tt })
+
   pub true_moves_are_safe : TrueMovesAreSafe
   true_moves_are_safe rules t xs p playable fair run some within own =
       let answers : AreTrue rules t p (record_after rules xs) = true_moves_are_true_answers rules t xs p run some within own in

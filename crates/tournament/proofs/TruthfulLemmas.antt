@@ -15,11 +15,11 @@ use Rattle.bisect_game.specs.declared.side.Side.{Side}
 use Rattle.bisect_game.specs.declared.side.Side.TheVariants.{First, Second}
 use Rattle.bisect_game.specs.Says.{Says}
 use Rattle.bisect_game.specs.Ruling.{Ruling}
-use Rattle.bisect_game.specs.Rules.{Play, Rules, is_fit, judged}
+use Rattle.bisect_game.specs.Rules.{Rules, is_fit, judged}
 use Rattle.bisect_game.specs.Closing.{close_of}
 use Rattle.bisect_game.specs.Bisection.{Bisection, kind_over, question_of, closed_with, went_on, closed_or, decided, advanced, settle_first, settle_second}
 use Rattle.bisect_game.specs.Truth.{Truth, IsRun, IsTrueAnswer, IsTrueSettled, IsFit, AllTrue, IsTruthful, own_answer, own_open}
-use Rattle.bisect_game.specs.Laws.{BisectionLaws}
+use Rattle.bisect_game.specs.Laws.{BisectionLaws, TrueAnswersFit}
 use Rattle.tournament.specs.Bracket.{Record, claim_question, claim_missing, asks_first, asks_second, question_in, open_question, disputes_of, last_stage, pairs, is_stage_due, stage_opened, settled_in, put, settle, nothing_settled, bracket}
 use Rattle.tournament.specs.Settling.{after}
 use Rattle.tournament.specs.Moves.{MatchState, begun}
@@ -65,74 +65,74 @@ same-open : (side : Side) (d : Bisection) (c : Close) → own_open side (closed_
 same-open First d c = refl
 same-open Second d c = refl
 
-truthful-by : (play : Play) (t : Truth) (side : Side) (d : Bisection) (a b : Settled) (o : Option Close) → d.by_first ≡ Some a → d.by_second ≡ Some b → IsTruthful t play.fan side d →
-    IsTruthful t play.fan side (closed_or d (went_on play.fan d a b) o)
-truthful-by play t side d a b (Some c) ea eb h = record { past = h.past; open_ = rw (same-open side d c) h.open_ }
-truthful-by play t side d a b None ea eb h =
-    let is : IsTrueSettled t (kind_over play.fan d.place.lo d.place.hi) (own-of side a b) = rw (own-is side d a b ea eb) at h.open_ in
+truthful-by : (ruling : Ruling) (t : Truth) (side : Side) (d : Bisection) (a b : Settled) (o : Option Close) → d.by_first ≡ Some a → d.by_second ≡ Some b → IsTruthful t side d →
+    IsTruthful t side (closed_or d (went_on d a b) o)
+truthful-by ruling t side d a b (Some c) ea eb h = record { past = h.past; open_ = rw (same-open side d c) h.open_ }
+truthful-by ruling t side d a b None ea eb h =
+    let is : IsTrueSettled t (kind_over d.fan d.place.lo d.place.hi) (own-of side a b) = rw (own-is side d a b ea eb) at h.open_ in
     record {
-      past = all-last t play.fan side d.past _ h.past (rw (own-round side d.place.lo d.place.hi a b) is);
-      open_ = rw (none-open side (went_on play.fan d a b) refl refl) tt;
+      past = all-last t d.fan side d.past _ h.past (rw (own-round side d.place.lo d.place.hi a b) is);
+      open_ = rw (none-open side (went_on d a b) refl refl) tt;
     }
 
-truthful-advanced : (play : Play) (t : Truth) (side : Side) (d : Bisection) (a b : Option Settled) → d.by_first ≡ a → d.by_second ≡ b → IsTruthful t play.fan side d → IsTruthful t play.fan side (advanced play d a b)
+truthful-advanced : (ruling : Ruling) (t : Truth) (side : Side) (d : Bisection) (a b : Option Settled) → d.by_first ≡ a → d.by_second ≡ b → IsTruthful t side d → IsTruthful t side (advanced ruling d a b)
 unfolding decided
-truthful-advanced play t side d (Some a) (Some b) ea eb h = truthful-by play t side d a b (close_of play.ruling d.place a b) ea eb h
-truthful-advanced play t side d (Some a) None ea eb h = h
-truthful-advanced play t side d None b ea eb h = h
+truthful-advanced ruling t side d (Some a) (Some b) ea eb h = truthful-by ruling t side d a b (close_of ruling d.place a b) ea eb h
+truthful-advanced ruling t side d (Some a) None ea eb h = h
+truthful-advanced ruling t side d None b ea eb h = h
 
-truthful-own-first : (play : Play) (t : Truth) (s : Settled) (d : Bisection) → IsTrueSettled t (kind_over play.fan d.place.lo d.place.hi) s → IsTruthful t play.fan First d → IsTruthful t play.fan First (settle_first play s d)
+truthful-own-first : (ruling : Ruling) (t : Truth) (s : Settled) (d : Bisection) → IsTrueSettled t (kind_over d.fan d.place.lo d.place.hi) s → IsTruthful t First d → IsTruthful t First (settle_first ruling s d)
 unfolding settle_first
-truthful-own-first play t s d is h = truthful-advanced play t First (record d { by_first = Some s }) (Some s) d.by_second refl refl (record { past = h.past; open_ = is })
+truthful-own-first ruling t s d is h = truthful-advanced ruling t First (record d { by_first = Some s }) (Some s) d.by_second refl refl (record { past = h.past; open_ = is })
 
-truthful-other-first : (play : Play) (t : Truth) (s : Settled) (d : Bisection) → IsTruthful t play.fan Second d → IsTruthful t play.fan Second (settle_first play s d)
+truthful-other-first : (ruling : Ruling) (t : Truth) (s : Settled) (d : Bisection) → IsTruthful t Second d → IsTruthful t Second (settle_first ruling s d)
 unfolding settle_first
-truthful-other-first play t s d h = truthful-advanced play t Second (record d { by_first = Some s }) (Some s) d.by_second refl refl (record { past = h.past; open_ = h.open_ })
+truthful-other-first ruling t s d h = truthful-advanced ruling t Second (record d { by_first = Some s }) (Some s) d.by_second refl refl (record { past = h.past; open_ = h.open_ })
 
-truthful-own-second : (play : Play) (t : Truth) (s : Settled) (d : Bisection) → IsTrueSettled t (kind_over play.fan d.place.lo d.place.hi) s → IsTruthful t play.fan Second d → IsTruthful t play.fan Second (settle_second play s d)
+truthful-own-second : (ruling : Ruling) (t : Truth) (s : Settled) (d : Bisection) → IsTrueSettled t (kind_over d.fan d.place.lo d.place.hi) s → IsTruthful t Second d → IsTruthful t Second (settle_second ruling s d)
 unfolding settle_second
-truthful-own-second play t s d is h = truthful-advanced play t Second (record d { by_second = Some s }) d.by_first (Some s) refl refl (record { past = h.past; open_ = is })
+truthful-own-second ruling t s d is h = truthful-advanced ruling t Second (record d { by_second = Some s }) d.by_first (Some s) refl refl (record { past = h.past; open_ = is })
 
-truthful-other-second : (play : Play) (t : Truth) (s : Settled) (d : Bisection) → IsTruthful t play.fan First d → IsTruthful t play.fan First (settle_second play s d)
+truthful-other-second : (ruling : Ruling) (t : Truth) (s : Settled) (d : Bisection) → IsTruthful t First d → IsTruthful t First (settle_second ruling s d)
 unfolding settle_second
-truthful-other-second play t s d h = truthful-advanced play t First (record d { by_second = Some s }) d.by_first (Some s) refl refl (record { past = h.past; open_ = h.open_ })
+truthful-other-second ruling t s d h = truthful-advanced ruling t First (record d { by_second = Some s }) d.by_first (Some s) refl refl (record { past = h.past; open_ = h.open_ })
 
 -- an answer that is settled keeps a prover's answers true, if it is another's or true
 
 abbrev IsOwnTrue : Rules → Truth → ℕ → ℕ → Settled → Bisection → Type 0
-IsOwnTrue rules t p other s d = other ≡ p → IsTrueSettled t (question_of rules.play.fan d).kind s
+IsOwnTrue rules t p other s d = other ≡ p → IsTrueSettled t (question_of d).kind s
 
-true-first : (rules : Rules) (t : Truth) (p other : ℕ) (s : Settled) (d : Bisection) → d.first ≡ other → IsOwnTrue rules t p other s d → TrueIn rules t p d → TrueIn rules t p (settle_first rules.play s d)
+true-first : (rules : Rules) (t : Truth) (p other : ℕ) (s : Settled) (d : Bisection) → d.first ≡ other → IsOwnTrue rules t p other s d → TrueIn rules t p d → TrueIn rules t p (settle_first rules.ruling s d)
 true-first rules t p other s d by own h =
-    let k : SameSides d (settle_first rules.play s d) = sides-first rules.play s d in
+    let k : SameSides d (settle_first rules.ruling s d) = sides-first rules.ruling s d in
     record {
-      first = λ e. let same : d.first ≡ p = sym k.first ∙ e in truthful-own-first rules.play t s d (own (sym by ∙ same)) (h.first same);
-      second = λ e. truthful-other-first rules.play t s d (h.second (sym k.second ∙ e));
+      first = λ e. let same : d.first ≡ p = sym k.first ∙ e in truthful-own-first rules.ruling t s d (own (sym by ∙ same)) (h.first same);
+      second = λ e. truthful-other-first rules.ruling t s d (h.second (sym k.second ∙ e));
     }
 
-true-second : (rules : Rules) (t : Truth) (p other : ℕ) (s : Settled) (d : Bisection) → d.second ≡ other → IsOwnTrue rules t p other s d → TrueIn rules t p d → TrueIn rules t p (settle_second rules.play s d)
+true-second : (rules : Rules) (t : Truth) (p other : ℕ) (s : Settled) (d : Bisection) → d.second ≡ other → IsOwnTrue rules t p other s d → TrueIn rules t p d → TrueIn rules t p (settle_second rules.ruling s d)
 true-second rules t p other s d by own h =
-    let k : SameSides d (settle_second rules.play s d) = sides-second rules.play s d in
+    let k : SameSides d (settle_second rules.ruling s d) = sides-second rules.ruling s d in
     record {
-      first = λ e. truthful-other-second rules.play t s d (h.first (sym k.first ∙ e));
-      second = λ e. let same : d.second ≡ p = sym k.second ∙ e in truthful-own-second rules.play t s d (own (sym by ∙ same)) (h.second same);
+      first = λ e. truthful-other-second rules.ruling t s d (h.first (sym k.first ∙ e));
+      second = λ e. let same : d.second ≡ p = sym k.second ∙ e in truthful-own-second rules.ruling t s d (own (sym by ∙ same)) (h.second same);
     }
 
 true-choice : (rules : Rules) (t : Truth) (p other : ℕ) (s : Settled) (q : Question) (d : Bisection) (ds : List Bisection) (x y : Bool) → asks_first other d ≡ x → asks_second other d ≡ y →
-    (if x || y then Some (question_of rules.play.fan d) else question_in rules.play.fan other ds) ≡ Some q → (other ≡ p → IsTrueSettled t q.kind s) → TrueIn rules t p d → AllTrueIn rules t p ds →
-    (question_in rules.play.fan other ds ≡ Some q → AllTrueIn rules t p (settled_in rules other s ds)) →
-    AllTrueIn rules t p (if x then settle_first rules.play s d ∷ ds else if y then settle_second rules.play s d ∷ ds else d ∷ settled_in rules other s ds)
+    (if x || y then Some (question_of d) else question_in other ds) ≡ Some q → (other ≡ p → IsTrueSettled t q.kind s) → TrueIn rules t p d → AllTrueIn rules t p ds →
+    (question_in other ds ≡ Some q → AllTrueIn rules t p (settled_in rules other s ds)) →
+    AllTrueIn rules t p (if x then settle_first rules.ruling s d ∷ ds else if y then settle_second rules.ruling s d ∷ ds else d ∷ settled_in rules other s ds)
 true-choice rules t p other s q d ds true y ex ey e own h hs rest =
-    let same : question_of rules.play.fan d ≡ q = cc in
+    let same : question_of d ≡ q = cc in
     let two : ((d.first == other) ≡ true) × _ = both _ _ ex in
     (true-first rules t p other s d (is-eqb d.first other two.0) (λ mine. rw (← same) at (own mine)) h, hs)
 true-choice rules t p other s q d ds false true ex ey e own h hs rest =
-    let same : question_of rules.play.fan d ≡ q = cc in
+    let same : question_of d ≡ q = cc in
     let two : ((d.second == other) ≡ true) × _ = both _ _ ey in
     (true-second rules t p other s d (is-eqb d.second other two.0) (λ mine. rw (← same) at (own mine)) h, hs)
 true-choice rules t p other s q d ds false false ex ey e own h hs rest = (h, rest e)
 
-true-settled : (rules : Rules) (t : Truth) (p other : ℕ) (s : Settled) (q : Question) (ds : List Bisection) → question_in rules.play.fan other ds ≡ Some q → (other ≡ p → IsTrueSettled t q.kind s) →
+true-settled : (rules : Rules) (t : Truth) (p other : ℕ) (s : Settled) (q : Question) (ds : List Bisection) → question_in other ds ≡ Some q → (other ≡ p → IsTrueSettled t q.kind s) →
     AllTrueIn rules t p ds → AllTrueIn rules t p (settled_in rules other s ds)
 true-settled rules t p other s q [] e own h = tt
 true-settled rules t p other s q (d ∷ ds) e own h =
@@ -170,6 +170,7 @@ get-other (x ∷ ss) (suc k) (suc j) s far = get-other ss k j s (λ e. far (ap s
 true-claim : (t : Truth) (s : Settled) → IsTrueSettled t kind.Claim s → s ≡ Given (answer.Claim t.claim)
 true-claim t (Given (answer.Claim c)) is = ap (λ (x : Claim). Given (answer.Claim x)) is
 true-claim t (Given (answer.Root x)) is = absurd is
+true-claim t (Given (answer.Roots xs)) is = absurd is
 true-claim t (Given (answer.Step x)) is = absurd is
 true-claim t (Faulty a) is = absurd is
 true-claim t Spent is = absurd is
@@ -188,7 +189,7 @@ claim-put t claims p other s some far missing own h =
     ]
 
 true-put : (rules : Rules) (t : Truth) (p other : ℕ) (s : Settled) (q : Question) (r : Record) (b : Bool) → 0 < p → 0 < other → claim_missing (slice_get r.claims (other - 1)) ≡ b →
-    (if b then Some claim_question else question_in rules.play.fan other r.disputes) ≡ Some q → (other ≡ p → IsTrueSettled t q.kind s) → AreTrue rules t p r →
+    (if b then Some claim_question else question_in other r.disputes) ≡ Some q → (other ≡ p → IsTrueSettled t q.kind s) → AreTrue rules t p r →
     AreTrue rules t p (if b then record r { claims = slice_set r.claims (other - 1) (Some s) } else record r { disputes = settled_in rules other s r.disputes })
 true-put rules t p other s q r true some far missing e own h =
     let same : claim_question ≡ q = cc in
@@ -202,53 +203,42 @@ true-settle rules t p other s q r some far e own h = true-opened rules t p (put 
 
 -- what a truthful prover's question is settled as
 
-fit-true : (r : Ruling) (t : Truth) (k : Kind) (a : Answer) → r.is_sound t.claim ≡ true → IsTrueAnswer t k a → is_fit r k a ≡ true
-fit-true r t kind.Claim (answer.Claim c) sound is = rw is sound
-fit-true r t kind.Claim (answer.Root x) sound is = absurd is
-fit-true r t kind.Claim (answer.Step x) sound is = absurd is
-fit-true r t (kind.Root i) (answer.Claim c) sound is = absurd is
-fit-true r t (kind.Root i) (answer.Root x) sound is = refl
-fit-true r t (kind.Root i) (answer.Step x) sound is = absurd is
-fit-true r t (kind.Proof i) (answer.Claim c) sound is = absurd is
-fit-true r t (kind.Proof i) (answer.Root x) sound is = absurd is
-fit-true r t (kind.Proof i) (answer.Step x) sound is = refl
+pub judged-true : TrueAnswersFit → (r : Ruling) (t : Truth) (k : Kind) (a : Answer) → r.is_sound t.claim ≡ true → IsTrueAnswer t k a → IsTrueSettled t k (judged r k a)
+judged-true fits r t k a sound is = rw (fits r t k a sound is) is
 
-pub judged-true : (r : Ruling) (t : Truth) (k : Kind) (a : Answer) → r.is_sound t.claim ≡ true → IsTrueAnswer t k a → IsTrueSettled t k (judged r k a)
-judged-true r t k a sound is = rw (fit-true r t k a sound is) is
-
-settled-true : (rules : Rules) (says : Says) (t : Truth) (p : ℕ) (q : Question) (a : AnswersTruly says rules.patience t p q) (left n : ℕ) → rules.play.ruling.is_sound t.claim ≡ true → n ≤ a.passes → a.passes ≤ n + left →
+settled-true : TrueAnswersFit → (rules : Rules) (says : Says) (t : Truth) (p : ℕ) (q : Question) (a : AnswersTruly says rules.patience t p q) (left n : ℕ) → rules.ruling.is_sound t.claim ≡ true → n ≤ a.passes → a.passes ≤ n + left →
     IsTrueSettled t q.kind (settled_after rules says p q left n)
 unfolding settled_after
-settled-true rules says t p q a zero n sound low high =
+settled-true fits rules says t p q a zero n sound low high =
     let here : n ≡ a.passes = omega arith in
-    rw (here, a.gives) (judged-true rules.play.ruling t q.kind a.answer sound a.is_true)
-settled-true rules says t p q a (suc left) n sound low high =
+    rw (here, a.gives) (judged-true fits rules.ruling t q.kind a.answer sound a.is_true)
+settled-true fits rules says t p q a (suc left) n sound low high =
     elim (either (n == a.passes)) [
-      | inl e ↦ let here : n ≡ a.passes = is-eqb n a.passes e in rw (here, a.gives) (judged-true rules.play.ruling t q.kind a.answer sound a.is_true)
+      | inl e ↦ let here : n ≡ a.passes = is-eqb n a.passes e in rw (here, a.gives) (judged-true fits rules.ruling t q.kind a.answer sound a.is_true)
       | inr e ↦
           let differ : n ≢ a.passes = λ same. let yes : (n == a.passes) ≡ true = grind (arith, nat_tests) in cc in
           let before : n < a.passes = omega (arith, low, differ) in
-          rw (a.passing n before) (settled-true rules says t p q a left (n + 1) sound (omega arith) (omega arith))
+          rw (a.passing n before) (settled-true fits rules says t p q a left (n + 1) sound (omega arith) (omega arith))
     ]
 
-answers-true : (rules : Rules) (says : Says) (t : Truth) (p : ℕ) (q : Question) (s : Settled) → AnswersTruly says rules.patience t p q → rules.play.ruling.is_sound t.claim ≡ true → answers_of rules says p q ≡ Some s → IsTrueSettled t q.kind s
+answers-true : TrueAnswersFit → (rules : Rules) (says : Says) (t : Truth) (p : ℕ) (q : Question) (s : Settled) → AnswersTruly says rules.patience t p q → rules.ruling.is_sound t.claim ≡ true → answers_of rules says p q ≡ Some s → IsTrueSettled t q.kind s
 unfolding answers_of
-answers-true rules says t p q s a sound e =
+answers-true fits rules says t p q s a sound e =
     let same : settled_after rules says p q rules.patience 0 ≡ s = cc in
-    rw (← same) (settled-true rules says t p q a rules.patience 0 sound (omega arith) (omega (arith, a.few)))
+    rw (← same) (settled-true fits rules says t p q a rules.patience 0 sound (omega arith) (omega (arith, a.few)))
 
 -- what a legal list of moves keeps
 
-fit-said : (rules : Rules) (q : Question) (o : Option Answer) (s : Settled) → IsFit rules.play.ruling q.kind s → IsFit rules.play.ruling q.kind (said rules q o s)
-fit-said rules q (Some a) s h = fit-judged rules.play.ruling q.kind a (is_fit rules.play.ruling q.kind a) refl
+fit-said : (rules : Rules) (q : Question) (o : Option Answer) (s : Settled) → IsFit rules.ruling q.kind s → IsFit rules.ruling q.kind (said rules q o s)
+fit-said rules q (Some a) s h = fit-judged rules.ruling q.kind a (is_fit rules.ruling q.kind a) refl
 fit-said rules q None s h = h
 
-fit-after : (rules : Rules) (says : Says) (p : ℕ) (q : Question) (left n : ℕ) → IsFit rules.play.ruling q.kind (settled_after rules says p q left n)
+fit-after : (rules : Rules) (says : Says) (p : ℕ) (q : Question) (left n : ℕ) → IsFit rules.ruling q.kind (settled_after rules says p q left n)
 unfolding settled_after
 fit-after rules says p q zero n = fit-said rules q (says p q n) Spent tt
 fit-after rules says p q (suc left) n = fit-said rules q (says p q n) _ (fit-after rules says p q left (n + 1))
 
-fit-answers : (rules : Rules) (says : Says) (p : ℕ) (q : Question) (s : Settled) → answers_of rules says p q ≡ Some s → IsFit rules.play.ruling q.kind s
+fit-answers : (rules : Rules) (says : Says) (p : ℕ) (q : Question) (s : Settled) → answers_of rules says p q ≡ Some s → IsFit rules.ruling q.kind s
 unfolding answers_of
 fit-answers rules says p q s e = let same : settled_after rules says p q rules.patience 0 ≡ s = cc in rw (← same) (fit-after rules says p q rules.patience 0)
 
@@ -281,7 +271,7 @@ module _ (laws : BisectionLaws) where
   told-by rules says t p other n q st u some far run truthful asked_ way (Settles s same cs is) i =
       let mine : other ≡ p → IsTrueSettled t q.kind s = λ e.
       let here : asked rules (bracket rules (answers_of rules says)) p q.qid ≡ Some q.kind = rw e at ((way-asked laws) rules says n st other q i.way asked_) in
-      answers-true rules says t p q s (truthful q here) run.sound (rw e at is) in
+      answers-true laws.fits rules says t p q s (truthful q here) run.sound (rw e at is) in
       record {
         way = way;
         answers = rw same (true-settle rules t p other s q st.record_ some far asked_ mine i.answers);
@@ -295,7 +285,7 @@ module _ (laws : BisectionLaws) where
         reaches = after-last rules i.settled other s (nothing_settled rules) ∙ (ap (settle rules other s) i.reaches ∙ sym same);
       }
 
-  told-turn : (rules : Rules) (says : Says) (t : Truth) (p : ℕ) → 0 < rules.provers → 1 < rules.play.fan → 0 < rules.bound → 0 < p → IsRun rules t → IsTruthfulProver rules says t p →
+  told-turn : (rules : Rules) (says : Says) (t : Truth) (p : ℕ) → 0 < rules.provers → 1 < rules.fan → 0 < rules.bound → 0 < p → IsRun rules t → IsTruthfulProver rules says t p →
       (n : ℕ) (st : MatchState) (other : ℕ) (q : Question) → 0 < other → open_question rules st.record_ other ≡ Some q → IsTold rules says t p n st → IsTold rules says t p (suc n) (turn rules says st other q)
   told-turn rules says t p some more long numbered run truthful n st other q far asked_ i =
       told-by rules says t p other n q st (turn rules says st other q) numbered far run truthful asked_ ((way-turn laws) rules says some more long n st other q far asked_ i.way)
@@ -303,7 +293,7 @@ module _ (laws : BisectionLaws) where
 
   pub truthful_provers_are_safe : TruthfulProversAreSafe
   truthful_provers_are_safe rules says t ps p playable fair run numbered within truthful legal =
-      let more : 1 < rules.play.fan = omega (arith, playable.halves) in
+      let more : 1 < rules.fan = playable.parted in
       let i : IsTold rules says t p (0 + length ps) (turns rules says ps (begun rules)) =
       (turns-keep laws) rules says (IsTold rules says t p) (told-turn rules says t p playable.some more playable.steps numbered run truthful) ps 0 (begun rules) legal (told-begun rules says t p playable.some numbered within) in
       let stays : Stays rules t p (turns rules says ps (begun rules)).record_ = rw i.reaches at ((settled_stay laws) rules t i.settled p playable fair run numbered i.fit (rw (← i.reaches) at i.answers)) in

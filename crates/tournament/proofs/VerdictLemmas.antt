@@ -3,7 +3,7 @@ use Rattle.std.proofs.Common.{◌≡◌, ℕ, zero, suc, ◌+◌, ◌-◌, ◌<�
 use Rattle.std.proofs.lemmas.Bool.Decides.{nat_tests}
 use Rattle.rd_base.specs.declared.digest.Digest32.{Digest32}
 use Rattle.rd_base.specs.declared.claim.Claim.{Claim}
-use Rattle.rd_base.specs.declared.proof.StepProof.{StepProof}
+use Rattle.rd_base.specs.declared.proof.Proof.{Proof}
 use Rattle.rd_base.specs.declared.answer.Answer.{Answer}
 use Rattle.rd_base.specs.declared.answer.Answer.TheVariants as answer
 use Rattle.bisect_game.specs.declared.settled.Settled.{Settled}
@@ -13,7 +13,7 @@ use Rattle.bisect_game.specs.declared.settled.Close.TheVariants.{Out, Collision}
 use Rattle.tournament.specs.declared.verdict.Verdict.TheVariants.{Collision}
 use Rattle.bisect_game.specs.Bisection.{Bisection, is_closed, settle_first, settle_second, closed_or, closed_with, went_on, decided, advanced}
 use Rattle.bisect_game.specs.Closing.{both_proved, closed_by, close_of, is_out, is_step}
-use Rattle.bisect_game.specs.Rules.{Play, Rules, ArePlayable}
+use Rattle.bisect_game.specs.Rules.{Rules, ArePlayable}
 use Rattle.bisect_game.specs.Ruling.{Ruling, IsFair, IsCollision, same_digest}
 use Rattle.bisect_game.specs.Truth.{Truth, IsRun}
 use Rattle.tournament.proofs.LiveLemmas.{IsIn, live-in}
@@ -28,8 +28,8 @@ use Rattle.tournament.specs.Theorem.{HasTrueClaim, AreTrue, Stays, IsInClaims, I
 use Rattle.bisect_game.specs.Laws.{BisectionLaws}
 
 record MetBy (r : Ruling) (d : Bisection) (pair : List ℕ × List ℕ) : Type 0 where
-  one : StepProof
-  other : StepProof
+  one : Proof
+  other : Proof
   by_one : d.by_first ≡ Some (Given (answer.Step one))
   by_other : d.by_second ≡ Some (Given (answer.Step other))
   collision_with : IsCollision r (r.opened_by_step one) (r.opened_by_step other) pair
@@ -46,7 +46,7 @@ AllMet r (d ∷ ds) = IsMet r d d.close × AllMet r ds
 module _ (laws : BisectionLaws) where
   -- a collision of a dispute is that of its proofs
 
-  met-out : (r : Ruling) (d : Bisection) (agreed : Digest32) (one other : StepProof) (o : Option (List ℕ × List ℕ)) → IsFair r → r.step_collision agreed one other ≡ o →
+  met-out : (r : Ruling) (d : Bisection) (agreed : Digest32) (one other : Proof) (o : Option (List ℕ × List ℕ)) → IsFair r → r.step_collision agreed one other ≡ o →
       d.by_first ≡ Some (Given (answer.Step one)) → d.by_second ≡ Some (Given (answer.Step other)) → IsMet r d (Some (closed_by o))
   met-out r d agreed one other (Some pair) fair e ea eb = record { one = one; other = other; by_one = ea; by_other = eb; collision_with = fair.step_collisions agreed one other pair e }
   met-out r d agreed one other None fair e ea eb = tt
@@ -70,16 +70,16 @@ module _ (laws : BisectionLaws) where
   met-moved r d e (Some (Out a b)) ea eb h = tt
   met-moved r d e None ea eb h = tt
 
-  met-by : (play : Play) (d : Bisection) (a b : Settled) (o : Option Close) → IsFair play.ruling → close_of play.ruling d.place a b ≡ o → d.by_first ≡ Some a → d.by_second ≡ Some b → d.close ≡ None →
-      IsMet play.ruling (closed_or d (went_on play.fan d a b) o) (closed_or d (went_on play.fan d a b) o).close
-  met-by play d a b (Some c) fair e ea eb still = met-moved play.ruling d (closed_with d c) (Some c) refl refl (met-of play.ruling d a b c fair e ea eb)
-  met-by play d a b None fair e ea eb still = rw still tt
+  met-by : (ruling : Ruling) (d : Bisection) (a b : Settled) (o : Option Close) → IsFair ruling → close_of ruling d.place a b ≡ o → d.by_first ≡ Some a → d.by_second ≡ Some b → d.close ≡ None →
+      IsMet ruling (closed_or d (went_on d a b) o) (closed_or d (went_on d a b) o).close
+  met-by ruling d a b (Some c) fair e ea eb still = met-moved ruling d (closed_with d c) (Some c) refl refl (met-of ruling d a b c fair e ea eb)
+  met-by ruling d a b None fair e ea eb still = rw still tt
 
-  met-advanced : (play : Play) (d : Bisection) (a b : Option Settled) → IsFair play.ruling → d.by_first ≡ a → d.by_second ≡ b → d.close ≡ None → IsMet play.ruling (advanced play d a b) (advanced play d a b).close
+  met-advanced : (ruling : Ruling) (d : Bisection) (a b : Option Settled) → IsFair ruling → d.by_first ≡ a → d.by_second ≡ b → d.close ≡ None → IsMet ruling (advanced ruling d a b) (advanced ruling d a b).close
   unfolding decided
-  met-advanced play d (Some a) (Some b) fair ea eb still = met-by play d a b (close_of play.ruling d.place a b) fair refl ea eb still
-  met-advanced play d (Some a) None fair ea eb still = rw still tt
-  met-advanced play d None b fair ea eb still = rw still tt
+  met-advanced ruling d (Some a) (Some b) fair ea eb still = met-by ruling d a b (close_of ruling d.place a b) fair refl ea eb still
+  met-advanced ruling d (Some a) None fair ea eb still = rw still tt
+  met-advanced ruling d None b fair ea eb still = rw still tt
 
   open-close : (same : Bool) (o : Option Settled) (c : Option Close) → (same && (is_none o && not (is_some c))) ≡ true → c ≡ None
   open-close true None None e = refl
@@ -87,25 +87,25 @@ module _ (laws : BisectionLaws) where
   open-close true (Some s) c e = absurd (cc)
   open-close false o c e = absurd (cc)
 
-  met-first : (play : Play) (s : Settled) (d : Bisection) → IsFair play.ruling → d.close ≡ None → IsMet play.ruling (settle_first play s d) (settle_first play s d).close
+  met-first : (ruling : Ruling) (s : Settled) (d : Bisection) → IsFair ruling → d.close ≡ None → IsMet ruling (settle_first ruling s d) (settle_first ruling s d).close
   unfolding settle_first
-  met-first play s d fair still = met-advanced play (record d { by_first = Some s }) (Some s) d.by_second fair refl refl still
+  met-first ruling s d fair still = met-advanced ruling (record d { by_first = Some s }) (Some s) d.by_second fair refl refl still
 
-  met-second : (play : Play) (s : Settled) (d : Bisection) → IsFair play.ruling → d.close ≡ None → IsMet play.ruling (settle_second play s d) (settle_second play s d).close
+  met-second : (ruling : Ruling) (s : Settled) (d : Bisection) → IsFair ruling → d.close ≡ None → IsMet ruling (settle_second ruling s d) (settle_second ruling s d).close
   unfolding settle_second
-  met-second play s d fair still = met-advanced play (record d { by_second = Some s }) d.by_first (Some s) fair refl refl still
+  met-second ruling s d fair still = met-advanced ruling (record d { by_second = Some s }) d.by_first (Some s) fair refl refl still
 
-  met-choice : (rules : Rules) (p : ℕ) (s : Settled) (d : Bisection) (ds : List Bisection) (x y : Bool) → IsFair rules.play.ruling → asks_first p d ≡ x → asks_second p d ≡ y → AllMet rules.play.ruling (d ∷ ds) → AllMet rules.play.ruling (settled_in rules p s ds) →
-      AllMet rules.play.ruling (if x then settle_first rules.play s d ∷ ds else if y then settle_second rules.play s d ∷ ds else d ∷ settled_in rules p s ds)
-  met-choice rules p s d ds true y fair ex ey h r = (met-first rules.play s d fair (open-close (d.first == p) d.by_first d.close ex), h.1)
-  met-choice rules p s d ds false true fair ex ey h r = (met-second rules.play s d fair (open-close (d.second == p) d.by_second d.close ey), h.1)
+  met-choice : (rules : Rules) (p : ℕ) (s : Settled) (d : Bisection) (ds : List Bisection) (x y : Bool) → IsFair rules.ruling → asks_first p d ≡ x → asks_second p d ≡ y → AllMet rules.ruling (d ∷ ds) → AllMet rules.ruling (settled_in rules p s ds) →
+      AllMet rules.ruling (if x then settle_first rules.ruling s d ∷ ds else if y then settle_second rules.ruling s d ∷ ds else d ∷ settled_in rules p s ds)
+  met-choice rules p s d ds true y fair ex ey h r = (met-first rules.ruling s d fair (open-close (d.first == p) d.by_first d.close ex), h.1)
+  met-choice rules p s d ds false true fair ex ey h r = (met-second rules.ruling s d fair (open-close (d.second == p) d.by_second d.close ey), h.1)
   met-choice rules p s d ds false false fair ex ey h r = (h.0, r)
 
-  met-settled : (rules : Rules) (p : ℕ) (s : Settled) (ds : List Bisection) → IsFair rules.play.ruling → AllMet rules.play.ruling ds → AllMet rules.play.ruling (settled_in rules p s ds)
+  met-settled : (rules : Rules) (p : ℕ) (s : Settled) (ds : List Bisection) → IsFair rules.ruling → AllMet rules.ruling ds → AllMet rules.ruling (settled_in rules p s ds)
   met-settled rules p s [] fair h = tt
   met-settled rules p s (d ∷ ds) fair h = met-choice rules p s d ds (asks_first p d) (asks_second p d) fair refl refl h (met-settled rules p s ds fair h.1)
 
-  met-new : (rules : Rules) (g : ℕ) (n : ℕ) (ps : List ((ℕ × Claim) × (ℕ × Claim))) → AllMet rules.play.ruling (disputes_of rules g n ps)
+  met-new : (rules : Rules) (g : ℕ) (n : ℕ) (ps : List ((ℕ × Claim) × (ℕ × Claim))) → AllMet rules.ruling (disputes_of rules g n ps)
   met-new rules g n [] = tt
   met-new rules g n (p ∷ ps) = (tt, met-new rules g (n + 1) ps)
 
@@ -113,26 +113,26 @@ module _ (laws : BisectionLaws) where
   met-both r [] es h k = k
   met-both r (d ∷ ds) es h k = (h.0, met-both r ds es h.1 k)
 
-  met-opened : (rules : Rules) (t : Record) → AllMet rules.play.ruling t.disputes → AllMet rules.play.ruling (stage_opened rules t).disputes
+  met-opened : (rules : Rules) (t : Record) → AllMet rules.ruling t.disputes → AllMet rules.ruling (stage_opened rules t).disputes
   met-opened rules t h =
       elim (either (is_stage_due rules t)) [
-        | inl due ↦ rw (opened-due rules t due) (met-both rules.play.ruling t.disputes _ h (met-new rules (last_stage t.disputes + 1) (length t.disputes + 1) (pairs rules t)))
+        | inl due ↦ rw (opened-due rules t due) (met-both rules.ruling t.disputes _ h (met-new rules (last_stage t.disputes + 1) (length t.disputes + 1) (pairs rules t)))
         | inr not_due ↦ rw (opened-not rules t not_due) h
       ]
 
-  met-put : (rules : Rules) (p : ℕ) (s : Settled) (t : Record) (b : Bool) → IsFair rules.play.ruling → AllMet rules.play.ruling t.disputes →
-      AllMet rules.play.ruling (if b then record t { claims = slice_set t.claims (p - 1) (Some s) } else record t { disputes = settled_in rules p s t.disputes }).disputes
+  met-put : (rules : Rules) (p : ℕ) (s : Settled) (t : Record) (b : Bool) → IsFair rules.ruling → AllMet rules.ruling t.disputes →
+      AllMet rules.ruling (if b then record t { claims = slice_set t.claims (p - 1) (Some s) } else record t { disputes = settled_in rules p s t.disputes }).disputes
   met-put rules p s t true fair h = h
   met-put rules p s t false fair h = met-settled rules p s t.disputes fair h
 
-  met-after : (rules : Rules) (es : List (ℕ × Settled)) (t : Record) → IsFair rules.play.ruling → AllMet rules.play.ruling t.disputes → AllMet rules.play.ruling (after rules es t).disputes
+  met-after : (rules : Rules) (es : List (ℕ × Settled)) (t : Record) → IsFair rules.ruling → AllMet rules.ruling t.disputes → AllMet rules.ruling (after rules es t).disputes
   unfolding settle
   met-after rules [] t fair h = h
   met-after rules (e ∷ es) t fair h = met-after rules es (settle rules e.0 e.1 t) fair (met-opened rules (put rules e.0 e.1 t) (met-put rules e.0 e.1 t (claim_missing (slice_get t.claims (e.0 - 1))) fair h))
 
   -- so the collision of the disputes is one of the record
 
-  collision-by : (rules : Rules) (r : Record) (d : Bisection) (ds : List Bisection) (pair : List ℕ × List ℕ) (c : Option Close) → first_of (collided c) (disputes_collision ds) ≡ Some pair → IsMet rules.play.ruling d c →
+  collision-by : (rules : Rules) (r : Record) (d : Bisection) (ds : List Bisection) (pair : List ℕ × List ℕ) (c : Option Close) → first_of (collided c) (disputes_collision ds) ≡ Some pair → IsMet rules.ruling d c →
       ((a : Answer) → IsInDisputes a (d ∷ ds) → IsInDisputes a r.disputes) → (disputes_collision ds ≡ Some pair → IsCollisionIn rules r pair) → IsCollisionIn rules r pair
   collision-by rules r d ds pair (Some (Collision s u)) e h sub rest =
       let same : (s, u) ≡ pair = cc in
@@ -146,7 +146,7 @@ module _ (laws : BisectionLaws) where
   collision-by rules r d ds pair (Some (Out a b)) e h sub rest = rest e
   collision-by rules r d ds pair None e h sub rest = rest e
 
-  dispute-collision : (rules : Rules) (r : Record) (ds : List Bisection) (pair : List ℕ × List ℕ) → disputes_collision ds ≡ Some pair → AllMet rules.play.ruling ds →
+  dispute-collision : (rules : Rules) (r : Record) (ds : List Bisection) (pair : List ℕ × List ℕ) → disputes_collision ds ≡ Some pair → AllMet rules.ruling ds →
       ((a : Answer) → IsInDisputes a ds → IsInDisputes a r.disputes) → IsCollisionIn rules r pair
   dispute-collision rules r [] pair e h sub = absurd (cc)
   dispute-collision rules r (d ∷ ds) pair e h sub =
@@ -159,10 +159,10 @@ module _ (laws : BisectionLaws) where
   in-claims a (s ∷ ss) zero e = let same : s ≡ Some (Given a) = cc in inl same
   in-claims a (s ∷ ss) (suc k) e = inr (in-claims a ss k e)
 
-  meets-choice : (rules : Rules) (r : Record) (x y : ℕ × Claim) (ys : List (ℕ × Claim)) (pair : List ℕ × List ℕ) (o : Option (List ℕ × List ℕ)) → IsFair rules.play.ruling → HasClaim r.claims x → HasClaim r.claims y →
-      rules.play.ruling.claim_collision x.1 y.1 ≡ o → first_of o (collision_with rules.play.ruling x.1 ys) ≡ Some pair → (collision_with rules.play.ruling x.1 ys ≡ Some pair → IsCollisionIn rules r pair) → IsCollisionIn rules r pair
+  meets-choice : (rules : Rules) (r : Record) (x y : ℕ × Claim) (ys : List (ℕ × Claim)) (pair : List ℕ × List ℕ) (o : Option (List ℕ × List ℕ)) → IsFair rules.ruling → HasClaim r.claims x → HasClaim r.claims y →
+      rules.ruling.claim_collision x.1 y.1 ≡ o → first_of o (collision_with rules.ruling x.1 ys) ≡ Some pair → (collision_with rules.ruling x.1 ys ≡ Some pair → IsCollisionIn rules r pair) → IsCollisionIn rules r pair
   meets-choice rules r x y ys pair (Some p) fair hx hy em e rest =
-      let same : rules.play.ruling.claim_collision x.1 y.1 ≡ Some pair = cc in
+      let same : rules.ruling.claim_collision x.1 y.1 ≡ Some pair = cc in
       record {
         first = answer.Claim x.1;
         second = answer.Claim y.1;
@@ -172,21 +172,21 @@ module _ (laws : BisectionLaws) where
       }
   meets-choice rules r x y ys pair None fair hx hy em e rest = rest e
 
-  meets-collision : (rules : Rules) (r : Record) (x : ℕ × Claim) (ys : List (ℕ × Claim)) (pair : List ℕ × List ℕ) → IsFair rules.play.ruling → HasClaim r.claims x → AllClaim r.claims ys →
-      collision_with rules.play.ruling x.1 ys ≡ Some pair → IsCollisionIn rules r pair
+  meets-collision : (rules : Rules) (r : Record) (x : ℕ × Claim) (ys : List (ℕ × Claim)) (pair : List ℕ × List ℕ) → IsFair rules.ruling → HasClaim r.claims x → AllClaim r.claims ys →
+      collision_with rules.ruling x.1 ys ≡ Some pair → IsCollisionIn rules r pair
   meets-collision rules r x [] pair fair hx h e = absurd (cc)
   meets-collision rules r x (y ∷ ys) pair fair hx h e =
-      meets-choice rules r x y ys pair (rules.play.ruling.claim_collision x.1 y.1) fair hx h.0 refl e (λ further. meets-collision rules r x ys pair fair hx h.1 further)
+      meets-choice rules r x y ys pair (rules.ruling.claim_collision x.1 y.1) fair hx h.0 refl e (λ further. meets-collision rules r x ys pair fair hx h.1 further)
 
-  claims-choice : (rules : Rules) (r : Record) (x : ℕ × Claim) (xs : List (ℕ × Claim)) (pair : List ℕ × List ℕ) (o : Option (List ℕ × List ℕ)) → collision_with rules.play.ruling x.1 xs ≡ o → first_of o (claims_collision rules.play.ruling xs) ≡ Some pair →
-      (collision_with rules.play.ruling x.1 xs ≡ Some pair → IsCollisionIn rules r pair) → (claims_collision rules.play.ruling xs ≡ Some pair → IsCollisionIn rules r pair) → IsCollisionIn rules r pair
-  claims-choice rules r x xs pair (Some p) em e here rest = let same : collision_with rules.play.ruling x.1 xs ≡ Some pair = cc in here same
+  claims-choice : (rules : Rules) (r : Record) (x : ℕ × Claim) (xs : List (ℕ × Claim)) (pair : List ℕ × List ℕ) (o : Option (List ℕ × List ℕ)) → collision_with rules.ruling x.1 xs ≡ o → first_of o (claims_collision rules.ruling xs) ≡ Some pair →
+      (collision_with rules.ruling x.1 xs ≡ Some pair → IsCollisionIn rules r pair) → (claims_collision rules.ruling xs ≡ Some pair → IsCollisionIn rules r pair) → IsCollisionIn rules r pair
+  claims-choice rules r x xs pair (Some p) em e here rest = let same : collision_with rules.ruling x.1 xs ≡ Some pair = cc in here same
   claims-choice rules r x xs pair None em e here rest = rest e
 
-  claims-collision : (rules : Rules) (r : Record) (xs : List (ℕ × Claim)) (pair : List ℕ × List ℕ) → IsFair rules.play.ruling → AllClaim r.claims xs → claims_collision rules.play.ruling xs ≡ Some pair → IsCollisionIn rules r pair
+  claims-collision : (rules : Rules) (r : Record) (xs : List (ℕ × Claim)) (pair : List ℕ × List ℕ) → IsFair rules.ruling → AllClaim r.claims xs → claims_collision rules.ruling xs ≡ Some pair → IsCollisionIn rules r pair
   claims-collision rules r [] pair fair h e = absurd (cc)
   claims-collision rules r (x ∷ xs) pair fair h e =
-      claims-choice rules r x xs pair (collision_with rules.play.ruling x.1 xs) refl e
+      claims-choice rules r x xs pair (collision_with rules.ruling x.1 xs) refl e
       (λ here. meets-collision rules r x xs pair fair h.0 h.1 here) (λ further. claims-collision rules r xs pair fair h.1 further)
 
   -- without a collision of the claims, live ones of one root are the same
@@ -263,16 +263,16 @@ module _ (laws : BisectionLaws) where
 
   -- the lowest live one has the true claim
 
-  lowest-right : (rules : Rules) (t : Truth) (r : Record) (p : ℕ) (xs : List (ℕ × Claim)) → IsFair rules.play.ruling → 0 < rules.provers → FitClaims rules.play.ruling r.claims → AllClaim r.claims xs →
-      rules.play.ruling.is_sound t.claim ≡ true → IsIn p t.claim xs → claims_collision rules.play.ruling xs ≡ None → pairs_of rules.play.ruling rules.provers xs ≡ [] → IsRightVerdict rules t r (lowest xs)
+  lowest-right : (rules : Rules) (t : Truth) (r : Record) (p : ℕ) (xs : List (ℕ × Claim)) → IsFair rules.ruling → 0 < rules.provers → FitClaims rules.ruling r.claims → AllClaim r.claims xs →
+      rules.ruling.is_sound t.claim ≡ true → IsIn p t.claim xs → claims_collision rules.ruling xs ≡ None → pairs_of rules.ruling rules.provers xs ≡ [] → IsRightVerdict rules t r (lowest xs)
   lowest-right rules t r p [] fair some fit h sound i none over = absurd i
   lowest-right rules t r p (x ∷ xs) fair some fit h sound i none over =
       let c : x.1 ≡ t.claim = elim i [
         | inl same ↦ ap (λ (z : ℕ × Claim). z.1) same
         | inr further ↦
-            fair.claims_collide x.1 t.claim (fit-at rules.play.ruling r.claims (x.0 - 1) x.1 fit h.0.is) sound
-            (sym (other-none rules.play.ruling (rules.play.ruling.root_of x.1) p t.claim xs (no-pairs rules.play.ruling rules.provers x xs some over) further))
-            (meets-none rules.play.ruling x.1 p t.claim xs (first-none (collision_with rules.play.ruling x.1 xs) (claims_collision rules.play.ruling xs) none).0 further)
+            fair.claims_collide x.1 t.claim (fit-at rules.ruling r.claims (x.0 - 1) x.1 fit h.0.is) sound
+            (sym (other-none rules.ruling (rules.ruling.root_of x.1) p t.claim xs (no-pairs rules.ruling rules.provers x xs some over) further))
+            (meets-none rules.ruling x.1 p t.claim xs (first-none (collision_with rules.ruling x.1 xs) (claims_collision rules.ruling xs) none).0 further)
       ] in
       rw c at h.0.is
 
@@ -312,9 +312,9 @@ module _ (laws : BisectionLaws) where
   rests-nothing : (rules : Rules) → 0 < rules.provers → stage_opened rules (nothing_settled rules) ≡ nothing_settled rules
   rests-nothing rules some = let i : IsPlayed rules (nothing_settled rules) = (played-nothing laws) rules some in i.rests
 
-  verdict-by : (rules : Rules) (t : Truth) (r : Record) (p : ℕ) (a b : Option (List ℕ × List ℕ)) → 0 < rules.provers → IsFair rules.play.ruling → IsRun rules t → 0 < p → IsKept rules t p r → AllMet rules.play.ruling r.disputes →
+  verdict-by : (rules : Rules) (t : Truth) (r : Record) (p : ℕ) (a b : Option (List ℕ × List ℕ)) → 0 < rules.provers → IsFair rules.ruling → IsRun rules t → 0 < p → IsKept rules t p r → AllMet rules.ruling r.disputes →
       stage_opened rules r ≡ r → is_complete r ≡ true → HasTrueClaim t r.claims p → is_out_in r.disputes p ≡ false →
-      claims_collision rules.play.ruling (live_from [] 1 r.claims) ≡ a → disputes_collision r.disputes ≡ b → IsRightVerdict rules t r (or_lowest (first_of a b) (live r))
+      claims_collision rules.ruling (live_from [] 1 r.claims) ≡ a → disputes_collision r.disputes ≡ b → IsRightVerdict rules t r (or_lowest (first_of a b) (live r))
   verdict-by rules t r p (Some pair) b some fair run numbered k m rests c claim stays ea eb =
       claims-collision rules r (live_from [] 1 r.claims) pair fair ((live-right laws) r.claims [] 0 r.claims (λ i. ap (slice_get r.claims) (omega arith))) ea
   verdict-by rules t r p None (Some pair) some fair run numbered k m rests c claim stays ea eb =
@@ -326,14 +326,14 @@ module _ (laws : BisectionLaws) where
       let at : 1 + (p - 1) ≡ p = omega arith in
       let i : IsIn p t.claim (live r) = rw at at (live-in r.disputes 1 (p - 1) t.claim r.claims claim (rw at stays)) in
       lowest-right rules t r p (live r) fair some k.fit ((live-right laws) r.claims r.disputes 0 r.claims (λ j. ap (slice_get r.claims) (omega arith))) run.sound i
-      (collide-sub rules.play.ruling r.disputes 1 r.claims ea) (no-pair-left rules r due rests)
+      (collide-sub rules.ruling r.disputes 1 r.claims ea) (no-pair-left rules r due rests)
 
-  pub settled_right : (rules : Rules) (t : Truth) (es : List (ℕ × Settled)) (p : ℕ) → ArePlayable rules → IsFair rules.play.ruling → IsRun rules t → 0 < p →
+  pub settled_right : (rules : Rules) (t : Truth) (es : List (ℕ × Settled)) (p : ℕ) → ArePlayable rules → IsFair rules.ruling → IsRun rules t → 0 < p →
       AllFit rules es (nothing_settled rules) → AreTrue rules t p (after rules es (nothing_settled rules)) → is_complete (after rules es (nothing_settled rules)) ≡ true →
       IsRightVerdict rules t (after rules es (nothing_settled rules)) (verdict_of rules (after rules es (nothing_settled rules)))
   settled_right rules t es p playable fair run numbered fit true_ c =
       let some : 0 < rules.provers = playable.some in
-      let more : rules.play.fan ≡ 2 = playable.halves in
+      let more : 1 < rules.fan = playable.parted in
       let long : 0 < rules.bound = playable.steps in
       let s : Stays rules t p (after rules es (nothing_settled rules)) = (settled_stay laws) rules t es p playable fair run numbered fit true_ in
       verdict-by rules t (after rules es (nothing_settled rules)) p _ _ some fair run numbered ((kept-start laws) rules t p es more long fair run fit)

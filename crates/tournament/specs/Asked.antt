@@ -1,5 +1,5 @@
 -- To believe: what a match asks under a number. It is one question at most, and none is beyond the bound.
-use Rattle.std.specs.Prelude.{◌≡◌, ◌≢◌, ℕ, zero, suc, ◌-◌, ◌<◌, ◌||◌, ◌==◌, List, [], ◌∷◌, Option, Some, None, if◌then◌else◌}
+use Rattle.std.specs.Prelude.{◌≡◌, ◌≢◌, ℕ, zero, suc, ◌-◌, ◌<◌, ◌≤◌, ◌||◌, ◌==◌, List, [], ◌∷◌, Option, Some, None, if◌then◌else◌}
 use Rattle.rd_base.specs.declared.answer.Qid.{Qid}
 use Rattle.bisect_game.specs.declared.interval.Interval.{Interval}
 use Rattle.bisect_game.specs.declared.interval.Round.{Round}
@@ -22,20 +22,20 @@ kind_in fan place [] (suc k) = None
 kind_in fan place (x ∷ past) zero = Some (kind_over fan x.lo x.hi)
 kind_in fan place (x ∷ past) (suc k) = kind_in fan place past k
 
-abbrev pub kind_of : ℕ → Bisection → ℕ → Option Kind
-kind_of fan d round = if round == 0 then None else kind_in fan d.place d.past (round - 1)
+abbrev pub kind_of : Bisection → ℕ → Option Kind
+kind_of d round = if round == 0 then None else kind_in d.fan d.place d.past (round - 1)
 
-abbrev pub asked_in : ℕ → ℕ → Qid → List Bisection → Option Kind
-asked_in fan p qid [] = None
-asked_in fan p qid (d ∷ ds) =
-    if d.number == qid.dispute then (if (d.first == p) || (d.second == p) then kind_of fan d qid.round else None)
-    else asked_in fan p qid ds
+abbrev pub asked_in : ℕ → Qid → List Bisection → Option Kind
+asked_in p qid [] = None
+asked_in p qid (d ∷ ds) =
+    if d.number == qid.dispute then (if (d.first == p) || (d.second == p) then kind_of d qid.round else None)
+    else asked_in p qid ds
 
 -- what the match of a record asks a prover under a number
 abbrev pub asked : Rules → Record → ℕ → Qid → Option Kind
 asked rules t p qid =
     if qid.dispute == 0 then (if qid.round == 0 then Some kind.Claim else None)
-    else asked_in rules.play.fan p qid t.disputes
+    else asked_in p qid t.disputes
 
 -- an open question is the one that the case's own match asks under its number
 abbrev pub AskedByTheCase : Type 0
@@ -44,10 +44,19 @@ AskedByTheCase =
     Legal rules says ps (begun rules) → 0 < p → open_question rules (turns rules says ps (begun rules)).record_ p ≡ Some q →
     asked rules (bracket rules (answers_of rules says)) p q.qid ≡ Some q.kind
 
--- within the bound: the claim, a root between the ends of the run, or the proof of one of its steps
+-- an interval of the run that is cut in so many parts: 2 to 16, and no more than it has steps
+pub record IsCut (bound lo hi parts : ℕ) : Type 0 where
+  pub parted : 1 < parts
+  pub few_parts : parts ≤ 16
+  pub long : parts ≤ hi - lo
+  pub high : hi ≤ bound
+
+-- within the bound: the claim, a root between the ends of the run, the roots at the cuts of an interval of it, or the proof of one
+-- of its steps
 abbrev pub IsWithinBound : ℕ → Kind → Type 0
 IsWithinBound bound kind.Claim = Unit {0}
 IsWithinBound bound (kind.Root i) = (0 < i) × (i < bound)
+IsWithinBound bound (kind.Roots lo hi parts) = IsCut bound lo hi parts
 IsWithinBound bound (kind.Proof i) = i < bound
 
 -- an open question is within the bound, whatever was posted

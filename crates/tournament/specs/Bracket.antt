@@ -93,7 +93,7 @@ pairs_of r (suc n) [] = []
 pairs_of r (suc n) (x ∷ xs) = elim (take_other r (r.root_of x.1) xs) [ None ↦ pairs_of r n xs | Some t ↦ (x, t.0) ∷ pairs_of r n t.1 ]
 
 abbrev pub pairs : Rules → Record → List ((ℕ × Claim) × (ℕ × Claim))
-pairs rules t = pairs_of rules.play.ruling rules.provers (live t)
+pairs rules t = pairs_of rules.ruling rules.provers (live t)
 
 -- STAGES: a dispute for each pair, numbered on through the match
 
@@ -103,7 +103,7 @@ side_of r x = (x.0, r.root_of x.1)
 abbrev pub disputes_of : Rules → ℕ → ℕ → List ((ℕ × Claim) × (ℕ × Claim)) → List Bisection
 disputes_of rules stage number [] = []
 disputes_of rules stage number (p ∷ ps) =
-    dispute_of rules stage number (side_of rules.play.ruling p.0) (side_of rules.play.ruling p.1) ∷ disputes_of rules stage (number + 1) ps
+    dispute_of rules stage number (side_of rules.ruling p.0) (side_of rules.ruling p.1) ∷ disputes_of rules stage (number + 1) ps
 
 abbrev pub last_stage : List Bisection → ℕ
 last_stage [] = 0
@@ -125,7 +125,7 @@ all_out (d ∷ ds) = put_out d.close && all_out ds
 
 -- the next stage may begin: each claim is settled and none collide, and each dispute has closed, none by a collision
 abbrev pub is_stage_due : Rules → Record → Bool
-is_stage_due rules t = all_there t.claims && (all_out t.disputes && is_none (claims_collision rules.play.ruling (live_from [] 1 t.claims)))
+is_stage_due rules t = all_there t.claims && (all_out t.disputes && is_none (claims_collision rules.ruling (live_from [] 1 t.claims)))
 
 unfoldable pub stage_opened : Rules → Record → Record
 stage_opened rules t =
@@ -156,9 +156,9 @@ asks_first p d = (d.first == p) && asks First d
 abbrev pub asks_second : ℕ → Bisection → Bool
 asks_second p d = (d.second == p) && asks Second d
 
-abbrev pub question_in : ℕ → ℕ → List Bisection → Option Question
-question_in fan p [] = None
-question_in fan p (d ∷ ds) = if asks_first p d || asks_second p d then Some (question_of fan d) else question_in fan p ds
+abbrev pub question_in : ℕ → List Bisection → Option Question
+question_in p [] = None
+question_in p (d ∷ ds) = if asks_first p d || asks_second p d then Some (question_of d) else question_in p ds
 
 abbrev pub claim_missing : Option (Option Settled) → Bool
 claim_missing (Some None) = true
@@ -167,7 +167,7 @@ claim_missing None = false
 
 abbrev pub open_question : Rules → Record → ℕ → Option Question
 open_question rules t p =
-    if claim_missing (slice_get t.claims (p - 1)) then Some claim_question else question_in rules.play.fan p t.disputes
+    if claim_missing (slice_get t.claims (p - 1)) then Some claim_question else question_in p t.disputes
 
 abbrev pub all_closed : List Bisection → Bool
 all_closed [] = true
@@ -182,8 +182,8 @@ is_complete t = all_there t.claims && all_closed t.disputes
 abbrev pub settled_in : Rules → ℕ → Settled → List Bisection → List Bisection
 settled_in rules p s [] = []
 settled_in rules p s (d ∷ ds) =
-    if asks_first p d then settle_first rules.play s d ∷ ds
-    else if asks_second p d then settle_second rules.play s d ∷ ds
+    if asks_first p d then settle_first rules.ruling s d ∷ ds
+    else if asks_second p d then settle_second rules.ruling s d ∷ ds
     else d ∷ settled_in rules p s ds
 
 abbrev pub put : Rules → ℕ → Settled → Record → Record
@@ -215,4 +215,4 @@ or_lowest (Some pair) xs = Collision (pair.0) (pair.1)
 or_lowest None xs = lowest xs
 
 abbrev pub verdict_of : Rules → Record → Verdict
-verdict_of rules t = or_lowest (first_of (claims_collision rules.play.ruling (live_from [] 1 t.claims)) (disputes_collision t.disputes)) (live t)
+verdict_of rules t = or_lowest (first_of (claims_collision rules.ruling (live_from [] 1 t.claims)) (disputes_collision t.disputes)) (live t)

@@ -13,7 +13,7 @@ pub record MaySettle (rules : Rules) (t : Record) (p : ℕ) (s : Settled) : Type
   pub question : Question
   pub numbered : 0 < p
   pub asked : open_question rules t p ≡ Some question
-  pub fits : IsFit rules.play.ruling question.kind s
+  pub fits : IsFit rules.ruling question.kind s
 
 abbrev pub AllFit : Rules → List (ℕ × Settled) → Record → Type 0
 AllFit rules [] t = Unit {0}

@@ -37,7 +37,7 @@ Legal rules says (p ∷ ps) st = IsAskedOf rules st p × Legal rules says ps (tu
 -- what a question is settled as: by the first answer, after no more passes than the patience, else spent
 
 abbrev pub said : Rules → Question → Option Answer → Settled → Settled
-said rules q (Some a) s = judged rules.play.ruling q.kind a
+said rules q (Some a) s = judged rules.ruling q.kind a
 said rules q None s = s
 
 unfoldable pub settled_after : Rules → Says → ℕ → Question → ℕ → ℕ → Settled

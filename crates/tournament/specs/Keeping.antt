@@ -57,6 +57,7 @@ dispute_at t stage number x y =
     record {
       stage = stage;
       number = number;
+      fan = t.fan;
       first = x.0;
       second = y.0;
       place = record { lo = 0; hi = t.bound; agreed = t.start; first = x.1; second = y.1 };
@@ -78,19 +79,22 @@ pub record Sheet : Type 0 where
   pub table : Setup
   pub record_ : Record
 
-abbrev pub AllRooms : ℕ → List ℕ → Type 0
-AllRooms bound [] = Unit {0}
-AllRooms bound (r ∷ rs) = (r ≡ bound) × AllRooms bound rs
+-- each room is one for a dispute of the match
+abbrev pub AllRooms : ℕ → ℕ → List (ℕ × ℕ) → Type 0
+AllRooms bound fan [] = Unit {0}
+AllRooms bound fan (r ∷ rs) = (r ≡ (bound, fan)) × AllRooms bound fan rs
 
 -- a sheet has room for each dispute that can come
-pub record IsSheet (t : Setup) (r : Record) (rooms : List ℕ) (free : ℕ) : Type 0 where
+pub record IsSheet (t : Setup) (r : Record) (rooms : List (ℕ × ℕ)) (free : ℕ) : Type 0 where
   pub some : 0 < t.provers
   pub few : t.provers ≤ 2 ^ 16
   pub steps : 0 < t.bound
   pub short : t.bound < 2 ^ 32
+  pub parted : 1 < t.fan
+  pub few_parts : t.fan ≤ 16
   pub claims_ : length r.claims ≡ t.provers
   pub stages : last_stage r.disputes ≤ length r.disputes
-  pub rooms_ : AllRooms t.bound rooms
+  pub rooms_ : AllRooms t.bound t.fan rooms
   pub room : length r.disputes + free + 1 ≡ t.provers
 
 -- some posts, in some order, come to the state
@@ -107,6 +111,8 @@ pub record IsMove (rules : Rules) (st : MatchState) (p : ℕ) (o : Option Settle
 pub record IsMatch (r : Ruling) (s : Sheet) (passed : List ℕ) (room : ℕ) : Type 0 where
   pub some : 0 < s.table.provers
   pub steps : 0 < s.table.bound
+  pub parted : 1 < s.table.fan
+  pub few_parts : s.table.fan ≤ 16
   pub counts : length passed ≡ s.table.provers
   pub reached : IsReached (rules_of r s.table) (record { record_ = s.record_; passed = passed })
   pub room_ : s.table.provers ≤ room

@@ -16,5 +16,5 @@ most_entries rules k = (rules.patience + 1) * (rules.provers + 2 * (rules.prover
 
 abbrev pub SpareIsEnough : Type 0
 SpareIsEnough =
-    (rules : Rules) (says : Says) (ps : List ℕ) (k : ℕ) → ArePlayable rules → IsMost rules.play.fan rules.bound k →
+    (rules : Rules) (says : Says) (ps : List ℕ) (k : ℕ) → ArePlayable rules → IsMost rules.fan rules.bound k →
     Legal rules says ps (begun rules) → length ps ≤ most_entries rules k

@@ -6,6 +6,7 @@ pub mod Fitting
 pub mod Journals
 pub mod Theorem
 pub mod Asked
+pub mod OpenDisputes
 pub mod SoFar
 pub mod Length
 pub mod Truthful

@@ -15,9 +15,9 @@ use Rattle.tournament.specs.declared.posting.Reply.TheVariants as reply
 use Rattle.tournament.specs.Bracket.{Record, open_question, is_complete}
 use Rattle.tournament.specs.Moves.{MatchState, begun, passes_of, settled_by, moved}
 
--- what a match is played by: a judge, halves, and the numbers
+-- what a match is played by: a judge, and the numbers
 abbrev pub rules_of : Ruling → Setup → Rules
-rules_of r t = record { play = record { ruling = r; fan = 2 }; provers = t.provers; bound = t.bound; patience = t.patience; start = t.start }
+rules_of r t = record { ruling = r; provers = t.provers; bound = t.bound; fan = t.fan; patience = t.patience; start = t.start }
 
 abbrev pub answer_of : Move → Option Answer
 answer_of Pass = None

@@ -1,10 +1,10 @@
 -- To believe: the dispute theorem, over lists of posts by anybody and with any contents. Truthful provers stay, the verdict is
 -- right, and rounds are few.
-use Rattle.std.specs.Prelude.{◌≡◌, ℕ, ◌-◌, ◌*◌, ◌^◌, ◌<◌, ◌≤◌, false, true, ◌⊎◌, List, [], ◌∷◌, length, slice_get, Option, Some, None, Contains}
+use Rattle.std.specs.Prelude.{◌≡◌, ℕ, ◌-◌, ◌*◌, ◌^◌, ◌<◌, ◌≤◌, Bool, false, true, not, ◌&&◌, ◌⊎◌, List, [], ◌∷◌, length, slice_get, Option, Some, None, Contains}
 use Rattle.rd_base.specs.declared.answer.Answer.{Answer}
 use Rattle.rd_base.specs.declared.answer.Answer.TheVariants as answer
 use Rattle.bisect_game.specs.declared.settled.Settled.{Settled}
-use Rattle.bisect_game.specs.declared.settled.Settled.TheVariants.{Given}
+use Rattle.bisect_game.specs.declared.settled.Settled.TheVariants.{Given, Faulty, Spent}
 use Rattle.bisect_game.specs.declared.side.Side.TheVariants.{First, Second}
 use Rattle.bisect_game.specs.Ruling.{Ruling, IsFair, IsCollision}
 use Rattle.bisect_game.specs.Rules.{Rules, ArePlayable}
@@ -26,8 +26,8 @@ abbrev pub HasTrueClaimSoFar : Truth → List (Option Settled) → ℕ → Type 
 HasTrueClaimSoFar t claims p = (slice_get claims (p - 1) ≡ Some None) ⊎ HasTrueClaim t claims p
 
 pub record TrueIn (rules : Rules) (t : Truth) (p : ℕ) (d : Bisection) : Type 0 where
-  pub first : d.first ≡ p → IsTruthful t rules.play.fan First d
-  pub second : d.second ≡ p → IsTruthful t rules.play.fan Second d
+  pub first : d.first ≡ p → IsTruthful t First d
+  pub second : d.second ≡ p → IsTruthful t Second d
 
 abbrev pub AllTrueIn : Rules → Truth → ℕ → List Bisection → Type 0
 AllTrueIn rules t p [] = Unit {0}
@@ -37,8 +37,20 @@ pub record AreTrue (rules : Rules) (t : Truth) (p : ℕ) (r : Record) : Type 0 w
   pub claim : HasTrueClaimSoFar t r.claims p
   pub disputes : AllTrueIn rules t p r.disputes
 
--- TRUTHFUL PROVERS STAY: it is live once its claim is settled, no dispute has put it out, in each of its disputes the agreed
--- root and its own are the run's, and each proof that it gave is proved
+-- TRUTHFUL PROVERS STAY: it is live, also before its claim is settled, no dispute has put it out, in each of its disputes the
+-- agreed root and its own are the run's, and each proof that it gave is proved
+
+-- a claim that is faulty or spent puts its prover out
+abbrev pub is_out_by_claim : Option (Option Settled) → Bool
+is_out_by_claim (Some (Some (Faulty a))) = true
+is_out_by_claim (Some (Some Spent)) = true
+is_out_by_claim (Some (Some (Given a))) = false
+is_out_by_claim (Some None) = false
+is_out_by_claim None = false
+
+-- a prover is live until its claim or a dispute puts it out
+abbrev pub lives : Record → ℕ → Bool
+lives r p = not (is_out_by_claim (slice_get r.claims (p - 1))) && not (is_out_in r.disputes p)
 
 pub record RightIn (t : Truth) (p : ℕ) (d : Bisection) : Type 0 where
   pub first : d.first ≡ p → IsRight t First d
@@ -49,22 +61,23 @@ AllRightIn t p [] = Unit {0}
 AllRightIn t p (d ∷ ds) = RightIn t p d × AllRightIn t p ds
 
 pub record ProvedIn (rules : Rules) (p : ℕ) (d : Bisection) : Type 0 where
-  pub first : d.first ≡ p → IsProved rules.play.ruling First d
-  pub second : d.second ≡ p → IsProved rules.play.ruling Second d
+  pub first : d.first ≡ p → IsProved rules.ruling First d
+  pub second : d.second ≡ p → IsProved rules.ruling Second d
 
 abbrev pub AllProvedIn : Rules → ℕ → List Bisection → Type 0
 AllProvedIn rules p [] = Unit {0}
 AllProvedIn rules p (d ∷ ds) = ProvedIn rules p d × AllProvedIn rules p ds
 
 pub record Stays (rules : Rules) (t : Truth) (p : ℕ) (r : Record) : Type 0 where
-  pub is_live : HasTrueClaim t r.claims p → Contains (live r) (p, t.claim)
+  pub is_live : lives r p ≡ true
+  pub is_listed : HasTrueClaim t r.claims p → Contains (live r) (p, t.claim)
   pub not_out : is_out_in r.disputes p ≡ false
   pub right : AllRightIn t p r.disputes
   pub proved : AllProvedIn rules p r.disputes
 
 abbrev pub TruthfulStay : Type 0
 TruthfulStay =
-    (rules : Rules) (t : Truth) (xs : List Post) (p : ℕ) → ArePlayable rules → IsFair rules.play.ruling → IsRun rules t → 0 < p →
+    (rules : Rules) (t : Truth) (xs : List Post) (p : ℕ) → ArePlayable rules → IsFair rules.ruling → IsRun rules t → 0 < p →
     AreTrue rules t p (record_after rules xs) → Stays rules t p (record_after rules xs)
 
 -- THE VERDICT IS RIGHT: the true claim is accepted, or two strings collide
@@ -73,6 +86,7 @@ TruthfulStay =
 abbrev pub opened_by : Ruling → Answer → List (List ℕ)
 opened_by r (answer.Claim c) = r.opened_by_claim c
 opened_by r (answer.Root x) = []
+opened_by r (answer.Roots xs) = []
 opened_by r (answer.Step p) = r.opened_by_step p
 
 -- an answer of the record: a claim, or one of the last round of a dispute
@@ -90,7 +104,7 @@ pub record IsCollisionIn (rules : Rules) (r : Record) (pair : List ℕ × List �
   pub second : Answer
   pub first_in : IsInClaims first r.claims ⊎ IsInDisputes first r.disputes
   pub second_in : IsInClaims second r.claims ⊎ IsInDisputes second r.disputes
-  pub collision : IsCollision rules.play.ruling (opened_by rules.play.ruling first) (opened_by rules.play.ruling second) pair
+  pub collision : IsCollision rules.ruling (opened_by rules.ruling first) (opened_by rules.ruling second) pair
 
 abbrev pub IsRightVerdict : Rules → Truth → Record → Verdict → Type 0
 IsRightVerdict rules t r (Accept n) = HasTrueClaim t r.claims n
@@ -99,7 +113,7 @@ IsRightVerdict rules t r NoneLeft = ⊥
 
 abbrev pub VerdictIsRight : Type 0
 VerdictIsRight =
-    (rules : Rules) (t : Truth) (xs : List Post) (p : ℕ) → ArePlayable rules → IsFair rules.play.ruling → IsRun rules t → 0 < p →
+    (rules : Rules) (t : Truth) (xs : List Post) (p : ℕ) → ArePlayable rules → IsFair rules.ruling → IsRun rules t → 0 < p →
     AreTrue rules t p (record_after rules xs) → is_complete (record_after rules xs) ≡ true →
     IsRightVerdict rules t (record_after rules xs) (verdict_of rules (record_after rules xs))
 
@@ -109,9 +123,9 @@ VerdictIsRight =
 abbrev pub FewDisputes : Type 0
 FewDisputes = (rules : Rules) (xs : List Post) → 0 < rules.provers → length (record_after rules xs).disputes < rules.provers
 
--- k bisection rounds with F^k < F * N, where F is 2, and at most one proof round
+-- k bisection rounds with F^k < F * N for rounds of F parts, and at most one proof round
 pub record IsShort (rules : Rules) (d : Bisection) : Type 0 where
-  pub bisections : rules.play.fan ^ rounds_of d < rules.play.fan * rules.bound
+  pub bisections : rules.fan ^ rounds_of d < rules.fan * rules.bound
   pub proofs : proof_rounds_of d ≤ 1
 
 abbrev pub AllShort : Rules → List Bisection → Type 0

@@ -36,5 +36,5 @@ TrueMovesAreTrueAnswers =
 -- and it is safe
 abbrev pub TrueMovesAreSafe : Type 0
 TrueMovesAreSafe =
-    (rules : Rules) (t : Truth) (xs : List Post) (p : ℕ) → ArePlayable rules → IsFair rules.play.ruling → IsRun rules t → 0 < p → p ≤ rules.provers →
+    (rules : Rules) (t : Truth) (xs : List Post) (p : ℕ) → ArePlayable rules → IsFair rules.ruling → IsRun rules t → 0 < p → p ≤ rules.provers →
     MovesTruly rules t p (begun rules) xs → IsSafe rules t p (record_after rules xs)

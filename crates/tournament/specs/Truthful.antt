@@ -36,5 +36,5 @@ pub record IsSafe (rules : Rules) (t : Truth) (p : ℕ) (r : Record) : Type 0 wh
 -- whoever moves in whatever order, a truthful prover is safe
 abbrev pub TruthfulProversAreSafe : Type 0
 TruthfulProversAreSafe =
-    (rules : Rules) (says : Says) (t : Truth) (ps : List ℕ) (p : ℕ) → ArePlayable rules → IsFair rules.play.ruling → IsRun rules t → 0 < p → p ≤ rules.provers →
+    (rules : Rules) (says : Says) (t : Truth) (ps : List ℕ) (p : ℕ) → ArePlayable rules → IsFair rules.ruling → IsRun rules t → 0 < p → p ≤ rules.provers →
     IsTruthfulProver rules says t p → Legal rules says ps (begun rules) → IsSafe rules t p (turns rules says ps (begun rules)).record_

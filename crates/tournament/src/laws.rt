@@ -3,6 +3,7 @@ ghost use Rattle.tournament.specs.Fitting.{PostsSettle};
 ghost use Rattle.tournament.specs.Posting.{NobodyAskedIsOver};
 ghost use Rattle.tournament.specs.Theorem.{TruthfulStay, VerdictIsRight, FewDisputes, FewRounds};
 ghost use Rattle.tournament.specs.Journals.{OrderDoesNotMatter, RecordOfCase};
+ghost use Rattle.tournament.specs.OpenDisputes.{OpenDisputesShareNoProver, SidesAreTwoProvers};
 ghost use Rattle.tournament.specs.SoFar.{RecordIsBracket};
 ghost use Rattle.tournament.specs.Length.{SpareIsEnough};
 ghost use Rattle.tournament.specs.Truthful.{TruthfulProversAreSafe};
@@ -20,7 +21,7 @@ pub fn posts_settle_what_fits()
 }
 
 /// Truthful provers stay: whatever is posted in whatever order, a prover whose settled answers so far are all given and
-/// true is live once its claim is settled, no dispute has put it out, in each of its disputes the agreed root and its own are
+/// true is live, also before its claim is settled, no dispute has put it out, in each of its disputes the agreed root and its own are
 /// the run's, and each proof that it gave leads to its own root.
 pub fn truthful_provers_stay()
     ensures { TruthfulStay }
@@ -56,7 +57,7 @@ pub fn truthful_provers_are_safe()
 }
 
 /// Few rounds: whatever is posted, m provers play at most m - 1 disputes, and a dispute has k bisection rounds with
-/// `2^k < 2N` and at most one proof round.
+/// `F^k < F * N` for rounds of F parts and the bound N, and at most one proof round.
 pub fn a_match_has_few_disputes_and_rounds()
     ensures disputes { FewDisputes }
     ensures rounds { FewRounds }
@@ -88,6 +89,15 @@ pub fn a_record_is_the_bracket_over_its_answers()
     bisection_laws();
 }
 
+/// Open disputes share no prover: whatever was posted, a prover is in one open dispute at most (`one`), and the two sides of a
+/// dispute are two provers (`two`).
+pub fn open_disputes_share_no_prover()
+    ensures one { OpenDisputesShareNoProver }
+    ensures two { SidesAreTwoProvers }
+{
+    bisection_laws();
+}
+
 /// No legal list of moves is longer than the passes of all questions and an answer to each.
 pub fn spare_is_enough()
     ensures { SpareIsEnough }
@@ -103,8 +113,8 @@ pub fn a_number_names_one_question()
     bisection_laws();
 }
 
-/// No question is beyond the bound: a root is asked of a step between the first and the last, and a proof of a step before the
-/// last, in whatever was posted (`open_`) and under whatever number of a case (`asked`).
+/// No question is beyond the bound: roots are asked of steps between the first and the last, several at the cuts of an interval
+/// within in 2 to 16 parts, and a proof of a step before the last, in whatever was posted (`open_`) and under whatever number of a case (`asked`).
 pub fn questions_are_within_the_bound()
     ensures open_ { OpenIsWithinBound }
     ensures asked { AskedIsWithinBound }

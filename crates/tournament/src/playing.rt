@@ -58,13 +58,15 @@ impl<J: Judge + Drop> Model for Match<J> {
 }
 
 impl<J: Judge + Drop> Match<J> {
-    /// A match that begins, of so many provers (at least one), over `bound` steps (1 to 2^32 - 1) from the root `start`,
-    /// with so many passes allowed on a question. It takes the memory of the whole match.
+    /// A match that begins, of so many provers (1 to 65,536), over `bound` steps (1 to 4,294,967,295) from the root `start`, of which
+    /// a round cuts its interval in `fan` parts (2 to 16), with so many passes allowed on a question. It takes the memory of the
+    /// whole match. An `Err` is out of memory.
     pub fn new(
         alloc: Global,
         judge: J,
         provers: u32,
         bound: u64,
+        fan: u32,
         patience: u32,
         start: Digest32,
     ) -> Result<Match<J>, Memory>
@@ -72,11 +74,14 @@ impl<J: Judge + Drop> Match<J> {
         requires few { provers ≤ 2 ^ 16 }
         requires steps { 0 < bound }
         requires short { bound < 2 ^ 32 }
-        ensures { let setup : Setup = record { provers = provers; bound = bound; patience = patience; start = start } in IfOk result (λ m. m ≡ (J.names judge, setup, begun (rules_of (J.ruling (J.names judge)) setup))) }
+        requires parted { 1 < fan }
+        requires few_parts { fan ≤ 16 }
+        ensures { let setup : Setup = record { provers = provers; bound = bound; fan = fan; patience = patience; start = start } in IfOk result (λ m. m ≡ (J.names judge, setup, begun (rules_of (J.ruling (J.names judge)) setup))) }
     {
         let setup = Setup {
             provers,
             bound,
+            fan,
             patience,
             start,
         };
@@ -197,7 +202,7 @@ impl<J: Judge + Drop> Match<J> {
     ///
     /// `Stale` comes exactly where that isn't the prover's open question; it carries the open one, and nothing changes.
     /// Else `Spent` comes exactly at the pass after the patience, and `Faulty` exactly at an answer of another kind than
-    /// asked or an unsound claim.
+    /// asked, a list of another length than the cuts, or an unsound claim.
     pub fn post(&mut self, p: u32, qid: Qid, turn: Move) -> Reply
         requires some { 0 < p }
         requires few { p ≤ self.old.1.provers }
@@ -233,8 +238,8 @@ impl<J: Judge + Drop> Match<J> {
         let _ = &self.live;
     }
 
-    /// Few rounds: fewer disputes than provers, and in each k bisection rounds with `2^k < 2N` for the bound N and at most one
-    /// proof round.
+    /// Few rounds: fewer disputes than provers, and in each k bisection rounds with `F^k < F * N` for rounds of F parts and the
+    /// bound N, and at most one proof round.
     pub fn has_few_disputes_and_rounds(&self)
         ensures disputes { length self.now.2.record_.disputes < self.now.1.provers }
         ensures rounds { AllShort (rules_of (J.ruling self.now.0) self.now.1) self.now.2.record_.disputes }

@@ -19,7 +19,8 @@ pub enum Move {
 pub enum Reply {
     /// The pass is counted, or the answer is taken as given.
     Taken,
-    /// The answer is of another kind than asked, or an unsound claim: the question is settled against the prover.
+    /// The answer is of another kind than asked, a list of another length than the cuts, or an unsound claim: the question is
+    /// settled against the prover.
     Faulty,
     /// It was the pass after the patience: the question is settled against the prover.
     Spent,
@@ -34,13 +35,16 @@ pub fn same_qid(first: Qid, second: Qid) -> bool
     first.dispute == second.dispute && first.round == second.round
 }
 
-/// Whether an answer is of the kind that was asked, and a claim sound.
+/// Whether an answer is of the kind that was asked, with a root for each cut, and a claim sound.
 fn is_fit<J: Judge>(judge: &J, kind: Kind, answer: &Answer) -> bool
     ensures { result ≡ is_fit (J.ruling (J.names judge.now)) kind answer.now }
 {
     match (kind, answer) {
         (Kind::Claim, Answer::Claim(claim)) => judge.sound(claim),
         (Kind::Root(_), Answer::Root(_)) => true,
+        (Kind::Roots { parts, .. }, Answer::Roots(roots)) => {
+            roots.as_slice().len() == (parts as usize).saturating_sub(1)
+        }
         (Kind::Proof(_), Answer::Step(_)) => true,
         _ => false,
     }

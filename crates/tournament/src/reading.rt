@@ -173,7 +173,7 @@ pub(crate) fn asked_from(disputes: &[Dispute], i: usize, p: u32) -> Option<(usiz
 
 /// The open question of a prover in these disputes.
 pub(crate) fn question_in(disputes: &[Dispute], p: u32) -> Option<Question>
-    ensures { result ≡ question_in 2 p disputes.now }
+    ensures { result ≡ question_in p disputes.now }
 {
     match disputes {
         [] => None,

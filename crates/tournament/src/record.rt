@@ -69,7 +69,7 @@ impl Record {
     pub(crate) fn question(&self, p: u32) -> Option<Question>
         requires some { 0 < p }
         requires few { p ≤ length self.now.claims }
-        ensures { result ≡ (if claim_missing (slice_get self.now.claims (p - 1)) then Some claim_question else question_in 2 p self.now.disputes) }
+        ensures { result ≡ (if claim_missing (slice_get self.now.claims (p - 1)) then Some claim_question else question_in p self.now.disputes) }
     {
         if self.claims[p as usize - 1].is_none() {
             return Some(Question {

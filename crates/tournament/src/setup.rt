@@ -7,6 +7,8 @@ pub struct Setup {
     pub provers: u32,
     /// The bound: how many steps the disputed run has.
     pub bound: u64,
+    /// In how many parts a round cuts its interval: 2 to 16.
+    pub fan: u32,
     /// How many passes a question allows.
     pub patience: u32,
     /// The root at step 0.

@@ -54,15 +54,17 @@ fn other_from(live: &[(u32, Digest32)], i: usize, root: &Digest32) -> Option<usi
 
 /// The rooms of so many disputes.
 #[tactic(auto, using(crate::proofs::KeepingLemmas::rooms_more))]
-fn rooms_for(alloc: Global, bound: u64, many: usize) -> Result<Vec<Room>, Memory>
+fn rooms_for(alloc: Global, bound: u64, fan: u32, many: usize) -> Result<Vec<Room>, Memory>
     requires steps { 0 < bound }
     requires short { bound < 2 ^ 32 }
+    requires parted { 1 < fan }
+    requires few_parts { fan ≤ 16 }
     ensures len { IfOk result (λ v. vec_len v ≡ many) }
-    ensures rooms { IfOk result (λ v. AllRooms bound v.items) }
+    ensures rooms { IfOk result (λ v. AllRooms bound fan v.items) }
 {
     let mut rooms = Vec::with_capacity(alloc, many)?;
     for _ in 0..many {
-        rooms.push(Room::new(alloc, bound)?)?;
+        rooms.push(Room::new(alloc, bound, fan)?)?;
     }
     Ok(rooms)
 }
@@ -74,13 +76,15 @@ impl Sheet {
         requires few { setup.provers ≤ 2 ^ 16 }
         requires steps { 0 < setup.bound }
         requires short { setup.bound < 2 ^ 32 }
+        requires parted { 1 < setup.fan }
+        requires few_parts { setup.fan ≤ 16 }
         ensures { IfOk result (λ s. s ≡ record { table = setup; record_ = record { claims = replicate setup.provers None; disputes = [] } }) }
     {
         let provers = setup.provers as usize;
         Ok(Sheet {
             table: setup,
             record_: Record::new(alloc, provers)?,
-            rooms: rooms_for(alloc, setup.bound, provers - 1)?,
+            rooms: rooms_for(alloc, setup.bound, setup.fan, provers - 1)?,
         })
     }
 

@@ -14,7 +14,7 @@ index_mut-requires g c =
 pub settle-requires : goal.settle-requires
 settle-requires g c =
     let same : c.args.self.now.disputes ≡ c.self.inside.disputes.items = sym (ap (λ (r : Record). r.disputes) c.self.view_is) in
-    let rules : Rules = record { play = record { ruling = g.J.Judge.ruling (g.J.Judge.names c.args.judge.now); fan = 2 }; provers = 1; bound = 1; patience = 0; start = record { 0 = [] } } in
+    let rules : Rules = record { ruling = g.J.Judge.ruling (g.J.Judge.names c.args.judge.now); provers = 1; bound = 1; fan = 2; patience = 0; start = record { 0 = [] } } in
     asked-asks rules c.args.p c.args.i c.args.settled c.args.side _ c.self.inside.disputes.items c.index_mut.result.now same c.requires c.index_mut.ensures.value
 
 pub returns : goal.returns
@@ -25,4 +25,4 @@ returns g c = λ setup.
     asked-here (rules_of (g.J.Judge.ruling (g.J.Judge.names c.args.judge.now)) setup) c.args.p c.args.i c.args.settled c.args.side _ c.self.inside.disputes.items c.index_mut.result.now same c.requires in
     rw (← c.self.view_is)
     (ap (λ (ds : List Bisection). let whole : Record = record { claims = c.self.inside.claims.items; disputes = ds } in whole)
-    (sym (a.settles c.settle.new.self (c.settle.ensures ∙ ap (λ (d : Bisection). settle_side (record { ruling = g.J.Judge.ruling (g.J.Judge.names c.args.judge.now); fan = 2 }) c.args.side c.args.settled d) c.index_mut.ensures.value))))
+    (sym (a.settles c.settle.new.self (c.settle.ensures ∙ ap (λ (d : Bisection). settle_side (g.J.Judge.ruling (g.J.Judge.names c.args.judge.now)) c.args.side c.args.settled d) c.index_mut.ensures.value))))
