@@ -1,7 +1,7 @@
 -- A book as it is kept.
-use Rattle.std.proofs.Common.{◌≡◌, ◌↔◌, ℕ, zero, suc, ◌+◌, ◌*◌, ◌^◌, ◌<◌, ◌≤◌, nat_le, Bool, true, false, ◌&&◌, ◌==◌, if◌then◌else◌, List, [], ◌∷◌, ◌++◌, length, slice_index_or, slice_set, ◌⊎◌, inl, inr, Option, Some, None, is_none, refl, sym, ◌∙◌, ap, arith, add-one, length-append, append_assoc}
+use Rattle.std.proofs.Common.{◌≡◌, ◌↔◌, ℕ, zero, suc, ◌+◌, ◌-◌, ◌*◌, ◌^◌, ◌<◌, ◌≤◌, nat_le, Bool, true, false, ◌&&◌, ◌==◌, if◌then◌else◌, List, [], ◌∷◌, ◌++◌, length, slice_index_or, slice_set, ◌⊎◌, inl, inr, Option, Some, None, is_none, refl, sym, ◌∙◌, ap, arith, add-one, length-append, append_assoc}
 use Rattle.std.proofs.lemmas.Bool.Decides.{nat_tests}
-use Rattle.std.proofs.Math.Nat.{mul-le-mul_left, pow-succ', pow-le-pow_right}
+use Rattle.std.proofs.Math.Nat.{mul-le-mul_left, pow-succ', pow-le-pow_left, pow-le-pow_right}
 use Rattle.std.proofs.Math.Pow.{pow_mono}
 use Rattle.rd_base.specs.declared.answer.Answer.{Answer}
 use Rattle.rd_base.specs.declared.answer.Qid.{Qid}
@@ -14,11 +14,12 @@ use Rattle.tournament.specs.Bracket.{open_question, is_complete, bracket}
 use Rattle.tournament.specs.Moves.{MatchState, begun, passes_of, settled_by, moved}
 use Rattle.tournament.specs.Journals.{turn, turn_on, turns, IsAskedOf, Legal, answers_of, RecordOfCase}
 use Rattle.tournament.specs.Length.{IsMost, most_entries, SpareIsEnough}
-use Rattle.tournament.specs.Posting.{same_qid, posted, posted_on, reply_by, reply_on, reply_to}
+use Rattle.tournament.specs.declared.setup.Setup.{Setup}
+use Rattle.tournament.specs.Posting.{rules_of, same_qid, posted, posted_on, reply_by, reply_on, reply_to}
 use Rattle.tournament.specs.Asked.{asked, AskedByTheCase}
 use Rattle.tournament.specs.Truthful.{IsTruthfulProver, IsSafe, TruthfulProversAreSafe}
 use Rattle.bisect_game.specs.Truth.{Truth, IsRun}
-use Rattle.bisect_game.specs.Ruling.{IsFair}
+use Rattle.bisect_game.specs.Ruling.{Ruling, IsFair}
 use Rattle.board_book.specs.declared.entry.Entry.{Entry}
 use Rattle.board_book.specs.Entries.{IsEntry, IsJournal, who, state_after, is_stale}
 use Rattle.board_book.specs.Booking.{IsBook}
@@ -54,12 +55,14 @@ most-is fan bound k w more e low high = record {
   ];
 }
 
-pub most-small : (k w bound : ℕ) → 2 ^ k ≡ w → w < 2 * bound → bound < 2 ^ 32 → k < 36
-most-small k w bound is low short =
+pub most-small : (fan k w bound : ℕ) → 1 < fan → fan ≤ 16 → fan ^ k ≡ w → w < fan * bound → bound < 2 ^ 32 → k < 36
+most-small fan k w bound more few is low short =
+    let two : 2 ≤ fan = omega arith in
+    let wide : bound * fan ≤ bound * 16 = mul-le-mul_left bound few in
     elim (either (nat_le 36 k)) [
       | inl e ↦
           let past : 36 ≤ k = grind (arith, nat_tests) in
-          absurd (omega (arith, pow_mono past, is, low, short))
+          absurd (omega (arith, pow_mono past, pow-le-pow_left two k, is, low, wide, short))
       | inr e ↦ grind (arith, nat_tests)
     ]
 
@@ -152,7 +155,7 @@ legal-last : (rules : Rules) (says : Says) (ps : List ℕ) (p : ℕ) (st : Match
 legal-last rules says [] p st l a = (a, tt)
 legal-last rules says (q ∷ ps) p st l a = (l.0, legal-last rules says ps p _ l.1 a)
 
-full-none : SpareIsEnough → (rules : Rules) (says : Says) (count : ℕ) (es : List Entry) (st : MatchState) (room capacity k p : ℕ) (o : Option Question) → IsBook rules says count es st room capacity → IsMost rules.play.fan rules.bound k → length es ≡ most_entries rules k → 0 < p →
+full-none : SpareIsEnough → (rules : Rules) (says : Says) (count : ℕ) (es : List Entry) (st : MatchState) (room capacity k p : ℕ) (o : Option Question) → IsBook rules says count es st room capacity → IsMost rules.fan rules.bound k → length es ≡ most_entries rules k → 0 < p →
     open_question rules st.record_ p ≡ o → o ≡ None
 full-none enough rules says count es st room capacity k p None b m full some e = refl
 full-none enough rules says count es st room capacity k p (Some q) b m full some e =
@@ -161,7 +164,7 @@ full-none enough rules says count es st room capacity k p (Some q) b m full some
     let few : length (who es ++ p ∷ []) ≤ most_entries rules k = enough rules says (who es ++ p ∷ []) k b.playable m legal in
     absurd (omega (arith, few, length-append (who es) (p ∷ []), who-length es, full))
 
-pub book-full : SpareIsEnough → (rules : Rules) (says : Says) (count : ℕ) (es : List Entry) (st : MatchState) (room capacity k : ℕ) → IsBook rules says count es st room capacity → IsMost rules.play.fan rules.bound k → length es ≡ most_entries rules k →
+pub book-full : SpareIsEnough → (rules : Rules) (says : Says) (count : ℕ) (es : List Entry) (st : MatchState) (room capacity k : ℕ) → IsBook rules says count es st room capacity → IsMost rules.fan rules.bound k → length es ≡ most_entries rules k →
     ((p : ℕ) → 0 < p → p ≤ rules.provers → open_question rules st.record_ p ≡ None) ↔ (is_complete st.record_ ≡ true) → is_complete st.record_ ≡ true
 book-full enough rules says count es st room capacity k b m full over =
     over.0 (λ p some le. full-none enough rules says count es st room capacity k p (open_question rules st.record_ p) b m full some refl)
@@ -200,8 +203,22 @@ book-asks by rules says count es st room capacity b p q some e =
     let legal : Legal rules says (who es) (begun rules) = journal-legal rules says es (begun rules) b.legal in
     by rules says (who es) p q b.playable legal some (rw (← b.state) at e)
 
-pub book-safe : TruthfulProversAreSafe → (rules : Rules) (says : Says) (count : ℕ) (es : List Entry) (st : MatchState) (room capacity : ℕ) → IsBook rules says count es st room capacity → IsFair rules.play.ruling →
+pub book-safe : TruthfulProversAreSafe → (rules : Rules) (says : Says) (count : ℕ) (es : List Entry) (st : MatchState) (room capacity : ℕ) → IsBook rules says count es st room capacity → IsFair rules.ruling →
     (t : Truth) (p : ℕ) → IsRun rules t → 0 < p → p ≤ rules.provers → IsTruthfulProver rules says t p → IsSafe rules t p st.record_
 book-safe safe rules says count es st room capacity b fair t p run low high truthful =
     let legal : Legal rules says (who es) (begun rules) = journal-legal rules says es (begun rules) b.legal in
     rw b.state at (safe rules says t (who es) p b.playable fair run low high truthful legal)
+
+-- the empty book
+
+pub book-begun : (ruling : Ruling) (t : Setup) (says : Says) (count : ℕ) (es : List Entry) (room capacity : ℕ) → 0 < count → 0 < t.bound → 1 < t.fan → t.fan ≤ 16 → t.provers ≡ count → es ≡ [] →
+    ((k : ℕ) × IsMost t.fan t.bound k × (room ≡ (t.patience + 1) * (t.provers + 2 * (t.provers - 1) * (k + 1)))) → room ≤ capacity →
+    IsBook (rules_of ruling t) says count es (begun (rules_of ruling t)) room capacity
+book-begun ruling t says count es room capacity some steps parted few many none most fits = record {
+  playable = record { some = omega (arith, many, some); parted = parted; few_parts = few; steps = steps };
+  counted = many;
+  legal = rw none tt;
+  state = rw none refl;
+  most = most;
+  capacity_ = fits;
+}

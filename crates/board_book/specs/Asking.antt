@@ -1,6 +1,5 @@
 -- To believe: what a prover is asked.
 use Rattle.std.specs.Prelude.{ℕ, Bool, false, Option, Some, None, is_none, if◌then◌else◌}
-use Rattle.rd_base.specs.declared.answer.Answer.{Answer}
 use Rattle.bisect_game.specs.declared.question.Question.{Question}
 use Rattle.bisect_game.specs.Says.{Says}
 use Rattle.tournament.specs.Bracket.{is_complete}

@@ -12,5 +12,5 @@ pub record IsBook (rules : Rules) (says : Says) (count : ℕ) (es : List Entry) 
   pub counted : rules.provers ≡ count
   pub legal : IsJournal rules says es (begun rules)
   pub state : state_after rules says es ≡ st
-  pub most : (k : ℕ) × IsMost rules.play.fan rules.bound k × (room ≡ most_entries rules k)
+  pub most : (k : ℕ) × IsMost rules.fan rules.bound k × (room ≡ most_entries rules k)
   pub capacity_ : room ≤ capacity

@@ -80,13 +80,15 @@ impl<J: Judge + Drop, P: Provers + Drop> Model for Book<J, P> {
 }
 
 impl<J: Judge + Drop, P: Provers + Drop> Book<J, P> {
-    /// An empty book of these provers (1 to 16), over `bound` steps (1 to 2^32 - 1) from the root `start`, with a patience
-    /// of 0 to 100 passes. It takes the memory of the whole match and of every journal that it can have.
+    /// An empty book of these provers (1 to 16), over `bound` steps (1 to 4,294,967,295) from the root `start`, of which a round cuts
+    /// its interval in `fan` parts (2 to 16), with a patience of 0 to 100 passes. It takes the memory of the whole match and of
+    /// every journal that it can have. An `Err` is out of memory.
     pub fn open(
         alloc: Global,
         judge: J,
         provers: P,
         bound: u64,
+        fan: u32,
         patience: u32,
         start: Digest32,
     ) -> Result<Book<J, P>, Memory>
@@ -94,18 +96,21 @@ impl<J: Judge + Drop, P: Provers + Drop> Book<J, P> {
         requires few { P.many (P.names provers) ≤ 16 }
         requires steps { 0 < bound }
         requires short { bound < 2 ^ 32 }
+        requires parted { 1 < fan }
+        requires few_parts { fan ≤ 16 }
         requires patience { patience ≤ 100 }
-        ensures { let setup : Setup = record { provers = P.many (P.names provers); bound = bound; patience = patience; start = start } in IfOk result (λ b. b ≡ ((J.names judge, P.names provers, setup), [], begun (rules_of (J.ruling (J.names judge)) setup))) }
+        ensures { let setup : Setup = record { provers = P.many (P.names provers); bound = bound; fan = fan; patience = patience; start = start } in IfOk result (λ b. b ≡ ((J.names judge, P.names provers, setup), [], begun (rules_of (J.ruling (J.names judge)) setup))) }
     {
         let setup = Setup {
             provers: provers.count(),
             bound,
+            fan,
             patience,
             start,
         };
         let room = most_entries(setup);
         Ok(Book {
-            game: Match::new(alloc, judge, setup.provers, bound, patience, start)?,
+            game: Match::new(alloc, judge, setup.provers, bound, fan, patience, start)?,
             journal: Vec::with_capacity(alloc, room as usize)?,
             provers,
             room,
@@ -182,7 +187,7 @@ impl<J: Judge + Drop, P: Provers + Drop> Book<J, P> {
 
     /// How many entries can come at most: together with the journal they are the most that a legal journal can have.
     pub fn spare(&self) -> u64
-        ensures { let rules = rules_of (J.ruling self.now.0.0) self.now.0.2 in (k : ℕ) × IsMost rules.play.fan rules.bound k × (result + length self.now.1 ≡ most_entries rules k) }
+        ensures { let rules = rules_of (J.ruling self.now.0.0) self.now.0.2 in (k : ℕ) × IsMost rules.fan rules.bound k × (result + length self.now.1 ≡ most_entries rules k) }
     {
         spare_is_enough();
         self.room - self.journal.len() as u64
@@ -281,7 +286,7 @@ impl<J: Judge + Drop, P: Provers + Drop> Book<J, P> {
 
     /// Where the journal is as long as it can be, the match is over.
     fn is_full(&self)
-        requires { let rules = rules_of (J.ruling self.now.0.0) self.now.0.2 in (k : ℕ) × IsMost rules.play.fan rules.bound k × (length self.now.1 ≡ most_entries rules k) }
+        requires { let rules = rules_of (J.ruling self.now.0.0) self.now.0.2 in (k : ℕ) × IsMost rules.fan rules.bound k × (length self.now.1 ≡ most_entries rules k) }
         ensures { is_complete self.now.2.record_ ≡ true }
     {
         spare_is_enough();
@@ -314,8 +319,8 @@ impl<J: Judge + Drop, P: Provers + Drop> Book<J, P> {
         self.game.keeps_true_provers();
     }
 
-    /// Few rounds: fewer disputes than provers, and in each k bisection rounds with `2^k < 2N` for the bound N and at most one
-    /// proof round.
+    /// Few rounds: fewer disputes than provers, and in each k bisection rounds with `F^k < F * N` for rounds of F parts and the
+    /// bound N, and at most one proof round.
     pub fn has_few_disputes_and_rounds(&self)
         ensures disputes { length self.now.2.record_.disputes < self.now.0.2.provers }
         ensures rounds { AllShort (rules_of (J.ruling self.now.0.0) self.now.0.2) self.now.2.record_.disputes }

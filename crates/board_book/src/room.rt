@@ -3,17 +3,19 @@ ghost use Rattle.tournament.specs.Length.{IsMost};
 
 use tournament::Setup;
 
-/// The most bisection rounds of a dispute: the greatest k with `2^k < 2N`.
-fn most_rounds(bound: u64) -> u64
+/// The most bisection rounds of a dispute: the greatest k with `F^k < F * N`, for rounds of F parts and the bound N.
+fn most_rounds(bound: u64, fan: u32) -> u64
     requires steps { 0 < bound }
     requires short { bound < 2 ^ 32 }
-    ensures most { IsMost 2 bound result }
+    requires parted { 1 < fan }
+    requires few_parts { fan ≤ 16 }
+    ensures most { IsMost fan bound result }
     ensures few { result < 36 }
 {
     let mut rounds = 0;
     let mut power = 1;
     while power < bound {
-        power *= 2;
+        power *= u64::from(fan);
         rounds += 1;
     }
     rounds
@@ -38,8 +40,10 @@ pub(crate) fn most_entries(setup: Setup) -> u64
     requires few { setup.provers ≤ 16 }
     requires steps { 0 < setup.bound }
     requires short { setup.bound < 2 ^ 32 }
+    requires parted { 1 < setup.fan }
+    requires few_parts { setup.fan ≤ 16 }
     requires patience { setup.patience ≤ 100 }
-    ensures { (k : _) × IsMost 2 setup.bound k × (result ≡ (setup.patience + 1) * (setup.provers + 2 * (setup.provers - 1) * (k + 1))) }
+    ensures { (k : _) × IsMost setup.fan setup.bound k × (result ≡ (setup.patience + 1) * (setup.provers + 2 * (setup.provers - 1) * (k + 1))) }
 {
-    entries_for(setup, most_rounds(setup.bound))
+    entries_for(setup, most_rounds(setup.bound, setup.fan))
 }

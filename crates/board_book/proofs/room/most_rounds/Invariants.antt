@@ -3,8 +3,8 @@ use Rattle.board_book.proofs.room.most_rounds.Given as goal
 
 abbrev pub invariant-loop-power : goal.invariant-loop-power
 invariant-loop-power l = record {
-  is : 2 ^ l.rounds ≡ l.power;
-  low : l.power < 2 * l.bound;
+  is : l.fan ^ l.rounds ≡ l.power;
+  low : l.power < l.fan * l.bound;
   some : 0 < l.power;
 }
 
