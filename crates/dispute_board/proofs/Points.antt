@@ -6,7 +6,7 @@ use mathlib.Core.List.{map-append}
 use Rattle.rd_base.specs.declared.answer.Answer.{Answer}
 use Rattle.rd_base.specs.declared.answer.Qid.{Qid}
 use Rattle.bisect_game.specs.declared.question.Question.{Question}
-use Rattle.bisect_game.specs.Says.{Says}
+use Rattle.bisect_game.specs.Says.{Says, GiveOneAnswer}
 use Rattle.bisect_game.specs.Rules.{Rules}
 use Rattle.tournament.specs.declared.posting.Reply.{Reply}
 use Rattle.tournament.specs.declared.posting.Reply.TheVariants.{Stale}
@@ -23,9 +23,9 @@ use Rattle.seat_lock.specs.Seats.{Known}
 use Rattle.seat_lock.specs.Turned.{Turned}
 use Rattle.dispute_board.specs.declared.turns.Posted.{Posted}
 use Rattle.dispute_board.specs.Logs.{numbers_of, log_of_journal, with_entry, turn_of}
-use Rattle.dispute_board.specs.Replies.{IsMoveOn, MayPost, is_due, reply_on_board, reply_in, IsReply}
+use Rattle.dispute_board.specs.Replies.{MayPost, IsReply}
 use Rattle.dispute_board.specs.OneHistory.{Stands, AsksOnBoard, PostsOnBoard, entry_unless_stale}
-use Rattle.dispute_board.specs.Turns.{AsksTheCase, Asks, Posts}
+use Rattle.dispute_board.specs.Turns.{is_due, reply_on_board, reply_in, AsksTheCase, Asks, Posts}
 
 some≢none : {A : Type 0} (a : A) → Some a ≡ None → ⊥
 some≢none a e = absurd (cc)
@@ -66,9 +66,16 @@ alike-back true b e = e
 alike-back false true e = absurd (cc)
 alike-back false false e = refl
 
-pub due_says : (says : Says) (st : MatchState) (p : ℕ) (after : Option ℕ) (m : Option Answer) (q : Question) → is_due says st p after m q ≡ true → IsMoveOn says p q after m → m ≡ says p q (passes_of st p)
-due_says says st p (Some n) m q due on = on ∙ ap (says p q) (is-eq n (passes_of st p) due)
-due_says says st p None m q due on = on (passes_of st p) (alike (is_none m) (is_none (says p q (passes_of st p))) due)
+-- to one question a prover gives one answer, so that two moves on it that are both passes, or both answers, are one
+same_said : (says : Says) (p : ℕ) (q : Question) (n k : ℕ) (m o : Option Answer) → GiveOneAnswer says → m ≡ says p q n → o ≡ says p q k → is_none o ≡ is_none m → m ≡ o
+same_said says p q n k None None one em eo alike_ = refl
+same_said says p q n k None (Some b) one em eo alike_ = absurd (cc)
+same_said says p q n k (Some a) None one em eo alike_ = absurd (cc)
+same_said says p q n k (Some a) (Some b) one em eo alike_ = ap Some (one p q n k a b (sym em) (sym eo))
+
+pub due_says : (says : Says) (st : MatchState) (p : ℕ) (m : Option Answer) (q : Question) → GiveOneAnswer says → is_due says st p m q ≡ true → (n : ℕ) × (m ≡ says p q n) → m ≡ says p q (passes_of st p)
+due_says says st p m q one due on =
+    same_said says p q on.0 (passes_of st p) m (says p q (passes_of st p)) one on.1 refl (alike (is_none m) (is_none (says p q (passes_of st p))) due)
 
 both : (a b : Bool) → (a && b) ≡ true → (a ≡ true) × (b ≡ true)
 both true b e = (refl, e)
@@ -91,14 +98,15 @@ unsaid_if : (b : Bool) (r : Reply) (qid : Qid) → (b ≡ true → r ≡ Stale (
 unsaid_if true r qid f = f refl
 unsaid_if false r qid _ = refl
 
-pub is_reply : (rules : Rules) (says : Says) (st : MatchState) (p : ℕ) (qid : Qid) (m : Option Answer) (r : Reply) → MayPost rules says p qid None m → AsksTheCase rules says st p → r ≡ reply_in rules says st p qid None m → IsReply rules says st p qid m r
-is_reply rules says st p qid m r may case is = record {
-  said = λ q shown say. is ∙ ap (reply_on_board rules says st p qid None m) shown
+pub is_reply : (rules : Rules) (says : Says) (st : MatchState) (p : ℕ) (qid : Qid) (m : Option Answer) (r : Reply) → GiveOneAnswer says → MayPost rules says p qid m → AsksTheCase rules says st p →
+    r ≡ reply_in rules says st p qid m → IsReply rules says st p qid m r
+is_reply rules says st p qid m r one may case is = record {
+  said = λ q shown say. is ∙ ap (reply_on_board rules says st p qid m) shown
       ∙ ap (λ (b : Bool). if b then reply_to rules st p qid m else Stale (Some q.qid)) (alike-back (is_none m) (is_none (says p q (passes_of st p))) (ap is_none (sym say)));
-  unsaid = λ q shown never. is ∙ ap (reply_on_board rules says st p qid None m) shown
-      ∙ unsaid_if (is_due says st p None m q) (reply_to rules st p qid m) q.qid (λ due. ap (reply_on rules st p qid m) shown
-      ∙ other_if (same_qid q.qid qid) (reply_by (settled_by rules q (passes_of st p) m)) q.qid (λ same. never (due_says says st p None m q due (may q (same_qid-is q.qid qid same) (case q shown)))));
-  unasked = λ shown. is ∙ ap (reply_on_board rules says st p qid None m) shown;
+  unsaid = λ q shown never. is ∙ ap (reply_on_board rules says st p qid m) shown
+      ∙ unsaid_if (is_due says st p m q) (reply_to rules st p qid m) q.qid (λ due. ap (reply_on rules st p qid m) shown
+      ∙ other_if (same_qid q.qid qid) (reply_by (settled_by rules q (passes_of st p) m)) q.qid (λ same. never (due_says says st p m q one due (may q (same_qid-is q.qid qid same) (case q shown)))));
+  unasked = λ shown. is ∙ ap (reply_on_board rules says st p qid m) shown;
 }
 
 -- entries that are added
@@ -151,27 +159,13 @@ module _ {T H : Type 0} (head : T → H) (log : T → List (List ℕ)) (journal 
         asked = λ q n is. asks.asked q (open_is st p (open_question rules st.record_ p) q n (sym asks.answer ∙ is));
       }
 
-  pub posts_on_board : (rules : Rules) (says : Says) (before after : Known H) (x y : T) (p : ℕ) (qid : Qid) (passes : Option ℕ) (m : Option Answer) (posted : Posted) → Turned {T = T} head log before x y after →
-      Posts rules says (journal x) p qid passes m posted (journal y) → PostsOnBoard rules says before p qid passes m posted after
-  posts_on_board rules says before after x y p qid passes m posted t posts =
+  pub posts_on_board : (rules : Rules) (says : Says) (before after : Known H) (x y : T) (p : ℕ) (qid : Qid) (m : Option Answer) (posted : Posted) → GiveOneAnswer says → Turned {T = T} head log before x y after →
+      Posts rules says (journal x) p qid m posted (journal y) → MayPost rules says p qid m → PostsOnBoard rules says before p qid m posted after
+  posts_on_board rules says before after x y p qid m posted one t posts may =
       let e : Entry = record { p = p; qid = qid; pass = is_none m; reply = posted.reply } in
       record {
         journal = journal x;
         stands = stands head log rules says before after x y (journal x) (journal y) (entry_unless_stale e) t (logged x) (logged y) (posts.notes ∙ sym (noted_is (journal x) e)) posts.legal posts.legal_after;
-        reply = posts.reply;
+        reply = is_reply rules says (state_after rules says (journal x)) p qid m posted.reply one may posts.asked posts.reply;
         receipt = posts.receipt;
       }
-
-  pub posts_and_replies : (rules : Rules) (says : Says) (before after : Known H) (x y : T) (p : ℕ) (qid : Qid) (m : Option Answer) (posted : Posted) → Turned {T = T} head log before x y after →
-      Posts rules says (journal x) p qid None m posted (journal y) → MayPost rules says p qid None m →
-      (here : PostsOnBoard rules says before p qid None m posted after) × IsReply rules says (state_after rules says here.journal) p qid m posted.reply
-  posts_and_replies rules says before after x y p qid m posted t posts may =
-      let e : Entry = record { p = p; qid = qid; pass = is_none m; reply = posted.reply } in (
-        record {
-          journal = journal x;
-          stands = stands head log rules says before after x y (journal x) (journal y) (entry_unless_stale e) t (logged x) (logged y) (posts.notes ∙ sym (noted_is (journal x) e)) posts.legal posts.legal_after;
-          reply = posts.reply;
-          receipt = posts.receipt;
-        },
-        is_reply rules says (state_after rules says (journal x)) p qid m posted.reply may posts.asked posts.reply,
-      )

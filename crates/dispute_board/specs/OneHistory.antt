@@ -17,7 +17,7 @@ use Rattle.seat_lock.specs.Seats.{Known}
 use Rattle.seat_lock.specs.Turned.{SameSeat}
 use Rattle.dispute_board.specs.declared.turns.Posted.{Posted}
 use Rattle.dispute_board.specs.Logs.{log_of_journal, with_entry, turn_of}
-use Rattle.dispute_board.specs.Replies.{ask_in, reply_in, IsOfTheCase}
+use Rattle.dispute_board.specs.Replies.{ask_in, IsOfTheCase, IsReply}
 
 -- a turn of a seat at this point of the journal, which added this entry or none
 pub record Stands {H : Type 0} (rules : Rules) (says : Says) (before : Known H) (journal : List Entry) (added : Option Entry) (after : Known H) : Type 0 where
@@ -54,8 +54,8 @@ pub record AsksOnBoard {H : Type 0} (rules : Rules) (says : Says) (before : Know
   pub asked : (q : Question) (n : ℕ) → ask ≡ variant.Question q n → IsOfTheCase rules says p q
 
 -- a post of a seat, where it stands: its reply is the board's there, and it leaves its entry exactly where the reply is not stale
-pub record PostsOnBoard {H : Type 0} (rules : Rules) (says : Says) (before : Known H) (p : ℕ) (qid : Qid) (passes : Option ℕ) (m : Option Answer) (posted : Posted) (after : Known H) : Type 0 where
+pub record PostsOnBoard {H : Type 0} (rules : Rules) (says : Says) (before : Known H) (p : ℕ) (qid : Qid) (m : Option Answer) (posted : Posted) (after : Known H) : Type 0 where
   pub journal : List Entry
   pub stands : Stands rules says before journal (entry_unless_stale (record { p = p; qid = qid; pass = is_none m; reply = posted.reply })) after
-  pub reply : posted.reply ≡ reply_in rules says (state_after rules says journal) p qid passes m
+  pub reply : IsReply rules says (state_after rules says journal) p qid m posted.reply
   pub receipt : posted.receipt ≡ receipt_of posted.reply (length journal)

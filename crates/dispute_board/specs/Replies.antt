@@ -1,5 +1,5 @@
 -- To believe: what the board answers at a point of the journal, and which moves a prover may post.
-use Rattle.std.specs.Prelude.{◌≡◌, ◌≢◌, ℕ, Bool, not, ◌==◌, Option, Some, None, is_none, if◌then◌else◌}
+use Rattle.std.specs.Prelude.{◌≡◌, ◌≢◌, ℕ, Option, Some, None}
 use Rattle.rd_base.specs.declared.answer.Answer.{Answer}
 use Rattle.rd_base.specs.declared.answer.Qid.{Qid}
 use Rattle.bisect_game.specs.declared.question.Question.{Question}
@@ -23,32 +23,13 @@ ask_in rules st p = ask_on st p (open_question rules st.record_ p)
 abbrev pub IsOfTheCase : Rules → Says → ℕ → Question → Type 0
 IsOfTheCase rules says p q = asked rules (bracket rules (answers_of rules says)) p q.qid ≡ Some q.kind
 
--- the move is what the prover says to the question: after so many passes, or, where no number is given, after each number of
--- passes after which the prover passes as the move does, or answers as the move does
-abbrev pub IsMoveOn : Says → ℕ → Question → Option ℕ → Option Answer → Type 0
-IsMoveOn says p q (Some n) m = m ≡ says p q n
-IsMoveOn says p q None m = (n : ℕ) → is_none (says p q n) ≡ is_none m → m ≡ says p q n
-
 -- a prover may post a move under a number: where the case asks it a question of that number, the move is what it says to it
-abbrev pub MayPost : Rules → Says → ℕ → Qid → Option ℕ → Option Answer → Type 0
-MayPost rules says p qid after m = (q : Question) → q.qid ≡ qid → IsOfTheCase rules says p q → IsMoveOn says p q after m
+-- after some number of passes
+abbrev pub MayPost : Rules → Says → ℕ → Qid → Option Answer → Type 0
+MayPost rules says p qid m = (q : Question) → q.qid ≡ qid → IsOfTheCase rules says p q → (n : ℕ) × (m ≡ says p q n)
 
--- the move is due on the open question: so many passes stand there, or, where no number is given, the prover passes there as
--- the move does
-abbrev pub is_due : Says → MatchState → ℕ → Option ℕ → Option Answer → Question → Bool
-is_due says st p (Some n) m q = n == passes_of st p
-is_due says st p None m q = if is_none m then is_none (says p q (passes_of st p)) else not (is_none (says p q (passes_of st p)))
-
-abbrev pub reply_on_board : Rules → Says → MatchState → ℕ → Qid → Option ℕ → Option Answer → Option Question → Reply
-reply_on_board rules says st p qid after m None = reply.Stale None
-reply_on_board rules says st p qid after m (Some q) = if is_due says st p after m q then reply_to rules st p qid m else reply.Stale (Some q.qid)
-
--- the board's reply: the one of the book where the move is due, and else stale with the open question
-abbrev pub reply_in : Rules → Says → MatchState → ℕ → Qid → Option ℕ → Option Answer → Reply
-reply_in rules says st p qid after m = reply_on_board rules says st p qid after m (open_question rules st.record_ p)
-
--- the reply in the provers' own words: where the prover has an open question and says the move after the passes that stand
--- there, the one of the book; where it says something else there, or has no question, stale, with the open one
+-- the board's reply: where the prover has an open question and says the move after the passes that stand there, the one of the
+-- book; where it says something else there, or has no question, stale, with the open one
 pub record IsReply (rules : Rules) (says : Says) (st : MatchState) (p : ℕ) (qid : Qid) (m : Option Answer) (r : Reply) : Type 0 where
   pub said : (q : Question) → open_question rules st.record_ p ≡ Some q → m ≡ says p q (passes_of st p) → r ≡ reply_to rules st p qid m
   pub unsaid : (q : Question) → open_question rules st.record_ p ≡ Some q → m ≢ says p q (passes_of st p) → r ≡ reply.Stale (Some q.qid)

@@ -1,13 +1,12 @@
 //! The board and its seats.
-ghost use Rattle.std.specs.Prelude.{◌≡◌, ◌+◌, ◌^◌, ◌<◌, ◌≤◌, length, Option, Some, None, IfOk};
+ghost use Rattle.std.specs.Prelude.{◌≡◌, ◌+◌, ◌^◌, ◌<◌, ◌≤◌, length, Some, IfOk};
 ghost use Rattle.std.specs.List.{All};
 ghost use Rattle.seat_lock.specs.History.{log_of, Begins, NoneTwice};
 ghost use Rattle.seat_lock.specs.Seats.{first_seat, after_split, split_off, after_join};
 ghost use Rattle.tournament.specs.declared.setup.Setup.{Setup};
 ghost use Rattle.tournament.specs.Posting.{rules_of, answer_of};
-ghost use Rattle.board_book.specs.Entries.{state_after};
 ghost use Rattle.dispute_board.specs.Logs.{log_of_journal};
-ghost use Rattle.dispute_board.specs.Replies.{MayPost, IsReply};
+ghost use Rattle.dispute_board.specs.Replies.{MayPost};
 ghost use Rattle.dispute_board.specs.OneHistory.{AsksOnBoard, PostsOnBoard};
 
 use crate::turns::{Asking, Locked, Posted, Posting};
@@ -63,9 +62,9 @@ impl<J: Judge + Drop, P: Provers + Drop> Board<J, P> {
 
     /// Posts in one turn a move of prover `p`, from 1 to their count, on the question of this number.
     ///
-    /// Where the case asks the prover a question of that number, the move is what the prover says to it after every number of
-    /// passes after which it passes as the move does, or answers as the move does. The reply is that of the book where the
-    /// prover says this move after the passes that stand there, and else `Stale` with the open question, and nothing changes.
+    /// Where the case asks the prover a question of that number, the move is what the prover says to it after some number of
+    /// passes. The reply is that of the book where the prover says this move after the passes that stand there, and else `Stale`
+    /// with the open question, and nothing changes.
     pub fn post<R: Wait>(
         &self,
         rt: &R,
@@ -77,51 +76,10 @@ impl<J: Judge + Drop, P: Provers + Drop> Board<J, P> {
         requires lock { seat.old.lock ≡ self.now }
         requires some { 0 < p }
         requires few { (head : J.Names × P.Names × Setup) → seat.old.head ≡ Some head → p ≤ head.2.provers }
-        requires may { (head : J.Names × P.Names × Setup) → seat.old.head ≡ Some head → MayPost (rules_of (J.ruling head.0) head.2) (P.says head.1) p qid None (answer_of turn) }
-        ensures { let m = answer_of turn in (head : J.Names × P.Names × Setup) × (seat.old.head ≡ Some head) × (let rules = rules_of (J.ruling head.0) head.2 in let says = P.says head.1 in (here : PostsOnBoard rules says seat.old p qid None m result seat.new) × IsReply rules says (state_after rules says here.journal) p qid m result.reply) }
+        requires may { (head : J.Names × P.Names × Setup) → seat.old.head ≡ Some head → MayPost (rules_of (J.ruling head.0) head.2) (P.says head.1) p qid (answer_of turn) }
+        ensures { (head : J.Names × P.Names × Setup) × (seat.old.head ≡ Some head) × PostsOnBoard (rules_of (J.ruling head.0) head.2) (P.says head.1) seat.old p qid (answer_of turn) result seat.new }
     {
-        self.lock.with_turn(
-            rt,
-            seat,
-            Posting {
-                p,
-                qid,
-                turn,
-                after: None,
-            },
-        )
-    }
-
-    /// Posts a move that prover `p` made after so many passes on the question of this number, as a poster does that was
-    /// asked before.
-    ///
-    /// The reply is that of the book where so many passes stand there, and else `Stale` with the open question, and nothing
-    /// changes.
-    pub fn post_after<R: Wait>(
-        &self,
-        rt: &R,
-        seat: &mut Seat<J, P>,
-        p: u32,
-        qid: Qid,
-        passes: u32,
-        turn: Move,
-    ) -> Posted
-        requires lock { seat.old.lock ≡ self.now }
-        requires some { 0 < p }
-        requires few { (head : J.Names × P.Names × Setup) → seat.old.head ≡ Some head → p ≤ head.2.provers }
-        requires may { (head : J.Names × P.Names × Setup) → seat.old.head ≡ Some head → MayPost (rules_of (J.ruling head.0) head.2) (P.says head.1) p qid (Some passes) (answer_of turn) }
-        ensures { (head : J.Names × P.Names × Setup) × (seat.old.head ≡ Some head) × PostsOnBoard (rules_of (J.ruling head.0) head.2) (P.says head.1) seat.old p qid (Some passes) (answer_of turn) result seat.new }
-    {
-        self.lock.with_turn(
-            rt,
-            seat,
-            Posting {
-                p,
-                qid,
-                turn,
-                after: Some(passes),
-            },
-        )
+        self.lock.with_turn(rt, seat, Posting { p, qid, turn })
     }
 
     /// Splits a seat off the first one. It has seen the same and has no receipts. It takes no memory.

@@ -2,11 +2,10 @@
 ghost use Rattle.std.specs.Prelude.{◌≡◌, ℕ, ◌<◌, ◌≤◌, Option, Some, None, is_none, length, if◌then◌else◌};
 ghost use Rattle.tournament.specs.Bracket.{open_question};
 ghost use Rattle.tournament.specs.Posting.{rules_of, answer_of};
-ghost use Rattle.tournament.specs.Moves.{passes_of};
 ghost use Rattle.bisect_game.specs.declared.question.Question.{Question};
-ghost use Rattle.dispute_board.specs.Replies.{MayPost, is_due};
+ghost use Rattle.dispute_board.specs.Replies.{MayPost};
 ghost use Rattle.dispute_board.specs.OneHistory.{receipt_of};
-ghost use Rattle.dispute_board.specs.Turns.{Asks, Posts, undue};
+ghost use Rattle.dispute_board.specs.Turns.{Asks, Posts, is_due, undue};
 
 use bisect_game::{Judge, Provers};
 use board_book::{Ask, Book};
@@ -60,28 +59,25 @@ impl<J: Judge + Drop, P: Provers + Drop> Job<Locked<J, P>> for Asking {
     }
 }
 
-/// Posts a move of prover `p`. Where a number of passes is given, the move was made after so many.
+/// Posts a move of prover `p`.
 #[derive(Drop)]
 pub struct Posting {
     pub p: u32,
     pub qid: Qid,
     pub turn: Move,
-    pub after: Option<u32>,
 }
 
 impl<J: Judge + Drop, P: Provers + Drop> Job<Locked<J, P>> for Posting {
     ghost use Rattle.std.specs.Prelude.{◌≡◌, ◌<◌, ◌≤◌};
     ghost use Rattle.tournament.specs.Posting.{rules_of, answer_of};
-    ghost use Rattle.tournament.specs.Moves.{passes_of};
-    ghost use Rattle.bisect_game.specs.declared.question.Question.{Question};
-    ghost use Rattle.dispute_board.specs.Replies.{MayPost, is_due};
+    ghost use Rattle.dispute_board.specs.Replies.{MayPost};
     ghost use Rattle.dispute_board.specs.Turns.{Posts};
 
     type Out = Posted;
 
-    ghost fits = { λ job head. (0 < job.p) × (job.p ≤ head.2.provers) × MayPost (rules_of (J.ruling head.0) head.2) (P.says head.1) job.p job.qid job.after (answer_of job.turn) };
+    ghost fits = { λ job head. (0 < job.p) × (job.p ≤ head.2.provers) × MayPost (rules_of (J.ruling head.0) head.2) (P.says head.1) job.p job.qid (answer_of job.turn) };
 
-    ghost does = { λ job found left posted. (left.book.0 ≡ found.book.0) × Posts (rules_of (J.ruling found.book.0.0) found.book.0.2) (P.says found.book.0.1) found.book.1 job.p job.qid job.after (answer_of job.turn) posted left.book.1 };
+    ghost does = { λ job found left posted. (left.book.0 ≡ found.book.0) × Posts (rules_of (J.ruling found.book.0.0) found.book.0.2) (P.says found.book.0.1) found.book.1 job.p job.qid (answer_of job.turn) posted left.book.1 };
 
     fn act(self, locked: &mut Locked<J, P>) -> Posted {
         post_in_turn(&mut locked.book, self)
@@ -116,35 +112,25 @@ fn receipt_for(reply: Reply, place: u64) -> Option<u64>
     }
 }
 
-// Whether the move is due on the open question, on which so many passes stand.
-fn is_due<J: Judge + Drop, P: Provers + Drop>(
-    book: &Book<J, P>,
-    post: &Posting,
-    passes: u32,
-) -> bool
+// Whether the move is due on the open question: the prover passes there now exactly as the move does.
+fn is_due<J: Judge + Drop, P: Provers + Drop>(book: &Book<J, P>, post: &Posting) -> bool
     requires some { 0 < post.now.p }
     requires few { post.now.p ≤ book.now.0.2.provers }
-    requires passes { passes ≡ passes_of book.now.2 post.now.p }
-    ensures { (q : Question) → open_question (rules_of (J.ruling book.now.0.0) book.now.0.2) book.now.2.record_ post.now.p ≡ Some q → result ≡ is_due (P.says book.now.0.1) book.now.2 post.now.p post.now.after (answer_of post.now.turn) q }
+    ensures { (q : Question) → open_question (rules_of (J.ruling book.now.0.0) book.now.0.2) book.now.2.record_ post.now.p ≡ Some q → result ≡ is_due (P.says book.now.0.1) book.now.2 post.now.p (answer_of post.now.turn) q }
 {
-    match post.after {
-        Some(made_after) => made_after == passes,
-        None => {
-            let waits = book.waits(post.p);
-            if is_pass(&post.turn) { waits } else { !waits }
-        }
-    }
+    let waits = book.waits(post.p);
+    if is_pass(&post.turn) { waits } else { !waits }
 }
 
 // The number of the open question, where the move isn't due on it.
 fn undue_on<J: Judge + Drop, P: Provers + Drop>(book: &Book<J, P>, post: &Posting) -> Option<Qid>
     requires some { 0 < post.now.p }
     requires few { post.now.p ≤ book.now.0.2.provers }
-    ensures { result ≡ undue (P.says book.now.0.1) book.now.2 post.now.p post.now.after (answer_of post.now.turn) (open_question (rules_of (J.ruling book.now.0.0) book.now.0.2) book.now.2.record_ post.now.p) }
+    ensures { result ≡ undue (P.says book.now.0.1) book.now.2 post.now.p (answer_of post.now.turn) (open_question (rules_of (J.ruling book.now.0.0) book.now.0.2) book.now.2.record_ post.now.p) }
 {
     match book.ask(post.p) {
-        Ask::Question(question, passes) => {
-            if is_due(book, post, passes) {
+        Ask::Question(question, _) => {
+            if is_due(book, post) {
                 None
             } else {
                 Some(question.qid)
@@ -158,9 +144,9 @@ fn undue_on<J: Judge + Drop, P: Provers + Drop>(book: &Book<J, P>, post: &Postin
 fn post_in_turn<J: Judge + Drop, P: Provers + Drop>(book: &mut Book<J, P>, post: Posting) -> Posted
     requires some { 0 < post.p }
     requires few { post.p ≤ book.old.0.2.provers }
-    requires may { MayPost (rules_of (J.ruling book.old.0.0) book.old.0.2) (P.says book.old.0.1) post.p post.qid post.after (answer_of post.turn) }
+    requires may { MayPost (rules_of (J.ruling book.old.0.0) book.old.0.2) (P.says book.old.0.1) post.p post.qid (answer_of post.turn) }
     ensures opening { book.new.0 ≡ book.old.0 }
-    ensures posts { Posts (rules_of (J.ruling book.old.0.0) book.old.0.2) (P.says book.old.0.1) book.old.1 post.p post.qid post.after (answer_of post.turn) result book.new.1 }
+    ensures posts { Posts (rules_of (J.ruling book.old.0.0) book.old.0.2) (P.says book.old.0.1) book.old.1 post.p post.qid (answer_of post.turn) result book.new.1 }
 {
     book.is_legal();
     book.asks_what_the_case_asks();

@@ -21,9 +21,9 @@ pub same_question : (a b : Question) → a.qid ≡ b.qid → a.kind ≡ b.kind �
 same_question a b q k = ap₂ (λ (i : Qid) (j : Kind). record { qid = i; kind = j }) q k
 
 -- what a prover says to a question that the case asks it may be posted under the question's number
-pub may_post : (rules : Rules) (says : Says) (p : ℕ) (q : Question) (n : ℕ) (m : Option Answer) → IsOfTheCase rules says p q → m ≡ says p q n → MayPost rules says p q.qid (Some n) m
+pub may_post : (rules : Rules) (says : Says) (p : ℕ) (q : Question) (n : ℕ) (m : Option Answer) → IsOfTheCase rules says p q → m ≡ says p q n → MayPost rules says p q.qid m
 may_post rules says p q n m asked said r same also =
-    said ∙ ap (λ (x : Question). says p x n) (same_question q r (sym same) (some_is q.kind r.kind (sym asked ∙ subst (λ i. Rattle.tournament.specs.Asked.asked rules (Rattle.tournament.specs.Bracket.bracket rules (Rattle.tournament.specs.Journals.answers_of rules says)) p i ≡ Some r.kind) same also)))
+    (n, said ∙ ap (λ (x : Question). says p x n) (same_question q r (sym same) (some_is q.kind r.kind (sym asked ∙ subst (λ i. Rattle.tournament.specs.Asked.asked rules (Rattle.tournament.specs.Bracket.bracket rules (Rattle.tournament.specs.Journals.answers_of rules says)) p i ≡ Some r.kind) same also))))
 
 pub log_of-turns_of : (log : List LogEntry) → log_of (turns_of log) ≡ log
 log_of-turns_of [] = refl

@@ -135,8 +135,7 @@ fn serve_prover<J: Judge + Drop, P: Provers + Drop, A: Answerer, G: Gate, R: Thr
         Ask::Question(question, passes) => match answerer.answer(rt, &question, passes) {
             Ok(answer) => {
                 hall.gate.before_post(p, question.qid);
-                hall.board
-                    .post_after(rt, seat, p, question.qid, passes, move_of(answer));
+                hall.board.post(rt, seat, p, question.qid, move_of(answer));
                 tell_posters(hall);
                 Turn::Posted
             }
