@@ -1,4 +1,5 @@
-ghost use Rattle.std.specs.Prelude.{◌≡◌, ◌<◌, ◌≤◌, IfOk};
+ghost use Rattle.std.specs.Prelude.{◌≡◌, ◌<◌, ◌≤◌, IfOk, None};
+ghost use Rattle.tournament.specs.Bracket.{claim_question};
 ghost use Rattle.toy_game.specs.Toy.{answers, says_of};
 ghost use Rattle.posters.specs.Serving.{kept_of};
 ghost use Rattle.toy_boards.specs.Seats.{IsSeatOfTwo};
@@ -37,7 +38,7 @@ fn board_of(alloc: Global, cast: Cast, patience: u32) -> Result<(ToyBoard, ToySe
     requires patience { patience ≤ 100 }
     ensures { IfOk result (λ made. IsSeatOfTwo made.0 cast made.1 × (made.1.number ≡ 0) × (made.1.out ≡ 0)) }
 {
-    let book = Book::open(alloc, ToyJudge { name: 0 }, cast, 8, patience, root(0))?;
+    let book = Book::open(alloc, ToyJudge { name: 0 }, cast, 8, 2, patience, root(0))?;
     Board::new(alloc, book)
 }
 
@@ -55,11 +56,20 @@ fn ask<R: Wait>(rt: &R, board: &ToyBoard, seat: &mut ToySeat, cast: Cast, p: u32
 /// How a post was answered, and the place of its entry.
 type Receipt = (Replied, Option<u64>);
 
-// What a pass of one of two players on its claim is answered.
-fn pass<R: Wait>(rt: &R, board: &ToyBoard, seat: &mut ToySeat, cast: Cast, p: u32) -> Receipt
+// What a pass on its claim is answered, of one of two players that passes there at first.
+fn pass<R: Wait>(
+    rt: &R,
+    board: &ToyBoard,
+    seat: &mut ToySeat,
+    cast: Cast,
+    p: u32,
+    player: Player,
+) -> Receipt
     requires seat { IsSeatOfTwo board.now cast seat.old }
     requires some { 0 < p }
     requires few { p ≤ 2 }
+    requires player { says_of cast.players p ≡ answers player }
+    requires passes { None ≡ answers player claim_question 0 }
     ensures seat { IsSeatOfTwo board.now cast seat.new }
     ensures same { kept_of seat.new ≡ kept_of seat.old }
 {
@@ -98,22 +108,25 @@ fn claim<R: Threads + Wait + Sync>(
     }
 }
 
-// What one of two players is asked, and then its pass on its claim is answered.
+// What one of two players is asked, and then its pass on its claim is answered, where it passes at first.
 fn ask_and_pass<R: Wait>(
     rt: &R,
     board: &ToyBoard,
     seat: &mut ToySeat,
     cast: Cast,
     p: u32,
+    player: Player,
 ) -> (Asked, Receipt)
     requires seat { IsSeatOfTwo board.now cast seat.old }
     requires some { 0 < p }
     requires few { p ≤ 2 }
+    requires player { says_of cast.players p ≡ answers player }
+    requires passes { None ≡ answers player claim_question 0 }
     ensures seat { IsSeatOfTwo board.now cast seat.new }
     ensures same { kept_of seat.new ≡ kept_of seat.old }
 {
     let asked = ask(rt, board, seat, cast, p);
-    (asked, pass(rt, board, seat, cast, p))
+    (asked, pass(rt, board, seat, cast, p, player))
 }
 
 /// What comes of two silent provers without patience, who pass one after another, and how many entries they leave.
@@ -121,11 +134,11 @@ fn both_pass<R: Wait>(rt: &R, alloc: Global) -> Result<([(Asked, Receipt); 5], u
     let cast = two(SILENT, SILENT);
     let (board, mut seat) = board_of(alloc, cast, 0)?;
     let turns = [
-        ask_and_pass(rt, &board, &mut seat, cast, 1),
-        ask_and_pass(rt, &board, &mut seat, cast, 1),
-        ask_and_pass(rt, &board, &mut seat, cast, 2),
-        ask_and_pass(rt, &board, &mut seat, cast, 1),
-        ask_and_pass(rt, &board, &mut seat, cast, 2),
+        ask_and_pass(rt, &board, &mut seat, cast, 1, SILENT),
+        ask_and_pass(rt, &board, &mut seat, cast, 1, SILENT),
+        ask_and_pass(rt, &board, &mut seat, cast, 2, SILENT),
+        ask_and_pass(rt, &board, &mut seat, cast, 1, SILENT),
+        ask_and_pass(rt, &board, &mut seat, cast, 2, SILENT),
     ];
     Ok((turns, board.into_book(seat).journal().len()))
 }
@@ -153,7 +166,7 @@ fn late_over_two_seats<R: Threads + Wait + Sync>(
     let late = Player { late: 1, ..HONEST };
     let cast = two(late, HONEST);
     let (board, mut a) = board_of(alloc, cast, 1)?;
-    let (first, passed) = ask_and_pass(rt, &board, &mut a, cast, 1);
+    let (first, passed) = ask_and_pass(rt, &board, &mut a, cast, 1, late);
     let mut b = board.split(&mut a);
     let other = claim(rt, &board, &mut b, cast, 2, HONEST, alloc)?;
     board.join(&mut a, b);
@@ -184,7 +197,7 @@ fn claim_too_early<R: Threads + Wait + Sync>(
     let late = Player { late: 2, ..HONEST };
     let cast = two(late, HONEST);
     let (board, mut seat) = board_of(alloc, cast, 2)?;
-    let passed = pass(rt, &board, &mut seat, cast, 1);
+    let passed = pass(rt, &board, &mut seat, cast, 1, late);
     let early = claim(rt, &board, &mut seat, cast, 1, late, alloc)?;
     Ok(([Some(passed), early], board.into_book(seat).journal().len()))
 }

@@ -81,7 +81,7 @@ fn played<G: Gate + Sync, R: Threads + Wait + Sync>(
     players[1] = LATE;
     players[2] = SILENT_LIAR;
     let cast = Cast { players, count: 3 };
-    let book = Book::open(alloc, ToyJudge { name: 0 }, cast, 8, 1, root(0))?;
+    let book = Book::open(alloc, ToyJudge { name: 0 }, cast, 8, 2, 1, root(0))?;
     let mut answerers = [
         answerer_of(alloc, LIAR, 0, 0),
         answerer_of(alloc, LATE, fails_from, fails_to),
@@ -226,7 +226,7 @@ fn played_by_two<G: Gate + Sync, R: Threads + Wait + Sync>(
     players[0] = HONEST;
     players[1] = LIAR;
     let cast = Cast { players, count: 2 };
-    let book = Book::open(alloc, ToyJudge { name: 0 }, cast, 8, 0, root(0))?;
+    let book = Book::open(alloc, ToyJudge { name: 0 }, cast, 8, 2, 0, root(0))?;
     let mut answerers = [
         Seated {
             player: HONEST,

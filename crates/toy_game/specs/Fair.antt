@@ -4,12 +4,12 @@ use Rattle.std.proofs.lemmas.Bool.Decides.{nat_tests}
 use Rattle.std.proofs.lemmas.Slice.Eq.{bytes_eq-Decides}
 use Rattle.rd_base.specs.declared.claim.Claim.{Claim}
 use Rattle.rd_base.specs.declared.digest.Digest32.{Digest32}
-use Rattle.rd_base.specs.declared.proof.StepProof.{StepProof}
+use Rattle.rd_base.specs.declared.proof.Proof.{Proof}
 use Rattle.rd_base.specs.declared.status.Status.{Status}
 use Rattle.rd_base.specs.declared.status.Status.TheVariants.{Running, Exited, Trapped}
 use Rattle.rd_base.specs.Status.{is_running}
 use Rattle.bisect_game.specs.Ruling.{Ruling, IsFair, IsCollision, same_digest}
-use Rattle.toy_game.specs.Toy.{root, number, next, claim_of, is_plain, leads_to, strings, collision, toy_ruling}
+use Rattle.toy_game.specs.Toy.{root, number, next, claim_of, is_plain, opened_root, mark_of, leads_to, strings, collision, toy_ruling}
 
 same-is : (x y : Digest32) → same_digest x y ≡ true → x ≡ y
 same-is x y e = ap (λ (bytes : List ℕ). let d : Digest32 = record { 0 = bytes } in d) ((bytes_eq-Decides x.0 y.0).0 e)
@@ -76,21 +76,21 @@ other-pair false p e = cc
 collides : (n : ℕ) → IsCollision (toy_ruling n) strings strings collision
 collides n = record { differ = λ (e : 1 ∷ [] ≡ 2 ∷ []). cc; one_digest = refl; first_opened = (0, omega arith, refl); second_opened = (1, omega arith, refl) }
 
-leads-mark : (from : Digest32) (x y : StepProof) (b c : Digest32) → leads_to from x ≡ Some b → leads_to from y ≡ Some c → x.ctl.pc ≡ y.ctl.pc → b ≡ c
-leads-mark from x y b c ex ey same = by-tests (same_digest x.mem from) (same_digest y.mem from) ex ey
+leads-mark : (from : Digest32) (x y : Proof) (b c : Digest32) → leads_to from x ≡ Some b → leads_to from y ≡ Some c → mark_of x ≡ mark_of y → b ≡ c
+leads-mark from x y b c ex ey same = by-tests (same_digest (opened_root x) from) (same_digest (opened_root y) from) ex ey
   where
-    by-tests : (u v : Bool) → (if u then Some (if x.ctl.pc == 0 then root (next (number from)) else root (x.ctl.pc % 256)) else None) ≡ Some b →
-        (if v then Some (if y.ctl.pc == 0 then root (next (number from)) else root (y.ctl.pc % 256)) else None) ≡ Some c → b ≡ c
+    by-tests : (u v : Bool) → (if u then Some (if mark_of x == 0 then root (next (number from)) else root (mark_of x % 256)) else None) ≡ Some b →
+        (if v then Some (if mark_of y == 0 then root (next (number from)) else root (mark_of y % 256)) else None) ≡ Some c → b ≡ c
     by-tests true true p q =
-        let pb : (if x.ctl.pc == 0 then root (next (number from)) else root (x.ctl.pc % 256)) ≡ b = cc in
-        let qc : (if y.ctl.pc == 0 then root (next (number from)) else root (y.ctl.pc % 256)) ≡ c = cc in
+        let pb : (if mark_of x == 0 then root (next (number from)) else root (mark_of x % 256)) ≡ b = cc in
+        let qc : (if mark_of y == 0 then root (next (number from)) else root (mark_of y % 256)) ≡ c = cc in
         sym pb ∙ (ap (λ (n : ℕ). if n == 0 then root (next (number from)) else root (n % 256)) same ∙ qc)
     by-tests false v p q = absurd (cc)
     by-tests true false p q = absurd (cc)
 
-steps-by : (n : ℕ) (from : Digest32) (x y : StepProof) (b c : Digest32) (t : Bool) → (x.ctl.pc == y.ctl.pc) ≡ t → leads_to from x ≡ Some b → leads_to from y ≡ Some c → b ≢ c →
+steps-by : (n : ℕ) (from : Digest32) (x y : Proof) (b c : Digest32) (t : Bool) → (mark_of x == mark_of y) ≡ t → leads_to from x ≡ Some b → leads_to from y ≡ Some c → b ≢ c →
     (p : List ℕ × List ℕ) × ((if t then None else Some collision) ≡ Some p)
-steps-by n from x y b c true e ex ey differ = absurd (differ (leads-mark from x y b c ex ey (let t : (x.ctl.pc == y.ctl.pc) ≡ true = e in grind (arith, nat_tests))))
+steps-by n from x y b c true e ex ey differ = absurd (differ (leads-mark from x y b c ex ey (let t : (mark_of x == mark_of y) ≡ true = e in grind (arith, nat_tests))))
 steps-by n from x y b c false e ex ey differ = (collision, refl)
 
 pub toy_is_fair : (n : ℕ) → IsFair (toy_ruling n)
@@ -101,6 +101,6 @@ toy_is_fair n = record {
   claims_apart = λ x y apart. no-marks (same_digest x.mem y.mem) x.ctl.pc y.ctl.pc (λ same. apart (same-is x.mem y.mem same));
   claims_equal = λ x. same-marks (same_digest x.mem x.mem) x.ctl.pc;
   claim_collisions = λ x y p e. rw (one-pair (toy_ruling n) (same_digest x.mem y.mem && not (x.ctl.pc == y.ctl.pc)) p e) (collides n);
-  steps_collide = λ from x y b c ex ey differ. steps-by n from x y b c (x.ctl.pc == y.ctl.pc) refl ex ey differ;
-  step_collisions = λ from x y p e. rw (other-pair (x.ctl.pc == y.ctl.pc) p e) (collides n);
+  steps_collide = λ from x y b c ex ey differ. steps-by n from x y b c (mark_of x == mark_of y) refl ex ey differ;
+  step_collisions = λ from x y p e. rw (other-pair (mark_of x == mark_of y) p e) (collides n);
 }

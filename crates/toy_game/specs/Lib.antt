@@ -1,2 +1,3 @@
 pub mod Toy
 pub mod Fair
+pub mod OneAnswer

@@ -1,11 +1,12 @@
 -- To believe for the tests alone: a judge and provers over numbers. The root of a state is its number, the true run counts to
 -- 6 and stays there, and all strings have one digest.
-use Rattle.std.specs.Prelude.{ℕ, ◌+◌, ◌-◌, ◌%◌, min, nat_le, nat_lt, Bool, not, ◌&&◌, ◌||◌, ◌==◌, List, [], ◌∷◌, length, replicate, slice_index, slice_index_or, Option, Some, None, if◌then◌else◌}
+use Rattle.std.specs.Prelude.{ℕ, ◌+◌, ◌-◌, ◌%◌, min, nat_le, nat_lt, Bool, not, ◌&&◌, ◌||◌, ◌==◌, List, [], ◌∷◌, map, length, replicate, slice_index, slice_index_or, Option, Some, None, if◌then◌else◌}
 use Rattle.rd_base.specs.declared.answer.Answer.{Answer}
 use Rattle.rd_base.specs.declared.answer.Answer.TheVariants as answer
 use Rattle.rd_base.specs.declared.claim.Claim.{Claim}
 use Rattle.rd_base.specs.declared.digest.Digest32.{Digest32}
-use Rattle.rd_base.specs.declared.proof.StepProof.{StepProof}
+use Rattle.rd_base.specs.declared.proof.Proof.{Proof}
+use Rattle.rd_base.specs.declared.proof.Proof.TheVariants as proof
 use Rattle.rd_base.specs.declared.status.Status.TheVariants.{Running}
 use Rattle.rd_base.specs.Regs.{no_registers_set}
 use Rattle.rd_base.specs.Status.{is_running}
@@ -14,6 +15,7 @@ use Rattle.bisect_game.specs.declared.question.Kind.TheVariants as kind
 use Rattle.bisect_game.specs.declared.question.Question.{Question}
 use Rattle.bisect_game.specs.Ruling.{Ruling, same_digest}
 use Rattle.bisect_game.specs.Says.{Says}
+use Rattle.bisect_game.specs.Bisection.{steps_asked}
 use Rattle.toy_game.specs.declared.player.Player.{Player}
 
 abbrev pub root : ℕ → Digest32
@@ -34,9 +36,19 @@ is_plain c =
     same_digest c.regs (root 0) && (is_running c.ctl.status && ((c.ctl.out_len == 0) && (same_digest c.ctl.chain (root 0) && (length c.output == 0))))
 
 -- a proof opens a root; without a mark it leads to the next number, with one to the number of its mark
-abbrev pub leads_to : Digest32 → StepProof → Option Digest32
+abbrev pub opened_root : Proof → Digest32
+opened_root (proof.V1 p) = p.mem
+opened_root (proof.V2 p) = p.mem
+opened_root (proof.V3 p) = p.mem
+
+abbrev pub mark_of : Proof → ℕ
+mark_of (proof.V1 p) = p.ctl.pc
+mark_of (proof.V2 p) = p.ctl.pc
+mark_of (proof.V3 p) = p.ctl.pc
+
+abbrev pub leads_to : Digest32 → Proof → Option Digest32
 leads_to from p =
-    if same_digest p.mem from then Some (if p.ctl.pc == 0 then root (next (number from)) else root (p.ctl.pc % 256)) else None
+    if same_digest (opened_root p) from then Some (if mark_of p == 0 then root (next (number from)) else root (mark_of p % 256)) else None
 
 abbrev pub strings : List (List ℕ)
 strings = (1 ∷ []) ∷ (2 ∷ []) ∷ []
@@ -51,7 +63,7 @@ toy_ruling n = record {
   root_of = λ c. c.mem;
   leads = leads_to;
   claim_collision = λ x y. if same_digest x.mem y.mem && not (x.ctl.pc == y.ctl.pc) then Some collision else None;
-  step_collision = λ from x y. if x.ctl.pc == y.ctl.pc then None else Some collision;
+  step_collision = λ from x y. if mark_of x == mark_of y then None else Some collision;
   opened_by_claim = λ c. strings;
   opened_by_step = λ p. strings;
   digest = λ s. [];
@@ -61,11 +73,15 @@ toy_ruling n = record {
 abbrev pub number_at : Player → ℕ → ℕ
 number_at p i = if nat_lt i p.from then min i 6 else (i % 256 + p.shift) % 256
 
+abbrev pub root_at : Player → ℕ → Digest32
+root_at p i = root (number_at p i)
+
 abbrev pub given : Player → Kind → Answer
 given p kind.Claim = answer.Claim (claim_of (root (number_at p 8)) p.claim_mark)
-given p (kind.Root i) = answer.Root (root (number_at p i))
+given p (kind.Root i) = answer.Root (root_at p i)
+given p (kind.Roots lo hi parts) = answer.Roots (map (root_at p) (steps_asked lo hi parts))
 given p (kind.Proof i) =
-    answer.Step (record { mem = root (number_at p i); regs = no_registers_set; ctl = record { pc = p.proof_mark; status = Running; out_len = 0; chain = root 0 }; fetch = None; operand = None })
+    answer.Step (proof.V1 (record { mem = root (number_at p i); regs = no_registers_set; ctl = record { pc = p.proof_mark; status = Running; out_len = 0; chain = root 0 }; fetch = None; operand = None }))
 
 -- it passes so often on each question, and for ever from a round on
 abbrev pub answers : Player → Question → ℕ → Option Answer

@@ -55,7 +55,7 @@ fn played_alone<R: Threads + Sync>(
     players[1] = LATE;
     players[2] = SILENT_LIAR;
     let cast = Cast { players, count: 3 };
-    let mut book = Book::open(alloc, ToyJudge { name: 0 }, cast, 8, 1, root(0))?;
+    let mut book = Book::open(alloc, ToyJudge { name: 0 }, cast, 8, 2, 1, root(0))?;
     let room = book.spare();
     let mut answerers = [
         Seated {
@@ -96,8 +96,11 @@ fn a_book_is_played_out_alone(rt: HostRuntime) -> Result<(), Fail> {
     Ok(())
 }
 
-/// The largest book: P = 100, m = 16, and K = 32, the greatest k with `2^k < 2^33 - 2`.
-fn largest(alloc: Global) -> Result<Book<ToyJudge, Cast>, Memory> {
+/// The largest book of a fan: P = 100, m = 16 and N = 2^32 - 1.
+fn largest(alloc: Global, fan: u32) -> Result<Book<ToyJudge, Cast>, Memory>
+    requires parted { 1 < fan }
+    requires few_parts { fan ≤ 16 }
+{
     let cast = Cast {
         players: [HONEST; 16],
         count: 16,
@@ -107,16 +110,22 @@ fn largest(alloc: Global) -> Result<Book<ToyJudge, Cast>, Memory> {
         ToyJudge { name: 0 },
         cast,
         4_294_967_295,
+        fan,
         100,
         root(0),
     )
 }
 
-/// The largest book takes its room at opening.
+/// The largest book takes its room at opening. K is the greatest k with `F^k < F * N`: 2^32 < 2^33 - 2, 3^21 = 10,460,353,203 and
+/// 3 * N = 12,884,901,885, 4^16 < 4^17 - 4, 16^8 < 16^9 - 16.
 #[test]
 fn the_largest_book_takes_its_room_at_opening(rt: HostRuntime) -> Result<(), Fail> {
-    let book = largest(rt.alloc())?;
-    assert_eq!(rt; numbers(&book), (101 * (16 + 2 * 15 * 33), 0, Ended::Open));
+    for (fan, most_rounds) in [(2, 32), (3, 21), (4, 16), (16, 8)] {
+        assert!(rt; fan >= 2 && fan <= 16);
+        let book = largest(rt.alloc(), fan)?;
+        let room = 101 * (16 + 2 * 15 * (most_rounds + 1));
+        assert_eq!(rt; numbers(&book), (room, 0, Ended::Open), "fan {fan}");
+    }
     Ok(())
 }
 
@@ -142,7 +151,7 @@ fn both_pass(alloc: Global) -> Result<([(Asked, Option<Replied>, usize); 5], End
         players: [SILENT; 16],
         count: 2,
     };
-    let mut book = Book::open(alloc, ToyJudge { name: 0 }, cast, 8, 0, root(0))?;
+    let mut book = Book::open(alloc, ToyJudge { name: 0 }, cast, 8, 2, 0, root(0))?;
     let turns = [
         asked_and_passed(&mut book, 1),
         asked_and_passed(&mut book, 1),

@@ -1,11 +1,15 @@
-ghost use Rattle.std.specs.Prelude.{◌≡◌, IfOk, is_none, replicate};
+ghost use Rattle.std.specs.Prelude.{◌≡◌, IfOk, is_none, map, replicate};
 ghost use Rattle.rd_base.specs.declared.status.Status.TheVariants.{Running};
-ghost use Rattle.toy_game.specs.Toy.{number_at, given, answers, says_of, claim_of};
+ghost use Rattle.toy_game.specs.Toy.{number_at, root_at, given, answers, says_of, claim_of};
+ghost use Rattle.toy_game.specs.OneAnswer.{players_give_one_answer};
 
 use crate::player::Player;
 use crate::toy_judge::root;
-use bisect_game::{Answerer, Kind, Provers, Question};
-use rd_base::{Answer, Boxed, Claim, ClaimOutput, Ctl, Digest32, Memory, Regs, Status, StepProof};
+use bisect_game::{Answerer, Kind, Provers, Question, steps_asked};
+use rd_base::{
+    Answer, Boxed, Claim, ClaimOutput, Ctl, Digest32, Memory, Proof, Regs, RootList, Status,
+    StepProof,
+};
 use std::alloc::Global;
 use std::thread::Threads;
 
@@ -47,6 +51,17 @@ fn claim_of(alloc: Global, mem: Digest32, mark: u32) -> Claim
     }
 }
 
+/// The roots of a player's states at these steps.
+fn roots_at(alloc: Global, player: &Player, steps: &[u64]) -> Result<Vec<Digest32>, Memory>
+    ensures { IfOk result (λ v. v.items ≡ map (root_at player.now) steps.now) }
+{
+    let mut roots = Vec::with_capacity(alloc, steps.len())?;
+    'steps: for step in steps {
+        roots.push(root(number_at(player, *step)))?;
+    }
+    Ok(roots)
+}
+
 /// What a player gives once it answers.
 pub(crate) fn given(alloc: Global, player: &Player, kind: Kind) -> Result<Answer, Memory>
     ensures { IfOk result (λ a. a ≡ given player.now kind) }
@@ -58,6 +73,13 @@ pub(crate) fn given(alloc: Global, player: &Player, kind: Kind) -> Result<Answer
             player.claim_mark,
         ))),
         Kind::Root(step) => Ok(Answer::Root(root(number_at(player, step)))),
+        Kind::Roots { lo, hi, parts } => {
+            let steps = steps_asked(alloc, lo, hi, parts)?;
+            let Some(roots) = RootList::new(roots_at(alloc, player, steps.as_slice())?) else {
+                unreachable!()
+            };
+            Ok(Answer::Roots(roots))
+        }
         Kind::Proof(step) => {
             let proof = StepProof {
                 mem: root(number_at(player, step)),
@@ -66,7 +88,7 @@ pub(crate) fn given(alloc: Global, player: &Player, kind: Kind) -> Result<Answer
                 fetch: None,
                 operand: None,
             };
-            Ok(Answer::Step(Boxed::new(Box::new(alloc, proof)?)))
+            Ok(Answer::Step(Boxed::new(Box::new(alloc, Proof::V1(proof))?)))
         }
     }
 }
@@ -95,6 +117,8 @@ impl Provers for Cast {
     ghost many = { λ c. c.count };
 
     ghost says = { λ c. says_of c.players };
+
+    ghost give_one_answer = { players_give_one_answer };
 
     fn count(&self) -> u32 {
         self.count

@@ -1,118 +1,17 @@
 ghost use Rattle.std.specs.Prelude.{◌<◌, ◌≤◌, ◌^◌};
 
-use crate::cast::{given, number_at, passes_now};
+use crate::dispute_play::{Ended, how, played};
 use crate::player::{HONEST, LIAR, Player};
-use crate::toy_judge::{ToyJudge, root};
-use bisect_game::{Close, Dispute, Room, Settled, Side};
+use bisect_game::{Dispute, Settled};
 use rd_base::{Answer, Memory};
 use std::alloc::Global;
 use std::test::Fail;
-
-/// The most rounds below a bound of 2^32, with the proof round.
-const MOST_ROUNDS: u32 = 33;
-
-/// What a player's question is settled as, with a patience of 0. `None` where it has none.
-fn settled_by(
-    alloc: Global,
-    dispute: &Dispute,
-    side: Side,
-    player: Player,
-) -> Result<Option<Settled>, Memory> {
-    match dispute.question(side) {
-        None => Ok(None),
-        Some(question) => {
-            if passes_now(&player, &question, 0) {
-                Ok(Some(Settled::Spent))
-            } else {
-                Ok(Some(Settled::Given(given(alloc, &player, question.kind)?)))
-            }
-        }
-    }
-}
-
-/// A side settles its open question, if it has one.
-fn move_side(
-    alloc: Global,
-    dispute: &mut Dispute,
-    side: Side,
-    player: Player,
-) -> Result<(), Memory> {
-    if let Some(settled) = settled_by(alloc, dispute, side, player)? {
-        if dispute.question(side).is_some() {
-            dispute.settle(&ToyJudge { name: 0 }, side, settled);
-        }
-    }
-    Ok(())
-}
-
-/// Dispute 7 over `bound` steps.
-fn begun(alloc: Global, bound: u64, first: Player, second: Player) -> Result<Dispute, Memory>
-    requires some { 0 < bound }
-    requires short { bound < 2 ^ 32 }
-{
-    let room = Room::new(alloc, bound)?;
-    let first = (3, root(number_at(&first, bound)));
-    let second = (5, root(number_at(&second, bound)));
-    Ok(Dispute::new(room, 1, 7, root(0), first, second))
-}
-
-/// Both sides move, one after the other.
-fn play_round(
-    alloc: Global,
-    dispute: &mut Dispute,
-    sooner: (Side, Player),
-    later: (Side, Player),
-) -> Result<(), Memory> {
-    move_side(alloc, dispute, sooner.0, sooner.1)?;
-    move_side(alloc, dispute, later.0, later.1)
-}
-
-/// Dispute 7 over `bound` steps, played to its end; `late_first` tells who settles last in each round.
-fn played(
-    alloc: Global,
-    bound: u64,
-    first: Player,
-    second: Player,
-    late_first: bool,
-) -> Result<Dispute, Memory>
-    requires some { 0 < bound }
-    requires short { bound < 2 ^ 32 }
-{
-    let mut dispute = begun(alloc, bound, first, second)?;
-    let first = (Side::First, first);
-    let second = (Side::Second, second);
-    let (sooner, later) = if late_first {
-        (second, first)
-    } else {
-        (first, second)
-    };
-    for _ in 0..MOST_ROUNDS {
-        play_round(alloc, &mut dispute, sooner, later)?;
-    }
-    Ok(dispute)
-}
 
 /// Whether both answers of a round are the same root.
 fn is_same(first: &Settled, second: &Settled) -> bool {
     match (first, second) {
         (Settled::Given(Answer::Root(x)), Settled::Given(Answer::Root(y))) => x == y,
         _ => false,
-    }
-}
-
-/// How a dispute ended, without its strings.
-#[derive(Clone, Copy, Debug, PartialEq, Eq)]
-enum Ended {
-    Open,
-    Out(bool, bool),
-    Collided,
-}
-
-fn how(dispute: &Dispute) -> Ended {
-    match dispute.closed() {
-        None => Ended::Open,
-        Some(Close::Out { first, second }) => Ended::Out(first, second),
-        Some(Close::Collision(_, _)) => Ended::Collided,
     }
 }
 
@@ -131,12 +30,12 @@ fn end_of(
     alloc: Global,
     bound: u64,
     sides: (Player, Player),
-    late_first: bool,
+    order: u64,
 ) -> Result<(Ended, u32, Vec<(u64, bool)>), Memory>
     requires some { 0 < bound }
     requires short { bound < 2 ^ 32 }
 {
-    let dispute = played(alloc, bound, sides.0, sides.1, late_first)?;
+    let dispute = played(alloc, bound, 2, sides, order)?;
     let asked = asked(alloc, &dispute)?;
     Ok((how(&dispute), dispute.number(), asked))
 }
@@ -188,8 +87,8 @@ fn disputes_are_played_round_by_round_in_either_order(rt: HostRuntime) -> Result
     ];
     for (bound, sides, rounds, wanted) in rows {
         assert!(rt; bound == 8 || bound == 7 || bound == 1);
-        for late_first in [false, true] {
-            let (end, number, asked) = end_of(rt.alloc(), bound, sides, late_first)?;
+        for order in [0, u64::MAX] {
+            let (end, number, asked) = end_of(rt.alloc(), bound, sides, order)?;
             assert_eq!(rt; (end, number), (wanted, 7), "bound {bound}");
             assert_eq!(rt; asked.as_slice(), rounds, "bound {bound}");
         }
@@ -203,7 +102,7 @@ fn rounds_against(alloc: Global, bound: u64, from: u64) -> Result<usize, Memory>
     requires short { bound < 2 ^ 32 }
 {
     let liar = Player { from, ..LIAR };
-    let dispute = played(alloc, bound, HONEST, liar, false)?;
+    let dispute = played(alloc, bound, 2, (HONEST, liar), 0)?;
     Ok(dispute.rounds().len())
 }
 

@@ -1,7 +1,8 @@
 //! A judge, provers and answerers over numbers, and the tests of disputes and books that they play.
 //!
 //! No layer of the product stands on this crate. It shows the traits of the game in their smallest form: read `toy_judge`, then
-//! `cast`; `in_short` has what the tests compare. Its tests are those of disputes (`disputes_test`) and books (`books_test`); those
+//! `cast`; `in_short` has what the tests compare. Its tests are those of disputes (`disputes_test`), of rounds of
+//! several parts (`parts_test`) and of books (`books_test`); those
 //! of matches stand in `toy_report`, and those of boards and posters in `toy_boards`.
 #![tactic(auto)]
 
@@ -9,8 +10,12 @@
 mod books_test;
 mod cast;
 #[cfg(test)]
+mod dispute_play;
+#[cfg(test)]
 mod disputes_test;
 pub mod in_short;
+#[cfg(test)]
+mod parts_test;
 mod player;
 mod toy_judge;
 

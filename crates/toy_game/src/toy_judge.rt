@@ -1,9 +1,9 @@
 ghost use Rattle.std.specs.Prelude.{◌≡◌, ◌∷◌, []};
-ghost use Rattle.toy_game.specs.Toy.{root, number, next, is_plain, leads_to, toy_ruling};
+ghost use Rattle.toy_game.specs.Toy.{root, number, next, is_plain, opened_root, mark_of, leads_to, toy_ruling};
 ghost use Rattle.toy_game.specs.Fair.{toy_is_fair};
 
 use bisect_game::{Judge, same_digest};
-use rd_base::{Claim, Digest32, OpenText, StepProof};
+use rd_base::{Claim, Digest32, OpenText, Proof};
 
 /// The root with this number.
 pub fn root(number: u8) -> Digest32
@@ -51,17 +51,40 @@ fn is_plain(claim: &Claim) -> bool
                 && (same_digest(&claim.ctl.chain, &Digest32::ZERO) && claim.output.len() == 0)))
 }
 
+/// The root that a proof opens.
+fn opened_root(proof: &Proof) -> Digest32
+    ensures { result ≡ opened_root proof.now }
+{
+    match proof {
+        Proof::V1(proof) => proof.mem,
+        Proof::V2(proof) => proof.mem,
+        Proof::V3(proof) => proof.mem,
+    }
+}
+
+/// The mark of a proof.
+fn mark_of(proof: &Proof) -> u32
+    ensures { result ≡ mark_of proof.now }
+{
+    match proof {
+        Proof::V1(proof) => proof.ctl.pc,
+        Proof::V2(proof) => proof.ctl.pc,
+        Proof::V3(proof) => proof.ctl.pc,
+    }
+}
+
 /// Where a proof leads.
-fn leads_to(from: Digest32, proof: &StepProof) -> Option<Digest32>
+fn leads_to(from: Digest32, proof: &Proof) -> Option<Digest32>
     ensures { result ≡ leads_to from proof.now }
 {
-    if !same_digest(&proof.mem, &from) {
+    if !same_digest(&opened_root(proof), &from) {
         return None;
     }
-    if proof.ctl.pc == 0 {
+    let mark = mark_of(proof);
+    if mark == 0 {
         Some(root(next(number(&from))))
     } else {
-        Some(root((proof.ctl.pc % 256) as u8))
+        Some(root((mark % 256) as u8))
     }
 }
 
@@ -89,7 +112,7 @@ impl Judge for ToyJudge {
         claim.mem
     }
 
-    fn leads(&self, from: Digest32, proof: &StepProof) -> Option<Digest32> {
+    fn leads(&self, from: Digest32, proof: &Proof) -> Option<Digest32> {
         leads_to(from, proof)
     }
 
@@ -104,10 +127,10 @@ impl Judge for ToyJudge {
     fn step_collision(
         &self,
         _from: Digest32,
-        first: &StepProof,
-        second: &StepProof,
+        first: &Proof,
+        second: &Proof,
     ) -> Option<(OpenText, OpenText)> {
-        if first.ctl.pc == second.ctl.pc {
+        if mark_of(first) == mark_of(second) {
             None
         } else {
             Some((string(1), string(2)))

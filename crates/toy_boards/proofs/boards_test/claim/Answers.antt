@@ -1,4 +1,4 @@
-use Rattle.std.proofs.Common.{◌≡◌, ℕ, sym, ap, ◌∙◌}
+use Rattle.std.proofs.Common.{◌≡◌, ℕ, Some, sym, ap, ◌∙◌}
 use Rattle.tournament.specs.declared.setup.Setup.{Setup}
 use Rattle.tournament.specs.Posting.{rules_of}
 use Rattle.toy_game.specs.declared.cast.Cast.{Cast}
@@ -11,4 +11,4 @@ post-posted-requires-clause-may g c = λ head e.
     let s = c.requires.seat in let p : ℕ = c.args.p in let opening : ℕ × Cast × Setup = (s.judge, c.args.cast, s.setup) in
     let same : opening ≡ head = some_is opening head (sym s.head ∙ e) in
     let said : says_of head.1.players p ≡ answers c.args.player = ap (λ (h : ℕ × Cast × Setup). says_of h.1.players p) (sym same) ∙ c.requires.player in
-    claims_may (rules_of (toy_ruling head.0) head.2) (says_of head.1.players) p c.args.player c.in-Some.answer 100 said (sym c.in-Some.is ∙ c.in_ok-answer.ensures.says)
+    claims_may (rules_of (toy_ruling head.0) head.2) (says_of head.1.players) p c.args.player (Some c.in-Some.answer) 100 said (sym c.in-Some.is ∙ c.in_ok-answer.ensures.says)
