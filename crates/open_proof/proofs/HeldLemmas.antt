@@ -1,8 +1,8 @@
 -- A step depends on what is opened alone.
 use Rattle.std.proofs.Common.{◌≡◌, ◌≢◌, ℕ, ◌+◌, ◌*◌, ◌/◌, ◌%◌, ◌^◌, ◌<◌, ◌≤◌, List, [], ◌∷◌, ◌++◌, length, Option, Some, None, Bool, true, false, cond, eqb, ◌&&◌, refl, sym, ap, ◌∙◌, arith, ⊎_elim, length-append}
-use Rattle.std.proofs.lemmas.Bool.{eqb-true}
+use Rattle.std.proofs.lemmas.Bool.{eqb-true, ne_eqb}
 use Rattle.rd_base.specs.Status.{is_running}
-use Rattle.rd_base.specs.declared.proof.Opening.{Opening}
+use Rattle.rd_base.specs.declared.opened.Opening.{Opening}
 use Rattle.rv_decode.specs.Reading.{reading_of}
 use Rattle.rv_decode.specs.declared.instr.Instr.{Instr}
 use Rattle.mem_plain.specs.Contents.{Contents, chunk_at, number_at, with_number}
@@ -12,7 +12,8 @@ use Rattle.merkle_nodes.specs.Node.{digest_at}
 use Rattle.merkle_nodes.specs.Opening.{opened}
 use Rattle.mem_tree.specs.Memory.{memory_node}
 use Rattle.rv_step.specs.State.{State}
-use Rattle.rv_step.specs.Effect.{effect}
+use Rattle.rv_step.specs.Effect.{effect, effect_with}
+use Rattle.rv_step.specs.Offer.{byte_or_ones, offered}
 use Rattle.rv_step.specs.Step.{step, after_effect, after_word}
 use Rattle.rv_step.specs.Parts.{needed, Meets, KeepsMemory, IsAccess, IsAligned}
 use Rattle.rv_step.specs.declared.effect.Effect.{Effect}
@@ -29,6 +30,10 @@ pub within : (addr width : ℕ) → IsAccess addr width → addr % 32 + width �
 within addr width access = ⊎_elim (λ one. omega arith) (λ more. ⊎_elim
     (λ two. let even : addr % 2 ≡ 0 = ap (λ w. addr % w) (sym two) ∙ access.1 in omega arith)
     (λ four. let even : addr % 4 ≡ 0 = ap (λ w. addr % w) (sym four) ∙ access.1 in omega arith) more) access.0
+
+-- a version below 3 offers no input
+nothing-offered : (version : ℕ) (byte : ℕ → ℕ) → version < 3 → offered version byte ≡ None
+nothing-offered version byte low = rw (ne_eqb version 3 (λ same. absurd (omega arith))) refl
 
 counted : (xs : List ℕ) (b : ℕ) → (length xs % 2 ^ 64 + 1) % 2 ^ 64 ≡ length (xs ++ b ∷ []) % 2 ^ 64
 counted xs b = let long : length (xs ++ b ∷ []) ≡ length xs + 1 = length-append xs (b ∷ []) in omega arith
@@ -91,24 +96,27 @@ module _ (laws : StepLaws) (digest : List ℕ → List ℕ) where
       ∙ (ap (λ memory. record (held_after digest (Some o) (held_of digest s) (Store addr width value)) { mem = memory })
       (shown-stored s.memory o addr width shown (within addr width access) value access.2)
       ∙ ap (λ e'. held_of digest (after_effect s e')) (sym met))
+  held-met operand s e read (need.Input index) reads access shown met other = absurd met
   held-met operand s e read (need.Trap code) reads access shown met other =
       ap (held_after digest operand (held_of digest s)) other
       ∙ (held-kept operand s (Trap code) tt ∙ ap (λ e'. held_of digest (after_effect s e')) (sym met))
 
   -- what is held after a word
-  held-word : (operand : Option Opening) (s : State) (o : Option Instr) → IsShownAt digest s.memory operand (operand_address s.regs o)
+  held-word : (operand : Option Opening) (s : State) (o : Option Instr) → s.version < 3 → IsShownAt digest s.memory operand (operand_address s.regs o)
       → held_after_word digest operand (held_of digest s) o ≡ held_of digest (after_word s o)
-  held-word operand s None shown = held-kept operand s (Trap 2) tt
-  held-word operand s (Some i) shown =
-      held-met operand s (λ memory. effect s.regs s.pc memory i) (λ addr width. number_at s.memory addr width) (needed s.regs i) (λ addr width. refl)
+  held-word operand s None low shown = held-kept operand s (Trap 2) tt
+  held-word operand s (Some i) low shown =
+      let read = λ (addr width : ℕ). number_at s.memory addr width in
+      held-met operand s (λ memory. effect s.regs s.pc memory i) read (needed s.regs i) (λ addr width. refl)
       (laws.aligned s.regs i) shown
-      (laws.any_reader s.regs s.pc (λ addr width. number_at s.memory addr width) i) (laws.any_reader s.regs s.pc (number_shown operand) i)
+      (laws.any_reader s.regs s.pc read i) (laws.any_reader s.regs s.pc (number_shown operand) i)
+      ∙ ap (λ offer. held_of digest (after_effect s (effect_with offer s.regs s.pc read i))) (sym (nothing-offered s.version (byte_or_ones s.input) low))
 
   -- what is held after a step is the step on what is held
-  pub held-step : (fetch operand : Option Opening) (s : State) → IsShownAt digest s.memory fetch (fetch_of_state digest s)
+  pub held-step : (fetch operand : Option Opening) (s : State) → s.version < 3 → IsShownAt digest s.memory fetch (fetch_of_state digest s)
       → IsShownAt digest s.memory operand (operand_of_state digest s) → held_step digest fetch operand (held_of digest s) ≡ held_of digest (step s)
   unfolding held_step step
-  held-step fetch operand s = go (is_running s.status) (eqb (s.pc % 4) 0) fetch refl
+  held-step fetch operand s low = go (is_running s.status) (eqb (s.pc % 4) 0) fetch refl
     where
       go : (r b : Bool) (f : Option Opening) → eqb (s.pc % 4) 0 ≡ b → IsShownAt digest s.memory f (cond (r && b) (Some s.pc) None)
           → IsShownAt digest s.memory operand (operand_address s.regs (fetched_at s.memory (cond (r && b) (Some s.pc) None)))
@@ -117,7 +125,7 @@ module _ (laws : StepLaws) (digest : List ℕ → List ℕ) where
       go true true (Some f) test fetched shown =
           let multiple : s.pc % 4 ≡ 0 = eqb-true (s.pc % 4) 0 test in
           ap (λ n. held_after_word digest operand (held_of digest s) (reading_of n)) (shown-number s.memory f s.pc 4 fetched (omega arith))
-          ∙ held-word operand s (reading_of (number_at s.memory s.pc 4)) shown
+          ∙ held-word operand s (reading_of (number_at s.memory s.pc 4)) low shown
       go true true None test fetched shown = absurd fetched
       go true false f test fetched shown = held-kept operand s (Trap 0) tt
       go false b f test fetched shown = refl

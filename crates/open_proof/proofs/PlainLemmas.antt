@@ -1,6 +1,5 @@
 -- The plain proof of a valid state is in the ranges of its types.
-use Rattle.std.proofs.Common.{◌≡◌, ℕ, zero, suc, ◌+◌, ◌*◌, ◌/◌, ◌^◌, ◌<◌, eqb, ltb, List, length, Option, Some, None, Bool, true, ◌&&◌, refl, sym, ap, ◌∙◌, subst, arith, map}
-use Rattle.std.specs.List.{range_with_len}
+use Rattle.std.proofs.Common.{◌≡◌, ℕ, zero, suc, ◌+◌, ◌*◌, ◌/◌, ◌^◌, ◌<◌, eqb, List, length, Option, Some, None, true, ◌&&◌, refl, ap, ◌∙◌, subst}
 use Rattle.std.proofs.lemmas.Bool.Decides.{Decides-eqb, Decides-ltb}
 use Rattle.std.proofs.lemmas.List.FromFn.{length-map-range_with_len}
 use Rattle.rd_base.specs.declared.digest.Digest32.{Digest32}
@@ -12,9 +11,9 @@ use Rattle.mem_tree.specs.Memory.{memory_node}
 use Rattle.rv_step.specs.State.{State}
 use Rattle.rv_step.specs.Valid.{IsValid}
 use Rattle.state_commit.specs.StateRoot.{ctl_of}
-use Rattle.open_proof.specs.InRange.{are_words, are_digests, is_opening_in_range, is_ctl_in_range, is_in_range}
+use Rattle.open_proof.specs.InRange.{are_digests, is_opening_in_range, is_in_range}
 use Rattle.open_proof.specs.PlainProof.{siblings_of, opening_at, fetch_of_state, operand_of_state, plain_proof}
-use Rattle.open_proof.specs.RangeLaws.{IsHeldInRange, range-of-state, and-true, words_are, digests_are}
+use Rattle.open_proof.specs.RangeLaws.{range-of-state, and-true, words_are, digests_are}
 use Rattle.open_proof.proofs.ShownLemmas.{siblings-along}
 
 chunk-size : (m : Contents) (k : ℕ) → length (chunk_at m k) ≡ 32

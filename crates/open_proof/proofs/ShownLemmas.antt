@@ -5,7 +5,7 @@ use Rattle.std.proofs.lemmas.List.FromFn.{get_or-map-range_with_len}
 use Rattle.rd_base.specs.Status.{is_running}
 use Rattle.rd_base.specs.declared.ctl.Ctl.{Ctl}
 use Rattle.rd_base.specs.declared.digest.Digest32.{Digest32}
-use Rattle.rd_base.specs.declared.proof.Opening.{Opening}
+use Rattle.rd_base.specs.declared.opened.Opening.{Opening}
 use Rattle.rv_decode.specs.Reading.{reading_of}
 use Rattle.rv_decode.specs.declared.instr.Instr.{Instr}
 use Rattle.mem_plain.specs.Contents.{Contents, chunk_at}
@@ -55,6 +55,7 @@ low-needed : (n : Need) → IsAligned n → IsLowAt (address_needed n)
 low-needed need.Nothing access = tt
 low-needed (need.Load addr width) access = access.2
 low-needed (need.Store addr width value) access = access.2
+low-needed (need.Input index) access = tt
 low-needed (need.Trap code) access = tt
 
 pub low-operand : (laws : StepLaws) (regs : List ℕ) (o : Option Instr) → IsLowAt (operand_address regs o)

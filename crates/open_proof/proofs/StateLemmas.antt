@@ -89,25 +89,25 @@ module _ (steps : StepLaws) (laws : PathLaws) (digest : List ℕ → List ℕ) (
       ap (λ (h : Held). operand_address h.regs (fetched_in proof.fetch (fetch_address h.ctl))) held
       ∙ ap (operand_address s.regs) (fetched-same steps digest s.memory proof.fetch (fetch_of_state digest s) (word-fetched (ctl_of digest s) low) shown)
 
-  pub leads-or-found : (proof : StepProof) (s : State) (a b : Digest32) → IsInRange proof → IsValid s → a.0 ≡ state_root digest s → Leads digest a proof b
+  pub leads-or-found : (proof : StepProof) (s : State) (a b : Digest32) → IsInRange proof → IsValid s → s.version < 3 → a.0 ≡ state_root digest s → Leads digest a proof b
       → (b.0 ≡ state_root digest (step s)) ⊎ ((pair : List ℕ × List ℕ) × IsStateCollision digest proof s pair)
-  leads-or-found proof s a b range valid root leads = ⊎_elim
+  leads-or-found proof s a b range valid plain root leads = ⊎_elim
       (λ held. ⊎_elim
       (λ fetch. ⊎_elim
       (λ operand.
       let fetch' = subst (IsShownAt digest s.memory proof.fetch) (fetch-same proof s held) fetch in
       let operand' = subst (IsShownAt digest s.memory proof.operand) (operand-same proof s held valid.pc fetch') operand in
       inl (leads.root ∙ (ap (λ h. root_of_held digest (held_step digest proof.fetch proof.operand h)) held
-      ∙ ap (root_of_held digest) (held-step steps digest proof.fetch proof.operand s fetch' operand'))))
+      ∙ ap (root_of_held digest) (held-step steps digest proof.fetch proof.operand s plain fetch' operand'))))
       inr (operand-or-found proof s a b range valid leads held))
       inr (fetch-or-found proof s a b range valid leads held))
       inr (parts-or-found proof s range valid (sym leads.parts_open ∙ root))
 
 -- the plain proof leads from the root of its state to that of the next
 module _ (steps : StepLaws) (laws : PathLaws) (digest : List ℕ → List ℕ) where
-  pub plain-leads : (s : State) (a b : Digest32) → s.pc < 2 ^ 32 → a.0 ≡ state_root digest s → b.0 ≡ state_root digest (step s) → Leads digest a (plain_proof digest s) b
+  pub plain-leads : (s : State) (a b : Digest32) → s.pc < 2 ^ 32 → s.version < 3 → a.0 ≡ state_root digest s → b.0 ≡ state_root digest (step s) → Leads digest a (plain_proof digest s) b
   unfolding plain_proof
-  plain-leads s a b low start end =
+  plain-leads s a b low plain start end =
       let m = s.memory in
       let address = fetch_of_state digest s in
       let word = word-fetched (ctl_of digest s) low in
@@ -124,5 +124,5 @@ module _ (steps : StepLaws) (laws : PathLaws) (digest : List ℕ → List ℕ) w
         operand_shaped = plain-shape digest m (operand_of_state digest s) ∙ ap is_some (sym called);
         operand_opens = subst (OpensAt digest (memory_node digest m 27 0) operand) (sym called)
             (shown-opens laws digest m operand (operand_of_state digest s) (low-operand steps s.regs (fetched_at m address)) operand-shown);
-        root = end ∙ ap (root_of_held digest) (sym (held-step steps digest fetch operand s fetch-shown operand-shown));
+        root = end ∙ ap (root_of_held digest) (sym (held-step steps digest fetch operand s plain fetch-shown operand-shown));
       }

@@ -1,6 +1,6 @@
 -- Derived: a chunk opens a digest exactly where it climbs to it.
 use Rattle.std.proofs.Common.{◌≡◌, ◌↔◌, ℕ, ◌/◌, List}
-use Rattle.rd_base.specs.declared.proof.Opening.{Opening}
+use Rattle.rd_base.specs.declared.opened.Opening.{Opening}
 use Rattle.digest_core.specs.Text.{leaf_text}
 use Rattle.merkle_nodes.specs.Node.{digest_at}
 use Rattle.merkle_nodes.specs.PathLaws.{opens-climbs, climbs-opens}

@@ -3,7 +3,7 @@ use Rattle.std.proofs.Common.{◌≡◌, ◌↔◌, ℕ, List, Option, Some, Non
 use Rattle.std.specs.Prelude.{bytes_eq, if◌then◌else◌}
 use Rattle.std.proofs.lemmas.Slice.Eq.{bytes_eq-Decides}
 use Rattle.rd_base.specs.declared.digest.Digest32.{Digest32}
-use Rattle.rd_base.specs.declared.proof.Opening.{Opening}
+use Rattle.rd_base.specs.declared.opened.Opening.{Opening}
 use Rattle.rd_base.specs.declared.proof.StepProof.{StepProof}
 use Rattle.open_proof.specs.Held.{held_by, root_of_held, path_text}
 use Rattle.open_proof.specs.Leads.{Leads, OpensAt, fetch_called, operand_called, root_after}

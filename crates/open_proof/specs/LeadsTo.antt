@@ -1,7 +1,7 @@
 -- Derived, tied to `Leads` by the law `leading_is_decided`: the root to which a proof leads, by tests.
 use Rattle.std.specs.Prelude.{ℕ, List, Bool, true, false, ◌&&◌, Option, Some, None, bytes_eq, if◌then◌else◌}
 use Rattle.rd_base.specs.declared.digest.Digest32.{Digest32}
-use Rattle.rd_base.specs.declared.proof.Opening.{Opening}
+use Rattle.rd_base.specs.declared.opened.Opening.{Opening}
 use Rattle.rd_base.specs.declared.proof.StepProof.{StepProof}
 use Rattle.open_proof.specs.Held.{held_by, root_of_held, path_text}
 use Rattle.open_proof.specs.Leads.{fetch_called, operand_called, root_after}

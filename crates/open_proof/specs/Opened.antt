@@ -1,6 +1,6 @@
 -- To believe: the strings that a proof opens.
 use Rattle.std.specs.Prelude.{ℕ, zero, suc, ◌+◌, List, [], ◌∷◌, ◌++◌, Option, Some}
-use Rattle.rd_base.specs.declared.proof.Opening.{Opening}
+use Rattle.rd_base.specs.declared.opened.Opening.{Opening}
 use Rattle.rd_base.specs.declared.proof.StepProof.{StepProof}
 use Rattle.digest_core.specs.Text.{registers_text}
 use Rattle.out_chain.specs.Root.{control_text_of}

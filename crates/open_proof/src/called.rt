@@ -10,6 +10,9 @@ use rd_base::{Ctl, Opening, Regs, StepProof};
 use rv_decode::{Instr, decode};
 use rv_step::{Need, need};
 
+/// The version of the commitment to states to which the proofs belong: no input is offered.
+const VERSION: u8 = 1;
+
 /// The address of the word that is fetched: `pc`, where the machine is running and `pc` is a multiple of 4.
 pub fn fetch_address(ctl: &Ctl) -> Option<u32>
     ensures value { result ≡ leads.fetch_address ctl.now }
@@ -26,10 +29,11 @@ pub fn fetch_address(ctl: &Ctl) -> Option<u32>
 fn address_needed(regs: &Regs, pc: u32, instr: &Instr) -> Option<u32>
     ensures { result ≡ leads.address_needed (needed regs.now instr.now) }
 {
-    match need(regs, pc, instr) {
+    match need(VERSION, regs, pc, instr) {
         Need::Nothing => None,
         Need::Load { addr, .. } => Some(addr),
         Need::Store { addr, .. } => Some(addr),
+        Need::Input { .. } => None,
         Need::Trap(_code) => None,
     }
 }

@@ -1,7 +1,7 @@
 //! Laws of the definitions, each of them the contract of a function that does nothing.
-ghost use Rattle.std.specs.Prelude.{◌≡◌, ◌≢◌, ◌⊎◌, ℕ, List, length, Option, Some, None, true};
+ghost use Rattle.std.specs.Prelude.{◌≡◌, ◌≢◌, ◌⊎◌, ◌<◌, ℕ, List, length, Option, Some, None, true};
 ghost use Rattle.rd_base.specs.declared.digest.Digest32.{Digest32};
-ghost use Rattle.rd_base.specs.declared.proof.Opening.{Opening};
+ghost use Rattle.rd_base.specs.declared.opened.Opening.{Opening};
 ghost use Rattle.rd_base.specs.declared.proof.StepProof.{StepProof};
 ghost use Rattle.rv_step.specs.State.{State};
 ghost use Rattle.rv_step.specs.Step.{step};
@@ -34,9 +34,10 @@ fn laws_below()
     paths_open_strings_of_the_state();
 }
 
-/// What is held of the state after a step is the step on what is held of the state, from the opened chunks alone.
+/// What is held of the state after a step is the step on what is held of the state, from the opened chunks alone, in a version
+/// below 3, in which no input is offered.
 pub fn steps_need_opened_parts_alone()
-    ensures { (digest : List ℕ → List ℕ) (fetch operand : Option Opening) (s : State) →
+    ensures { (digest : List ℕ → List ℕ) (fetch operand : Option Opening) (s : State) → s.version < 3 →
         IsShownAt digest s.memory fetch (fetch_of_state digest s) →
         IsShownAt digest s.memory operand (operand_of_state digest s) →
         held_step digest fetch operand (held_of digest s) ≡ held_of digest (step s) }
@@ -71,20 +72,20 @@ pub fn proofs_from_one_root()
         step_collision digest a x y ≡ Some pair → IsStepCollision digest x y pair }
 {}
 
-/// A proof that leads from the root of a valid state to a root: this is the root of the next state, or a string that the
+/// A proof that leads from the root of a valid state, of a version below 3, to a root: this is the root of the next state, or a string that the
 /// proof opens and a different string of the state have one digest.
 pub fn proofs_lead_to_the_next_state()
     ensures { (digest : List ℕ → List ℕ) → ((bytes : List ℕ) → length (digest bytes) ≡ 32) →
-        (proof : StepProof) (s : State) (a b : Digest32) → is_in_range proof ≡ true → IsValid s →
+        (proof : StepProof) (s : State) (a b : Digest32) → is_in_range proof ≡ true → IsValid s → s.version < 3 →
         a.0 ≡ state_root digest s → Leads digest a proof b →
         (b.0 ≡ state_root digest (step s)) ⊎ ((pair : List ℕ × List ℕ) × IsStateCollision digest proof s pair) }
 {
     laws_below();
 }
 
-/// The plain proof of a valid state leads from the state's root to the root of the next state.
+/// The plain proof of a valid state, of a version below 3, leads from the state's root to the root of the next state.
 pub fn plain_proofs_lead()
-    ensures { (digest : List ℕ → List ℕ) (s : State) (a b : Digest32) → IsValid s →
+    ensures { (digest : List ℕ → List ℕ) (s : State) (a b : Digest32) → IsValid s → s.version < 3 →
         a.0 ≡ state_root digest s → b.0 ≡ state_root digest (step s) → Leads digest a (plain_proof digest s) b }
 {
     laws_below();

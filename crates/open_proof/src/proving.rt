@@ -1,4 +1,4 @@
-ghost use Rattle.std.specs.Prelude.{◌≡◌};
+ghost use Rattle.std.specs.Prelude.{◌≡◌, ◌<◌};
 ghost use Rattle.rd_base.specs.declared.digest.Digest32.{Digest32};
 ghost use Rattle.rv_step.specs.Step.{step};
 ghost use Rattle.state_commit.specs.StateRoot.{state_root};
@@ -57,10 +57,10 @@ fn with_chunks<D: Digester>(
 
 /// The plain proof of the step from a machine's state: the state's parts; the chunk that holds the word at `pc` where the
 /// machine is running and `pc` is a multiple of 4; the chunk of the instruction's data where it is an aligned load or
-/// store. It leads from the root of this state to the root of the next. It takes no memory.
+/// store. In a version below 3 it leads from the root of this state to the root of the next. It takes no memory.
 pub fn make_proof<D: Digester>(committed: &Committed<D>) -> StepProof
     ensures plain { result ≡ plain.plain_proof D.digest_of committed.now }
-    ensures leads { (a b : Digest32) →
+    ensures leads { (a b : Digest32) → committed.now.version < 3 →
         a.0 ≡ state_root D.digest_of committed.now → b.0 ≡ state_root D.digest_of (step committed.now) →
         Leads D.digest_of a result b }
 {

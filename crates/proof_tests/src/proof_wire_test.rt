@@ -1,6 +1,7 @@
 use proof_wire::*;
 use rd_base::{
-    Answer, Boxed, Claim, ClaimOutput, Ctl, Digest32, Opening, Path, Regs, Status, StepProof,
+    Answer, Boxed, Claim, ClaimOutput, Ctl, Digest32, InOpening, InPath, Opening, Path, Proof,
+    RegOpening, RegOpenings, RegPath, Regs, RootList, Status, StepProof, StepProof2, StepProof3,
 };
 use std::alloc::{AllocError, Global};
 use std::process::Abort;
@@ -97,7 +98,38 @@ fn step(
         fetch,
         operand,
     };
+    in_box(alloc, Proof::V1(proof))
+}
+
+/// The answer that gives a proof.
+fn in_box(alloc: Global, proof: Proof) -> Result<Answer, Fail> {
     Ok(Answer::Step(Boxed::new(Box::new(alloc, proof)?)))
+}
+
+/// The first three of these opened registers, each with a value and one digest for all siblings.
+fn named(opened: &[(u32, u8)]) -> RegOpenings {
+    let mut named = RegOpenings::new();
+    for (value, sibling) in opened {
+        if named.as_slice().len() < 3 {
+            named.push(RegOpening {
+                value: *value,
+                path: RegPath([digest(*sibling); 5]),
+            });
+        }
+    }
+    named
+}
+
+fn input_opening(chunk: u8, sibling: u8) -> InOpening {
+    InOpening {
+        chunk: [chunk; 32],
+        path: InPath([digest(sibling); 15]),
+    }
+}
+
+fn roots(alloc: Global, digests: &[Digest32]) -> Result<Answer, Fail> {
+    let roots = RootList::new(digests.to_vec(alloc)?).ok_or("none, or too many")?;
+    Ok(Answer::Roots(roots))
 }
 
 /// Asserts that an answer has these bytes, and comes back from them; that no shorter prefix of them is whole; and that
@@ -117,7 +149,7 @@ fn check(rt: &impl Abort, alloc: Global, answer: &Answer, runs: &[Run]) -> Resul
     Ok(())
 }
 
-const ROWS: [(&[Run], u32); 7] = [
+const ROWS: [(&[Run], u32); 10] = [
     (&[(2, 1), (0, 32)], 0),
     (&[(2, 1), (0, 31)], 1),
     (&[(2, 1), (0, 33)], 4),
@@ -127,6 +159,10 @@ const ROWS: [(&[Run], u32); 7] = [
     (&[(1, 1), (0, 68), (3, 1), (0, 52)], 3),
     // an output length of eight bytes `ff`
     (&[(1, 1), (0, 113), (255, 8)], 5),
+    // no root; the tag of a proof of version 2, and a count of one root, alone
+    (&[(5, 1), (0, 1)], 2),
+    (&[(5, 1), (1, 1)], 1),
+    (&[(4, 1)], 1),
 ];
 
 #[test]
@@ -138,7 +174,7 @@ fn wire_rows(rt: HostRuntime) -> Result<(), Fail> {
 
 const FIRST_BROKEN: [(&[Run], u32); 19] = [
     (&[(0, 1), (0, 40)], 2),
-    (&[(4, 1)], 2),
+    (&[(7, 1)], 2),
     // a bad status, and a fixed part that isn't whole
     (&[(1, 1), (0, 68), (3, 1), (0, 51)], 1),
     (&[(3, 1), (0, 160), (3, 1), (0, 44)], 1),
@@ -168,13 +204,100 @@ fn the_first_broken_rule_is_the_fault(rt: HostRuntime) -> Result<(), Fail> {
     check_rules(&rt, rt.alloc(), &FIRST_BROKEN)
 }
 
+const FIRST_BROKEN_OF_ROOTS: [(&[Run], u32); 10] = [
+    (&[(5, 1)], 1),
+    // a count of 0, of 16 and of 255: too little or too much behind it doesn't matter
+    (&[(5, 1), (0, 1), (0, 32)], 2),
+    (&[(5, 1), (16, 1), (0, 512)], 2),
+    (&[(5, 1), (16, 1)], 2),
+    (&[(5, 1), (255, 1), (0, 8160)], 2),
+    // digests that aren't whole, or a byte too many
+    (&[(5, 1), (1, 1), (0, 31)], 1),
+    (&[(5, 1), (2, 1), (0, 32)], 1),
+    (&[(5, 1), (15, 1), (0, 479)], 1),
+    (&[(5, 1), (15, 1), (0, 480)], 0),
+    (&[(5, 1), (1, 1), (0, 33)], 4),
+];
+
+/// Of version 2: the status stands behind 69 bytes, the flags behind 114, the count behind 115.
+const FIRST_BROKEN_OF_VERSION_2: [(&[Run], u32); 14] = [
+    (&[(4, 1), (0, 114)], 1),
+    (&[(4, 1), (0, 115)], 0),
+    (&[(4, 1), (0, 116)], 4),
+    // a bad status, in a fixed part that isn't whole, and beside flags and a count that are too large
+    (&[(4, 1), (0, 68), (3, 1), (0, 45)], 1),
+    (&[(4, 1), (0, 68), (3, 1), (0, 44), (4, 2)], 3),
+    (&[(4, 1), (0, 69), (1, 1), (0, 45)], 3),
+    // flags or a count above the largest, with nothing behind them
+    (&[(4, 1), (0, 113), (4, 1), (0, 1)], 2),
+    (&[(4, 1), (0, 113), (1, 1), (4, 1)], 2),
+    // a chunk that isn't whole; a register that isn't; each whole; a byte too many
+    (&[(4, 1), (0, 113), (1, 1), (0, 1), (0, 895)], 1),
+    (&[(4, 1), (0, 114), (1, 1), (0, 163)], 1),
+    (&[(4, 1), (0, 113), (3, 2), (0, 2283)], 1),
+    (&[(4, 1), (0, 113), (3, 2), (0, 2284)], 0),
+    (&[(4, 1), (0, 113), (3, 2), (0, 2285)], 4),
+    (&[(4, 1), (0, 113), (2, 1), (1, 1), (0, 1060)], 0),
+];
+
+/// Of version 3: the status stands behind 105 bytes, the flags behind 150, the count behind 151.
+const FIRST_BROKEN_OF_VERSION_3: [(&[Run], u32); 13] = [
+    (&[(6, 1)], 1),
+    (&[(6, 1), (0, 150)], 1),
+    (&[(6, 1), (0, 151)], 0),
+    (&[(6, 1), (0, 152)], 4),
+    (&[(6, 1), (0, 104), (3, 1), (0, 45)], 1),
+    (&[(6, 1), (0, 104), (3, 1), (0, 44), (8, 1), (4, 1)], 3),
+    (&[(6, 1), (0, 149), (8, 1), (0, 1)], 2),
+    (&[(6, 1), (0, 149), (7, 1), (4, 1)], 2),
+    // the input's chunk alone: 512 bytes
+    (&[(6, 1), (0, 149), (4, 1), (0, 1), (0, 511)], 1),
+    (&[(6, 1), (0, 149), (4, 1), (0, 1), (0, 512)], 0),
+    (&[(6, 1), (0, 149), (4, 1), (0, 1), (0, 513)], 4),
+    // all of them: two chunks, three registers, the input's chunk
+    (&[(6, 1), (0, 149), (7, 1), (3, 1), (0, 2796)], 0),
+    (&[(6, 1), (0, 149), (7, 1), (3, 1), (0, 2795)], 1),
+];
+
+#[test]
+fn the_first_broken_rule_of_newer_forms_is_the_fault(rt: HostRuntime) -> Result<(), Fail> {
+    check_rules(&rt, rt.alloc(), &FIRST_BROKEN_OF_ROOTS)?;
+    check_rules(&rt, rt.alloc(), &FIRST_BROKEN_OF_VERSION_2)?;
+    check_rules(&rt, rt.alloc(), &FIRST_BROKEN_OF_VERSION_3)
+}
+
 #[test]
 fn the_least_of_each_field_comes_back(rt: HostRuntime) -> Result<(), Fail> {
     let alloc = rt.alloc();
     let least = claim(alloc, 0, 0, least_control(), b"")?;
     check(&rt, alloc, &least, &[(1, 1), (0, 121)])?;
     let least = step(alloc, 0, registers(0), least_control(), None, None)?;
-    check(&rt, alloc, &least, &[(3, 1), (0, 206)])
+    check(&rt, alloc, &least, &[(3, 1), (0, 206)])?;
+    let least = roots(alloc, &[digest(0)])?;
+    check(&rt, alloc, &least, &[(5, 1), (1, 1), (0, 32)])?;
+    let least = Proof::V2(StepProof2 {
+        mem: digest(0),
+        regs: digest(0),
+        ctl: least_control(),
+        fetch: None,
+        named: named(&[]),
+        operand: None,
+    });
+    let least = in_box(alloc, least)?;
+    check(&rt, alloc, &least, &[(4, 1), (0, 115)])?;
+    let least = Proof::V3(StepProof3 {
+        mem: digest(0),
+        input_len: 0,
+        input_root: digest(0),
+        regs: digest(0),
+        ctl: least_control(),
+        fetch: None,
+        named: named(&[]),
+        operand: None,
+        input: None,
+    });
+    let least = in_box(alloc, least)?;
+    check(&rt, alloc, &least, &[(6, 1), (0, 151)])
 }
 
 /// A root, a claim of three bytes, and a proof: the tag; what stands in front of the status byte, and that byte; the
@@ -193,6 +316,20 @@ const LARGEST_CLAIM: [Run; 7] = [
 
 const LARGEST_PROOF: [Run; 6] = [(3, 1), (255, 160), (2, 1), (255, 44), (3, 1), (255, 1792)];
 
+/// Proofs of versions 2 and 3: the tag; what stands in front of the status byte, and that byte; the code, the output
+/// length and the chain; the flags; the count; the openings.
+const LARGEST_PROOF_2: [Run; 6] = [(4, 1), (255, 68), (2, 1), (255, 44), (3, 2), (255, 2284)];
+
+const LARGEST_PROOF_3: [Run; 7] = [
+    (6, 1),
+    (255, 104),
+    (2, 1),
+    (255, 44),
+    (7, 1),
+    (3, 1),
+    (255, 2796),
+];
+
 #[test]
 fn the_largest_of_each_field_comes_back(rt: HostRuntime) -> Result<(), Fail> {
     let alloc = rt.alloc();
@@ -208,7 +345,31 @@ fn the_largest_of_each_field_comes_back(rt: HostRuntime) -> Result<(), Fail> {
         both,
         both,
     )?;
-    check(&rt, alloc, &largest, &LARGEST_PROOF)
+    check(&rt, alloc, &largest, &LARGEST_PROOF)?;
+    let largest = roots(alloc, &[digest(255); 15])?;
+    check(&rt, alloc, &largest, &[(5, 1), (15, 1), (255, 480)])?;
+    let registers = [(u32::MAX, 255); 3];
+    let largest = Proof::V2(StepProof2 {
+        mem: digest(255),
+        regs: digest(255),
+        ctl: largest_control(),
+        fetch: both,
+        named: named(&registers),
+        operand: both,
+    });
+    check(&rt, alloc, &in_box(alloc, largest)?, &LARGEST_PROOF_2)?;
+    let largest = Proof::V3(StepProof3 {
+        mem: digest(255),
+        input_len: u32::MAX,
+        input_root: digest(255),
+        regs: digest(255),
+        ctl: largest_control(),
+        fetch: both,
+        named: named(&registers),
+        operand: both,
+        input: Some(input_opening(255, 255)),
+    });
+    check(&rt, alloc, &in_box(alloc, largest)?, &LARGEST_PROOF_3)
 }
 
 /// Control fields whose bytes, but for the chain's, are 1 to 16, with 1 for the status.
@@ -303,6 +464,104 @@ fn each_field_of_a_proof_stands_in_its_place(rt: HostRuntime) -> Result<(), Fail
     Ok(())
 }
 
+/// Registers of values 1, 2 and 3 with siblings 31, 32 and 33, and their bytes.
+const REGISTERS_IN_ORDER: [(u32, u8); 3] = [(1, 31), (2, 32), (3, 33)];
+
+const REGISTERS_AS_BYTES: [Run; 9] = [
+    (1, 1),
+    (0, 3),
+    (31, 160),
+    (2, 1),
+    (0, 3),
+    (32, 160),
+    (3, 1),
+    (0, 3),
+    (33, 160),
+];
+
+/// The row of a proof of version 2 that stores: 2,236 bytes with two chunks and two registers.
+#[test]
+fn each_field_of_a_proof_of_version_2_stands_in_its_place(rt: HostRuntime) -> Result<(), Fail> {
+    let alloc = rt.alloc();
+    let (fetch, runs_of_fetch) = opening_in_order(alloc)?;
+    for (count, size) in [(0, 1908), (1, 2072), (2, 2236), (3, 2400)] {
+        let proof = Proof::V2(StepProof2 {
+            mem: digest(18),
+            regs: digest(19),
+            ctl: control_in_order(),
+            fetch: Some(fetch),
+            named: named(&REGISTERS_IN_ORDER[..count]),
+            operand: Some(opening(21, 22)),
+        });
+        let answer = in_box(alloc, proof)?;
+        let mut want = [(4, 1), (18, 32), (19, 32)].to_vec(alloc)?;
+        want.extend_from_slice(&CONTROL_IN_ORDER)?;
+        want.push((3, 1))?;
+        want.push((count as u8, 1))?;
+        want.extend_from_slice(&runs_of_fetch)?;
+        want.extend_from_slice(&REGISTERS_AS_BYTES[..3 * count])?;
+        want.extend_from_slice(&[(21, 32), (22, 864)])?;
+        check(&rt, alloc, &answer, &want)?;
+        assert_eq!(&rt; encode(alloc, &answer)?.len(), size);
+    }
+    Ok(())
+}
+
+/// An input chunk of bytes 23 with the siblings 150, 151 and so on, and its bytes.
+fn input_in_order(alloc: Global) -> Result<(InOpening, Vec<Run>), AllocError> {
+    let mut opened = input_opening(23, 0);
+    let mut runs = Vec::new(alloc);
+    runs.push((23, 32))?;
+    let mut byte: u8 = 150;
+    for sibling in opened.path.0.iter_mut() {
+        *sibling = digest(byte);
+        runs.push((byte, 32))?;
+        byte = byte.wrapping_add(1);
+    }
+    Ok((opened, runs))
+}
+
+/// The row of a proof of version 3 that reads the input: 1,888 bytes with flags 5 and two registers.
+#[test]
+fn each_field_of_a_proof_of_version_3_stands_in_its_place(rt: HostRuntime) -> Result<(), Fail> {
+    let alloc = rt.alloc();
+    let (input, runs_of_input) = input_in_order(alloc)?;
+    for (flags, is_loaded, size) in [(5, false, 1888), (7, true, 2784)] {
+        let proof = Proof::V3(StepProof3 {
+            mem: digest(18),
+            input_len: 0x1413_1211,
+            input_root: digest(24),
+            regs: digest(19),
+            ctl: control_in_order(),
+            fetch: Some(opening(25, 26)),
+            named: named(&REGISTERS_IN_ORDER[..2]),
+            operand: is_loaded.then_some(opening(21, 22)),
+            input: Some(input),
+        });
+        let answer = in_box(alloc, proof)?;
+        let mut want = [(6, 1), (18, 32), (17, 1), (18, 1), (19, 1), (20, 1)].to_vec(alloc)?;
+        want.extend_from_slice(&[(24, 32), (19, 32)])?;
+        want.extend_from_slice(&CONTROL_IN_ORDER)?;
+        want.extend_from_slice(&[(flags, 1), (2, 1), (25, 32), (26, 864)])?;
+        want.extend_from_slice(&REGISTERS_AS_BYTES[..6])?;
+        if is_loaded {
+            want.extend_from_slice(&[(21, 32), (22, 864)])?;
+        }
+        want.extend_from_slice(&runs_of_input)?;
+        check(&rt, alloc, &answer, &want)?;
+        assert_eq!(&rt; encode(alloc, &answer)?.len(), size);
+    }
+    Ok(())
+}
+
+#[test]
+fn roots_stand_in_their_order(rt: HostRuntime) -> Result<(), Fail> {
+    let alloc = rt.alloc();
+    let answer = roots(alloc, &[digest(1), digest(2), digest(3)])?;
+    let want = [(5, 1), (3, 1), (1, 32), (2, 32), (3, 32)];
+    check(&rt, alloc, &answer, &want)
+}
+
 #[test]
 fn a_fault_says_what_is_wrong(rt: HostRuntime) -> Result<(), Fail> {
     for (fault, rule, want) in [
@@ -310,7 +569,7 @@ fn a_fault_says_what_is_wrong(rt: HostRuntime) -> Result<(), Fail> {
         (
             WireFault::BadTag,
             Some(2),
-            "the tag or the flags aren't known",
+            "the tag, the flags or the count aren't known",
         ),
         (WireFault::BadStatus, Some(3), "the status isn't known"),
         (

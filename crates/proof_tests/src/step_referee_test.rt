@@ -4,7 +4,7 @@ use bisect_game::Judge;
 use digest_core::{Digester, Sha256, registers_text};
 use mem_plain::PlainMem;
 use open_proof::make_proof;
-use rd_base::{Claim, ClaimOutput, Digest32, Memory, Opening, Status, StepProof, Steps};
+use rd_base::{Claim, ClaimOutput, Digest32, Memory, Opening, Proof, Status, StepProof, Steps};
 use rv_step::Machine;
 use state_commit::Committed;
 use std::alloc::Global;
@@ -44,7 +44,7 @@ fn committed_of<R: Threads + Sync>(
     requires { length image.now ≤ 256 }
 {
     let mem = PlainMem::new(alloc).lay(0x1_0000, image)?;
-    let machine = Machine::new(alloc, mem, 0x1_0000, &[])?;
+    let machine = Machine::new(alloc, 1, mem, 0x1_0000, &[])?;
     Committed::new(rt, alloc, Sha256, machine)
 }
 
@@ -64,7 +64,7 @@ fn proofs_lead<R: Threads + Sync>(
         let root = committed.root();
         let proof = make_proof(&committed);
         committed = committed.step()?;
-        match judge.leads(root, &proof) {
+        match judge.leads(root, &Proof::V1(proof)) {
             Some(next) => {
                 if next.0 != committed.root().0 {
                     return Ok(false);
@@ -272,7 +272,9 @@ fn is_judged(
         judge.sound(&claim) == sound
             && judge.root_of(&claim).0 == root.0
             && judge.claim_collision(&claim, &claim).is_none()
-            && judge.step_collision(root, proof, proof).is_none(),
+            && judge
+                .step_collision(root, &Proof::V1(*proof), &Proof::V1(*proof))
+                .is_none(),
     )
 }
 

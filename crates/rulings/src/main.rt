@@ -8,7 +8,7 @@ use bisect_game::Judge;
 use digest_core::Sha256;
 use mem_plain::PlainMem;
 use open_proof::make_proof;
-use rd_base::Memory;
+use rd_base::{Memory, Proof};
 use rv_step::Machine;
 use state_commit::Committed;
 use std::alloc::Global;
@@ -25,13 +25,13 @@ const PROGRAM: &[u8] =
 // How many of so many rulings on the step after so many steps lead to a root.
 fn led<R: Threads + Sync>(rt: &R, alloc: Global, steps: u64, rulings: u64) -> Result<u64, Memory> {
     let mem = PlainMem::new(alloc).lay(0x1_0000, PROGRAM)?;
-    let machine = Machine::new(alloc, mem, 0x1_0000, &[])?;
+    let machine = Machine::new(alloc, 1, mem, 0x1_0000, &[])?;
     let mut committed = Committed::new(rt, alloc, Sha256, machine)?;
     for _ in 0..steps {
         committed = committed.step()?;
     }
     let root = committed.root();
-    let proof = make_proof(&committed);
+    let proof = Proof::V1(make_proof(&committed));
     let judge = MachineJudge::new(Sha256);
     let mut led: u64 = 0;
     for _ in 0..rulings {

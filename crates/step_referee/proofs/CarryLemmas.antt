@@ -1,9 +1,9 @@
 -- What is held after an effect, and how many digests it takes, by what the code does.
 use Rattle.std.proofs.Common.{◌≡◌, ℕ, ◌*◌, List, Option, Some, None, refl, sym, ap, ◌∙◌, subst}
-use Rattle.rd_base.specs.declared.proof.Opening.{Opening}
+use Rattle.rd_base.specs.declared.opened.Opening.{Opening}
 use Rattle.rv_decode.specs.declared.instr.Instr.{Instr}
 use Rattle.rv_step.specs.Effect.{effect}
-use Rattle.rv_step.specs.Parts.{KeepsMemory, Meets, needed}
+use Rattle.rv_step.specs.Parts.{KeepsMemory, Meets, Finishes, finished, needed}
 use Rattle.rv_step.specs.declared.asked.Need.{Need}
 use Rattle.rv_step.specs.declared.asked.Need.TheVariants as need
 use Rattle.rv_step.specs.declared.effect.Effect.{Effect}
@@ -40,57 +40,64 @@ held-stored : (digest : List ℕ → List ℕ) (operand : Option Opening) (p : H
     → held_after digest None (record p { mem = mem }) (Store addr width value) ≡ held_after digest operand p (Store addr width value)
 held-stored digest operand p mem addr width value is = ap (λ m. record (held_after digest operand p (Store addr width value)) { mem = m }) is
 
--- the law of what an instruction does by what it needs
+-- the laws of what an instruction does by what it needs, where no input is offered
 abbrev pub AnyReader : Type 0
 AnyReader = (xs : List ℕ) (pc : ℕ) (read : ℕ → ℕ → ℕ) (i : Instr) → Meets (λ memory. effect xs pc memory i) read (needed xs i)
 
-module _ (law : AnyReader) (operand : Option Opening) (p : Held) (i : Instr) where
-  abbrev pub effect-by : (ℕ → ℕ → ℕ) → Effect
-  effect-by read = effect p.regs p.ctl.pc read i
+abbrev pub AnyOffer : Type 0
+AnyOffer = (byte : ℕ → ℕ) (xs : List ℕ) (pc : ℕ) (read : ℕ → ℕ → ℕ) (i : Instr) → Finishes (effect xs pc read i) (λ loaded. finished xs pc loaded i) read byte (needed xs i)
+
+-- nothing needs a byte of the input
+pub no-input : {P : Type 0} → AnyReader → (xs : List ℕ) (i : Instr) (index : ℕ) → need.Input index ≡ needed xs i → P
+no-input law xs i index is = absurd (subst (Meets (λ memory. effect xs 0 memory i) (λ _ _. 0)) (sym is) (law xs 0 (λ _ _. 0) i))
+
+module _ (law : AnyOffer) (operand : Option Opening) (p : Held) (i : Instr) where
+  abbrev pub finished-by : ℕ → Effect
+  finished-by loaded = finished p.regs p.ctl.pc loaded i
 
   abbrev pub shown-effect : Effect
-  shown-effect = effect-by (number_shown operand)
+  shown-effect = effect p.regs p.ctl.pc (number_shown operand) i
 
-  meets : (read : ℕ → ℕ → ℕ) (n : Need) → n ≡ needed p.regs i → Meets (λ memory. effect p.regs p.ctl.pc memory i) read n
-  meets read n is = subst (Meets (λ memory. effect p.regs p.ctl.pc memory i) read) (sym is) (law p.regs p.ctl.pc read i)
+  meets : (n : Need) → n ≡ needed p.regs i → Finishes shown-effect finished-by (number_shown operand) (λ _. 0) n
+  meets n is = subst (Finishes shown-effect finished-by (number_shown operand) (λ _. 0)) (sym is) (law (λ _. 0) p.regs p.ctl.pc (number_shown operand) i)
 
   module _ (digest : List ℕ → List ℕ) where
-    pub held-nothing : need.Nothing ≡ needed p.regs i → held_after digest None p (effect-by (λ _ _. 0)) ≡ held_after digest operand p shown-effect
+    pub held-nothing : need.Nothing ≡ needed p.regs i → held_after digest None p (finished-by 0) ≡ held_after digest operand p shown-effect
     held-nothing is =
-        let met = meets (number_shown operand) need.Nothing is in
+        let met = meets need.Nothing is in
         ap (held_after digest None p) (sym (met.0 0)) ∙ held-kept digest operand p shown-effect met.1
 
     pub held-loaded : (addr width loaded : ℕ) → need.Load addr width ≡ needed p.regs i → loaded ≡ number_shown operand addr width
-        → held_after digest None p (effect-by (λ _ _. loaded)) ≡ held_after digest operand p shown-effect
+        → held_after digest None p (finished-by loaded) ≡ held_after digest operand p shown-effect
     held-loaded addr width loaded is read =
-        let met = meets (number_shown operand) (need.Load addr width) is in
-        ap (λ n. held_after digest None p (effect-by (λ _ _. n))) read ∙ (ap (held_after digest None p) (sym met.0) ∙ held-kept digest operand p shown-effect met.1)
+        let met = meets (need.Load addr width) is in
+        ap (λ n. held_after digest None p (finished-by n)) read ∙ (ap (held_after digest None p) (sym met.0) ∙ held-kept digest operand p shown-effect met.1)
 
     pub held-store : (mem : List ℕ) (addr width value : ℕ) → need.Store addr width value ≡ needed p.regs i → mem ≡ mem_after digest operand p.mem (Store addr width value)
-        → held_after digest None (record p { mem = mem }) (effect-by (λ _ _. 0)) ≡ held_after digest operand p shown-effect
+        → held_after digest None (record p { mem = mem }) (finished-by 0) ≡ held_after digest operand p shown-effect
     held-store mem addr width value is stored =
-        ap (held_after digest None (record p { mem = mem })) (meets (λ _ _. 0) (need.Store addr width value) is)
-        ∙ (held-stored digest operand p mem addr width value stored ∙ ap (held_after digest operand p) (sym (meets (number_shown operand) (need.Store addr width value) is)))
+        ap (held_after digest None (record p { mem = mem })) ((meets (need.Store addr width value) is).1 0)
+        ∙ (held-stored digest operand p mem addr width value stored ∙ ap (held_after digest operand p) (sym ((meets (need.Store addr width value) is).0)))
 
     pub held-trap : (code : ℕ) → need.Trap code ≡ needed p.regs i → held_after digest operand p (Trap code) ≡ held_after digest operand p shown-effect
-    held-trap code is = ap (held_after digest operand p) (sym (meets (number_shown operand) (need.Trap code) is))
+    held-trap code is = ap (held_after digest operand p) (sym (meets (need.Trap code) is))
 
-  pub links-nothing : need.Nothing ≡ needed p.regs i → links_of_effect (effect-by (λ _ _. 0)) ≡ digests_of_effect operand shown-effect
+  pub links-nothing : need.Nothing ≡ needed p.regs i → links_of_effect (finished-by 0) ≡ digests_of_effect operand shown-effect
   links-nothing is =
-      let met = meets (number_shown operand) need.Nothing is in
+      let met = meets need.Nothing is in
       ap links_of_effect (sym (met.0 0)) ∙ links-kept operand shown-effect met.1
 
   pub links-loaded : (addr width loaded : ℕ) → need.Load addr width ≡ needed p.regs i → loaded ≡ number_shown operand addr width
-      → links_of_effect (effect-by (λ _ _. loaded)) ≡ digests_of_effect operand shown-effect
+      → links_of_effect (finished-by loaded) ≡ digests_of_effect operand shown-effect
   links-loaded addr width loaded is read =
-      let met = meets (number_shown operand) (need.Load addr width) is in
-      ap (λ n. links_of_effect (effect-by (λ _ _. n))) read ∙ (ap links_of_effect (sym met.0) ∙ links-kept operand shown-effect met.1)
+      let met = meets (need.Load addr width) is in
+      ap (λ n. links_of_effect (finished-by n)) read ∙ (ap links_of_effect (sym met.0) ∙ links-kept operand shown-effect met.1)
 
-  pub links-store : (addr width value : ℕ) → need.Store addr width value ≡ needed p.regs i → links_of_effect (effect-by (λ _ _. 0)) ≡ 0
-  links-store addr width value is = ap links_of_effect (meets (λ _ _. 0) (need.Store addr width value) is)
+  pub links-store : (addr width value : ℕ) → need.Store addr width value ≡ needed p.regs i → links_of_effect (finished-by 0) ≡ 0
+  links-store addr width value is = ap links_of_effect ((meets (need.Store addr width value) is).1 0)
 
   pub digests-store : (addr width value : ℕ) → need.Store addr width value ≡ needed p.regs i → digests_of_effect operand shown-effect ≡ 28 * chunk_count operand
-  digests-store addr width value is = ap (digests_of_effect operand) (meets (number_shown operand) (need.Store addr width value) is)
+  digests-store addr width value is = ap (digests_of_effect operand) ((meets (need.Store addr width value) is).0)
 
   pub digests-trap : (code : ℕ) → need.Trap code ≡ needed p.regs i → digests_of_effect operand shown-effect ≡ 0
-  digests-trap code is = ap (digests_of_effect operand) (meets (number_shown operand) (need.Trap code) is)
+  digests-trap code is = ap (digests_of_effect operand) (meets (need.Trap code) is)

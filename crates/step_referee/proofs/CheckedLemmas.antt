@@ -1,5 +1,5 @@
 -- The answer by tests is the one by what they decide.
-use Rattle.std.proofs.Common.{◌≡◌, ◌↔◌, ◌⊎◌, inl, inr, ⊎_elim, ℕ, List, Bool, true, false, true≢false, refl, sym, ap, ◌∙◌}
+use Rattle.std.proofs.Common.{◌≡◌, ◌↔◌, inl, inr, ⊎_elim, ℕ, List, Bool, true, false, true≢false, refl, sym, ap, ◌∙◌}
 use Rattle.std.specs.Prelude.{bytes_eq}
 use Rattle.std.proofs.lemmas.Slice.Eq.{bytes_eq-Decides}
 use Rattle.rd_base.specs.declared.digest.Digest32.{Digest32}
@@ -10,7 +10,6 @@ use Rattle.open_proof.specs.LeadsTo.{is_called, climbs_at}
 use Rattle.open_proof.specs.LeadsLaws.{called-shape, climbs-opens}
 use Rattle.step_referee.specs.Checked.{answer_by, checked}
 use Rattle.step_referee.specs.Refusal.{FailsOpen, FailsShape}
-use Rattle.step_referee.specs.declared.check.StepCheck.{StepCheck}
 use Rattle.step_referee.specs.declared.check.StepCheck.TheVariants as check
 
 same-digest : (x y : Digest32) → x.0 ≡ y.0 → x ≡ y

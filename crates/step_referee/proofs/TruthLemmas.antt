@@ -1,12 +1,12 @@
 -- A run of the machine is a true run for the game.
-use Rattle.std.proofs.Common.{◌≡◌, ℕ, zero, suc, ◌+◌, ◌%◌, ◌^◌, ◌<◌, ◌≤◌, eqb, ltb, cond, List, length, Option, Some, None, Bool, true, false, ◌&&◌, refl, sym, ap, ◌∙◌, subst, arith, add-one, length-append, []}
+use Rattle.std.proofs.Common.{◌≡◌, ℕ, zero, suc, ◌+◌, ◌%◌, ◌^◌, ◌<◌, ◌≤◌, eqb, cond, List, length, Option, Some, None, Bool, true, false, refl, sym, ap, ◌∙◌, subst, arith, add-one, length-append, []}
 use Rattle.std.specs.Prelude.{bytes_eq, if◌then◌else◌, ◌∷◌}
 use Rattle.std.proofs.lemmas.Bool.Decides.{Decides-eqb, Decides-ltb}
 use Rattle.std.proofs.lemmas.Slice.Eq.{bytes_eq-Decides}
 use Rattle.rd_base.specs.Status.{is_running}
-use Rattle.rd_base.specs.declared.claim.Claim.{Claim}
 use Rattle.rd_base.specs.declared.digest.Digest32.{Digest32}
 use Rattle.rd_base.specs.declared.proof.StepProof.{StepProof}
+use Rattle.rd_base.specs.declared.proof.Proof.TheVariants.{V1}
 use Rattle.rv_decode.specs.Reading.{reading_of}
 use Rattle.rv_decode.specs.declared.instr.Instr.{Instr}
 use Rattle.digest_core.specs.Chain.{chain_of}
@@ -68,7 +68,8 @@ pub record RunLaws (digest : List ℕ → List ℕ) : Type 0 where
   pub is_digest : (bytes : List ℕ) → length (digest bytes) ≡ 32
   pub chained : (output : List ℕ) → length (chain_of digest output) ≡ 32
   pub valid : (s : State) → IsValid s → IsValid (step s)
-  pub leads : (s : State) (a b : Digest32) → IsValid s → a.0 ≡ state_root digest s → b.0 ≡ state_root digest (step s) → Leads digest a (plain_proof digest s) b
+  pub version : (s : State) (n : ℕ) → (state_at s n).version ≡ s.version
+  pub leads : (s : State) (a b : Digest32) → IsValid s → s.version < 3 → a.0 ≡ state_root digest s → b.0 ≡ state_root digest (step s) → Leads digest a (plain_proof digest s) b
   pub in_range : (s : State) → IsValid s → is_in_range (plain_proof digest s) ≡ true
   pub found : (a : Digest32) (proof : StepProof) (b : Digest32) → is_in_range proof ≡ true → Leads digest a proof b → leads_to digest a proof ≡ Some b
 
@@ -80,8 +81,8 @@ module _ (digest : List ℕ → List ℕ) (laws : RunLaws digest) where
   abbrev root-at : State → Digest32
   root-at s = record { 0 = state_root digest s }
 
-  plain-leads : (s : State) → IsValid s → leads_to digest (root-at s) (plain_proof digest s) ≡ Some (root-at (step s))
-  plain-leads s valid = laws.found (root-at s) (plain_proof digest s) (root-at (step s)) (laws.in_range s valid) (laws.leads s (root-at s) (root-at (step s)) valid refl refl)
+  plain-leads : (s : State) → IsValid s → s.version < 3 → leads_to digest (root-at s) (plain_proof digest s) ≡ Some (root-at (step s))
+  plain-leads s valid plain = laws.found (root-at s) (plain_proof digest s) (root-at (step s)) (laws.in_range s valid) (laws.leads s (root-at s) (root-at (step s)) valid plain refl refl)
 
   held-range : (s : State) → IsValid s → IsHeldInRange (held_of digest s)
   unfolding plain_proof
@@ -109,16 +110,16 @@ module _ (digest : List ℕ → List ℕ) (laws : RunLaws digest) where
       ((Decides-ltb (ctl_of digest s).out_len (2 ^ 64)).1 held.length_fits))
       (plain-checked s low)
 
-  pub machine-runs : (s : State) (rules : Rules) → IsValid s → length s.output + rules.bound < 2 ^ 64 → rules.play.ruling ≡ machine_ruling digest → rules.start.0 ≡ state_root digest s
+  pub machine-runs : (s : State) (rules : Rules) → IsValid s → s.version < 3 → length s.output + rules.bound < 2 ^ 64 → rules.ruling ≡ machine_ruling digest → rules.start.0 ≡ state_root digest s
       → IsRun rules (machine_truth digest s rules.bound)
-  machine-runs s rules valid low is start =
+  machine-runs s rules valid plain low is start =
       let last = state_at s rules.bound in
       let short = output-at s rules.bound in
       let fits : length last.output < 2 ^ 64 = omega (arith, short, low) in
       record {
         begins = λ i. record { 0 = sym start i };
-        leads = λ i below. subst (λ (r : Ruling). r.leads (root-at (state_at s i)) (plain_proof digest (state_at s i)) ≡ Some (root-at (state_at s (i + 1)))) (sym is)
-            (plain-leads (state_at s i) (valid-at s i valid) ∙ ap (λ n. Some (root-at (state_at s n))) (sym (add-one i)));
+        leads = λ i below. subst (λ (r : Ruling). r.leads (root-at (state_at s i)) (V1 (plain_proof digest (state_at s i))) ≡ Some (root-at (state_at s (i + 1)))) (sym is)
+            (plain-leads (state_at s i) (valid-at s i valid) (subst (λ v. v < 3) (sym (laws.version s i)) plain) ∙ ap (λ n. Some (root-at (state_at s n))) (sym (add-one i)));
         sound = subst (λ (r : Ruling). r.is_sound (plain_claim digest last) ≡ true) (sym is) (plain-sound last (valid-at s rules.bound valid) fits);
         ends = subst (λ (r : Ruling). r.root_of (plain_claim digest last) ≡ root-at last) (sym is) refl;
       }

@@ -1,6 +1,7 @@
 -- To believe: what a run of the machine is to the game.
 use Rattle.std.specs.Prelude.{ℕ, List}
 use Rattle.rd_base.specs.declared.claim.Claim.{Claim}
+use Rattle.rd_base.specs.declared.proof.Proof.TheVariants.{V1}
 use Rattle.digest_core.specs.Text.{registers_text}
 use Rattle.rv_step.specs.State.{State}
 use Rattle.rv_step.specs.Step.{state_at}
@@ -21,6 +22,6 @@ plain_claim digest s = record {
 abbrev pub machine_truth : (List ℕ → List ℕ) → State → ℕ → Truth
 machine_truth digest s bound = record {
   root = λ i. record { 0 = state_root digest (state_at s i) };
-  proof = λ i. plain_proof digest (state_at s i);
+  proof = λ i. V1 (plain_proof digest (state_at s i));
   claim = plain_claim digest (state_at s bound);
 }

@@ -1,7 +1,7 @@
 -- To believe, for how often the counter ticks: how many chunks a proof has, and how many digests its step takes.
 use Rattle.std.specs.Prelude.{ℕ, ◌+◌, ◌*◌, ◌%◌, ◌==◌, Option, Some, None, if◌then◌else◌}
 use Rattle.rd_base.specs.Status.{is_running}
-use Rattle.rd_base.specs.declared.proof.Opening.{Opening}
+use Rattle.rd_base.specs.declared.opened.Opening.{Opening}
 use Rattle.rd_base.specs.declared.proof.StepProof.{StepProof}
 use Rattle.rv_decode.specs.Reading.{reading_of}
 use Rattle.rv_decode.specs.declared.instr.Instr.{Instr}

@@ -1,7 +1,8 @@
 //! The step on the parts that a proof opens.
 ghost use Rattle.std.specs.Prelude.{◌≡◌, ◌+◌, ◌*◌, ◌%◌, ◌≤◌, ℕ, List, Option, None, false, is_some};
-ghost use Rattle.rd_base.specs.declared.proof.Opening.{Opening};
+ghost use Rattle.rd_base.specs.declared.opened.Opening.{Opening};
 ghost use Rattle.rv_step.specs.Effect.{effect};
+ghost use Rattle.rv_step.specs.Parts.{finished};
 ghost use Rattle.rv_step.specs.declared.effect.Effect.TheVariants as effects;
 ghost use Rattle.open_proof.specs.Held.{held_after, held_step, mem_after, number_shown as shown};
 ghost use Rattle.step_referee.specs.HeldParts.{held_in, links_of_effect};
@@ -16,11 +17,17 @@ use rv_decode::{Instr, decode};
 use rv_step::{Need, Outcome, finish, need, two_parts_are_the_step};
 use std::sync::ledger::Ledger;
 
+/// The version of the commitment to states to which the proofs belong: no input is offered.
+const VERSION: u8 = 1;
+
 /// The code of the trap of a `pc` that isn't a multiple of 4.
 const MISALIGNED_JUMP: u32 = 0;
 
 /// The code of the trap of a word that is no instruction.
 const ILLEGAL_INSTRUCTION: u32 = 2;
+
+/// The code of the trap of a call that isn't there.
+const UNKNOWN_CALL: u32 = 8;
 
 /// What a proof holds of a state: the digest of memory, the registers and the control fields.
 #[derive(Clone, Copy, Debug)]
@@ -54,8 +61,8 @@ fn finish_on<D: Digester, L: Ledger>(
     steps: &mut Steps<L>,
 ) -> Parts
     ensures held { held_in result ≡ held_after D.digest_of None (held_in parts)
-        (effect parts.regs parts.ctl.pc (λ _ _. loaded) instr.now) }
-    ensures steps { steps.new ≡ steps.old + links_of_effect (effect parts.regs parts.ctl.pc (λ _ _. loaded) instr.now) }
+        (finished parts.regs parts.ctl.pc loaded instr.now) }
+    ensures steps { steps.new ≡ steps.old + links_of_effect (finished parts.regs parts.ctl.pc loaded instr.now) }
     ensures most { steps.new ≤ steps.old + 1 }
 {
     let mut regs = parts.regs;
@@ -121,7 +128,7 @@ fn carry_out<D: Digester, L: Ledger>(
     ensures none { is_some operand.now ≡ false → steps.new ≤ steps.old + 1 }
 {
     two_parts_are_the_step();
-    match need(&parts.regs, parts.ctl.pc, instr) {
+    match need(VERSION, &parts.regs, parts.ctl.pc, instr) {
         Need::Nothing => finish_on(d, parts, instr, 0, steps),
         Need::Load { addr, width } => {
             let loaded = number_shown(operand, addr, width);
@@ -137,6 +144,7 @@ fn carry_out<D: Digester, L: Ledger>(
             finish_on(d, after, instr, 0, steps)
         }
         Need::Trap(code) => trapped(parts, code),
+        Need::Input { .. } => trapped(parts, UNKNOWN_CALL),
     }
 }
 

@@ -1,4 +1,4 @@
-ghost use Rattle.std.specs.Prelude.{◌≡◌, ◌⊎◌, ◌↔◌, ◌+◌, ◌*◌, ◌≤◌, ℕ, List, false, is_some};
+ghost use Rattle.std.specs.Prelude.{◌≡◌, ◌⊎◌, ◌↔◌, ◌+◌, ◌*◌, ◌<◌, ◌≤◌, ℕ, List, false, is_some};
 ghost use Rattle.rd_base.specs.declared.digest.Digest32.{Digest32};
 ghost use Rattle.rv_step.specs.State.{State};
 ghost use Rattle.rv_step.specs.Step.{step};
@@ -78,7 +78,7 @@ fn check<D: Digester, L: Ledger>(
 /// where the data chunk isn't there exactly where the fetched instruction calls for it; `NotOpen` where that doesn't open
 /// the digest of memory.
 ///
-/// From the root of a valid state it leads to the root of the next state, or a string that the proof opens and a different
+/// From the root of a valid state, of a version below 3, it leads to the root of the next state, or a string that the proof opens and a different
 /// string of the state have one digest (`next`).
 ///
 /// `steps` ticks once for each digest and once for the step of the machine, which is read off the code and not proved: at
@@ -93,7 +93,7 @@ pub fn check_step<D: Digester, L: Ledger>(
     ensures leads { (b : Digest32) → (result ≡ StepCheck.Leads b) ↔ Leads D.digest_of a proof.now b }
     ensures not_open { (result ≡ StepCheck.NotOpen) ↔ FailsOpen D.digest_of a proof.now }
     ensures wrong_shape { (result ≡ StepCheck.WrongShape) ↔ FailsShape D.digest_of a proof.now }
-    ensures next { (s : State) (b : Digest32) → IsValid s → a.0 ≡ state_root D.digest_of s → result ≡ StepCheck.Leads b →
+    ensures next { (s : State) (b : Digest32) → IsValid s → s.version < 3 → a.0 ≡ state_root D.digest_of s → result ≡ StepCheck.Leads b →
         (b.0 ≡ state_root D.digest_of (step s))
         ⊎ ((pair : List ℕ × List ℕ) × IsStateCollision D.digest_of proof.now s pair) }
     ensures exactly { (b : Digest32) → result ≡ StepCheck.Leads b →

@@ -8,7 +8,7 @@ use crate::check::{StepCheck, check_step};
 use bisect_game::Judge;
 use digest_core::Digester;
 use open_proof::{leading_is_decided, proofs_are_in_range};
-use rd_base::{Claim, Digest32, OpenText, StepProof, Steps};
+use rd_base::{Claim, Digest32, OpenText, Proof, StepProof, Steps};
 use std::marker::Brand;
 use std::sync::ledger::{Blank, Ledger};
 
@@ -70,8 +70,11 @@ impl<D: Digester> Judge for MachineJudge<D> {
         out_chain::root_of_claim(self.digester, claim)
     }
 
-    fn leads(&self, from: Digest32, proof: &StepProof) -> Option<Digest32> {
-        lead_in::<D, Brand>(self.digester, from, proof, Blank::new(1))
+    fn leads(&self, from: Digest32, proof: &Proof) -> Option<Digest32> {
+        match proof {
+            Proof::V1(parts) => lead_in::<D, Brand>(self.digester, from, parts, Blank::new(1)),
+            Proof::V2(_) | Proof::V3(_) => None,
+        }
     }
 
     fn claim_collision(&self, first: &Claim, second: &Claim) -> Option<(OpenText, OpenText)> {
@@ -81,9 +84,12 @@ impl<D: Digester> Judge for MachineJudge<D> {
     fn step_collision(
         &self,
         from: Digest32,
-        first: &StepProof,
-        second: &StepProof,
+        first: &Proof,
+        second: &Proof,
     ) -> Option<(OpenText, OpenText)> {
-        open_proof::step_collision(self.digester, from, first, second)
+        match (first, second) {
+            (Proof::V1(x), Proof::V1(y)) => open_proof::step_collision(self.digester, from, x, y),
+            _ => None,
+        }
     }
 }

@@ -4,7 +4,7 @@ pub returns : goal.returns
 returns c = record {
   steps = record {
     any_reader = c.two_parts_are_the_step.ensures.any_reader;
-    aligned = c.two_parts_are_the_step.ensures.aligned;
+    aligned = c.two_parts_are_the_step.ensures.aligned 1;
     read = c.numbers_lie_in_chunks.ensures.read;
     stored = c.numbers_lie_in_chunks.ensures.stored;
     elsewhere = c.numbers_lie_in_chunks.ensures.elsewhere;

@@ -28,8 +28,8 @@ returns-clause-plain g c =
     (made.operand ∙ (c.opening_at-2.ensures ∙ ap (opening_at digest s.memory) operand))
 
 pub returns-clause-leads : goal.returns-clause-leads
-returns-clause-leads g c = λ a b start end.
+returns-clause-leads g c = λ a b plain start end.
     let digest = g.D.Digester.digest_of in
     let s = c.args.committed.now in
     subst (λ (proof : StepProof). Leads digest a proof b) (sym (returns-clause-plain g c))
-    (c.plain_proofs_lead.ensures digest s a b (subst IsValid c.machine-machine.ensures.state c.machines_are_valid.ensures) start end)
+    (c.plain_proofs_lead.ensures digest s a b (subst IsValid c.machine-machine.ensures.state c.machines_are_valid.ensures) plain start end)

@@ -1,5 +1,5 @@
 use Rattle.std.proofs.Common.{◌/◌, ap, ◌∙◌}
-use Rattle.rd_base.specs.declared.proof.Opening.{Opening}
+use Rattle.rd_base.specs.declared.opened.Opening.{Opening}
 use Rattle.mem_plain.specs.Contents.{chunk_at}
 use Rattle.rv_step.specs.State.{State}
 use Rattle.open_proof.proofs.CodeLemmas.{plain-opening}

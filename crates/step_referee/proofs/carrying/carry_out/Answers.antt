@@ -1,56 +1,62 @@
 use Rattle.std.proofs.Common.{arith, ◌∙◌}
 use Rattle.step_referee.specs.HeldParts.{held_in}
-use Rattle.step_referee.proofs.CarryLemmas.{held-nothing, held-loaded, held-store, held-trap, links-nothing, links-loaded, links-store, digests-store, digests-trap}
+use Rattle.step_referee.proofs.CarryLemmas.{held-nothing, held-loaded, held-store, held-trap, links-nothing, links-loaded, links-store, digests-store, digests-trap, no-input}
 use Rattle.step_referee.proofs.carrying.carry_out.Goals as goal
 
 pub returns-in-Nothing-clause-held : goal.returns-in-Nothing-clause-held
 returns-in-Nothing-clause-held g c =
     c.finish_on.ensures.held
-    ∙ held-nothing c.two_parts_are_the_step.ensures.any_reader c.args.operand.now (held_in c.args.parts) c.args.instr.now g.D.Digester.digest_of c.in-Nothing.ensures.value
+    ∙ held-nothing (c.two_parts_are_the_step.ensures.any_offer 1) c.args.operand.now (held_in c.args.parts) c.args.instr.now g.D.Digester.digest_of c.in-Nothing.ensures.value
 
 pub returns-in-Load-clause-held : goal.returns-in-Load-clause-held
 returns-in-Load-clause-held g c =
     c.finish_on-in-Load.ensures.held
-    ∙ held-loaded c.two_parts_are_the_step.ensures.any_reader c.args.operand.now (held_in c.args.parts) c.args.instr.now g.D.Digester.digest_of
+    ∙ held-loaded (c.two_parts_are_the_step.ensures.any_offer 1) c.args.operand.now (held_in c.args.parts) c.args.instr.now g.D.Digester.digest_of
     c.in-Load.addr c.in-Load.width c.number_shown-loaded.result c.in-Load.ensures.value c.number_shown-loaded.ensures
 
 pub returns-in-Store-clause-held : goal.returns-in-Store-clause-held
 returns-in-Store-clause-held g c =
     c.finish_on-in-Store.ensures.held
-    ∙ held-store c.two_parts_are_the_step.ensures.any_reader c.args.operand.now (held_in c.args.parts) c.args.instr.now g.D.Digester.digest_of
+    ∙ held-store (c.two_parts_are_the_step.ensures.any_offer 1) c.args.operand.now (held_in c.args.parts) c.args.instr.now g.D.Digester.digest_of
     c.stored-mem.result.0 c.in-Store.addr c.in-Store.width c.in-Store.value c.in-Store.ensures.value c.stored-mem.ensures.digest
 
 pub returns-in-Trap-clause-held : goal.returns-in-Trap-clause-held
 returns-in-Trap-clause-held g c =
     c.trapped.ensures g.D.Digester.digest_of c.args.operand.now
-    ∙ held-trap c.two_parts_are_the_step.ensures.any_reader c.args.operand.now (held_in c.args.parts) c.args.instr.now g.D.Digester.digest_of _ c.in-Trap.ensures.value
+    ∙ held-trap (c.two_parts_are_the_step.ensures.any_offer 1) c.args.operand.now (held_in c.args.parts) c.args.instr.now g.D.Digester.digest_of _ c.in-Trap.ensures.value
 
 pub returns-in-Nothing-clause-steps : goal.returns-in-Nothing-clause-steps
 returns-in-Nothing-clause-steps g c =
-    let same = links-nothing c.two_parts_are_the_step.ensures.any_reader c.args.operand.now (held_in c.args.parts) c.args.instr.now c.in-Nothing.ensures.value in
+    let same = links-nothing (c.two_parts_are_the_step.ensures.any_offer 1) c.args.operand.now (held_in c.args.parts) c.args.instr.now c.in-Nothing.ensures.value in
     omega (arith, c.finish_on.ensures.steps, same)
 
 pub returns-in-Load-clause-steps : goal.returns-in-Load-clause-steps
 returns-in-Load-clause-steps g c =
-    let same = links-loaded c.two_parts_are_the_step.ensures.any_reader c.args.operand.now (held_in c.args.parts) c.args.instr.now
+    let same = links-loaded (c.two_parts_are_the_step.ensures.any_offer 1) c.args.operand.now (held_in c.args.parts) c.args.instr.now
     c.in-Load.addr c.in-Load.width c.number_shown-loaded.result c.in-Load.ensures.value c.number_shown-loaded.ensures in
     omega (arith, c.finish_on-in-Load.ensures.steps, same)
 
 pub returns-in-Store-clause-steps : goal.returns-in-Store-clause-steps
 returns-in-Store-clause-steps g c =
-    let none = links-store c.two_parts_are_the_step.ensures.any_reader c.args.operand.now (held_in c.args.parts) c.args.instr.now
+    let none = links-store (c.two_parts_are_the_step.ensures.any_offer 1) c.args.operand.now (held_in c.args.parts) c.args.instr.now
     c.in-Store.addr c.in-Store.width c.in-Store.value c.in-Store.ensures.value in
-    let climbed = digests-store c.two_parts_are_the_step.ensures.any_reader c.args.operand.now (held_in c.args.parts) c.args.instr.now
+    let climbed = digests-store (c.two_parts_are_the_step.ensures.any_offer 1) c.args.operand.now (held_in c.args.parts) c.args.instr.now
     c.in-Store.addr c.in-Store.width c.in-Store.value c.in-Store.ensures.value in
     omega (arith, c.finish_on-in-Store.ensures.steps, none, climbed, c.stored-mem.ensures.steps)
 
 pub returns-in-Store-clause-most : goal.returns-in-Store-clause-most
 returns-in-Store-clause-most g c =
-    let none = links-store c.two_parts_are_the_step.ensures.any_reader c.args.operand.now (held_in c.args.parts) c.args.instr.now
+    let none = links-store (c.two_parts_are_the_step.ensures.any_offer 1) c.args.operand.now (held_in c.args.parts) c.args.instr.now
     c.in-Store.addr c.in-Store.width c.in-Store.value c.in-Store.ensures.value in
     omega (arith, c.finish_on-in-Store.ensures.steps, none, c.stored-mem.ensures.most)
 
 pub returns-in-Trap-clause-steps : goal.returns-in-Trap-clause-steps
 returns-in-Trap-clause-steps g c =
-    let none = digests-trap c.two_parts_are_the_step.ensures.any_reader c.args.operand.now (held_in c.args.parts) c.args.instr.now _ c.in-Trap.ensures.value in
+    let none = digests-trap (c.two_parts_are_the_step.ensures.any_offer 1) c.args.operand.now (held_in c.args.parts) c.args.instr.now _ c.in-Trap.ensures.value in
     omega (arith, none)
+
+pub returns-in-Input-clause-held : goal.returns-in-Input-clause-held
+returns-in-Input-clause-held g c = no-input c.two_parts_are_the_step.ensures.any_reader c.args.parts.regs c.args.instr.now _ c.in-Input.ensures.value
+
+pub returns-in-Input-clause-steps : goal.returns-in-Input-clause-steps
+returns-in-Input-clause-steps g c = no-input c.two_parts_are_the_step.ensures.any_reader c.args.parts.regs c.args.instr.now _ c.in-Input.ensures.value

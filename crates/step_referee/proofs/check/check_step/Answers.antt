@@ -22,7 +22,7 @@ returns-clause-wrong_shape g c =
     subst (λ (r : StepCheck). (r ≡ check.WrongShape) ↔ FailsShape digest c.args.a c.args.proof.now) (sym c.check.ensures.value) (checked-shape digest c.args.a c.args.proof.now)
 
 pub returns-clause-next : goal.returns-clause-next
-returns-clause-next g c = λ s b valid start leads.
+returns-clause-next g c = λ s b valid plain start leads.
     let digest = g.D.Digester.digest_of in
-    c.proofs_lead_to_the_next_state.ensures digest g.met.D.Digester.is_digest c.args.proof.now s c.args.a b c.proofs_are_in_range.ensures valid start
+    c.proofs_lead_to_the_next_state.ensures digest g.met.D.Digester.is_digest c.args.proof.now s c.args.a b c.proofs_are_in_range.ensures valid plain start
     ((checked-leads digest c.args.a c.args.proof.now b).0 (sym c.check.ensures.value ∙ leads))

@@ -1,4 +1,4 @@
-use Rattle.std.proofs.Common.{sym, ◌∙◌}
+use Rattle.std.proofs.Common.{sym}
 use Rattle.step_referee.proofs.judge.lead_in.Goals as goal
 
 pub returns-in-Leads : goal.returns-in-Leads
