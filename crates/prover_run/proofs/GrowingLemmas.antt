@@ -8,9 +8,8 @@ use Rattle.rv_decode.specs.Reading.{reading_of}
 use Rattle.rv_decode.specs.declared.instr.Instr.{Instr}
 use Rattle.mem_plain.specs.Contents.{number_at}
 use Rattle.rv_step.specs.State.{State}
-use Rattle.rv_step.specs.Effect.{effect}
 use Rattle.rv_step.specs.Codes.{misaligned_jump, illegal_instruction}
-use Rattle.rv_step.specs.Step.{step, output_after, after_effect, after_word}
+use Rattle.rv_step.specs.Step.{step, effect_at, output_after, after_effect, after_word}
 use Rattle.rv_step.specs.declared.effect.Effect.{Effect}
 use Rattle.rv_step.specs.declared.effect.Effect.TheVariants.{Write, Jump, Branch, Store, Put, Exit, Trap, Next}
 use Rattle.checkpoint_run.specs.TamperedRun.{tampered, followed, flipped, with_value, run_from}
@@ -27,7 +26,7 @@ effect_grows output (Trap code) = omega arith
 effect_grows output Next = omega arith
 
 word_grows : (s : State) (o : Option Instr) → length (after_word s o).output ≤ length s.output + 1
-word_grows s (Some i) = effect_grows s.output (effect s.regs s.pc (λ addr width. number_at s.memory addr width) i)
+word_grows s (Some i) = effect_grows s.output (effect_at s i)
 word_grows s None = effect_grows s.output (Trap illegal_instruction)
 
 tests_grow : (s : State) (running aligned : Bool) (o : Option Instr)

@@ -1,5 +1,5 @@
 -- A recorded run is a prover's, by its states and its bound.
-use Rattle.std.proofs.Common.{◌≡◌, ◌^◌, ◌≤◌, ◌<◌, ℕ, zero, suc, List, [], ◌∷◌, length, map, min, slice_index, slice_index_or, refl, sym, ap, ◌∙◌, arith, Result, Ok, Err, IfOk}
+use Rattle.std.proofs.Common.{◌≡◌, ◌^◌, ◌≤◌, ◌<◌, ℕ, zero, suc, List, [], ◌∷◌, length, map, min, slice_index, slice_index_or, refl, sym, ap, ap₂, ◌∙◌, arith, Result, Ok, Err, IfOk}
 use Rattle.rd_base.specs.declared.digest.Digest32.{Digest32}
 use Rattle.rd_base.specs.declared.answer.Answer.TheVariants as answer
 use Rattle.rv_step.specs.State.{State}
@@ -10,7 +10,8 @@ use Rattle.bisect_game.specs.declared.question.Kind.{Kind}
 use Rattle.bisect_game.specs.declared.question.Kind.TheVariants as kind
 use Rattle.segment_replay.specs.Roots.{root_at, digests}
 use Rattle.prover_run.specs.Growing.{OutputGrowsSlowly}
-use Rattle.prover_run.specs.Plain.{plain}
+use Rattle.bisect_game.specs.Bisection.{steps_asked}
+use Rattle.prover_run.specs.Plain.{plain, plain_root}
 use Rattle.prover_run.specs.Prover.{Prover, IsRunOf, run_of, root_of}
 
 -- as many roots as steps
@@ -55,6 +56,24 @@ pub root_answers : (digest : List ℕ → List ℕ) (p : Prover) (k : Kind) (ste
 unfolding root_of
 root_answers digest p k step r asked is =
     ap (λ (bytes : List ℕ). answer.Root (record { 0 = bytes })) is ∙ ap (plain digest (run_of p) p.bound) (sym asked)
+
+-- and several roots are the answer to the question for them
+
+roots_of_digests : (digest : List ℕ → List ℕ) (p : Prover) (steps : List ℕ) (roots : List Digest32) → digests roots ≡ map (root_of digest p) steps
+    → roots ≡ map (plain_root digest (run_of p) p.bound) steps
+unfolding root_of
+roots_of_digests digest p [] [] same = refl
+roots_of_digests digest p [] (r ∷ rs) same = absurd (cc)
+roots_of_digests digest p (i ∷ steps) [] same = absurd (cc)
+roots_of_digests digest p (i ∷ steps) (r ∷ rs) same =
+    let first : r.0 ≡ state_root digest (run_of p (min i p.bound)) = cc in
+    ap₂ (λ (x : Digest32) (xs : List Digest32). x ∷ xs) (λ j. record { 0 = first j }) (roots_of_digests digest p steps rs (cc))
+
+pub roots_answer : (digest : List ℕ → List ℕ) (p : Prover) (r : Recorded) (k : Kind) (lo hi parts : ℕ) (roots : List Digest32) → IsRunOf digest p r → k ≡ kind.Roots lo hi parts
+    → digests roots ≡ map (root_at digest r) (steps_asked lo hi parts) → answer.Roots roots ≡ plain digest (run_of p) p.bound k
+roots_answer digest p r k lo hi parts roots is asked same =
+    ap answer.Roots (roots_of_digests digest p (steps_asked lo hi parts) roots (same ∙ ap (λ (root : ℕ → List ℕ). map root (steps_asked lo hi parts)) (sym (roots_of_run digest p r is))))
+    ∙ ap (plain digest (run_of p) p.bound) (sym asked)
 
 -- the last output of a run that began without one can be claimed
 pub last_output : OutputGrowsSlowly → (digest : List ℕ → List ℕ) (p : Prover) (r : Recorded) → IsRunOf digest p r → p.start.output ≡ [] → p.bound < 2 ^ 32

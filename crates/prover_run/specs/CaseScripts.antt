@@ -35,7 +35,7 @@ pub record CaseScripts : Type 0 where
 
 -- a case of nobody, from nothing
 abbrev pub no_case : CaseScripts
-no_case = record { start = record { regs = []; pc = 0; memory = no_bytes; status = Running; output = [] }; bound = 0; scripts = [] }
+no_case = record { start = record { regs = []; pc = 0; memory = no_bytes; status = Running; output = []; version = 1; input = [] }; bound = 0; scripts = [] }
 
 -- it is data, as the tuple of its parts
 abbrev pub case_scripts_code : Coded CaseScripts

@@ -3,3 +3,4 @@ pub mod CaseScripts
 pub mod Prover
 pub mod Middles
 pub mod Growing
+pub mod OneAnswer

@@ -1,7 +1,9 @@
 -- To believe: the plain answers of a run, which are the answers of a prover that answers what its run gives.
-use Rattle.std.specs.Prelude.{ℕ, List, min, Option, Some}
+use Rattle.std.specs.Prelude.{ℕ, List, map, min, Option, Some}
+use Rattle.rd_base.specs.declared.digest.Digest32.{Digest32}
 use Rattle.rd_base.specs.declared.answer.Answer.{Answer}
 use Rattle.rd_base.specs.declared.answer.Answer.TheVariants as answer
+use Rattle.rd_base.specs.declared.proof.Proof.TheVariants.{V1}
 use Rattle.rv_step.specs.State.{State}
 use Rattle.state_commit.specs.StateRoot.{state_root}
 use Rattle.open_proof.specs.PlainProof.{plain_proof}
@@ -9,13 +11,19 @@ use Rattle.step_referee.specs.MachineTruth.{plain_claim}
 use Rattle.bisect_game.specs.declared.question.Kind.{Kind}
 use Rattle.bisect_game.specs.declared.question.Kind.TheVariants as kind
 use Rattle.bisect_game.specs.declared.question.Question.{Question}
+use Rattle.bisect_game.specs.Bisection.{steps_asked}
 
--- the plain answer to what is asked, of a run up to a bound: the claim of the last state, or the root or the proof of the
--- state of a step; the last state stands for a step above the bound
+-- the root of the state of a step; the last state stands for a step above the bound
+abbrev pub plain_root : (List ℕ → List ℕ) → (ℕ → State) → ℕ → ℕ → Digest32
+plain_root digest run bound i = record { 0 = state_root digest (run (min i bound)) }
+
+-- the plain answer to what is asked, of a run up to a bound: the claim of the last state, the root of the state of a step, those of
+-- the states at the cuts of an interval, or the proof of the state of a step
 abbrev pub plain : (List ℕ → List ℕ) → (ℕ → State) → ℕ → Kind → Answer
 plain digest run bound kind.Claim = answer.Claim (plain_claim digest (run bound))
-plain digest run bound (kind.Root i) = answer.Root (record { 0 = state_root digest (run (min i bound)) })
-plain digest run bound (kind.Proof i) = answer.Step (plain_proof digest (run (min i bound)))
+plain digest run bound (kind.Root i) = answer.Root (plain_root digest run bound i)
+plain digest run bound (kind.Roots lo hi parts) = answer.Roots (map (plain_root digest run bound) (steps_asked lo hi parts))
+plain digest run bound (kind.Proof i) = answer.Step (V1 (plain_proof digest (run (min i bound))))
 
 -- one that answers so says it to each question, and never passes
 abbrev pub plain_says : (List ℕ → List ℕ) → (ℕ → State) → ℕ → Question → ℕ → Option Answer

@@ -3,16 +3,17 @@ ghost use denote.Param.Send.{IsSync};
 ghost use Rattle.std.specs.Prelude.{◌≡◌, ◌<◌, ◌≤◌, ℕ, IfOk, List, length, map, slice_index};
 ghost use Rattle.checkpoint_run.specs.Recorded.{AreChained, state_of_step};
 ghost use Rattle.segment_replay.specs.Roots.{root_at, digests};
+ghost use Rattle.bisect_game.specs.Bisection.{steps_asked};
 ghost use Rattle.prover_run.specs.Plain as plain;
 ghost use Rattle.step_referee.specs.MachineTruth.{plain_claim};
 ghost use Rattle.prover_run.specs.Prover.{Prover, IsRunOf, AreKept, run_of, root_of};
 
 use crate::middles::{Asked, asked_with};
-use bisect_game::Kind;
+use bisect_game::{Kind, steps_asked};
 use checkpoint_run::Run;
 use digest_core::{Digester, registers_text};
 use open_proof::make_proof;
-use rd_base::{Answer, Boxed, Claim, ClaimOutput, Digest32, Memory};
+use rd_base::{Answer, Boxed, Claim, ClaimOutput, Digest32, Memory, Proof, RootList};
 use segment_replay::Replays;
 use state_commit::Committed;
 use std::alloc::Global;
@@ -85,6 +86,27 @@ fn root<D: Replays, R: Threads + Sync>(
     computed(rt, reader, kept, &steps, place)
 }
 
+/// The roots at the cuts of an interval, computed in one go. An `Err` is out of memory.
+#[tactic(auto, using(crate::proofs::RunLemmas::same_length))]
+fn roots_at_cuts<D: Replays, R: Threads + Sync>(
+    rt: &R,
+    reader: &RunReader<'_, D>,
+    lo: u64,
+    hi: u64,
+    parts: u32,
+) -> Result<RootList, Memory>
+    requires sync { IsSync R.row }
+    requires workers { 0 < reader.now.workers }
+    requires chained { AreChained D.digest_of reader.now.run.now }
+    ensures { IfOk result (λ l. digests l ≡ map (root_at D.digest_of reader.now.run.now) (steps_asked lo hi parts)) }
+{
+    let steps = steps_asked(reader.alloc, lo, hi, parts)?;
+    let roots = reader
+        .d
+        .roots_of(rt, reader.alloc, reader.run, &steps, reader.workers)?;
+    Ok(RootList::new(roots).unwrap())
+}
+
 /// The claim of a machine's state, whose output is at most 4,294,967,295 bytes long. An `Err` is out of memory.
 fn plain_claim<D: Digester>(alloc: Global, d: D, committed: &Committed<D>) -> Result<Claim, Memory>
     requires { length committed.now.output ≤ 4294967295 }
@@ -126,6 +148,10 @@ pub fn plain_answer<D: Replays, R: Threads + Sync>(
             let root = root(rt, reader, kept, step)?;
             Ok(Answer::Root(root))
         }
+        Kind::Roots { lo, hi, parts } => {
+            let roots = roots_at_cuts(rt, reader, lo, hi, parts)?;
+            Ok(Answer::Roots(roots))
+        }
         Kind::Claim => {
             let last = d.committed_of(rt, alloc, run, run.bound())?;
             let claim = plain_claim(alloc, d, &last)?;
@@ -134,7 +160,7 @@ pub fn plain_answer<D: Replays, R: Threads + Sync>(
         Kind::Proof(step) => {
             let committed = d.committed_of(rt, alloc, run, step)?;
             let proof = make_proof(&committed);
-            Ok(Answer::Step(Boxed::new(Box::new(alloc, proof)?)))
+            Ok(Answer::Step(Boxed::new(Box::new(alloc, Proof::V1(proof))?)))
         }
     }
 }

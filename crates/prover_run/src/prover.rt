@@ -66,12 +66,7 @@ impl<D: Replays> RunAnswerer<D> {
         requires workers { 0 < workers }
         ensures { IfOk result (λ p. p ≡ record { start = state_of machine.now; tamper = tamper; bound = bound }) }
     {
-        let start = Machine {
-            regs: machine.regs,
-            ctl: machine.ctl,
-            mem: machine.mem.copy()?,
-            output: machine.output.clone()?,
-        };
+        let start = machine.copy()?;
         Ok(RunAnswerer {
             alloc,
             d,

@@ -80,12 +80,7 @@ impl<D: Digester> CaseProvers<D> {
         requires { length scripts.now < 2 ^ 32 }
         ensures { IfOk result (λ c. c ≡ record { start = state_of machine.now; bound = bound; scripts = scripts.now }) }
     {
-        let start = Machine {
-            regs: machine.regs,
-            ctl: machine.ctl,
-            mem: machine.mem.copy()?,
-            output: machine.output.clone()?,
-        };
+        let start = machine.copy()?;
         Ok(CaseProvers {
             d,
             start,
@@ -98,6 +93,7 @@ impl<D: Digester> CaseProvers<D> {
 impl<D: Digester> Provers for CaseProvers<D> {
     ghost use Rattle.std.specs.Prelude.{length};
     ghost use Rattle.prover_run.specs.CaseScripts.{case_says};
+    ghost use Rattle.prover_run.specs.OneAnswer.{case_provers_give_one_answer};
 
     type Names = CaseNames;
 
@@ -114,4 +110,6 @@ impl<D: Digester> Provers for CaseProvers<D> {
     fn waits(&self, p: u32, question: &Question, passes: u32) -> bool {
         waits(&self.scripts[p as usize - 1].manner, question, passes)
     }
+
+    ghost give_one_answer = { λ n. case_provers_give_one_answer D.digest_of n.start n.bound n.scripts };
 }

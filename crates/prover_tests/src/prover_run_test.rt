@@ -10,8 +10,8 @@ use out_chain::{ClaimCheck, check_claim, parts_root, root_of_claim};
 use prover_run::{Asked, CaseProvers, RunAnswerer, answerers_of, asked_with};
 use prover_script::Scripted;
 use rd_base::{
-    Answer, ClaimOutput, Digest32, FirstSilentRound, Manner, Memory, PassCount, Qid, Script,
-    StepProof, Tamper,
+    Answer, ClaimOutput, Digest32, FirstSilentRound, Manner, Memory, PassCount, Proof, Qid, Script,
+    Tamper,
 };
 use rv_step::Machine;
 use std::alloc::Global;
@@ -70,7 +70,7 @@ fn eight_steps(alloc: Global) -> Result<Machine, Memory>
     ensures silent { IfOk result (λ m. m.output.items ≡ []) }
 {
     let mem = PlainMem::new(alloc).lay(0x1_0000, &EIGHT_STEPS)?;
-    Machine::new(alloc, mem, 0x1_0000, &[])
+    Machine::new(alloc, 1, mem, 0x1_0000, &[])
 }
 
 /// The question of this kind in a round.
@@ -82,7 +82,7 @@ fn asked(round: u32, kind: Kind) -> Question {
 }
 
 /// How the root begins that an answer stands for: that of the claimed state, the root itself, or that of the state whose
-/// parts a proof has. 0 where a claim doesn't agree with itself.
+/// parts a proof of version 1 has. 0 where a claim doesn't agree with itself, and of any other answer.
 fn root_in(answer: &Answer) -> u64 {
     match answer {
         Answer::Root(root) => first_eight(*root),
@@ -90,11 +90,14 @@ fn root_in(answer: &Answer) -> u64 {
             ClaimCheck::Sound => first_eight(root_of_claim(Sha256, claim)),
             _ => 0,
         },
-        Answer::Step(proof) => {
-            let proof = proof.get();
-            let regs = Sha256.digest(registers_text(&proof.regs).as_slice());
-            first_eight(parts_root(Sha256, proof.mem, regs, &proof.ctl))
-        }
+        Answer::Step(proof) => match proof.get() {
+            Proof::V1(parts) => {
+                let regs = Sha256.digest(registers_text(&parts.regs).as_slice());
+                first_eight(parts_root(Sha256, parts.mem, regs, &parts.ctl))
+            }
+            Proof::V2(_) | Proof::V3(_) => 0,
+        },
+        Answer::Roots(_) => 0,
     }
 }
 
@@ -144,7 +147,10 @@ const ROWS: [Row; 3] = [
 ];
 
 /// Whether a proof of step 3 opens the chunk of its word and the chunk that it loads from, whose fourth byte is this one.
-fn opens_both(proof: &StepProof, byte: u8) -> bool {
+fn opens_both(proof: &Proof, byte: u8) -> bool {
+    let Proof::V1(proof) = proof else {
+        return false;
+    };
     match (&proof.fetch, &proof.operand) {
         (Some(fetch), Some(operand)) => climb(Sha256, 0x800, fetch.chunk, &fetch.path) == proof.mem
             && climb(Sha256, 0x1000, operand.chunk, &operand.path) == proof.mem

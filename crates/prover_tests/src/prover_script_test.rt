@@ -91,6 +91,7 @@ fn claim_of(output: ClaimOutput) -> Answer {
 enum Heard {
     Pass,
     Root,
+    Roots,
     Step,
     Claim(Option<u8>),
 }
@@ -99,6 +100,7 @@ fn what_was_heard(answer: &Option<Answer>) -> Heard {
     match answer {
         None => Heard::Pass,
         Some(Answer::Root(_)) => Heard::Root,
+        Some(Answer::Roots(_)) => Heard::Roots,
         Some(Answer::Step(_)) => Heard::Step,
         Some(Answer::Claim(claim)) => Heard::Claim(claim.output.as_slice().first().copied()),
     }
