@@ -174,7 +174,7 @@ fn a_case_is_read_whole(rt: HostRuntime) -> Result<(), Fail> {
     for (text, want) in [
         (
             BASE,
-            "Case { image: Listed { items: [19, 5, 160, 2] }, flat: true, input: Listed { items: [] }, \
+            "Case { image: Listed { items: [19, 5, 160, 2] }, format: Flat, input: Listed { items: [] }, \
              bound: 8, patience: 0, version: 1, fan: 2, provers: Listed { items: [Script { tamper: Untouched, manner: Plain }] } }",
         ),
         // Keys come in any order, the last of two counts, digits are of either case, and other keys are ignored.
@@ -182,7 +182,7 @@ fn a_case_is_read_whole(rt: HostRuntime) -> Result<(), Fail> {
             "{\"provers\":[{\"name\":1},{\"manner\":{\"bytes\":\"aB\",\"kind\":\"output\",\"x\":[]}}],\
              \"patience\":100,\"bound\":0,\"bound\":16777216,\"input\":\"00Ff\",\"image\":\"\",\
              \"note\":{\"bound\":0},\"format\":\"elf\"}",
-            "Case { image: Listed { items: [] }, flat: false, input: Listed { items: [0, 255] }, \
+            "Case { image: Listed { items: [] }, format: Elf, input: Listed { items: [0, 255] }, \
              bound: 16777216, patience: 100, version: 1, fan: 2, provers: Listed { items: [\
              Script { tamper: Untouched, manner: Plain }, \
              Script { tamper: Untouched, manner: Output(ClaimOutput { bytes: Listed { items: [171] } }) }] } }",
@@ -193,7 +193,7 @@ fn a_case_is_read_whole(rt: HostRuntime) -> Result<(), Fail> {
              {\"tamper\":{\"kind\":\"flip\",\"step\":1,\"addr\":2,\"mask\":3},\"manner\":{\"kind\":\"late\",\"passes\":4}},\
              {\"tamper\":{\"kind\":\"reg\",\"step\":5,\"reg\":6,\"value\":7},\"manner\":{\"kind\":\"silent\",\"from\":8}},\
              {\"tamper\":{\"kind\":\"early\",\"steps\":9}}]}",
-            "Case { image: Listed { items: [] }, flat: true, input: Listed { items: [] }, \
+            "Case { image: Listed { items: [] }, format: Flat, input: Listed { items: [] }, \
              bound: 1, patience: 0, version: 1, fan: 2, provers: Listed { items: [\
              Script { tamper: Flip { step: 1, addr: 2, mask: 3 }, manner: Late(PassCount { count: 4 }) }, \
              Script { tamper: Register { step: 5, reg: RegisterNumber { number: 6 }, value: 7 }, manner: Silent(FirstSilentRound { round: 8 }) }, \

@@ -3,7 +3,7 @@ use rd_base::{Answer, Claim, ClaimOutput, Ctl, Digest32, OpenText, Status};
 use std::alloc::{AllocError, Global};
 use std::test::Fail;
 use tournament::Verdict;
-use transcript_text::{DigestName, Head, add_claims, add_head, add_verdict, answer_line};
+use transcript_text::{DigestName, Head, answer_line, claim_lines, head_line, verdict_line};
 
 /// The claim of a status and an output.
 fn claim_of(alloc: Global, status: Status, output: &[u8]) -> Result<Option<Settled>, AllocError> {
@@ -35,11 +35,12 @@ fn a_claim_has_its_status_and_its_output_where_there_is_one(rt: HostRuntime) -> 
         (Status::Trapped(8), b"\x00\xff", "trapped 8 output 00ff"),
     ] {
         let claims = vec![in alloc; claim_of(alloc, status, output)?]?;
-        let mut text = String::new(alloc);
-        add_claims(&mut text, alloc, claims.as_slice())?;
-        add_verdict(&mut text, alloc, claims.as_slice(), &Verdict::Accept(1))?;
-        let want = format!(in alloc; "p1 claims {answer}\naccept {answer}\n")?;
-        assert_eq!(rt; text.as_str(), want.as_str());
+        let lines = claim_lines(alloc, claims.as_slice())?;
+        let want = format!(in alloc; "p1 claims {answer}\n")?;
+        assert_eq!(rt; lines.as_str(), want.as_str());
+        let line = verdict_line(alloc, claims.as_slice(), &Verdict::Accept(1))?;
+        let want = format!(in alloc; "accept {answer}\n")?;
+        assert_eq!(rt; line.as_str(), want.as_str());
         let line = answer_line(alloc, status, output)?;
         let want = format!(in alloc; "answer {answer}\n")?;
         assert_eq!(rt; line.as_slice(), want.as_bytes());
@@ -67,8 +68,7 @@ fn a_prover_that_is_out_is_called_faulty_or_spent_and_is_not_accepted(
         Some(Settled::Given(Answer::Root(Digest32([7; 32])))),
         None,
     ]?;
-    let mut text = String::new(alloc);
-    add_claims(&mut text, alloc, claims.as_slice())?;
+    let text = claim_lines(alloc, claims.as_slice())?;
     assert_eq!(rt;
         text.as_str(),
         "out p1 faulty\np2 claims exited 7 output ab\nout p3 spent\n"
@@ -88,8 +88,7 @@ fn a_prover_that_is_out_is_called_faulty_or_spent_and_is_not_accepted(
         (Verdict::Accept(0), ""),
         (Verdict::Accept(4294967295), ""),
     ] {
-        let mut text = String::new(alloc);
-        add_verdict(&mut text, alloc, claims.as_slice(), &verdict)?;
+        let text = verdict_line(alloc, claims.as_slice(), &verdict)?;
         assert_eq!(rt; text.as_str(), want);
     }
     Ok(())
@@ -105,9 +104,9 @@ fn the_numbers_of_a_head_are_decimal(rt: HostRuntime) -> Result<(), Fail> {
         version: 10,
         fan: 65536,
         digest: DigestName::Sha256,
+        start: Digest32([0; 32]),
     };
-    let mut text = String::new(alloc);
-    add_head(&mut text, &head)?;
+    let text = head_line(alloc, &head)?;
     assert_eq!(rt;
         text.as_str(),
         "match provers 0 bound 18446744073709551615 patience 4294967295 version 10 fan 65536 digest sha256\n"

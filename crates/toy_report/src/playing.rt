@@ -85,7 +85,7 @@ fn played<R: Threads + Sync>(
     requires few { length players.now ≤ 16 }
 {
     let judge = ToyJudge { name: 0 };
-    let mut game = Match::new(alloc, judge, players.len() as u32, 8, patience, root(0))?;
+    let mut game = Match::new(alloc, judge, players.len() as u32, 8, 2, patience, root(0))?;
     for _ in 0..64 {
         for place in order {
             if let Some(player) = players.get(*place) {
@@ -131,6 +131,7 @@ pub(crate) fn report_of<R: Threads + Sync>(
         version: 1,
         fan: 2,
         digest: DigestName::Sha256,
+        start: root(0),
     };
     match game.verdict() {
         Some(verdict) => {

@@ -73,7 +73,7 @@ fn answer_of<R: Threads + Sync>(
 
 /// A match of two provers over 8 steps, with a patience of 1.
 fn begun(alloc: Global) -> Result<Match<ToyJudge>, Memory> {
-    Match::new(alloc, ToyJudge { name: 0 }, 2, 8, 1, root(0))
+    Match::new(alloc, ToyJudge { name: 0 }, 2, 8, 2, 1, root(0))
 }
 
 /// What posts of two provers are answered, and whether nobody is left then. The first one claims truly and then gives a proof for a

@@ -64,10 +64,12 @@ quiet-round : (p : ℕ) (d : Bisection) (n m : ℕ) (a b : Settled) → (d.first
     → is_against p (line_of_round d n m a b) ≡ false
 quiet-round p d n m (Given (answer.Root x)) (Given (answer.Root y)) f g = refl
 quiet-round p d n m (Given (answer.Root x)) (Given (answer.Claim y)) f g = quiet-said p d word.Given word.Given f g
+quiet-round p d n m (Given (answer.Root x)) (Given (answer.Roots ys)) f g = quiet-said p d word.Given word.Given f g
 quiet-round p d n m (Given (answer.Root x)) (Given (answer.Step y)) f g = quiet-said p d word.Given word.Given f g
 quiet-round p d n m (Given (answer.Root x)) (Faulty y) f g = quiet-said p d word.Given word.Faulty f g
 quiet-round p d n m (Given (answer.Root x)) Spent f g = quiet-said p d word.Given word.Spent f g
 quiet-round p d n m (Given (answer.Claim x)) b f g = quiet-said p d word.Given (said_word b) f g
+quiet-round p d n m (Given (answer.Roots xs)) b f g = quiet-said p d word.Given (said_word b) f g
 quiet-round p d n m (Given (answer.Step x)) b f g = quiet-said p d word.Given (said_word b) f g
 quiet-round p d n m (Faulty x) b f g = quiet-said p d word.Faulty (said_word b) f g
 quiet-round p d n m Spent b f g = quiet-said p d word.Spent (said_word b) f g
@@ -107,7 +109,7 @@ quiet-dispute : (rules : Rules) (t : Truth) (p before : ℕ) (d : Bisection) →
 quiet-dispute rules t p before d is right =
     neither _ _ (quiet-choice p (d.stage == before) None (Some (stage_line d.stage)) refl refl)
     (are_against-append p (lines_of_rounds d 1 d.past) _
-    (quiet-rounds t rules.play.fan p d 1 d.past (λ mine. (is.first mine).past) (λ mine. (is.second mine).past))
+    (quiet-rounds t d.fan p d 1 d.past (λ mine. (is.first mine).past) (λ mine. (is.second mine).past))
     (neither _ _
     (quiet-last t _ p d d.by_first d.by_second (λ mine. ((right.first mine).stays, (is.first mine).open_)) (λ mine. ((right.second mine).stays, (is.second mine).open_)))
     refl))
@@ -134,6 +136,7 @@ quiet-claim : (p q : ℕ) (s : Option Settled) → (q ≡ p → IsQuietClaim s) 
 quiet-claim p q None f = refl
 quiet-claim p q (Some (Given (answer.Claim c))) f = refl
 quiet-claim p q (Some (Given (answer.Root x))) f = refl
+quiet-claim p q (Some (Given (answer.Roots xs))) f = refl
 quiet-claim p q (Some (Given (answer.Step x))) f = refl
 quiet-claim p q (Some (Faulty a)) f = quiet-side q p word.Faulty (λ mine. absurd (f mine))
 quiet-claim p q (Some Spent) f = quiet-side q p word.Spent (λ mine. absurd (f mine))

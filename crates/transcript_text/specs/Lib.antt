@@ -1,9 +1,10 @@
 pub use Rattle.rd_base.specs.Status
 pub use Rattle.hex.specs.Hex
-pub mod Digest
+pub use Rattle.proof_wire.specs.Wire
 pub mod Words
 pub mod Lines
 pub mod Laws
 pub mod Report
+pub mod FullLines
 pub mod Summary
 pub mod Roots

@@ -1,6 +1,6 @@
 -- To believe. The lines of a report: which ones a record and a verdict have, and which speak against a prover. A line that a
 -- report leaves out, as of an answer that isn't settled, is None.
-use Rattle.std.specs.Prelude.{ℕ, zero, suc, ◌+◌, Bool, false, ◌&&◌, ◌||◌, ◌==◌, List, [], ◌∷◌, ◌++◌, length, slice_get, Option, Some, None, if◌then◌else◌}
+use Rattle.std.specs.Prelude.{ℕ, ◌+◌, Bool, false, ◌&&◌, ◌||◌, ◌==◌, List, [], ◌∷◌, ◌++◌, length, Option, Some, None, if◌then◌else◌}
 use Rattle.rd_base.specs.declared.status.Status.{Status}
 use Rattle.rd_base.specs.declared.answer.Answer.TheVariants as answer
 use Rattle.bisect_game.specs.declared.interval.Round.{Round}
@@ -13,8 +13,10 @@ use Rattle.bisect_game.specs.Closing.{is_step}
 use Rattle.bisect_game.specs.Bisection.{Bisection, middle}
 use Rattle.bisect_game.specs.Truth.{is_put_out}
 use Rattle.tournament.specs.declared.verdict.Verdict.{Verdict}
-use Rattle.tournament.specs.declared.verdict.Verdict.TheVariants.{Accept, NoneLeft, Collision}
 use Rattle.tournament.specs.Bracket.{Record}
+use Rattle.text_types.specs.declared.text.Stated.{Stated}
+use Rattle.text_types.specs.declared.text.Stated.TheVariants.{Accept, NoneLeft, Collision}
+use Rattle.text_types.specs.StatedVerdict.{given_claim, stated_claim, stated_of}
 use Rattle.transcript_text.specs.declared.word.Word.{Word}
 use Rattle.transcript_text.specs.declared.word.Word.TheVariants as word
 use Rattle.transcript_text.specs.Words.{said_word, said_word_of_proof, speaks_against}
@@ -109,20 +111,21 @@ lines_of_record t = lines_of_claims 1 t.claims ++ lines_of_disputes 0 t.disputes
 
 -- THE VERDICT
 
--- what is settled of a prover's claim, by its number from 1
-abbrev pub settled_at : List (Option Settled) → ℕ → Option (Option Settled)
-settled_at claims zero = None
-settled_at claims (suc before) = slice_get claims before
+abbrev pub line_of_stated : Stated → Line
+line_of_stated (Accept status output) = accept_line status output
+line_of_stated NoneLeft = none_left_line
+line_of_stated (Collision x y) = collision_line x y
+
+abbrev pub line_if_stated : Option Stated → Option Line
+line_if_stated (Some s) = Some (line_of_stated s)
+line_if_stated None = None
 
 -- the line of a claim that is accepted
 abbrev pub line_of_accepted : Option (Option Settled) → Option Line
-line_of_accepted (Some (Some (settled.Given (answer.Claim claim)))) = Some (accept_line claim.ctl.status claim.output)
-line_of_accepted _ = None
+line_of_accepted s = line_if_stated (stated_claim (given_claim s))
 
 abbrev pub line_of_verdict : List (Option Settled) → Verdict → Option Line
-line_of_verdict claims (Accept p) = line_of_accepted (settled_at claims p)
-line_of_verdict claims NoneLeft = Some none_left_line
-line_of_verdict claims (Collision x y) = Some (collision_line x y)
+line_of_verdict claims v = line_if_stated (stated_of claims v)
 
 -- WHAT SPEAKS AGAINST A PROVER: a line that calls it faulty, spent or refuted
 
@@ -133,7 +136,13 @@ abbrev pub is_against : ℕ → Line → Bool
 is_against p (out_line q w) = (q == p) && speaks_against w
 is_against p (round_line number mid said) = is_said_against p said
 is_against p (step_line lo said) = is_said_against p said
-is_against p _ = false
+is_against p (claim_line q status output) = false
+is_against p (stage_line stage) = false
+is_against p (dispute_line number first second) = false
+is_against p (compared_line number mid same) = false
+is_against p (accept_line status output) = false
+is_against p none_left_line = false
+is_against p (collision_line x y) = false
 
 abbrev pub is_against_if_there : ℕ → Option Line → Bool
 is_against_if_there p (Some line) = is_against p line

@@ -5,10 +5,10 @@ use Rattle.rd_base.specs.Status.{status_text}
 use Rattle.rd_base.specs.declared.status.Status.{Status}
 use Rattle.tournament.specs.declared.verdict.Verdict.{Verdict}
 use Rattle.tournament.specs.Bracket.{Record}
-use Rattle.transcript_text.specs.Digest.{digest_text}
 use Rattle.transcript_text.specs.Words.{word_text}
 use Rattle.transcript_text.specs.Lines.{Said, Line, claim_line, out_line, stage_line, dispute_line, compared_line, round_line, step_line, accept_line, none_left_line, collision_line, lines_of_record, line_of_verdict}
-use Rattle.transcript_text.specs.declared.head.Head.{Head}
+use Rattle.text_types.specs.Digest.{digest_text}
+use Rattle.text_types.specs.declared.text.Head.{Head}
 
 -- a space and the bytes, where there are any
 abbrev pub output_text : List ℕ → List ℕ
@@ -19,19 +19,23 @@ output_text (byte ∷ bytes) = codes " " ++ encode_lower (byte ∷ bytes)
 abbrev pub answer_text : Status → List ℕ → List ℕ
 answer_text status output = status_text status ++ codes " output" ++ output_text output
 
--- how many play, and over how many steps
-unfoldable pub played_text : Head → List ℕ
-played_text head = codes "match provers " ++ (decimal head.provers ++ (codes " bound " ++ decimal head.bound))
+-- behind the first word of a text: how many play, and over how many steps
+unfoldable pub played_text : List ℕ → Head → List ℕ
+played_text word head = word ++ (codes " provers " ++ (decimal head.provers ++ (codes " bound " ++ decimal head.bound)))
 
 unfoldable pub patience_text : Head → List ℕ
 patience_text head = codes " patience " ++ decimal head.patience
 
 -- how states are committed and intervals cut
 unfoldable pub committed_text : Head → List ℕ
-committed_text head = codes " version " ++ decimal head.version ++ codes " fan " ++ decimal head.fan ++ codes " digest " ++ digest_text head.digest
+committed_text head = codes " version " ++ (decimal head.version ++ (codes " fan " ++ (decimal head.fan ++ (codes " digest " ++ digest_text head.digest))))
+
+-- the first word of a text, and the numbers of its head
+abbrev pub numbers_text : List ℕ → Head → List ℕ
+numbers_text word head = played_text word head ++ (patience_text head ++ committed_text head)
 
 abbrev pub head_line : Head → List ℕ
-head_line head = played_text head ++ patience_text head ++ committed_text head ++ codes "\n"
+head_line head = numbers_text (codes "match") head ++ codes "\n"
 
 -- the rest of a line that says something of both sides
 abbrev pub said_text : Said → List ℕ

@@ -1,4 +1,4 @@
-ghost use Rattle.std.specs.Prelude.{◌≡◌, ◌++◌, string_bytes, OnOk};
+ghost use Rattle.std.specs.Prelude.{◌≡◌, ◌++◌, string_bytes, IfOk, OnOk};
 ghost use Rattle.transcript_text.specs.Lines.{out_line, line_of_claim, lines_of_claims};
 ghost use Rattle.transcript_text.specs.Report.{line_text, text_if_there, lines_text};
 
@@ -37,9 +37,8 @@ fn add_claim(
     }
 }
 
-/// Adds the line of each prover whose claim is settled, of whom the first has the number 1. An `Err` is out of memory, and may
-/// leave a part of the lines.
-pub fn add_claims(
+/// Adds the line of each prover whose claim is settled, of whom the first has the number 1.
+pub(crate) fn add_claims(
     text: &mut String,
     alloc: Global,
     claims: &[Option<Settled>],
@@ -50,4 +49,13 @@ pub fn add_claims(
         add_claim(text, alloc, i + 1, settled)?;
     }
     Ok(())
+}
+
+/// The line of each prover whose claim is settled, of whom the first has the number 1. An `Err` is out of memory.
+pub fn claim_lines(alloc: Global, claims: &[Option<Settled>]) -> Result<String, AllocError>
+    ensures { IfOk result (λ text. string_bytes text ≡ lines_text (lines_of_claims 1 claims.now)) }
+{
+    let mut text = String::new(alloc);
+    add_claims(&mut text, alloc, claims)?;
+    Ok(text)
 }

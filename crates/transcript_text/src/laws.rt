@@ -1,7 +1,13 @@
-ghost use Rattle.transcript_text.specs.Laws.{NothingIsSaidAgainstTheTruthful};
+//! Laws of the texts, each the contract of a function that does nothing.
+ghost use Rattle.transcript_text.specs.Laws.{NothingIsSaidAgainstTheTruthful, FullTextIsThatOfItsParts};
 
 /// Of a prover whose settled answers are given and true and that isn't put out, as the dispute theorem says of each
 /// truthful prover, no line of a report says that it is faulty, spent or refuted.
 pub fn nothing_is_said_against_the_truthful()
     ensures { NothingIsSaidAgainstTheTruthful }
+{}
+
+/// The full text of a record is that of its head, its moves and what is stated of the verdict.
+pub fn a_full_text_is_that_of_its_parts()
+    ensures { FullTextIsThatOfItsParts }
 {}

@@ -1,25 +1,26 @@
 ghost use Rattle.std.specs.Prelude.{◌≡◌, ◌++◌, string_bytes, IfOk, OnOk};
 ghost use Rattle.std.specs.Option.{option_copied};
-ghost use Rattle.transcript_text.specs.Lines.{settled_at, line_of_accepted, line_of_verdict, collision_line, lines_of_record};
-ghost use Rattle.transcript_text.specs.Report.{played_text, patience_text, committed_text, head_line, line_text, text_if_there, lines_text, report_text};
+ghost use Rattle.text_types.specs.StatedVerdict.{settled_at};
+ghost use Rattle.transcript_text.specs.Lines.{line_of_accepted, line_of_verdict, collision_line, lines_of_record};
+ghost use Rattle.transcript_text.specs.Report.{played_text, patience_text, committed_text, numbers_text, head_line, line_text, text_if_there, lines_text, report_text};
 
 use crate::answer::add_answer;
 use crate::claims::add_claims;
 use crate::disputes::add_disputes;
-use crate::head::Head;
 use bisect_game::Settled;
 use rd_base::{Answer, Memory};
 use std::alloc::{AllocError, Global};
 use std::fmt::Write;
+use text_types::Head;
 use tournament::{Record, Verdict};
 
 #[tactic(auto, unfolding(crate::specs::Report::played_text))]
-fn add_played(text: &mut String, head: &Head) -> Result<(), AllocError>
-    ensures { OnOk result (string_bytes text.new ≡ string_bytes text.old ++ played_text head.now) }
+fn add_played(text: &mut String, word: &str, head: &Head) -> Result<(), AllocError>
+    ensures { OnOk result (string_bytes text.new ≡ string_bytes text.old ++ played_text word.now head.now) }
 {
     let provers = head.provers;
     let bound = head.bound;
-    write!(text, "match provers {provers} bound {bound}")
+    write!(text, "{word} provers {provers} bound {bound}")
 }
 
 #[tactic(auto, unfolding(crate::specs::Report::patience_text))]
@@ -40,14 +41,30 @@ fn add_committed(text: &mut String, head: &Head) -> Result<(), AllocError>
     write!(text, " version {version} fan {fan} digest {digest}")
 }
 
-/// Adds the line of a match's head. An `Err` is out of memory, and may leave a part of the line.
-pub fn add_head(text: &mut String, head: &Head) -> Result<(), AllocError>
+/// Adds the first word of a text, and the numbers of its head.
+pub(crate) fn add_numbers(text: &mut String, word: &str, head: &Head) -> Result<(), AllocError>
+    ensures { OnOk result (string_bytes text.new ≡ string_bytes text.old ++ numbers_text word.now head.now) }
+{
+    add_played(text, word, head)?;
+    add_patience(text, head)?;
+    add_committed(text, head)
+}
+
+/// Adds the line of a match's head.
+fn add_head(text: &mut String, head: &Head) -> Result<(), AllocError>
     ensures { OnOk result (string_bytes text.new ≡ string_bytes text.old ++ head_line head.now) }
 {
-    add_played(text, head)?;
-    add_patience(text, head)?;
-    add_committed(text, head)?;
+    add_numbers(text, "match", head)?;
     text.push_str("\n")
+}
+
+/// The line of a match's head. An `Err` is out of memory.
+pub fn head_line(alloc: Global, head: &Head) -> Result<String, AllocError>
+    ensures { IfOk result (λ text. string_bytes text ≡ head_line head.now) }
+{
+    let mut text = String::new(alloc);
+    add_head(&mut text, head)?;
+    Ok(text)
 }
 
 /// What is settled of a prover's claim, by its number from 1.
@@ -90,9 +107,8 @@ fn add_collision(
     write!(text, "collision {first} {second}\n")
 }
 
-/// Adds the line of a verdict, by what each prover's claim was settled as; an accepted claim that wasn't given has none. An `Err`
-/// is out of memory, and may leave a part of the line.
-pub fn add_verdict(
+/// Adds the line of a verdict, by what each prover's claim was settled as; an accepted claim that wasn't given has none.
+pub(crate) fn add_verdict(
     text: &mut String,
     alloc: Global,
     claims: &[Option<Settled>],
@@ -105,6 +121,20 @@ pub fn add_verdict(
         Verdict::NoneLeft => text.push_str("none left\n"),
         Verdict::Collision(x, y) => add_collision(text, alloc, x.as_slice(), y.as_slice()),
     }
+}
+
+/// The line of a verdict, by what each prover's claim was settled as; it is empty where an accepted claim wasn't given. An `Err`
+/// is out of memory.
+pub fn verdict_line(
+    alloc: Global,
+    claims: &[Option<Settled>],
+    verdict: &Verdict,
+) -> Result<String, AllocError>
+    ensures { IfOk result (λ text. string_bytes text ≡ text_if_there (line_of_verdict claims.now verdict.now)) }
+{
+    let mut text = String::new(alloc);
+    add_verdict(&mut text, alloc, claims, verdict)?;
+    Ok(text)
 }
 
 /// Adds the lines of what was settled.

@@ -1,0 +1,177 @@
+//! Matches of the toy game, their full texts, and what is read of them.
+ghost use denote.Param.Send.{IsSync};
+ghost use Rattle.std.specs.Prelude.{length, ◌<◌, ◌≤◌};
+
+use bisect_game::{Answerer, Settled};
+use rd_base::{Answer, Memory};
+use std::alloc::Global;
+use std::test::Fail;
+use std::thread::Threads;
+use text_reader::read_full;
+use text_types::{DigestName, FullText, Head, Stated};
+use tournament::{Match, Move};
+use toy_game::{HONEST, LIAR, Player, SILENT, Seated, ToyJudge, root};
+use transcript_text::full;
+
+/// The text of a true prover and a liar over 8 steps: claims of the roots 6 and 108, roots at 4, 2 and 1, and two proofs of step 1.
+/// Its wire forms were laid out by hand.
+fn liar_is_bisected() -> &'static [u8] {
+    b"\
+        refereed provers 2 bound 8 patience 0 version 1 fan 2 digest sha256 start 00000000000000000000000000\
+        00000000000000000000000000000000000000\n\
+        move 0 0 p1 given 0106000000000000000000000000000000000000000000000000000000000000000000000000000000\
+        0000000000000000000000000000000000000000000000000000000000000000000000000000000000000000000000000000\
+        00000000000000000000000000000000000000000000000000000000000000\n\
+        move 0 0 p2 given 016c000000000000000000000000000000000000000000000000000000000000000000000000000000\
+        0000000000000000000000000000000000000000000000000000000000000000000000000000000000000000000000000000\
+        00000000000000000000000000000000000000000000000000000000000000\n\
+        move 1 1 p1 given 020400000000000000000000000000000000000000000000000000000000000000\n\
+        move 1 1 p2 given 026800000000000000000000000000000000000000000000000000000000000000\n\
+        move 1 2 p1 given 020200000000000000000000000000000000000000000000000000000000000000\n\
+        move 1 2 p2 given 026600000000000000000000000000000000000000000000000000000000000000\n\
+        move 1 3 p1 given 020100000000000000000000000000000000000000000000000000000000000000\n\
+        move 1 3 p2 given 020100000000000000000000000000000000000000000000000000000000000000\n\
+        move 1 4 p1 given 0301000000000000000000000000000000000000000000000000000000000000000000000000000000\
+        0000000000000000000000000000000000000000000000000000000000000000000000000000000000000000000000000000\
+        0000000000000000000000000000000000000000000000000000000000000000000000000000000000000000000000000000\
+        0000000000000000000000000000000000000000000000000000000000000000000000000000000000000000000000000000\
+        00000000000000000000000000000000\n\
+        move 1 4 p2 given 0301000000000000000000000000000000000000000000000000000000000000000000000000000000\
+        0000000000000000000000000000000000000000000000000000000000000000000000000000000000000000000000000000\
+        0000000000000000000000000000000000000000000000000000000000000000000000000000000000000000000000000000\
+        0000000000000000000000000000000000000000000000000000000000000000000000000000000000000000000000000000\
+        00000000000000000000000000000000\n\
+        accept running output\n"
+}
+
+/// The text of a match of these players over 8 steps without patience; empty where it isn't over.
+fn full_of<R: Threads + Sync>(rt: &R, alloc: Global, players: &[Player]) -> Result<Vec<u8>, Memory>
+    requires sync { IsSync R.row }
+    requires some { 0 < length players.now }
+    requires few { length players.now ≤ 16 }
+{
+    let judge = ToyJudge { name: 0 };
+    let mut game = Match::new(alloc, judge, players.len() as u32, 8, 2, 0, root(0))?;
+    for _ in 0..64 {
+        for (place, player) in players.iter().enumerate() {
+            let p = place as u32 + 1;
+            if p > game.setup().provers {
+                return Ok(Vec::new(alloc));
+            }
+            let Some(question) = game.question(p) else {
+                continue;
+            };
+            let mut seated = Seated {
+                player: *player,
+                alloc,
+            };
+            let answer = seated.answer(rt, &question, game.passes(p))?;
+            game.post(p, question.qid, answer.map_or(Move::Pass, Move::Give));
+        }
+    }
+    let head = Head {
+        provers: players.len() as u32,
+        bound: 8,
+        patience: 0,
+        version: 1,
+        fan: 2,
+        digest: DigestName::Sha256,
+        start: root(0),
+    };
+    match game.verdict() {
+        Some(verdict) => full(alloc, &head, game.record(), &verdict),
+        None => Ok(Vec::new(alloc)),
+    }
+}
+
+/// Whether two texts have the same bytes.
+fn are_alike(one: &[u8], other: &[u8]) -> bool {
+    one == other
+}
+
+/// A move in short: dispute, round, prover, and the first byte of the answer's root, 255 where it is spent and 254 where it has none.
+type Short = (u32, u32, u32, u8);
+
+/// The first byte of the root that an answer gives.
+fn mark_of(settled: &Settled) -> u8 {
+    match settled {
+        Settled::Given(Answer::Claim(claim)) => claim.mem.0[0],
+        Settled::Given(Answer::Root(root)) => root.0[0],
+        Settled::Spent => 255,
+        _ => 254,
+    }
+}
+
+/// The moves of a text in short.
+fn in_short(alloc: Global, text: &FullText) -> Result<Vec<Short>, Memory> {
+    let mut moves = Vec::new(alloc);
+    for entry in text.moves.as_slice() {
+        let mark = mark_of(&entry.settled);
+        moves.push((entry.qid.dispute, entry.qid.round, entry.prover, mark))?;
+    }
+    Ok(moves)
+}
+
+/// The numbers of a head.
+fn numbers_of(head: &Head) -> (u32, u64, u32, u32, u32) {
+    (
+        head.provers,
+        head.bound,
+        head.patience,
+        head.version,
+        head.fan,
+    )
+}
+
+/// Whether a claim of a running machine without output is accepted.
+fn accepts_running_without_output(stated: &Stated) -> bool {
+    match stated {
+        Stated::Accept(status, output) => status.is_running() && output.len() == 0,
+        _ => false,
+    }
+}
+
+/// The text of a dispute has a line for each settled answer, by claims, then by round and side, and is read back so.
+#[test]
+fn the_text_of_a_dispute_is_written_and_read_back(rt: HostRuntime) -> Result<(), Fail> {
+    let alloc = rt.alloc();
+    let text = full_of(&rt, alloc, &[HONEST, LIAR])?;
+    assert!(rt; are_alike(text.as_slice(), liar_is_bisected()));
+    let read = match read_full(alloc, text.as_slice()) {
+        Ok(read) => read,
+        Err(fault) => return Err(Fail::new(fault)),
+    };
+    let moves = in_short(alloc, &read)?;
+    let want: [Short; 10] = [
+        (0, 0, 1, 6),
+        (0, 0, 2, 108),
+        (1, 1, 1, 4),
+        (1, 1, 2, 104),
+        (1, 2, 1, 2),
+        (1, 2, 2, 102),
+        (1, 3, 1, 1),
+        (1, 3, 2, 1),
+        (1, 4, 1, 254),
+        (1, 4, 2, 254),
+    ];
+    assert_eq!(rt; moves.as_slice(), want.as_slice());
+    assert_eq!(rt; numbers_of(&read.head), (2, 8, 0, 1, 2));
+    assert_eq!(rt;
+        (read.head.digest, read.head.start),
+        (DigestName::Sha256, root(0))
+    );
+    assert!(rt; accepts_running_without_output(&read.stated));
+    Ok(())
+}
+
+/// Silent provers leave a text of four lines.
+#[test]
+fn the_text_of_silent_provers_has_four_lines(rt: HostRuntime) -> Result<(), Fail> {
+    let alloc = rt.alloc();
+    let text = full_of(&rt, alloc, &[SILENT, SILENT])?;
+    let want = b"refereed provers 2 bound 8 patience 0 version 1 fan 2 digest sha256 start \
+        0000000000000000000000000000000000000000000000000000000000000000\n\
+        move 0 0 p1 spent\nmove 0 0 p2 spent\nnone left\n";
+    assert!(rt; are_alike(text.as_slice(), want.as_slice()));
+    Ok(())
+}

@@ -1,0 +1,30 @@
+//! Laws of reading, each the contract of a function that does nothing.
+ghost use Rattle.text_reader.specs.Laws.{ReadsExactly, AlikeIsEqual, ReadsRecordsBack, MatchesAreReadBack};
+
+use proof_wire::{reading_is_spelling, spelled_in_bytes};
+use text_types::{a_record_is_of_its_provers, a_verdict_is_stated};
+use tournament::a_match_has_few_disputes_and_rounds;
+use transcript_text::a_full_text_is_that_of_its_parts;
+
+/// Bytes are read as a text exactly where it is within the limits and they are its bytes (`exactly`), so that two texts that
+/// read alike are equal (`alike`).
+pub fn reading_is_the_inverse_of_writing()
+    ensures exactly { ReadsExactly }
+    ensures alike { AlikeIsEqual }
+{
+    reading_is_spelling();
+    spelled_in_bytes();
+}
+
+/// The full text of a record and a verdict is read as their parts, where these are within the limits (`records`). Those of a
+/// match are, whatever was posted (`matches`): its answers have wire forms by a clause of `full`.
+pub fn a_full_text_is_read_back()
+    ensures records { ReadsRecordsBack }
+    ensures matches { MatchesAreReadBack }
+{
+    reading_is_the_inverse_of_writing();
+    a_full_text_is_that_of_its_parts();
+    a_verdict_is_stated();
+    a_record_is_of_its_provers();
+    a_match_has_few_disputes_and_rounds();
+}

@@ -1,0 +1,11 @@
+-- To believe. The names of digests, as a table.
+use Rattle.std.specs.Prelude.{ℕ, List, [], ◌∷◌, codes}
+use Rattle.text_types.specs.declared.digest.DigestName.{DigestName}
+use Rattle.text_types.specs.declared.digest.DigestName.TheVariants.{Sha256}
+
+abbrev pub digest_text : DigestName → List ℕ
+digest_text Sha256 = codes "sha256"
+
+-- each digest that a text may name
+abbrev pub digests : List DigestName
+digests = Sha256 ∷ []

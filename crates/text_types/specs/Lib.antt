@@ -1,0 +1,5 @@
+pub mod Digest
+pub mod Limits
+pub mod MoveLists
+pub mod StatedVerdict
+pub mod RecordNumbers

@@ -1,0 +1,17 @@
+//! What the texts of a match are made of.
+//!
+//! The layers above may rely on this: a `Head` says what a match is played over, a `FullText` is a head, the settled answers
+//! one after another, and the verdict that is stated. The names of digests are a table (`DigestName::ALL`), the limits of a
+//! head's numbers are data (`limits`), and `moves_of` (`specs/MoveLists.antt`) lists the settled answers of a record in the
+//! order of a full text. Read `text` first, then `specs/MoveLists.antt`.
+#![tactic(auto)]
+
+mod digest;
+mod laws;
+pub mod limits;
+mod text;
+
+pub use digest::DigestName;
+pub use laws::{a_record_is_of_its_provers, a_verdict_is_stated};
+pub use limits::Limit;
+pub use text::{FullText, Head, Stated, TextMove};
