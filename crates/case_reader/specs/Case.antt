@@ -1,6 +1,6 @@
 -- To believe. Reading a case: from the bytes to a JSON tree, and from the tree to a case or its first fault. Keys are
 -- tested in the order format, image, input, bound, patience, provers, and last the provers, one after another.
-use Rattle.std.specs.Prelude.{ℕ, List, Bool, Option, None, Result, Ok, if◌then◌else◌}
+use Rattle.std.specs.Prelude.{ℕ, List, Option, None, Result, Ok, if◌then◌else◌}
 use Rattle.std.specs.Option.{ok_or}
 use Rattle.std.specs.Str.{is_utf8}
 use Rattle.serde_json.specs.Data.{Data}
@@ -11,6 +11,7 @@ use Rattle.rd_base.specs.declared.script.Script.{Script}
 use Rattle.case_reader.specs.Fields.{format_in, bytes_in, input_in, number_in, provers_in}
 use Rattle.case_reader.specs.Provers.{scripts_in}
 use Rattle.case_reader.specs.declared.case.Case.{Case}
+use Rattle.case_reader.specs.declared.case.Format.{Format}
 use Rattle.case_reader.specs.declared.fault.Key.TheVariants.{Image, Bound, Patience}
 use Rattle.case_reader.specs.declared.fault.CaseFault.{CaseFault}
 use Rattle.case_reader.specs.declared.fault.CaseFault.TheVariants.{NotJson, NotObject}
@@ -18,7 +19,7 @@ use Rattle.case_reader.specs.declared.fault.CaseFault.TheVariants.{NotJson, NotO
 -- what a case holds
 pub record CaseData : Type 0 where
   pub image : List ℕ
-  pub flat : Bool
+  pub format : Format
   pub input : List ℕ
   pub bound : ℕ
   pub patience : ℕ
@@ -29,7 +30,7 @@ pub record CaseData : Type 0 where
 abbrev pub data_of : Case → CaseData
 data_of c = record {
   image = c.image;
-  flat = c.flat;
+  format = c.format;
   input = c.input;
   bound = c.bound;
   patience = c.patience;
@@ -42,14 +43,14 @@ data_of c = record {
 unfoldable pub case_of : Data → Result CaseData CaseFault
 case_of tree = do
   members ← ok_or (as_object tree) NotObject
-  flat ← format_in tree
+  format ← format_in tree
   image ← bytes_in Image tree
   input ← input_in tree
   bound ← number_in Bound 1 16777216 tree
   patience ← number_in Patience 0 100 tree
   provers ← provers_in tree
   scripts ← scripts_in 1 provers
-  Ok (record { image = image; flat = flat; input = input; bound = bound; patience = patience; version = 1; fan = 2; provers = scripts })
+  Ok (record { image = image; format = format; input = input; bound = bound; patience = patience; version = 1; fan = 2; provers = scripts })
 
 -- the JSON tree of bytes that are UTF-8 (RFC 8259, as `serde_json` reads it)
 abbrev pub tree_of : List ℕ → Option Data

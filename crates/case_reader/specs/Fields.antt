@@ -1,6 +1,6 @@
 -- To believe. The value of a key of a case: that the key is there, then its type, then its hexadecimal digits, then its
 -- range.
-use Rattle.std.specs.Prelude.{ℕ, ◌&&◌, List, [], ◌∷◌, length, codes, nat_le, Bool, true, false, Option, Some, None, Result, Ok, Err, if◌then◌else◌}
+use Rattle.std.specs.Prelude.{ℕ, ◌&&◌, List, [], ◌∷◌, length, codes, nat_le, Option, Some, None, Result, Ok, Err, if◌then◌else◌}
 use Rattle.std.specs.Option.{ok_or, option_map, option_and_then}
 use Rattle.std.specs.Result.{result_ok}
 use Rattle.std.specs.Str.{bytes_eq}
@@ -10,7 +10,9 @@ use Rattle.hex.specs.Hex.{decode_of}
 use Rattle.rd_base.specs.Results.{◌>>=◌}
 use Rattle.case_reader.specs.Key.{key_text}
 use Rattle.case_reader.specs.declared.fault.Key.{Key}
-use Rattle.case_reader.specs.declared.fault.Key.TheVariants.{Format, Input, Provers}
+use Rattle.case_reader.specs.declared.fault.Key.TheVariants as keys
+use Rattle.case_reader.specs.declared.case.Format.{Format}
+use Rattle.case_reader.specs.declared.case.Format.TheVariants.{Flat, Elf}
 use Rattle.case_reader.specs.declared.fault.CaseFault.{CaseFault}
 use Rattle.case_reader.specs.declared.fault.CaseFault.TheVariants.{Missing, WrongType, BadHex, OutOfRange}
 
@@ -41,23 +43,23 @@ number_in key low high tree = do
   number ← ok_or (option_and_then as_u64 (as_number value)) (WrongType key)
   if nat_le low number && nat_le number high then Ok number else Err (OutOfRange key)
 
--- whether a format is flat: `flat` or `elf`
-abbrev pub format_named : List ℕ → Option Bool
+-- a format by its name
+abbrev pub format_named : List ℕ → Option Format
 format_named text =
-    if bytes_eq text (codes "flat") then Some true
-    else if bytes_eq text (codes "elf") then Some false
+    if bytes_eq text (codes "flat") then Some Flat
+    else if bytes_eq text (codes "elf") then Some Elf
     else None
 
-unfoldable pub format_in : Data → Result Bool CaseFault
+unfoldable pub format_in : Data → Result Format CaseFault
 format_in tree = do
-  text ← text_in Format tree
-  ok_or (format_named text) (OutOfRange Format)
+  text ← text_in keys.Format tree
+  ok_or (format_named text) (OutOfRange keys.Format)
 
 -- the input's bytes, at most 1,048,576
 unfoldable pub input_in : Data → Result (List ℕ) CaseFault
 input_in tree = do
-  input ← bytes_in Input tree
-  if nat_le (length input) 1048576 then Ok input else Err (OutOfRange Input)
+  input ← bytes_in keys.Input tree
+  if nat_le (length input) 1048576 then Ok input else Err (OutOfRange keys.Input)
 
 -- the items of an array, as a list
 abbrev pub listed : Items → List Data
@@ -73,5 +75,5 @@ array_in key tree = do
 -- the elements of `provers`, 1 to 16 of them
 unfoldable pub provers_in : Data → Result (List Data) CaseFault
 provers_in tree = do
-  provers ← array_in Provers tree
-  if nat_le 1 (length provers) && nat_le (length provers) 16 then Ok provers else Err (OutOfRange Provers)
+  provers ← array_in keys.Provers tree
+  if nat_le 1 (length provers) && nat_le (length provers) 16 then Ok provers else Err (OutOfRange keys.Provers)

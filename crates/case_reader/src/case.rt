@@ -17,13 +17,22 @@ pub const MAX_PATIENCE: u64 = 100;
 /// The most provers.
 pub const MAX_PROVERS: usize = 16;
 
+/// The format of an image.
+#[derive(Clone, Copy, Debug, PartialEq, Eq)]
+pub enum Format {
+    /// A flat file, whose bytes lie in memory as they stand.
+    Flat,
+    /// An ELF file (ELF32), whose program headers say what lies where.
+    Elf,
+}
+
 /// A case, with each number in its range.
 #[derive(Debug, Drop)]
 pub struct Case {
     /// The image's bytes.
     pub image: Bytes,
-    /// Whether the image is a flat file, and no ELF file.
-    pub flat: bool,
+    /// The image's format.
+    pub format: Format,
     /// The program's input.
     pub input: Bytes,
     /// How many steps the run has.

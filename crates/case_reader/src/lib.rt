@@ -1,19 +1,22 @@
 //! A case: what the match is about and who plays it, read from a JSON text.
 //!
 //! The layers above may rely on this: what `read_case` reads is the case of the bytes, by the definition `case_at`, which
-//! tests keys in one order, and a refusal other than out of memory is that definition's. Read `case` first, then
+//! tests keys in one order, and a refusal other than out of memory is that definition's, whose own faults are never out of
+//! memory. Read `case` first, then
 //! `parsing`; `prover` reads a prover's script, by `tamper` and `manner`.
 #![tactic(auto)]
 
 mod case;
 mod fault;
 mod field;
+mod laws;
 mod manner;
 mod member;
 mod parsing;
 mod prover;
 mod tamper;
 
-pub use case::{Case, FAN, MAX_BOUND, MAX_PATIENCE, MAX_PROVERS, VERSION};
+pub use case::{Case, FAN, Format, MAX_BOUND, MAX_PATIENCE, MAX_PROVERS, VERSION};
 pub use fault::{CaseFault, Key};
+pub use laws::no_fault_of_a_case_is_out_of_memory;
 pub use parsing::read_case;

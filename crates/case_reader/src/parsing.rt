@@ -6,7 +6,7 @@ ghost use Rattle.case_reader.specs.Fields.{format_in, input_in, provers_in};
 ghost use Rattle.case_reader.specs.Case.{case_of, case_at, tree_of, data_of};
 ghost use Rattle.case_reader.specs.declared.fault.CaseFault.TheVariants.{NotJson};
 
-use crate::case::{Case, FAN, MAX_BOUND, MAX_PATIENCE, MAX_PROVERS, VERSION};
+use crate::case::{Case, FAN, Format, MAX_BOUND, MAX_PATIENCE, MAX_PROVERS, VERSION};
 use crate::fault::{CaseFault, Key};
 use crate::field::{array_of, bytes_of, number_of, text_of};
 use crate::prover::scripts_of;
@@ -15,12 +15,12 @@ use serde_json::Value;
 use std::alloc::Global;
 
 #[tactic(auto, unfolding(crate::specs::Fields::format_in))]
-fn flat_of(tree: &Value) -> Result<bool, CaseFault>
-    ensures { Gives CaseFault.Memory (λ flat. flat) result (format_in (view tree.now)) }
+fn format_of(tree: &Value) -> Result<Format, CaseFault>
+    ensures { Gives CaseFault.Memory (λ format. format) result (format_in (view tree.now)) }
 {
     match text_of(tree, Key::Format)? {
-        "flat" => Ok(true),
-        "elf" => Ok(false),
+        "flat" => Ok(Format::Flat),
+        "elf" => Ok(Format::Elf),
         _ => Err(CaseFault::OutOfRange(Key::Format)),
     }
 }
@@ -59,7 +59,7 @@ fn case_of_tree(alloc: Global, tree: &Value) -> Result<Case, CaseFault>
     if !tree.is_object() {
         return Err(CaseFault::NotObject);
     }
-    let flat = flat_of(tree)?;
+    let format = format_of(tree)?;
     let image = bytes_of(alloc, tree, Key::Image)?;
     let input = input_of(alloc, tree)?;
     let bound = number_of(tree, Key::Bound, 1, MAX_BOUND)?;
@@ -68,7 +68,7 @@ fn case_of_tree(alloc: Global, tree: &Value) -> Result<Case, CaseFault>
     let provers = scripts_of(alloc, provers)?;
     Ok(Case {
         image,
-        flat,
+        format,
         input,
         bound,
         patience,

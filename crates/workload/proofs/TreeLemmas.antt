@@ -18,6 +18,7 @@ use Rattle.case_reader.specs.Fields.{hex_of, listed, text_in, bytes_in, number_i
 use Rattle.case_reader.specs.Scripts.{number_at, register_in, tamper_in, script_in}
 use Rattle.case_reader.specs.Provers.{scripts_in}
 use Rattle.case_reader.specs.Case.{CaseData, case_of, case_at}
+use Rattle.case_reader.specs.declared.case.Format.TheVariants.{Flat}
 use Rattle.workload.specs.Draws.{draw, first_values}
 use Rattle.workload.specs.Program.{program}
 use Rattle.workload.specs.Workload.{input_byte, input_of, step_of, value_of, tampered_step, tampered_value, untampered, tampered_at, prover_tree, prover_script, tampering, case_members, big_tree, big_data}
@@ -135,7 +136,7 @@ provers_are_scripts seed n few = values_are_scripts (prover_tree seed) (prover_s
 
 members_are_a_case : (image_text input_text image input : List ℕ) (provers : List Data) (scripts : List Script)
     → hex_of image_text ≡ Some image → hex_of input_text ≡ Some input → length input ≡ 4096 → length provers ≡ 8 → scripts_in 1 provers ≡ Ok scripts
-    → let c : Result CaseData CaseFault = Ok (record { image = image; flat = true; input = input; bound = 65536; patience = 0; version = 1; fan = 2; provers = scripts }) in
+    → let c : Result CaseData CaseFault = Ok (record { image = image; format = Flat; input = input; bound = 65536; patience = 0; version = 1; fan = 2; provers = scripts }) in
     case_of (object (case_members image_text input_text (items_of provers))) ≡ c
 unfolding case_of text_in bytes_in number_in format_in input_in array_in provers_in
 members_are_a_case image_text input_text image input provers scripts image_is input_is input_len provers_are scripts_are =

@@ -1,5 +1,5 @@
 -- To believe. The large workload of a seed: the tree that its text writes, and the case that it is.
-use Rattle.std.specs.Prelude.{ℕ, ◌+◌, ◌*◌, ◌/◌, ◌%◌, ◌^◌, ◌==◌, List, codes, true, if◌then◌else◌}
+use Rattle.std.specs.Prelude.{ℕ, ◌+◌, ◌*◌, ◌/◌, ◌%◌, ◌^◌, ◌==◌, List, codes, if◌then◌else◌}
 use Rattle.hex.specs.Hex.{encode_lower}
 use Rattle.serde_json.specs.Data.{Data, unsigned, number, string, array, object, Items, Members, no_members, member}
 use Rattle.serde_json.specs.View.{items_of}
@@ -7,6 +7,7 @@ use Rattle.rd_base.specs.declared.script.Script.{Script}
 use Rattle.rd_base.specs.declared.script.Manner.TheVariants.{Plain}
 use Rattle.rd_base.specs.declared.tamper.Tamper.TheVariants.{Untouched, Register}
 use Rattle.case_reader.specs.Case.{CaseData}
+use Rattle.case_reader.specs.declared.case.Format.TheVariants.{Flat}
 use Rattle.workload.specs.Draws.{draw, first_values}
 use Rattle.workload.specs.Program.{program}
 
@@ -73,7 +74,7 @@ prover_script seed place = if place == seed % 8 then untampered else tampered_at
 unfoldable pub big_data : ℕ → CaseData
 big_data seed = record {
   image = program;
-  flat = true;
+  format = Flat;
   input = input_of seed;
   bound = 65536;
   patience = 0;
