@@ -1,2 +1,5 @@
 pub mod WordsLemmas
 pub mod NumberLemmas
+pub mod OptionLemmas
+pub mod TakenLemmas
+pub mod BigLemmas

@@ -11,10 +11,10 @@ use Rattle.clap.specs.declared.error.kind.ErrorKind.TheVariants.{ValueValidation
 use Rattle.clap.proofs.OnLiterals.{clap_on_literals}
 use Rattle.command_line.specs.Words.{command_line, is_faultless, is_taken, command_of, seed_in, chosen}
 use Rattle.command_line.specs.declared.request.Command.{Command}
-use Rattle.command_line.specs.declared.request.Command.TheVariants.{Judge, Big}
+use Rattle.command_line.specs.declared.request.Command.TheVariants.{Big}
 
 -- a law of each digit, by its ten cases: a parse computes only at a word whose first byte is written out
-each_digit : (P : ℕ → Type 0) → P 48 → P 49 → P 50 → P 51 → P 52 → P 53 → P 54 → P 55 → P 56 → P 57 → (x : ℕ) → 48 ≤ x → x ≤ 57 → P x
+pub each_digit : (P : ℕ → Type 0) → P 48 → P 49 → P 50 → P 51 → P 52 → P 53 → P 54 → P 55 → P 56 → P 57 → (x : ℕ) → 48 ≤ x → x ≤ 57 → P x
 each_digit P p0 p1 p2 p3 p4 p5 p6 p7 p8 p9 x from to = let is : 48 + (x - 48) ≡ x = omega (arith, from) in subst P is (go (x - 48) (omega (arith, from, to)))
   where
     go : (k : ℕ) → k < 10 → P (48 + k)
@@ -42,7 +42,7 @@ small : (least most n : ℕ) → most < 2 ^ 63 → nat_lt n (2 ^ 63) && (nat_le 
 small least most n few = grind arith
 
 -- a number that begins with a digit has no sign
-unsigned : (rest : Text) (least most : ℕ) → most < 2 ^ 63 → (x : ℕ) → 48 ≤ x → x ≤ 57 → is_signed_in (pos least) (pos most) (x ∷ rest) ≡ is_unsigned_in least most (x ∷ rest)
+pub unsigned : (rest : Text) (least most : ℕ) → most < 2 ^ 63 → (x : ℕ) → 48 ≤ x → x ≤ 57 → is_signed_in (pos least) (pos most) (x ∷ rest) ≡ is_unsigned_in least most (x ∷ rest)
 unsigned rest least most few =
     each_digit (λ y. is_signed_in (pos least) (pos most) (y ∷ rest) ≡ is_unsigned_in least most (y ∷ rest))
     (ap (λ b. is_numeral (48 ∷ rest) && b) (small least most (digits_value 10 (48 ∷ rest)) few))
@@ -74,30 +74,3 @@ seeds_are_numbers program x rest from to =
     ∙ ap refused (unsigned rest 0 4294967295 (omega arith) x from to))
     (each_digit (λ y. command_of (program ∷ codes "big" ∷ (y ∷ rest) ∷ []) ≡ option_map Big (seed_in (y ∷ rest))) refl refl refl refl refl refl refl refl refl refl x from to)
     ∙ seed-where (is_unsigned_in 0 4294967295 (x ∷ rest)) _
-
-pub workers_are_numbers : (program : Text) (x : ℕ) (rest : Text) → 48 ≤ x → x ≤ 57
-    → chosen (program ∷ codes "judge" ∷ codes "--workers" ∷ (x ∷ rest) ∷ []) ≡ cond (is_unsigned_in 1 64 (x ∷ rest)) (Some Judge) None
-unfolding clap_on_literals command_line is_taken command_of
-workers_are_numbers program x rest from to =
-    taken (is_unsigned_in 1 64 (x ∷ rest)) _ _ _
-    (each_digit (λ y. fault_of command_line (program ∷ codes "judge" ∷ codes "--workers" ∷ (y ∷ rest) ∷ []) ≡ number_fault 1 64 (y ∷ rest)) refl refl refl refl refl refl refl refl refl refl x from to
-    ∙ ap refused (unsigned rest 1 64 (omega arith) x from to))
-    (each_digit (λ y. command_of (program ∷ codes "judge" ∷ codes "--workers" ∷ (y ∷ rest) ∷ []) ≡ Some Judge) refl refl refl refl refl refl refl refl refl refl x from to)
-
-pub posters_are_numbers : (program : Text) (x : ℕ) (rest : Text) → 48 ≤ x → x ≤ 57
-    → chosen (program ∷ codes "judge" ∷ codes "--posters" ∷ (x ∷ rest) ∷ []) ≡ cond (is_unsigned_in 1 16 (x ∷ rest)) (Some Judge) None
-unfolding clap_on_literals command_line is_taken command_of
-posters_are_numbers program x rest from to =
-    taken (is_unsigned_in 1 16 (x ∷ rest)) _ _ _
-    (each_digit (λ y. fault_of command_line (program ∷ codes "judge" ∷ codes "--posters" ∷ (y ∷ rest) ∷ []) ≡ number_fault 1 16 (y ∷ rest)) refl refl refl refl refl refl refl refl refl refl x from to
-    ∙ ap refused (unsigned rest 1 16 (omega arith) x from to))
-    (each_digit (λ y. command_of (program ∷ codes "judge" ∷ codes "--posters" ∷ (y ∷ rest) ∷ []) ≡ Some Judge) refl refl refl refl refl refl refl refl refl refl x from to)
-
-pub every_are_numbers : (program : Text) (x : ℕ) (rest : Text) → 48 ≤ x → x ≤ 57
-    → chosen (program ∷ codes "judge" ∷ codes "--every" ∷ (x ∷ rest) ∷ []) ≡ cond (is_unsigned_in 1 65536 (x ∷ rest)) (Some Judge) None
-unfolding clap_on_literals command_line is_taken command_of
-every_are_numbers program x rest from to =
-    taken (is_unsigned_in 1 65536 (x ∷ rest)) _ _ _
-    (each_digit (λ y. fault_of command_line (program ∷ codes "judge" ∷ codes "--every" ∷ (y ∷ rest) ∷ []) ≡ number_fault 1 65536 (y ∷ rest)) refl refl refl refl refl refl refl refl refl refl x from to
-    ∙ ap refused (unsigned rest 1 65536 (omega arith) x from to))
-    (each_digit (λ y. command_of (program ∷ codes "judge" ∷ codes "--every" ∷ (y ∷ rest) ∷ []) ≡ Some Judge) refl refl refl refl refl refl refl refl refl refl x from to)

@@ -62,35 +62,6 @@ pub most_seed_is_taken : (program : Text) → chosen (program ∷ codes "big" �
 unfolding clap_on_literals command_line is_taken command_of
 most_seed_is_taken program = refl
 
--- and these with options, at the ends of their ranges
-
-pub least_numbers_are_taken : (program : Text) → chosen (program ∷ codes "judge" ∷ codes "--workers" ∷ codes "1" ∷ codes "--posters" ∷ codes "1" ∷ codes "--every" ∷ codes "1" ∷ []) ≡ Some Judge
-unfolding clap_on_literals command_line is_taken command_of
-least_numbers_are_taken program = refl
-
-pub most_numbers_are_taken : (program : Text) → chosen (program ∷ codes "judge" ∷ codes "--every" ∷ codes "65536" ∷ codes "--posters" ∷ codes "16" ∷ codes "--workers" ∷ codes "64" ∷ []) ≡ Some Judge
-unfolding clap_on_literals command_line is_taken command_of
-most_numbers_are_taken program = refl
-
-abbrev IsRefused : Text → Text → Type 0
-IsRefused name number = (program : Text) → chosen (program ∷ codes "judge" ∷ name ∷ number ∷ []) ≡ None
-
-pub no_workers_are_refused : IsRefused (codes "--workers") (codes "0")
-unfolding clap_on_literals command_line is_taken command_of
-no_workers_are_refused program = refl
-
-pub more_workers_are_refused : IsRefused (codes "--workers") (codes "65")
-unfolding clap_on_literals command_line is_taken command_of
-more_workers_are_refused program = refl
-
-pub more_posters_are_refused : IsRefused (codes "--posters") (codes "17")
-unfolding clap_on_literals command_line is_taken command_of
-more_posters_are_refused program = refl
-
-pub more_steps_are_refused : IsRefused (codes "--every") (codes "65537")
-unfolding clap_on_literals command_line is_taken command_of
-more_steps_are_refused program = refl
-
 pub larger_seeds_are_refused : (program : Text) → chosen (program ∷ codes "big" ∷ codes "4294967296" ∷ []) ≡ None
 unfolding clap_on_literals command_line is_taken command_of
 larger_seeds_are_refused program = refl

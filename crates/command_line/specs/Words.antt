@@ -110,9 +110,3 @@ abbrev pub reads : Option Command → Bool
 reads None = false
 reads (Some (Big seed)) = false
 reads (Some command) = true
-
--- the command decides a match
-abbrev pub decides : Command → Bool
-decides Judge = true
-decides (Big seed) = true
-decides command = false

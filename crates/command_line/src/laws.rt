@@ -1,7 +1,7 @@
 //! Which arguments name a command.
-ghost use Rattle.std.specs.Prelude.{◌≡◌, ◌≤◌, ℕ, List, [], ◌∷◌, Some, None, codes, option_map, if◌then◌else◌};
-ghost use Rattle.clap.specs.ValueTests.{is_unsigned_in};
+ghost use Rattle.std.specs.Prelude.{◌≡◌, ◌≤◌, ℕ, List, [], ◌∷◌, true, Some, None, codes, option_map, if◌then◌else◌};
 ghost use Rattle.command_line.specs.Words.{chosen, seed_in};
+ghost use Rattle.command_line.specs.Options.{Given, AllDigits, begins_with_digit, words_of, are_taken};
 
 use crate::request::Command;
 
@@ -23,17 +23,6 @@ pub fn plain_seeds()
     ensures two { (program : List ℕ) → chosen (program ∷ codes "big" ∷ codes "0" ∷ codes "0" ∷ []) ≡ None }
 {}
 
-/// The options of `judge` are taken at the ends of their ranges, in any order, and refused beyond them.
-#[tactic(auto, using(crate::proofs::WordsLemmas::least_numbers_are_taken, crate::proofs::WordsLemmas::most_numbers_are_taken, crate::proofs::WordsLemmas::no_workers_are_refused, crate::proofs::WordsLemmas::more_workers_are_refused, crate::proofs::WordsLemmas::more_posters_are_refused, crate::proofs::WordsLemmas::more_steps_are_refused))]
-pub fn plain_options()
-    ensures least { (program : List ℕ) → chosen (program ∷ codes "judge" ∷ codes "--workers" ∷ codes "1" ∷ codes "--posters" ∷ codes "1" ∷ codes "--every" ∷ codes "1" ∷ []) ≡ Some Command.Judge }
-    ensures most { (program : List ℕ) → chosen (program ∷ codes "judge" ∷ codes "--every" ∷ codes "65536" ∷ codes "--posters" ∷ codes "16" ∷ codes "--workers" ∷ codes "64" ∷ []) ≡ Some Command.Judge }
-    ensures no_workers { (program : List ℕ) → chosen (program ∷ codes "judge" ∷ codes "--workers" ∷ codes "0" ∷ []) ≡ None }
-    ensures more_workers { (program : List ℕ) → chosen (program ∷ codes "judge" ∷ codes "--workers" ∷ codes "65" ∷ []) ≡ None }
-    ensures more_posters { (program : List ℕ) → chosen (program ∷ codes "judge" ∷ codes "--posters" ∷ codes "17" ∷ []) ≡ None }
-    ensures more_steps { (program : List ℕ) → chosen (program ∷ codes "judge" ∷ codes "--every" ∷ codes "65537" ∷ []) ≡ None }
-{}
-
 /// A seed that begins with a decimal digit is taken exactly where the whole word is a number below 2^32, and is that number.
 #[tactic(auto, using(crate::proofs::NumberLemmas::seeds_are_numbers))]
 pub fn seeds_are_numbers()
@@ -41,14 +30,13 @@ pub fn seeds_are_numbers()
         chosen (program ∷ codes "big" ∷ (digit ∷ rest) ∷ []) ≡ option_map Command.Big (seed_in (digit ∷ rest)) }
 {}
 
-/// The number of an option of `judge` that begins with a decimal digit is taken exactly where the whole word is a number in the
-/// option's range.
-#[tactic(auto, using(crate::proofs::NumberLemmas::workers_are_numbers, crate::proofs::NumberLemmas::posters_are_numbers, crate::proofs::NumberLemmas::every_are_numbers))]
-pub fn options_are_numbers()
-    ensures workers { (program : List ℕ) (digit : ℕ) (rest : List ℕ) → 48 ≤ digit → digit ≤ 57 →
-        chosen (program ∷ codes "judge" ∷ codes "--workers" ∷ (digit ∷ rest) ∷ []) ≡ (if is_unsigned_in 1 64 (digit ∷ rest) then Some Command.Judge else None) }
-    ensures posters { (program : List ℕ) (digit : ℕ) (rest : List ℕ) → 48 ≤ digit → digit ≤ 57 →
-        chosen (program ∷ codes "judge" ∷ codes "--posters" ∷ (digit ∷ rest) ∷ []) ≡ (if is_unsigned_in 1 16 (digit ∷ rest) then Some Command.Judge else None) }
-    ensures every { (program : List ℕ) (digit : ℕ) (rest : List ℕ) → 48 ≤ digit → digit ≤ 57 →
-        chosen (program ∷ codes "judge" ∷ codes "--every" ∷ (digit ∷ rest) ∷ []) ≡ (if is_unsigned_in 1 65536 (digit ∷ rest) then Some Command.Judge else None) }
+/// Options of `judge` and of `big`, however many and in whatever order, are taken exactly where each is given once and its number's
+/// word is a number in its option's range: so no option disturbs another. Each number's word, and the seed's, begins with a decimal
+/// digit.
+#[tactic(auto, using(crate::proofs::TakenLemmas::judge_options_are_taken, crate::proofs::BigLemmas::big_options_are_taken))]
+pub fn options_are_taken()
+    ensures judge { (program : List ℕ) (given : List Given) → AllDigits given →
+        chosen (program ∷ codes "judge" ∷ words_of given) ≡ (if are_taken given then Some Command.Judge else None) }
+    ensures big { (program seed : List ℕ) (given : List Given) → begins_with_digit seed ≡ true → AllDigits given →
+        chosen (program ∷ codes "big" ∷ seed ∷ words_of given) ≡ (if are_taken given then option_map Command.Big (seed_in seed) else None) }
 {}
