@@ -1,6 +1,5 @@
-pub mod EndingLemmas
-pub mod HeadlineLemmas
 pub mod OutcomeLemmas
-pub mod PlayLemmas
+pub mod KindLemmas
+pub mod HeadlineLemmas
+pub mod CaseLemmas
 pub mod ProcessLemmas
-pub mod HonestLemmas

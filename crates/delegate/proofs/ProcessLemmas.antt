@@ -1,7 +1,9 @@
 -- What an exit status says of the answer.
-use Rattle.std.proofs.Common.{◌≡◌, true}
-use Rattle.delegate.specs.Answered.{status_number, is_outcome}
-use Rattle.delegate.specs.Process.{is_whole}
+use Rattle.std.proofs.Common.{◌≡◌, true, ℕ, List, Option, Some, ap, sym, ◌∙◌}
+use Rattle.delegate.specs.Answered.{status_number, is_outcome, reads_all}
+use Rattle.delegate.specs.Process.{is_whole, is_read_whole, IsWrittenBy}
+use Rattle.delegate.specs.Writing.{IsWritten}
+use Rattle.delegate.specs.declared.response.Response.{Response}
 use Rattle.delegate.specs.declared.answered.Answered.{Answered}
 use Rattle.delegate.specs.declared.answered.Answered.TheVariants.{Done, Usage, Case, Image, ReadFault, WriteFault, AuditRefused, Memory, NoneLeft, Collision, TooLong}
 
@@ -57,4 +59,34 @@ status-9 NoneLeft is = absurd (cc)
 status-9 Collision is = absurd (cc)
 status-9 TooLong is = absurd (cc)
 
-pub ruleset status_facts = (whole, status-5, status-6, status-9)
+pub read_whole : (answered : Answered) → is_read_whole (status_number answered) ≡ true → reads_all answered ≡ true
+read_whole Done is = is
+read_whole Usage is = is
+read_whole Case is = is
+read_whole Image is = is
+read_whole ReadFault is = is
+read_whole WriteFault is = is
+read_whole AuditRefused is = is
+read_whole Memory is = is
+read_whole NoneLeft is = is
+read_whole Collision is = is
+read_whole TooLong is = is
+
+pub not-status-5 : (answered : Answered) → ¬ (status_number answered ≡ 5) → ¬ (answered ≡ ReadFault)
+not-status-5 answered other is = other (ap status_number is)
+
+pub not-status-6 : (answered : Answered) → ¬ (status_number answered ≡ 6) → ¬ (answered ≡ WriteFault)
+not-status-6 answered other is = other (ap status_number is)
+
+-- what was written whole has the status of its answer
+pub by-status : (response : Response) (answered : Answered) (status : ℕ) (before now : Option (List ℕ)) → status ≡ status_number answered → IsWritten response answered before now → IsWrittenBy response status before now
+by-status response answered status before now is written = record { status_is = is ∙ ap status_number written.answered; text = written.text }
+
+pub whole-by : (answered : Answered) (status : ℕ) → status ≡ status_number answered → is_whole status ≡ true → is_outcome answered ≡ true
+whole-by answered status is wholly = whole answered (sym (ap is_whole is) ∙ wholly)
+
+-- the arguments are those that were given
+pub same-words : (given_words : Option (List (List ℕ))) (words other : List (List ℕ)) → Some words ≡ given_words → given_words ≡ Some other → words ≡ other
+same-words given_words words other is also = (let both = is ∙ also in cc both)
+
+pub ruleset status_facts = (whole, read_whole, status-5, status-6, status-9, not-status-5, not-status-6)

@@ -1,14 +1,12 @@
-ghost use Rattle.std.specs.Prelude.{◌≡◌, ◌≢◌, ◌↔◌, ℕ, List, true, false, None, IfSome, codes};
+//! The top call.
+ghost use Rattle.std.specs.Prelude.{◌≡◌, ◌≢◌, ◌↔◌, true, false, None, IfSome, codes};
 ghost use Rattle.std.specs.Io.KnownBytes.{Appends, IsAtEnd};
 ghost use Rattle.io_edge.specs.Device.{Rises, IsLaterIn, AppendsPart};
-ghost use Rattle.case_reader.specs.Case.{CaseData};
-ghost use Rattle.image_reader.specs.Image.{Image};
 ghost use Rattle.delegate.specs.Answered.{is_outcome, is_of_a_command, reads_all};
-ghost use Rattle.sha2.specs.Sha256.{sha256};
-ghost use Rattle.delegate.specs.Outcome.{outcome, reported, start_of};
-ghost use Rattle.delegate.specs.Headline.{IsCase, IsTruthful, Headline};
+ghost use Rattle.delegate.specs.Outcome.{outcome};
+ghost use Rattle.delegate.specs.Headline.{AnswersTheCase, KeepsTheTruthful};
 ghost use Rattle.delegate.specs.Visible.{ForItsBytes};
-ghost use Rattle.command_line.specs.declared.request.Command.{Command};
+ghost use Rattle.delegate.specs.Writing.{IsWritten};
 ghost use Rattle.command_line.specs.Words.{texts, chosen, reads};
 
 use crate::answered::Answered;
@@ -33,9 +31,7 @@ pub fn run<R: Threads + Wait + Sync, S: Source, K: Sink>(
     sink: &mut K,
 ) -> Answered
     // What it answers and writes, for the source's bytes where they are visible, and for some bytes where they aren't.
-    ensures answers { is_outcome result ≡ true → ForItsBytes (S.left source.old) (λ bytes.
-        (result ≡ (outcome (texts words.now) bytes).answered)
-        × Appends (K.held sink.old) (K.held sink.new) (outcome (texts words.now) bytes).text) }
+    ensures answers { is_outcome result ≡ true → ForItsBytes (S.left source.old) (λ bytes. IsWritten (outcome (texts words.now) bytes) result (K.held sink.old) (K.held sink.new)) }
     ensures of_a_command { is_outcome result ≡ true → is_of_a_command result ≡ true }
 
     // Arguments that name no command are refused, and nothing is read; nor is it for a large workload.
@@ -59,18 +55,16 @@ pub fn run<R: Threads + Wait + Sync, S: Source, K: Sink>(
     ensures nothing_read_fault { result ≡ Answered.ReadFault → K.held sink.new ≡ K.held sink.old }
     ensures nothing_memory { result ≡ Answered.Memory → K.held sink.new ≡ K.held sink.old }
 
-    // Completeness: each case is answered by the verdict of its record, and its report or summary is written whole.
-    ensures completeness { is_outcome result ≡ true → IfSome (S.left source.old) (λ bytes.
-        (command : Command) (c : CaseData) (image : Image) → IsCase (texts words.now) bytes command c image →
-        (result ≡ (reported sha256 command c (start_of c image)).answered)
-        × Appends (K.held sink.old) (K.held sink.new) (reported sha256 command c (start_of c image)).text) }
+    // Completeness, of the same bytes: each case is answered by the verdict of its record, and its report or summary is written whole.
+    ensures completeness { is_outcome result ≡ true → ForItsBytes (S.left source.old) (λ bytes.
+        IsWritten (outcome (texts words.now) bytes) result (K.held sink.old) (K.held sink.new)
+        × AnswersTheCase (texts words.now) bytes (outcome (texts words.now) bytes)) }
 
-    // The headline: a prover that claims and answers as the machine's definition says, within its patience, is not
-    // eliminated, and the report accepts the sequential run's status and output or shows a collision. No option is named.
-    ensures headline { is_outcome result ≡ true → IfSome (S.left source.old) (λ bytes.
-        (command : Command) (c : CaseData) (image : Image) (p : ℕ) → IsCase (texts words.now) bytes command c image → IsTruthful c (start_of c image) p →
-        (text : List ℕ) × Headline command (record { answered = result; text = text }) c (start_of c image) p
-        × Appends (K.held sink.old) (K.held sink.new) text) }
+    // The headline, of the same bytes: a prover that claims and answers as the machine's definition says, within its patience, is
+    // not eliminated, and the text accepts the sequential run's status and output or shows a collision. No option is named.
+    ensures headline { is_outcome result ≡ true → ForItsBytes (S.left source.old) (λ bytes.
+        IsWritten (outcome (texts words.now) bytes) result (K.held sink.old) (K.held sink.new)
+        × KeepsTheTruthful (texts words.now) bytes (outcome (texts words.now) bytes)) }
 {
     the_headline();
     let response = match respond(rt, alloc, words, source) {

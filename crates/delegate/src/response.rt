@@ -1,6 +1,6 @@
 ghost use Rattle.std.specs.Prelude.{◌≡◌};
-ghost use Rattle.delegate.specs.declared.response.Halt.TheVariants.{Memory as no_memory};
-ghost use Rattle.delegate.specs.declared.response.Stop.TheVariants.{Halted};
+ghost use Rattle.delegate.specs.declared.response.Halt.TheVariants.{Memory as halted};
+ghost use Rattle.delegate.specs.declared.response.Stop.TheVariants.{Memory as stopped};
 
 use crate::answered::Answered;
 use rd_base::{Bytes, Memory};
@@ -13,6 +13,31 @@ pub struct Response {
     pub text: Bytes,
 }
 
+/// Why a command isn't carried out.
+#[derive(Debug, Drop)]
+pub enum Stop {
+    /// It is refused, with this response.
+    Refused(Response),
+    /// An allocation was refused.
+    Memory,
+}
+
+impl From<Memory> for Stop {
+    ghost from_gives = { λ _ stop. stop ≡ stopped };
+
+    fn from(_e: Memory) -> Stop {
+        Stop::Memory
+    }
+}
+
+impl From<AllocError> for Stop {
+    ghost from_gives = { λ _ stop. stop ≡ stopped };
+
+    fn from(_e: AllocError) -> Stop {
+        Stop::Memory
+    }
+}
+
 /// Why there is nothing to write.
 #[derive(Clone, Copy, Debug, PartialEq, Eq)]
 pub enum Halt {
@@ -22,27 +47,10 @@ pub enum Halt {
     Memory,
 }
 
-/// Why a command isn't carried out.
-#[derive(Debug, Drop)]
-pub enum Stop {
-    /// It is refused, with this response.
-    Refused(Response),
-    /// There is nothing to write.
-    Halted(Halt),
-}
+impl From<AllocError> for Halt {
+    ghost from_gives = { λ _ halt. halt ≡ halted };
 
-impl From<Memory> for Stop {
-    ghost from_gives = { λ _ stop. stop ≡ Halted no_memory };
-
-    fn from(_e: Memory) -> Stop {
-        Stop::Halted(Halt::Memory)
-    }
-}
-
-impl From<AllocError> for Stop {
-    ghost from_gives = { λ _ stop. stop ≡ Halted no_memory };
-
-    fn from(_e: AllocError) -> Stop {
-        Stop::Halted(Halt::Memory)
+    fn from(_e: AllocError) -> Halt {
+        Halt::Memory
     }
 }

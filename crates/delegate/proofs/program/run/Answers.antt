@@ -1,33 +1,62 @@
-use Rattle.std.proofs.Common.{sym, subst, ap, ◌∙◌}
+use Rattle.std.proofs.Common.{refl, subst, ap, ◌∙◌}
 use Rattle.std.specs.Io.KnownBytes.{Appends}
-use Rattle.delegate.specs.Headline.{Headline}
-use Rattle.delegate.specs.Outcome.{start_of}
 use Rattle.command_line.specs.Words.{texts}
-use Rattle.delegate.proofs.HeadlineLemmas.{outcome-case}
-use Rattle.delegate.proofs.OutcomeLemmas.{for_visible, response-usage_text}
+use Rattle.delegate.specs.declared.answered.Answered.TheVariants.{ReadFault, WriteFault, Memory}
+use Rattle.delegate.proofs.OutcomeLemmas.{for_its_bytes}
+use Rattle.delegate.proofs.CaseLemmas.{outcome-case, outcome-headline}
+use Rattle.delegate.proofs.KindLemmas.{response-kind, response-of_a_command, response-usage, response-usage_text, no-fault}
 use Rattle.delegate.proofs.program.run.Goals as goal
+
+pub returns-in-Ok-write_all-clause-of_a_command : goal.returns-in-Ok-write_all-clause-of_a_command
+returns-in-Ok-write_all-clause-of_a_command g c = λ whole. response-of_a_command (g.S.Source.left c.args.source.now) (texts c.args.words.now) _ c.in-Ok.response c.in-Ok.ensures.outcome
+
+pub returns-in-Ok-write_all-clause-usage : goal.returns-in-Ok-write_all-clause-usage
+returns-in-Ok-write_all-clause-usage g c = λ whole. response-usage (g.S.Source.left c.args.source.now) (texts c.args.words.now) _ c.in-Ok.response c.in-Ok.ensures.outcome
 
 pub returns-in-Ok-write_all-clause-usage_text : goal.returns-in-Ok-write_all-clause-usage_text
 returns-in-Ok-write_all-clause-usage_text g c = λ usage.
     subst (λ bytes. Appends (g.K.Sink.held c.args.sink.now) (g.K.Sink.held c.write_all.new.sink) bytes)
-    (c.as_slice.ensures ∙ response-usage_text (g.S.Source.left c.args.source.now) (texts c.args.words.now) c.in-Ok.response c.in-Ok.ensures.outcome usage)
+    (c.as_slice.ensures ∙ response-usage_text (g.S.Source.left c.args.source.now) (texts c.args.words.now) _ c.in-Ok.response c.in-Ok.ensures.outcome usage)
     c.in-Ok-write_all.ensures.ok
 
+-- what was written whole is no fault
+
+pub returns-in-Ok-write_all-clause-read_fault : goal.returns-in-Ok-write_all-clause-read_fault
+returns-in-Ok-write_all-clause-read_fault g c = λ is.
+    absurd (no-fault c.in-Ok.response.answered ReadFault (response-kind (g.S.Source.left c.args.source.now) (texts c.args.words.now) _ c.in-Ok.response c.in-Ok.ensures.outcome) refl is)
+
+pub returns-in-Ok-write_all-clause-write_fault : goal.returns-in-Ok-write_all-clause-write_fault
+returns-in-Ok-write_all-clause-write_fault g c = λ is.
+    absurd (no-fault c.in-Ok.response.answered WriteFault (response-kind (g.S.Source.left c.args.source.now) (texts c.args.words.now) _ c.in-Ok.response c.in-Ok.ensures.outcome) refl is)
+
+pub returns-in-Ok-write_all-clause-nothing_read_fault : goal.returns-in-Ok-write_all-clause-nothing_read_fault
+returns-in-Ok-write_all-clause-nothing_read_fault g c = λ is.
+    absurd (no-fault c.in-Ok.response.answered ReadFault (response-kind (g.S.Source.left c.args.source.now) (texts c.args.words.now) _ c.in-Ok.response c.in-Ok.ensures.outcome) refl is)
+
+pub returns-in-Ok-write_all-clause-nothing_memory : goal.returns-in-Ok-write_all-clause-nothing_memory
+returns-in-Ok-write_all-clause-nothing_memory g c = λ is.
+    absurd (no-fault c.in-Ok.response.answered Memory (response-kind (g.S.Source.left c.args.source.now) (texts c.args.words.now) _ c.in-Ok.response c.in-Ok.ensures.outcome) refl is)
+
+-- the same bytes serve for what is answered, for completeness and for the headline
+
 pub returns-in-Ok-write_all-clause-completeness : goal.returns-in-Ok-write_all-clause-completeness
-returns-in-Ok-write_all-clause-completeness g c = λ own.
-    let its = c.in-Ok.ensures.cases in
-    for_visible (g.S.Source.left c.args.source.now) _ its.0 its.1 (λ command case image reads.
-    let same = its.2.0 ∙ outcome-case (texts c.args.words.now) its.0 command case image reads in (
-      ap (λ r. r.answered) same,
-      subst (λ bytes. Appends (g.K.Sink.held c.args.sink.now) (g.K.Sink.held c.write_all.new.sink) bytes) (c.as_slice.ensures ∙ ap (λ r. r.text) same) c.in-Ok-write_all.ensures.ok,
-    ))
+returns-in-Ok-write_all-clause-completeness g c = λ whole.
+    for_its_bytes (g.S.Source.left c.args.source.now) _ _
+    (λ bytes its. (
+      record {
+        answered = ap (λ r. r.answered) its.0;
+        text = subst (λ text. Appends (g.K.Sink.held c.args.sink.now) (g.K.Sink.held c.write_all.new.sink) text) (c.as_slice.ensures ∙ ap (λ r. r.text) its.0) c.in-Ok-write_all.ensures.ok;
+      },
+      outcome-case (texts c.args.words.now) bytes,
+    )) c.in-Ok.ensures.outcome
 
 pub returns-in-Ok-write_all-clause-headline : goal.returns-in-Ok-write_all-clause-headline
-returns-in-Ok-write_all-clause-headline g c = λ own.
-    let its = c.in-Ok.ensures.cases in
-    for_visible (g.S.Source.left c.args.source.now) _ its.0 its.1 (λ command case image p reads truthful. (
-      c.in-Ok.response.text,
-      subst (λ response. Headline command response case (start_of case image) p) (sym (its.2.0 ∙ outcome-case (texts c.args.words.now) its.0 command case image reads))
-          (c.the_headline.ensures command case (start_of case image) p (its.2.1 command case image reads) truthful),
-      subst (λ bytes. Appends (g.K.Sink.held c.args.sink.now) (g.K.Sink.held c.write_all.new.sink) bytes) c.as_slice.ensures c.in-Ok-write_all.ensures.ok,
-    ))
+returns-in-Ok-write_all-clause-headline g c = λ whole.
+    for_its_bytes (g.S.Source.left c.args.source.now) _ _
+    (λ bytes its. (
+      record {
+        answered = ap (λ r. r.answered) its.0;
+        text = subst (λ text. Appends (g.K.Sink.held c.args.sink.now) (g.K.Sink.held c.write_all.new.sink) text) (c.as_slice.ensures ∙ ap (λ r. r.text) its.0) c.in-Ok-write_all.ensures.ok;
+      },
+      outcome-headline c.the_headline.ensures (texts c.args.words.now) bytes its.1,
+    )) c.in-Ok.ensures.outcome

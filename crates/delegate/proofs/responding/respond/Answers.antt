@@ -1,51 +1,43 @@
-use Rattle.std.proofs.Common.{◌≡◌, Ok, Err}
-use Rattle.delegate.specs.Outcome.{carried_out, outcome}
-use Rattle.delegate.specs.Stages.{CasesAreInRange}
-use Rattle.command_line.specs.Words.{texts}
-use Rattle.delegate.proofs.HeadlineLemmas.{refused-in-range}
-use Rattle.delegate.proofs.OutcomeLemmas.{for_its_bytes, outcome-ok, outcome-err, response-kind, response-of_a_command, response-usage}
+use Rattle.std.proofs.Common.{◌≡◌, ◌∙◌, ap, sym, subst, Some, None, Ok, Err, option_map}
+use Rattle.command_line.specs.Words.{texts, chosen}
+use Rattle.command_line.specs.declared.request.Request.{Request}
+use Rattle.delegate.specs.Outcome.{bytes_for}
+use Rattle.delegate.specs.Refusal.{usage, too_long}
+use Rattle.delegate.proofs.OutcomeLemmas.{no_command, no_bytes, both_steps, some_bytes, for_its_bytes}
+use Rattle.delegate.proofs.CaseLemmas.{IsIt, refused-is-it, carried-is-it}
 use Rattle.delegate.proofs.responding.respond.Goals as goal
 
-pub returns-in-Ok-clause-outcome : goal.returns-in-Ok-clause-outcome
-returns-in-Ok-clause-outcome g c =
-    for_its_bytes (g.S.Source.left c.args.source.now) (λ bytes. (carried_out (texts c.args.words.now) bytes ≡ Ok c.in-Ok.response) × CasesAreInRange (texts c.args.words.now) bytes)
-    (λ bytes. c.in-Ok.response ≡ outcome (texts c.args.words.now) bytes)
-    (λ bytes is. outcome-ok (texts c.args.words.now) bytes c.in-Ok.response is.0) c.in-Ok.ensures.done
+pub returns-in-Ok-None-clause-outcome : goal.returns-in-Ok-None-clause-outcome
+returns-in-Ok-None-clause-outcome g c =
+    let words = texts c.args.words.now in
+    let none : chosen words ≡ None = sym c.in-Ok-None.ensures.command ∙ ap (option_map (λ (request : Request). request.command)) c.in-Ok-None.field-0-is in
+    some_bytes (g.S.Source.left c.args.source.now) (λ bytes. IsIt words bytes c.in_ok-usage-in-Ok-None.field-0)
+    (λ bytes. subst (IsIt words bytes) (sym c.in_ok-usage-in-Ok-None.ensures) (refused-is-it words bytes usage (no_command words bytes none)))
 
-pub returns-in-Ok-clause-cases : goal.returns-in-Ok-clause-cases
-returns-in-Ok-clause-cases g c =
-    for_its_bytes (g.S.Source.left c.args.source.now) (λ bytes. (carried_out (texts c.args.words.now) bytes ≡ Ok c.in-Ok.response) × CasesAreInRange (texts c.args.words.now) bytes)
-    (λ bytes. (c.in-Ok.response ≡ outcome (texts c.args.words.now) bytes) × CasesAreInRange (texts c.args.words.now) bytes)
-    (λ bytes is. (outcome-ok (texts c.args.words.now) bytes c.in-Ok.response is.0, is.1)) c.in-Ok.ensures.done
+pub returns-in-Err-TooLong-clause-outcome : goal.returns-in-Err-TooLong-clause-outcome
+returns-in-Err-TooLong-clause-outcome g c =
+    let words = texts c.args.words.now in
+    let command = c.in-Ok-Some.request.command in
+    let taken : chosen words ≡ Some command = sym c.in-Ok-Some.ensures.command ∙ ap (option_map (λ (request : Request). request.command)) c.in-Ok-Some.field-0-is in
+    for_its_bytes (g.S.Source.left c.args.source.now) (λ bytes. bytes_for command bytes ≡ Err too_long) (λ bytes. IsIt words bytes c.in_ok-too_long-in-Err-TooLong.field-0)
+    (λ bytes refused. subst (IsIt words bytes) (sym c.in_ok-too_long-in-Err-TooLong.ensures) (refused-is-it words bytes too_long (no_bytes words bytes command too_long taken refused)))
+    (c.in-Err-TooLong.ensures.too_long (ap Err c.in-Err-TooLong.field-0-is))
 
-pub returns-in-Ok-clause-kind : goal.returns-in-Ok-clause-kind
-returns-in-Ok-clause-kind g c = response-kind (g.S.Source.left c.args.source.now) (texts c.args.words.now) c.in-Ok.response (returns-in-Ok-clause-outcome g c)
-
-pub returns-in-Ok-clause-of_a_command : goal.returns-in-Ok-clause-of_a_command
-returns-in-Ok-clause-of_a_command g c = response-of_a_command (g.S.Source.left c.args.source.now) (texts c.args.words.now) c.in-Ok.response (returns-in-Ok-clause-outcome g c)
-
-pub returns-in-Ok-clause-usage : goal.returns-in-Ok-clause-usage
-returns-in-Ok-clause-usage g c = response-usage (g.S.Source.left c.args.source.now) (texts c.args.words.now) c.in-Ok.response (returns-in-Ok-clause-outcome g c)
+pub returns-in-Ok-carry_out-clause-outcome : goal.returns-in-Ok-carry_out-clause-outcome
+returns-in-Ok-carry_out-clause-outcome g c =
+    let words = texts c.args.words.now in
+    let command = c.in-Ok-Some.request.command in
+    let taken : chosen words ≡ Some command = sym c.in-Ok-Some.ensures.command ∙ ap (option_map (λ (request : Request). request.command)) c.in-Ok-Some.field-0-is in
+    for_its_bytes (g.S.Source.left c.args.source.now) (λ bytes. bytes_for command bytes ≡ Ok c.in-Ok.bytes.items) (λ bytes. IsIt words bytes c.in-Ok-carry_out.response)
+    (λ bytes read. carried-is-it words bytes c.in-Ok.bytes.items command c.in-Ok-carry_out.response taken read c.in-Ok-carry_out.ensures.stands c.in-Ok-carry_out.ensures.in_range)
+    c.in-Ok.ensures.done
 
 pub returns-in-Err-Refused-clause-outcome : goal.returns-in-Err-Refused-clause-outcome
 returns-in-Err-Refused-clause-outcome g c =
-    for_its_bytes (g.S.Source.left c.args.source.now) (λ bytes. carried_out (texts c.args.words.now) bytes ≡ Err c.in-Err-Refused.response) (λ bytes. c.in-Err-Refused.response ≡ outcome (texts c.args.words.now) bytes)
-    (λ bytes is. outcome-err (texts c.args.words.now) bytes c.in-Err-Refused.response is)
-    (c.carry_out.ensures.refused c.in-Err-Refused.response (cc))
-
-pub returns-in-Err-Refused-clause-cases : goal.returns-in-Err-Refused-clause-cases
-returns-in-Err-Refused-clause-cases g c =
-    for_its_bytes (g.S.Source.left c.args.source.now) (λ bytes. carried_out (texts c.args.words.now) bytes ≡ Err c.in-Err-Refused.response)
-    (λ bytes. (c.in-Err-Refused.response ≡ outcome (texts c.args.words.now) bytes) × CasesAreInRange (texts c.args.words.now) bytes)
-    (λ bytes is. (outcome-err (texts c.args.words.now) bytes c.in-Err-Refused.response is, refused-in-range (texts c.args.words.now) bytes c.in-Err-Refused.response is))
-    (c.carry_out.ensures.refused c.in-Err-Refused.response (cc))
-
-pub returns-in-Err-Refused-clause-kind : goal.returns-in-Err-Refused-clause-kind
-returns-in-Err-Refused-clause-kind g c = response-kind (g.S.Source.left c.args.source.now) (texts c.args.words.now) c.in-Err-Refused.response (returns-in-Err-Refused-clause-outcome g c)
-
-pub returns-in-Err-Refused-clause-of_a_command : goal.returns-in-Err-Refused-clause-of_a_command
-returns-in-Err-Refused-clause-of_a_command g c =
-    response-of_a_command (g.S.Source.left c.args.source.now) (texts c.args.words.now) c.in-Err-Refused.response (returns-in-Err-Refused-clause-outcome g c)
-
-pub returns-in-Err-Refused-clause-usage : goal.returns-in-Err-Refused-clause-usage
-returns-in-Err-Refused-clause-usage g c = response-usage (g.S.Source.left c.args.source.now) (texts c.args.words.now) c.in-Err-Refused.response (returns-in-Err-Refused-clause-outcome g c)
+    let words = texts c.args.words.now in
+    let command = c.in-Ok-Some.request.command in
+    let taken : chosen words ≡ Some command = sym c.in-Ok-Some.ensures.command ∙ ap (option_map (λ (request : Request). request.command)) c.in-Ok-Some.field-0-is in
+    for_its_bytes (g.S.Source.left c.args.source.now) (λ bytes. bytes_for command bytes ≡ Ok c.in-Ok.bytes.items) (λ bytes. IsIt words bytes c.in-Err-Refused.response)
+    (λ bytes read. refused-is-it words bytes c.in-Err-Refused.response
+    (both_steps words bytes c.in-Ok.bytes.items command taken read ∙ c.in-Err-Refused.ensures.stands c.in-Err-Refused.response c.in-Err-Refused.field-0-is))
+    c.in-Ok.ensures.done

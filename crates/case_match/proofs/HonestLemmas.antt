@@ -1,0 +1,157 @@
+-- A prover with an untouched run and an honest manner is truthful in each case.
+use Rattle.std.proofs.Common.{◌≡◌, ℕ, zero, suc, ◌+◌, ◌-◌, ◌<◌, ◌≤◌, min, nat_lt, nat_le, Bool, true, false, ◌&&◌, if◌then◌else◌, List, [], ◌∷◌, length, map, slice_get, Option, Some, None, refl, ◌∙◌, ap, ap₂, arith}
+use Rattle.std.proofs.lemmas.Bool.Decides.{nat_tests}
+use Rattle.rd_base.specs.declared.answer.Answer.{Answer}
+use Rattle.rd_base.specs.declared.digest.Digest32.{Digest32}
+use Rattle.rd_base.specs.declared.script.Script.{Script}
+use Rattle.rd_base.specs.declared.script.Manner.{Manner}
+use Rattle.rd_base.specs.declared.script.Manner.TheVariants.{Plain, Late, Silent, Output}
+use Rattle.rd_base.specs.declared.tamper.Tamper.TheVariants.{Untouched}
+use Rattle.checkpoint_run.specs.TamperedRun.{run_at}
+use Rattle.rv_step.specs.State.{State}
+use Rattle.rv_step.specs.Step.{state_at}
+use Rattle.case_reader.specs.Case.{CaseData}
+use Rattle.bisect_game.specs.declared.question.Kind.{Kind}
+use Rattle.bisect_game.specs.declared.question.Kind.TheVariants as kind
+use Rattle.bisect_game.specs.declared.question.Question.{Question}
+use Rattle.bisect_game.specs.Bisection.{cut, cuts, cuts_from, can_cut}
+use Rattle.bisect_game.specs.Laws.{CutsDivide}
+use Rattle.bisect_game.specs.Truth.{IsTrueAnswer}
+use Rattle.tournament.specs.Asked.{IsCut, IsWithinBound, AskedIsWithinBound}
+use Rattle.tournament.specs.Journals.{answers_of}
+use Rattle.tournament.specs.Truthful.{AnswersTruly}
+use Rattle.step_referee.specs.MachineTruth.{machine_truth}
+use Rattle.prover_run.specs.Plain.{plain, plain_root, plain_says}
+use Rattle.prover_run.specs.CaseScripts.{script_says, case_says}
+use Rattle.case_match.specs.Match.{rules_of_case, says_of_case, truth_of_case}
+use Rattle.case_match.specs.HonestScripts.{untampered, IsHonest, UntouchedProversAreTruthful}
+
+-- what the laws of the scripts say
+
+abbrev PlainSays : Type 0
+PlainSays = (digest : List ℕ → List ℕ) (start : State) (bound : ℕ) (q : Question) (passes : ℕ) →
+    script_says digest start bound (untampered Plain) q passes ≡ Some (plain digest (state_at start) bound q.kind)
+
+abbrev LateSays : Type 0
+LateSays = (digest : List ℕ → List ℕ) (start : State) (bound many : ℕ) (q : Question) (passes : ℕ) → many ≤ passes →
+    script_says digest start bound (untampered (Late many)) q passes ≡ Some (plain digest (state_at start) bound q.kind)
+
+abbrev OutputSays : Type 0
+OutputSays = (digest : List ℕ → List ℕ) (start : State) (bound : ℕ) (q : Question) (passes : ℕ) →
+    script_says digest start bound (untampered (Output (state_at start bound).output)) q passes ≡ Some (plain digest (state_at start) bound q.kind)
+
+abbrev SaysByScript : Type 0
+SaysByScript = (digest : List ℕ → List ℕ) (start : State) (bound : ℕ) (scripts : List Script) (p : ℕ) (script : Script) →
+    slice_get scripts (p - 1) ≡ Some script → case_says digest start bound scripts p ≡ script_says digest start bound script
+
+pub record ScriptLaws : Type 0 where
+  pub plain_ : PlainSays
+  pub late : LateSays
+  pub output : OutputSays
+  pub by_script : SaysByScript
+
+-- the roots at the cuts of an interval within the bound are those of the run
+
+if-true : {A : Type 0} (b : Bool) (x y : A) → b ≡ true → (if b then x else y) ≡ x
+if-true true x y e = refl
+if-true false x y e = absurd (cc)
+
+and-true : (a b c : Bool) → a ≡ true → b ≡ true → c ≡ true → (a && (b && c)) ≡ true
+and-true true true true e f g = refl
+and-true true true false e f g = absurd (cc)
+and-true true false c e f g = absurd (cc)
+and-true false b c e f g = absurd (cc)
+
+is-cut : (bound lo hi parts : ℕ) → IsCut bound lo hi parts → can_cut lo hi parts ≡ true
+is-cut bound lo hi parts is =
+    let parted = is.parted in
+    let few = is.few_parts in
+    let long = is.long in
+    and-true (nat_le 2 parts) (nat_le parts 16) (nat_le parts (hi - lo)) (grind (arith, nat_tests)) (grind (arith, nat_tests)) (grind (arith, nat_tests))
+
+cut-below : CutsDivide → (lo hi parts j m : ℕ) → 0 < parts → parts ≤ hi - lo → j + m ≡ parts → cut lo hi parts j ≤ hi
+cut-below divide lo hi parts j zero some long is =
+    let last : j ≡ parts = omega (arith, is) in
+    let end_ = divide.end_ lo hi parts some (omega (arith, some, long)) in
+    rw last (omega (arith, end_))
+cut-below divide lo hi parts j (suc m) some long is =
+    let rise = divide.rise lo hi parts j some long (omega (arith, is)) in
+    let rest = cut-below divide lo hi parts (j + 1) m some long (omega (arith, is)) in
+    omega (arith, rise, rest)
+
+root-true : (digest : List ℕ → List ℕ) (start : State) (bound i : ℕ) → i ≤ bound → plain_root digest (state_at start) bound i ≡ (machine_truth digest start bound).root i
+root-true digest start bound i low = let e : min i bound ≡ i = omega (arith, low) in ap (machine_truth digest start bound).root e
+
+roots-true : (digest : List ℕ → List ℕ) (start : State) (bound : ℕ) → CutsDivide → (lo hi parts j n : ℕ) → 0 < parts → parts ≤ hi - lo → hi ≤ bound → j + n ≤ parts →
+    map (plain_root digest (state_at start) bound) (cuts_from lo hi parts j n) ≡ map (machine_truth digest start bound).root (cuts_from lo hi parts j n)
+roots-true digest start bound divide lo hi parts j zero some long high room = refl
+roots-true digest start bound divide lo hi parts j (suc n) some long high room =
+    let below = cut-below divide lo hi parts j (parts - j) some long (omega (arith, room)) in
+    ap₂ (λ (x : Digest32) (xs : List Digest32). x ∷ xs) (root-true digest start bound (cut lo hi parts j) (omega (arith, below, high)))
+    (roots-true digest start bound divide lo hi parts (j + 1) n some long high (omega (arith, room)))
+
+-- the plain answer within the bound is true
+plain-true : (digest : List ℕ → List ℕ) → CutsDivide → (start : State) (bound : ℕ) (k : Kind) → IsWithinBound bound k → IsTrueAnswer (machine_truth digest start bound) k (plain digest (state_at start) bound k)
+plain-true digest divide start bound kind.Claim within = refl
+plain-true digest divide start bound (kind.Root i) within = root-true digest start bound i (omega (arith, within.1))
+plain-true digest divide start bound (kind.Roots lo hi parts) is =
+    let parted = is.parted in
+    ap (map (plain_root digest (state_at start) bound)) (if-true (can_cut lo hi parts) (cuts lo hi parts) (lo ∷ []) (is-cut bound lo hi parts is))
+    ∙ roots-true digest start bound divide lo hi parts 1 (parts - 1) (omega (arith, parted)) is.long is.high (omega (arith, parted))
+plain-true digest divide start bound (kind.Proof i) within = let e : min i bound ≡ i = omega (arith, within) in ap (machine_truth digest start bound).proof e
+
+passes-by : (o : Option Answer) (b : Bool) → b ≡ true → (if b then None else o) ≡ None
+passes-by o true e = refl
+passes-by o false e = absurd (cc)
+
+late-passes : (digest : List ℕ → List ℕ) (start : State) (bound many : ℕ) (q : Question) (n : ℕ) → n < many → script_says digest start bound (untampered (Late many)) q n ≡ None
+late-passes digest start bound many q n lt = let yes : nat_lt n many ≡ true = grind (arith, nat_tests) in passes-by (plain_says digest (run_at Untouched start) bound q n) (nat_lt n many) yes
+
+answers-by : (digest : List ℕ → List ℕ) (laws : ScriptLaws) (c : CaseData) (start : State) (p : ℕ) (manner : Manner) (q : Question) → slice_get c.provers (p - 1) ≡ Some (untampered manner) → IsHonest c start manner →
+    IsTrueAnswer (truth_of_case digest c start) q.kind (plain digest (state_at start) c.bound q.kind) → AnswersTruly (says_of_case digest c start) c.patience (truth_of_case digest c start) p q
+answers-by digest laws c start p Plain q is honest true_ =
+    let says : case_says digest start c.bound c.provers p ≡ script_says digest start c.bound (untampered Plain) = laws.by_script digest start c.bound c.provers p _ is in
+    record {
+      passes = 0;
+      few = omega arith;
+      passing = λ n lt. absurd (omega (arith, lt));
+      answer = plain digest (state_at start) c.bound q.kind;
+      gives = ap (λ (f : Question → ℕ → Option Answer). f q 0) says ∙ laws.plain_ digest start c.bound q 0;
+      is_true = true_;
+    }
+answers-by digest laws c start p (Late many) q is honest true_ =
+    let says : case_says digest start c.bound c.provers p ≡ script_says digest start c.bound (untampered (Late many)) = laws.by_script digest start c.bound c.provers p _ is in
+    record {
+      passes = many;
+      few = honest;
+      passing = λ n lt. ap (λ (f : Question → ℕ → Option Answer). f q n) says ∙ late-passes digest start c.bound many q n lt;
+      answer = plain digest (state_at start) c.bound q.kind;
+      gives = ap (λ (f : Question → ℕ → Option Answer). f q many) says ∙ laws.late digest start c.bound many q many (omega arith);
+      is_true = true_;
+    }
+answers-by digest laws c start p (Silent from) q is honest true_ = absurd honest
+answers-by digest laws c start p (Output bytes) q is honest true_ =
+    let same : slice_get c.provers (p - 1) ≡ Some (untampered (Output (state_at start c.bound).output)) = is ∙ ap (λ (o : List ℕ). Some (untampered (Output o))) honest in
+    let says : case_says digest start c.bound c.provers p ≡ script_says digest start c.bound (untampered (Output (state_at start c.bound).output)) =
+    laws.by_script digest start c.bound c.provers p _ same in
+    record {
+      passes = 0;
+      few = omega arith;
+      passing = λ n lt. absurd (omega (arith, lt));
+      answer = plain digest (state_at start) c.bound q.kind;
+      gives = ap (λ (f : Question → ℕ → Option Answer). f q 0) says ∙ laws.output digest start c.bound q 0;
+      is_true = true_;
+    }
+
+there-at : (scripts : List Script) (k : ℕ) (script : Script) → slice_get scripts k ≡ Some script → k < length scripts
+there-at [] k script e = absurd (cc)
+there-at (x ∷ xs) zero script e = omega arith
+there-at (x ∷ xs) (suc k) script e = omega (arith, there-at xs k script e)
+
+pub untouched-are-truthful : (digest : List ℕ → List ℕ) → ScriptLaws → CutsDivide → AskedIsWithinBound → UntouchedProversAreTruthful digest
+untouched-are-truthful digest laws divide within c start p manner range some is honest = record {
+  some = some;
+  there = omega (arith, some, there-at c.provers (p - 1) _ is);
+  answers = λ q asked_. answers-by digest laws c start p manner q is honest (plain-true digest divide start c.bound q.kind
+      (within (rules_of_case digest c start) (answers_of (rules_of_case digest c start) (says_of_case digest c start)) p q.qid q.kind (record { some = range.some; parted = omega arith; few_parts = omega arith; steps = range.steps }) asked_));
+}

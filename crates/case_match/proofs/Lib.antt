@@ -1,0 +1,4 @@
+pub mod EndingLemmas
+pub mod PlayLemmas
+pub mod SafetyLemmas
+pub mod HonestLemmas

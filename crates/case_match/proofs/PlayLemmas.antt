@@ -1,0 +1,39 @@
+-- The match that is played is that of the case.
+use Rattle.std.proofs.Common.{◌≡◌, ℕ, List, length, Option, sym, subst, ◌∙◌, ap, ap₂}
+use Rattle.rd_base.specs.declared.answer.Answer.{Answer}
+use Rattle.rd_base.specs.declared.digest.Digest32.{Digest32}
+use Rattle.rd_base.specs.declared.script.Script.{Script}
+use Rattle.bisect_game.specs.declared.question.Question.{Question}
+use Rattle.bisect_game.specs.Says.{AnswerAs}
+use Rattle.bisect_game.specs.Rules.{Rules}
+use Rattle.rv_step.specs.State.{State}
+use Rattle.state_commit.specs.StateRoot.{state_root}
+use Rattle.tournament.specs.Bracket.{Record, bracket}
+use Rattle.tournament.specs.Journals.{answers_of}
+use Rattle.tournament.specs.Posting.{rules_of}
+use Rattle.step_referee.specs.MachineRuling.{machine_ruling}
+use Rattle.prover_run.specs.CaseScripts.{CaseScripts, case_says}
+use Rattle.case_reader.specs.Case.{CaseData}
+use Rattle.case_match.specs.Match.{record_of_case}
+
+-- the answerers of a case answer as its provers say
+pub answer-as : {A : Type 0} (answers : A → Question → ℕ → Option Answer) (digest : List ℕ → List ℕ) (x : CaseScripts) (start : State) (bound : ℕ) (scripts : List Script) (xs ys : List A)
+    → x ≡ record { start = start; bound = bound; scripts = scripts } → ys ≡ xs → AnswerAs answers (case_says digest start bound scripts) 1 xs
+    → AnswerAs answers (case_says digest x.start x.bound x.scripts) 1 ys
+answer-as answers digest x start bound scripts xs ys is same all =
+    subst (λ (c : CaseScripts). AnswerAs answers (case_says digest c.start c.bound c.scripts) 1 ys) (sym is)
+    (subst (λ zs. AnswerAs answers (case_says digest start bound scripts) 1 zs) (sym same) all)
+
+-- what is played by, of a case with these scripts and the root at step 0
+abbrev rules_for : (List ℕ → List ℕ) → CaseData → List Script → Digest32 → Rules
+rules_for digest c scripts root = rules_of (machine_ruling digest) (record { provers = length scripts; bound = c.bound; fan = 2; patience = c.patience; start = root })
+
+abbrev record_for : (List ℕ → List ℕ) → CaseData → List Script → Digest32 → CaseScripts → Record
+record_for digest c scripts root x = bracket (rules_for digest c scripts root) (answers_of (rules_for digest c scripts root) (case_says digest x.start x.bound x.scripts))
+
+pub same-record : (digest : List ℕ → List ℕ) (c : CaseData) (start : State) (scripts : List Script) (root : Digest32) (x : CaseScripts)
+    → scripts ≡ c.provers → root.0 ≡ state_root digest start → x ≡ record { start = start; bound = c.bound; scripts = scripts }
+    → record_for digest c scripts root x ≡ record_of_case digest c start
+same-record digest c start scripts root x scripts_are root_is x_is =
+    ap (record_for digest c scripts root) x_is
+    ∙ ap₂ (λ (xs : List Script) (r : List ℕ). record_for digest c xs (record { 0 = r }) (record { start = start; bound = c.bound; scripts = xs })) scripts_are root_is

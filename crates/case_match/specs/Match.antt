@@ -1,0 +1,47 @@
+-- To believe. The match of a case by a digest function: by what it is played, what its provers say, and what comes of it. The referee sees no state
+-- but the first, of which it makes the root, and decides about claims and proofs of single steps.
+use Rattle.std.specs.Prelude.{ℕ, List, length}
+use Rattle.bisect_game.specs.Says.{Says}
+use Rattle.bisect_game.specs.Rules.{Rules}
+use Rattle.bisect_game.specs.Truth.{Truth}
+use Rattle.rv_step.specs.State.{State}
+use Rattle.rv_step.specs.Step.{state_at}
+use Rattle.state_commit.specs.StateRoot.{state_root}
+use Rattle.tournament.specs.declared.setup.Setup.{Setup}
+use Rattle.tournament.specs.declared.verdict.Verdict.{Verdict}
+use Rattle.tournament.specs.Bracket.{Record, bracket, verdict_of}
+use Rattle.tournament.specs.Journals.{answers_of}
+use Rattle.tournament.specs.Posting.{rules_of}
+use Rattle.step_referee.specs.MachineRuling.{machine_ruling}
+use Rattle.step_referee.specs.MachineTruth.{machine_truth}
+use Rattle.prover_run.specs.CaseScripts.{case_says}
+use Rattle.case_reader.specs.Case.{CaseData}
+
+-- the numbers of the match of a case whose run starts in this state: a round halves its interval, and the root at step 0 is that
+-- state's
+abbrev pub setup_of : (List ℕ → List ℕ) → CaseData → State → Setup
+setup_of digest c start = record { provers = length c.provers; bound = c.bound; fan = 2; patience = c.patience; start = record { 0 = state_root digest start } }
+
+-- the judge of the machine decides, and the match has these numbers
+abbrev pub rules_of_case : (List ℕ → List ℕ) → CaseData → State → Rules
+rules_of_case digest c start = rules_of (machine_ruling digest) (setup_of digest c start)
+
+-- what the provers of the case say, each by its script
+abbrev pub says_of_case : (List ℕ → List ℕ) → CaseData → State → Says
+says_of_case digest c start = case_says digest start c.bound c.provers
+
+-- the record of the case: claims and stages of disputes over what each question is settled as
+abbrev pub record_of_case : (List ℕ → List ℕ) → CaseData → State → Record
+record_of_case digest c start = bracket (rules_of_case digest c start) (answers_of (rules_of_case digest c start) (says_of_case digest c start))
+
+-- the verdict of a record of the case
+abbrev pub verdict_of_record : (List ℕ → List ℕ) → CaseData → State → Record → Verdict
+verdict_of_record digest c start settled = verdict_of (rules_of_case digest c start) settled
+
+-- the roots, the proofs and the claim of the sequential run
+abbrev pub truth_of_case : (List ℕ → List ℕ) → CaseData → State → Truth
+truth_of_case digest c start = machine_truth digest start c.bound
+
+-- the state at the bound, in which the sequential run ends
+abbrev pub final_state : CaseData → State → State
+final_state c start = state_at start c.bound

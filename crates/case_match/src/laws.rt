@@ -1,0 +1,36 @@
+//! Laws of the match of a case, each the contract of a function that does nothing.
+ghost use Rattle.std.specs.Prelude.{ℕ, List};
+ghost use Rattle.case_match.specs.TruthfulInCase.{TruthfulProversOfCasesAreSafe};
+ghost use Rattle.case_match.specs.HonestScripts.{UntouchedProversAreTruthful};
+
+use bisect_game::cuts_divide;
+use digest_core::Digester;
+use prover_run::untouched_provers;
+use step_referee::machine_runs_are_true;
+use tournament::{
+    nobody_asked_means_over, one_record_of_a_case, questions_are_within_the_bound, spare_is_enough,
+    truthful_provers_are_safe,
+};
+
+/// In the record of each case whose numbers are in range, and whose run starts in a valid state of a version below 3 without output, nothing is open,
+/// and a prover that claims and answers as the machine's definition says, within its patience, is safe: it is live at the end, its
+/// answers are true, and the verdict is right.
+pub fn truthful_provers_of_cases_are_safe<D: Digester>()
+    ensures { TruthfulProversOfCasesAreSafe D.digest_of }
+{
+    spare_is_enough();
+    nobody_asked_means_over();
+    one_record_of_a_case();
+    truthful_provers_are_safe();
+    machine_runs_are_true::<D>();
+}
+
+/// Which provers answer truly in every case, by any digest function: those with an untouched run that answer at once, after no more
+/// passes than the patience, or with the sequential run's output. A prover with the script `{}` is one of the first.
+pub fn untouched_provers_are_truthful()
+    ensures { (digest : List ℕ → List ℕ) → UntouchedProversAreTruthful digest }
+{
+    untouched_provers();
+    cuts_divide();
+    questions_are_within_the_bound();
+}

@@ -1,0 +1,15 @@
+//! The match of a case: its provers' runs, the judge of the machine, and the bracket that they are played in.
+//!
+//! The layers above may rely on this: `verdict_of_case` gives the record of the case and its verdict, functions of the case, the
+//! state that its run starts in and the digester's function (`specs/Match.antt`), however many threads play it; and a prover that
+//! claims and answers as the machine's definition says is safe in that record, which a law says for any digester
+//! (`specs/TruthfulInCase.antt`). Which scripts make a prover one of these says `specs/HonestScripts.antt`. The crate reads no
+//! device and writes no text. Read `specs/Match.antt` first, then `verdict`.
+#![tactic(auto)]
+
+mod laws;
+mod playing;
+mod verdict;
+
+pub use laws::{truthful_provers_of_cases_are_safe, untouched_provers_are_truthful};
+pub use verdict::{verdict_from, verdict_of_case};

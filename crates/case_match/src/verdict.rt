@@ -1,0 +1,98 @@
+//! The match of a case, played.
+ghost use denote.Param.Send.{IsSync};
+ghost use Rattle.std.specs.Prelude.{◌≡◌, [], IfOk};
+ghost use Rattle.rv_step.specs.State.{state_of, IsChained};
+ghost use Rattle.case_reader.specs.Case.{data_of};
+ghost use Rattle.state_commit.specs.StateRoot.{state_root};
+ghost use Rattle.case_match.specs.Match.{record_of_case, verdict_of_record};
+ghost use Rattle.command_line.specs.Words.{AreAtLeastOne};
+
+use crate::playing::play_out;
+use case_reader::Case;
+use command_line::Options;
+use prover_run::{CaseProvers, answerers_of};
+use rd_base::{Digest32, Memory};
+use rv_step::Machine;
+use segment_replay::Replays;
+use state_commit::state_root;
+use std::alloc::Global;
+use std::sync::Wait;
+use std::thread::Threads;
+use step_referee::MachineJudge;
+use tournament::{Record, Setup, Verdict};
+
+/// In how many parts a round cuts its interval.
+const HALVES: u32 = 2;
+
+/// The match of a case whose run starts in this machine: what is settled in it, and how it ends. The machine has put out
+/// nothing, and its chain is that of no output by the digester `d`; each option is at least 1, and none changes the answer.
+///
+/// The referee makes the root of this state and decides about claims and proofs of single steps; it never runs the program.
+/// An `Err` is out of memory.
+pub fn verdict_of_case<R: Threads + Wait + Sync, D: Replays>(
+    rt: &R,
+    alloc: Global,
+    d: D,
+    case: &Case,
+    start: Machine,
+    options: Options,
+) -> Result<(Record, Verdict), Memory>
+where
+    D: Send + Sync,
+    requires chained { IsChained D.digest_of start }
+    requires silent { start.output.items ≡ [] }
+    requires options { AreAtLeastOne options }
+    ensures record_kept { IfOk result (λ played. played.0 ≡ record_of_case D.digest_of (data_of case.now) (state_of start)) }
+    ensures verdict { IfOk result (λ played. played.1 ≡ verdict_of_record D.digest_of (data_of case.now) (state_of start) played.0) }
+{
+    let root = state_root(d, &start);
+    verdict_from(rt, alloc, d, case, start, root, options)
+}
+
+/// The same where the root of the start state is at hand.
+pub fn verdict_from<R: Threads + Wait + Sync, D: Replays>(
+    rt: &R,
+    alloc: Global,
+    d: D,
+    case: &Case,
+    start: Machine,
+    root: Digest32,
+    options: Options,
+) -> Result<(Record, Verdict), Memory>
+where
+    D: Send + Sync,
+    requires chained { IsChained D.digest_of start }
+    requires silent { start.output.items ≡ [] }
+    requires root { root.0 ≡ state_root D.digest_of (state_of start) }
+    requires options { AreAtLeastOne options }
+    ensures record_kept { IfOk result (λ played. played.0 ≡ record_of_case D.digest_of (data_of case.now) (state_of start)) }
+    ensures verdict { IfOk result (λ played. played.1 ≡ verdict_of_record D.digest_of (data_of case.now) (state_of start) played.0) }
+{
+    let scripts = case.provers.as_slice();
+    let setup = Setup {
+        provers: scripts.len() as u32,
+        bound: case.bound,
+        fan: HALVES,
+        patience: case.patience,
+        start: root,
+    };
+    let provers = CaseProvers::new(alloc, d, scripts, &start, case.bound)?;
+    let mut answerers = answerers_of(
+        alloc,
+        d,
+        scripts,
+        &start,
+        case.bound,
+        options.every,
+        options.workers,
+    )?;
+    play_out(
+        rt,
+        alloc,
+        MachineJudge::new(d),
+        provers,
+        setup,
+        answerers.as_mut_slice(),
+        options.posters,
+    )
+}

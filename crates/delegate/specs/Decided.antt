@@ -1,0 +1,81 @@
+-- To believe. What is written of a match that is decided: by `judge` its report, and by `big` a summary in one line.
+use Rattle.std.specs.Prelude.{ℕ, List, ◌++◌, length, codes, Result, Ok}
+use Rattle.rd_base.specs.Results.{◌>>=◌}
+use Rattle.rd_base.specs.declared.digest.Digest32.{Digest32}
+use Rattle.rv_step.specs.State.{State}
+use Rattle.state_commit.specs.StateRoot.{state_root}
+use Rattle.tournament.specs.declared.verdict.Verdict.{Verdict}
+use Rattle.tournament.specs.declared.verdict.Verdict.TheVariants.{Accept, NoneLeft, Collision}
+use Rattle.tournament.specs.Bracket.{Record}
+use Rattle.case_reader.specs.Case.{CaseData}
+use Rattle.text_types.specs.declared.text.Head.{Head}
+use Rattle.text_types.specs.declared.digest.DigestName.{DigestName}
+use Rattle.transcript_text.specs.Lines.{lines_of_record}
+use Rattle.transcript_text.specs.Report.{report_text, head_line, lines_text}
+use Rattle.transcript_text.specs.Summary.{summary_text, rounds_in, workload_text, counts_text}
+use Rattle.workload.specs.Workload.{big_data}
+use Rattle.case_match.specs.Match.{record_of_case, verdict_of_record}
+use Rattle.delegate.specs.Digest.{digest_of}
+use Rattle.delegate.specs.Loading.{within_limit, case_in}
+use Rattle.delegate.specs.declared.response.Response.{Response}
+use Rattle.delegate.specs.declared.answered.Answered.{Answered}
+use Rattle.delegate.specs.declared.answered.Answered.TheVariants as answered
+
+-- which text is written
+pub data Written : Type 0 where
+  -- the report of the case that is read
+  report : Written
+  -- the summary of the large workload of a seed
+  summary : ℕ → Written
+
+-- what a command that decides a match is asked for: the digest of the match's commitments, and the text
+pub record Deciding : Type 0 where
+  pub digest : DigestName
+  pub written : Written
+
+-- the case of the match: that of the bytes, or the large workload of a seed, for which nothing is read
+unfoldable pub case_for : Written → List ℕ → Result CaseData Response
+case_for (summary seed) bytes = Ok (big_data seed)
+case_for report bytes = do
+  given ← within_limit bytes
+  case_in given
+
+-- what the match is played over, from the root of the state in which the run starts
+abbrev pub head_of : DigestName → CaseData → Digest32 → Head
+head_of name c root = record { provers = length c.provers; bound = c.bound; patience = c.patience; version = c.version; fan = c.fan; digest = name; start = root }
+
+-- that root
+abbrev pub start_root : (List ℕ → List ℕ) → State → Digest32
+start_root digest start = record { 0 = state_root digest start }
+
+abbrev pub answered_by : Verdict → Answered
+answered_by (Accept number) = answered.Done
+answered_by NoneLeft = answered.NoneLeft
+answered_by (Collision x y) = answered.Collision
+
+-- a report answers by the verdict, and a summary always with its line
+abbrev pub answered_for : Written → Verdict → Answered
+answered_for (summary seed) verdict = answered.Done
+answered_for report verdict = answered_by verdict
+
+-- the text of a match's head, record and verdict
+abbrev pub match_text : Written → Head → Record → Verdict → List ℕ
+match_text (summary seed) head settled verdict = summary_text seed settled verdict
+match_text report head settled verdict = report_text head settled verdict
+
+-- the text before the verdict's line: the report's lines, or what a summary counts
+abbrev pub before_verdict : Written → Head → Record → List ℕ → List ℕ
+before_verdict (summary seed) head settled verdict_text =
+    workload_text seed (length settled.claims) ++ (counts_text (length settled.disputes) (rounds_in settled.disputes) ++ (codes " " ++ verdict_text))
+before_verdict report head settled verdict_text = head_line head ++ (lines_text (lines_of_record settled) ++ verdict_text)
+
+-- the verdict of a case, by a digest function, and its text
+abbrev pub told : (List ℕ → List ℕ) → Deciding → CaseData → State → Response
+told digest m c start =
+    let settled = record_of_case digest c start in
+    let verdict = verdict_of_record digest c start settled in
+    record { answered = answered_for m.written verdict; text = match_text m.written (head_of m.digest c (start_root digest start)) settled verdict }
+
+-- by the digest function that is asked for: it depends on nothing but that, the case and the text that is asked for
+abbrev pub decided : Deciding → CaseData → State → Response
+decided m c start = told (digest_of m.digest) m c start

@@ -1,0 +1,8 @@
+-- To believe. The digest functions, each by its name. Everything that is said of a match speaks of the function of a name.
+use Rattle.std.specs.Prelude.{ℕ, List}
+use Rattle.sha2.specs.Sha256.{sha256}
+use Rattle.text_types.specs.declared.digest.DigestName.{DigestName}
+use Rattle.text_types.specs.declared.digest.DigestName.TheVariants.{Sha256}
+
+abbrev pub digest_of : DigestName → List ℕ → List ℕ
+digest_of Sha256 = sha256

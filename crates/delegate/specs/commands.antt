@@ -1,0 +1,5 @@
+-- The commands, a file each.
+pub mod Judge
+pub mod Run
+pub mod Roots
+pub mod Big

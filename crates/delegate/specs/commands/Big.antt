@@ -1,0 +1,17 @@
+-- To believe. `big`: the match of the large workload of a seed, decided, and its summary. It reads nothing.
+use Rattle.std.specs.Prelude.{ℕ, Result, Ok}
+use Rattle.rd_base.specs.Results.{◌>>=◌}
+use Rattle.text_types.specs.declared.digest.DigestName.TheVariants.{Sha256}
+use Rattle.workload.specs.Workload.{big_data}
+use Rattle.delegate.specs.Loading.{start_in}
+use Rattle.delegate.specs.Decided.{Deciding, summary, decided}
+use Rattle.delegate.specs.declared.response.Response.{Response}
+
+-- what it is asked for
+abbrev pub summing_up : ℕ → Deciding
+summing_up seed = record { digest = Sha256; written = summary seed }
+
+unfoldable pub summed_up : ℕ → Result Response Response
+summed_up seed = do
+  start ← start_in (big_data seed)
+  Ok (decided (summing_up seed) (big_data seed) start)

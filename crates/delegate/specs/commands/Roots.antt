@@ -1,0 +1,30 @@
+-- To believe. `roots`: the root of each state of the case that is read, from the first to that at its bound, which is at most
+-- 4,096.
+use Rattle.std.specs.Prelude.{ℕ, ◌+◌, List, nat_lt, Result, Ok, Err, if◌then◌else◌}
+use Rattle.rd_base.specs.Results.{◌>>=◌}
+use Rattle.rv_step.specs.State.{State}
+use Rattle.rv_step.specs.Step.{state_at}
+use Rattle.state_commit.specs.StateRoot.{state_root}
+use Rattle.case_reader.specs.Case.{CaseData}
+use Rattle.text_types.specs.declared.digest.DigestName.TheVariants.{Sha256}
+use Rattle.transcript_text.specs.Roots.{root_lines}
+use Rattle.delegate.specs.Digest.{digest_of}
+use Rattle.delegate.specs.Loading.{case_in, start_in}
+use Rattle.delegate.specs.Refusal.{bound_refusal}
+use Rattle.delegate.specs.declared.response.Response.{Response}
+use Rattle.delegate.specs.declared.answered.Answered.TheVariants.{Done}
+
+-- not more than the most steps whose roots are written
+abbrev pub within_bound : CaseData → Result (Unit {0}) Response
+within_bound c = if nat_lt 4096 c.bound then Err bound_refusal else Ok tt
+
+-- by a digest function
+abbrev pub roots_of_run : (List ℕ → List ℕ) → CaseData → State → Response
+roots_of_run digest c start = record { answered = Done; text = root_lines (λ i. state_root digest (state_at start i)) (c.bound + 1) }
+
+unfoldable pub rooted : List ℕ → Result Response Response
+rooted bytes = do
+  c ← case_in bytes
+  few ← within_bound c
+  start ← start_in c
+  Ok (roots_of_run (digest_of Sha256) c start)

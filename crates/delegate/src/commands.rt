@@ -1,0 +1,35 @@
+//! The commands, each in a module of its own, and which one is carried out.
+ghost use Rattle.std.specs.Prelude.{IfOk};
+ghost use Rattle.command_line.specs.Words.{AreAtLeastOne};
+ghost use Rattle.delegate.specs.Outcome.{carried_out};
+ghost use Rattle.delegate.specs.Stages.{Stands, DecidesInRange};
+
+mod big;
+mod judge;
+mod roots;
+mod run;
+
+use crate::response::{Response, Stop};
+use command_line::{Command, Request};
+use std::alloc::Global;
+use std::sync::Wait;
+use std::thread::Threads;
+
+/// Carries out a command on the bytes that were read for it. `run` and `roots` wait for nobody.
+pub fn carry_out<R: Threads + Wait + Sync>(
+    rt: &R,
+    alloc: Global,
+    request: Request,
+    bytes: Vec<u8>,
+) -> Result<Response, Stop>
+    requires { AreAtLeastOne request.options }
+    ensures stands { Stands (λ response. response) result (carried_out request.command bytes.items) }
+    ensures in_range { IfOk result (λ response. DecidesInRange request.command bytes.items) }
+{
+    match request.command {
+        Command::Judge => judge::judge(rt, alloc, request.options, bytes),
+        Command::Run => run::run(alloc, bytes),
+        Command::Roots => roots::roots(rt, alloc, bytes),
+        Command::Big(seed) => big::big(rt, alloc, seed, request.options),
+    }
+}

@@ -1,0 +1,101 @@
+//! A match that is decided, and its text.
+ghost use denote.Param.Send.{IsSync};
+ghost use Rattle.std.specs.Prelude.{◌≡◌, ℕ, [], IfOk};
+ghost use Rattle.rv_step.specs.State.{state_of, IsChained};
+ghost use Rattle.case_reader.specs.Case.{data_of};
+ghost use Rattle.command_line.specs.Words.{AreAtLeastOne};
+ghost use Rattle.delegate.specs.Decided.{report, summary, told, head_of, answered_by};
+
+use crate::answered::Answered;
+use crate::response::Response;
+use case_match::{verdict_from, verdict_of_case};
+use case_reader::Case;
+use command_line::Options;
+use rd_base::{Bytes, Digest32, Memory};
+use rv_step::Machine;
+use segment_replay::Replays;
+use state_commit::state_root;
+use std::alloc::Global;
+use std::sync::Wait;
+use std::thread::Threads;
+use tournament::Verdict;
+use transcript_text::{DigestName, Head};
+
+/// What the match of a case is played over, from the root of the state in which its run starts.
+fn head_of(name: DigestName, case: &Case, start: Digest32) -> Head
+    ensures { result ≡ head_of name (data_of case.now) start }
+{
+    Head {
+        provers: case.provers.len() as u32,
+        bound: case.bound,
+        patience: case.patience,
+        version: case.version,
+        fan: case.fan,
+        digest: name,
+        start,
+    }
+}
+
+fn answered_by(verdict: &Verdict) -> Answered
+    ensures { result ≡ answered_by verdict.now }
+{
+    match verdict {
+        Verdict::Accept(_) => Answered::Done,
+        Verdict::NoneLeft => Answered::NoneLeft,
+        Verdict::Collision(_, _) => Answered::Collision,
+    }
+}
+
+/// Plays the match of a case by the digester `d`, which has this name, and reports it. The machine and the options are as for
+/// `verdict_of_case`. An `Err` is out of memory.
+pub fn report<R: Threads + Wait + Sync, D: Replays>(
+    rt: &R,
+    alloc: Global,
+    d: D,
+    name: DigestName,
+    options: Options,
+    case: &Case,
+    start: Machine,
+) -> Result<Response, Memory>
+where
+    D: Send + Sync,
+    requires chained { IsChained D.digest_of start }
+    requires silent { start.output.items ≡ [] }
+    requires options { AreAtLeastOne options }
+    ensures { IfOk result (λ response. response ≡ told D.digest_of (record { digest = name; written = report }) (data_of case.now) (state_of start)) }
+{
+    let root = state_root(d, &start);
+    let (match_record, verdict) = verdict_from(rt, alloc, d, case, start, root, options)?;
+    let head = head_of(name, case, root);
+    let text = transcript_text::report(alloc, &head, &match_record, &verdict)?;
+    Ok(Response {
+        answered: answered_by(&verdict),
+        text: Bytes::new(text),
+    })
+}
+
+/// Plays the match of the large workload of a seed by the digester `d`, which has this name, and sums it up. The machine and the
+/// options are as for `verdict_of_case`. An `Err` is out of memory.
+pub fn summary<R: Threads + Wait + Sync, D: Replays>(
+    rt: &R,
+    alloc: Global,
+    d: D,
+    seed: u32,
+    options: Options,
+    case: &Case,
+    start: Machine,
+) -> Result<Response, Memory>
+where
+    D: Send + Sync,
+    requires chained { IsChained D.digest_of start }
+    requires silent { start.output.items ≡ [] }
+    requires options { AreAtLeastOne options }
+    ensures { IfOk result (λ response. (name : DigestName) → response ≡ told D.digest_of (record { digest = name; written = summary seed }) (data_of case.now) (state_of start)) }
+{
+    let (match_record, verdict) = verdict_of_case(rt, alloc, d, case, start, options)?;
+    let text = transcript_text::summary(alloc, seed, &match_record, &verdict)?;
+    Ok(Response {
+        answered: Answered::Done,
+        text: Bytes::new(text),
+    })
+}

@@ -1,0 +1,65 @@
+//! How every command on a case reads it and loads its image.
+ghost use Rattle.std.specs.Prelude.{◌≡◌, ℕ, List, [], IfOk, Ok};
+ghost use Rattle.rd_base.specs.Results.{Gives};
+ghost use Rattle.rv_step.specs.State.{State, state_of, IsChained};
+ghost use Rattle.case_reader.specs.Case.{data_of};
+ghost use Rattle.image_reader.specs.Image.{loaded_of};
+ghost use Rattle.case_match.specs.TruthfulInCase.{IsInRange};
+ghost use Rattle.delegate.specs.Loading.{case_in, image_by, image_in, start_in};
+ghost use Rattle.delegate.specs.Stages.{Stands};
+
+use crate::faults;
+use crate::response::Stop;
+use case_reader::{Case, CaseFault, Format, read_case};
+use image_reader::{ImageFault, Loaded, load_elf, load_flat};
+use rv_step::{Machine, machines_are_valid};
+use std::alloc::Global;
+
+/// The case of the bytes.
+pub fn case_in(alloc: Global, bytes: Vec<u8>) -> Result<Case, Stop>
+    ensures { Stands data_of result (case_in bytes.items) }
+{
+    match read_case(alloc, bytes.as_slice()) {
+        Ok(case) => Ok(case),
+        Err(CaseFault::Memory) => Err(Stop::Memory),
+        Err(fault) => Err(Stop::Refused(faults::case_refusal(alloc, fault)?)),
+    }
+}
+
+fn load(alloc: Global, case: &Case) -> Result<Loaded, ImageFault>
+    ensures { Gives ImageFault.Memory loaded_of result (image_by case.now.format case.now.image) }
+{
+    match case.format {
+        Format::Flat => load_flat(alloc, case.image.as_slice()),
+        Format::Elf => load_elf(alloc, case.image.as_slice()),
+    }
+}
+
+/// The image of the case, loaded.
+fn image_in(alloc: Global, case: &Case) -> Result<Loaded, Stop>
+    ensures { Stands loaded_of result (image_in (data_of case.now)) }
+{
+    match load(alloc, case) {
+        Ok(loaded) => Ok(loaded),
+        Err(ImageFault::Memory) => Err(Stop::Memory),
+        Err(fault) => Err(Stop::Refused(faults::image_refusal(alloc, fault)?)),
+    }
+}
+
+/// The version of the commitment to states by which the program plays.
+const VERSION: u8 = 1;
+
+/// The machine in which the run of the case starts. It has put out nothing, and its chain is that of no output by every digester.
+#[tactic(auto, unfolding(crate::specs::Loading::start_in))]
+pub fn start_in(alloc: Global, case: &Case) -> Result<Machine, Stop>
+    ensures stands { Stands state_of result (start_in (data_of case.now)) }
+    ensures chained { IfOk result (λ start. (digest : List ℕ → List ℕ) → IsChained digest start) }
+    ensures silent { IfOk result (λ start. start.output.items ≡ []) }
+    ensures in_range { IfOk result (λ start. IsInRange (data_of case.now) (state_of start)) }
+{
+    let loaded = image_in(alloc, case)?;
+    let input = case.input.as_slice();
+    let start = Machine::new(alloc, VERSION, loaded.mem, loaded.entry, input)?;
+    machines_are_valid(&start);
+    Ok(start)
+}
