@@ -18,6 +18,8 @@ ROOT_DIGESTS = 3
 PAGE_DIGESTS = 255
 UPPER_LEVELS = 20
 EMPTY_NODES = 28
+# A changed chunk's leaf, and the nodes above it in its page.
+CHUNK_DIGESTS = 8
 
 OUTPUT_BYTES = 1_000_000
 C_TIMES = 1_000_000
@@ -162,7 +164,7 @@ def output_line(program, folder):
 def roots_line(program, folder, words):
     """Digests a second of roots at its largest bound, over a program that stores a thousand times."""
     cases = Cases(program, folder, "flat", bytes_of(words))
-    count = PAGE_DIGESTS * STORES + UPPER_LEVELS * STORES + ROOT_DIGESTS * (ROOTS_BOUND - 1)
+    count = (CHUNK_DIGESTS + UPPER_LEVELS) * STORES + ROOT_DIGESTS * (ROOTS_BOUND - 1)
     figure = Figure(count, cases.roots(1), cases.roots(ROOTS_BOUND))
     return f"{figure.speed('digests')} {figure.peak / 1e6:6.1f} MB   {count:,} digests, {figure.longest:.2f} s in all"
 
