@@ -176,7 +176,7 @@ fn each_fault_is_the_first_by_line_and_kind(rt: HostRuntime) -> Result<(), Fail>
 #[test]
 fn blanks_comments_labels_and_numbers_are_read(rt: HostRuntime) -> Result<(), Fail> {
     let alloc = rt.alloc();
-    let rows: [(&[u8], &[u32]); 15] = [
+    let rows: [(&[u8], &[u32]); 14] = [
         (b"", &[]),
         (b"\n\n", &[]),
         (b"a:", &[]),
@@ -190,10 +190,6 @@ fn blanks_comments_labels_and_numbers_are_read(rt: HostRuntime) -> Result<(), Fa
         (b".word 4294967295", &[0xffffffff]),
         (b"addi x1, x0, 0x7ff", &[0x7ff00093]),
         (b"addi x1, x0, -0", &[0x00000093]),
-        (
-            b"loop: addi x6, x6, -1\nbne x6, x0, loop",
-            &[0xfff30313, 0xfe031ee3],
-        ),
         (
             b"beq x0, x0, end\nback: ecall\njal x0, back\nend:",
             &[0x00000663, 0x00000073, 0xffdff06f],
@@ -240,6 +236,37 @@ fn a_branch_to_a_name_reaches_as_far_as_its_offset(rt: HostRuntime) -> Result<()
             line,
         });
         assert_eq!(rt; fault_of(alloc, text.as_slice()), want, "{words} {back}");
+    }
+    Ok(())
+}
+
+/// A program with its words, and its listing where that isn't the program itself.
+#[test]
+fn a_program_is_assembled_and_listed_with_offsets_in_place_of_names(
+    rt: HostRuntime,
+) -> Result<(), Fail> {
+    let alloc = rt.alloc();
+    let writes_42 =
+        "addi x10, x0, 42\naddi x17, x0, 1\necall\naddi x10, x0, 0\naddi x17, x0, 93\necall\n";
+    let rows: [(&str, &[u32], &str); 2] = [
+        (
+            writes_42,
+            &[
+                0x02a00513, 0x00100893, 0x00000073, 0x00000513, 0x05d00893, 0x00000073,
+            ],
+            writes_42,
+        ),
+        (
+            "loop: addi x6, x6, -1\nbne x6, x0, loop",
+            &[0xfff30313, 0xfe031ee3],
+            "addi x6, x6, -1\nbne x6, x0, -4\n",
+        ),
+    ];
+    for (program, want, listing) in rows {
+        let words = words_of(alloc, program.as_bytes())?;
+        assert_eq!(rt; words.as_slice(), want, "{program}");
+        let text = listing_of(alloc, words.as_slice())?;
+        assert_eq!(rt; text.as_slice(), listing.as_bytes(), "{program}");
     }
     Ok(())
 }
