@@ -1,10 +1,11 @@
--- To believe: the faults of a line, by number. Of several faults of one line the one with the least number counts.
+-- To believe: the faults of a line, by number. Within a pass, of several faults of one line the one with the least number counts; the first
+-- pass finds 1, 2, 3, 4 and 6, the second 5 and the 4 of a name.
 use Rattle.std.specs.Prelude.{ℕ, if◌then◌else◌, nat_lt}
 use Rattle.rv_text.specs.declared.fault.FaultKind.{FaultKind}
 use Rattle.rv_text.specs.declared.fault.FaultKind.TheVariants.{OtherForm, UnknownMnemonic, NoRegister, OutOfRange, Undefined, DefinedTwice}
 use Rattle.rv_text.specs.declared.fault.AsmFault.{AsmFault}
 
--- the number of a kind, which is its place in the order of testing
+-- the number of a kind
 abbrev pub number_of : FaultKind → ℕ
 number_of OtherForm = 1
 number_of UnknownMnemonic = 2
