@@ -10,8 +10,9 @@ ghost use Rattle.rv_text.specs.Meaning.{IsWritten, Says};
 ghost use Rattle.std.specs.List.{AllByRecursion};
 ghost use Rattle.rv_text.specs.Listing.{listing};
 ghost use Rattle.rv_text.specs.Assembly.{assembled, near};
-ghost use Rattle.rv_text.specs.Later.{OfName};
+ghost use Rattle.rv_text.specs.Later.{OfName, HasUndefined, HasFar};
 ghost use Rattle.rv_text.specs.declared.fault.FaultKind.{FaultKind};
+ghost use Rattle.rv_text.specs.declared.fault.FaultKind.TheVariants as FaultKind;
 
 use rv_decode::one_reading;
 
@@ -32,8 +33,10 @@ pub fn each_word_is_said()
     one_reading();
 }
 
-/// A text that passed before places were known has no fault later but that of its name: nothing defines it, or its distance is out of
-/// range.
+/// A text that passed before places were known has no fault later but that of the name in its target's place: nothing defines it, or its
+/// distance is out of range.
 pub fn only_names_fail_later()
-    ensures { (distances : Distances) (text : List ℕ) (w : Option ℕ) (k : FaultKind) → word_in near text ≡ Ok w → word_in distances text ≡ Err k → OfName k }
+    ensures of_name { (distances : Distances) (text : List ℕ) (w : Option ℕ) (k : FaultKind) → word_in near text ≡ Ok w → word_in distances text ≡ Err k → OfName k }
+    ensures undefined { (distances : Distances) (text : List ℕ) (w : Option ℕ) → word_in near text ≡ Ok w → word_in distances text ≡ Err FaultKind.Undefined → HasUndefined distances text }
+    ensures far { (distances : Distances) (text : List ℕ) (w : Option ℕ) → word_in near text ≡ Ok w → word_in distances text ≡ Err FaultKind.OutOfRange → HasFar distances text }
 {}

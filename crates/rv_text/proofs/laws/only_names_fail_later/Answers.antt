@@ -1,5 +1,11 @@
-use Rattle.rv_text.proofs.LaterLemmas.{word-later}
+use Rattle.rv_text.proofs.LaterLemmas.{name-later, undefined-later, far-later}
 use Rattle.rv_text.proofs.laws.only_names_fail_later.Goals as goal
 
-pub returns : goal.returns
-returns c = word-later
+pub returns-clause-of_name : goal.returns-clause-of_name
+returns-clause-of_name c = name-later
+
+pub returns-clause-undefined : goal.returns-clause-undefined
+returns-clause-undefined c = undefined-later
+
+pub returns-clause-far : goal.returns-clause-far
+returns-clause-far c = far-later
