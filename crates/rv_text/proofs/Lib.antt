@@ -15,3 +15,4 @@ pub mod ListingLemmas
 pub mod InstructionLemmas
 pub mod MeaningLemmas
 pub mod LaterLemmas
+pub mod LabelLemmas

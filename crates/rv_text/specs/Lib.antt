@@ -14,3 +14,4 @@ pub mod Spelling
 pub mod Listing
 pub mod Meaning
 pub mod Later
+pub mod Labels

@@ -26,5 +26,7 @@ mod row;
 
 pub use assembling::{MAX_ASSEMBLY_BYTES, assemble};
 pub use fault::{AsmError, AsmFault, FaultKind};
-pub use laws::{each_word_is_said, listing_is_read_back, only_names_fail_later};
+pub use laws::{
+    each_word_is_said, labels_stand_for_places, listing_is_read_back, only_names_fail_later,
+};
 pub use listing::list;

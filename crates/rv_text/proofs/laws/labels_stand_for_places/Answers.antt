@@ -1,0 +1,5 @@
+use Rattle.rv_text.proofs.LabelLemmas.{places}
+use Rattle.rv_text.proofs.laws.labels_stand_for_places.Goals as goal
+
+pub returns : goal.returns
+returns c = places
