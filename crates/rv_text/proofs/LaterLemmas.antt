@@ -11,7 +11,7 @@ use Rattle.rv_text.specs.Operands.{Distances, slots_of, field_of, written, dista
 use Rattle.rv_text.specs.Rows.{row_named, word_by}
 use Rattle.rv_text.specs.Lines.{first_word, after_first_word, word_of_row, word_of_statement, word_in}
 use Rattle.rv_text.specs.Assembly.{near}
-use Rattle.rv_text.specs.Later.{OfName, Follows, Stands, HasTarget, HasUndefined, HasFar}
+use Rattle.rv_text.specs.Later.{OfName, Follows, Stands, HasTarget, HasUndefinedTarget, HasFarTarget}
 use Rattle.rv_text.specs.declared.row.Row.{Row}
 use Rattle.rv_text.specs.declared.field.Field.{Field}
 use Rattle.rv_text.specs.declared.field.Field.TheVariants.{Rd, Rs1, Rs2, Immediate, Shift, StoreOffset, BranchTarget, JumpTarget, Upper, Word}
@@ -129,7 +129,7 @@ word-later C d text c w k h e =
 -- ---- what is at fault
 -- of a name: nothing defines it, or its distance is out of range
 Cause : Distances → List ℕ → FaultKind → Type 0
-Cause d text k = ((k ≡ Undefined) × HasUndefined d text) ⊎ ((k ≡ OutOfRange) × HasFar d text)
+Cause d text k = ((k ≡ Undefined) × HasUndefinedTarget d text) ⊎ ((k ≡ OutOfRange) × HasFarTarget d text)
 
 ranged-cause : (d : Distances) (text : List ℕ) (f : Field) (name : List ℕ) → HasTarget text f name → (z : ℤ) → d name ≡ Some z → (b : Bool) → is_in f z ≡ b → (k : FaultKind) → (if b then Ok z else Err OutOfRange) ≡ Err k → Cause d text k
 unfolding Cause
@@ -152,12 +152,12 @@ of-name d text k (inr h) = inr h.0
 undefined-not_far : Undefined ≡ OutOfRange → ⊥
 undefined-not_far e = false≢true (ap (λ k. number_of k == 4) e)
 
-of-undefined : (d : Distances) (text : List ℕ) → Cause d text Undefined → HasUndefined d text
+of-undefined : (d : Distances) (text : List ℕ) → Cause d text Undefined → HasUndefinedTarget d text
 unfolding Cause
 of-undefined d text (inl h) = h.1
 of-undefined d text (inr h) = elim (undefined-not_far h.0) [ ]
 
-of-far : (d : Distances) (text : List ℕ) → Cause d text OutOfRange → HasFar d text
+of-far : (d : Distances) (text : List ℕ) → Cause d text OutOfRange → HasFarTarget d text
 unfolding Cause
 of-far d text (inl h) = elim (undefined-not_far (sym h.0)) [ ]
 of-far d text (inr h) = h.1
@@ -165,8 +165,8 @@ of-far d text (inr h) = h.1
 pub name-later : (d : Distances) (text : List ℕ) (w : Option ℕ) (k : FaultKind) → word_in near text ≡ Ok w → word_in d text ≡ Err k → OfName k
 name-later d text w k h e = of-name d text k (word-cause d text w k h e)
 
-pub undefined-later : (d : Distances) (text : List ℕ) (w : Option ℕ) → word_in near text ≡ Ok w → word_in d text ≡ Err Undefined → HasUndefined d text
+pub undefined-later : (d : Distances) (text : List ℕ) (w : Option ℕ) → word_in near text ≡ Ok w → word_in d text ≡ Err Undefined → HasUndefinedTarget d text
 undefined-later d text w h e = of-undefined d text (word-cause d text w Undefined h e)
 
-pub far-later : (d : Distances) (text : List ℕ) (w : Option ℕ) → word_in near text ≡ Ok w → word_in d text ≡ Err OutOfRange → HasFar d text
+pub far-later : (d : Distances) (text : List ℕ) (w : Option ℕ) → word_in near text ≡ Ok w → word_in d text ≡ Err OutOfRange → HasFarTarget d text
 far-later d text w h e = of-far d text (word-cause d text w OutOfRange h e)

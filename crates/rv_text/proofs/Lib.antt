@@ -16,3 +16,4 @@ pub mod InstructionLemmas
 pub mod MeaningLemmas
 pub mod LaterLemmas
 pub mod LabelLemmas
+pub mod UnknownLemmas

@@ -39,14 +39,14 @@ pub record HasTarget (text : List ℕ) (field : Field) (name : List ℕ) : Type 
   pub is_name : is_name name ≡ true
 
 -- the target of a statement is a name that nothing defines
-pub record HasUndefined (distances : Distances) (text : List ℕ) : Type 0 where
+pub record HasUndefinedTarget (distances : Distances) (text : List ℕ) : Type 0 where
   pub field : Field
   pub name : List ℕ
   pub has_target : HasTarget text field name
   pub is_undefined : distances name ≡ None
 
 -- the target of a statement is a name whose distance is out of range
-pub record HasFar (distances : Distances) (text : List ℕ) : Type 0 where
+pub record HasFarTarget (distances : Distances) (text : List ℕ) : Type 0 where
   pub field : Field
   pub name : List ℕ
   pub distance : ℤ

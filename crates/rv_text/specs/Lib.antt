@@ -15,3 +15,4 @@ pub mod Listing
 pub mod Meaning
 pub mod Later
 pub mod Labels
+pub mod Unknown

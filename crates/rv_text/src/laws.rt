@@ -10,8 +10,9 @@ ghost use Rattle.rv_text.specs.Meaning.{IsWritten, Says};
 ghost use Rattle.std.specs.List.{AllByRecursion};
 ghost use Rattle.rv_text.specs.Listing.{listing};
 ghost use Rattle.rv_text.specs.Assembly.{assembled, near, Pass, pass, no_names, first_pass};
-ghost use Rattle.rv_text.specs.Later.{OfName, HasUndefined, HasFar};
+ghost use Rattle.rv_text.specs.Later.{OfName, HasUndefinedTarget, HasFarTarget};
 ghost use Rattle.rv_text.specs.Labels.{IsPlace};
+ghost use Rattle.rv_text.specs.Unknown.{HasUnknownMnemonic};
 ghost use Rattle.rv_text.specs.declared.fault.FaultKind.{FaultKind};
 ghost use Rattle.rv_text.specs.declared.fault.FaultKind.TheVariants as FaultKind;
 
@@ -38,12 +39,18 @@ pub fn each_word_is_said()
 /// distance is out of range.
 pub fn only_names_fail_later()
     ensures of_name { (distances : Distances) (text : List ℕ) (w : Option ℕ) (k : FaultKind) → word_in near text ≡ Ok w → word_in distances text ≡ Err k → OfName k }
-    ensures undefined { (distances : Distances) (text : List ℕ) (w : Option ℕ) → word_in near text ≡ Ok w → word_in distances text ≡ Err FaultKind.Undefined → HasUndefined distances text }
-    ensures far { (distances : Distances) (text : List ℕ) (w : Option ℕ) → word_in near text ≡ Ok w → word_in distances text ≡ Err FaultKind.OutOfRange → HasFar distances text }
+    ensures undefined { (distances : Distances) (text : List ℕ) (w : Option ℕ) → word_in near text ≡ Ok w → word_in distances text ≡ Err FaultKind.Undefined → HasUndefinedTarget distances text }
+    ensures far { (distances : Distances) (text : List ℕ) (w : Option ℕ) → word_in near text ≡ Ok w → word_in distances text ≡ Err FaultKind.OutOfRange → HasFarTarget distances text }
 {}
 
 /// After a first pass without a fault each label stands for the place of the next word, four bytes for each word of the lines before it, and
 /// no other name has a place.
 pub fn labels_stand_for_places()
     ensures { (lines : List (List ℕ)) (p : Pass) (name : List ℕ) (place : ℕ) → first_pass 1 (pass no_names 0) lines ≡ Ok p → (p.names name ≡ Some place) ↔ IsPlace lines name place }
+{}
+
+/// A statement has an unknown mnemonic exactly where it begins with a run of letters, digits, `.` and `_` that is no mnemonic, whatever
+/// follows.
+pub fn unknown_mnemonics_have_no_row()
+    ensures { (distances : Distances) (text : List ℕ) → (word_in distances text ≡ Err FaultKind.UnknownMnemonic) ↔ HasUnknownMnemonic text }
 {}

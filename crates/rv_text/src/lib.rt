@@ -28,5 +28,6 @@ pub use assembling::{MAX_ASSEMBLY_BYTES, assemble};
 pub use fault::{AsmError, AsmFault, FaultKind};
 pub use laws::{
     each_word_is_said, labels_stand_for_places, listing_is_read_back, only_names_fail_later,
+    unknown_mnemonics_have_no_row,
 };
 pub use listing::list;
