@@ -1,10 +1,10 @@
 -- Hexadecimal digits are read back.
 use Rattle.std.proofs.Common.{◌≡◌, ℕ, zero, suc, ◌+◌, ◌-◌, ◌*◌, ◌/◌, ◌%◌, ◌^◌, ◌<◌, Bool, true, List, [], ◌∷◌, ◌++◌, length, refl, ap, ◌∙◌, arith, Some, pow-suc, length-append}
 use Rattle.std.proofs.lemmas.Bool.Decides.{nat_tests}
-use Rattle.std.specs.Char.{digit_value}
+use Rattle.std.specs.Char.{digit_value, is_ascii_hexdigit}
 use Rattle.std.specs.Str.Parse.{digits_value, digits_value_after}
 use Rattle.rv_text.specs.Characters.{is_of_operand, every}
-use Rattle.rv_text.specs.Numbers.{is_hex, hex_in}
+use Rattle.rv_text.specs.Numbers.{hex_in}
 use Rattle.rv_text.specs.Operands.{hex_digit, hex_digits}
 
 hex-append : (n : ℕ) (xs : List ℕ) (c : ℕ) → digits_value_after 16 n (xs ++ c ∷ []) ≡ digits_value_after 16 n xs * 16 + digit_value c
@@ -14,7 +14,7 @@ hex-append n (x ∷ xs) c = hex-append (n * 16 + digit_value x) xs c
 digit-value : (d : ℕ) → d < 16 → digit_value (hex_digit d) ≡ d
 digit-value d h = grind (arith, nat_tests)
 
-digit-hex : (d : ℕ) → d < 16 → is_hex (hex_digit d) ≡ true
+digit-hex : (d : ℕ) → d < 16 → is_ascii_hexdigit (hex_digit d) ≡ true
 digit-hex d h = grind (arith, nat_tests)
 
 digit-operand : (d : ℕ) → d < 16 → is_of_operand (hex_digit d) ≡ true
@@ -32,10 +32,10 @@ every-append : (p : ℕ → Bool) (xs : List ℕ) (c : ℕ) → every p xs ≡ t
 every-append p [] c h k = grind arith
 every-append p (x ∷ xs) c h k = grind (arith, every-append p xs c)
 
-hex-digits_hex : (k n : ℕ) → every is_hex (hex_digits k n) ≡ true
+hex-digits_hex : (k n : ℕ) → every is_ascii_hexdigit (hex_digits k n) ≡ true
 unfolding hex_digits
 hex-digits_hex zero n = refl
-hex-digits_hex (suc k) n = every-append is_hex (hex_digits k (n / 16)) (hex_digit (n % 16)) (hex-digits_hex k (n / 16)) (digit-hex (n % 16) (omega arith))
+hex-digits_hex (suc k) n = every-append is_ascii_hexdigit (hex_digits k (n / 16)) (hex_digit (n % 16)) (hex-digits_hex k (n / 16)) (digit-hex (n % 16) (omega arith))
 
 pub hex-digits_operand : (k n : ℕ) → every is_of_operand (hex_digits k n) ≡ true
 unfolding hex_digits
@@ -47,7 +47,7 @@ unfolding hex_digits
 hex-length zero n = refl
 hex-length (suc k) n = grind (arith, length-append, hex-length k (n / 16))
 
-hex-in_list : (ds : List ℕ) → 0 < length ds → every is_hex ds ≡ true → hex_in ds ≡ Some (digits_value 16 ds)
+hex-in_list : (ds : List ℕ) → 0 < length ds → every is_ascii_hexdigit ds ≡ true → hex_in ds ≡ Some (digits_value 16 ds)
 hex-in_list [] l h = let never : ⊥ = omega arith in elim never [ ]
 hex-in_list (c ∷ cs) l h = rw h refl
 

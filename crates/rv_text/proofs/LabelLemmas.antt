@@ -6,13 +6,11 @@ use Rattle.std.proofs.lemmas.Slice.Eq.{bytes_eq-Decides}
 use Rattle.rd_base.specs.Results.{◌>>=◌, map_fault}
 use Rattle.rv_text.specs.Characters.{is_empty}
 use Rattle.rv_text.specs.Faults.{fault}
-use Rattle.rv_text.specs.Operands.{Distances}
 use Rattle.rv_text.specs.Lines.{code_in, label_in, statement_in, word_of_statement, word_in}
 use Rattle.rv_text.specs.Assembly.{Names, no_names, with_name, with_label, near, place_after, Pass, pass, after_line, first_pass}
 use Rattle.rv_text.specs.Labels.{has_statement, word_count, IsPlaceFrom, IsPlace}
 use Rattle.rv_text.specs.declared.fault.FaultKind.{FaultKind}
 use Rattle.rv_text.specs.declared.fault.FaultKind.TheVariants.{DefinedTwice}
-use Rattle.rv_text.specs.declared.fault.AsmFault.{AsmFault}
 
 -- ---- results
 then-ok : {A B E : Type 0} (r : Result A E) (f : A → Result B E) (y : B) → (r >>= f) ≡ Ok y → (x : A) × (r ≡ Ok x) × (f x ≡ Ok y)

@@ -4,7 +4,7 @@ use Rattle.std.proofs.lemmas.Bool.{false≢true, and_parts, and_from, and_right}
 use Rattle.std.proofs.lemmas.Bool.Decides.{nat_tests}
 use Rattle.std.specs.Prelude.{if◌then◌else◌}
 use Rattle.rd_base.specs.Results.{◌>>=◌}
-use Rattle.rv_text.specs.Characters.{is_blank, is_of_operand, is_of_mnemonic, is_of_code, is_colon, run, skip, every, begins, is_empty, is_name, tail, lines_of}
+use Rattle.rv_text.specs.Characters.{is_blank, is_of_operand, is_of_mnemonic, is_of_code, is_colon, run, skip, every, begins, is_empty, is_name, tail, source_lines}
 use Rattle.rv_text.specs.Fields.{is_in}
 use Rattle.rv_text.specs.Operands.{Distances, slots_of, operand_text, mark_text, operands_text, operands_of}
 use Rattle.rv_text.specs.Rows.{row, row_named, word_by}
@@ -179,7 +179,7 @@ pub line-unlabelled : (s : Spelling) (w : ℕ) → IsSpelled s w → label_in (c
 line-unlabelled s w is = ap label_in (code-read s w is) ∙ ap (λ b. if b then Some (first_word (spelling_text s)) else None) (no-label s w is)
 
 -- ---- a line in a text
-pub lines-first : (xs ys : List ℕ) → every is_plain xs ≡ true → lines_of (xs ++ (10 ∷ ys)) ≡ xs ∷ lines_of ys
+pub lines-first : (xs ys : List ℕ) → every is_plain xs ≡ true → source_lines (xs ++ (10 ∷ ys)) ≡ xs ∷ source_lines ys
 lines-first [] ys h = refl
 lines-first (x ∷ xs) ys h =
     let p = and_parts (is_plain x) (every is_plain xs) h in

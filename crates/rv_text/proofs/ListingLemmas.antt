@@ -5,7 +5,7 @@ use Rattle.rd_base.specs.Results.{◌>>=◌}
 use Rattle.rv_decode.specs.Word.{word_of}
 use Rattle.rv_decode.specs.Reading.{reading_of}
 use Rattle.rv_decode.specs.declared.instr.Instr.{Instr}
-use Rattle.rv_text.specs.Characters.{lines_of}
+use Rattle.rv_text.specs.Characters.{source_lines}
 use Rattle.rv_text.specs.Spelling.{Spelling, spelling_of, spelling_by, spelling_in}
 use Rattle.rv_text.specs.Listing.{line_of, listing, spelling_text}
 use Rattle.rv_text.specs.Lines.{code_in, label_in, word_in}
@@ -36,7 +36,7 @@ line-passed s w is names place =
     ap (λ r. r >>= λ w. with_label names (label_in (code_in (spelling_text s))) place >>= λ names. Ok (pass names (place_after place w))) (line-read s w is near)
     ∙ ap (λ l. with_label names l place >>= λ names. Ok (pass names (place + 4))) (line-unlabelled s w is)
 
-first-pass_listing : OneReading → (n : ℕ) (names : Names) (place : ℕ) (ws : List ℕ) → AreWords ws → first_pass n (pass names place) (lines_of (listing ws)) ≡ Ok (pass names (place_behind place ws))
+first-pass_listing : OneReading → (n : ℕ) (names : Names) (place : ℕ) (ws : List ℕ) → AreWords ws → first_pass n (pass names place) (source_lines (listing ws)) ≡ Ok (pass names (place_behind place ws))
 unfolding word_in
 first-pass_listing law n names place [] h = refl
 first-pass_listing law n names place (w ∷ ws) h =
@@ -44,7 +44,7 @@ first-pass_listing law n names place (w ∷ ws) h =
     ap (first_pass n (pass names place)) (lines-first (line_of w) (listing ws) (spelling-plain (spelling_in w) w is))
     ∙ rw (line-passed (spelling_in w) w is names place) (first-pass_listing law (n + 1) names (place + 4) ws h.1)
 
-second-pass_listing : OneReading → (n : ℕ) (names : Names) (place : ℕ) (ws : List ℕ) → AreWords ws → second_pass n names place (lines_of (listing ws)) ≡ Ok ws
+second-pass_listing : OneReading → (n : ℕ) (names : Names) (place : ℕ) (ws : List ℕ) → AreWords ws → second_pass n names place (source_lines (listing ws)) ≡ Ok ws
 unfolding word_in
 second-pass_listing law n names place [] h = refl
 second-pass_listing law n names place (w ∷ ws) h =

@@ -16,7 +16,7 @@ use Rattle.rv_text.specs.Operands.{Distances, slots_of, field_of, written, dista
 use Rattle.rv_text.specs.Rows.{Named, row, row_in, or_else, row_named, placed_in, word_by, register_rows, multiply_rows, immediate_rows, memory_rows, branch_rows, other_rows}
 use Rattle.rv_text.specs.Lines.{first_word, after_first_word, word_of_row, word_of_statement}
 use Rattle.rv_text.specs.Spelling.{Spelling, spelled, spelling_of, raw}
-use Rattle.rv_text.specs.Meaning.{IsWritten, IsWordOf, of_instruction, of_itself, Says}
+use Rattle.rv_text.specs.Meaning.{IsSpelledBy, IsWordOf, of_instruction, of_itself, StandsForWord}
 use Rattle.rv_text.specs.declared.row.Row.{Row}
 use Rattle.rv_text.specs.declared.field.Field.{Field}
 use Rattle.rv_text.specs.declared.field.Field.TheVariants.{Rd, Rs1, Rs2, Immediate, Shift, StoreOffset, BranchTarget, JumpTarget, Upper, Word}
@@ -184,29 +184,29 @@ built-word law s base e (instruction i q) = of_instruction i q (row-word s base 
 built-word law s base e (word w q) = of_itself (q ∙ ap raw (row-word s base w e (subst (λ s. HasWord s w) (sym q) (raw-word w))))
 
 -- ---- what has a word says it
-said-values : EachHasWord → (d : Distances) (text : List ℕ) (w : ℕ) (r : Row) → row_named (first_word text) ≡ Some r → (q : Result (List ℤ) FaultKind) → operands_of d (slots_of r.form) (after_first_word text) ≡ q → (q >>= λ zs. Ok (word_by r zs)) ≡ Ok w → Says d text w
+said-values : EachHasWord → (d : Distances) (text : List ℕ) (w : ℕ) (r : Row) → row_named (first_word text) ≡ Some r → (q : Result (List ℤ) FaultKind) → operands_of d (slots_of r.form) (after_first_word text) ≡ q → (q >>= λ zs. Ok (word_by r zs)) ≡ Ok w → StandsForWord d text w
 said-values law d text w r named (Ok zs) read e =
     let s = spelled (first_word text) r.form zs in
     record {
       spelling = s;
-      is_written = record { mnemonic = refl; operands = read };
+      is_spelled = record { mnemonic = refl; operands = read };
       is_word = subst (λ n. IsWordOf s n) (ok-same (word_by r zs) w e) (built-word law s r.base named (found (first_word text) r named zs (values-range d (slots_of r.form) (after_first_word text) zs read)));
     }
 said-values law d text w r named (Err k) read e = elim (err-not_ok k w e) [ ]
 
-said-row : EachHasWord → (d : Distances) (text : List ℕ) (w : ℕ) (o : Option Row) → row_named (first_word text) ≡ o → word_of_row d o (after_first_word text) ≡ Ok w → Says d text w
+said-row : EachHasWord → (d : Distances) (text : List ℕ) (w : ℕ) (o : Option Row) → row_named (first_word text) ≡ o → word_of_row d o (after_first_word text) ≡ Ok w → StandsForWord d text w
 said-row law d text w (Some r) named e = said-values law d text w r named (operands_of d (slots_of r.form) (after_first_word text)) refl e
 said-row law d text w None named e = elim (err-not_ok UnknownMnemonic w e) [ ]
 
-said-first : EachHasWord → (d : Distances) (text : List ℕ) (w : ℕ) (b : Bool) → (if b then Err OtherForm else word_of_row d (row_named (first_word text)) (after_first_word text)) ≡ Ok w → Says d text w
+said-first : EachHasWord → (d : Distances) (text : List ℕ) (w : ℕ) (b : Bool) → (if b then Err OtherForm else word_of_row d (row_named (first_word text)) (after_first_word text)) ≡ Ok w → StandsForWord d text w
 said-first law d text w true e = elim (err-not_ok OtherForm w e) [ ]
 said-first law d text w false e = said-row law d text w (row_named (first_word text)) refl e
 
-pub said : EachHasWord → (d : Distances) (text : List ℕ) (w : ℕ) → word_of_statement d text ≡ Ok w → Says d text w
+pub said : EachHasWord → (d : Distances) (text : List ℕ) (w : ℕ) → word_of_statement d text ≡ Ok w → StandsForWord d text w
 said law d text w e = said-first law d text w (is_empty (first_word text)) e
 
 -- ---- and what says a word has it
-pub written-word : EachHasWord → (d : Distances) (text : List ℕ) (s : Spelling) (w : ℕ) → IsWritten d text s → IsWordOf s w → word_of_statement d text ≡ Ok w
+pub written-word : EachHasWord → (d : Distances) (text : List ℕ) (s : Spelling) (w : ℕ) → IsSpelledBy d text s → IsWordOf s w → word_of_statement d text ≡ Ok w
 written-word law d text s w is meant =
     let has = has-word law s w meant in
     let after = after_first_word text in
@@ -216,5 +216,5 @@ written-word law d text s w is meant =
     ∙ (ap (λ q. q >>= λ zs. Ok (word_by (row s.form has.base) zs)) is.operands
     ∙ ap (λ n. Ok n) has.is_word)))
 
-pub statement-says : EachHasWord → (d : Distances) (text : List ℕ) (w : ℕ) → (word_of_statement d text ≡ Ok w) ↔ Says d text w
-statement-says law d text w = (said law d text w, λ says. written-word law d text says.spelling w says.is_written says.is_word)
+pub statement-stands : EachHasWord → (d : Distances) (text : List ℕ) (w : ℕ) → (word_of_statement d text ≡ Ok w) ↔ StandsForWord d text w
+statement-stands law d text w = (said law d text w, λ says. written-word law d text says.spelling w says.is_spelled says.is_word)

@@ -4,7 +4,7 @@ use Rattle.std.proofs.lemmas.List.{take_all}
 use Rattle.std.specs.BTreeMap.{BTreeMap}
 use denote.Ref.{Bor}
 use Rattle.rd_base.specs.Results.{◌>>=◌, map_fault, Fails}
-use Rattle.rv_text.specs.Characters.{is_of_line, run, behind, lines_of}
+use Rattle.rv_text.specs.Characters.{is_of_line, run, behind, source_lines}
 use Rattle.rv_text.specs.Faults.{fault}
 use Rattle.rv_text.specs.Assembly.{Names, no_names, place_after, Pass, after_line, first_pass, also, word_of_line, second_pass}
 use Rattle.rv_text.specs.Places.{places_of, error_in, names_of}
@@ -19,9 +19,9 @@ use Rattle.rv_text.specs.declared.assembling.LineError.TheVariants as lines
 -- the lines behind a line
 abbrev pub lines_behind : List ℕ → List (List ℕ)
 lines_behind [] = []
-lines_behind (c ∷ cs) = lines_of cs
+lines_behind (c ∷ cs) = source_lines cs
 
-pub first-line : (text : List ℕ) → lines_of text ≡ run is_of_line text ∷ lines_behind (behind is_of_line text)
+pub first-line : (text : List ℕ) → source_lines text ≡ run is_of_line text ∷ lines_behind (behind is_of_line text)
 first-line [] = refl
 first-line (c ∷ cs) = let rest = first-line cs in grind arith
 
@@ -30,9 +30,9 @@ behind-length p [] = omega arith
 behind-length p (x ∷ xs) = let rest = behind-length p xs in grind arith
 
 -- what is left behind a line feed, as the code takes it
-pub left-lines : (tail : List ℕ) → 1 ≤ length tail → lines_behind tail ≡ lines_of (take (length tail - 1) (drop 1 tail))
+pub left-lines : (tail : List ℕ) → 1 ≤ length tail → lines_behind tail ≡ source_lines (take (length tail - 1) (drop 1 tail))
 left-lines [] l = let never : ⊥ = omega arith in elim never [ ]
-left-lines (c ∷ cs) l = let same : take (length (c ∷ cs) - 1) (drop 1 (c ∷ cs)) ≡ cs = take_all (length (c ∷ cs) - 1) cs (omega arith) in ap lines_of (sym same)
+left-lines (c ∷ cs) l = let same : take (length (c ∷ cs) - 1) (drop 1 (c ∷ cs)) ≡ cs = take_all (length (c ∷ cs) - 1) cs (omega arith) in ap source_lines (sym same)
 
 pub left-length : (tail : List ℕ) → 1 ≤ length tail → length (take (length tail - 1) (drop 1 tail)) + 1 ≡ length tail
 left-length [] l = let never : ⊥ = omega arith in elim never [ ]
@@ -92,27 +92,27 @@ both-passes (Err k) names f e = grind (arith, e)
 
 -- ---- a line of the first pass, as the code has it
 pub pass-goes : (rest line tail : List ℕ) (n : ℕ) (p q : Pass) (all : Result Pass AsmFault) → line ≡ run is_of_line rest → tail ≡ behind is_of_line rest
-    → first_pass n p (lines_of rest) ≡ all → map_fault lines.Fault (after_line p line) ≡ Ok q → first_pass (n + 1) q (lines_behind tail) ≡ all
+    → first_pass n p (source_lines rest) ≡ all → map_fault lines.Fault (after_line p line) ≡ Ok q → first_pass (n + 1) q (lines_behind tail) ≡ all
 pass-goes rest line tail n p q all a b so e =
     sym (line-goes n p q line (lines_behind tail) e)
     ∙ (ap (λ l. first_pass n p (l ∷ lines_behind tail)) a ∙ (ap (λ t. first_pass n p (run is_of_line rest ∷ lines_behind t)) b ∙ (ap (first_pass n p) (sym (first-line rest)) ∙ so)))
 
 pub pass-fails : (rest line : List ℕ) (n : ℕ) (p : Pass) (e : LineError) (r : AsmError) (all : Result Pass AsmFault) → line ≡ run is_of_line rest → r ≡ error_in n e
-    → first_pass n p (lines_of rest) ≡ all → Fails lines.Memory e (map_fault lines.Fault (after_line p line)) → Fails errors.Memory r (map_fault errors.Fault (names_of all))
+    → first_pass n p (source_lines rest) ≡ all → Fails lines.Memory e (map_fault lines.Fault (after_line p line)) → Fails errors.Memory r (map_fault errors.Fault (names_of all))
 pass-fails rest line n p e r all a is so f =
     let whole = ap (λ l. first_pass n p (l ∷ lines_behind (behind is_of_line rest))) a ∙ (ap (first_pass n p) (sym (first-line rest)) ∙ so) in
     rw (is, sym whole) (line-fails n p line (lines_behind (behind is_of_line rest)) e f)
 
 -- ---- a line of the second pass, as the code has it
 pub word-step : (rest line tail : List ℕ) (n : ℕ) (names : Names) (here : ℕ) (xs : List ℕ) (w : Option ℕ) (all : Result (List ℕ) AsmFault) → line ≡ run is_of_line rest → tail ≡ behind is_of_line rest
-    → before xs (second_pass n names here (lines_of rest)) ≡ all → word_of_line names here line ≡ Ok w → before (xs ++ also w []) (second_pass (n + 1) names (place_after here w) (lines_behind tail)) ≡ all
+    → before xs (second_pass n names here (source_lines rest)) ≡ all → word_of_line names here line ≡ Ok w → before (xs ++ also w []) (second_pass (n + 1) names (place_after here w) (lines_behind tail)) ≡ all
 word-step rest line tail n names here xs w all a b so e =
     sym (word-goes n names here line (lines_behind tail) xs w e)
     ∙ (ap (λ l. before xs (second_pass n names here (l ∷ lines_behind tail))) a ∙ (ap (λ t. before xs (second_pass n names here (run is_of_line rest ∷ lines_behind t))) b
     ∙ (ap (λ ls. before xs (second_pass n names here ls)) (sym (first-line rest)) ∙ so)))
 
 pub word-stops : (rest line : List ℕ) (n : ℕ) (names : Names) (here : ℕ) (xs : List ℕ) (k : FaultKind) (all : Result (List ℕ) AsmFault) → line ≡ run is_of_line rest
-    → before xs (second_pass n names here (lines_of rest)) ≡ all → word_of_line names here line ≡ Err k → all ≡ Err (fault n k)
+    → before xs (second_pass n names here (source_lines rest)) ≡ all → word_of_line names here line ≡ Err k → all ≡ Err (fault n k)
 word-stops rest line n names here xs k all a so e =
     sym so ∙ (ap (λ ls. before xs (second_pass n names here ls)) (first-line rest)
     ∙ (ap (λ l. before xs (second_pass n names here (l ∷ lines_behind (behind is_of_line rest)))) (sym a) ∙ word-fails n names here line (lines_behind (behind is_of_line rest)) xs k e))
@@ -121,5 +121,5 @@ pub word-ends : (tail : List ℕ) (n : ℕ) (names : Names) (here : ℕ) (xs : L
 word-ends tail n names here xs all l so = sym so ∙ (ap (λ ls. before xs (second_pass n names here ls)) (no-lines tail l) ∙ ap (λ t. Ok t) (append-none xs))
 
 pub word-kept : (tail : List ℕ) (n : ℕ) (names : Names) (here next : ℕ) (xs ws : List ℕ) (w : Option ℕ) (all : Result (List ℕ) AsmFault) → ws ≡ xs ++ also w [] → next ≡ place_after here w → 1 ≤ length tail
-    → before (xs ++ also w []) (second_pass n names (place_after here w) (lines_behind tail)) ≡ all → before ws (second_pass n names next (lines_of (take (length tail - 1) (drop 1 tail)))) ≡ all
+    → before (xs ++ also w []) (second_pass n names (place_after here w) (lines_behind tail)) ≡ all → before ws (second_pass n names next (source_lines (take (length tail - 1) (drop 1 tail)))) ≡ all
 word-kept tail n names here next xs ws w all a b l so = rw (a, b, sym (left-lines tail l)) so

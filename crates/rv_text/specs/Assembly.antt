@@ -1,8 +1,8 @@
--- To believe: the words of a text, or its fault. First over all lines in order what each says by itself, and names defined twice; then
--- over all lines in order the names that stand for a distance.
+-- To believe: the words of a text, or its fault. The first pass tests each line by itself and gives each label its place. The second pass
+-- reads the lines again, with the distances to these places, and gives the words.
 use Rattle.std.specs.Prelude.{ℕ, ◌+◌, ◌-ℤ◌, if◌then◌else◌, List, [], ◌∷◌, pos, bytes_eq, Option, Some, None, option_map, is_some, Result, Ok, Err}
 use Rattle.rd_base.specs.Results.{◌>>=◌, map_fault}
-use Rattle.rv_text.specs.Characters.{lines_of}
+use Rattle.rv_text.specs.Characters.{source_lines}
 use Rattle.rv_text.specs.Operands.{Distances}
 use Rattle.rv_text.specs.Lines.{code_in, label_in, statement_in, word_in}
 use Rattle.rv_text.specs.Faults.{fault}
@@ -20,11 +20,11 @@ no_names name = None
 abbrev pub with_name : Names → List ℕ → ℕ → Names
 with_name names name place other = if bytes_eq name other then Some place else names other
 
--- how far a name's place is from this one
+-- the place that a name stands for minus this place, in bytes
 abbrev pub distances_from : Names → ℕ → Distances
 distances_from names here name = option_map (λ there. pos there -ℤ pos here) (names name)
 
--- before places are known each name is taken to be near
+-- in the first pass, which doesn't know places yet, each name has the distance 0, which is in every target's range
 abbrev pub near : Distances
 near name = Some (pos 0)
 
@@ -72,4 +72,4 @@ second_pass n names place (l ∷ ls) = map_fault (fault n) (word_of_line names p
 
 -- lines count from 1, places from 0
 unfoldable pub assembled : List ℕ → Result (List ℕ) AsmFault
-assembled text = first_pass 1 (pass no_names 0) (lines_of text) >>= λ p. second_pass 1 p.names 0 (lines_of text)
+assembled text = first_pass 1 (pass no_names 0) (source_lines text) >>= λ p. second_pass 1 p.names 0 (source_lines text)

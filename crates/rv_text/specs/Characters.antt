@@ -74,6 +74,6 @@ in_first c [] = (c ∷ []) ∷ []
 in_first c (l ∷ ls) = (c ∷ l) ∷ ls
 
 -- the lines of a text: each ends at a line feed or at the end of the text
-abbrev pub lines_of : List ℕ → List (List ℕ)
-lines_of [] = [] ∷ []
-lines_of (c ∷ cs) = if c == 10 then [] ∷ lines_of cs else in_first c (lines_of cs)
+abbrev pub source_lines : List ℕ → List (List ℕ)
+source_lines [] = [] ∷ []
+source_lines (c ∷ cs) = if c == 10 then [] ∷ source_lines cs else in_first c (source_lines cs)

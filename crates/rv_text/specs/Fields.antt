@@ -1,5 +1,5 @@
--- To believe: what an operand is, the numbers that it may be, and where its bits stand in the word (RISC-V Unprivileged ISA 20191213, 2.2
--- and 2.3).
+-- To believe: what an operand is, and the numbers that it may be. Derived: where its bits stand in the word (RISC-V Unprivileged ISA
+-- 20191213, 2.2 and 2.3), tied to `word_of` by the law `each_word_is_said`.
 use Rattle.std.specs.Prelude.{ℕ, ◌+◌, ◌*◌, ◌%◌, ◌^◌, ◌==◌, ◌&&◌, Bool, true, false, ℤ, pos, negsuc, unsigned_abs, int_le}
 use Rattle.rv_decode.specs.Bits.{bits, twos_complement}
 use Rattle.rv_text.specs.declared.field.Field.{Field}

@@ -1,5 +1,5 @@
 -- To believe: which place a label stands for, by the lines before it.
-use Rattle.std.specs.Prelude.{◌≡◌, ℕ, ◌+◌, ◌*◌, Bool, not, if◌then◌else◌, List, [], ◌∷◌, ◌++◌, Option, Some}
+use Rattle.std.specs.Prelude.{◌≡◌, ℕ, ◌+◌, ◌*◌, Bool, not, if◌then◌else◌, List, [], ◌∷◌, ◌++◌, Some}
 use Rattle.rv_text.specs.Characters.{is_empty}
 use Rattle.rv_text.specs.Lines.{code_in, label_in, statement_in}
 

@@ -1,6 +1,6 @@
 -- To believe: numbers and registers as they are written.
 use Rattle.std.specs.Prelude.{ℕ, ◌==◌, ◌&&◌, ◌||◌, Bool, false, not, if◌then◌else◌, List, [], ◌∷◌, ℤ, pos, neg_ℤ, Option, Some, None, option_map, option_and_then, nat_lt}
-use Rattle.std.specs.Char.{is_ascii_digit}
+use Rattle.std.specs.Char.{is_ascii_digit, is_ascii_hexdigit}
 use Rattle.std.specs.Str.Parse.{digits_value}
 use Rattle.rv_text.specs.Characters.{every, begins, is_empty, tail}
 
@@ -13,13 +13,9 @@ is_natural (c ∷ cs) = every is_ascii_digit (c ∷ cs) && (not (c == 48) || is_
 abbrev pub natural_in : List ℕ → Option ℕ
 natural_in text = if is_natural text then Some (digits_value 10 text) else None
 
--- a hexadecimal digit, of either case
-abbrev pub is_hex : ℕ → Bool
-is_hex c = is_ascii_digit c || ((nat_lt 96 c && nat_lt c 103) || (nat_lt 64 c && nat_lt c 71))
-
--- one or more of these, as a number
+-- one or more hexadecimal digits, of either case, as a number
 abbrev pub hex_in : List ℕ → Option ℕ
-hex_in text = if not (is_empty text) && every is_hex text then Some (digits_value 16 text) else None
+hex_in text = if not (is_empty text) && every is_ascii_hexdigit text then Some (digits_value 16 text) else None
 
 -- `x`
 abbrev pub is_x : ℕ → Bool

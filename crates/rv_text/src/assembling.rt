@@ -1,7 +1,7 @@
 //! Both passes.
 ghost use Rattle.std.specs.Prelude.{◌≡◌, ◌≤◌, ◌<◌, ◌+◌, ◌++◌, [], length, option_map, IfOk, OnOk};
 ghost use Rattle.rd_base.specs.Results.{Gives, map_fault};
-ghost use Rattle.rv_text.specs.Characters.{lines_of};
+ghost use Rattle.rv_text.specs.Characters.{source_lines};
 ghost use Rattle.rv_text.specs.Assembly.{pass, no_names, also, word_of_line, first_pass as the_first_pass, second_pass as the_second_pass, assembled, with_label, after_line, place_after as the_place_after};
 ghost use Rattle.rv_text.specs.Places.{places_of, error_in, names_of};
 
@@ -87,7 +87,7 @@ fn place_line<'a>(names: &mut Places<'a>, line: &'a [u8], place: u32) -> Result<
 /// The first pass over a text: the places of its names.
 fn first_pass<'a>(alloc: Global, text: &'a [u8]) -> Result<Places<'a>, AsmError>
     requires { length text.now ≤ 16777216 }
-    ensures { Gives AsmError.Memory places_of result (map_fault AsmError.Fault (names_of (the_first_pass 1 (pass no_names 0) (lines_of text.now)))) }
+    ensures { Gives AsmError.Memory places_of result (map_fault AsmError.Fault (names_of (the_first_pass 1 (pass no_names 0) (source_lines text.now)))) }
 {
     let mut names = BTreeMap::new(alloc);
     let mut rest = text;
@@ -133,7 +133,7 @@ fn add_word(words: &mut Vec<u32>, word: Option<u32>) -> Result<(), AllocError>
 /// The second pass over a text: its words.
 fn second_pass(alloc: Global, text: &[u8], names: &Places<'_>) -> Result<Vec<u32>, AsmError>
     requires { length text.now ≤ 16777216 }
-    ensures { Gives AsmError.Memory (λ words. words.items) result (map_fault AsmError.Fault (the_second_pass 1 (places_of names.now) 0 (lines_of text.now))) }
+    ensures { Gives AsmError.Memory (λ words. words.items) result (map_fault AsmError.Fault (the_second_pass 1 (places_of names.now) 0 (source_lines text.now))) }
 {
     let mut words = Vec::new(alloc);
     let mut rest = text;

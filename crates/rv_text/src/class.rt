@@ -31,9 +31,7 @@ fn is_of(class: Class, c: u8) -> bool
     match class {
         Class::Blank => c == b' ' || c == b'\t',
         Class::Decimal => c.is_ascii_digit(),
-        Class::Hexadecimal => {
-            c.is_ascii_digit() || b'a' <= c && c <= b'f' || b'A' <= c && c <= b'F'
-        }
+        Class::Hexadecimal => c.is_ascii_hexdigit(),
         Class::Name => c.is_ascii_alphanumeric() || c == b'_',
         Class::Mnemonic => c.is_ascii_alphanumeric() || c == b'_' || c == b'.',
         Class::Operand => c.is_ascii_alphanumeric() || c == b'_' || c == b'.' || c == b'-',

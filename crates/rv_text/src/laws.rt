@@ -6,7 +6,7 @@ ghost use Rattle.rv_decode.specs.declared.instr.Instr.{Instr};
 ghost use Rattle.rv_text.specs.Operands.{Distances};
 ghost use Rattle.rv_text.specs.Lines.{word_of_statement, word_in};
 ghost use Rattle.rv_text.specs.Spelling.{spelling_of};
-ghost use Rattle.rv_text.specs.Meaning.{IsWritten, Says};
+ghost use Rattle.rv_text.specs.Meaning.{IsSpelledBy, StandsForWord};
 ghost use Rattle.std.specs.List.{AllByRecursion};
 ghost use Rattle.rv_text.specs.Listing.{listing};
 ghost use Rattle.rv_text.specs.Assembly.{assembled, near, Pass, pass, no_names, first_pass};
@@ -28,8 +28,8 @@ pub fn listing_is_read_back()
 /// A statement has a word exactly where it is how an instruction with that word is written, or a word as such. So each written
 /// instruction is assembled to its word, which reads as that instruction.
 pub fn each_word_is_said()
-    ensures says { (distances : Distances) (text : List ℕ) (w : ℕ) → (word_of_statement distances text ≡ Ok w) ↔ Says distances text w }
-    ensures instruction { (distances : Distances) (text : List ℕ) (i : Instr) → IsWritten distances text (spelling_of i) → word_of_statement distances text ≡ Ok (word_of i) }
+    ensures word { (distances : Distances) (text : List ℕ) (w : ℕ) → (word_of_statement distances text ≡ Ok w) ↔ StandsForWord distances text w }
+    ensures instruction { (distances : Distances) (text : List ℕ) (i : Instr) → IsSpelledBy distances text (spelling_of i) → word_of_statement distances text ≡ Ok (word_of i) }
     ensures reading { (i : Instr) → reading_of (word_of i) ≡ Some i }
 {
     one_reading();

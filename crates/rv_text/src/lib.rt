@@ -4,10 +4,12 @@
 //! The layers above may rely on this: `assemble` gives the words that the definition `assembled` gives, or its fault with its kind and its
 //! line, and but for running out of memory the answer is determined by the text alone; `list` gives the text `listing`. The laws tie
 //! both to the words of the instructions: a statement has a word exactly where it is how an instruction with that word is written
-//! (`each_word_is_said`), and the listing of any words is assembled to them (`listing_is_read_back`).
+//! (`each_word_is_said`), and the listing of any words is assembled to them (`listing_is_read_back`). A label's place is four bytes for
+//! each instruction before its line (`labels_stand_for_places`).
 //!
-//! Read `specs/Lines.antt` first, from there `Operands`, `Fields`, `Numbers` and `Characters`, then `specs/Assembly.antt`; `specs/Spelling.antt` and
-//! `specs/Meaning.antt` say how an instruction is written. Of the code read `assembling` first.
+//! Read `specs/Lines.antt` first, from there `Rows`, `Operands`, `Fields`, `Numbers`, `Characters` and `Faults`, then `specs/Assembly.antt`;
+//! `specs/Spelling.antt` and `specs/Meaning.antt` say how an instruction is written, `specs/Listing.antt` how words are listed, and `specs/Labels.antt`,
+//! `Unknown` and `Later` belong to the laws. Of the code read `assembling` first.
 #![tactic(auto)]
 
 mod assembling;
