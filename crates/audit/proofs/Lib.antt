@@ -1,0 +1,10 @@
+pub mod PassLemmas
+pub mod NextLemmas
+pub mod StatedLemmas
+pub mod LegalLemmas
+pub mod OrderLemmas
+pub mod GrowLemmas
+pub mod MostLemmas
+pub mod ExactLemmas
+pub mod GivenLemmas
+pub mod TrueLemmas

@@ -1,0 +1,5 @@
+pub mod NextEntry
+pub mod LineByLine
+pub mod BetweenLines
+pub mod OwnMatch
+pub mod TrueLines

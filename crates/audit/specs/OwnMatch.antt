@@ -1,0 +1,65 @@
+-- To believe. What a confirmed text is: the full text of the match whose provers say what the text says.
+use Rattle.std.specs.Prelude.{◌≡◌, ◌↔◌, ℕ, true, ◌&&◌, ◌==◌, List, [], ◌∷◌, Option, Some, None, if◌then◌else◌}
+use Rattle.rd_base.specs.declared.answer.Answer.{Answer}
+use Rattle.rd_base.specs.declared.answer.Qid.{Qid}
+use Rattle.bisect_game.specs.declared.settled.Settled.{Settled}
+use Rattle.bisect_game.specs.declared.settled.Settled.TheVariants.{Given, Faulty, Spent}
+use Rattle.bisect_game.specs.Says.{Says}
+use Rattle.bisect_game.specs.Ruling.{Ruling}
+use Rattle.bisect_game.specs.Rules.{Rules, ArePlayable}
+use Rattle.tournament.specs.declared.verdict.Verdict.{Verdict}
+use Rattle.tournament.specs.Bracket.{Record, is_complete, verdict_of, bracket}
+use Rattle.tournament.specs.Journals.{answers_of}
+use Rattle.tournament.specs.Posting.{same_qid}
+use Rattle.text_types.specs.declared.text.TextMove.{TextMove}
+use Rattle.text_types.specs.declared.text.FullText.{FullText}
+use Rattle.text_types.specs.MoveLists.{moves_of}
+use Rattle.text_types.specs.StatedVerdict.{stated_of}
+use Rattle.audit.specs.declared.finding.Audit.TheVariants.{Confirmed}
+use Rattle.audit.specs.LineByLine.{rules_of_head, AreOfProvers, audited}
+
+-- what a prover's answer to the question with a number is settled as, by the first such line
+abbrev pub settled_by_lines : ℕ → Qid → List TextMove → Option Settled
+settled_by_lines p qid [] = None
+settled_by_lines p qid (m ∷ ms) = if (m.prover == p) && same_qid m.qid qid then Some m.settled else settled_by_lines p qid ms
+
+abbrev pub answer_in : Option Settled → Option Answer
+answer_in (Some (Given a)) = Some a
+answer_in (Some (Faulty a)) = Some a
+answer_in (Some Spent) = None
+answer_in None = None
+
+-- the provers of a text: each gives the answer that the text has of it, and passes for ever where there is none
+abbrev pub says_in : List TextMove → Says
+says_in ms p q passes = answer_in (settled_by_lines p q.qid ms)
+
+-- THE TEXT'S OWN MATCH: the bracket over these very moves
+abbrev pub own_record : Rules → List TextMove → Record
+own_record rules ms = bracket rules (answers_of rules (says_in ms))
+
+-- the text is the full text of that match, with this verdict. So `given` and `faulty` are right, and nothing is open at the end.
+pub record IsTextOf (rules : Rules) (text : FullText) (v : Verdict) : Type 0 where
+  pub moves : moves_of (own_record rules text.moves) ≡ text.moves
+  pub complete : is_complete (own_record rules text.moves) ≡ true
+  pub verdict : verdict_of rules (own_record rules text.moves) ≡ v
+  pub stated : stated_of (own_record rules text.moves).claims v ≡ Some text.stated
+
+-- a text is confirmed exactly where it is
+abbrev pub ConfirmedExactly : Type 0
+ConfirmedExactly =
+    (ruling : Ruling) (text : FullText) (v : Verdict) →
+    let rules : Rules = rules_of_head ruling text.head in
+    ArePlayable rules → AreOfProvers rules.provers text.moves → (audited ruling text ≡ Confirmed v) ↔ IsTextOf rules text v
+
+-- the text of a case's record: its moves, and what is stated of its verdict
+pub record IsTextOfRecord (rules : Rules) (r : Record) (text : FullText) : Type 0 where
+  pub moves : text.moves ≡ moves_of r
+  pub stated : stated_of r.claims (verdict_of rules r) ≡ Some text.stated
+
+-- the full text of every case is confirmed, with its verdict, whatever its provers say
+abbrev pub CaseTextsAreConfirmed : Type 0
+CaseTextsAreConfirmed =
+    (ruling : Ruling) (says : Says) (text : FullText) →
+    let rules : Rules = rules_of_head ruling text.head in
+    let r : Record = bracket rules (answers_of rules says) in
+    ArePlayable rules → IsTextOfRecord rules r text → audited ruling text ≡ Confirmed (verdict_of rules r)

@@ -1,0 +1,74 @@
+ghost use Rattle.std.specs.Prelude.{◌≡◌, ◌<◌, ◌≤◌, ◌^◌, IfOk};
+ghost use Rattle.tournament.specs.Posting.{rules_of};
+ghost use Rattle.audit.specs.LineByLine.{AreOfProvers, end_of, audited};
+
+use crate::finding::{Audit, Cause};
+use crate::playing::play;
+use crate::stating::is_stated;
+use bisect_game::Judge;
+use rd_base::Memory;
+use std::alloc::Global;
+use text_types::{FullText, Stated};
+use tournament::Match;
+
+/// The number of the first line of a text that is a move: the head is line 1.
+const FIRST_MOVE: u64 = 2;
+
+/// What comes of the verdict's line, which has this number.
+fn end<J: Judge + Drop>(played: &Match<J>, line: u64, stated: &Stated) -> Audit
+    ensures { result ≡ end_of (rules_of (J.ruling played.now.0) played.now.1) line stated.now played.now.2.record_ }
+{
+    match played.verdict() {
+        None => Audit::Refused {
+            line,
+            cause: Cause::MovesMissing,
+        },
+        Some(verdict) => {
+            if is_stated(played.record().claims(), &verdict, stated) {
+                Audit::Confirmed(verdict)
+            } else {
+                Audit::Refused {
+                    line,
+                    cause: Cause::OtherVerdict,
+                }
+            }
+        }
+    }
+}
+
+/// Audits a full text before a judge of the version and digest that its head names, by playing its moves in order. It runs no machine
+/// beyond what the judge does for a proof, and keeps one match in memory.
+///
+/// `Refused` comes exactly at the first line that isn't the next legal entry, with the number of that line. An `Err` is out of memory.
+#[tactic(auto, unfolding(crate::specs::LineByLine::audited))]
+pub fn audit<J: Judge + Drop>(alloc: Global, text: &FullText, judge: J) -> Result<Audit, Memory>
+    requires some { 0 < text.now.head.provers }
+    requires few { text.now.head.provers ≤ 2 ^ 16 }
+    requires steps { 0 < text.now.head.bound }
+    requires short { text.now.head.bound < 2 ^ 32 }
+    requires parted { 1 < text.now.head.fan }
+    requires few_parts { text.now.head.fan ≤ 16 }
+    requires provers { AreOfProvers text.now.head.provers text.now.moves }
+    ensures { IfOk result (λ found. found ≡ audited (J.ruling (J.names judge)) text.now) }
+{
+    let head = text.head;
+    let mut played = Match::new(
+        alloc,
+        judge,
+        head.provers,
+        head.bound,
+        head.fan,
+        head.patience,
+        head.start,
+    )?;
+    let moves = text.moves.as_slice();
+    'moves: for (i, entry) in moves.iter().enumerate() {
+        if let Some(cause) = play(alloc, &mut played, entry)? {
+            return Ok(Audit::Refused {
+                line: i as u64 + FIRST_MOVE,
+                cause,
+            });
+        }
+    }
+    Ok(end(&played, moves.len() as u64 + FIRST_MOVE, &text.stated))
+}

@@ -1,0 +1,38 @@
+//! Laws of the audit, each the contract of a function that does nothing.
+ghost use Rattle.audit.specs.OwnMatch.{ConfirmedExactly, CaseTextsAreConfirmed};
+ghost use Rattle.audit.specs.TrueLines.{ConfirmedTextIsRight};
+
+use tournament::{
+    a_number_names_one_question, nobody_asked_means_over, one_record_of_a_case, spare_is_enough,
+    the_verdict_is_right, true_moves_are_true_answers,
+};
+
+/// A text is confirmed exactly where it is the full text of the match whose provers say what the text says, and the stated verdict is
+/// that match's.
+pub fn confirmed_exactly()
+    ensures { ConfirmedExactly }
+{
+    one_record_of_a_case();
+    spare_is_enough();
+    nobody_asked_means_over();
+}
+
+/// The full text of every case is confirmed, with its verdict, whatever its provers say.
+pub fn case_texts_are_confirmed()
+    ensures { CaseTextsAreConfirmed }
+{
+    one_record_of_a_case();
+    spare_is_enough();
+    nobody_asked_means_over();
+}
+
+/// A confirmed text is right: where one prover's lines are all given and true of a run, the text states the run's status and output, or
+/// two different strings of one digest that answers of the text open.
+pub fn a_confirmed_text_is_right()
+    ensures { ConfirmedTextIsRight }
+{
+    one_record_of_a_case();
+    the_verdict_is_right();
+    true_moves_are_true_answers();
+    a_number_names_one_question();
+}

@@ -1,0 +1,123 @@
+//! A line of a text is played.
+ghost use Rattle.std.specs.Prelude.{◌≡◌, ◌<◌, ◌≤◌, not, true, Some, None, IfOk};
+ghost use Rattle.bisect_game.specs.declared.settled.Settled.TheVariants.{Spent};
+ghost use Rattle.bisect_game.specs.Rules.{is_fit, judged};
+ghost use Rattle.tournament.specs.Bracket.{open_question, settle};
+ghost use Rattle.tournament.specs.Posting.{rules_of};
+ghost use Rattle.audit.specs.LineByLine.{is_right, cause_of};
+ghost use Rattle.audit.specs.BetweenLines.{fresh, is_faulty};
+
+use crate::finding::Cause;
+use crate::next_entry::next;
+use bisect_game::{Judge, Question, Settled};
+use rd_base::{Answer, Memory};
+use std::alloc::Global;
+use text_types::TextMove;
+use tournament::{Match, Move, Reply, same_qid};
+
+/// A prover spends its open question: it passes once more than the patience.
+fn spend<J: Judge + Drop>(played: &mut Match<J>, p: u32, question: Question)
+    requires some { 0 < p }
+    requires few { p ≤ played.old.1.provers }
+    requires fresh { played.old.2 ≡ fresh (rules_of (J.ruling played.old.0) played.old.1) played.old.2.record_ }
+    requires asked { open_question (rules_of (J.ruling played.old.0) played.old.1) played.old.2.record_ p ≡ Some question }
+    ensures names { played.new.0 ≡ played.old.0 }
+    ensures setup { played.new.1 ≡ played.old.1 }
+    ensures state { let rules = rules_of (J.ruling played.old.0) played.old.1 in played.new.2 ≡ fresh rules (settle rules p Spent played.old.2.record_) }
+{
+    let patience = played.setup().patience;
+    'passes: for _i in 0..patience {
+        let _ = played.post(p, question.qid, Move::Pass);
+    }
+    let _ = played.post(p, question.qid, Move::Pass);
+}
+
+/// Whether a reply says that an answer is faulty.
+fn is_faulty(reply: Reply) -> bool
+    ensures { result ≡ is_faulty reply }
+{
+    match reply {
+        Reply::Faulty => true,
+        _ => false,
+    }
+}
+
+/// A prover answers its open question. Whether the answer is faulty.
+fn answer<J: Judge + Drop>(played: &mut Match<J>, p: u32, question: Question, given: Answer) -> bool
+    requires some { 0 < p }
+    requires few { p ≤ played.old.1.provers }
+    requires fresh { played.old.2 ≡ fresh (rules_of (J.ruling played.old.0) played.old.1) played.old.2.record_ }
+    requires asked { open_question (rules_of (J.ruling played.old.0) played.old.1) played.old.2.record_ p ≡ Some question }
+    ensures names { played.new.0 ≡ played.old.0 }
+    ensures setup { played.new.1 ≡ played.old.1 }
+    ensures state { let rules = rules_of (J.ruling played.old.0) played.old.1 in played.new.2 ≡ fresh rules (settle rules p (judged rules.ruling question.kind given) played.old.2.record_) }
+    ensures faulty { result ≡ not (is_fit (J.ruling played.old.0) question.kind given) }
+{
+    let reply = played.post(p, question.qid, Move::Give(given));
+    is_faulty(reply)
+}
+
+/// The open question of a prover is settled as a line says. Whether the line is right to call the answer given or faulty; where it isn't,
+/// the match has gone on otherwise.
+fn settle<J: Judge + Drop>(
+    alloc: Global,
+    played: &mut Match<J>,
+    p: u32,
+    question: Question,
+    settled: &Settled,
+) -> Result<bool, Memory>
+    requires some { 0 < p }
+    requires few { p ≤ played.old.1.provers }
+    requires fresh { played.old.2 ≡ fresh (rules_of (J.ruling played.old.0) played.old.1) played.old.2.record_ }
+    requires asked { open_question (rules_of (J.ruling played.old.0) played.old.1) played.old.2.record_ p ≡ Some question }
+    ensures names { played.new.0 ≡ played.old.0 }
+    ensures setup { played.new.1 ≡ played.old.1 }
+    ensures right { IfOk result (λ right. right ≡ is_right (rules_of (J.ruling played.old.0) played.old.1) question.kind settled.now) }
+    ensures state { let rules = rules_of (J.ruling played.old.0) played.old.1 in IfOk result (λ right. right ≡ true → played.new.2 ≡ fresh rules (settle rules p settled.now played.old.2.record_)) }
+{
+    match settled {
+        Settled::Given(given) => {
+            let given = given.copy(alloc)?;
+            Ok(!answer(played, p, question, given))
+        }
+        Settled::Faulty(given) => {
+            let given = given.copy(alloc)?;
+            Ok(answer(played, p, question, given))
+        }
+        Settled::Spent => {
+            spend(played, p, question);
+            Ok(true)
+        }
+    }
+}
+
+/// A move is played, or refused for a cause.
+#[tactic(auto, unfolding(crate::specs::LineByLine::cause_of))]
+pub(crate) fn play<J: Judge + Drop>(
+    alloc: Global,
+    played: &mut Match<J>,
+    entry: &TextMove,
+) -> Result<Option<Cause>, Memory>
+    requires some { 0 < entry.now.prover }
+    requires few { entry.now.prover ≤ played.old.1.provers }
+    requires fresh { played.old.2 ≡ fresh (rules_of (J.ruling played.old.0) played.old.1) played.old.2.record_ }
+    ensures names { played.new.0 ≡ played.old.0 }
+    ensures setup { played.new.1 ≡ played.old.1 }
+    ensures cause { IfOk result (λ cause. cause ≡ cause_of (rules_of (J.ruling played.old.0) played.old.1) played.old.2.record_ entry.now) }
+    ensures state { let rules = rules_of (J.ruling played.old.0) played.old.1 in IfOk result (λ cause. cause ≡ None → played.new.2 ≡ fresh rules (settle rules entry.now.prover entry.now.settled played.old.2.record_)) }
+{
+    if played.is_over() {
+        return Ok(Some(Cause::MovesAfterEnd));
+    }
+    let Some((p, question)) = next(played.record()) else {
+        return Ok(Some(Cause::NotAsked));
+    };
+    if p != entry.prover as usize || !same_qid(question.qid, entry.qid) {
+        return Ok(Some(Cause::NotAsked));
+    }
+    if settle(alloc, played, entry.prover, question, &entry.settled)? {
+        Ok(None)
+    } else {
+        Ok(Some(Cause::OtherReply))
+    }
+}
