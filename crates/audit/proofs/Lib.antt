@@ -1,6 +1,7 @@
 pub mod PassLemmas
 pub mod NextLemmas
 pub mod StatedLemmas
+pub mod ReadLemmas
 pub mod LegalLemmas
 pub mod OrderLemmas
 pub mod GrowLemmas

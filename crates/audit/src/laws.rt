@@ -1,7 +1,12 @@
 //! Laws of the audit, each the contract of a function that does nothing.
+ghost use Rattle.std.specs.Prelude.{◌≡◌, ◌<◌, ◌≤◌, ◌^◌, Ok};
+ghost use Rattle.text_reader.specs.ReadText.{read_text};
+ghost use Rattle.audit.specs.LineByLine.{AreOfProvers};
 ghost use Rattle.audit.specs.OwnMatch.{ConfirmedExactly, CaseTextsAreConfirmed};
 ghost use Rattle.audit.specs.TrueLines.{ConfirmedTextIsRight};
 
+use text_reader::reading_is_the_inverse_of_writing;
+use text_types::FullText;
 use tournament::{
     a_number_names_one_question, nobody_asked_means_over, one_record_of_a_case, spare_is_enough,
     the_verdict_is_right, true_moves_are_true_answers,
@@ -35,4 +40,18 @@ pub fn a_confirmed_text_is_right()
     the_verdict_is_right();
     true_moves_are_true_answers();
     a_number_names_one_question();
+}
+
+/// A text that was read may be audited: the conditions of `audit` hold of it.
+pub fn a_read_text_may_be_audited(bytes: &[u8], text: &FullText)
+    requires { read_text bytes.now ≡ Ok text.now }
+    ensures some { 0 < text.now.head.provers }
+    ensures few { text.now.head.provers ≤ 2 ^ 16 }
+    ensures steps { 0 < text.now.head.bound }
+    ensures short { text.now.head.bound < 2 ^ 32 }
+    ensures parted { 1 < text.now.head.fan }
+    ensures few_parts { text.now.head.fan ≤ 16 }
+    ensures provers { AreOfProvers text.now.head.provers text.now.moves }
+{
+    reading_is_the_inverse_of_writing();
 }

@@ -18,4 +18,7 @@ mod stating;
 
 pub use auditing::audit;
 pub use finding::{Audit, Cause};
-pub use laws::{a_confirmed_text_is_right, case_texts_are_confirmed, confirmed_exactly};
+pub use laws::{
+    a_confirmed_text_is_right, a_read_text_may_be_audited, case_texts_are_confirmed,
+    confirmed_exactly,
+};
