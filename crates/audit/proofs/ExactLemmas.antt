@@ -257,6 +257,7 @@ pub record IsDriven (rules : Rules) (says : Says) (t : Record) : Type 0 where
   pub complete : is_complete (after_moves rules rest t) ≡ true
   pub moves : moves_of (after_moves rules rest t) ≡ moves_of t ++ rest
   pub plays : IsPlayedTo rules says (fresh rules t) (fresh rules (after_moves rules rest t)) 0
+  pub posts : Reaches rules (fresh rules t) (fresh rules (after_moves rules rest t))
 
 -- what holds on the way
 pub record IsOnWay (rules : Rules) (says : Says) (t : Record) (n : ℕ) : Type 0 where
@@ -293,6 +294,7 @@ drive-one rules says n t p q way still is further =
       complete = d.complete;
       moves = d.moves ∙ (ap (λ (xs : List TextMove). xs ++ d.rest) longer.moves ∙ append_assoc (moves_of t) (move_on p q s ∷ []) d.rest);
       plays = fewer-moves rules says _ _ (1 + 0) 0 (omega arith) (play-on rules says _ (fresh rules (settle rules p s t)) _ 1 0 turned d.plays);
+      posts = reach-on rules _ (fresh rules (settle rules p s t)) _ posted_ d.posts;
     }
 
 drive-by : NobodyAskedIsOver → (rules : Rules) (says : Says) (n : ℕ) (t : Record) (o : Option (ℕ × Question)) → ArePlayable rules → IsOnWay rules says t n → is_complete t ≡ false → next t ≡ o →
@@ -306,7 +308,7 @@ drive enough over rules says k playable most zero n t spare way =
     absurd (omega (arith, enough rules says way.plays.moves k playable most way.plays.legal, way.plays.many, spare))
 drive enough over rules says k playable most (suc fuel) n t spare way =
     elim (cases_Bool (is_complete t)) [
-      | inl done ↦ record { rest = []; legal = tt; complete = done; moves = sym (append-nil (moves_of t)); plays = play-none rules says (fresh rules t) }
+      | inl done ↦ record { rest = []; legal = tt; complete = done; moves = sym (append-nil (moves_of t)); plays = play-none rules says (fresh rules t); posts = ([], refl) }
       | inr still ↦
           drive-by over rules says n t (next t) playable way still refl
           (λ u further. drive enough over rules says k playable most fuel (n + 1) u (omega (arith, spare)) further)
@@ -339,18 +341,27 @@ record-of-case law rules says t n playable plays complete =
     let same : (turns rules says plays.moves (begun rules)).record_ ≡ t = ap (λ (st : MatchState). st.record_) plays.comes in
     sym same ∙ law rules says plays.moves playable plays.legal (rw same complete)
 
+-- the lines of a case in their order, and the record to which they come
+pub record IsCaseDriven (rules : Rules) (says : Says) : Type 0 where
+  pub driven : IsDriven rules says (nothing_settled rules)
+  pub same : after_moves rules driven.rest (nothing_settled rules) ≡ bracket rules (answers_of rules says)
+
+pub case-driven : RecordOfCase → SpareIsEnough → NobodyAskedIsOver → (rules : Rules) (says : Says) → ArePlayable rules → IsCaseDriven rules says
+case-driven of_case enough over rules says playable =
+    let k : (k : ℕ) × IsMost rules.fan rules.bound k = most-rounds rules.fan rules.bound playable.parted playable.steps in
+    let d : IsDriven rules says (nothing_settled rules) = drive enough over rules says k.0 playable k.1 (suc (most_entries rules k.0)) 0 (nothing_settled rules) (omega arith)
+    (record { plays = play-none rules says (begun rules); posts = ([], refl); order = order-nothing rules }) in
+    record { driven = d; same = record-of-case of_case rules says _ 0 playable d.plays d.complete }
+
 pub case-confirmed : RecordOfCase → SpareIsEnough → NobodyAskedIsOver → CaseTextsAreConfirmed
 unfolding audited
 case-confirmed of_case enough over ruling says text playable is_text =
     let rules : Rules = rules_of_head ruling text.head in
-    let k : (k : ℕ) × IsMost rules.fan rules.bound k = most-rounds rules.fan rules.bound playable.parted playable.steps in
-    let d : IsDriven rules says (nothing_settled rules) = drive enough over rules says k.0 playable k.1 (suc (most_entries rules k.0)) 0 (nothing_settled rules) (omega arith)
-    (record { plays = play-none rules says (begun rules); posts = ([], refl); order = order-nothing rules }) in
-    let same : after_moves rules d.rest (nothing_settled rules) ≡ bracket rules (answers_of rules says) = record-of-case of_case rules says _ 0 playable d.plays d.complete in
-    let own : d.rest ≡ text.moves = sym (ap (λ (xs : List TextMove). xs ++ d.rest) (nothing-moves rules)) ∙ (sym d.moves ∙ (ap moves_of same ∙ sym is_text.moves)) in
-    let legal : AllLegal rules text.moves (nothing_settled rules) = subst (λ (xs : List TextMove). AllLegal rules xs (nothing_settled rules)) own d.legal in
-    let at : after_moves rules text.moves (nothing_settled rules) ≡ bracket rules (answers_of rules says) = ap (λ (xs : List TextMove). after_moves rules xs (nothing_settled rules)) (sym own) ∙ same in
-    let complete : is_complete (bracket rules (answers_of rules says)) ≡ true = rw same at d.complete in
+    let c : IsCaseDriven rules says = case-driven of_case enough over rules says playable in
+    let own : c.driven.rest ≡ text.moves = sym (ap (λ (xs : List TextMove). xs ++ c.driven.rest) (nothing-moves rules)) ∙ (sym c.driven.moves ∙ (ap moves_of c.same ∙ sym is_text.moves)) in
+    let legal : AllLegal rules text.moves (nothing_settled rules) = subst (λ (xs : List TextMove). AllLegal rules xs (nothing_settled rules)) own c.driven.legal in
+    let at : after_moves rules text.moves (nothing_settled rules) ≡ bracket rules (answers_of rules says) = ap (λ (xs : List TextMove). after_moves rules xs (nothing_settled rules)) (sym own) ∙ c.same in
+    let complete : is_complete (bracket rules (answers_of rules says)) ≡ true = rw c.same at c.driven.complete in
     let n = legal-audits rules 2 text.moves text.stated (nothing_settled rules) legal in
     ◌∙◌ {b = end_of rules n.0 text.stated (after_moves rules text.moves (nothing_settled rules))} n.1 (ends-confirmed rules n.0 text.stated (after_moves rules text.moves (nothing_settled rules)) (verdict_of rules (bracket rules (answers_of rules says))) (rw at complete) (rw at refl) (rw at is_text.stated))
 

@@ -7,5 +7,6 @@ pub mod OrderLemmas
 pub mod GrowLemmas
 pub mod MostLemmas
 pub mod ExactLemmas
+pub mod WrittenLemmas
 pub mod GivenLemmas
 pub mod TrueLemmas

@@ -1,5 +1,5 @@
 -- To believe. What a confirmed text is: the full text of the match whose provers say what the text says.
-use Rattle.std.specs.Prelude.{◌≡◌, ◌↔◌, ℕ, true, ◌&&◌, ◌==◌, List, [], ◌∷◌, Option, Some, None, if◌then◌else◌}
+use Rattle.std.specs.Prelude.{◌≡◌, ◌↔◌, ℕ, true, ◌&&◌, ◌==◌, List, [], ◌∷◌, Option, Some, None, Ok, if◌then◌else◌}
 use Rattle.rd_base.specs.declared.answer.Answer.{Answer}
 use Rattle.rd_base.specs.declared.answer.Qid.{Qid}
 use Rattle.bisect_game.specs.declared.settled.Settled.{Settled}
@@ -11,10 +11,15 @@ use Rattle.tournament.specs.declared.verdict.Verdict.{Verdict}
 use Rattle.tournament.specs.Bracket.{Record, is_complete, verdict_of, bracket}
 use Rattle.tournament.specs.Journals.{answers_of}
 use Rattle.tournament.specs.Posting.{same_qid}
+use Rattle.text_types.specs.declared.text.Head.{Head}
 use Rattle.text_types.specs.declared.text.TextMove.{TextMove}
 use Rattle.text_types.specs.declared.text.FullText.{FullText}
 use Rattle.text_types.specs.MoveLists.{moves_of}
 use Rattle.text_types.specs.StatedVerdict.{stated_of}
+use Rattle.transcript_text.specs.FullLines.{full_text, AreWritten}
+use Rattle.text_reader.specs.ReadText.{read_text}
+use Rattle.text_reader.specs.InLimits.{IsHeadInLimits}
+use Rattle.text_reader.specs.Laws.{HasStrings}
 use Rattle.audit.specs.declared.finding.Audit.TheVariants.{Confirmed}
 use Rattle.audit.specs.LineByLine.{rules_of_head, AreOfProvers, audited}
 
@@ -63,3 +68,17 @@ CaseTextsAreConfirmed =
     let rules : Rules = rules_of_head ruling text.head in
     let r : Record = bracket rules (answers_of rules says) in
     ArePlayable rules → IsTextOfRecord rules r text → audited ruling text ≡ Confirmed (verdict_of rules r)
+
+-- and so are its bytes: what `full` writes of a case's record is read, and the text that is read is confirmed. Its premises are those of
+-- reading: the numbers of the head are within the limits, the answers have wire forms, and a collision has strings that a text can state.
+pub record IsReadAndConfirmed (ruling : Ruling) (head : Head) (r : Record) : Type 0 where
+  pub text : FullText
+  pub read : read_text (full_text head r (verdict_of (rules_of_head ruling head) r)) ≡ Ok text
+  pub confirmed : audited ruling text ≡ Confirmed (verdict_of (rules_of_head ruling head) r)
+
+abbrev pub WrittenCasesAreConfirmed : Type 0
+WrittenCasesAreConfirmed =
+    (ruling : Ruling) (says : Says) (head : Head) →
+    let rules : Rules = rules_of_head ruling head in
+    let r : Record = bracket rules (answers_of rules says) in
+    IsHeadInLimits head → AreWritten (moves_of r) → HasStrings (verdict_of rules r) → IsReadAndConfirmed ruling head r

@@ -2,10 +2,10 @@
 ghost use Rattle.std.specs.Prelude.{◌≡◌, ◌<◌, ◌≤◌, ◌^◌, Ok};
 ghost use Rattle.text_reader.specs.ReadText.{read_text};
 ghost use Rattle.audit.specs.LineByLine.{AreOfProvers};
-ghost use Rattle.audit.specs.OwnMatch.{ConfirmedExactly, CaseTextsAreConfirmed};
+ghost use Rattle.audit.specs.OwnMatch.{ConfirmedExactly, CaseTextsAreConfirmed, WrittenCasesAreConfirmed};
 ghost use Rattle.audit.specs.TrueLines.{ConfirmedTextIsRight};
 
-use text_reader::reading_is_the_inverse_of_writing;
+use text_reader::{a_full_text_is_read_back, reading_is_the_inverse_of_writing};
 use text_types::FullText;
 use tournament::{
     a_number_names_one_question, nobody_asked_means_over, one_record_of_a_case, spare_is_enough,
@@ -29,6 +29,17 @@ pub fn case_texts_are_confirmed()
     one_record_of_a_case();
     spare_is_enough();
     nobody_asked_means_over();
+}
+
+/// What `transcript_text::full` writes of the record of every case is read, and the text that is read is confirmed, where the head's
+/// numbers are within the limits. That each answer has a wire form is a clause of `full`.
+pub fn written_cases_are_confirmed()
+    ensures { WrittenCasesAreConfirmed }
+{
+    one_record_of_a_case();
+    spare_is_enough();
+    nobody_asked_means_over();
+    a_full_text_is_read_back();
 }
 
 /// A confirmed text is right: where one prover's lines are all given and true of a run, the text states the run's status and output, or

@@ -25,5 +25,5 @@ pub returns-clause-state : goal.returns-clause-state
 returns-clause-state g c =
     let all = subst (λ (s : Setup). s.patience ≤ c.passes._i) c.setup-patience.ensures c.passes-test.false in
     let most = subst (λ (s : Setup). c.passes._i ≤ s.patience) c.setup-patience.ensures c.passes.auto._i-end in
-    spend_last (rules_of (g.J.Judge.ruling c.args.played.now.0) c.args.played.now.1) _ _ _ c.args.played.now.2.record_ c.args.p c.passes._i c.args.question
+    spend_last (rules_of (g.J.Judge.ruling c.args.played.now.0) c.args.played.now.1) (rules_of (g.J.Judge.ruling c.passes.played.0) c.passes.played.1) c.passes.played.2 _ c.args.played.now.2.record_ c.args.p c.passes._i c.args.question
     (cc (c.passes.invariant.names, c.passes.invariant.setup)) c.passes.invariant.state c.post-2.ensures.state c.requires.some c.requires.few c.requires.asked (omega (arith, all, most))
