@@ -1,0 +1,3 @@
+pub mod StepLemmas
+pub mod OrderLemmas
+pub mod RecordLemmas

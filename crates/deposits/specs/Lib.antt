@@ -1,0 +1,4 @@
+pub mod Events
+pub mod Balances
+pub mod Accounts
+pub mod Keeping

@@ -1,0 +1,14 @@
+//! Deposits: each prover of a match puts down a stake, and a prover that is out loses exactly its own.
+//!
+//! It knows no machine and no hash, only the record of a match. The layers above may rely on this: `balances` is the
+//! closed form of `specs/Balances.antt`, and a `Ledger` moves stakes one event at a time (`specs/Accounts.antt`), never below 0
+//! and in any order (`laws`). Read `settling` first, then `ledger`.
+#![tactic(auto)]
+
+mod amounts;
+mod ledger;
+mod settling;
+
+pub use amounts::Balances;
+pub use ledger::{Ledger, MOST_PROVERS, MOST_STAKE};
+pub use settling::balances;

@@ -1,0 +1,70 @@
+ghost use Rattle.std.specs.Prelude.{◌≡◌, ◌+◌, ◌<◌, ◌≤◌, ◌^◌, length, IfOk};
+ghost use Rattle.deposits.specs.Events.{claim_events, dispute_events};
+ghost use Rattle.deposits.specs.Accounts.{after, CanTellAll};
+ghost use Rattle.deposits.specs.Balances.{balances_of, IsSettledUp};
+
+use crate::amounts::Balances;
+use crate::ledger::Ledger;
+use bisect_game::{Dispute, Settled, Side};
+use rd_base::Memory;
+use std::alloc::Global;
+use tournament::Record;
+
+/// Tells a ledger which claims are out, of claims the first of which is that of the prover `p`.
+fn tell_claims(ledger: &mut Ledger, p: u32, claims: &[Option<Settled>])
+    requires few { p + length claims.now < 2 ^ 32 }
+    requires can { CanTellAll (claim_events p claims.now) ledger.old }
+    ensures { ledger.new ≡ after (claim_events p claims.now) ledger.old }
+{
+    match claims {
+        [] => {}
+        [Some(Settled::Faulty(_) | Settled::Spent), rest @ ..] => {
+            ledger.claim_out(p);
+            tell_claims(ledger, p + 1, rest);
+        }
+        [_, rest @ ..] => tell_claims(ledger, p + 1, rest),
+    }
+}
+
+/// Tells a ledger how disputes closed.
+fn tell_disputes(ledger: &mut Ledger, disputes: &[Dispute])
+    requires { CanTellAll (dispute_events disputes.now) ledger.old }
+    ensures { ledger.new ≡ after (dispute_events disputes.now) ledger.old }
+{
+    match disputes {
+        [] => {}
+        [first, rest @ ..] => {
+            if let Some(close) = first.closed() {
+                ledger.closed(
+                    first.prover(Side::First),
+                    first.prover(Side::Second),
+                    &close,
+                );
+            }
+            tell_disputes(ledger, rest);
+        }
+    }
+}
+
+/// What each prover has once a match has ended, and what is in the pool: a prover that is out loses exactly its stake, at its claim
+/// to the pool, in a dispute to the other side where that stays live, and to the pool where both are out.
+///
+/// Each of 1 to 16 provers has put down a stake of at most 1,000,000,000. The record has one settled claim per prover, the
+/// sides of each dispute are two of them, and nobody is put out twice, as in the record of each match that has ended.
+pub fn balances(
+    alloc: Global,
+    stake: u64,
+    provers: u32,
+    record: &Record,
+) -> Result<Balances, Memory>
+    requires small { stake ≤ 1000000000 }
+    requires some { 0 < provers }
+    requires few { provers ≤ 16 }
+    requires settled_up { IsSettledUp provers «record».now }
+    ensures { IfOk result (λ b. b ≡ balances_of stake provers «record».now) }
+{
+    let mut ledger = Ledger::new(alloc, provers, stake)?;
+    tell_claims(&mut ledger, 1, record.claims());
+    tell_disputes(&mut ledger, record.disputes());
+    Ok(ledger.into_balances())
+}
