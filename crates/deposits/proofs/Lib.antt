@@ -1,3 +1,5 @@
 pub mod StepLemmas
 pub mod OrderLemmas
 pub mod RecordLemmas
+pub mod SumLemmas
+pub mod LawLemmas

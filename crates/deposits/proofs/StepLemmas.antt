@@ -214,7 +214,7 @@ set-length k x [] = refl
 set-length zero x (y ∷ xs) = refl
 set-length (suc k) x (y ∷ xs) = ap suc (set-length k x xs)
 
-place-of : (p : ℕ) → 0 < p → p ≡ 1 + (p - 1)
+pub place-of : (p : ℕ) → 0 < p → p ≡ 1 + (p - 1)
 place-of p lt = omega (arith, lt)
 
 pub claim-funded : (s p x : ℕ) (xs : List ℕ) (os : List Bool) (pool : ℕ) → IsLedger s xs os pool → 0 < p → p ≤ length xs → slice_index_or os (p - 1) false ≡ false →
@@ -357,7 +357,7 @@ second-can s a b can = record {
       not-out-after s (ClaimOut a) p some (can.not_yet p (or-right (a == p) (b == p) put)) (other-test a p (λ e. can.known.two (e ∙ sym same)));
 }
 
-count-of : (x k : ℕ) → length (replicate k x) ≡ k
+pub count-of : (x k : ℕ) → length (replicate k x) ≡ k
 count-of x zero = refl
 count-of x (suc k) = ap suc (count-of x k)
 

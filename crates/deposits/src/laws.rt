@@ -1,0 +1,37 @@
+//! The theorem of deposits, each part the contract of a function that does nothing.
+ghost use Rattle.deposits.specs.Theorem.{EventsAddTheirOwn, LedgersAreInClosedForm, RecordsAreInClosedForm, LedgersAddUp, BalancesAddUp, OrderDoesNotMatter, WhoStaysKeepsStake, TruthfulKeepStake};
+
+use tournament::truthful_provers_are_safe;
+
+/// The closed form: a prover has its stake times one more than its wins, less one stake where it is out (`record_`, read off a record
+/// and off its events; `ledger`, of a ledger after any events that put nobody out twice).
+pub fn balances_are_in_closed_form()
+    ensures record_ { RecordsAreInClosedForm }
+    ensures ledger { LedgersAreInClosedForm }
+{}
+
+/// Each event adds its own amounts to what every prover has, whatever came before it.
+pub fn each_event_adds_its_own_amounts()
+    ensures { EventsAddTheirOwn }
+{}
+
+/// Nothing is lost: balances and pool add up to the stakes (`record_`), and so they do in a ledger after any events that may be told
+/// (`ledger`).
+pub fn balances_and_pool_add_up()
+    ensures record_ { BalancesAddUp }
+    ensures ledger { LedgersAddUp }
+{}
+
+/// Order does not matter: a ledger may be told the events of a record in whatever order, and has the balances of the record then.
+pub fn events_come_in_any_order()
+    ensures { OrderDoesNotMatter }
+{}
+
+/// The truthful keep their stakes: a prover that stays, as the dispute theorem says of a truthful one, has at least its stake
+/// (`stays`), and so has one that answers truly each question that it is asked, whoever moves in whatever order (`truthful`).
+pub fn truthful_provers_keep_their_stakes()
+    ensures stays { WhoStaysKeepsStake }
+    ensures truthful { TruthfulKeepStake }
+{
+    truthful_provers_are_safe();
+}
