@@ -14,4 +14,6 @@ mod pieces;
 #[cfg(test)]
 mod playing;
 #[cfg(test)]
+mod spliced_test;
+#[cfg(test)]
 mod telling;
