@@ -3,3 +3,4 @@ pub mod OrderLemmas
 pub mod RecordLemmas
 pub mod SumLemmas
 pub mod LawLemmas
+pub mod EndedLemmas

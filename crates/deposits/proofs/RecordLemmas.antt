@@ -17,7 +17,7 @@ use Rattle.deposits.proofs.OrderLemmas.{any, of_by, out_by, accounts_by, account
 
 -- one list after another
 
-outs-append : (es fs : List Event) (p : ℕ) → outs (es ++ fs) p ≡ outs es p + outs fs p
+pub outs-append : (es fs : List Event) (p : ℕ) → outs (es ++ fs) p ≡ outs es p + outs fs p
 outs-append [] fs p = omega arith
 outs-append (e ∷ es) fs p = omega (arith, outs-append es fs p)
 
@@ -35,7 +35,7 @@ all-append n (e ∷ es) fs i j = (i.0, all-append n es fs i.1 j)
 
 -- CLAIMS
 
-claims-past : (p q : ℕ) (ss : List (Option Settled)) → p < q → outs (claim_events q ss) p ≡ 0
+pub claims-past : (p q : ℕ) (ss : List (Option Settled)) → p < q → outs (claim_events q ss) p ≡ 0
 claims-past p q [] lt = refl
 claims-past p q (s ∷ ss) lt = by (is_out_by_claim (Some s)) (claims-past p (q + 1) ss (omega (arith, lt)))
   where
@@ -43,7 +43,7 @@ claims-past p q (s ∷ ss) lt = by (is_out_by_claim (Some s)) (claims-past p (q 
     by true h = rw (other-test q p (λ e. omega (arith, e, lt))) (omega (arith, h))
     by false h = h
 
-claims-outs : (p q k : ℕ) (ss : List (Option Settled)) → p ≡ q + k → outs (claim_events q ss) p ≡ one_if (is_out_by_claim (slice_get ss k))
+pub claims-outs : (p q k : ℕ) (ss : List (Option Settled)) → p ≡ q + k → outs (claim_events q ss) p ≡ one_if (is_out_by_claim (slice_get ss k))
 claims-outs p q k [] same = refl
 claims-outs p q zero (s ∷ ss) same = by (is_out_by_claim (Some s)) (claims-past p (q + 1) ss (omega (arith, same)))
   where
@@ -93,7 +93,7 @@ any-one false n = ap any (none n)
     none : (k : ℕ) → 0 + k ≡ k
     none k = omega arith
 
-disputes-outs : (p : ℕ) (ds : List Bisection) → any (outs (dispute_events ds) p) ≡ is_out_in ds p
+pub disputes-outs : (p : ℕ) (ds : List Bisection) → any (outs (dispute_events ds) p) ≡ is_out_in ds p
 disputes-outs p [] = refl
 disputes-outs p (d ∷ ds) = by d.close (disputes-outs p ds)
   where

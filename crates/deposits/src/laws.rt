@@ -1,7 +1,9 @@
 //! The theorem of deposits, each part the contract of a function that does nothing.
-ghost use Rattle.deposits.specs.Theorem.{EventsAddTheirOwn, LedgersAreInClosedForm, RecordsAreInClosedForm, LedgersAddUp, BalancesAddUp, OrderDoesNotMatter, WhoStaysKeepsStake, TruthfulKeepStake};
+ghost use Rattle.deposits.specs.Theorem.{EventsAddTheirOwn, LedgersAreInClosedForm, RecordsAreInClosedForm, LedgersAddUp, BalancesAddUp, OrderDoesNotMatter, WhoStaysKeepsStake, TruthfulKeepStake, EndedIsSettledUp};
 
-use tournament::truthful_provers_are_safe;
+use tournament::{
+    open_disputes_share_no_prover, posts_settle_what_fits, truthful_provers_are_safe,
+};
 
 /// The closed form: a prover has its stake times one more than its wins, less one stake where it is out (`record_`, read off a record
 /// and off its events; `ledger`, of a ledger after any events that put nobody out twice).
@@ -34,4 +36,13 @@ pub fn truthful_provers_keep_their_stakes()
     ensures truthful { TruthfulKeepStake }
 {
     truthful_provers_are_safe();
+}
+
+/// The record of each match that has ended, whatever was posted, meets the condition of `balances`: one settled claim per prover,
+/// disputes between two of them, and nobody is put out twice.
+pub fn a_match_that_has_ended_is_settled_up()
+    ensures { EndedIsSettledUp }
+{
+    posts_settle_what_fits();
+    open_disputes_share_no_prover();
 }

@@ -12,8 +12,8 @@ mod settling;
 
 pub use amounts::Balances;
 pub use laws::{
-    balances_and_pool_add_up, balances_are_in_closed_form, each_event_adds_its_own_amounts,
-    events_come_in_any_order, truthful_provers_keep_their_stakes,
+    a_match_that_has_ended_is_settled_up, balances_and_pool_add_up, balances_are_in_closed_form,
+    each_event_adds_its_own_amounts, events_come_in_any_order, truthful_provers_keep_their_stakes,
 };
 pub use ledger::{Ledger, MOST_PROVERS, MOST_STAKE};
 pub use settling::balances;
