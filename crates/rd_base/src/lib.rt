@@ -2,7 +2,8 @@
 //!
 //! The layers above may rely on what the types say by themselves: a register file never holds anything in
 //! `x0`, a claimed output is never longer than its length field can say, a tampered register is one of `x1` to `x31`,
-//! a late prover passes at most 1,000 times, an answer of several roots has 1 to 15, a proof opens at most three registers,
+//! a late prover passes at most 1,000 times, a tape has at most 4,096 answers, an answer of several roots has 1 to 15, a proof opens
+//! at most three registers,
 //! and a byte string is seen in contracts as the list of its bytes. Read `regs` first, then `answer`.
 #![tactic(auto)]
 
@@ -24,6 +25,7 @@ mod script;
 mod status;
 mod steps;
 mod tamper;
+mod tape;
 
 pub use answer::{Answer, Qid};
 pub use boxed::Boxed;
@@ -43,3 +45,4 @@ pub use script::{FirstSilentRound, Manner, PassCount, Script};
 pub use status::Status;
 pub use steps::Steps;
 pub use tamper::{RegisterNumber, Tamper};
+pub use tape::{MAX_TAPE_ANSWERS, Tape, TapeAnswer};
