@@ -6,7 +6,7 @@
 //! different strings of one digest. Which arguments name which command says `command_line`, and the match of a case is played in
 //! `case_match`. Read `program` first, then `responding`, whose commands stand in `commands`, a module each; those on a case read
 //! and load it by `loading`, and those that decide a match write it by `deciding`. `run_process` is what a program's `main`
-//! calls. Its tests are the stored runs of the programs above it, above all of `refcli_rows`.
+//! calls. Its tests are the stored runs of the programs above it, above all of `test_refcli`.
 #![tactic(auto)]
 
 mod answered;

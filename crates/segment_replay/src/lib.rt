@@ -8,7 +8,7 @@
 //! The steps are cut into at most as many pieces as there are workers, which is proved of `piece_size`. Asked in ascending order,
 //! each worker goes on from step to step with one tree of memory, so long as the next step is near, measured by the pages in
 //! use, or no checkpoint lies between; else it builds a tree anew, from the last checkpoint up to its step, at 275 digests for
-//! each page in use. That is not proved: it is read in `cursor`, and a test in `replay_tests` counts the digests. Read
+//! each page in use. That is not proved: it is read in `cursor`, and a test in `test_replay` counts the digests. Read
 //! `specs/Roots.antt` first, then `replaying`, then `cursor`.
 #![tactic(auto)]
 

@@ -3,7 +3,7 @@
 //! No layer of the product stands on this crate. It shows the traits of the game in their smallest form: read `toy_judge`, then
 //! `cast`; `in_short` has what the tests compare. Its tests are those of disputes (`disputes_test`), of rounds of
 //! several parts (`parts_test`) and of books (`books_test`); those
-//! of matches stand in `toy_report`, and those of boards and posters in `toy_boards`.
+//! of matches stand in `test_report`, and those of boards and posters in `test_boards`.
 #![tactic(auto)]
 
 #[cfg(test)]

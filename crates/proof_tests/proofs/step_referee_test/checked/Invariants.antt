@@ -1,4 +1,0 @@
-use Rattle.proof_tests.proofs.step_referee_test.checked.Given as goal
-
-abbrev pub ghosts-checked_in : goal.ghosts-checked_in
-ghosts-checked_in a = record { name = a.blank.name; parts = a.blank.parts }

@@ -1,0 +1,257 @@
+//! Which keys, tampers and manners are taken, rule by rule, stands in the stored rows of `test_refcli`.
+
+use case_reader::{CaseFault, Key, read_case};
+use std::alloc::Global;
+use std::test::Fail;
+
+/// A case that is read, from which each table makes its texts.
+const BASE: &str =
+    "{\"format\":\"flat\",\"image\":\"1305a002\",\"input\":\"\",\"bound\":8,\"patience\":0,\"provers\":[{}]}";
+
+fn fault_of(alloc: Global, text: &str) -> Option<CaseFault> {
+    read_case(alloc, text.as_bytes()).err()
+}
+
+#[test]
+fn bytes_that_hold_no_object_are_refused(rt: HostRuntime) {
+    for (bytes, want) in [
+        (b"".as_slice(), CaseFault::NotJson),
+        (b"\xff", CaseFault::NotJson),
+        (b"{\"format\":\"\xc3\"}", CaseFault::NotJson),
+        (b"{} 5", CaseFault::NotJson),
+        (b"{}}", CaseFault::NotJson),
+        (b"{\"bound\":08}", CaseFault::NotJson),
+        (b"[", CaseFault::NotJson),
+        (b"[]", CaseFault::NotObject),
+        (b"\"format\"", CaseFault::NotObject),
+        (b"null", CaseFault::NotObject),
+        (b" {} ", CaseFault::Missing(Key::Format)),
+    ] {
+        assert_eq!(rt; read_case(rt.alloc(), bytes).err(), Some(want), "{bytes:?}");
+    }
+}
+
+#[test]
+fn of_two_faults_the_earlier_rule_names_the_fault(rt: HostRuntime) -> Result<(), Fail> {
+    let alloc = rt.alloc();
+    for (old, new, other, instead, want) in [
+        ("{\"f", "[{\"f", "flat", "asm", CaseFault::NotJson),
+        (
+            "flat",
+            "asm",
+            "image",
+            "Image",
+            CaseFault::OutOfRange(Key::Format),
+        ),
+        (
+            "1305a002",
+            "1g",
+            "input",
+            "Input",
+            CaseFault::BadHex(Key::Image),
+        ),
+        (
+            "\"\"",
+            "\"0\"",
+            "bound",
+            "Bound",
+            CaseFault::BadHex(Key::Input),
+        ),
+        (
+            ":8",
+            ":0",
+            "patience",
+            "Patience",
+            CaseFault::OutOfRange(Key::Bound),
+        ),
+        (
+            ":0",
+            ":101",
+            "provers",
+            "Provers",
+            CaseFault::OutOfRange(Key::Patience),
+        ),
+        (
+            "[{}]",
+            "{}",
+            ":0",
+            ":101",
+            CaseFault::OutOfRange(Key::Patience),
+        ),
+        (
+            "[{}]",
+            "[5]",
+            ":0",
+            ":101",
+            CaseFault::OutOfRange(Key::Patience),
+        ),
+        (
+            "[{}]",
+            "[{},5,{}]",
+            ",{}]",
+            ",{\"tamper\":0}]",
+            CaseFault::BadProver(2),
+        ),
+    ] {
+        let text = BASE.replace(alloc, old, new)?;
+        let text = text.replace(alloc, other, instead)?;
+        assert_eq!(rt; fault_of(alloc, text.as_str()), Some(want), "{text}");
+    }
+    Ok(())
+}
+
+#[test]
+fn a_prover_that_is_not_known_is_named_by_its_number(rt: HostRuntime) -> Result<(), Fail> {
+    let alloc = rt.alloc();
+    for (provers, number) in [
+        ("[[]]", 1),
+        ("[{},5]", 2),
+        ("[{},{},{\"tamper\":0}]", 3),
+        ("[{},{\"manner\":{\"kind\":\"tape\",\"answers\":[]}},5]", 2),
+        ("[{\"tamper\":{\"kind\":\"early\"},\"manner\":{}},{}]", 1),
+    ] {
+        let text = BASE.replace(alloc, "[{}]", provers)?;
+        let want = CaseFault::BadProver(number);
+        assert_eq!(rt; fault_of(alloc, text.as_str()), Some(want), "{text}");
+    }
+    Ok(())
+}
+
+#[test]
+fn lengths_are_taken_up_to_their_limit(rt: HostRuntime) -> Result<(), Fail> {
+    let alloc = rt.alloc();
+    let input_range = CaseFault::OutOfRange(Key::Input);
+    let provers_range = CaseFault::OutOfRange(Key::Provers);
+    for (old, start, piece, count, end, want) in [
+        ("\"\"", "\"", "00", 1_048_576, "\"", None),
+        ("\"\"", "\"", "00", 1_048_577, "\"", Some(input_range)),
+        // The digits are tested before the length, and the length before the next key.
+        (
+            "\"\"",
+            "\"",
+            "00",
+            1_048_577,
+            "0\"",
+            Some(CaseFault::BadHex(Key::Input)),
+        ),
+        (
+            "\"\",\"bound\"",
+            "\"",
+            "00",
+            1_048_577,
+            "\",\"Bound\"",
+            Some(input_range),
+        ),
+        ("[{}]", "[{}", ",{}", 15, "]", None),
+        ("[{}]", "[{}", ",{}", 16, "]", Some(provers_range)),
+        ("[{}]", "[5", ",{}", 16, "]", Some(provers_range)),
+    ] {
+        let pieces = piece.repeat(alloc, count)?;
+        let new = format!(in alloc; "{start}{pieces}{end}")?;
+        let text = BASE.replace(alloc, old, new.as_str())?;
+        assert_eq!(rt; fault_of(alloc, text.as_str()), want, "{count} of {piece}");
+    }
+    Ok(())
+}
+
+/// The case's own braces count, as `serde_json` counts: its limit is 127 levels in all.
+#[test]
+fn values_nest_up_to_the_limit_of_serde_json(rt: HostRuntime) -> Result<(), Fail> {
+    let alloc = rt.alloc();
+    for (arrays, want) in [(126, None), (127, Some(CaseFault::NotJson))] {
+        let open = "[".repeat(alloc, arrays)?;
+        let close = "]".repeat(alloc, arrays)?;
+        let new = format!(in alloc; "8,\"note\":{open}{close}")?;
+        let text = BASE.replace(alloc, "8", new.as_str())?;
+        assert_eq!(rt; fault_of(alloc, text.as_str()), want, "{arrays} arrays");
+    }
+    Ok(())
+}
+
+#[test]
+fn a_case_is_read_whole(rt: HostRuntime) -> Result<(), Fail> {
+    let alloc = rt.alloc();
+    for (text, want) in [
+        (
+            BASE,
+            "Case { image: Listed { items: [19, 5, 160, 2] }, format: Flat, input: Listed { items: [] }, \
+             bound: 8, patience: 0, version: 1, fan: 2, provers: Listed { items: [Script { tamper: Untouched, manner: Plain }] } }",
+        ),
+        // Keys come in any order, the last of two counts, digits are of either case, and other keys are ignored.
+        (
+            "{\"provers\":[{\"name\":1},{\"manner\":{\"bytes\":\"aB\",\"kind\":\"output\",\"x\":[]}}],\
+             \"patience\":100,\"bound\":0,\"bound\":16777216,\"input\":\"00Ff\",\"image\":\"\",\
+             \"note\":{\"bound\":0},\"format\":\"elf\"}",
+            "Case { image: Listed { items: [] }, format: Elf, input: Listed { items: [0, 255] }, \
+             bound: 16777216, patience: 100, version: 1, fan: 2, provers: Listed { items: [\
+             Script { tamper: Untouched, manner: Plain }, \
+             Script { tamper: Untouched, manner: Output(ClaimOutput { bytes: Listed { items: [171] } }) }] } }",
+        ),
+        // Each tamper and each manner has the numbers of its own keys.
+        (
+            "{\"format\":\"flat\",\"image\":\"\",\"input\":\"\",\"bound\":1,\"patience\":0,\"provers\":[\
+             {\"tamper\":{\"kind\":\"flip\",\"step\":1,\"addr\":2,\"mask\":3},\"manner\":{\"kind\":\"late\",\"passes\":4}},\
+             {\"tamper\":{\"kind\":\"reg\",\"step\":5,\"reg\":6,\"value\":7},\"manner\":{\"kind\":\"silent\",\"from\":8}},\
+             {\"tamper\":{\"kind\":\"early\",\"steps\":9}}]}",
+            "Case { image: Listed { items: [] }, format: Flat, input: Listed { items: [] }, \
+             bound: 1, patience: 0, version: 1, fan: 2, provers: Listed { items: [\
+             Script { tamper: Flip { step: 1, addr: 2, mask: 3 }, manner: Late(PassCount { count: 4 }) }, \
+             Script { tamper: Register { step: 5, reg: RegisterNumber { number: 6 }, value: 7 }, manner: Silent(FirstSilentRound { round: 8 }) }, \
+             Script { tamper: Early { steps: 9 }, manner: Plain }] } }",
+        ),
+    ] {
+        let case = read_case(alloc, text.as_bytes())?;
+        let read = format!(in alloc; "{case:?}")?;
+        assert_eq!(rt; read.as_str(), want);
+    }
+    Ok(())
+}
+
+#[test]
+fn a_fault_has_its_rule_and_its_text(rt: HostRuntime) -> Result<(), Fail> {
+    for (fault, rule, want) in [
+        (CaseFault::NotJson, Some(1), "the bytes are no JSON text"),
+        (CaseFault::NotObject, Some(2), "the case is no object"),
+        (
+            CaseFault::Missing(Key::Format),
+            Some(3),
+            "format is missing",
+        ),
+        (
+            CaseFault::WrongType(Key::Bound),
+            Some(4),
+            "bound has another type",
+        ),
+        (
+            CaseFault::BadHex(Key::Image),
+            Some(5),
+            "image is no hexadecimal text",
+        ),
+        (
+            CaseFault::BadHex(Key::Input),
+            Some(5),
+            "input is no hexadecimal text",
+        ),
+        (
+            CaseFault::OutOfRange(Key::Patience),
+            Some(6),
+            "patience is out of range",
+        ),
+        (
+            CaseFault::OutOfRange(Key::Provers),
+            Some(6),
+            "provers is out of range",
+        ),
+        (
+            CaseFault::BadProver(2),
+            Some(7),
+            "prover 2 is none that is known",
+        ),
+        (CaseFault::Memory, None, "out of memory"),
+    ] {
+        let text = format!(in rt.alloc(); "{fault}")?;
+        assert_eq!(rt; text.as_str(), want);
+        assert_eq!(rt; fault.rule(), rule, "{want}");
+    }
+    Ok(())
+}

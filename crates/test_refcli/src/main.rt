@@ -1,0 +1,47 @@
+//! The program `test_refcli`: calls `delegate::run` over memory for each row, and writes what comes of it.
+//!
+//! The rows of its standard input are calls whose answers are written out. Those after them have a line each: calls over devices
+//! that fail, and calls at the limits of what the program takes. A call may answer that memory ran out, so no proof shows that a body doesn't give up at some
+//! size; these show it, for the largest case, image, input and bound, the most loads, provers, passes and rounds, and
+//! the ends of the options. `checks/limits --lines` writes their lines.
+#![tactic(auto)]
+
+mod answering;
+mod cases;
+mod devices;
+mod images;
+mod matches;
+mod rows;
+mod runs;
+
+use io_edge::StdSource;
+use rd_base::Memory;
+use std::alloc::Global;
+use std::io;
+use std::process::ExitCode;
+use std::sync::Wait;
+use std::thread::Threads;
+
+/// The lines of the calls over devices that fail, and of those at the limits.
+fn lines_after_rows<R: Threads + Wait + Sync>(rt: &R, alloc: Global) -> Result<String, Memory> {
+    let mut lines = String::new(alloc);
+    devices::add_calls(rt, alloc, &mut lines)?;
+    runs::add_sizes(rt, alloc, &mut lines)?;
+    runs::add_runs(rt, alloc, &mut lines)?;
+    matches::add_options(rt, alloc, &mut lines)?;
+    matches::add_numbers(rt, alloc, &mut lines)?;
+    Ok(lines)
+}
+
+fn main(rt: HostRuntime) -> io::Result<ExitCode> {
+    let mut source = StdSource::new(rt.stdin());
+    match rows::lines_of_rows(&rt, rt.alloc(), &mut source) {
+        Ok(lines) => print!(rt; "{lines}")?,
+        Err(_) => return Ok(ExitCode::from(9)),
+    }
+    match lines_after_rows(&rt, rt.alloc()) {
+        Ok(lines) => print!(rt; "{lines}")?,
+        Err(_) => return Ok(ExitCode::from(9)),
+    }
+    Ok(ExitCode::SUCCESS)
+}
