@@ -52,5 +52,8 @@ back noise = refl
 back register = refl
 back storage = refl
 
+pub same-size : (k l : Kind) → size_of k ≡ size_of l → k ≡ l
+same-size k l same = sym (back k) ∙ (ap kind-of_size same ∙ back l)
+
 pub same-kind : (k l : Kind) (s : List ℕ) → IsOfKind k s → IsOfKind l s → k ≡ l
-same-kind k l s first second = sym (back k) ∙ (ap kind-of_size (sym (size-of_kind k s first) ∙ size-of_kind l s second) ∙ back l)
+same-kind k l s first second = same-size k l (sym (size-of_kind k s first) ∙ size-of_kind l s second)

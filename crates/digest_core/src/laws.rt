@@ -5,9 +5,11 @@ ghost use Rattle.digest_core.specs.Text.{leaf_text, node_text, registers_text, c
 ghost use Rattle.digest_core.specs.Kinds.{Kind, IsOfKind, size_of};
 ghost use Rattle.digest_core.specs.Chain.{chain_of};
 
-/// A string of each kind has the length of that kind (`length`), and no string is of two kinds (`differ`).
+/// A string of each kind has the length of that kind (`length`), no two kinds have one length (`apart`), and so no string is of two
+/// kinds (`differ`).
 pub fn kinds_have_lengths()
     ensures length { (k : Kind) (s : List ℕ) → IsOfKind k s → length s ≡ size_of k }
+    ensures apart { (k l : Kind) → k ≢ l → size_of k ≢ size_of l }
     ensures differ { (k l : Kind) (s t : List ℕ) → k ≢ l → IsOfKind k s → IsOfKind l t → s ≢ t }
 {}
 
