@@ -8,7 +8,7 @@ ghost use Rattle.rv_step.specs.Valid.{IsValid};
 ghost use Rattle.rv_step.specs.Effect.{effect, effect_with};
 ghost use Rattle.rv_step.specs.Offer.{offered};
 ghost use Rattle.rv_step.specs.Step.{step, state_at, after_word};
-ghost use Rattle.rv_step.specs.Parts.{needed, needed_in, by_parts, finished, Meets, Finishes, ReadsAsNeeded, IsAligned};
+ghost use Rattle.rv_step.specs.Parts.{needed, needed_in, by_parts, finished, Meets, Finishes, ReadsAsNeeded, AsksAsNeeded, IsAligned};
 ghost use Rattle.rv_step.specs.Touched.{touched};
 ghost use Rattle.rv_step.specs.Named.{named, named_by, destination, AreRegisters, WritesOnly};
 ghost use Rattle.rv_step.specs.Alike.{with_registers, Shows, StepAlike, ChangesNamed};
@@ -34,11 +34,14 @@ pub fn two_parts_are_the_step()
     ensures aligned { (version : ℕ) (xs : List ℕ) (i : Instr) → IsAligned (needed_in version xs i) }
 {}
 
-/// What is needed is what an effect depends on: where a load is named, the effect depends on what memory gives, and where none
-/// is named it doesn't.
+/// What is needed is what an effect depends on. If a load is named, the effect depends on what memory gives, and if none is named it
+/// doesn't (`memory`). If a byte of the input is named, the effect depends on what is offered of the input, and if none is named it
+/// doesn't (`input`).
 pub fn needs_tell_what_is_read()
-    ensures { (version : ℕ) (byte : ℕ → ℕ) (xs : List ℕ) (pc : ℕ) (i : Instr) →
+    ensures memory { (version : ℕ) (byte : ℕ → ℕ) (xs : List ℕ) (pc : ℕ) (i : Instr) →
         ReadsAsNeeded (λ memory. effect_with (offered version byte) xs pc memory i) (needed_in version xs i) }
+    ensures input { (version : ℕ) (xs : List ℕ) (pc : ℕ) (read : ℕ → ℕ → ℕ) (i : Instr) →
+        AsksAsNeeded (λ byte. effect_with (offered version byte) xs pc read i) (needed_in version xs i) }
 {}
 
 /// What an instruction does and what it needs depends on the registers that it names alone: two register files in which these
