@@ -1,9 +1,9 @@
 -- The cuts of an interval rise, and no part is as long as the whole.
-use Rattle.std.proofs.Common.{◌≡◌, ℕ, zero, suc, ◌+◌, ◌-◌, ◌*◌, ◌/◌, ◌<◌, ◌≤◌, refl, arith, ap, ◌∙◌, ◌⊎◌, inl, inr, nat_le, Bool, true, false, List, [], ◌∷◌, ◌++◌, append_assoc}
+use Rattle.std.proofs.Common.{◌≡◌, ℕ, zero, suc, ◌+◌, ◌-◌, ◌*◌, ◌/◌, ◌<◌, ◌≤◌, refl, arith, ap, ◌∙◌, ◌⊎◌, inl, inr, nat_le, Bool, true, false, List, [], ◌∷◌, ◌++◌, length, append_assoc}
 use Rattle.std.proofs.lemmas.Bool.Decides.{nat_tests}
 use Rattle.std.proofs.Math.Nat.{mul-le-mul_left, le_of_mul-le-mul_left, mul-div_cancel_left}
 use Rattle.bisect_game.specs.Bisection.{cut, cuts_from, cuts}
-use Rattle.bisect_game.specs.Laws.{CutsDivide}
+use Rattle.bisect_game.specs.Laws.{CutsDivide, OneCutFewer}
 
 pub either : (b : Bool) → (b ≡ true) ⊎ (b ≡ false)
 either true = inl refl
@@ -115,3 +115,10 @@ pub one-cut-more : (lo hi parts j left less c : ℕ) (steps next : List ℕ) →
 one-cut-more lo hi parts j left less c steps next el ec en whole =
     let more : steps ++ cut lo hi parts j ∷ cuts_from lo hi parts (j + 1) less ≡ cuts lo hi parts = rw el at whole in
     rw (en, ec, append_assoc) more
+
+length-from : (lo hi parts j n : ℕ) → length (cuts_from lo hi parts j n) ≡ n
+length-from lo hi parts j zero = refl
+length-from lo hi parts j (suc n) = ap suc (length-from lo hi parts (j + 1) n)
+
+pub one-cut-fewer : OneCutFewer
+one-cut-fewer lo hi parts = length-from lo hi parts 1 (parts - 1)

@@ -66,7 +66,7 @@ fan-round ruling f d =
       | inr open_ ↦ ap (λ (e : Bisection). e.fan) (round-open ruling f d open_) ∙ fan-advanced ruling (filled f d) (filled f d).by_first (filled f d).by_second
     ]
 
-fan-side : (ruling : Ruling) (by : Side) (s : Settled) (d : Bisection) → (settle_side ruling by s d).fan ≡ d.fan
+pub fan-side : (ruling : Ruling) (by : Side) (s : Settled) (d : Bisection) → (settle_side ruling by s d).fan ≡ d.fan
 unfolding settle_first settle_second
 fan-side ruling First s d = fan-advanced ruling (record d { by_first = Some s }) (Some s) d.by_second
 fan-side ruling Second s d = fan-advanced ruling (record d { by_second = Some s }) d.by_first (Some s)

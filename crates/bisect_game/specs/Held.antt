@@ -1,4 +1,5 @@
--- To believe: the answers that a dispute holds. Whatever is settled in whatever order, a dispute is what is played over them.
+-- To believe: the answers that a dispute holds. Whatever is settled in whatever order, each answer while its side has an open question,
+-- a dispute is what is played over them.
 use Rattle.std.specs.Prelude.{◌≡◌, ◌≢◌, ℕ, zero, suc, ◌-◌, ◌==◌, true, List, [], ◌∷◌, Option, Some, None, if◌then◌else◌}
 use Rattle.rd_base.specs.declared.digest.Digest32.{Digest32}
 use Rattle.bisect_game.specs.declared.interval.Round.{Round}
@@ -29,16 +30,17 @@ settled_in_round p round d =
 abbrev pub held : Bisection → Answers
 held d p q = if d.number == q.qid.dispute then settled_in_round p q.qid.round d else None
 
--- answers of sides that are settled one after another, each to the side's open question
+-- a dispute after answers of sides were settled, one after another
 abbrev pub settled_one_by_one : Ruling → List (Side × Settled) → Bisection → Bisection
 settled_one_by_one ruling [] d = d
 settled_one_by_one ruling (x ∷ xs) d = settled_one_by_one ruling xs (settle_side ruling x.0 x.1 d)
 
+-- each of them is settled while its side has an open question
 abbrev pub EachIsAsked : Ruling → List (Side × Settled) → Bisection → Type 0
 EachIsAsked ruling [] d = Unit {0}
 EachIsAsked ruling (x ∷ xs) d = (asks x.0 d ≡ true) × EachIsAsked ruling xs (settle_side ruling x.0 x.1 d)
 
--- a dispute of two provers after any settles is the one that is played over the answers that it holds
+-- a dispute of two provers after any such answers is the one that is played over the answers that it holds
 abbrev pub DisputesArePlayed : Type 0
 DisputesArePlayed =
     (rules : Rules) (stage number : ℕ) (x y : ℕ × Digest32) (xs : List (Side × Settled)) → ArePlayable rules → x.0 ≢ y.0 →

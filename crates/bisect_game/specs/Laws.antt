@@ -1,5 +1,5 @@
--- To believe: what is promised of every dispute, whatever is settled. The law `bisection_laws` shows each of these, and
--- `cuts_divide`, `halves_are_bisection` and `sides_settle_in_any_order` those that are named so.
+-- To believe: what is promised of every dispute, whatever is settled. The law `bisection_laws` shows what `BisectionLaws` names, and
+-- `cuts_divide`, `one_cut_fewer_than_parts`, `the_fan_stays`, `halves_are_bisection` and `sides_settle_in_any_order` show the rest.
 use Rattle.std.specs.Prelude.{◌≡◌, ◌≢◌, ℕ, ◌+◌, ◌-◌, ◌*◌, ◌^◌, ◌<◌, ◌≤◌, true, false, ◌⊎◌, length, None}
 use Rattle.rd_base.specs.declared.digest.Digest32.{Digest32}
 use Rattle.rd_base.specs.declared.answer.Answer.{Answer}
@@ -13,7 +13,7 @@ use Rattle.bisect_game.specs.declared.side.Side.{Side}
 use Rattle.bisect_game.specs.Ruling.{Ruling, IsFair, same_digest}
 use Rattle.bisect_game.specs.Rules.{Rules, is_fit}
 use Rattle.bisect_game.specs.Closing.{is_step}
-use Rattle.bisect_game.specs.Bisection.{Bisection, cut, middle, kind_over, rounds_of, proof_rounds_in, decided, is_closed, asks, settle_side, settle_first, settle_second}
+use Rattle.bisect_game.specs.Bisection.{Bisection, cut, cuts, middle, kind_over, rounds_of, proof_rounds_in, decided, is_closed, asks, settle_side, settle_first, settle_second}
 use Rattle.bisect_game.specs.OverAnswers.{SettledIsHeld, PlayedOverAnswers}
 use Rattle.bisect_game.specs.Truth.{Truth, IsRun, IsTrueAnswer, IsFit, IsFitSoFar, IsTruthful, IsRight, IsProved}
 
@@ -29,12 +29,20 @@ pub record HasClosed (d e : Bisection) : Type 0 where
   pub closed : is_closed e ≡ true
   pub stays : e.place ≡ d.place
 
--- the cuts of an interval divide it: they begin and end with it, and no part is empty
+-- the cuts of an interval divide it: they begin and end with it, and if it has no fewer steps than parts, no part is empty
 pub record CutsDivide : Type 0 where
   pub begin : (lo hi parts : ℕ) → 0 < parts → cut lo hi parts 0 ≡ lo
   pub end_ : (lo hi parts : ℕ) → 0 < parts → lo ≤ hi → cut lo hi parts parts ≡ hi
   pub rise : (lo hi parts j : ℕ) → 0 < parts → parts ≤ hi - lo → j < parts → cut lo hi parts j < cut lo hi parts (j + 1)
   pub between : (lo hi parts j : ℕ) → 1 < parts → parts ≤ hi - lo → 0 < j → j < parts → (lo < cut lo hi parts j) × (cut lo hi parts j < hi)
+
+-- between so many parts there is one cut fewer
+abbrev pub OneCutFewer : Type 0
+OneCutFewer = (lo hi parts : ℕ) → length (cuts lo hi parts) ≡ parts - 1
+
+-- a dispute keeps its fan, whatever is settled
+abbrev pub FanStays : Type 0
+FanStays = (ruling : Ruling) (by : Side) (s : Settled) (d : Bisection) → (settle_side ruling by s d).fan ≡ d.fan
 
 -- the two halves of an interval, with the roots that both sides gave at its middle
 abbrev pub above : Interval → Digest32 → Interval
@@ -77,7 +85,7 @@ pub record IsPlay (rules : Rules) (d : Bisection) : Type 0 where
 abbrev pub KeepsRight : Truth → Side → Bisection → Type 0
 KeepsRight truth side d = IsTruthful truth side d → IsRight truth side d
 
--- an answer of either side, whatever it is, keeps both
+-- an answer of either side that fits what is asked keeps both, be it true or not
 pub record InvariantIsKept : Type 0 where
   pub play : (rules : Rules) (by : Side) (s : Settled) (d : Bisection) →
       IsFit rules.ruling (kind_over d.fan d.place.lo d.place.hi) s → IsPlay rules d → IsPlay rules (settle_side rules.ruling by s d)
@@ -105,7 +113,7 @@ pub record RoundsAreFew : Type 0 where
   pub digits : (fan bound rounds count : ℕ) → 1 < fan → fan ^ rounds < fan * bound → bound < 2 ^ count → rounds ≤ count
   pub last : (ruling : Ruling) (by : Side) (s : Settled) (d : Bisection) → proof_rounds_in d.past ≡ 0 → proof_rounds_in (settle_side ruling by s d).past ≡ 0
 
--- the true answer to what is asked is taken as given
+-- the true answer to what is asked is taken as given, if the true claim is sound
 abbrev pub TrueAnswersFit : Type 0
 TrueAnswersFit = (ruling : Ruling) (truth : Truth) (k : Kind) (a : Answer) → ruling.is_sound truth.claim ≡ true → IsTrueAnswer truth k a → is_fit ruling k a ≡ true
 

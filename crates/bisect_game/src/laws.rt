@@ -1,5 +1,5 @@
 ghost use Rattle.bisect_game.specs.Held.{DisputesArePlayed};
-ghost use Rattle.bisect_game.specs.Laws.{BisectionLaws, CutsDivide, HalvesAreBisection, OrderOfSidesIsFree};
+ghost use Rattle.bisect_game.specs.Laws.{BisectionLaws, CutsDivide, FanStays, HalvesAreBisection, OneCutFewer, OrderOfSidesIsFree};
 
 /// What every dispute keeps, whatever is settled: a round closes it or narrows its interval, and the proof round closes it;
 /// a side whose answers so far are given and true has the run's roots and is not out (bisection's invariant), and its proof
@@ -9,9 +9,20 @@ pub fn bisection_laws()
     ensures { BisectionLaws }
 {}
 
-/// The cuts of an interval divide it: cut 0 is its beginning, the last its end, and no part between two cuts is empty.
+/// The cuts of an interval divide it: cut 0 is its beginning, the last its end, and if it has no fewer steps than parts, no part
+/// between two cuts is empty.
 pub fn cuts_divide()
     ensures { CutsDivide }
+{}
+
+/// Between so many parts there is one cut fewer.
+pub fn one_cut_fewer_than_parts()
+    ensures { OneCutFewer }
+{}
+
+/// A dispute keeps its fan, whatever is settled.
+pub fn the_fan_stays()
+    ensures { FanStays }
 {}
 
 /// With the fan 2 a dispute is bisection as it is known: the root at the middle is asked, rounded down; where the two roots are

@@ -26,7 +26,7 @@ pub use interval::{Interval, Round};
 pub use judge::Judge;
 pub use laws::{
     bisection_laws, cuts_divide, disputes_are_played_over_their_answers, halves_are_bisection,
-    sides_settle_in_any_order,
+    one_cut_fewer_than_parts, sides_settle_in_any_order, the_fan_stays,
 };
 pub use question::{Kind, Question};
 pub use rounds::{cut, kept_part, parts_of, same_digest};
