@@ -13,6 +13,7 @@ use Rattle.tournament.proofs.OpenedLemmas.{opened-not, opened-due}
 use Rattle.tournament.proofs.ReachLemmas.{either}
 use Rattle.tournament.proofs.SidesLemmas.{SameSides, sides-first, sides-second}
 use Rattle.tournament.specs.Bracket.{Record, pairs, last_stage, disputes_of, is_stage_due, stage_opened, nothing_settled, asks_first, asks_second, claim_missing, settled_in, put, settle}
+use Rattle.tournament.specs.Numbers.{AllHaveFan}
 use Rattle.tournament.specs.Settling.{after}
 use Rattle.tournament.specs.Theorem.{AllShort}
 use Rattle.bisect_game.specs.Laws.{BisectionLaws}
@@ -92,3 +93,11 @@ module _ (laws : BisectionLaws) where
       let more : 1 < rules.fan = playable.parted in
       let long : 0 < rules.bound = playable.steps in
       all-rounds rules (after rules es (nothing_settled rules)).disputes more (few-after rules es (nothing_settled rules) more long tt)
+
+  all-fanned : (rules : Rules) (ds : List Bisection) → AllFew rules ds → AllHaveFan rules.fan ds
+  all-fanned rules [] h = tt
+  all-fanned rules (d ∷ ds) h = (h.0.fanned, all-fanned rules ds h.1)
+
+  pub have_the_fan : (rules : Rules) (es : List (ℕ × Settled)) → ArePlayable rules → AllHaveFan rules.fan (after rules es (nothing_settled rules)).disputes
+  have_the_fan rules es playable =
+      all-fanned rules (after rules es (nothing_settled rules)).disputes (few-after rules es (nothing_settled rules) playable.parted playable.steps tt)

@@ -23,3 +23,7 @@ pub mod TruthfulLemmas
 pub mod TheoremLemmas
 pub mod TrueMoveLemmas
 pub mod SoFarLemmas
+pub mod NumberLemmas
+pub mod MostLemmas
+pub mod OutLemmas
+pub mod ListedLemmas

@@ -37,7 +37,7 @@ live-in ds q (suc k) c (s ∷ ss) e stays =
 contains-next : (x y : ℕ × Claim) (xs : List (ℕ × Claim)) → Contains xs y → Contains (x ∷ xs) y
 contains-next x y xs (k, below, is) = (suc k, omega arith, is)
 
-in-contains : (p : ℕ) (c : Claim) (xs : List (ℕ × Claim)) → IsIn p c xs → Contains xs (p, c)
+pub in-contains : (p : ℕ) (c : Claim) (xs : List (ℕ × Claim)) → IsIn p c xs → Contains xs (p, c)
 in-contains p c [] i = absurd i
 in-contains p c (x ∷ xs) (inl same) = (0, omega arith, same)
 in-contains p c (x ∷ xs) (inr i) = contains-next x (p, c) xs (in-contains p c xs i)

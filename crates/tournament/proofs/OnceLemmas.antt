@@ -16,7 +16,7 @@ use Rattle.tournament.proofs.SidesLemmas.{SameSides, sides-first, sides-second}
 use Rattle.tournament.specs.Bracket.{Record, claim_question, is_out_in, claim_in, also, live_from, live, Taken, passed_over, take_other, pairs_of, pairs, last_stage, disputes_of, all_there, all_out, put_out, is_stage_due, stage_opened, nothing_settled, asks_first, asks_second, question_in, claim_missing, open_question, settled_in, put, settle}
 
 -- how often a prover stands in a list of live ones
-abbrev times : ℕ → List (ℕ × Claim) → ℕ
+abbrev pub times : ℕ → List (ℕ × Claim) → ℕ
 times p [] = 0
 times p (x ∷ xs) = one_if (x.0 == p) + times p xs
 
@@ -49,7 +49,7 @@ engaged-by : (rules : Rules) (g : ℕ) (p n k : ℕ) (x : ℕ × Claim) (xs : Li
 engaged-by rules g p n k x xs None c none some = omega (arith, none)
 engaged-by rules g p n k x xs (Some u) c none some = omega (arith, c, some u.1, touch (x.0 == p) (u.0.0 == p))
 
-engaged-new : (rules : Rules) (g : ℕ) (p n k : ℕ) (xs : List (ℕ × Claim)) → open_disputes_of p (disputes_of rules g k (pairs_of rules.ruling n xs)) ≤ times p xs
+pub engaged-new : (rules : Rules) (g : ℕ) (p n k : ℕ) (xs : List (ℕ × Claim)) → open_disputes_of p (disputes_of rules g k (pairs_of rules.ruling n xs)) ≤ times p xs
 engaged-new rules g p zero k xs = omega arith
 engaged-new rules g p (suc n) k [] = omega arith
 engaged-new rules g p (suc n) k (x ∷ xs) =
@@ -58,7 +58,7 @@ engaged-new rules g p (suc n) k (x ∷ xs) =
 
 -- a list of live provers repeats nobody
 
-times-live : (p k : ℕ) (c : Option Claim) (xs : List (ℕ × Claim)) (b : Bool) → times p (if b then xs else also k c xs) ≤ one_if (k == p) + times p xs
+pub times-live : (p k : ℕ) (c : Option Claim) (xs : List (ℕ × Claim)) (b : Bool) → times p (if b then xs else also k c xs) ≤ one_if (k == p) + times p xs
 times-live p k c xs true = omega arith
 times-live p k (Some c) xs false = omega arith
 times-live p k None xs false = omega arith
@@ -72,7 +72,7 @@ is-eqb m n e = grind (arith, nat_tests)
 one-not : (m n : ℕ) → m ≢ n → one_if (m == n) ≡ 0
 one-not m n ne = rw (not-eqb m n ne) refl
 
-times-below : (ds : List Bisection) (p k : ℕ) (ss : List (Option Settled)) → p < k → times p (live_from ds k ss) ≡ 0
+pub times-below : (ds : List Bisection) (p k : ℕ) (ss : List (Option Settled)) → p < k → times p (live_from ds k ss) ≡ 0
 times-below ds p k [] lt = refl
 times-below ds p k (s ∷ ss) lt =
     omega (arith, times-live p k (claim_in s) (live_from ds (k + 1) ss) (is_out_in ds k), times-below ds p (k + 1) ss (omega arith), one-not k p (λ e. omega arith))
@@ -115,7 +115,7 @@ out-closed true (Some c) e = refl
 out-closed false (Some c) e = refl
 out-closed a None e = absurd (cc)
 
-engaged-out : (p : ℕ) (ds : List Bisection) → all_out ds ≡ true → open_disputes_of p ds ≡ 0
+pub engaged-out : (p : ℕ) (ds : List Bisection) → all_out ds ≡ true → open_disputes_of p ds ≡ 0
 engaged-out p [] e = refl
 engaged-out p (d ∷ ds) e =
     let two : (put_out d.close ≡ true) × (all_out ds ≡ true) = both (put_out d.close) (all_out ds) e in

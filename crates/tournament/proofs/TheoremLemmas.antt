@@ -1,9 +1,10 @@
 -- The dispute theorem over lists of posts.
 use Rattle.bisect_game.specs.Laws.{BisectionLaws}
+use Rattle.tournament.specs.Numbers.{DisputesHaveTheFan}
 use Rattle.tournament.specs.Posting.{record_after, NobodyAskedIsOver}
 use Rattle.tournament.specs.Theorem.{TruthfulStay, VerdictIsRight, FewDisputes, FewRounds}
 use Rattle.tournament.proofs.CountLemmas.{few_disputes}
-use Rattle.tournament.proofs.FewLemmas.{few_rounds}
+use Rattle.tournament.proofs.FewLemmas.{few_rounds, have_the_fan}
 use Rattle.tournament.proofs.MatchLemmas.{settled_stay}
 use Rattle.tournament.proofs.VerdictLemmas.{settled_right}
 use Rattle.tournament.proofs.OverLemmas.{over-after}
@@ -34,3 +35,8 @@ module _ (laws : BisectionLaws) where
   nobody_asked_is_over rules xs playable =
       let i : IsSettled rules (record_after rules xs) = settled-begun rules xs in
       rw i.comes at ((over-after laws) rules i.list)
+
+  pub disputes_have_the_fan : DisputesHaveTheFan
+  disputes_have_the_fan rules xs playable =
+      let i : IsSettled rules (record_after rules xs) = settled-begun rules xs in
+      rw i.comes at ((have_the_fan laws) rules i.list playable)

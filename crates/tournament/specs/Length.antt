@@ -18,3 +18,7 @@ abbrev pub SpareIsEnough : Type 0
 SpareIsEnough =
     (rules : Rules) (says : Says) (ps : List ℕ) (k : ℕ) → ArePlayable rules → IsMost rules.fan rules.bound k →
     Legal rules says ps (begun rules) → length ps ≤ most_entries rules k
+
+-- each fan and each bound has a most number
+abbrev pub ThereIsAMost : Type 0
+ThereIsAMost = (fan bound : ℕ) → 1 < fan → 0 < bound → (k : ℕ) × IsMost fan bound k

@@ -12,3 +12,5 @@ pub mod Length
 pub mod Truthful
 pub mod TrueMoves
 pub mod Keeping
+pub mod Numbers
+pub mod Outs

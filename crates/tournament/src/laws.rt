@@ -5,7 +5,9 @@ ghost use Rattle.tournament.specs.Theorem.{TruthfulStay, VerdictIsRight, FewDisp
 ghost use Rattle.tournament.specs.Journals.{OrderDoesNotMatter, RecordOfCase};
 ghost use Rattle.tournament.specs.OpenDisputes.{OpenDisputesShareNoProver, SidesAreTwoProvers};
 ghost use Rattle.tournament.specs.SoFar.{RecordIsBracket};
-ghost use Rattle.tournament.specs.Length.{SpareIsEnough};
+ghost use Rattle.tournament.specs.Length.{SpareIsEnough, ThereIsAMost};
+ghost use Rattle.tournament.specs.Numbers.{RecordsAreOfProvers, DisputesHaveTheFan};
+ghost use Rattle.tournament.specs.Outs.{NobodyIsOutTwice, TheLiveAreListed};
 ghost use Rattle.tournament.specs.Truthful.{TruthfulProversAreSafe};
 ghost use Rattle.tournament.specs.TrueMoves.{TrueMovesAreTrueAnswers, TrueMovesAreSafe};
 ghost use Rattle.tournament.specs.Asked.{AskedByTheCase, OpenIsWithinBound, AskedIsWithinBound, QuestionsStay};
@@ -104,6 +106,30 @@ pub fn spare_is_enough()
 {
     bisection_laws();
 }
+
+/// Each fan and each bound has a most number of bisection rounds.
+pub fn there_is_a_most_number_of_rounds()
+    ensures { ThereIsAMost }
+{}
+
+/// Whatever was posted, a record has a claim of each prover, and disputes between provers, numbered from 1 (`provers`). Each dispute
+/// cuts its intervals in as many parts as the rules say (`fan`).
+pub fn a_record_is_of_its_provers()
+    ensures provers { RecordsAreOfProvers }
+    ensures fan { DisputesHaveTheFan }
+{
+    bisection_laws();
+}
+
+/// Nobody is put out twice, whatever was posted: by its claim and its disputes a prover is put out once at most.
+pub fn nobody_is_put_out_twice()
+    ensures { NobodyIsOutTwice }
+{}
+
+/// Who lives and whose claim was given is listed with it among the live, and nobody else is, in any record.
+pub fn the_live_are_listed()
+    ensures { TheLiveAreListed }
+{}
 
 /// A number names one question of a match: an open question is the one that the case's own match asks its prover under
 /// its number.
