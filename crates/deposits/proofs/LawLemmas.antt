@@ -1,19 +1,17 @@
 -- The laws of deposits but for the record of a match that has ended.
-use Rattle.std.proofs.Common.{◌≡◌, ◌≢◌, ℕ, zero, suc, ◌+◌, ◌-◌, ◌*◌, ◌<◌, ◌≤◌, Bool, true, false, not, ◌&&◌, ◌||◌, ◌==◌, List, [], ◌∷◌, length, sum, slice_index, refl, sym, ◌∙◌, ap, arith, subst}
+use Rattle.std.proofs.Common.{◌≡◌, ℕ, zero, suc, ◌+◌, ◌-◌, ◌*◌, ◌<◌, ◌≤◌, Bool, not, List, [], ◌∷◌, length, slice_index, refl, sym, ◌∙◌, ap, arith}
 use Rattle.std.proofs.Math.Nat.{mul-add}
-use Rattle.std.specs.List.Sorted.{IsPermutation}
 use Rattle.tournament.specs.OpenDisputes.{one_if}
 use Rattle.tournament.specs.Bracket.{Record}
-use Rattle.tournament.specs.Theorem.{lives, Stays}
 use Rattle.tournament.specs.Moves.{begun}
 use Rattle.tournament.specs.Journals.{turns}
 use Rattle.tournament.specs.Truthful.{IsSafe, TruthfulProversAreSafe}
-use Rattle.deposits.specs.Events.{Event, puts_out, pays, outs, wins, spent, AllEventsOf, events_of}
-use Rattle.deposits.specs.Accounts.{Accounts, opened, balances_told, told, after, CanTellAll}
-use Rattle.deposits.specs.Balances.{outs_of, wins_of, balance, balances_from, balances_of, pool, IsSettledUp}
-use Rattle.deposits.specs.Theorem.{has, EventsAddTheirOwn, IsInClosedForm, MayBeTold, LedgersAreInClosedForm, RecordIsInClosedForm, RecordsAreInClosedForm, ComeToBalances, OrderDoesNotMatter, WhoStaysKeepsStake, TruthfulKeepStake}
+use Rattle.deposits.specs.Events.{Event, puts_out, pays, outs, wins, events_of}
+use Rattle.deposits.specs.Accounts.{Accounts, balances_told}
+use Rattle.deposits.specs.Balances.{losses_of, wins_of, balance, balances_from}
+use Rattle.deposits.specs.Theorem.{EventsAddTheirOwn, LedgersAreInClosedForm, RecordsAreInClosedForm, OrderDoesNotMatter, WhoStaysKeepsStake, TruthfulKeepStake}
 use Rattle.deposits.proofs.StepLemmas.{place-of}
-use Rattle.deposits.proofs.OrderLemmas.{of_by, accounts_by, IsClosedForm, closed-form, outs-order, wins-order, spent-order, events-order}
+use Rattle.deposits.proofs.OrderLemmas.{of_by, IsClosedForm, closed-form, outs-order, wins-order, spent-order, events-order}
 use Rattle.deposits.proofs.RecordLemmas.{record-events, record-outs, record-wins, record-spent, IsTold, told-of}
 
 own-from : (s : ℕ) (e : Event) (p q k : ℕ) (xs : List ℕ) → p ≡ q + k → k < length xs → slice_index (balances_told s e q xs) k ≡ slice_index xs k + s * one_if (pays e p) - s * one_if (puts_out e p)
@@ -48,7 +46,7 @@ record-from s r p q (suc k) (suc n) same lt = record-from s r p (q + 1) k n (ome
 pub records-are-in-closed-form : RecordsAreInClosedForm
 records-are-in-closed-form s n r i = record {
   balances = λ p some few. record-from s r p 1 (p - 1) n (place-of p some) (omega (arith, some, few));
-  as_events = λ p some few. ap (λ (w : ℕ). s * (1 + w - outs_of r p)) (sym (record-wins r p)) ∙ ap (λ (o : ℕ). s * (1 + wins (events_of r) p - o)) (sym (record-outs n r p i some));
+  as_events = λ p some few. ap (λ (w : ℕ). s * (1 + w - losses_of r p)) (sym (record-wins r p)) ∙ ap (λ (o : ℕ). s * (1 + wins (events_of r) p - o)) (sym (record-outs n r p i some));
   pool_as_events = ap (λ (m : ℕ). s * m) (sym (record-spent r));
 }
 
@@ -63,7 +61,7 @@ stake-kept s w = let same : 1 + w - 0 ≡ 1 + w = omega arith in rw same (omega 
 
 pub who-stays-keeps-stake : WhoStaysKeepsStake
 who-stays-keeps-stake s rules t p r k =
-    let out : outs_of r p ≡ 0 = ap (λ (b : Bool). one_if (not b)) k.is_live in
+    let out : losses_of r p ≡ 0 = ap (λ (b : Bool). one_if (not b)) k.is_live in
     rw out (stake-kept s (wins_of r p))
 
 pub truthful-keep-stake : TruthfulProversAreSafe → TruthfulKeepStake

@@ -1,16 +1,15 @@
 -- Events in any order come to the closed form, and may be told where nobody is put out twice.
-use Rattle.std.proofs.Common.{◌≡◌, ◌≢◌, ℕ, zero, suc, ◌+◌, ◌-◌, ◌*◌, ◌<◌, ◌≤◌, Bool, true, false, not, ◌&&◌, ◌||◌, ◌==◌, if◌then◌else◌, List, [], ◌∷◌, ◌++◌, length, replicate, sum, slice_index, slice_index_or, ◌⊎◌, inl, inr, Option, Some, None, All, refl, sym, ◌∙◌, ap, arith, subst}
+use Rattle.std.proofs.Common.{◌≡◌, ℕ, zero, suc, ◌+◌, ◌-◌, ◌*◌, ◌<◌, ◌≤◌, Bool, true, false, ◌&&◌, ◌||◌, ◌==◌, List, [], ◌∷◌, length, replicate, slice_index_or, ◌⊎◌, inl, inr, All, refl, sym, ◌∙◌, ap, arith, subst}
 use Rattle.std.specs.List.{sum_by}
 use Rattle.std.specs.List.Sorted.{IsPermutation}
 use Rattle.std.proofs.Math.Nat.{mul-sub, mul-add}
 use Rattle.std.proofs.lemmas.List.Sums.{sum_by-cons}
 use Rattle.std.proofs.lemmas.List.Sorted.{sum_by-IsPermutation, All-permutation}
-use Rattle.bisect_game.specs.declared.settled.Close.{Close}
 use Rattle.bisect_game.specs.declared.settled.Close.TheVariants.{Out, Collision}
 use Rattle.tournament.specs.OpenDisputes.{one_if}
-use Rattle.deposits.specs.Events.{Event, is_put_out, puts_out, pays, pooled, outs, wins, spent, IsProver, AreSides, IsEventOf, AllEventsOf}
+use Rattle.deposits.specs.Events.{Event, puts_out, pays, pooled, outs, wins, spent, IsEventOf, AllEventsOf}
 use Rattle.deposits.specs.Events.Event.{ClaimOut, Closed}
-use Rattle.deposits.specs.Accounts.{Accounts, opened, is_out, balances_told, outs_told, told, CanTell, after, CanTellAll}
+use Rattle.deposits.specs.Accounts.{Accounts, opened, balances_told, outs_told, told, CanTell, after, CanTellAll}
 use Rattle.deposits.proofs.StepLemmas.{is-same, accounts-same, two-cells}
 
 -- THE CLOSED FORM over how often each prover has won and is out

@@ -1,19 +1,19 @@
 -- The events of a record come to its balances.
-use Rattle.std.proofs.Common.{◌≡◌, ◌≢◌, ℕ, zero, suc, ◌+◌, ◌-◌, ◌*◌, ◌<◌, ◌≤◌, Bool, true, false, not, ◌&&◌, ◌||◌, ◌==◌, if◌then◌else◌, List, [], ◌∷◌, ◌++◌, length, slice_get, Option, Some, None, refl, sym, ◌∙◌, ap, arith, subst}
+use Rattle.std.proofs.Common.{◌≡◌, ℕ, zero, suc, ◌+◌, ◌-◌, ◌<◌, ◌≤◌, Bool, true, false, not, ◌&&◌, ◌||◌, ◌==◌, if◌then◌else◌, List, [], ◌∷◌, ◌++◌, length, slice_get, Option, Some, None, refl, sym, ◌∙◌, ap, arith}
 use Rattle.bisect_game.specs.declared.settled.Settled.{Settled}
 use Rattle.bisect_game.specs.declared.settled.Close.{Close}
 use Rattle.bisect_game.specs.declared.settled.Close.TheVariants.{Out, Collision}
 use Rattle.bisect_game.specs.Bisection.{Bisection}
 use Rattle.tournament.specs.OpenDisputes.{one_if}
 use Rattle.tournament.specs.Bracket.{Record, is_out_by, is_out_in}
-use Rattle.tournament.specs.Theorem.{is_out_by_claim, lives}
-use Rattle.deposits.specs.Events.{Event, puts_out, pays, pooled, outs, wins, spent, IsProver, AreSides, IsEventOf, AllEventsOf, claim_events, and_closed, dispute_events, events_of}
-use Rattle.deposits.specs.Events.Event.{ClaimOut, Closed}
+use Rattle.tournament.specs.Theorem.{is_out_by_claim}
+use Rattle.deposits.specs.Events.{Event, outs, wins, spent, AllEventsOf, claim_events, and_closed, dispute_events, events_of}
+use Rattle.deposits.specs.Events.Event.{ClaimOut}
 use Rattle.deposits.specs.declared.amounts.Balances.{Balances}
-use Rattle.deposits.specs.Balances.{outs_of, is_won_if, wins_in, wins_of, balance, claims_out, pooled_if, pooled_in, pool, balances_from, balances_of, AllSides, IsSettledUp}
+use Rattle.deposits.specs.Balances.{losses_of, is_won_if, wins_in, wins_of, claims_out, pooled_if, pooled_in, pool, balances_from, balances_of, AllSides, IsSettledUp}
 use Rattle.deposits.specs.Accounts.{Accounts, opened, after, CanTellAll}
 use Rattle.deposits.proofs.StepLemmas.{same-test, other-test, two-cells}
-use Rattle.deposits.proofs.OrderLemmas.{any, of_by, out_by, accounts_by, accounts-by-same, IsClosedForm, closed-form}
+use Rattle.deposits.proofs.OrderLemmas.{any, of_by, accounts_by, accounts-by-same, IsClosedForm, closed-form}
 
 -- one list after another
 
@@ -141,7 +141,7 @@ out-count false false zero e le = refl
 out-count false true (suc k) e le = omega (arith, le)
 out-count false false (suc k) e le = absurd (cc)
 
-pub record-outs : (n : ℕ) (r : Record) (p : ℕ) → IsSettledUp n r → 0 < p → outs (events_of r) p ≡ outs_of r p
+pub record-outs : (n : ℕ) (r : Record) (p : ℕ) → IsSettledUp n r → 0 < p → outs (events_of r) p ≡ losses_of r p
 record-outs n r p i some =
     let sum : outs (events_of r) p ≡ outs (claim_events 1 r.claims) p + outs (dispute_events r.disputes) p = outs-append (claim_events 1 r.claims) (dispute_events r.disputes) p in
     let claim : outs (claim_events 1 r.claims) p ≡ one_if (is_out_by_claim (slice_get r.claims (p - 1))) = claims-outs p 1 (p - 1) r.claims (omega (arith, some)) in
@@ -159,7 +159,7 @@ record-spent r =
     let sum : spent (events_of r) ≡ spent (claim_events 1 r.claims) + spent (dispute_events r.disputes) = spent-append (claim_events 1 r.claims) (dispute_events r.disputes) in
     omega (arith, sum, claims-spent 1 r.claims, disputes-spent r.disputes)
 
-of-record : (s : ℕ) (r : Record) (p n : ℕ) → of_by s (wins_of r) (outs_of r) p n ≡ balances_from s r p n
+of-record : (s : ℕ) (r : Record) (p n : ℕ) → of_by s (wins_of r) (losses_of r) p n ≡ balances_from s r p n
 of-record s r p zero = refl
 of-record s r p (suc n) = two-cells _ _ _ _ refl (of-record s r (p + 1) n)
 
@@ -170,10 +170,10 @@ pub record IsTold (s n : ℕ) (r : Record) (es : List Event) : Type 0 where
   pub pool : (after es (opened s n)).pool ≡ pool s r
 
 pub told-of : (s n : ℕ) (r : Record) (es : List Event) → AllEventsOf n es → ((p : ℕ) → outs es p ≤ 1) → ((p : ℕ) → 0 < p → p ≤ n → wins es p ≡ wins_of r p) →
-    ((p : ℕ) → 0 < p → p ≤ n → outs es p ≡ outs_of r p) → spent es ≡ claims_out r.claims + pooled_in r.disputes → IsTold s n r es
+    ((p : ℕ) → 0 < p → p ≤ n → outs es p ≡ losses_of r p) → spent es ≡ claims_out r.claims + pooled_in r.disputes → IsTold s n r es
 told-of s n r es i once e f g =
     let c : IsClosedForm s n es = closed-form s n es i once in
-    let all : after es (opened s n) ≡ accounts_by s n (wins_of r) (outs_of r) (claims_out r.claims + pooled_in r.disputes) = c.is ∙ accounts-by-same s n _ _ _ _ _ _ e f g in
+    let all : after es (opened s n) ≡ accounts_by s n (wins_of r) (losses_of r) (claims_out r.claims + pooled_in r.disputes) = c.is ∙ accounts-by-same s n _ _ _ _ _ _ e f g in
     record { can = c.can; of = ap (λ (a : Accounts). a.of) all ∙ of-record s r 1 n; pool = ap (λ (a : Accounts). a.pool) all }
 
 pub record-told : (s n : ℕ) (r : Record) → IsSettledUp n r → IsTold s n r (events_of r)

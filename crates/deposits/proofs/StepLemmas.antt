@@ -1,12 +1,11 @@
 -- What one event does to balances, flags and their sum, prover by prover.
-use Rattle.std.proofs.Common.{◌≡◌, ◌≢◌, ℕ, zero, suc, ◌+◌, ◌-◌, ◌*◌, ◌<◌, ◌≤◌, Bool, true, false, not, ◌&&◌, ◌||◌, ◌==◌, if◌then◌else◌, List, [], ◌∷◌, ◌++◌, length, replicate, sum, slice_index, slice_index_or, slice_set, inl, inr, Option, Some, None, refl, sym, ◌∙◌, ap, arith}
+use Rattle.std.proofs.Common.{◌≡◌, ◌≢◌, ℕ, zero, suc, ◌+◌, ◌-◌, ◌*◌, ◌<◌, ◌≤◌, Bool, true, false, ◌||◌, ◌==◌, List, [], ◌∷◌, length, replicate, sum, slice_index, slice_index_or, slice_set, refl, sym, ◌∙◌, ap, arith}
 use Rattle.std.proofs.lemmas.Bool.Decides.{nat_tests}
 use Rattle.std.proofs.lemmas.List.Sums.{sum_by-cons}
-use Rattle.bisect_game.specs.declared.settled.Close.TheVariants.{Out, Collision}
+use Rattle.bisect_game.specs.declared.settled.Close.TheVariants.{Out}
 use Rattle.tournament.specs.OpenDisputes.{one_if}
-use Rattle.deposits.specs.Events.{Event, puts_out, pays, pooled, IsProver, AreSides}
+use Rattle.deposits.specs.Events.{Event, puts_out, pays, pooled}
 use Rattle.deposits.specs.Events.Event.{ClaimOut, Closed}
-use Rattle.bisect_game.specs.declared.settled.Close.{Close}
 use Rattle.deposits.specs.Accounts.{Accounts, is_out, balances_told, outs_told, told, CanTell}
 use Rattle.deposits.specs.Keeping.{AllHaveStake, IsFunded, IsLedger}
 

@@ -1,16 +1,12 @@
 -- Nothing is lost: balances and pool add up to the stakes after any events that may be told.
-use Rattle.std.proofs.Common.{◌≡◌, ◌≢◌, ℕ, zero, suc, ◌+◌, ◌-◌, ◌*◌, ◌<◌, ◌≤◌, Bool, true, false, not, ◌&&◌, ◌||◌, ◌==◌, List, [], ◌∷◌, length, replicate, sum, slice_index_or, refl, sym, ◌∙◌, ap, arith, subst}
-use Rattle.bisect_game.specs.declared.settled.Close.{Close}
+use Rattle.std.proofs.Common.{◌≡◌, ℕ, ◌+◌, ◌-◌, ◌*◌, ◌<◌, ◌≤◌, Bool, true, false, ◌||◌, ◌==◌, List, [], ◌∷◌, length, refl, sym, ◌∙◌, arith, subst}
 use Rattle.bisect_game.specs.declared.settled.Close.TheVariants.{Out, Collision}
-use Rattle.tournament.specs.OpenDisputes.{one_if}
-use Rattle.tournament.specs.Bracket.{Record}
-use Rattle.deposits.specs.Events.{Event, puts_out, pays, pooled, IsProver, AreSides, events_of}
+use Rattle.deposits.specs.Events.{Event, events_of}
 use Rattle.deposits.specs.Events.Event.{ClaimOut, Closed}
 use Rattle.deposits.specs.Accounts.{Accounts, opened, is_out, balances_told, outs_told, told, CanTell, after, CanTellAll}
-use Rattle.deposits.specs.Balances.{balances_of, IsSettledUp}
 use Rattle.deposits.specs.Keeping.{IsFunded}
 use Rattle.deposits.specs.Theorem.{LedgersAddUp, BalancesAddUp}
-use Rattle.deposits.proofs.StepLemmas.{same-test, place-of, kept-claim, kept-pass, loses, gains, marks, loses-set, gains-set, marks-set, loses-length, claim-balances, claim-outs, pass-balances, pass-outs, told-as, told-nothing, told-both, told-length, second-can, new-funded, count-of}
+use Rattle.deposits.proofs.StepLemmas.{same-test, place-of, kept-claim, kept-pass, loses, loses-set, gains-set, marks-set, loses-length, claim-balances, claim-outs, pass-balances, pass-outs, told-as, told-nothing, told-both, told-length, second-can, new-funded, count-of}
 use Rattle.deposits.proofs.RecordLemmas.{IsTold, record-told}
 
 abbrev Funded : Accounts → Type 0

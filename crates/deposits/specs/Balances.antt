@@ -1,5 +1,5 @@
 -- To believe: what each prover has once a match has ended, in closed form, and what is in the pool.
-use Rattle.std.specs.Prelude.{◌≡◌, ℕ, zero, suc, ◌+◌, ◌-◌, ◌*◌, ◌≤◌, Bool, true, false, not, List, [], ◌∷◌, ◌++◌, length, Option, Some, None}
+use Rattle.std.specs.Prelude.{◌≡◌, ℕ, zero, suc, ◌+◌, ◌-◌, ◌*◌, ◌≤◌, Bool, true, false, not, List, [], ◌∷◌, length, Option, Some, None}
 use Rattle.bisect_game.specs.declared.settled.Settled.{Settled}
 use Rattle.bisect_game.specs.declared.settled.Close.{Close}
 use Rattle.bisect_game.specs.Bisection.{Bisection}
@@ -9,9 +9,9 @@ use Rattle.tournament.specs.Theorem.{is_out_by_claim, lives}
 use Rattle.deposits.specs.declared.amounts.Balances.{Balances}
 use Rattle.deposits.specs.Events.{is_won, pooled_by_close, AreSides, outs, events_of}
 
--- 1 of a prover that is out, else 0
-abbrev pub outs_of : Record → ℕ → ℕ
-outs_of r p = one_if (not (lives r p))
+-- how many of its own stakes a prover has lost: 1 of a prover that is out, else 0
+abbrev pub losses_of : Record → ℕ → ℕ
+losses_of r p = one_if (not (lives r p))
 
 -- how many disputes put out only the other side of a prover
 
@@ -28,7 +28,7 @@ wins_of r p = wins_in r.disputes p
 
 -- what a prover has: its own stake unless it is out, and that of each prover that it put out
 abbrev pub balance : ℕ → Record → ℕ → ℕ
-balance stake r p = stake * (1 + wins_of r p - outs_of r p)
+balance stake r p = stake * (1 + wins_of r p - losses_of r p)
 
 -- the stakes in the pool: one for each claim that is out, and two for each dispute that put out both sides
 

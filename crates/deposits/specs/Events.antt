@@ -1,11 +1,12 @@
 -- To believe: the events that move stakes, and those of a record.
-use Rattle.std.specs.Prelude.{◌≢◌, ℕ, ◌+◌, ◌<◌, ◌≤◌, Bool, true, false, not, ◌&&◌, ◌||◌, ◌==◌, if◌then◌else◌, List, [], ◌∷◌, ◌++◌, Option, Some, None}
+use Rattle.std.specs.Prelude.{◌≢◌, ℕ, ◌+◌, Bool, false, not, ◌&&◌, ◌||◌, ◌==◌, if◌then◌else◌, List, [], ◌∷◌, ◌++◌, Option, Some, None}
 use Rattle.bisect_game.specs.declared.settled.Settled.{Settled}
 use Rattle.bisect_game.specs.declared.settled.Close.{Close}
 use Rattle.bisect_game.specs.declared.settled.Close.TheVariants.{Out, Collision}
 use Rattle.bisect_game.specs.Bisection.{Bisection}
 use Rattle.tournament.specs.OpenDisputes.{one_if}
 use Rattle.tournament.specs.Bracket.{Record}
+use Rattle.tournament.specs.Numbers.{IsProver}
 use Rattle.tournament.specs.Theorem.{is_out_by_claim}
 
 -- a prover is out by its claim, or a dispute of two provers closes
@@ -58,9 +59,6 @@ spent [] = 0
 spent (e ∷ es) = pooled e + spent es
 
 -- an event of so many provers: those that it names are among them, and the sides of a dispute are two
-
-abbrev pub IsProver : ℕ → ℕ → Type 0
-IsProver provers p = (0 < p) × (p ≤ provers)
 
 pub record AreSides (provers a b : ℕ) : Type 0 where
   pub first : IsProver provers a

@@ -2,7 +2,8 @@
 ghost use Rattle.deposits.specs.Theorem.{EventsAddTheirOwn, LedgersAreInClosedForm, RecordsAreInClosedForm, LedgersAddUp, BalancesAddUp, OrderDoesNotMatter, WhoStaysKeepsStake, TruthfulKeepStake, EndedIsSettledUp};
 
 use tournament::{
-    open_disputes_share_no_prover, posts_settle_what_fits, truthful_provers_are_safe,
+    a_record_is_of_its_provers, nobody_is_put_out_twice, open_disputes_share_no_prover,
+    truthful_provers_are_safe,
 };
 
 /// The closed form: a prover has its stake times one more than its wins, less one stake where it is out (`record_`, read off a record
@@ -43,6 +44,7 @@ pub fn truthful_provers_keep_their_stakes()
 pub fn a_match_that_has_ended_is_settled_up()
     ensures { EndedIsSettledUp }
 {
-    posts_settle_what_fits();
+    a_record_is_of_its_provers();
+    nobody_is_put_out_twice();
     open_disputes_share_no_prover();
 }

@@ -1,6 +1,3 @@
-use Rattle.std.proofs.Common.{◌≡◌, ◌∙◌, ap, refl}
-use Rattle.deposits.specs.Events.{claim_events, dispute_events}
-use Rattle.deposits.specs.Accounts.{Accounts, after}
 use Rattle.deposits.proofs.RecordLemmas.{claims-can, disputes-can, balances-told}
 use Rattle.deposits.proofs.settling.balances.Goals as goal
 

@@ -1,4 +1,4 @@
-use Rattle.std.proofs.Common.{◌≡◌, ◌-◌, ◌≤◌, refl}
+use Rattle.std.proofs.Common.{refl}
 use Rattle.deposits.proofs.StepLemmas.{same-test, claim-funded, claim-kept, claim-told}
 use Rattle.deposits.proofs.ledger.Ledger.claim_out.Goals as goal
 

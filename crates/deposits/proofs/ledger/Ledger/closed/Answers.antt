@@ -1,4 +1,4 @@
-use Rattle.std.proofs.Common.{◌≡◌, refl}
+use Rattle.std.proofs.Common.{refl}
 use Rattle.bisect_game.specs.declared.settled.Close.TheVariants.{Collision}
 use Rattle.deposits.specs.Events.Event.{Closed}
 use Rattle.deposits.proofs.StepLemmas.{told-nothing}

@@ -1,4 +1,3 @@
-use Rattle.std.proofs.Common.{◌≡◌, replicate}
 use Rattle.deposits.proofs.StepLemmas.{new-kept}
 use Rattle.deposits.proofs.ledger.Ledger.new.Goals as goal
 

@@ -1,4 +1,4 @@
-use Rattle.std.proofs.Common.{◌≡◌, ◌-◌, ◌≤◌, ◌||◌, true, false, ◌∙◌, ap, refl}
+use Rattle.std.proofs.Common.{◌||◌, false, ap, refl}
 use Rattle.deposits.proofs.StepLemmas.{same-test, claim-funded, pass-kept, pass-told}
 use Rattle.deposits.proofs.ledger.Ledger.pass_on.Goals as goal
 

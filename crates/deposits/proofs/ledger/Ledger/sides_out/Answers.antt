@@ -1,4 +1,4 @@
-use Rattle.std.proofs.Common.{◌≡◌, true, false, ◌∙◌, ap, refl}
+use Rattle.std.proofs.Common.{◌∙◌, ap}
 use Rattle.bisect_game.specs.declared.settled.Close.TheVariants.{Out}
 use Rattle.deposits.specs.Events.Event.{ClaimOut, Closed}
 use Rattle.deposits.specs.Accounts.{Accounts, told, CanTell}

@@ -1,0 +1,128 @@
+//! A ledger of three provers, and the events that it is told.
+ghost use Rattle.std.specs.Prelude.{◌≡◌, ◌<◌, ◌≤◌, true, false, length};
+ghost use Rattle.deposits.specs.Accounts.{is_out};
+ghost use Rattle.deposits.specs.Events.{AreSides};
+
+use bisect_game::Close;
+use deposits::Ledger;
+use rd_base::OpenText;
+
+/// An event of a match.
+#[derive(Clone, Copy, Debug)]
+pub(crate) enum Told {
+    /// The claim of this prover puts it out.
+    ClaimOut(u32),
+    /// The dispute of these two provers puts out its first side, its second, both or none.
+    Out(u32, u32, bool, bool),
+    /// The dispute of these two provers closes with a collision.
+    Collision(u32, u32),
+}
+
+/// Whether this is one of the three provers.
+fn is_prover(p: u32) -> bool
+    ensures some { result ≡ true → 0 < p }
+    ensures few { result ≡ true → p ≤ 3 }
+{
+    if p == 0 {
+        return false;
+    }
+    p <= 3
+}
+
+/// Tells a ledger that a claim is out. Whether it may be told.
+fn tell_claim(ledger: &mut Ledger, p: u32) -> bool
+    requires { length ledger.old.of ≡ 3 }
+    ensures { length ledger.new.of ≡ 3 }
+{
+    if !is_prover(p) {
+        return false;
+    }
+    if ledger.is_out(p) {
+        return false;
+    }
+    ledger.claim_out(p);
+    true
+}
+
+/// Whether two of the three provers may play a dispute.
+fn are_sides(a: u32, b: u32) -> bool
+    ensures { result ≡ true → AreSides 3 a b }
+{
+    if !is_prover(a) {
+        return false;
+    }
+    if !is_prover(b) {
+        return false;
+    }
+    a != b
+}
+
+/// Whether a prover may lose its stake, if it does.
+fn may_lose(ledger: &Ledger, p: u32, loses: bool) -> bool
+    requires some { 0 < p }
+    requires few { p ≤ length ledger.now.of }
+    ensures { result ≡ true → loses ≡ true → is_out ledger.now p ≡ false }
+{
+    if !loses {
+        return true;
+    }
+    !ledger.is_out(p)
+}
+
+/// Tells a ledger which sides of a dispute are out. Whether it may be told.
+fn tell_out(ledger: &mut Ledger, a: u32, b: u32, first: bool, second: bool) -> bool
+    requires { length ledger.old.of ≡ 3 }
+    ensures { length ledger.new.of ≡ 3 }
+{
+    if !are_sides(a, b) {
+        return false;
+    }
+    if !may_lose(ledger, a, first) {
+        return false;
+    }
+    if !may_lose(ledger, b, second) {
+        return false;
+    }
+    ledger.closed(a, b, &Close::Out { first, second });
+    true
+}
+
+/// Tells a ledger that a dispute has closed with a collision. Whether it may be told.
+fn tell_collision(ledger: &mut Ledger, a: u32, b: u32) -> bool
+    requires { length ledger.old.of ≡ 3 }
+    ensures { length ledger.new.of ≡ 3 }
+{
+    if !are_sides(a, b) {
+        return false;
+    }
+    ledger.closed(a, b, &Close::Collision(OpenText::new(), OpenText::new()));
+    true
+}
+
+/// Tells a ledger an event. Whether it may be told.
+fn tell(ledger: &mut Ledger, told: Told) -> bool
+    requires { length ledger.old.of ≡ 3 }
+    ensures { length ledger.new.of ≡ 3 }
+{
+    match told {
+        Told::ClaimOut(p) => tell_claim(ledger, p),
+        Told::Out(a, b, first, second) => tell_out(ledger, a, b, first, second),
+        Told::Collision(a, b) => tell_collision(ledger, a, b),
+    }
+}
+
+/// Tells a ledger these events, one after another. Whether each may be told.
+pub(crate) fn tell_all(ledger: &mut Ledger, events: &[Told]) -> bool
+    requires { length ledger.old.of ≡ 3 }
+    ensures { length ledger.new.of ≡ 3 }
+{
+    match events {
+        [] => true,
+        [first, rest @ ..] => {
+            if !tell(ledger, *first) {
+                return false;
+            }
+            tell_all(ledger, rest)
+        }
+    }
+}
