@@ -1,0 +1,3 @@
+pub mod RenewingLemmas
+pub mod LeafLemmas
+pub mod ScratchLemmas

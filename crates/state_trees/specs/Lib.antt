@@ -1,0 +1,2 @@
+pub mod RegisterTree
+pub mod InputTree
