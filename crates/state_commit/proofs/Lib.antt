@@ -1,3 +1,4 @@
 pub mod ScratchLemmas
 pub mod StateLemmas
 pub mod PathLemmas
+pub mod VersionLemmas

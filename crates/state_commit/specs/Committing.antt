@@ -1,9 +1,26 @@
--- Derived: what holds of every machine that is kept with the tree of its memory.
-use Rattle.std.specs.Prelude.{◌≡◌, ℕ, List, []}
+-- Derived: what holds of every machine that is kept with the trees of its commitment.
+use Rattle.std.specs.Prelude.{◌≡◌, ℕ, ◌==◌, List, [], true, false, Option, Some, None}
+use Rattle.rd_base.specs.declared.digest.Digest32.{Digest32}
 use Rattle.mem_tree.specs.Tree.{Tree, IsTreeOf}
 use Rattle.rv_step.specs.declared.machine.Machine.{Machine}
-use Rattle.rv_step.specs.State.{IsChained}
+use Rattle.rv_step.specs.State.{State, IsChained}
+use Rattle.state_trees.specs.InputTree.{IsInputTree}
 
 -- the machine's chain is that of its output, and the tree is that of its memory, with no page touched
 abbrev pub IsCommitted : (List ℕ → List ℕ) → Machine → Tree → Type 0
 IsCommitted digest m t = IsChained digest m × (t.touched ≡ []) × IsTreeOf digest t m.mem
+
+-- registers have a tree exactly from version 2 on
+abbrev pub HasTreeFor : ℕ → Option (List ℕ) → Type 0
+HasTreeFor version (Some xs) = (version == 1) ≡ false
+HasTreeFor version None = (version == 1) ≡ true
+
+-- the tree of the registers is there exactly from version 2 on, and is that of a state's registers
+abbrev pub HasRegisters : State → Option (List ℕ) → Type 0
+HasRegisters s (Some xs) = ((s.version == 1) ≡ false) × (xs ≡ s.regs)
+HasRegisters s None = (s.version == 1) ≡ true
+
+-- the tree of the input is there exactly in version 3, and is that of a state's input
+abbrev pub HasInput : (List ℕ → List ℕ) → State → Option (List Digest32) → Type 0
+HasInput digest s (Some nodes) = ((s.version == 3) ≡ true) × IsInputTree digest nodes s.input
+HasInput digest s None = (s.version == 3) ≡ false
