@@ -1,0 +1,5 @@
+pub mod HeldLemmas
+pub mod RegisterLemmas
+pub mod LeadLemmas
+pub mod WayLemmas
+pub mod TruthLemmas

@@ -1,0 +1,38 @@
+-- To believe, where a law speaks of proofs that no program holds: digests, chunks and paths have their lengths, and numbers
+-- are within the ranges of their types.
+use Rattle.std.specs.Prelude.{ℕ, ◌^◌, ◌==◌, ◌&&◌, nat_lt, List, [], ◌∷◌, length, Bool, true, Option, Some, None}
+use Rattle.rd_base.specs.declared.digest.Digest32.{Digest32}
+use Rattle.rd_base.specs.declared.opened.InOpening.{InOpening}
+use Rattle.rd_base.specs.declared.opened.RegOpening.{RegOpening}
+use Rattle.rd_base.specs.declared.proof.Proof.{Proof}
+use Rattle.open_proof.specs.InRange.{are_words, are_digests, is_opening_in_range, is_ctl_in_range}
+use Rattle.proof_facts.specs.Facts.{facts_of}
+use Rattle.proof_facts.specs.declared.facts.Facts.{Facts}
+use Rattle.proof_facts.specs.declared.facts.HeldInput.{HeldInput}
+use Rattle.proof_facts.specs.declared.facts.HeldRegisters.{HeldRegisters}
+use Rattle.proof_facts.specs.declared.facts.HeldRegisters.TheVariants.{Whole, Opened}
+
+abbrev pub is_input_in_range : Option InOpening → Bool
+is_input_in_range (Some o) = (length o.chunk == 32) && (length o.path.0 == 15) && are_digests o.path.0
+is_input_in_range None = true
+
+abbrev pub are_openings_in_range : List RegOpening → Bool
+are_openings_in_range [] = true
+are_openings_in_range (o ∷ os) = nat_lt o.value (2 ^ 32) && (length o.path.0 == 5) && are_digests o.path.0 && are_openings_in_range os
+
+abbrev pub are_registers_in_range : HeldRegisters → Bool
+are_registers_in_range (Whole xs) = (length xs == 32) && are_words xs
+are_registers_in_range (Opened root named) = (length root.0 == 32) && are_openings_in_range named
+
+abbrev pub is_tree_in_range : Option HeldInput → Bool
+is_tree_in_range (Some t) = nat_lt t.len (2 ^ 32) && (length t.root.0 == 32)
+is_tree_in_range None = true
+
+-- as in each proof that a program holds
+unfoldable pub are_facts_in_range : Facts → Bool
+are_facts_in_range facts =
+    (length facts.mem.0 == 32) && is_tree_in_range facts.input_tree && are_registers_in_range facts.regs && is_ctl_in_range facts.ctl
+    && is_opening_in_range facts.fetch && is_opening_in_range facts.operand && is_input_in_range facts.input
+
+abbrev pub is_in_range : Proof → Bool
+is_in_range proof = are_facts_in_range (facts_of proof)

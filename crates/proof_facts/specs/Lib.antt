@@ -1,0 +1,12 @@
+pub mod Ways
+pub mod Facts
+pub mod Openings
+pub mod Next
+pub mod Conditions
+pub mod Strings
+pub mod InRange
+pub mod RangeLaws
+pub mod Shown
+pub mod PlainProof
+pub mod StateCollision
+pub mod LawsBelow
