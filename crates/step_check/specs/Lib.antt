@@ -1,0 +1,3 @@
+pub mod HeldParts
+pub mod Ticks
+pub mod Tests

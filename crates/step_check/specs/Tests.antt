@@ -1,0 +1,47 @@
+-- Derived, tied to the conditions of a proof by the clauses of `check_step`: the answer by tests, in the order of the conditions.
+use Rattle.std.specs.Prelude.{ℕ, ◌==◌, List, [], ◌∷◌, Bool, true, false, Option, Some, None, bytes_eq, if◌then◌else◌}
+use Rattle.rd_base.specs.declared.digest.Digest32.{Digest32}
+use Rattle.open_proof.specs.Leads.{fetch_address}
+use Rattle.proof_facts.specs.Conditions.{Refusal}
+use Rattle.proof_facts.specs.Conditions.Refusal.{shape, opening}
+use Rattle.proof_facts.specs.Facts.{named_called, operand_called, input_called}
+use Rattle.proof_facts.specs.Next.{root_before, root_next}
+use Rattle.proof_facts.specs.Openings.{is_counted, fetch_ways, named_ways, operand_ways, read_ways}
+use Rattle.proof_facts.specs.Ways.{ways_climb}
+use Rattle.proof_facts.specs.declared.facts.Facts.{Facts}
+use Rattle.step_check.specs.declared.check.StepCheck.{StepCheck}
+use Rattle.step_check.specs.declared.check.StepCheck.TheVariants as check
+
+-- the answer that a refusal is
+abbrev pub refused : Refusal → StepCheck
+refused shape = check.WrongShape
+refused opening = check.NotOpen
+
+-- the answer by tests, each with the refusal where it is the first that fails
+abbrev pub answer : List (Refusal × Bool) → Digest32 → StepCheck
+answer [] root = check.Leads root
+answer (t ∷ ts) root = if t.1 then answer ts root else refused t.0
+
+-- something is there exactly where it is called for
+abbrev pub is_called : {A : Type 0} → Option A → Option ℕ → Bool
+is_called (Some o) (Some place) = true
+is_called None None = true
+is_called o place = false
+
+abbrev pub tests : (List ℕ → List ℕ) → ℕ → Digest32 → Facts → List (Refusal × Bool)
+tests digest version a facts =
+    (shape, facts.version == version)
+    ∷ (shape, is_called facts.fetch (fetch_address facts.ctl))
+    ∷ (opening, bytes_eq a.0 (root_before digest facts))
+    ∷ (opening, ways_climb digest (fetch_ways facts))
+    ∷ (shape, is_counted (named_called facts) facts.regs)
+    ∷ (opening, ways_climb digest (named_ways facts))
+    ∷ (shape, is_called facts.operand (operand_called facts))
+    ∷ (opening, ways_climb digest (operand_ways facts))
+    ∷ (shape, is_called facts.input (input_called facts))
+    ∷ (opening, ways_climb digest (read_ways facts))
+    ∷ []
+
+-- the answer to a proof from the root a, for a referee of a version
+unfoldable pub checked : (List ℕ → List ℕ) → ℕ → Digest32 → Facts → StepCheck
+checked digest version a facts = answer (tests digest version a facts) (record { 0 = root_next digest facts })
