@@ -1,0 +1,9 @@
+//! Images that are given as assembly text.
+//!
+//! The layers above may rely on this: `load_asm` loads the flat image of the text's words, or answers what is wrong with the text, and
+//! only then which rule of images its words break (`specs/AsmImage.antt`). Read `image`.
+#![tactic(auto)]
+
+mod image;
+
+pub use image::{AsmImageFault, load_asm};
