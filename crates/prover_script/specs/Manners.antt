@@ -1,9 +1,16 @@
 -- To believe: what a manner makes of a prover's answers.
-use Rattle.std.specs.Prelude.{ℕ, Bool, false, List, Option, Some, None, nat_lt, nat_le, if◌then◌else◌}
+use Rattle.std.specs.Prelude.{◌≡◌, ℕ, ◌≤◌, ◌==◌, ◌&&◌, Bool, true, false, List, [], ◌∷◌, map, Option, Some, None, option_map, is_none, nat_lt, nat_le, if◌then◌else◌}
+use Rattle.rd_base.specs.Regs.{with_register}
+use Rattle.rd_base.specs.declared.digest.Digest32.{Digest32}
+use Rattle.rd_base.specs.declared.proof.Proof.{Proof}
+use Rattle.rd_base.specs.declared.proof.Proof.TheVariants.{V1, V2, V3}
+use Rattle.rd_base.specs.declared.answer.Qid.{Qid}
 use Rattle.rd_base.specs.declared.answer.Answer.{Answer}
 use Rattle.rd_base.specs.declared.answer.Answer.TheVariants as answer
 use Rattle.rd_base.specs.declared.script.Manner.{Manner}
-use Rattle.rd_base.specs.declared.script.Manner.TheVariants.{Plain, Late, Silent, Output}
+use Rattle.rd_base.specs.declared.script.Manner.TheVariants.{Plain, Late, Silent, Output, Forge, Noise, Tape}
+use Rattle.rd_base.specs.declared.tape.TapeAnswer.{TapeAnswer}
+use Rattle.digest_core.specs.Text.{noise_text}
 use Rattle.bisect_game.specs.declared.question.Kind.{Kind}
 use Rattle.bisect_game.specs.declared.question.Kind.TheVariants as kind
 use Rattle.bisect_game.specs.declared.question.Question.{Question}
@@ -17,22 +24,61 @@ abbrev pub with_output : List ℕ → Kind → Answer → Answer
 with_output bytes kind.Claim (answer.Claim claim) = answer.Claim (record claim { output = bytes })
 with_output bytes k a = a
 
--- an answer that is there, with another output
-abbrev pub restated : List ℕ → Kind → Option Answer → Option Answer
-restated bytes k (Some a) = Some (with_output bytes k a)
-restated bytes k None = None
+-- a proof with another value in a register, where it shows that register: one row for each commitment version
+abbrev pub with_shown : ℕ → ℕ → Proof → Proof
+with_shown reg value (V1 proof) = V1 (record proof { regs = with_register proof.regs reg value })
+with_shown reg value (V2 proof) = V2 proof
+with_shown reg value (V3 proof) = V3 proof
 
--- what a prover with a manner answers, by what it answers without one: a late one passes so many times on each question,
--- a silent one passes from a round on, and one that restates its output does so in its claim
-abbrev pub says : Manner → Behaviour → Behaviour
-says Plain inner question passes = inner question passes
-says (Late many) inner question passes = if nat_lt passes many then None else inner question passes
-says (Silent from) inner question passes = if nat_le from question.qid.round then None else inner question passes
-says (Output bytes) inner question passes = restated bytes question.kind (inner question passes)
+-- a proof that answers the question for this step, with another value in a register; any other answer stays
+abbrev pub with_forgery : ℕ → ℕ → ℕ → Kind → Answer → Answer
+with_forgery step reg value (kind.Proof i) (answer.Step proof) = answer.Step (if i == step then with_shown reg value proof else proof)
+with_forgery step reg value k a = a
+
+-- the digest of a string that no state has, from a seed and the question's number
+abbrev pub noise : (List ℕ → List ℕ) → ℕ → Qid → Digest32
+noise digest seed qid = record { 0 = digest (noise_text seed qid.dispute qid.round) }
+
+-- a question for one root, or for several
+abbrev pub asks_roots : Kind → Bool
+asks_roots (kind.Root i) = true
+asks_roots (kind.Roots lo hi parts) = true
+asks_roots k = false
+
+-- one digest in place of the root, or of each of the roots, that answers a question for roots; any other answer stays
+abbrev pub with_roots : Digest32 → Kind → Answer → Answer
+with_roots root (kind.Root i) (answer.Root _) = answer.Root root
+with_roots root (kind.Roots lo hi parts) (answer.Roots roots) = answer.Roots (map (λ _. root) roots)
+with_roots root k a = a
+
+-- two numbers of questions are the same
+abbrev pub same_number : Qid → Qid → Bool
+same_number a b = (a.dispute == b.dispute) && (a.round == b.round)
+
+-- the first answer that is written down for the question of this number
+abbrev pub written : List TapeAnswer → Qid → Option Answer
+written [] qid = None
+written (entry ∷ rest) qid = if same_number entry.qid qid then Some entry.answer else written rest qid
+
+-- what a prover with a manner answers, by what it answers without one: a late one passes so many times on each question, and a
+-- silent one from a round on; the next three alter an answer, and never pass; one with a tape answers what is written down,
+-- instead of what it answers without it
+abbrev pub says : (List ℕ → List ℕ) → Manner → Behaviour → Behaviour
+says digest Plain inner q n = inner q n
+says digest (Late many) inner q n = if nat_lt n many then None else inner q n
+says digest (Silent from) inner q n = if nat_le from q.qid.round then None else inner q n
+says digest (Output bytes) inner q n = option_map (with_output bytes q.kind) (inner q n)
+says digest (Forge step reg value) inner q n = option_map (with_forgery step reg value q.kind) (inner q n)
+says digest (Noise seed) inner q n = option_map (with_roots (noise digest seed q.qid) q.kind) (inner q n)
+says digest (Tape entries) inner q n = written entries q.qid
 
 -- a manner passes, where the prover without it answers
 abbrev pub passes_by : Manner → Question → ℕ → Bool
-passes_by Plain question passes = false
-passes_by (Late many) question passes = nat_lt passes many
-passes_by (Silent from) question passes = nat_le from question.qid.round
-passes_by (Output bytes) question passes = false
+passes_by (Late many) q n = nat_lt n many
+passes_by (Silent from) q n = nat_le from q.qid.round
+passes_by (Tape entries) q n = is_none (written entries q.qid)
+passes_by _ q n = false
+
+-- once it has answered a question, it gives that answer after more passes too
+abbrev pub IsSteady : Behaviour → Type 0
+IsSteady says = (q : Question) (n k : ℕ) (a : Answer) → n ≤ k → says q n ≡ Some a → says q k ≡ Some a

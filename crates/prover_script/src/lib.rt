@@ -2,10 +2,15 @@
 //!
 //! The layers above may rely on this: a `Scripted` answers what `says` of `specs/Manners.antt` makes of its inner
 //! answerer, a function of the question and of the passes so far, which no call changes, not even one that runs out of
-//! memory; and `waits` tells where that is a pass, of an answerer that always answers. Read `specs/Manners.antt` first,
-//! then `scripted`.
+//! memory; `waits` tells where that is a pass, of an answerer that always answers; and a manner gives one answer to one
+//! question where the answerer without it does (`laws`). Read `specs/Manners.antt` first, then `altering` and `tape`, then
+//! `scripted`.
 #![tactic(auto)]
 
+mod altering;
+mod laws;
 mod scripted;
+mod tape;
 
+pub use laws::manners_are_steady;
 pub use scripted::{Scripted, waits};

@@ -1,26 +1,32 @@
-ghost use Rattle.std.specs.Prelude.{◌≡◌, IfOk, is_some, is_none, true};
-ghost use Rattle.prover_script.specs.Manners.{Behaviour, says, passes_by, with_output};
+ghost use Rattle.std.specs.Prelude.{◌≡◌, is_some, is_none, true, ℕ, List};
+ghost use Rattle.prover_script.specs.Manners.{Behaviour, says, passes_by};
 
-use bisect_game::{Answerer, Kind, Question};
-use rd_base::{Answer, Claim, ClaimOutput, Manner, Memory};
+use crate::altering::{noise, with_forgery, with_output, with_roots};
+use crate::tape::{written, written_copy};
+use bisect_game::{Answerer, Question};
+use digest_core::Digester;
+use rd_base::{Answer, Manner, Memory};
 use std::alloc::Global;
 use std::thread::Threads;
 
 /// An answerer with a manner.
 #[derive(Drop)]
-pub struct Scripted<A: Answerer + Drop> {
+pub struct Scripted<A: Answerer + Drop, D: Digester> {
     alloc: Global,
+    d: D,
     inner: A,
     manner: Manner,
 }
 
-impl<A: Answerer + Drop> Scripted<A> {
-    /// The answerer `inner` with this manner. It takes no memory; `alloc` is where a restated output is copied to.
-    pub fn new(alloc: Global, inner: A, manner: Manner) -> Self
-        ensures { ⟦<Scripted<A> as Answerer>⟧.answers result ≡ says manner (A.answers inner) }
+impl<A: Answerer + Drop, D: Digester> Scripted<A, D> {
+    /// The answerer `inner` with this manner, whose noise is made by the digester `d`. It takes no memory; `alloc` is where
+    /// altered answers are made.
+    pub fn new(alloc: Global, d: D, inner: A, manner: Manner) -> Self
+        ensures { ⟦<Scripted<A, D> as Answerer>⟧.answers result ≡ says D.digest_of manner (A.answers inner) }
     {
         Scripted {
             alloc,
+            d,
             inner,
             manner,
         }
@@ -30,37 +36,18 @@ impl<A: Answerer + Drop> Scripted<A> {
 /// Whether a prover with this manner passes on a question after so many passes on it, where one without it answers.
 pub fn waits(manner: &Manner, question: &Question, passes: u32) -> bool
     ensures value { result ≡ passes_by manner.now question.now passes }
-    ensures exact { (inner : Behaviour) → is_some (inner question.now passes) ≡ true → result ≡ is_none (says manner.now inner question.now passes) }
+    ensures exact { (digest : List ℕ → List ℕ) (inner : Behaviour) → is_some (inner question.now passes) ≡ true → result ≡ is_none (says digest manner.now inner question.now passes) }
 {
     match manner {
         Manner::Late(many) => passes < many.get(),
         Manner::Silent(from) => from.get() <= question.qid.round,
-        Manner::Plain | Manner::Output(_) => false,
+        Manner::Tape(tape) => written(tape.as_slice(), question.qid).is_none(),
+        Manner::Plain | Manner::Output(_) | Manner::Forge { .. } | Manner::Noise { .. } => false,
     }
 }
 
-/// A claim that answers the claim's question, with another output; any other answer stays.
-fn with_output(
-    alloc: Global,
-    output: &ClaimOutput,
-    kind: Kind,
-    answer: Answer,
-) -> Result<Answer, Memory>
-    ensures { IfOk result (λ a. a ≡ with_output output.now kind answer) }
-{
-    match (kind, answer) {
-        (Kind::Claim, Answer::Claim(claim)) => Ok(Answer::Claim(Claim {
-            mem: claim.mem,
-            regs: claim.regs,
-            ctl: claim.ctl,
-            output: output.copy(alloc)?,
-        })),
-        (_, answer) => Ok(answer),
-    }
-}
-
-impl<A: Answerer + Drop> Answerer for Scripted<A> {
-    ghost answers = { λ s. says s.manner (A.answers s.inner) };
+impl<A: Answerer + Drop, D: Digester> Answerer for Scripted<A, D> {
+    ghost answers = { λ s. says D.digest_of s.manner (A.answers s.inner) };
 
     fn answer<R: Threads + Sync>(
         &mut self,
@@ -68,17 +55,25 @@ impl<A: Answerer + Drop> Answerer for Scripted<A> {
         question: &Question,
         passes: u32,
     ) -> Result<Option<Answer>, Memory> {
+        let kind = question.kind;
+        if let Manner::Tape(tape) = &self.manner {
+            return written_copy(self.alloc, tape.as_slice(), question.qid);
+        }
         if waits(&self.manner, question, passes) {
             return Ok(None);
         }
         let answer = self.inner.answer(rt, question, passes)?;
         match (&self.manner, answer) {
-            (Manner::Output(output), Some(answer)) => Ok(Some(with_output(
-                self.alloc,
-                output,
-                question.kind,
-                answer,
+            (Manner::Output(output), Some(answer)) => {
+                Ok(Some(with_output(self.alloc, output, kind, answer)?))
+            }
+            (Manner::Forge { step, reg, value }, Some(answer)) => Ok(Some(with_forgery(
+                self.alloc, *step, *reg, *value, kind, answer,
             )?)),
+            (Manner::Noise { seed }, Some(answer)) => {
+                let root = noise(self.d, *seed, question.qid);
+                Ok(Some(with_roots(self.alloc, root, kind, answer)?))
+            }
             (_, answer) => Ok(answer),
         }
     }
