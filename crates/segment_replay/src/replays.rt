@@ -5,7 +5,7 @@ ghost use Rattle.segment_replay.specs.Roots.{root_at, digests};
 
 use crate::replaying::{committed_at, roots};
 use checkpoint_run::Run;
-use digest_core::{Digester, Sha256};
+use digest_core::{Digester, Sha256, Weak8};
 use rd_base::{Digest32, Memory};
 use state_commit::Committed;
 use std::alloc::Global;
@@ -42,6 +42,29 @@ pub trait Replays: Digester {
 }
 
 impl Replays for Sha256 {
+    fn roots_of<R: Threads + Sync>(
+        self,
+        rt: &R,
+        alloc: Global,
+        run: &Run,
+        steps: &[u64],
+        workers: u32,
+    ) -> Result<Vec<Digest32>, Memory> {
+        roots(rt, alloc, self, run, steps, workers)
+    }
+
+    fn committed_of<R: Threads + Sync>(
+        self,
+        rt: &R,
+        alloc: Global,
+        run: &Run,
+        step: u64,
+    ) -> Result<Committed<Self>, Memory> {
+        committed_at(rt, alloc, self, run, step)
+    }
+}
+
+impl Replays for Weak8 {
     fn roots_of<R: Threads + Sync>(
         self,
         rt: &R,
