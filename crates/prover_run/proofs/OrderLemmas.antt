@@ -1,6 +1,7 @@
 -- Answerers that were made script by script answer in their order.
 use Rattle.std.proofs.Common.{◌≡◌, ℕ, suc, ◌+◌, ◌-◌, List, [], ◌∷◌, ◌++◌, length, map, Option, Some, refl, subst, sym, arith, ap, ◌∙◌, length-append}
-use Rattle.std.specs.Prelude.{slice_get}
+use Rattle.std.specs.Prelude.{slice_get, slice_index_or, take, drop, ◌≤◌}
+use Rattle.std.proofs.Math.Seq.{take-length}
 use Rattle.rd_base.specs.declared.answer.Answer.{Answer}
 use Rattle.rd_base.specs.declared.script.Script.{Script}
 use Rattle.rv_step.specs.State.{State}
@@ -50,3 +51,19 @@ same_length f g (x ∷ xs) (y ∷ ys) same = ap suc (same_length f g xs ys (cc))
 -- as many as scripts
 pub as_many : {A B C : Type 0} (f : A → B) (g : C → B) (first xs : List A) (ys : List C) → first ≡ [] → map f xs ≡ map f first ++ map g ys → length xs ≡ length ys
 as_many f g first xs ys none same = same_length f g xs ys (behind_none f first xs (map g ys) none same)
+
+-- one that is put behind others, and then the rest behind it
+behind_both : {A B : Type 0} (f : A → B) (old : List A) (a : A) (b : B) (left : List B) → f a ≡ b → map f (old ++ a ∷ []) ++ left ≡ map f old ++ b ∷ left
+behind_both f [] a b left same = ap (λ (x : _). x ∷ left) same
+behind_both f (x ∷ old) a b left same = ap (λ (xs : _). f x ∷ xs) (behind_both f old a b left same)
+
+pub put_one : {A B C : Type 0} (f : A → B) (g : C → B) (old pushed all : List A) (a : A) (scripts : List C) (s : C) → 1 ≤ length scripts → s ≡ slice_index_or scripts 0 s → f a ≡ g s
+    → pushed ≡ old ++ a ∷ [] → map f all ≡ map f pushed ++ map g (take (length scripts - 1) (drop 1 scripts)) → map f all ≡ map f old ++ map g scripts
+put_one f g old pushed all a [] s some is same put rest = absurd (omega (arith, some))
+put_one f g old pushed all a (x ∷ xs) s some is same put rest =
+    let fewer : suc (length xs) - 1 ≡ length xs = omega arith in
+    rest
+    ∙ (ap (λ (n : ℕ). map f pushed ++ map g (take n xs)) fewer
+    ∙ (ap (λ (ys : List _). map f pushed ++ map g ys) (take-length xs)
+    ∙ (ap (λ (ys : List _). map f ys ++ map g xs) put
+    ∙ behind_both f old a (g x) (map g xs) (same ∙ ap g is))))

@@ -16,7 +16,7 @@ use Rattle.prover_run.specs.Plain.{plain_says}
 
 -- what a prover with a script says: what its manner makes of the plain answers of its run
 abbrev pub script_says : (List ℕ → List ℕ) → State → ℕ → Script → Question → ℕ → Option Answer
-script_says digest start bound script = says script.manner (plain_says digest (run_at script.tamper start) bound)
+script_says digest start bound script = says digest script.manner (plain_says digest (run_at script.tamper start) bound)
 
 -- the same where there is a script; who isn't there passes for ever
 abbrev pub said_by : (List ℕ → List ℕ) → State → ℕ → Option Script → Question → ℕ → Option Answer

@@ -20,17 +20,17 @@ fn answerer_of<D: Replays>(
     bound: u64,
     every: u32,
     workers: u32,
-) -> Result<Scripted<RunAnswerer<D>>, Memory>
+) -> Result<Scripted<RunAnswerer<D>, D>, Memory>
     requires chained { IsChained D.digest_of machine.now }
     requires silent { machine.now.output.items ≡ [] }
     requires bound { bound < 2 ^ 32 }
     requires every { 0 < every }
     requires workers { 0 < workers }
-    ensures { IfOk result (λ a. ⟦<Scripted<RunAnswerer<D>> as Answerer>⟧.answers a ≡ script_says D.digest_of (state_of machine.now) bound script.now) }
+    ensures { IfOk result (λ a. ⟦<Scripted<RunAnswerer<D>, D> as Answerer>⟧.answers a ≡ script_says D.digest_of (state_of machine.now) bound script.now) }
 {
     let inner = RunAnswerer::new(alloc, d, machine, bound, every, script.tamper, workers)?;
     let manner = script.manner.copy(alloc)?;
-    Ok(Scripted::new(alloc, inner, manner))
+    Ok(Scripted::new(alloc, d, inner, manner))
 }
 
 /// Puts the answerers of scripts behind others, in their order. An `Err` is out of memory, after some were put there.
@@ -42,14 +42,14 @@ fn put_answerers<D: Replays>(
     bound: u64,
     every: u32,
     workers: u32,
-    answerers: &mut Vec<Scripted<RunAnswerer<D>>>,
+    answerers: &mut Vec<Scripted<RunAnswerer<D>, D>>,
 ) -> Result<(), Memory>
     requires chained { IsChained D.digest_of machine.now }
     requires silent { machine.now.output.items ≡ [] }
     requires bound { bound < 2 ^ 32 }
     requires every { 0 < every }
     requires workers { 0 < workers }
-    ensures { OnOk result (map ⟦<Scripted<RunAnswerer<D>> as Answerer>⟧.answers answerers.new.items ≡ map ⟦<Scripted<RunAnswerer<D>> as Answerer>⟧.answers answerers.old.items ++ map (script_says D.digest_of (state_of machine.now) bound) scripts.now) }
+    ensures { OnOk result (map ⟦<Scripted<RunAnswerer<D>, D> as Answerer>⟧.answers answerers.new.items ≡ map ⟦<Scripted<RunAnswerer<D>, D> as Answerer>⟧.answers answerers.old.items ++ map (script_says D.digest_of (state_of machine.now) bound) scripts.now) }
 {
     let [script, rest @ ..] = scripts else {
         return Ok(());
@@ -71,14 +71,14 @@ pub fn answerers_of<D: Replays>(
     bound: u64,
     every: u32,
     workers: u32,
-) -> Result<Vec<Scripted<RunAnswerer<D>>>, Memory>
+) -> Result<Vec<Scripted<RunAnswerer<D>, D>>, Memory>
     requires chained { IsChained D.digest_of machine.now }
     requires silent { machine.now.output.items ≡ [] }
     requires bound { bound < 2 ^ 32 }
     requires every { 0 < every }
     requires workers { 0 < workers }
     ensures count { IfOk result (λ v. length v.items ≡ length scripts.now) }
-    ensures answers { IfOk result (λ v. AnswerAs ⟦<Scripted<RunAnswerer<D>> as Answerer>⟧.answers (case_says D.digest_of (state_of machine.now) bound scripts.now) 1 v.items) }
+    ensures answers { IfOk result (λ v. AnswerAs ⟦<Scripted<RunAnswerer<D>, D> as Answerer>⟧.answers (case_says D.digest_of (state_of machine.now) bound scripts.now) 1 v.items) }
 {
     let mut answerers = Vec::new(alloc);
     put_answerers(

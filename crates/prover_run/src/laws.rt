@@ -1,12 +1,16 @@
 //! Laws of what provers say, each of them the contract of a function that does nothing.
-ghost use Rattle.std.specs.Prelude.{◌≡◌, ◌≤◌, ◌<◌, ℕ, ◌-◌, List, Some, slice_get};
+ghost use Rattle.std.specs.Prelude.{◌≡◌, ◌≤◌, ◌<◌, ℕ, ◌-◌, List, Some, slice_get, slice_index, min, false};
 ghost use Rattle.rd_base.specs.declared.script.Script.{Script};
-ghost use Rattle.rd_base.specs.declared.script.Manner.TheVariants.{Plain, Late, Silent, Output};
+ghost use Rattle.rd_base.specs.declared.script.Manner.TheVariants.{Plain, Late, Silent, Output, Forge, Noise, Tape};
+ghost use Rattle.rd_base.specs.declared.tape.TapeAnswer.{TapeAnswer};
+ghost use Rattle.rd_base.specs.declared.tamper.Tamper.{Tamper};
 ghost use Rattle.rd_base.specs.declared.tamper.Tamper.TheVariants.{Untouched};
 ghost use Rattle.rv_step.specs.State.{State};
 ghost use Rattle.rv_step.specs.Step.{state_at};
+ghost use Rattle.bisect_game.specs.declared.question.Kind.TheVariants as kind;
 ghost use Rattle.bisect_game.specs.declared.question.Question.{Question};
 ghost use Rattle.prover_run.specs.Plain.{plain};
+ghost use Rattle.prover_script.specs.Manners.{IsSteady, asks_roots, written};
 ghost use Rattle.prover_run.specs.CaseScripts.{script_says, case_says};
 ghost use Rattle.prover_run.specs.Growing.{OutputGrowsSlowly};
 
@@ -34,3 +38,23 @@ pub fn untouched_provers()
 {
     tampered_runs();
 }
+
+/// Where nothing is wrong with its run, a prover gives the plain answers of the machine's own run with a manner that changes
+/// nothing of them: with a forgery that shows what the register holds, where it is asked for the proof of that step (`forge`), and
+/// with noise where it is asked for no root (`noise`). One with a tape says what is written down for the question, whatever its run (`tape`).
+pub fn harmless_manners()
+    ensures forge { (digest : List ℕ → List ℕ) (start : State) (bound step reg value : ℕ) (q : Question) (passes : ℕ) → (q.kind ≡ kind.Proof step → slice_index (state_at start (min step bound)).regs reg ≡ value) →
+        script_says digest start bound (record { tamper = Untouched; manner = Forge step reg value }) q passes ≡ Some (plain digest (state_at start) bound q.kind) }
+    ensures noise { (digest : List ℕ → List ℕ) (start : State) (bound seed : ℕ) (q : Question) (passes : ℕ) → asks_roots q.kind ≡ false →
+        script_says digest start bound (record { tamper = Untouched; manner = Noise seed }) q passes ≡ Some (plain digest (state_at start) bound q.kind) }
+    ensures tape { (digest : List ℕ → List ℕ) (start : State) (bound : ℕ) (tamper : Tamper) (entries : List TapeAnswer) (q : Question) (passes : ℕ) →
+        script_says digest start bound (record { tamper = tamper; manner = Tape entries }) q passes ≡ written entries q.qid }
+{
+    tampered_runs();
+}
+
+/// Each prover of a case stays with its answer: once it has given it, it gives it after more passes too.
+#[tactic(auto, using(crate::specs::OneAnswer::case_provers_are_steady))]
+pub fn provers_are_steady()
+    ensures { (digest : List ℕ → List ℕ) (start : State) (bound : ℕ) (scripts : List Script) (p : ℕ) → IsSteady (case_says digest start bound scripts p) }
+{}

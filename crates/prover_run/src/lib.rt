@@ -4,7 +4,7 @@
 //! machine's own with what a tamper does to it, and no call changes what it answers, not even one that runs out of
 //! memory; `CaseProvers` tells what each prover of a case says, by its script (`specs/CaseScripts.antt`), and where it
 //! waits; `answerers_of` makes the answerers that say so. What an untouched script says in the words of the sequential run
-//! is in `laws`.
+//! is in `laws`, and that each prover stays with its answer.
 //!
 //! Which roots are asked of a run in one go, and in which order, says `specs/Middles.antt`; no answer depends on it. They are
 //! asked in ascending order, so that one tree of memory is moved on from step to step. That a run is recorded once and each
@@ -20,7 +20,7 @@ mod prover;
 mod provers;
 
 pub use answerers::answerers_of;
-pub use laws::{outputs_grow_slowly, untouched_provers};
+pub use laws::{harmless_manners, outputs_grow_slowly, provers_are_steady, untouched_provers};
 pub use middles::{Asked, asked_with};
 pub use prover::RunAnswerer;
 pub use provers::{CaseNames, CaseProvers};

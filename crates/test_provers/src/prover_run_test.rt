@@ -11,7 +11,7 @@ use prover_run::{Asked, CaseProvers, RunAnswerer, answerers_of, asked_with};
 use prover_script::Scripted;
 use rd_base::{
     Answer, ClaimOutput, Digest32, FirstSilentRound, Manner, Memory, PassCount, Proof, Qid, Script,
-    Tamper,
+    Tamper, Tape, TapeAnswer,
 };
 use rv_step::Machine;
 use std::alloc::Global;
@@ -221,10 +221,20 @@ fn untouched(manner: Manner) -> Script {
     }
 }
 
+/// A tape with a root of ones for round 1.
+fn tape_of_round_1(alloc: Global) -> Result<Option<Tape>, Memory> {
+    let qid = Qid {
+        dispute: 1,
+        round: 1,
+    };
+    let answer = Answer::Root(Digest32([1; 32]));
+    Ok(Tape::new(vec![in alloc; TapeAnswer { qid, answer }]?))
+}
+
 /// Scripts of an honest prover, of one that passes twice, of one that is silent from round 2 on, of one that claims the output
-/// `2b`, and of one with a flipped byte.
-fn five_scripts(alloc: Global) -> Result<Vec<Script>, Memory>
-    ensures { IfOk result (λ v. length v.items ≤ 5) }
+/// `2b`, of one with a flipped byte, of one that makes noise, and of one with a tape.
+fn seven_scripts(alloc: Global) -> Result<Vec<Script>, Memory>
+    ensures { IfOk result (λ v. length v.items ≤ 7) }
 {
     let output = ClaimOutput::new(vec![in alloc; 0x2b]?).map_or(Manner::Plain, Manner::Output);
     let flipped = Script {
@@ -235,18 +245,21 @@ fn five_scripts(alloc: Global) -> Result<Vec<Script>, Memory>
         },
         manner: Manner::Plain,
     };
+    let tape = tape_of_round_1(alloc)?.map_or(Manner::Plain, Manner::Tape);
     Ok(vec![in alloc;
         untouched(Manner::Plain),
         untouched(PassCount::new(2).map_or(Manner::Plain, Manner::Late)),
         untouched(FirstSilentRound::new(2).map_or(Manner::Plain, Manner::Silent)),
         untouched(output),
         flipped,
+        untouched(Manner::Noise { seed: 7 }),
+        untouched(tape),
     ]?)
 }
 
 /// The provers of the eight steps with these scripts.
 fn provers_with(alloc: Global, scripts: &[Script]) -> Result<CaseProvers<Sha256>, Memory>
-    requires { length scripts.now ≤ 5 }
+    requires { length scripts.now ≤ 7 }
 {
     let machine = eight_steps(alloc)?;
     CaseProvers::new(alloc, Sha256, scripts, &machine, 8)
@@ -256,7 +269,7 @@ fn provers_with(alloc: Global, scripts: &[Script]) -> Result<CaseProvers<Sha256>
 fn answerers_with(
     alloc: Global,
     scripts: &[Script],
-) -> Result<Vec<Scripted<RunAnswerer<Sha256>>>, Memory> {
+) -> Result<Vec<Scripted<RunAnswerer<Sha256>, Sha256>>, Memory> {
     let machine = eight_steps(alloc)?;
     answerers_of(alloc, Sha256, scripts, &machine, 8, 1024, 1)
 }
@@ -271,21 +284,49 @@ const LAST: Option<u64> = Some(0x82f8_4640_36cd_320e);
 
 const WRONG_LAST: Option<u64> = Some(0x6f4b_45ac_af74_9e01);
 
+/// How SHA-256 of `06 07000000 01000000 01000000` begins, and of the same with `02000000` in place of the last number.
+const NOISE: Option<u64> = Some(0x522e_c3e0_9cd4_1b97);
+
+const MORE_NOISE: Option<u64> = Some(0xb8b9_1e2a_b845_8929);
+
+/// How the root on the tape begins.
+const ONES: Option<u64> = Some(0x0101_0101_0101_0101);
+
 /// A round, what is asked in it, the passes on it so far, and how the roots begin that the answers stand for; none is a pass.
-type Said = (u32, Kind, u32, [Option<u64>; 5]);
+type Said = (u32, Kind, u32, [Option<u64>; 7]);
 
 const SAID: [Said; 4] = [
-    (0, Kind::Claim, 0, [LAST, None, LAST, Some(0), WRONG_LAST]),
-    (1, Kind::Root(4), 1, [RIGHT, None, RIGHT, RIGHT, WRONG]),
-    (1, Kind::Root(4), 2, [RIGHT, RIGHT, RIGHT, RIGHT, WRONG]),
-    (2, Kind::Root(4), 0, [RIGHT, None, None, RIGHT, WRONG]),
+    (
+        0,
+        Kind::Claim,
+        0,
+        [LAST, None, LAST, Some(0), WRONG_LAST, LAST, None],
+    ),
+    (
+        1,
+        Kind::Root(4),
+        1,
+        [RIGHT, None, RIGHT, RIGHT, WRONG, NOISE, ONES],
+    ),
+    (
+        1,
+        Kind::Root(4),
+        2,
+        [RIGHT, RIGHT, RIGHT, RIGHT, WRONG, NOISE, ONES],
+    ),
+    (
+        2,
+        Kind::Root(4),
+        0,
+        [RIGHT, None, None, RIGHT, WRONG, MORE_NOISE, None],
+    ),
 ];
 
 /// Whether the answerers answer so, and the provers wait where they pass.
 fn is_said<R: Threads + Sync>(
     rt: &R,
     provers: &CaseProvers<Sha256>,
-    answerers: &mut [Scripted<RunAnswerer<Sha256>>],
+    answerers: &mut [Scripted<RunAnswerer<Sha256>, Sha256>],
     said: Said,
 ) -> Result<bool, Memory>
     requires { IsSync R.row }
@@ -293,7 +334,7 @@ fn is_said<R: Threads + Sync>(
     let (round, kind, passes, wanted) = said;
     let question = asked(round, kind);
     for (k, answerer) in answerers.iter_mut().enumerate() {
-        let k = k.min(4);
+        let k = k.min(6);
         let p = k as u32 + 1;
         let answer = answerer.answer(rt, &question, passes)?;
         if answer.as_ref().map(root_in) != wanted[k] {
@@ -308,7 +349,7 @@ fn is_said<R: Threads + Sync>(
 
 /// How many provers and answerers these scripts make.
 fn counts(alloc: Global, scripts: &[Script]) -> Result<(u32, usize), Memory>
-    requires { length scripts.now ≤ 5 }
+    requires { length scripts.now ≤ 7 }
 {
     let provers = provers_with(alloc, scripts)?;
     let answerers = answerers_with(alloc, scripts)?;
@@ -322,12 +363,12 @@ fn may_be_sent<T: Send>(_sent: &T) {}
 /// That threads may hold them is proved where they are handed to one.
 #[test]
 fn each_prover_answers_by_its_script(rt: HostRuntime) -> Result<(), Fail> {
-    let scripts = five_scripts(rt.alloc())?;
+    let scripts = seven_scripts(rt.alloc())?;
     let provers = provers_with(rt.alloc(), &scripts)?;
     let mut answerers = answerers_with(rt.alloc(), &scripts)?;
     may_be_shared(&provers);
     may_be_sent(&answerers);
-    assert_eq!(rt; counts(rt.alloc(), &scripts)?, (5, 5));
+    assert_eq!(rt; counts(rt.alloc(), &scripts)?, (7, 7));
     for said in SAID {
         assert!(rt; is_said(&rt, &provers, &mut answerers, said)?);
     }
