@@ -143,9 +143,11 @@ book-posted rules says count es st u room capacity wide p qid m e b some moves e
     record {
       playable = b.playable;
       counted = b.counted;
+      few = b.few;
       legal = journal-last rules says es e (begun rules) b.legal (rw (← b.state) at entry);
       state = last ∙ (on ∙ sym turned);
       most = b.most;
+      small = b.small;
       capacity_ = rw ew b.capacity_;
     }
 
@@ -211,14 +213,16 @@ book-safe safe rules says count es st room capacity b fair t p run low high trut
 
 -- the empty book
 
-pub book-begun : (ruling : Ruling) (t : Setup) (says : Says) (count : ℕ) (es : List Entry) (room capacity : ℕ) → 0 < count → 0 < t.bound → 1 < t.fan → t.fan ≤ 16 → t.provers ≡ count → es ≡ [] →
+pub book-begun : (ruling : Ruling) (t : Setup) (says : Says) (count : ℕ) (es : List Entry) (room capacity : ℕ) → 0 < count → count ≤ 16 → 0 < t.bound → 1 < t.fan → t.fan ≤ 16 → t.provers ≡ count → es ≡ [] → room < 2 ^ 32 →
     ((k : ℕ) × IsMost t.fan t.bound k × (room ≡ (t.patience + 1) * (t.provers + 2 * (t.provers - 1) * (k + 1)))) → room ≤ capacity →
     IsBook (rules_of ruling t) says count es (begun (rules_of ruling t)) room capacity
-book-begun ruling t says count es room capacity some steps parted few many none most fits = record {
+book-begun ruling t says count es room capacity some sixteen steps parted few many none small most fits = record {
   playable = record { some = omega (arith, many, some); parted = parted; few_parts = few; steps = steps };
   counted = many;
+  few = sixteen;
   legal = rw none tt;
   state = rw none refl;
   most = most;
+  small = small;
   capacity_ = fits;
 }

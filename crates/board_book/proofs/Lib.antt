@@ -1,1 +1,4 @@
 pub mod BookLemmas
+pub mod AloneLemmas
+pub mod KeepingLemmas
+pub mod FinishLemmas

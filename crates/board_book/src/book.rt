@@ -117,6 +117,14 @@ impl<J: Judge + Drop, P: Provers + Drop> Book<J, P> {
         })
     }
 
+    /// The numbers by which the match is played.
+    pub fn setup(&self) -> Setup
+        ensures value { result ≡ self.now.0.2 }
+        ensures few { self.now.0.2.provers ≤ 16 }
+    {
+        self.game.setup()
+    }
+
     /// The posts that weren't stale, in their order.
     pub fn journal(&self) -> &[Entry]
         ensures { result.now ≡ self.now.1 }
@@ -183,6 +191,16 @@ impl<J: Judge + Drop, P: Provers + Drop> Book<J, P> {
         ensures state { let rules = rules_of (J.ruling self.now.0.0) self.now.0.2 in state_after rules (P.says self.now.0.1) self.now.1 ≡ self.now.2 }
     {
         let _ = &self.room;
+    }
+
+    /// The most entries that a legal journal can have. The book has memory for them.
+    pub fn room(&self) -> u64
+        ensures most { let rules = rules_of (J.ruling self.now.0.0) self.now.0.2 in (k : ℕ) × IsMost rules.fan rules.bound k × (result ≡ most_entries rules k) }
+        ensures holds { length self.now.1 ≤ result }
+        ensures few { result < 2 ^ 32 }
+    {
+        spare_is_enough();
+        self.room
     }
 
     /// How many entries can come at most: together with the journal they are the most that a legal journal can have.

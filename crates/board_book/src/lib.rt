@@ -1,14 +1,26 @@
-//! The book of a match: the match, its journal and its provers under one invariant.
+//! The book of a match: the match, its journal and its provers under one invariant; and the books of many matches, called tasks, with
+//! one journal of all of them.
 //!
 //! The layers above may rely on this: the journal of a book is legal, the match is the state of that journal, and nothing
 //! that comes needs memory (`Book::is_legal`, `Book::spare`); a complete book has the record of its case, in whatever order
 //! the posts came (`Book::has_the_record_of_the_case`), a truthful prover is safe (`Book::keeps_truthful_provers`), and rounds
-//! are few (`Book::has_few_disputes_and_rounds`). Read `entry` first, then `book`.
+//! are few (`Book::has_few_disputes_and_rounds`).
+//!
+//! Of many books: the joint journal is legal, entry by entry, where the entry's task stands, and the entries of a task are the journal
+//! of that task's own book (`Books::is_legal`). Each task is alone: its entries are a legal journal of it, and fix what it asks, what a
+//! post is answered and its record (`tasks_are_alone`). The memory of all tasks is taken at the opening.
+//!
+//! Read `entry` first, then `book`, `specs/Tasks.antt`, `specs/Alone.antt` and `books`.
 #![tactic(auto)]
 
 mod book;
+mod books;
 mod entry;
+mod growing;
+mod laws;
 mod room;
 
 pub use book::Book;
+pub use books::Books;
 pub use entry::{Ask, Entry};
+pub use laws::tasks_are_alone;

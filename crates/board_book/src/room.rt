@@ -28,7 +28,8 @@ fn entries_for(setup: Setup, rounds: u64) -> u64
     requires few { setup.provers ≤ 16 }
     requires patience { setup.patience ≤ 100 }
     requires rounds { rounds < 36 }
-    ensures { result ≡ (setup.patience + 1) * (setup.provers + 2 * (setup.provers - 1) * (rounds + 1)) }
+    ensures few { result < 2 ^ 32 }
+    ensures value { result ≡ (setup.patience + 1) * (setup.provers + 2 * (setup.provers - 1) * (rounds + 1)) }
 {
     let provers = u64::from(setup.provers);
     (u64::from(setup.patience) + 1) * (provers + 2 * (provers - 1) * (rounds + 1))
@@ -43,7 +44,8 @@ pub(crate) fn most_entries(setup: Setup) -> u64
     requires parted { 1 < setup.fan }
     requires few_parts { setup.fan ≤ 16 }
     requires patience { setup.patience ≤ 100 }
-    ensures { (k : _) × IsMost setup.fan setup.bound k × (result ≡ (setup.patience + 1) * (setup.provers + 2 * (setup.provers - 1) * (k + 1))) }
+    ensures few { result < 2 ^ 32 }
+    ensures most { (k : _) × IsMost setup.fan setup.bound k × (result ≡ (setup.patience + 1) * (setup.provers + 2 * (setup.provers - 1) * (k + 1))) }
 {
     entries_for(setup, most_rounds(setup.bound, setup.fan))
 }

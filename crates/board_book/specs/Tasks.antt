@@ -1,0 +1,87 @@
+-- To believe: many tasks, each a match of its own, and one journal of all of them. An entry moves one task, and leaves the others as they stand.
+use Rattle.std.specs.Prelude.{◌≡◌, ℕ, ◌-◌, ◌==◌, List, [], ◌∷◌, map, Option, Some, None, slice_get, if◌then◌else◌}
+use Rattle.std.specs.Option.{option_map}
+use Rattle.bisect_game.specs.Says.{Says}
+use Rattle.bisect_game.specs.Ruling.{Ruling}
+use Rattle.bisect_game.specs.Rules.{Rules}
+use Rattle.tournament.specs.declared.setup.Setup.{Setup}
+use Rattle.tournament.specs.Bracket.{open_question}
+use Rattle.tournament.specs.Moves.{MatchState, begun}
+use Rattle.tournament.specs.Journals.{turn_on}
+use Rattle.tournament.specs.Posting.{rules_of}
+use Rattle.board_book.specs.declared.entry.Entry.{Entry}
+use Rattle.board_book.specs.Entries.{IsEntry}
+
+-- a task: by what its match is played, and what its provers say
+pub record Task : Type 0 where
+  pub rules : Rules
+  pub says : Says
+
+-- the task of an opening: the names of judge and provers, and the numbers of the match
+abbrev pub task_of : {N M : Type 0} → (N → Ruling) → (M → Says) → N × M × Setup → Task
+task_of ruling says opening = record { rules = rules_of (ruling opening.0) opening.2; says = says opening.1 }
+
+-- what contracts see of a book: its opening, its journal and the state of its match
+abbrev pub BookOf : Type 0 → Type 0 → Type 0
+BookOf N M = (N × M × Setup) × (List Entry) × MatchState
+
+module _ {N M : Type 0} where
+  -- the openings of books
+  abbrev pub openings : List (BookOf N M) → List (N × M × Setup)
+  openings = map (λ (b : BookOf N M). b.0)
+
+  -- their tasks
+  abbrev pub tasks_of : (N → Ruling) → (M → Says) → List (N × M × Setup) → List Task
+  tasks_of ruling says = map (task_of ruling says)
+
+-- the element of a number, of a list that is counted from 1; None where there is none
+abbrev pub numbered : {A : Type 0} → List A → ℕ → Option A
+numbered xs t = if t == 0 then None else slice_get xs (t - 1)
+
+-- a task in play: its match has come to this state
+pub record Game : Type 0 where
+  pub task : Task
+  pub state : MatchState
+
+-- the games of all tasks, by the task's number
+abbrev pub Games : Type 0
+Games = ℕ → Option Game
+
+abbrev pub begun_game : Task → Game
+begun_game k = record { task = k; state = begun k.rules }
+
+abbrev pub games_of : List Task → Games
+games_of tasks t = option_map begun_game (numbered tasks t)
+
+-- the prover moves, as it says, on its open question
+abbrev pub turned : ℕ → Game → Game
+turned p g = record { task = g.task; state = turn_on g.task.rules g.task.says g.state p (open_question g.task.rules g.state.record_ p) }
+
+-- the games after an entry of one of them
+abbrev pub after_entry : ℕ × Entry → Games → Games
+after_entry x games t = if t == x.0 then option_map (turned x.1.p) (games t) else games t
+
+-- an entry is legal where its task is there, and where it is legal in the state of that task's match
+pub record IsTaskEntry (games : Games) (x : ℕ × Entry) : Type 0 where
+  pub game : Game
+  pub there : games x.0 ≡ Some game
+  pub entry : IsEntry game.task.rules game.task.says game.state x.1
+
+-- a legal journal of all tasks, from these games on
+abbrev pub IsTaskJournal : List (ℕ × Entry) → Games → Type 0
+IsTaskJournal [] games = Unit {0}
+IsTaskJournal (x ∷ xs) games = IsTaskEntry games x × IsTaskJournal xs (after_entry x games)
+
+-- the games to which it comes
+abbrev pub games_after : List (ℕ × Entry) → Games → Games
+games_after [] games = games
+games_after (x ∷ xs) games = games_after xs (after_entry x games)
+
+-- the entries of one task, in their order
+abbrev pub entries_of : ℕ → List (ℕ × Entry) → List Entry
+entries_of t [] = []
+entries_of t (x ∷ xs) = if t == x.0 then x.1 ∷ entries_of t xs else entries_of t xs
+
+-- entries as those of task t
+abbrev pub of_task : ℕ → List Entry → List (ℕ × Entry)
+of_task t es = map (λ (e : Entry). (t, e)) es

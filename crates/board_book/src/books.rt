@@ -1,0 +1,226 @@
+//! The books of many tasks.
+ghost use denote.Param.Send.{IsSync};
+ghost use Rattle.std.specs.Prelude.{◌≡◌, ℕ, ◌+◌, ◌-◌, ◌<◌, ◌≤◌, ◌++◌, [], ◌∷◌, true, set, take, map, List, Some, IfOk, length};
+ghost use Rattle.std.specs.List.{All};
+ghost use Rattle.bisect_game.specs.declared.question.Question.{Question};
+ghost use Rattle.bisect_game.specs.Says.{AnswerAs};
+ghost use Rattle.tournament.specs.Bracket.{open_question, is_complete};
+ghost use Rattle.tournament.specs.Moves.{passes_of};
+ghost use Rattle.tournament.specs.Posting.{rules_of, answer_of, same_qid};
+ghost use Rattle.board_book.specs.declared.entry.Entry.{Entry};
+ghost use Rattle.board_book.specs.Asking.{ask_on};
+ghost use Rattle.board_book.specs.Tasks.{numbered, games_of, IsTaskJournal, entries_of, BookOf, of_task, openings, tasks_of};
+ghost use Rattle.board_book.specs.Keeping.{HasRoom};
+ghost use Rattle.board_book.specs.Playing.{sayings, PostedTo};
+
+use crate::book::Book;
+use crate::entry::{Ask, Entry};
+use crate::growing::{finish_book, note_from, post_to};
+use bisect_game::{Answerer, Judge, Provers};
+use rd_base::{Memory, Qid};
+use std::alloc::Global;
+use std::marker::Model;
+use std::thread::Threads;
+use tournament::{Move, Reply};
+
+/// The books of 1 to 8 tasks, numbered from 1, and the one journal of all of them.
+///
+/// Contracts see the books, each with its opening, its journal and its state, and the journal of all. No call changes an opening.
+#[derive(Drop)]
+pub struct Books<J: Judge + Drop, P: Provers + Drop> {
+    books: Vec<Book<J, P>>,
+    journal: Vec<(u32, Entry)>,
+}
+
+impl<J: Judge + Drop, P: Provers + Drop> Model for Books<J, P> {
+    ghost use Rattle.std.specs.Prelude.{ℕ, vec_capacity, List};
+    ghost use Rattle.board_book.specs.declared.entry.Entry.{Entry};
+    ghost use Rattle.board_book.specs.Tasks.{BookOf};
+    ghost use Rattle.board_book.specs.Keeping.{AreKept};
+
+    ghost Value = { List (BookOf J.Names P.Names) × List (ℕ × Entry) };
+
+    ghost view = { λ b. (b.books.items, b.journal.items) };
+
+    ghost invariant = { λ b. AreKept J.ruling P.says b.books.items b.journal.items (vec_capacity b.journal) };
+}
+
+// The most entries of these books together.
+fn room_of<J: Judge + Drop, P: Provers + Drop>(books: &[Book<J, P>]) -> u64
+    requires few { length books.now ≤ 8 }
+    ensures { HasRoom books.now result }
+{
+    let mut total = 0;
+    for book in books {
+        total += book.room();
+    }
+    total
+}
+
+impl<J: Judge + Drop, P: Provers + Drop> Books<J, P> {
+    /// The books of 1 to 8 tasks, each with an empty journal. It takes the memory of the joint journal, with room for all that can come
+    /// of all tasks. An `Err` is out of memory; the books are then dropped.
+    pub fn open(alloc: Global, books: Vec<Book<J, P>>) -> Result<Books<J, P>, Memory>
+        requires some { 0 < length books.items }
+        requires few { length books.items ≤ 8 }
+        requires empty { All (λ b. b.1 ≡ []) books.items }
+        ensures { IfOk result (λ made. made ≡ (books.items, [])) }
+    {
+        let room = room_of(books.as_slice());
+        let journal = Vec::with_capacity(alloc, room as usize)?;
+        Ok(Books { books, journal })
+    }
+
+    /// The book of one task, with the entries that it has. It takes the memory of the joint journal. An `Err` is out of memory; the book
+    /// is then dropped.
+    pub fn one(alloc: Global, book: Book<J, P>) -> Result<Books<J, P>, Memory>
+        ensures { IfOk result (λ made. made ≡ (book ∷ [], of_task 1 book.1)) }
+    {
+        book.is_legal();
+        let mut books = Vec::with_capacity(alloc, 1)?;
+        books.push_reserved(book);
+        let room = room_of(books.as_slice());
+        let mut journal = Vec::with_capacity(alloc, room as usize)?;
+        note_from(&mut journal, 1, books[0].journal(), 0);
+        Ok(Books { books, journal })
+    }
+
+    /// The book of task `t`, from 1 to their count.
+    pub fn book(&self, t: u32) -> &Book<J, P>
+        requires some { 0 < t }
+        requires few { t ≤ length self.now.0 }
+        ensures { numbered self.now.0 t ≡ Some result.now }
+    {
+        &self.books[t as usize - 1]
+    }
+
+    /// How many tasks there are.
+    pub fn count(&self) -> u32
+        ensures value { result ≡ length self.now.0 }
+        ensures few { length self.now.0 ≤ 8 }
+    {
+        self.books.len() as u32
+    }
+
+    /// The posts that weren't stale, of all tasks in their order, each with its task.
+    pub fn journal(&self) -> &[(u32, Entry)]
+        ensures { result.now ≡ self.now.1 }
+    {
+        self.journal.as_slice()
+    }
+
+    /// The books, in order of the tasks. It takes no memory.
+    pub fn into_list(self) -> Vec<Book<J, P>>
+        ensures { result.items ≡ self.0 }
+    {
+        let Books { books, .. } = self;
+        books
+    }
+
+    /// The journal is legal, and the entries of each task are the journal of its book.
+    pub fn is_legal(&self)
+        ensures some { 0 < length self.now.0 }
+        ensures legal { IsTaskJournal self.now.1 (games_of (tasks_of J.ruling P.says (openings self.now.0))) }
+        ensures own { (t : ℕ) (b : BookOf J.Names P.Names) → numbered self.now.0 t ≡ Some b → entries_of t self.now.1 ≡ b.1 }
+    {
+        let _ = &self.journal;
+    }
+
+    /// What prover `p` of task `t` is asked, as of that task's book.
+    pub fn ask(&self, t: u32, p: u32) -> Ask
+        requires task { 0 < t }
+        requires tasks { t ≤ length self.now.0 }
+        requires some { 0 < p }
+        requires few { (b : BookOf J.Names P.Names) → numbered self.now.0 t ≡ Some b → p ≤ b.0.2.provers }
+        ensures { (b : BookOf J.Names P.Names) × (numbered self.now.0 t ≡ Some b) × (result ≡ ask_on b.2 p (open_question (rules_of (J.ruling b.0.0) b.0.2) b.2.record_ p)) }
+    {
+        self.book(t).ask(p)
+    }
+
+    /// A post of prover `p` of task `t`, to that task's book. Its move is what the prover says at that point, or the question is stale.
+    /// It takes no memory. The journal is longer by exactly this entry, or as it was where the reply is `Stale`; the other books stay.
+    pub fn post(&mut self, t: u32, p: u32, qid: Qid, turn: Move) -> Reply
+        requires task { 0 < t }
+        requires tasks { t ≤ length self.old.0 }
+        requires some { 0 < p }
+        requires few { (b : BookOf J.Names P.Names) → numbered self.old.0 t ≡ Some b → p ≤ b.0.2.provers }
+        requires says { (b : BookOf J.Names P.Names) → numbered self.old.0 t ≡ Some b → (q : Question) → open_question (rules_of (J.ruling b.0.0) b.0.2) b.2.record_ p ≡ Some q → same_qid q.qid qid ≡ true → answer_of turn ≡ P.says b.0.1 p q (passes_of b.2 p) }
+        ensures openings { openings self.new.0 ≡ openings self.old.0 }
+        ensures posts { PostedTo J.ruling self.old.0 self.old.1 t p qid (answer_of turn) result self.new.0 self.new.1 }
+    {
+        let place = t as usize - 1;
+        let before = self.books[place].journal().len();
+        let reply = post_to(&mut self.books[place], p, qid, turn);
+        note_from(&mut self.journal, t, self.books[place].journal(), before);
+        reply
+    }
+
+    /// Plays the match of task `t` out on one thread, with one answerer for each of its provers.
+    fn finish_task<R: Threads + Sync, A: Answerer>(
+        &mut self,
+        rt: &R,
+        t: u32,
+        answerers: &mut [A],
+    ) -> Result<(), Memory>
+        requires sync { IsSync R.row }
+        requires task { 0 < t }
+        requires tasks { t ≤ length self.old.0 }
+        requires count { (b : BookOf J.Names P.Names) → numbered self.old.0 t ≡ Some b → length answerers.old ≡ b.0.2.provers }
+        requires says { (b : BookOf J.Names P.Names) → numbered self.old.0 t ≡ Some b → AnswerAs A.answers (P.says b.0.1) 1 answerers.old }
+        ensures keeps { (b : BookOf J.Names P.Names) → numbered self.old.0 t ≡ Some b → AnswerAs A.answers (P.says b.0.1) 1 answerers.new }
+        ensures books { (b : BookOf J.Names P.Names) × (numbered self.old.0 t ≡ Some b) × ((c : BookOf J.Names P.Names) × (c.0 ≡ b.0) × (self.new.0 ≡ set self.old.0 (t - 1) c) × IfOk result (λ _. is_complete c.2.record_ ≡ true)) }
+        ensures prefix { (xs : List (ℕ × Entry)) × (self.new.1 ≡ self.old.1 ++ xs) }
+    {
+        let place = t as usize - 1;
+        let before = self.books[place].journal().len();
+        let ended = finish_book(rt, &mut self.books[place], answerers);
+        note_from(&mut self.journal, t, self.books[place].journal(), before);
+        ended
+    }
+
+    // Plays the match of task `t` out, with its part of the answerers of all, from this place on. Answers the place of the next part.
+    fn finish_part<R: Threads + Sync, A: Answerer>(
+        &mut self,
+        rt: &R,
+        t: u32,
+        from: usize,
+        answerers: &mut [A],
+    ) -> Result<usize, Memory>
+        requires sync { IsSync R.row }
+        requires task { 0 < t }
+        requires tasks { t ≤ length self.old.0 }
+        requires says { map A.answers answerers.old ≡ sayings P.says (openings self.old.0) }
+        requires from { from ≡ length (sayings P.says (take (t - 1) (openings self.old.0))) }
+        ensures next { IfOk result (λ next. next ≡ length (sayings P.says (take t (openings self.old.0)))) }
+        ensures keeps { map A.answers answerers.new ≡ map A.answers answerers.old }
+        ensures books { (b : BookOf J.Names P.Names) × (numbered self.old.0 t ≡ Some b) × ((c : BookOf J.Names P.Names) × (c.0 ≡ b.0) × (self.new.0 ≡ set self.old.0 (t - 1) c) × IfOk result (λ _. is_complete c.2.record_ ≡ true)) }
+        ensures prefix { (xs : List (ℕ × Entry)) × (self.new.1 ≡ self.old.1 ++ xs) }
+    {
+        let provers = self.book(t).setup().provers as usize;
+        let (_, rest) = answerers.split_at_mut(from);
+        let (own, _) = rest.split_at_mut(provers);
+        self.finish_task(rt, t, own)?;
+        Ok(from + provers)
+    }
+
+    /// Plays all matches out on one thread, task after task, with one answerer for each prover, which answers as that prover. Provers are
+    /// numbered through all tasks, in order of the tasks. An answerer may find no memory: the books are then legal ones, part played.
+    pub fn finish_alone<R: Threads + Sync, A: Answerer>(
+        &mut self,
+        rt: &R,
+        answerers: &mut [A],
+    ) -> Result<(), Memory>
+        requires sync { IsSync R.row }
+        requires says { map A.answers answerers.old ≡ sayings P.says (openings self.old.0) }
+        ensures openings { openings self.new.0 ≡ openings self.old.0 }
+        ensures keeps { map A.answers answerers.new ≡ map A.answers answerers.old }
+        ensures prefix { (xs : List (ℕ × Entry)) × (self.new.1 ≡ self.old.1 ++ xs) }
+        ensures complete { IfOk result (λ _. All (λ b. is_complete b.2.record_ ≡ true) self.new.0) }
+    {
+        let mut from = 0;
+        for i in 0..self.count() {
+            from = self.finish_part(rt, i + 1, from, answerers)?;
+        }
+        Ok(())
+    }
+}
