@@ -28,33 +28,33 @@ pass-back : (b : Bool) → pass_of (number_of_pass b) ≡ b
 pass-back true = refl
 pass-back false = refl
 
-abbrev entry_of : Entry → List ℕ → Entry
-entry_of d (p ∷ dispute ∷ round ∷ pass ∷ reply) = record { p = p; qid = record { dispute = dispute; round = round }; pass = pass_of pass; reply = reply_of reply }
+abbrev entry_of : ℕ × Entry → List ℕ → ℕ × Entry
+entry_of d (t ∷ p ∷ dispute ∷ round ∷ pass ∷ reply) = (t, record { p = p; qid = record { dispute = dispute; round = round }; pass = pass_of pass; reply = reply_of reply })
 entry_of d _ = d
 
-entry-back : (d e : Entry) → entry_of d (numbers_of e) ≡ e
-entry-back d e = ap₂ (λ (b : Bool) (r : Reply). record { p = e.p; qid = e.qid; pass = b; reply = r }) (pass-back e.pass) (reply-back e.reply)
+entry-back : (d x : ℕ × Entry) → entry_of d (numbers_of x) ≡ x
+entry-back d x = ap₂ (λ (b : Bool) (r : Reply). (x.0, record { p = x.1.p; qid = x.1.qid; pass = b; reply = r })) (pass-back x.1.pass) (reply-back x.1.reply)
 
-abbrev entries_of : Entry → List (List ℕ) → List Entry
+abbrev entries_of : ℕ × Entry → List (List ℕ) → List (ℕ × Entry)
 entries_of d [] = []
 entries_of d (x ∷ xs) = entry_of d x ∷ entries_of d xs
 
-journal-back : (d : Entry) (es : List Entry) → entries_of d (log_of_journal es) ≡ es
+journal-back : (d : ℕ × Entry) (es : List (ℕ × Entry)) → entries_of d (log_of_journal es) ≡ es
 journal-back d [] = refl
-journal-back d (e ∷ es) = ap₂ (λ (x : Entry) (xs : List Entry). x ∷ xs) (entry-back d e) (journal-back d es)
+journal-back d (e ∷ es) = ap₂ (λ (x : ℕ × Entry) (xs : List (ℕ × Entry)). x ∷ xs) (entry-back d e) (journal-back d es)
 
-abbrev nobody : Entry
-nobody = record { p = 0; qid = record { dispute = 0; round = 0 }; pass = false; reply = Taken }
+abbrev nobody : ℕ × Entry
+nobody = (0, record { p = 0; qid = record { dispute = 0; round = 0 }; pass = false; reply = Taken })
 
 pub logs_tell : LogsTellJournals
 logs_tell es fs e = sym (journal-back nobody es) ∙ ap (entries_of nobody) e ∙ journal-back nobody fs
 
-entries-append : (d : Entry) (xs ys : List (List ℕ)) → entries_of d (xs ++ ys) ≡ entries_of d xs ++ entries_of d ys
+entries-append : (d : ℕ × Entry) (xs ys : List (List ℕ)) → entries_of d (xs ++ ys) ≡ entries_of d xs ++ entries_of d ys
 entries-append d [] ys = refl
-entries-append d (x ∷ xs) ys = ap (λ (l : List Entry). entry_of d x ∷ l) (entries-append d xs ys)
+entries-append d (x ∷ xs) ys = ap (λ (l : List (ℕ × Entry)). entry_of d x ∷ l) (entries-append d xs ys)
 
 pub starts_tell : StartsTellJournals
 starts_tell es fs b = (
   entries_of nobody b.0,
-  sym (journal-back nobody fs) ∙ ap (entries_of nobody) b.1 ∙ entries-append nobody (log_of_journal es) b.0 ∙ ap (λ (l : List Entry). l ++ entries_of nobody b.0) (journal-back nobody es),
+  sym (journal-back nobody fs) ∙ ap (entries_of nobody) b.1 ∙ entries-append nobody (log_of_journal es) b.0 ∙ ap (λ (l : List (ℕ × Entry)). l ++ entries_of nobody b.0) (journal-back nobody es),
 )

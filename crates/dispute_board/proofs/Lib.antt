@@ -1,2 +1,3 @@
 pub mod Journals
 pub mod Points
+pub mod There

@@ -11,27 +11,23 @@ use Rattle.bisect_game.specs.Rules.{Rules}
 use Rattle.tournament.specs.declared.posting.Reply.{Reply}
 use Rattle.tournament.specs.declared.posting.Reply.TheVariants.{Stale}
 use Rattle.tournament.specs.Bracket.{open_question, is_complete}
-use Rattle.tournament.specs.Moves.{MatchState, begun, passes_of, settled_by}
+use Rattle.tournament.specs.Moves.{MatchState, passes_of, settled_by}
 use Rattle.tournament.specs.Posting.{same_qid, reply_by, reply_on, reply_to}
 use Rattle.board_book.specs.declared.entry.Entry.{Entry}
 use Rattle.board_book.specs.declared.entry.Ask.{Ask}
 use Rattle.board_book.specs.declared.entry.Ask.TheVariants as ask
-use Rattle.board_book.specs.Entries.{IsJournal, state_after, is_stale, noted}
+use Rattle.board_book.specs.Entries.{is_stale}
+use Rattle.board_book.specs.Tasks.{Task, games_of, IsTaskJournal}
+use Rattle.board_book.specs.Playing.{noted_for}
 use Rattle.board_book.specs.Asking.{ask_on}
 use Rattle.seat_lock.specs.History.{Turn, Begins, log_of, with_receipt}
 use Rattle.seat_lock.specs.Seats.{Known}
 use Rattle.seat_lock.specs.Turned.{Turned}
 use Rattle.dispute_board.specs.declared.turns.Posted.{Posted}
 use Rattle.dispute_board.specs.Logs.{numbers_of, log_of_journal, with_entry, turn_of}
-use Rattle.dispute_board.specs.Replies.{MayPost, IsReply}
-use Rattle.dispute_board.specs.OneHistory.{Stands, AsksOnBoard, PostsOnBoard, entry_unless_stale}
+use Rattle.dispute_board.specs.Replies.{MayPost, MayPostFor, IsReply}
+use Rattle.dispute_board.specs.OneHistory.{Stands, AsksOnBoard, PostsOnBoard, entry_unless_stale, own_state}
 use Rattle.dispute_board.specs.Turns.{is_due, reply_on_board, reply_in, AsksTheCase, Asks, Posts}
-
-some≢none : {A : Type 0} (a : A) → Some a ≡ None → ⊥
-some≢none a e = absurd (cc)
-
-some_is : {A : Type 0} (a b : A) → Some a ≡ Some b → a ≡ b
-some_is {A} a b e = ap (λ (o : Option A). elim o [ None ↦ a | Some x ↦ x ]) e
 
 -- what an answer of the board tells of the open question
 
@@ -111,27 +107,27 @@ is_reply rules says st p qid m r one may case is = record {
 
 -- entries that are added
 
-noted_if : (b : Bool) (es : List Entry) (e : Entry) → with_entry es (if b then None else Some e) ≡ (if b then es else es ++ e ∷ [])
-noted_if true es e = refl
-noted_if false es e = refl
+noted_if : (b : Bool) (xs : List (ℕ × Entry)) (x : ℕ × Entry) → with_entry xs (if b then None else Some x) ≡ (if b then xs else xs ++ x ∷ [])
+noted_if true xs x = refl
+noted_if false xs x = refl
 
-pub noted_is : (es : List Entry) (e : Entry) → with_entry es (entry_unless_stale e) ≡ noted es e
-noted_is es e = noted_if (is_stale e.reply) es e
+pub noted_is : (t : ℕ) (xs : List (ℕ × Entry)) (e : Entry) → with_entry xs (entry_unless_stale t e) ≡ noted_for t xs e
+noted_is t xs e = noted_if (is_stale e.reply) xs (t, e)
 
-pub log_with : (es : List Entry) (e : Entry) → log_of_journal (es ++ e ∷ []) ≡ log_of_journal es ++ numbers_of e ∷ []
-log_with es e = map-append numbers_of es (e ∷ [])
+pub log_with : (xs : List (ℕ × Entry)) (x : ℕ × Entry) → log_of_journal (xs ++ x ∷ []) ≡ log_of_journal xs ++ numbers_of x ∷ []
+log_with xs x = map-append numbers_of xs (x ∷ [])
 
 -- a turn of a seat, where it stands
 
 module _ {T H : Type 0} (head : T → H) (log : T → List (List ℕ)) where
-  pub stands : (rules : Rules) (says : Says) (before after : Known H) (x y : T) (es left : List Entry) (added : Option Entry) → Turned {T = T} head log before x y after → log x ≡ log_of_journal es → log y ≡ log_of_journal left → left ≡ with_entry es added →
-      IsJournal rules says es (begun rules) → IsJournal rules says left (begun rules) → Stands rules says before es added after
-  stands rules says before after x y es left added t ex ey is legal legal_after =
+  pub stands : (tasks : List Task) (before after : Known H) (x y : T) (es left : List (ℕ × Entry)) (added : Option (ℕ × Entry)) → Turned {T = T} head log before x y after → log x ≡ log_of_journal es → log y ≡ log_of_journal left → left ≡ with_entry es added →
+      IsTaskJournal es (games_of tasks) → IsTaskJournal left (games_of tasks) → Stands tasks before es added after
+  stands tasks before after x y es left added t ex ey is legal legal_after =
       let long : length (log x) ≡ length es = ap length ex ∙ length-map es numbers_of in
       let turn : t.turn ≡ turn_of added = which added (ey ∙ ap log_of_journal is) in
       record {
         legal = legal;
-        legal_after = subst (λ l. IsJournal rules says l (begun rules)) is legal_after;
+        legal_after = subst (λ l. IsTaskJournal l (games_of tasks)) is legal_after;
         saw = subst (λ l. Begins (log_of before.seen) l) ex t.saw_log;
         saw_joined = subst (λ l. All (λ seen. Begins (log_of seen) l) before.joined) ex t.saw_joined_logs;
         sees = ap log_of t.sees ∙ sym t.log_left ∙ ey ∙ ap log_of_journal is;
@@ -142,30 +138,34 @@ module _ {T H : Type 0} (head : T → H) (log : T → List (List ℕ)) where
         none_twice = t.none_twice;
       }
     where
-      which : (added : Option Entry) → log y ≡ log_of_journal (with_entry es added) → t.turn ≡ turn_of added
+      which : (added : Option (ℕ × Entry)) → log y ≡ log_of_journal (with_entry es added) → t.turn ≡ turn_of added
       which None e = t.idle (e ∙ sym ex)
       which (Some a) e = t.adds (numbers_of a) (e ∙ log_with es a ∙ ap (λ l. l ++ numbers_of a ∷ []) (sym ex))
 
--- what a turn did to the book, where it stands
+-- what a turn did to the books, where it stands
 
-module _ {T H : Type 0} (head : T → H) (log : T → List (List ℕ)) (journal : T → List Entry) (logged : (t : T) → log t ≡ log_of_journal (journal t)) where
-  pub asks_on_board : (rules : Rules) (says : Says) (before after : Known H) (x y : T) (p : ℕ) (a : Ask) → Turned {T = T} head log before x y after → y ≡ x → Asks rules says (journal x) p a → AsksOnBoard rules says before p a after
-  asks_on_board rules says before after x y p a t same asks =
-      let st : MatchState = state_after rules says (journal x) in
+module _ {T H : Type 0} (head : T → H) (log : T → List (List ℕ)) (journal : T → List (ℕ × Entry)) (logged : (t : T) → log t ≡ log_of_journal (journal t)) where
+  pub asks_on_board : (tasks : List Task) (before after : Known H) (x y : T) (t p : ℕ) (a : Ask) → Turned {T = T} head log before x y after → y ≡ x → Asks tasks (journal x) t p a → AsksOnBoard tasks before t p a after
+  asks_on_board tasks before after x y t p a turn same asks =
+      let st : MatchState = own_state asks.task t (journal x) in
       record {
+        task = asks.task;
+        there = asks.there;
         journal = journal x;
-        stands = stands head log rules says before after x y (journal x) (journal y) None t (logged x) (logged y) (ap journal same) asks.legal (subst (λ l. IsJournal rules says l (begun rules)) (sym (ap journal same)) asks.legal);
+        stands = stands head log tasks before after x y (journal x) (journal y) None turn (logged x) (logged y) (ap journal same) asks.legal (subst (λ l. IsTaskJournal l (games_of tasks)) (sym (ap journal same)) asks.legal);
         answer = asks.answer;
-        asked = λ q n is. asks.asked q (open_is st p (open_question rules st.record_ p) q n (sym asks.answer ∙ is));
+        asked = λ q n is. asks.asked q (open_is st p (open_question asks.task.rules st.record_ p) q n (sym asks.answer ∙ is));
       }
 
-  pub posts_on_board : (rules : Rules) (says : Says) (before after : Known H) (x y : T) (p : ℕ) (qid : Qid) (m : Option Answer) (posted : Posted) → GiveOneAnswer says → Turned {T = T} head log before x y after →
-      Posts rules says (journal x) p qid m posted (journal y) → MayPost rules says p qid m → PostsOnBoard rules says before p qid m posted after
-  posts_on_board rules says before after x y p qid m posted one t posts may =
+  pub posts_on_board : (tasks : List Task) (before after : Known H) (x y : T) (t p : ℕ) (qid : Qid) (m : Option Answer) (posted : Posted) → Turned {T = T} head log before x y after →
+      Posts tasks (journal x) t p qid m posted (journal y) → MayPostFor tasks t p qid m → PostsOnBoard tasks before t p qid m posted after
+  posts_on_board tasks before after x y t p qid m posted turn posts may =
       let e : Entry = record { p = p; qid = qid; pass = is_none m; reply = posted.reply } in
       record {
+        task = posts.task;
+        there = posts.there;
         journal = journal x;
-        stands = stands head log rules says before after x y (journal x) (journal y) (entry_unless_stale e) t (logged x) (logged y) (posts.notes ∙ sym (noted_is (journal x) e)) posts.legal posts.legal_after;
-        reply = is_reply rules says (state_after rules says (journal x)) p qid m posted.reply one may posts.asked posts.reply;
+        stands = stands head log tasks before after x y (journal x) (journal y) (entry_unless_stale t e) turn (logged x) (logged y) (posts.notes ∙ sym (noted_is t (journal x) e)) posts.legal posts.legal_after;
+        reply = is_reply posts.task.rules posts.task.says (own_state posts.task t (journal x)) p qid m posted.reply posts.one_answer (may posts.task posts.there) posts.asked posts.reply;
         receipt = posts.receipt;
       }

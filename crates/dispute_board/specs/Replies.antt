@@ -1,5 +1,5 @@
 -- To believe: what the board answers at a point of the journal, and which moves a prover may post.
-use Rattle.std.specs.Prelude.{◌≡◌, ◌≢◌, ℕ, Option, Some, None}
+use Rattle.std.specs.Prelude.{◌≡◌, ◌≢◌, ℕ, ◌<◌, ◌≤◌, List, Option, Some, None}
 use Rattle.rd_base.specs.declared.answer.Answer.{Answer}
 use Rattle.rd_base.specs.declared.answer.Qid.{Qid}
 use Rattle.bisect_game.specs.declared.question.Question.{Question}
@@ -14,6 +14,7 @@ use Rattle.tournament.specs.Asked.{asked}
 use Rattle.tournament.specs.Posting.{reply_to}
 use Rattle.board_book.specs.declared.entry.Ask.{Ask}
 use Rattle.board_book.specs.Asking.{ask_on}
+use Rattle.board_book.specs.Tasks.{Task, numbered}
 
 -- what the book of one thread asks a prover in this state
 abbrev pub ask_in : Rules → MatchState → ℕ → Ask
@@ -27,6 +28,14 @@ IsOfTheCase rules says p q = asked rules (bracket rules (answers_of rules says))
 -- after some number of passes
 abbrev pub MayPost : Rules → Says → ℕ → Qid → Option Answer → Type 0
 MayPost rules says p qid m = (q : Question) → q.qid ≡ qid → IsOfTheCase rules says p q → (n : ℕ) × (m ≡ says p q n)
+
+-- a prover of a task may post a move under a number, as in its own case
+abbrev pub MayPostFor : List Task → ℕ → ℕ → Qid → Option Answer → Type 0
+MayPostFor tasks t p qid m = (task : Task) → numbered tasks t ≡ Some task → MayPost task.rules task.says p qid m
+
+-- there is a task of this number, and it has a prover of that number
+abbrev pub IsThere : List Task → ℕ → ℕ → Type 0
+IsThere tasks t p = (task : Task) × (numbered tasks t ≡ Some task) × (0 < p) × (p ≤ task.rules.provers)
 
 -- the board's reply: where the prover has an open question and says the move after the passes that stand there, the one of the
 -- book; where it says something else there, or has no question, stale, with the open one

@@ -1,34 +1,29 @@
-//! The board and its seats.
-ghost use Rattle.std.specs.Prelude.{◌≡◌, ◌+◌, ◌^◌, ◌<◌, ◌≤◌, length, Some, IfOk};
+//! The board of one task.
+ghost use Rattle.std.specs.Prelude.{◌≡◌, ◌+◌, ◌^◌, ◌<◌, ◌≤◌, [], ◌∷◌, length, Some, IfOk};
 ghost use Rattle.std.specs.List.{All};
 ghost use Rattle.seat_lock.specs.History.{log_of, Begins, NoneTwice};
 ghost use Rattle.seat_lock.specs.Seats.{first_seat, after_split, split_off, after_join};
 ghost use Rattle.tournament.specs.declared.setup.Setup.{Setup};
 ghost use Rattle.tournament.specs.Posting.{rules_of, answer_of};
+ghost use Rattle.board_book.specs.Tasks.{task_of, of_task};
 ghost use Rattle.dispute_board.specs.Logs.{log_of_journal};
 ghost use Rattle.dispute_board.specs.Replies.{MayPost};
 ghost use Rattle.dispute_board.specs.OneHistory.{AsksOnBoard, PostsOnBoard};
 
-use crate::turns::{Asking, Locked, Posted, Posting};
+use crate::task_board::{Seat, TaskBoard};
+use crate::turns::Posted;
 use bisect_game::{Judge, Provers};
-use board_book::{Ask, Book};
+use board_book::{Ask, Book, Books};
 use rd_base::{Memory, Qid};
-use seat_lock::SeatLock;
 use std::alloc::Global;
 use std::marker::Model;
 use std::sync::Wait;
 use tournament::Move;
 
-/// A seat at a board, to ask and post with. It has no bytes. Contracts see the opening of the book (`head`), what the seat has seen
-/// of the journal, and the places of its own posts there (`receipts`).
-///
-/// A seat that is dropped stays out: the board can then only be dropped.
-pub type Seat<J, P> = seat_lock::Seat<Locked<J, P>>;
-
-/// A book under a lock, which threads share by reference. Contracts see which lock it is.
+/// A book under a lock, which threads share by reference: the board of one task, whose number is 1. Contracts see which lock it is.
 #[derive(Drop)]
 pub struct Board<J: Judge + Drop, P: Provers + Drop> {
-    lock: SeatLock<Locked<J, P>>,
+    tasks: TaskBoard<J, P>,
 }
 
 impl<J: Judge + Drop, P: Provers + Drop> Model for Board<J, P> {
@@ -36,17 +31,17 @@ impl<J: Judge + Drop, P: Provers + Drop> Model for Board<J, P> {
 
     ghost Value = { LockId };
 
-    ghost view = { λ board. board.lock };
+    ghost view = { λ board. board.tasks };
 }
 
 impl<J: Judge + Drop, P: Provers + Drop> Board<J, P> {
     /// A board over the book, and its first seat, which has seen the book's journal. An `Err` is out of memory; the book is then
     /// dropped.
     pub fn new(alloc: Global, book: Book<J, P>) -> Result<(Board<J, P>, Seat<J, P>), Memory>
-        ensures { IfOk result (λ made. made.1 ≡ first_seat made.0 book.0 (log_of_journal book.1)) }
+        ensures { IfOk result (λ made. made.1 ≡ first_seat made.0 (book.0 ∷ []) (log_of_journal (of_task 1 book.1))) }
     {
-        let (lock, seat) = SeatLock::new(alloc, Locked { book })?;
-        Ok((Board { lock }, seat))
+        let (tasks, seat) = TaskBoard::new(alloc, Books::one(alloc, book)?)?;
+        Ok((Board { tasks }, seat))
     }
 
     /// Asks in one turn what prover `p`, from 1 to their count, is asked. The answer is that of the book at that point of the
@@ -54,10 +49,10 @@ impl<J: Judge + Drop, P: Provers + Drop> Board<J, P> {
     pub fn ask<R: Wait>(&self, rt: &R, seat: &mut Seat<J, P>, p: u32) -> Ask
         requires lock { seat.old.lock ≡ self.now }
         requires some { 0 < p }
-        requires few { (head : J.Names × P.Names × Setup) → seat.old.head ≡ Some head → p ≤ head.2.provers }
-        ensures { (head : J.Names × P.Names × Setup) × (seat.old.head ≡ Some head) × AsksOnBoard (rules_of (J.ruling head.0) head.2) (P.says head.1) seat.old p result seat.new }
+        requires few { (head : J.Names × P.Names × Setup) × (seat.old.head ≡ Some (head ∷ [])) × (p ≤ head.2.provers) }
+        ensures { (head : J.Names × P.Names × Setup) × (seat.old.head ≡ Some (head ∷ [])) × AsksOnBoard (task_of J.ruling P.says head ∷ []) seat.old 1 p result seat.new }
     {
-        self.lock.with_turn(rt, seat, Asking { p })
+        self.tasks.ask(rt, seat, 1, p)
     }
 
     /// Posts in one turn a move of prover `p`, from 1 to their count, on the question of this number.
@@ -75,11 +70,11 @@ impl<J: Judge + Drop, P: Provers + Drop> Board<J, P> {
     ) -> Posted
         requires lock { seat.old.lock ≡ self.now }
         requires some { 0 < p }
-        requires few { (head : J.Names × P.Names × Setup) → seat.old.head ≡ Some head → p ≤ head.2.provers }
-        requires may { (head : J.Names × P.Names × Setup) → seat.old.head ≡ Some head → MayPost (rules_of (J.ruling head.0) head.2) (P.says head.1) p qid (answer_of turn) }
-        ensures { (head : J.Names × P.Names × Setup) × (seat.old.head ≡ Some head) × PostsOnBoard (rules_of (J.ruling head.0) head.2) (P.says head.1) seat.old p qid (answer_of turn) result seat.new }
+        requires few { (head : J.Names × P.Names × Setup) × (seat.old.head ≡ Some (head ∷ [])) × (p ≤ head.2.provers) }
+        requires may { (head : J.Names × P.Names × Setup) → seat.old.head ≡ Some (head ∷ []) → MayPost (rules_of (J.ruling head.0) head.2) (P.says head.1) p qid (answer_of turn) }
+        ensures { (head : J.Names × P.Names × Setup) × (seat.old.head ≡ Some (head ∷ [])) × PostsOnBoard (task_of J.ruling P.says head ∷ []) seat.old 1 p qid (answer_of turn) result seat.new }
     {
-        self.lock.with_turn(rt, seat, Posting { p, qid, turn })
+        self.tasks.post(rt, seat, 1, p, qid, turn)
     }
 
     /// Splits a seat off the first one. It has seen the same and has no receipts. It takes no memory.
@@ -90,7 +85,7 @@ impl<J: Judge + Drop, P: Provers + Drop> Board<J, P> {
         ensures first { seat.new ≡ after_split seat.old }
         ensures other { result ≡ split_off seat.old result.number }
     {
-        self.lock.split(seat)
+        self.tasks.split(seat)
     }
 
     /// Joins a seat that was split off into the first one, which takes its receipts behind its own.
@@ -99,7 +94,7 @@ impl<J: Judge + Drop, P: Provers + Drop> Board<J, P> {
         requires first { seat.old.number ≡ 0 }
         ensures { seat.new ≡ after_join seat.old other }
     {
-        self.lock.join(seat, other);
+        self.tasks.join(seat, other);
     }
 
     /// The book, once every seat that was split off is joined in again. Its opening is that of the seat, and its journal begins with
@@ -108,13 +103,19 @@ impl<J: Judge + Drop, P: Provers + Drop> Board<J, P> {
         requires lock { seat.lock ≡ self }
         requires first { seat.number ≡ 0 }
         requires none_out { seat.out ≡ 0 }
-        ensures opening { seat.head ≡ Some result.0 }
-        ensures journal { Begins (log_of seat.seen) (log_of_journal result.1) }
-        ensures joined { All (λ seen. Begins (log_of seen) (log_of_journal result.1)) seat.joined }
+        requires one { (head : J.Names × P.Names × Setup) × (seat.head ≡ Some (head ∷ [])) }
+        ensures opening { seat.head ≡ Some (result.0 ∷ []) }
+        ensures journal { Begins (log_of seat.seen) (log_of_journal (of_task 1 result.1)) }
+        ensures joined { All (λ seen. Begins (log_of seen) (log_of_journal (of_task 1 result.1))) seat.joined }
         ensures receipts { NoneTwice seat.receipts × All (λ place. place < length result.1) seat.receipts }
     {
-        let Board { lock } = self;
-        let Locked { book } = lock.close(seat);
-        book
+        let Board { tasks } = self;
+        let books = tasks.into_books(seat);
+        books.is_legal();
+        let mut list = books.into_list();
+        match list.pop() {
+            Some(book) => book,
+            None => unreachable!(),
+        }
     }
 }

@@ -1,17 +1,20 @@
-//! The board: a book under a lock, to which many threads post.
+//! The board: the books of all tasks under one lock, to which many threads post.
 //!
-//! The layers above may rely on this: each `Board::ask` and `Board::post` is one turn of the lock, and all turns of all seats stand
-//! in one history. A turn stands at a point of one legal journal, which begins with all that its seat had seen; what it answers is
-//! what the book of one thread answers at that point. A post whose move isn't what the prover says after the passes that stand there,
-//! since somebody posted for the prover meanwhile, is stale and leaves no entry. A post that isn't stale has its place in the journal
-//! as its receipt. `Board::into_book` gives a book whose journal begins with all that was seen. Nothing is said of how long a turn is waited for, or of
-//! whose turn comes first. Read `specs/OneHistory.antt` and `specs/Replies.antt` first, then `board`.
+//! The layers above may rely on this: each `TaskBoard::ask` and `TaskBoard::post` is one turn of the lock, and all turns of all seats
+//! stand in one history. A turn stands at a point of one legal journal of all tasks, which begins with all that its seat had seen; what
+//! it answers is what the task's book of one thread answers there, and the task's own entries alone decide that. A post whose move isn't
+//! what the prover says after the passes that stand there, since somebody posted for the prover meanwhile, is stale and leaves no entry.
+//! A post that isn't stale has its place in the journal of all tasks as its receipt. `TaskBoard::into_books` gives books whose journal
+//! begins with all that was seen. `Board` is the board of one task. Nothing is said of how long a turn is waited for, or of whose turn
+//! comes first. Read `specs/OneHistory.antt` and `specs/Replies.antt` first, then `task_board`; `board` is its case of one task.
 #![tactic(auto)]
 
 mod board;
 mod laws;
+mod task_board;
 mod turns;
 
-pub use board::{Board, Seat};
+pub use board::Board;
 pub use laws::logs_tell_journals;
+pub use task_board::{Seat, TaskBoard};
 pub use turns::{Locked, Posted};

@@ -1,95 +1,104 @@
-//! What is done to the book in a turn: a question, or a post.
-ghost use Rattle.std.specs.Prelude.{◌≡◌, ℕ, ◌<◌, ◌≤◌, Option, Some, None, is_none, length, if◌then◌else◌};
+//! What is done to the books in a turn: a question, or a post.
+ghost use Rattle.std.specs.Prelude.{◌≡◌, ◌<◌, ◌≤◌, Option, Some, None, is_none};
 ghost use Rattle.tournament.specs.Bracket.{open_question};
 ghost use Rattle.tournament.specs.Posting.{rules_of, answer_of};
 ghost use Rattle.bisect_game.specs.declared.question.Question.{Question};
-ghost use Rattle.dispute_board.specs.Replies.{MayPost};
+ghost use Rattle.board_book.specs.Tasks.{openings, tasks_of};
+ghost use Rattle.dispute_board.specs.Replies.{MayPostFor, IsThere};
 ghost use Rattle.dispute_board.specs.OneHistory.{receipt_of};
 ghost use Rattle.dispute_board.specs.Turns.{Asks, Posts, is_due, undue};
 
 use bisect_game::{Judge, Provers};
-use board_book::{Ask, Book};
+use board_book::{Ask, Book, Books};
 use rd_base::Qid;
 use seat_lock::{Job, Logged};
+use std::collections::LinkedList;
 use tournament::{Move, Reply, Setup};
 
-/// A book under a lock. Its head is its opening, and its log is its journal.
+/// The books of all tasks under a lock. Their head is the list of their openings, and their log is the journal of all.
 #[derive(Drop)]
 pub struct Locked<J: Judge + Drop, P: Provers + Drop> {
-    pub book: Book<J, P>,
+    pub books: Books<J, P>,
 }
 
 impl<J: Judge + Drop, P: Provers + Drop> Logged for Locked<J, P> {
+    ghost use Rattle.board_book.specs.Tasks.{openings};
     ghost use Rattle.dispute_board.specs.Logs.{log_of_journal};
 
-    type Head = (J::Names, P::Names, Setup);
+    // Contracts alone see a head: this type names the list of the openings.
+    type Head = LinkedList<(J::Names, P::Names, Setup)>;
 
-    ghost log = { λ locked. log_of_journal locked.book.1 };
+    ghost log = { λ locked. log_of_journal locked.books.1 };
 
-    ghost head = { λ locked. locked.book.0 };
+    ghost head = { λ locked. openings locked.books.0 };
 }
 
 /// What the board answers to a post.
 #[derive(Clone, Copy, Debug)]
 pub struct Posted {
     pub reply: Reply,
-    /// The place of the entry in the journal, from 0; there exactly where the reply isn't `Stale`.
+    /// The place of the entry in the journal of all tasks, from 0; there exactly where the reply isn't `Stale`.
     pub receipt: Option<u64>,
 }
 
-/// Asks what prover `p` is asked.
+/// Asks what prover `p` of task `t` is asked.
 #[derive(Drop)]
 pub struct Asking {
+    pub t: u32,
     pub p: u32,
 }
 
 impl<J: Judge + Drop, P: Provers + Drop> Job<Locked<J, P>> for Asking {
-    ghost use Rattle.std.specs.Prelude.{◌≡◌, ◌<◌, ◌≤◌};
-    ghost use Rattle.tournament.specs.Posting.{rules_of};
+    ghost use Rattle.std.specs.Prelude.{◌≡◌};
+    ghost use Rattle.board_book.specs.Tasks.{openings, tasks_of};
+    ghost use Rattle.dispute_board.specs.Replies.{IsThere};
     ghost use Rattle.dispute_board.specs.Turns.{Asks};
 
     type Out = Ask;
 
-    ghost fits = { λ job head. (0 < job.p) × (job.p ≤ head.2.provers) };
+    ghost fits = { λ job heads. IsThere (tasks_of J.ruling P.says heads) job.t job.p };
 
-    ghost does = { λ job found left ask. (left ≡ found) × Asks (rules_of (J.ruling found.book.0.0) found.book.0.2) (P.says found.book.0.1) found.book.1 job.p ask };
+    ghost does = { λ job found left ask. (left ≡ found) × Asks (tasks_of J.ruling P.says (openings found.books.0)) found.books.1 job.t job.p ask };
 
     fn act(self, locked: &mut Locked<J, P>) -> Ask {
-        ask_in_turn(&locked.book, self.p)
+        ask_in_turn(&locked.books, self.t, self.p)
     }
 }
 
-/// Posts a move of prover `p`.
+/// Posts a move of prover `p` of task `t`.
 #[derive(Drop)]
 pub struct Posting {
+    pub t: u32,
     pub p: u32,
     pub qid: Qid,
     pub turn: Move,
 }
 
 impl<J: Judge + Drop, P: Provers + Drop> Job<Locked<J, P>> for Posting {
-    ghost use Rattle.std.specs.Prelude.{◌≡◌, ◌<◌, ◌≤◌};
-    ghost use Rattle.tournament.specs.Posting.{rules_of, answer_of};
-    ghost use Rattle.dispute_board.specs.Replies.{MayPost};
+    ghost use Rattle.std.specs.Prelude.{◌≡◌};
+    ghost use Rattle.tournament.specs.Posting.{answer_of};
+    ghost use Rattle.board_book.specs.Tasks.{openings, tasks_of};
+    ghost use Rattle.dispute_board.specs.Replies.{MayPostFor, IsThere};
     ghost use Rattle.dispute_board.specs.Turns.{Posts};
 
     type Out = Posted;
 
-    ghost fits = { λ job head. (0 < job.p) × (job.p ≤ head.2.provers) × MayPost (rules_of (J.ruling head.0) head.2) (P.says head.1) job.p job.qid (answer_of job.turn) };
+    ghost fits = { λ job heads. IsThere (tasks_of J.ruling P.says heads) job.t job.p × MayPostFor (tasks_of J.ruling P.says heads) job.t job.p job.qid (answer_of job.turn) };
 
-    ghost does = { λ job found left posted. (left.book.0 ≡ found.book.0) × Posts (rules_of (J.ruling found.book.0.0) found.book.0.2) (P.says found.book.0.1) found.book.1 job.p job.qid (answer_of job.turn) posted left.book.1 };
+    ghost does = { λ job found left posted. (openings left.books.0 ≡ openings found.books.0) × Posts (tasks_of J.ruling P.says (openings found.books.0)) found.books.1 job.t job.p job.qid (answer_of job.turn) posted left.books.1 };
 
     fn act(self, locked: &mut Locked<J, P>) -> Posted {
-        post_in_turn(&mut locked.book, self)
+        post_in_turn(&mut locked.books, self)
     }
 }
 
-// What the book asks, at a legal journal.
-fn ask_in_turn<J: Judge + Drop, P: Provers + Drop>(book: &Book<J, P>, p: u32) -> Ask
-    requires some { 0 < p }
-    requires few { p ≤ book.now.0.2.provers }
-    ensures { Asks (rules_of (J.ruling book.now.0.0) book.now.0.2) (P.says book.now.0.1) book.now.1 p result }
+// What the task's book asks, at a legal journal.
+fn ask_in_turn<J: Judge + Drop, P: Provers + Drop>(books: &Books<J, P>, t: u32, p: u32) -> Ask
+    requires { IsThere (tasks_of J.ruling P.says (openings books.now.0)) t p }
+    ensures { Asks (tasks_of J.ruling P.says (openings books.now.0)) books.now.1 t p result }
 {
+    books.is_legal();
+    let book = books.book(t);
     book.is_legal();
     book.asks_what_the_case_asks();
     book.ask(p)
@@ -140,27 +149,33 @@ fn undue_on<J: Judge + Drop, P: Provers + Drop>(book: &Book<J, P>, post: &Postin
     }
 }
 
-// Posts to the book what is due, at a legal journal.
-fn post_in_turn<J: Judge + Drop, P: Provers + Drop>(book: &mut Book<J, P>, post: Posting) -> Posted
-    requires some { 0 < post.p }
-    requires few { post.p ≤ book.old.0.2.provers }
-    requires may { MayPost (rules_of (J.ruling book.old.0.0) book.old.0.2) (P.says book.old.0.1) post.p post.qid (answer_of post.turn) }
-    ensures opening { book.new.0 ≡ book.old.0 }
-    ensures posts { Posts (rules_of (J.ruling book.old.0.0) book.old.0.2) (P.says book.old.0.1) book.old.1 post.p post.qid (answer_of post.turn) result book.new.1 }
+// Posts to the task's book what is due, at a legal journal.
+fn post_in_turn<J: Judge + Drop, P: Provers + Drop>(
+    books: &mut Books<J, P>,
+    post: Posting,
+) -> Posted
+    requires there { IsThere (tasks_of J.ruling P.says (openings books.old.0)) post.t post.p }
+    requires may { MayPostFor (tasks_of J.ruling P.says (openings books.old.0)) post.t post.p post.qid (answer_of post.turn) }
+    ensures openings { openings books.new.0 ≡ openings books.old.0 }
+    ensures posts { Posts (tasks_of J.ruling P.says (openings books.old.0)) books.old.1 post.t post.p post.qid (answer_of post.turn) result books.new.1 }
 {
+    books.is_legal();
+    let book = books.book(post.t);
     book.is_legal();
     book.asks_what_the_case_asks();
-    let place = book.journal().len() as u64;
-    if let Some(number) = undue_on(book, &post) {
-        return Posted {
+    let place = books.journal().len() as u64;
+    match undue_on(book, &post) {
+        Some(number) => Posted {
             reply: Reply::Stale(Some(number)),
             receipt: None,
-        };
-    }
-    let reply = book.post(post.p, post.qid, post.turn);
-    book.is_legal();
-    Posted {
-        reply,
-        receipt: receipt_for(reply, place),
+        },
+        None => {
+            let reply = books.post(post.t, post.p, post.qid, post.turn);
+            books.is_legal();
+            Posted {
+                reply,
+                receipt: receipt_for(reply, place),
+            }
+        }
     }
 }

@@ -1,0 +1,14 @@
+use Rattle.std.proofs.Common.{refl}
+use Rattle.tournament.specs.Posting.{answer_of}
+use Rattle.board_book.specs.Tasks.{openings, tasks_of}
+use Rattle.dispute_board.specs.Logs.{log_of_journal}
+use Rattle.dispute_board.proofs.Points.{posts_on_board}
+use Rattle.dispute_board.proofs.task_board.TaskBoard.post.Goals as goal
+
+pub returns : goal.returns
+returns g c =
+    let w = c.with_turn.ensures in let heads = openings w.0.books.0 in (
+      heads,
+      w.3.head_found,
+      posts_on_board (λ x. openings x.books.0) (λ x. log_of_journal x.books.1) (λ x. x.books.1) (λ x. refl) (tasks_of g.J.Judge.ruling g.P.Provers.says heads) _ _ w.0 w.1 c.args.t c.args.p c.args.qid (answer_of c.args.turn) c.with_turn.result w.3 w.2.1 (c.requires.may heads w.3.head_found),
+    )
