@@ -1,6 +1,5 @@
 -- What answerers say, as lists.
 use Rattle.std.proofs.Common.{◌≡◌, ℕ, zero, suc, ◌+◌, ◌<◌, List, [], ◌∷◌, map, length, get_or, set, drop, Option, refl, ap, ap₂, ◌∙◌, arith}
-use Rattle.std.specs.List.{range_with_len}
 use Rattle.rd_base.specs.declared.answer.Answer.{Answer}
 use Rattle.bisect_game.specs.declared.question.Question.{Question}
 use Rattle.bisect_game.specs.Says.{Says, AnswerAs}
@@ -31,11 +30,6 @@ module _ {A B : Type 0} (f : A → B) where
   as_long (x ∷ xs) (y ∷ ys) e = ap suc (as_long xs ys (ap (drop 1) e))
 
 module _ {A : Type 0} (answers : A → Question → ℕ → Option Answer) (says : Says) where
-  -- those that answer as the provers of their numbers say what these say
-  pub by_number : (k j : ℕ) (xs : List A) → k ≡ j + 1 → AnswerAs answers says k xs → map answers xs ≡ map (λ n. says (n + 1)) (range_with_len j (length xs))
-  by_number k j [] e a = refl
-  by_number k j (x ∷ xs) e a = ap₂ (λ (g : Question → ℕ → Option Answer) (gs : List (Question → ℕ → Option Answer)). g ∷ gs) (a.0 ∙ ap says e) (by_number (k + 1) (j + 1) xs (omega arith) a.1)
-
   -- those that answer as they did answer as the provers
   pub answer_again : (k : ℕ) (xs ys : List A) → map answers ys ≡ map answers xs → AnswerAs answers says k xs → AnswerAs answers says k ys
   answer_again k [] [] e a = tt

@@ -1,3 +1,4 @@
 pub mod Answering
+pub mod Numbering
 pub mod Seats
 pub mod Workers

@@ -1,8 +1,31 @@
--- Derived: what stays of a poster while it serves, and what a seat must be for it. `play` says what comes of it.
-use Rattle.std.specs.Prelude.{◌≡◌, [], List, Some}
+-- Derived: what stays of a poster while it serves, and what a seat must be for it. `play_tasks` says what comes of it.
+use Rattle.std.specs.Prelude.{◌≡◌, ℕ, ◌<◌, ◌≤◌, [], List, Option, Some, None, get_or}
 use Rattle.std.specs.List.{All}
+use Rattle.rd_base.specs.declared.answer.Answer.{Answer}
+use Rattle.bisect_game.specs.declared.question.Question.{Question}
+use Rattle.bisect_game.specs.Says.{Says}
+use Rattle.tournament.specs.declared.setup.Setup.{Setup}
 use Rattle.seat_lock.specs.History.{LogEntry, log_of, Begins}
 use Rattle.seat_lock.specs.Seats.{LockId, Known}
+use Rattle.board_book.specs.Tasks.{numbered}
+use Rattle.board_book.specs.Playing.{sayings}
+use Rattle.posters.specs.declared.place.Place.{Place}
+
+-- a prover that only passes
+abbrev pub silent : Question → ℕ → Option Answer
+silent question passes = None
+
+-- what the prover of a number says, of all provers of all tasks
+abbrev pub said_by : {N M : Type 0} → (M → Says) → List (N × M × Setup) → ℕ → Question → ℕ → Option Answer
+said_by says heads number = get_or (sayings says heads) number silent
+
+-- the prover at this place is there, and says this
+pub record IsProver {N M : Type 0} (says : M → Says) (heads : List (N × M × Setup)) (place : Place) (said : Question → ℕ → Option Answer) : Type 0 where
+  pub head : N × M × Setup
+  pub there : numbered heads place.task ≡ Some head
+  pub some : 0 < place.prover
+  pub few : place.prover ≤ head.2.provers
+  pub says_it : said ≡ says head.1 place.prover
 
 module _ {H : Type 0} where
   -- what no turn changes of a seat

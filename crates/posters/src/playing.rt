@@ -1,18 +1,21 @@
-//! A match played by posters.
-ghost use Rattle.std.specs.Prelude.{◌≡◌, ℕ, ◌+◌, ◌<◌, ◌≤◌, ◌++◌, [], List, All, Some, true, length, IfOk};
+//! The matches of many tasks played by posters.
+ghost use Rattle.std.specs.Prelude.{◌≡◌, ℕ, ◌+◌, ◌*◌, ◌<◌, ◌≤◌, ◌^◌, ◌++◌, [], List, All, Option, Some, true, map, take, length, IfOk};
 ghost use Rattle.tournament.specs.declared.setup.Setup.{Setup};
 ghost use Rattle.tournament.specs.Bracket.{is_complete};
-ghost use Rattle.bisect_game.specs.Says.{AnswerAs};
 ghost use Rattle.round_robin.specs.Classes.{HaveClasses};
 ghost use Rattle.board_book.specs.declared.entry.Entry.{Entry};
 ghost use Rattle.seat_lock.specs.History.{log_of};
+ghost use Rattle.board_book.specs.Tasks.{openings};
+ghost use Rattle.board_book.specs.Playing.{sayings};
+ghost use Rattle.posters.specs.Places.{provers_from, places_from};
 ghost use Rattle.posters.specs.Serving.{IsSeatOf, KnowsStart};
 
-use crate::gate::Gate;
+use crate::gate::TaskGate;
+use crate::place::Place;
 use crate::serving::{Hall, Poster};
 use bisect_game::{Answerer, Judge, Provers};
-use board_book::Book;
-use dispute_board::{Board, Seat, logs_tell_journals};
+use board_book::Books;
+use dispute_board::{Seat, TaskBoard, logs_tell_journals};
 use rd_base::Memory;
 use round_robin::serve_all;
 use std::alloc::Global;
@@ -20,9 +23,37 @@ use std::sync::Wait;
 use std::sync::atomic::{AtomicBool, AtomicU64};
 use std::thread::Threads;
 
+// Notes so many provers of task t, from 1 on.
+fn add_provers(places: &mut Vec<Place>, t: u32, count: u32) -> Result<(), Memory>
+    ensures { IfOk result (λ _. places.new.items ≡ places.old.items ++ provers_from t 1 count) }
+{
+    for p in 0..count {
+        places.push(Place {
+            task: t,
+            prover: p + 1,
+        })?;
+    }
+    Ok(())
+}
+
+// The provers of all tasks, by their numbers from 0.
+fn places_of<J: Judge + Drop, P: Provers + Drop>(
+    alloc: Global,
+    books: &Books<J, P>,
+) -> Result<Vec<Place>, Memory>
+    ensures places { IfOk result (λ places. places.items ≡ places_from 1 (openings books.now.0)) }
+    ensures few { IfOk result (λ places. length places.items ≤ 128) }
+{
+    let mut places = Vec::new(alloc);
+    for i in 0..books.count() {
+        add_provers(&mut places, i + 1, books.book(i + 1).setup().provers)?;
+    }
+    Ok(places)
+}
+
 // Splits a seat off for each poster, the classes from 0 on.
 fn seat_posters<J: Judge + Drop, P: Provers + Drop>(
-    board: &Board<J, P>,
+    board: &TaskBoard<J, P>,
     seat: &mut Seat<J, P>,
     posters: &mut Vec<Poster<J, P>>,
     count: u32,
@@ -44,7 +75,7 @@ fn seat_posters<J: Judge + Drop, P: Provers + Drop>(
 // Joins the seats of the posters in again, the last first.
 #[tactic(auto, using(crate::proofs::Seats::knows_itself))]
 fn join_posters<J: Judge + Drop, P: Provers + Drop>(
-    board: &Board<J, P>,
+    board: &TaskBoard<J, P>,
     seat: &mut Seat<J, P>,
     mut posters: Vec<Poster<J, P>>,
 )
@@ -59,46 +90,46 @@ fn join_posters<J: Judge + Drop, P: Provers + Drop>(
     }
 }
 
-/// Plays the match out with so many posters: poster t of them, from 0, serves the provers p with `(p - 1) mod posters = t`, each
-/// poster in a thread of its own where one can be made. With one poster no thread is started. There is one answerer for each
-/// prover, which answers as that prover; answers are made while other posters post.
+/// Plays the matches of all tasks out with so many posters. Provers are numbered from 0 through all tasks, in order of the tasks. Poster
+/// i of k serves those whose number modulo k is i, each poster in a thread of its own where one can be made. With one poster no thread
+/// is started. There is one answerer for each prover, which answers as that prover; answers are made while other posters post.
 ///
-/// A poster ends when the match is over. It ends early when its answerer finds no memory, after 1,000,000 turns in a row with
-/// nothing to do, and when another ended early; what is left undone is played alone then. Once all have begun, one with nothing
-/// to do sleeps until another has posted. In the book that is given back the match is over, whatever the threads did, and its
-/// journal begins with the one that the book had. An `Err` is out of memory.
-pub fn play<
+/// A poster ends when the matches of all its provers are over. It ends early when its answerer finds no memory, after 1,000,000 turns in
+/// a row with nothing to do, and when another ended early; what is left undone is played alone then. Once all have begun, one with
+/// nothing to do sleeps until another has posted. In the books that are given back each match is over, whatever the threads did, and
+/// their journal begins with the one that they had. An `Err` is out of memory.
+pub fn play_tasks<
     J: Judge + Drop + Send,
     P: Provers + Drop + Send,
     A: Answerer + Send,
-    G: Gate + Sync,
+    G: TaskGate + Sync,
     R: Threads + Wait + Sync,
 >(
     rt: &R,
     alloc: Global,
-    book: Book<J, P>,
+    books: Books<J, P>,
     answerers: &mut [A],
     posters: u32,
     gate: &G,
-) -> Result<Book<J, P>, Memory>
+) -> Result<Books<J, P>, Memory>
 where
     J::Names: Send,
     P::Names: Send,
     requires some { 0 < posters }
-    requires count { length answerers.old ≡ book.0.2.provers }
-    requires says { AnswerAs A.answers (P.says book.0.1) 1 answerers.old }
-    ensures complete { IfOk result (λ played. is_complete played.2.record_ ≡ true) }
-    ensures opening { IfOk result (λ played. played.0 ≡ book.0) }
-    ensures prefix { IfOk result (λ played. (es : List Entry) × (played.1 ≡ book.1 ++ es)) }
-    ensures keeps { AnswerAs A.answers (P.says book.0.1) 1 answerers.new }
+    requires says { map A.answers answerers.old ≡ sayings P.says (openings books.0) }
+    ensures complete { IfOk result (λ played. All (λ b. is_complete b.2.record_ ≡ true) played.0) }
+    ensures openings { IfOk result (λ played. openings played.0 ≡ openings books.0) }
+    ensures prefix { IfOk result (λ played. (xs : List (ℕ × Entry)) × (played.1 ≡ books.1 ++ xs)) }
+    ensures keeps { map A.answers answerers.new ≡ map A.answers answerers.old }
 {
+    let places = places_of(alloc, &books)?;
     let mut seated = Vec::with_capacity(alloc, posters as usize)?;
-    let (board, mut seat) = Board::new(alloc, book)?;
+    let (board, mut seat) = TaskBoard::new(alloc, books)?;
     seat_posters(&board, &mut seat, &mut seated, posters);
     let hall = Hall {
         board,
         gate,
-        provers: answerers.len() as u32,
+        places,
         posters: posters as u64,
         begun: AtomicU64::new(0),
         news: AtomicU64::new(0),
@@ -109,7 +140,7 @@ where
     let Hall { board, .. } = hall;
     logs_tell_journals();
     join_posters(&board, &mut seat, seated);
-    let mut played = board.into_book(seat);
+    let mut played = board.into_books(seat);
     played.finish_alone(rt, answerers)?;
     Ok(played)
 }

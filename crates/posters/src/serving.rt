@@ -1,15 +1,17 @@
 //! What one poster does.
-ghost use Rattle.std.specs.Prelude.{◌≡◌, ℕ, ◌+◌, ◌<◌, ◌≤◌, Option, Some, map, length};
+ghost use Rattle.std.specs.Prelude.{◌≡◌, ℕ, ◌+◌, ◌<◌, ◌≤◌, Option, Some, List, map, length, slice_get};
 ghost use Rattle.std.specs.Thread.{IsSync};
 ghost use Rattle.tournament.specs.declared.setup.Setup.{Setup};
 ghost use Rattle.tournament.specs.Posting.{answer_of};
 ghost use Rattle.posters.specs.declared.serving.Round.TheVariants.{GoesOn};
-ghost use Rattle.posters.specs.Serving.{kept_of, IsSeatOf};
+ghost use Rattle.posters.specs.Places.{places_from};
+ghost use Rattle.posters.specs.Serving.{kept_of, IsSeatOf, IsProver, said_by};
 
-use crate::gate::Gate;
+use crate::gate::TaskGate;
+use crate::place::Place;
 use bisect_game::{Answerer, Judge, Provers};
 use board_book::Ask;
-use dispute_board::{Board, Seat};
+use dispute_board::{Seat, TaskBoard};
 use rd_base::Answer;
 use round_robin::Worker;
 use std::sync::Wait;
@@ -23,11 +25,11 @@ const MOST_IDLE_TURNS: u32 = 1_000_000;
 
 /// What the posters share.
 #[derive(Drop)]
-pub struct Hall<'g, J: Judge + Drop, P: Provers + Drop, G: Gate> {
-    pub board: Board<J, P>,
+pub struct Hall<'g, J: Judge + Drop, P: Provers + Drop, G: TaskGate> {
+    pub board: TaskBoard<J, P>,
     pub gate: &'g G,
-    /// How many provers there are.
-    pub provers: u32,
+    /// The provers of all tasks, by their numbers from 0.
+    pub places: Vec<Place>,
     /// How many posters there are.
     pub posters: u64,
     /// How many posters have begun.
@@ -36,7 +38,7 @@ pub struct Hall<'g, J: Judge + Drop, P: Provers + Drop, G: Gate> {
     pub news: AtomicU64,
     /// Whether a poster looks for news.
     pub is_watched: AtomicBool,
-    /// Whether a poster ended before the match was over. The others end then too.
+    /// Whether a poster ended before the matches of its provers were over. The others end then too.
     pub ended_early: AtomicBool,
 }
 
@@ -50,7 +52,7 @@ pub struct Poster<J: Judge + Drop, P: Provers + Drop> {
 /// What a turn of a poster came to.
 #[derive(Clone, Copy, Debug)]
 enum Turn {
-    /// The match is over.
+    /// The prover's match is over.
     Over,
     /// A move was posted.
     Posted,
@@ -63,9 +65,9 @@ enum Turn {
 /// What a round of turns came to, one for each prover of the poster.
 #[derive(Clone, Copy, Debug)]
 enum Round {
-    /// The match is over.
+    /// The match of each prover is over.
     Over,
-    /// It goes on; the last so many turns had nothing to do.
+    /// One goes on; the last so many turns had nothing to do.
     GoesOn(u32),
     /// The answerer found no memory, or another poster ended early, or too many turns in a row had nothing to do.
     EndsEarly,
@@ -82,7 +84,7 @@ fn move_of(answer: Option<Answer>) -> Move
 }
 
 // Wakes the posters that wait for news.
-fn tell_posters<J: Judge + Drop, P: Provers + Drop, G: Gate>(hall: &Hall<'_, J, P, G>) {
+fn tell_posters<J: Judge + Drop, P: Provers + Drop, G: TaskGate>(hall: &Hall<'_, J, P, G>) {
     hall.news.fetch_add(1, Ordering::SeqCst);
     hall.news.wake_all();
 }
@@ -91,7 +93,7 @@ fn tell_posters<J: Judge + Drop, P: Provers + Drop, G: Gate>(hall: &Hall<'_, J, 
 // have passed then. While there is none, each prover that had nothing to do still has nothing to do, so that such a turn isn't
 // taken to the board. Once every poster has begun it sleeps, as there will be news. Before that one poster looks, turn by turn, and
 // only the others sleep: where no thread could be made, a poster may begin only after one that waits here has ended.
-fn wait_for_news<J: Judge + Drop, P: Provers + Drop, G: Gate, R: Wait>(
+fn wait_for_news<J: Judge + Drop, P: Provers + Drop, G: TaskGate, R: Wait>(
     rt: &R,
     hall: &Hall<'_, J, P, G>,
     seen: u64,
@@ -116,26 +118,38 @@ fn wait_for_news<J: Judge + Drop, P: Provers + Drop, G: Gate, R: Wait>(
     MOST_IDLE_TURNS
 }
 
+// The prover of this number.
+fn place_at(places: &Vec<Place>, number: u32) -> Option<Place>
+    ensures { result ≡ slice_get places.now.items number }
+{
+    match places.get(number as usize) {
+        Some(place) => Some(*place),
+        None => None,
+    }
+}
+
 // One turn for a prover: it is asked, and what it answers is posted. The answer is made between the two turns at the board.
-fn serve_prover<J: Judge + Drop, P: Provers + Drop, A: Answerer, G: Gate, R: Threads + Wait + Sync>(
-    rt: &R,
-    hall: &Hall<'_, J, P, G>,
-    seat: &mut Seat<J, P>,
-    p: u32,
-    answerer: &mut A,
-) -> Turn
+fn serve_prover<
+    J: Judge + Drop,
+    P: Provers + Drop,
+    A: Answerer,
+    G: TaskGate,
+    R: Threads + Wait + Sync,
+>(rt: &R, hall: &Hall<'_, J, P, G>, seat: &mut Seat<J, P>, place: Place, answerer: &mut A) -> Turn
     requires sync { IsSync R.row }
-    requires seat { (head : J.Names × P.Names × Setup) × IsSeatOf hall.now.board head seat.old × (0 < p) × (p ≤ head.2.provers) × (A.answers answerer.old ≡ P.says head.1 p) }
+    requires seat { (heads : List (J.Names × P.Names × Setup)) × IsSeatOf hall.now.board heads seat.old × IsProver P.says heads place (A.answers answerer.old) }
     ensures seat { kept_of seat.new ≡ kept_of seat.old }
     ensures answerer { A.answers answerer.new ≡ A.answers answerer.old }
 {
-    match hall.board.ask(rt, seat, p) {
+    let Place { task, prover } = place;
+    match hall.board.ask(rt, seat, task, prover) {
         Ask::Over => Turn::Over,
         Ask::Nothing => Turn::Idle,
         Ask::Question(question, passes) => match answerer.answer(rt, &question, passes) {
             Ok(answer) => {
-                hall.gate.before_post(p, question.qid);
-                hall.board.post(rt, seat, p, question.qid, move_of(answer));
+                hall.gate.before_post(task, prover, question.qid);
+                hall.board
+                    .post(rt, seat, task, prover, question.qid, move_of(answer));
                 tell_posters(hall);
                 Turn::Posted
             }
@@ -144,8 +158,14 @@ fn serve_prover<J: Judge + Drop, P: Provers + Drop, A: Answerer, G: Gate, R: Thr
     }
 }
 
-// A turn for each prover of these numbers.
-fn serve_round<J: Judge + Drop, P: Provers + Drop, A: Answerer, G: Gate, R: Threads + Wait + Sync>(
+// A turn for each prover of these numbers. The round is over where each prover's match is.
+fn serve_round<
+    J: Judge + Drop,
+    P: Provers + Drop,
+    A: Answerer,
+    G: TaskGate,
+    R: Threads + Wait + Sync,
+>(
     rt: &R,
     hall: &Hall<'_, J, P, G>,
     seat: &mut Seat<J, P>,
@@ -154,21 +174,22 @@ fn serve_round<J: Judge + Drop, P: Provers + Drop, A: Answerer, G: Gate, R: Thre
     idle_before: u32,
 ) -> Round
     requires sync { IsSync R.row }
-    requires seat { (head : J.Names × P.Names × Setup) × IsSeatOf hall.now.board head seat.old × (hall.now.provers ≡ head.2.provers) × (map A.answers answerers.old ≡ map (λ n. P.says head.1 (n + 1)) numbers.now) }
+    requires seat { (heads : List (J.Names × P.Names × Setup)) × IsSeatOf hall.now.board heads seat.old × (hall.now.places.items ≡ places_from 1 heads) × (map A.answers answerers.old ≡ map (said_by P.says heads) numbers.now) }
     requires few { idle_before ≤ 1000000 }
     ensures seat { kept_of seat.new ≡ kept_of seat.old }
     ensures answerers { map A.answers answerers.new ≡ map A.answers answerers.old }
     ensures few { (turns : ℕ) → result ≡ GoesOn turns → turns ≤ 1000000 }
 {
     let mut idle = idle_before;
+    let mut over = 0;
     let mut i = 0;
     while i < numbers.len() {
         if hall.ended_early.load(Ordering::SeqCst) || idle >= MOST_IDLE_TURNS {
             return Round::EndsEarly;
         }
-        if numbers[i] < hall.provers {
-            match serve_prover(rt, hall, seat, numbers[i] + 1, &mut answerers[i]) {
-                Turn::Over => return Round::Over,
+        if let Some(place) = place_at(&hall.places, numbers[i]) {
+            match serve_prover(rt, hall, seat, place, &mut answerers[i]) {
+                Turn::Over => over += 1,
                 Turn::Posted => idle = 0,
                 Turn::Idle => idle += 1,
                 Turn::OutOfMemory => return Round::EndsEarly,
@@ -176,15 +197,19 @@ fn serve_round<J: Judge + Drop, P: Provers + Drop, A: Answerer, G: Gate, R: Thre
         }
         i += 1;
     }
-    Round::GoesOn(idle)
+    if over == numbers.len() {
+        Round::Over
+    } else {
+        Round::GoesOn(idle)
+    }
 }
 
-// Serves the provers of these numbers until the match is over, and says whether it is. A poster without provers has nothing to wait for.
+// Serves the provers of these numbers until the matches of all are over, and says whether they are. A poster without provers has nothing to wait for.
 fn serve_all_rounds<
     J: Judge + Drop,
     P: Provers + Drop,
     A: Answerer,
-    G: Gate,
+    G: TaskGate,
     R: Threads + Wait + Sync,
 >(
     rt: &R,
@@ -194,7 +219,7 @@ fn serve_all_rounds<
     answerers: &mut [A],
 ) -> bool
     requires sync { IsSync R.row }
-    requires seat { (head : J.Names × P.Names × Setup) × IsSeatOf hall.now.board head seat.old × (hall.now.provers ≡ head.2.provers) × (map A.answers answerers.old ≡ map (λ n. P.says head.1 (n + 1)) numbers.now) }
+    requires seat { (heads : List (J.Names × P.Names × Setup)) × IsSeatOf hall.now.board heads seat.old × (hall.now.places.items ≡ places_from 1 heads) × (map A.answers answerers.old ≡ map (said_by P.says heads) numbers.now) }
     ensures seat { kept_of seat.new ≡ kept_of seat.old }
     ensures answerers { map A.answers answerers.new ≡ map A.answers answerers.old }
 {
@@ -216,16 +241,17 @@ fn serve_all_rounds<
     unreachable!()
 }
 
-impl<'g, J: Judge + Drop, P: Provers + Drop, A: Answerer, G: Gate> Worker<Hall<'g, J, P, G>, A>
+impl<'g, J: Judge + Drop, P: Provers + Drop, A: Answerer, G: TaskGate> Worker<Hall<'g, J, P, G>, A>
     for Poster<J, P> {
-    ghost use Rattle.std.specs.Prelude.{◌≡◌, ℕ, ◌+◌, Option};
+    ghost use Rattle.std.specs.Prelude.{◌≡◌, ℕ, ◌+◌, Option, List};
     ghost use Rattle.rd_base.specs.declared.answer.Answer.{Answer};
     ghost use Rattle.bisect_game.specs.declared.question.Question.{Question};
     ghost use Rattle.tournament.specs.declared.setup.Setup.{Setup};
     ghost use Rattle.seat_lock.specs.Seats.{Known};
-    ghost use Rattle.posters.specs.Serving.{kept_of, IsSeatOf};
+    ghost use Rattle.posters.specs.Places.{places_from};
+    ghost use Rattle.posters.specs.Serving.{kept_of, IsSeatOf, said_by};
 
-    ghost Kept = { Known (J.Names × P.Names × Setup) × ℕ };
+    ghost Kept = { Known (List (J.Names × P.Names × Setup)) × ℕ };
 
     ghost Meaning = { Question → ℕ → Option Answer };
 
@@ -235,7 +261,7 @@ impl<'g, J: Judge + Drop, P: Provers + Drop, A: Answerer, G: Gate> Worker<Hall<'
 
     ghost class_of = { λ kept. kept.1 };
 
-    ghost ready = { λ hall kept says. (head : J.Names × P.Names × Setup) × IsSeatOf hall.board head kept.0 × (hall.provers ≡ head.2.provers) × (says ≡ λ n. P.says head.1 (n + 1)) };
+    ghost ready = { λ hall kept says. (heads : List (J.Names × P.Names × Setup)) × IsSeatOf hall.board heads kept.0 × (hall.places.items ≡ places_from 1 heads) × (says ≡ said_by P.says heads) };
 
     fn class(&self) -> u32 {
         self.class

@@ -1,0 +1,57 @@
+//! A match played by posters: the case of one task.
+ghost use Rattle.std.specs.Prelude.{◌≡◌, ◌<◌, ◌≤◌, ◌++◌, List, true, length, IfOk};
+ghost use Rattle.bisect_game.specs.Says.{AnswerAs};
+ghost use Rattle.tournament.specs.Bracket.{is_complete};
+ghost use Rattle.board_book.specs.declared.entry.Entry.{Entry};
+
+use crate::gate::{Gate, OneGate};
+use crate::playing::play_tasks;
+use bisect_game::{Answerer, Judge, Provers};
+use board_book::{Book, Books};
+use rd_base::Memory;
+use std::alloc::Global;
+use std::sync::Wait;
+use std::thread::Threads;
+
+/// Plays the match out with so many posters: poster t of them, from 0, serves the provers p with `(p - 1) mod posters = t`, each
+/// poster in a thread of its own where one can be made. With one poster no thread is started. There is one answerer for each
+/// prover, which answers as that prover; answers are made while other posters post.
+///
+/// A poster ends when the match is over. It ends early when its answerer finds no memory, after 1,000,000 turns in a row with
+/// nothing to do, and when another ended early; what is left undone is played alone then. Once all have begun, one with nothing
+/// to do sleeps until another has posted. In the book that is given back the match is over, whatever the threads did, and its
+/// journal begins with the one that the book had. An `Err` is out of memory.
+pub fn play<
+    J: Judge + Drop + Send,
+    P: Provers + Drop + Send,
+    A: Answerer + Send,
+    G: Gate + Sync,
+    R: Threads + Wait + Sync,
+>(
+    rt: &R,
+    alloc: Global,
+    book: Book<J, P>,
+    answerers: &mut [A],
+    posters: u32,
+    gate: &G,
+) -> Result<Book<J, P>, Memory>
+where
+    J::Names: Send,
+    P::Names: Send,
+    requires some { 0 < posters }
+    requires count { length answerers.old ≡ book.0.2.provers }
+    requires says { AnswerAs A.answers (P.says book.0.1) 1 answerers.old }
+    ensures complete { IfOk result (λ played. is_complete played.2.record_ ≡ true) }
+    ensures opening { IfOk result (λ played. played.0 ≡ book.0) }
+    ensures prefix { IfOk result (λ played. (es : List Entry) × (played.1 ≡ book.1 ++ es)) }
+    ensures keeps { AnswerAs A.answers (P.says book.0.1) 1 answerers.new }
+{
+    let books = Books::one(alloc, book)?;
+    let played = play_tasks(rt, alloc, books, answerers, posters, &OneGate { gate })?;
+    played.is_legal();
+    let mut list = played.into_list();
+    match list.pop() {
+        Some(book) => Ok(book),
+        None => unreachable!(),
+    }
+}
