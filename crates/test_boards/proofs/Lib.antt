@@ -1,1 +1,3 @@
 pub mod ClaimLemmas
+pub mod CastLemmas
+pub mod TaskLemmas

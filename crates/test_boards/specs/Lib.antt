@@ -1,1 +1,2 @@
+pub mod Casts
 pub mod Seats

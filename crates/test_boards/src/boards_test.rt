@@ -43,6 +43,7 @@ fn board_of(alloc: Global, cast: Cast, patience: u32) -> Result<(ToyBoard, ToySe
 }
 
 // What one of two players is asked.
+#[tactic(auto, using(crate::proofs::ClaimLemmas::has_prover))]
 fn ask<R: Wait>(rt: &R, board: &ToyBoard, seat: &mut ToySeat, cast: Cast, p: u32) -> Asked
     requires seat { IsSeatOfTwo board.now cast seat.old }
     requires some { 0 < p }
@@ -57,6 +58,7 @@ fn ask<R: Wait>(rt: &R, board: &ToyBoard, seat: &mut ToySeat, cast: Cast, p: u32
 type Receipt = (Replied, Option<u64>);
 
 // What a pass on its claim is answered, of one of two players that passes there at first.
+#[tactic(auto, using(crate::proofs::ClaimLemmas::has_prover))]
 fn pass<R: Wait>(
     rt: &R,
     board: &ToyBoard,
@@ -78,6 +80,7 @@ fn pass<R: Wait>(
 }
 
 // What the claim of one of two players is answered.
+#[tactic(auto, using(crate::proofs::ClaimLemmas::has_prover))]
 fn claim<R: Threads + Wait + Sync>(
     rt: &R,
     board: &ToyBoard,
@@ -130,6 +133,7 @@ fn ask_and_pass<R: Wait>(
 }
 
 /// What comes of two silent provers without patience, who pass one after another, and how many entries they leave.
+#[tactic(auto, using(crate::proofs::ClaimLemmas::the_opening))]
 fn both_pass<R: Wait>(rt: &R, alloc: Global) -> Result<([(Asked, Receipt); 5], usize), Memory> {
     let cast = two(SILENT, SILENT);
     let (board, mut seat) = board_of(alloc, cast, 0)?;
@@ -159,6 +163,7 @@ fn silent_provers_are_spent_one_by_one(rt: HostRuntime) -> Result<(), Fail> {
 
 /// What comes of a player that passes once on each question. The first seat asks for it and passes; a second seat, which is split off the
 /// first one, posts the other player's claim and is joined in again; then the first one asks once more and posts the late claim.
+#[tactic(auto, using(crate::proofs::ClaimLemmas::the_opening))]
 fn late_over_two_seats<R: Threads + Wait + Sync>(
     rt: &R,
     alloc: Global,
@@ -190,6 +195,7 @@ fn a_late_prover_over_two_seats(rt: HostRuntime) -> Result<(), Fail> {
 }
 
 /// What comes of a player that passes twice on each question, passes once and then posts its claim.
+#[tactic(auto, using(crate::proofs::ClaimLemmas::the_opening))]
 fn claim_too_early<R: Threads + Wait + Sync>(
     rt: &R,
     alloc: Global,

@@ -1,0 +1,86 @@
+-- A seat at a board of two tasks: who is there, and what may be posted.
+use Rattle.std.proofs.Common.{◌≡◌, ℕ, zero, suc, ◌<◌, ◌≤◌, ◌==◌, Bool, true, false, if◌then◌else◌, List, [], ◌∷◌, length, Option, Some, refl, sym, ap, ◌∙◌, subst, arith}
+use Rattle.std.proofs.lemmas.Option.{same_Some}
+use Rattle.rd_base.specs.declared.answer.Answer.{Answer}
+use Rattle.bisect_game.specs.declared.question.Question.{Question}
+use Rattle.tournament.specs.declared.setup.Setup.{Setup}
+use Rattle.seat_lock.specs.History.{LogEntry}
+use Rattle.seat_lock.specs.Seats.{LockId, Known, first_seat}
+use Rattle.seat_lock.specs.Turned.{SameSeat}
+use Rattle.board_book.specs.declared.entry.Ask.{Ask}
+use Rattle.board_book.specs.declared.entry.Ask.TheVariants as variant
+use Rattle.board_book.specs.Tasks.{Task, BookOf, openings, tasks_of, numbered}
+use Rattle.dispute_board.specs.Replies.{IsThere, MayPostFor}
+use Rattle.dispute_board.specs.OneHistory.{AsksOnBoard}
+use Rattle.posters.specs.declared.place.Place.{Place}
+use Rattle.posters.specs.Serving.{IsProver}
+use Rattle.posters.proofs.Numbering.{is_there}
+use Rattle.posters.proofs.Seats.{may_post_for}
+use Rattle.toy_game.specs.declared.cast.Cast.{Cast}
+use Rattle.toy_game.specs.Toy.{toy_ruling, says_of}
+use Rattle.test_boards.specs.Casts.{opening_of, cast_at}
+use Rattle.test_boards.specs.Seats.{IsSeatOfTasks}
+use Rattle.test_boards.proofs.CastLemmas.{as_many_books}
+
+abbrev says : Cast → ℕ → Question → ℕ → Option Answer
+says cast = says_of cast.players
+
+abbrev Opening : Type 0
+Opening = ℕ × Cast × Setup
+
+-- the opening of task t
+the_task : (a b : Cast) (t : ℕ) → 0 < t → t ≤ 2 → numbered (opening_of a ∷ opening_of b ∷ []) t ≡ Some (opening_of (cast_at a b t))
+the_task a b zero some few = absurd (omega (arith, some))
+the_task a b (suc zero) some few = refl
+the_task a b (suc (suc zero)) some few = refl
+the_task a b (suc (suc (suc t))) some few = absurd (omega (arith, few))
+
+two_at : (first : Bool) (a b : Cast) → a.count ≡ 2 → b.count ≡ 2 → (if first then a else b).count ≡ 2
+two_at true a b x y = x
+two_at false a b x y = y
+
+module _ (board : LockId) (a b : Cast) (k : Known (List Opening)) (s : IsSeatOfTasks board a b k) where
+  abbrev heads_of : List Opening
+  heads_of = opening_of a ∷ opening_of b ∷ []
+
+  prover_of : (t p : ℕ) → 0 < t → t ≤ 2 → 0 < p → p ≤ 2 → IsProver says heads_of (record { task = t; prover = p }) (says (cast_at a b t) p)
+  prover_of t p some few low high = record {
+    head = opening_of (cast_at a b t);
+    there = the_task a b t some few;
+    some = low;
+    few = subst (λ (n : ℕ). p ≤ n) (sym (two_at (t == 1) a b s.two.0 s.two.1)) high;
+    says_it = refl;
+  }
+
+  pub there_of : (t p : ℕ) → 0 < t → t ≤ 2 → 0 < p → p ≤ 2 → (heads : List Opening) → k.head ≡ Some heads → IsThere (tasks_of toy_ruling says heads) t p
+  there_of t p some few low high heads e =
+      subst (λ (hs : List Opening). IsThere (tasks_of toy_ruling says hs) t p) (same_Some heads_of heads (sym s.head ∙ e))
+      (is_there toy_ruling says heads_of (record { task = t; prover = p }) (says (cast_at a b t) p) (prover_of t p some few low high))
+
+  pub may_of : (t p : ℕ) → 0 < t → t ≤ 2 → 0 < p → p ≤ 2 → (q : Question) (n : ℕ) (m : Option Answer) (ask : Ask) (after : Known (List Opening)) (heads : List Opening) → k.head ≡ Some heads → (asks : AsksOnBoard (tasks_of toy_ruling says heads) k t p ask after) → ask ≡ variant.Question q n → m ≡ says (cast_at a b t) p q n →
+      (hs : List Opening) → after.head ≡ Some hs → MayPostFor (tasks_of toy_ruling says hs) t p q.qid m
+  may_of t p some few low high q n m ask after heads e asks is said hs later =
+      let same : heads ≡ heads_of = same_Some heads heads_of (sym e ∙ s.head) in
+      let next : heads_of ≡ hs = same_Some heads_of hs (sym (asks.stands.same.head ∙ s.head) ∙ later) in
+      subst (λ (l : List Opening). MayPostFor (tasks_of toy_ruling says l) t p q.qid m) next
+      (may_post_for toy_ruling says heads_of (record { task = t; prover = p }) (says (cast_at a b t) p) q n m (prover_of t p some few low high) asks.task
+      (subst (λ (l : List Opening). numbered (tasks_of toy_ruling says l) t ≡ Some asks.task) same asks.there) (asks.asked q n is) said)
+
+  pub still_there : (after : Known (List Opening)) → SameSeat k after → IsSeatOfTasks board a b after
+  still_there after same = record {
+    lock = same.lock ∙ s.lock;
+    head = same.head ∙ s.head;
+    two = s.two;
+  }
+
+-- a fresh seat at a board of two casts
+pub fresh_seat : (board : LockId) (a b : Cast) (k : Known (List Opening)) (heads : List Opening) (log : List LogEntry) → k ≡ first_seat board heads log → heads ≡ opening_of a ∷ opening_of b ∷ [] → a.count ≡ 2 → b.count ≡ 2 → IsSeatOfTasks board a b k
+fresh_seat board a b k heads log is same one two = record {
+  lock = ap (λ (x : Known (List Opening)). x.lock) is;
+  head = ap (λ (x : Known (List Opening)). x.head) is ∙ ap Some same;
+  two = (one, two);
+}
+
+-- the books of two casts are two
+pub two_books : (a b : Cast) (books : List (BookOf ℕ Cast)) (k : Option (List Opening)) → k ≡ Some (opening_of a ∷ opening_of b ∷ []) → k ≡ Some (openings books) → length books ≡ 2
+two_books a b books k is same = as_many_books books (a ∷ b ∷ []) (same_Some (openings books) (opening_of a ∷ opening_of b ∷ []) (sym same ∙ is))
