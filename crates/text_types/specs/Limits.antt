@@ -12,7 +12,7 @@ provers_limit = record { least = 1; most = 16 }
 
 -- how many steps a run has
 abbrev pub bound_limit : Limit
-bound_limit = record { least = 1; most = 16777216 }
+bound_limit = record { least = 1; most = 4294967295 }
 
 -- how many passes a question allows
 abbrev pub patience_limit : Limit
@@ -24,4 +24,4 @@ version_limit = record { least = 1; most = 1 }
 
 -- into how many parts a round cuts its interval
 abbrev pub fan_limit : Limit
-fan_limit = record { least = 2; most = 2 }
+fan_limit = record { least = 2; most = 16 }

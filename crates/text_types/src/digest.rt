@@ -8,11 +8,13 @@ use std::fmt;
 pub enum DigestName {
     /// SHA-256 (FIPS 180-4).
     Sha256,
+    /// The first byte of SHA-256 and 31 zero bytes: for matches in which two strings have one digest.
+    Weak8,
 }
 
 impl DigestName {
     /// Every digest that a text may name, in the order in which names are tried.
-    pub const ALL: [DigestName; 1] = [DigestName::Sha256];
+    pub const ALL: [DigestName; 2] = [DigestName::Sha256, DigestName::Weak8];
 
     /// The name as it stands in a text.
     pub fn text(self) -> &'static str
@@ -20,6 +22,7 @@ impl DigestName {
     {
         match self {
             DigestName::Sha256 => "sha256",
+            DigestName::Weak8 => "weak8",
         }
     }
 }

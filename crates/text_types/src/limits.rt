@@ -23,7 +23,7 @@ pub const PROVERS: Limit = Limit { least: 1, most: 16 };
 /// How many steps a run may have.
 pub const BOUND: Limit = Limit {
     least: 1,
-    most: 16_777_216,
+    most: 4_294_967_295,
 };
 /// How many passes a question may allow.
 pub const PATIENCE: Limit = Limit {
@@ -33,4 +33,4 @@ pub const PATIENCE: Limit = Limit {
 /// Which versions of the commitments there are.
 pub const VERSION: Limit = Limit { least: 1, most: 1 };
 /// Into how many parts a round may cut its interval.
-pub const FAN: Limit = Limit { least: 2, most: 2 };
+pub const FAN: Limit = Limit { least: 2, most: 16 };
