@@ -8,8 +8,13 @@ use Rattle.serde_json.specs.Find.{as_number, as_u64}
 use Rattle.case_reader.specs.declared.fault.Key.{Key}
 use Rattle.case_reader.specs.declared.fault.CaseFault.{CaseFault}
 use Rattle.case_reader.specs.declared.fault.CaseFault.TheVariants.{NotJson, NotObject, Missing, WrongType, BadHex, OutOfRange, BadProver, Memory}
+use Rattle.case_reader.specs.declared.case.Format.{Format}
+use Rattle.case_reader.specs.declared.case.Format.TheVariants.{Flat, Elf, Asm}
+use Rattle.case_reader.specs.declared.fault.Key.TheVariants as keys
+use Rattle.serde_json.specs.Find.{get}
+use Rattle.case_reader.specs.Key.{key_text}
 use Rattle.case_reader.specs.Case.{case_of, case_at}
-use Rattle.case_reader.specs.Fields.{field, text_in, bytes_in, number_in, format_in, input_in, array_in, provers_in}
+use Rattle.case_reader.specs.Fields.{field, text_in, bytes_in, number_of, number_in, number_if_there, optional_number_in, format_in, image_in, input_in, fan_in, stake_in, array_in, provers_in}
 use Rattle.case_reader.specs.Provers.{scripts_in}
 
 -- a reading that doesn't end as out of memory
@@ -23,6 +28,9 @@ then-free (Err e) f free further = λ is. free (ap Err (cc is))
 some-free : {A : Type 0} (o : Option A) (e : CaseFault) → e ≢ Memory → IsFree (ok_or o e)
 some-free (Some x) e other = λ is. absurd (cc is)
 some-free None e other = λ is. other (cc is)
+
+ok-free : {A : Type 0} (x : A) → IsFree (Ok x)
+ok-free x = λ is. absurd (cc is)
 
 if-free : {A : Type 0} (b : Bool) (x : A) (e : CaseFault) → e ≢ Memory → IsFree (if b then Ok x else Err e)
 if-free true x e other = λ is. absurd (cc is)
@@ -39,17 +47,38 @@ bytes-free : (key : Key) (tree : Data) → IsFree (bytes_in key tree)
 unfolding bytes_in
 bytes-free key tree = then-free (text_in key tree) _ (text-free key tree) (λ text. some-free _ (BadHex key) (λ is. cc is))
 
+value-free : (key : Key) (low high : ℕ) (value : Data) → IsFree (number_of key low high value)
+unfolding number_of
+value-free key low high value =
+    then-free (ok_or (option_and_then as_u64 (as_number value)) (WrongType key)) _
+    (some-free (option_and_then as_u64 (as_number value)) (WrongType key) (λ is. cc is))
+    (λ number. if-free (nat_le low number && nat_le number high) number (OutOfRange key) (λ is. cc is))
+
 number-free : (key : Key) (low high : ℕ) (tree : Data) → IsFree (number_in key low high tree)
 unfolding number_in
-number-free key low high tree =
-    then-free (field key tree) _ (field-free key tree)
-    (λ value. then-free (ok_or (option_and_then as_u64 (as_number value)) (WrongType key)) _
-    (some-free (option_and_then as_u64 (as_number value)) (WrongType key) (λ is. cc is))
-    (λ number. if-free (nat_le low number && nat_le number high) number (OutOfRange key) (λ is. cc is)))
+number-free key low high tree = then-free (field key tree) _ (field-free key tree) (value-free key low high)
+
+there-free : (key : Key) (low high : ℕ) (value : Option Data) → IsFree (number_if_there key low high value)
+there-free key low high (Some value) = then-free (number_of key low high value) _ (value-free key low high value) (λ number. ok-free (Some number))
+there-free key low high None = ok-free None
+
+optional-free : (key : Key) (low high : ℕ) (tree : Data) → IsFree (optional_number_in key low high tree)
+unfolding optional_number_in
+optional-free key low high tree = there-free key low high (get (key_text key) tree)
+
+fan-free : (tree : Data) → IsFree (fan_in tree)
+unfolding fan_in
+fan-free tree = then-free _ _ (optional-free keys.Fan 2 16 tree) (λ fan. ok-free _)
 
 format-free : (tree : Data) → IsFree (format_in tree)
 unfolding format_in
 format-free tree = then-free _ _ (text-free _ tree) (λ text. some-free _ (OutOfRange _) (λ is. cc is))
+
+image-free : (format : Format) (tree : Data) → IsFree (image_in format tree)
+unfolding image_in
+image-free Asm tree = text-free _ tree
+image-free Flat tree = bytes-free _ tree
+image-free Elf tree = bytes-free _ tree
 
 input-free : (tree : Data) → IsFree (input_in tree)
 unfolding input_in
@@ -63,9 +92,6 @@ provers-free : (tree : Data) → IsFree (provers_in tree)
 unfolding provers_in
 provers-free tree = then-free _ _ (array-free _ tree) (λ provers. if-free _ provers (OutOfRange _) (λ is. cc is))
 
-ok-free : {A : Type 0} (x : A) → IsFree (Ok x)
-ok-free x = λ is. absurd (cc is)
-
 scripts-free : (number : ℕ) (provers : List Data) → IsFree (scripts_in number provers)
 unfolding scripts_in
 scripts-free number [] = ok-free []
@@ -77,12 +103,14 @@ unfolding case_of
 case-free tree =
     then-free _ _ (some-free _ NotObject (λ is. cc is))
     (λ members. then-free _ _ (format-free tree)
-    (λ format. then-free _ _ (bytes-free _ tree)
+    (λ format. then-free _ _ (image-free format tree)
     (λ image. then-free _ _ (input-free tree)
     (λ input. then-free _ _ (number-free _ _ _ tree)
     (λ bound. then-free _ _ (number-free _ _ _ tree)
-    (λ patience. then-free _ _ (provers-free tree)
-    (λ provers. then-free _ _ (scripts-free 1 provers) (λ scripts. ok-free _))))))))
+    (λ patience. then-free _ _ (fan-free tree)
+    (λ fan. then-free _ _ (optional-free _ _ _ tree)
+    (λ stake. then-free _ _ (provers-free tree)
+    (λ provers. then-free _ _ (scripts-free 1 provers) (λ scripts. ok-free _))))))))))
 
 pub no_fault_is_memory : (bytes : List ℕ) → IsFree (case_at bytes)
 unfolding case_at

@@ -1,5 +1,5 @@
 -- To believe. Reading a case: from the bytes to a JSON tree, and from the tree to a case or its first fault. Keys are
--- tested in the order format, image, input, bound, patience, provers, and last the provers, one after another.
+-- tested in the order format, image, input, bound, patience, fan, stake, provers, and last the provers, one after another.
 use Rattle.std.specs.Prelude.{ℕ, List, Option, None, Result, Ok, if◌then◌else◌}
 use Rattle.std.specs.Option.{ok_or}
 use Rattle.std.specs.Str.{is_utf8}
@@ -8,11 +8,11 @@ use Rattle.serde_json.specs.Read.{read}
 use Rattle.serde_json.specs.Find.{as_object}
 use Rattle.rd_base.specs.Results.{◌>>=◌}
 use Rattle.rd_base.specs.declared.script.Script.{Script}
-use Rattle.case_reader.specs.Fields.{format_in, bytes_in, input_in, number_in, provers_in}
+use Rattle.case_reader.specs.Fields.{format_in, image_in, input_in, number_in, fan_in, stake_in, provers_in}
 use Rattle.case_reader.specs.Provers.{scripts_in}
 use Rattle.case_reader.specs.declared.case.Case.{Case}
 use Rattle.case_reader.specs.declared.case.Format.{Format}
-use Rattle.case_reader.specs.declared.fault.Key.TheVariants.{Image, Bound, Patience}
+use Rattle.case_reader.specs.declared.fault.Key.TheVariants.{Bound, Patience}
 use Rattle.case_reader.specs.declared.fault.CaseFault.{CaseFault}
 use Rattle.case_reader.specs.declared.fault.CaseFault.TheVariants.{NotJson, NotObject}
 
@@ -25,6 +25,7 @@ pub record CaseData : Type 0 where
   pub patience : ℕ
   pub version : ℕ
   pub fan : ℕ
+  pub stake : Option ℕ
   pub provers : List Script
 
 abbrev pub data_of : Case → CaseData
@@ -36,21 +37,24 @@ data_of c = record {
   patience = c.patience;
   version = c.version;
   fan = c.fan;
+  stake = c.stake;
   provers = c.provers;
 }
 
--- the case of a JSON tree, or the first fault; the version is 1 and the fan 2
+-- the case of a JSON tree, or the first fault; the version is 1
 unfoldable pub case_of : Data → Result CaseData CaseFault
 case_of tree = do
   members ← ok_or (as_object tree) NotObject
   format ← format_in tree
-  image ← bytes_in Image tree
+  image ← image_in format tree
   input ← input_in tree
-  bound ← number_in Bound 1 16777216 tree
+  bound ← number_in Bound 1 4294967295 tree
   patience ← number_in Patience 0 100 tree
+  fan ← fan_in tree
+  stake ← stake_in tree
   provers ← provers_in tree
   scripts ← scripts_in 1 provers
-  Ok (record { image = image; format = format; input = input; bound = bound; patience = patience; version = 1; fan = 2; provers = scripts })
+  Ok (record { image = image; format = format; input = input; bound = bound; patience = patience; version = 1; fan = fan; stake = stake; provers = scripts })
 
 -- the JSON tree of bytes that are UTF-8 (RFC 8259, as `serde_json` reads it)
 abbrev pub tree_of : List ℕ → Option Data

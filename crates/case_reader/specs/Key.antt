@@ -1,7 +1,7 @@
 -- To believe. The keys of a case.
 use Rattle.std.specs.Prelude.{ℕ, List, codes}
 use Rattle.case_reader.specs.declared.fault.Key.{Key}
-use Rattle.case_reader.specs.declared.fault.Key.TheVariants.{Format, Image, Input, Bound, Patience, Provers}
+use Rattle.case_reader.specs.declared.fault.Key.TheVariants.{Format, Image, Input, Bound, Patience, Fan, Stake, Provers}
 
 -- a key as it stands in a case
 abbrev pub key_text : Key → List ℕ
@@ -10,4 +10,6 @@ key_text Image = codes "image"
 key_text Input = codes "input"
 key_text Bound = codes "bound"
 key_text Patience = codes "patience"
+key_text Fan = codes "fan"
+key_text Stake = codes "stake"
 key_text Provers = codes "provers"

@@ -1,16 +1,20 @@
 -- To believe. The script of a prover: what is wrong with its run, and how it answers. Each key of a kind is there, of its
 -- type and in its range; keys of other names are ignored.
-use Rattle.std.specs.Prelude.{ℕ, ◌&&◌, List, length, codes, nat_le, Option, Some, None, if◌then◌else◌}
+use Rattle.std.specs.Prelude.{ℕ, ◌&&◌, List, [], ◌∷◌, length, codes, nat_le, Option, Some, None, if◌then◌else◌}
 use Rattle.std.specs.Option.{option_map, option_and_then}
+use Rattle.std.specs.Result.{result_ok}
 use Rattle.std.specs.Str.{bytes_eq}
 use Rattle.serde_json.specs.Data.{Data}
-use Rattle.serde_json.specs.Find.{get, as_str, as_object, as_number, as_u64}
+use Rattle.serde_json.specs.Find.{get, as_str, as_object, as_array, as_number, as_u64}
+use Rattle.rd_base.specs.declared.answer.Answer.{Answer}
+use Rattle.rd_base.specs.declared.tape.TapeAnswer.{TapeAnswer}
 use Rattle.rd_base.specs.declared.script.Script.{Script}
 use Rattle.rd_base.specs.declared.script.Manner.{Manner}
-use Rattle.rd_base.specs.declared.script.Manner.TheVariants.{Plain, Late, Silent, Output}
+use Rattle.rd_base.specs.declared.script.Manner.TheVariants.{Plain, Late, Silent, Output, Forge, Noise, Tape}
 use Rattle.rd_base.specs.declared.tamper.Tamper.{Tamper}
 use Rattle.rd_base.specs.declared.tamper.Tamper.TheVariants.{Untouched, Flip, Register, Early}
-use Rattle.case_reader.specs.Fields.{hex_of}
+use Rattle.proof_wire.specs.Reading.{answer_in}
+use Rattle.case_reader.specs.Fields.{hex_of, listed}
 
 -- the `?` of an option: the second step where the first gave a value
 infixl 10 ◌>>=◌
@@ -74,11 +78,57 @@ output_in manner = do
   bytes ← hex_of text
   output_of bytes
 
+-- the keys of the kind `forge`
+unfoldable pub forge_in : Data → Option Manner
+forge_in manner = do
+  step ← word_at (codes "step") manner
+  reg ← number_at (codes "reg") 1 31 manner
+  value ← word_at (codes "value") manner
+  Some (Forge step reg value)
+
+-- the answer that stands as the digits of its wire form
+unfoldable pub answer_at : List ℕ → Data → Option Answer
+answer_at key tree = do
+  text ← text_at key tree
+  bytes ← hex_of text
+  result_ok (answer_in bytes)
+
+-- an answer of a tape, and the number of its question
+unfoldable pub tape_answer_in : Data → Option TapeAnswer
+tape_answer_in element = do
+  dispute ← word_at (codes "dispute") element
+  round ← word_at (codes "round") element
+  answer ← answer_at (codes "answer") element
+  Some (record { qid = record { dispute = dispute; round = round }; answer = answer })
+
+-- the answers of a tape, all of which are known
+unfoldable pub tape_answers_in : List Data → Option (List TapeAnswer)
+tape_answers_in [] = Some []
+tape_answers_in (element ∷ elements) = do
+  first ← tape_answer_in element
+  others ← tape_answers_in elements
+  Some (first ∷ others)
+
+-- answers that a tape may hold: at most 4,096
+abbrev pub tape_of : List TapeAnswer → Option (List TapeAnswer)
+tape_of answers = if nat_le (length answers) 4096 then Some answers else None
+
+-- the answers of the kind `tape`
+unfoldable pub tape_in : Data → Option (List TapeAnswer)
+tape_in manner = do
+  value ← get (codes "answers") manner
+  elements ← option_map listed (as_array value)
+  answers ← tape_answers_in elements
+  tape_of answers
+
 abbrev pub manner_of_kind : Data → List ℕ → Option Manner
 manner_of_kind manner kind =
     if bytes_eq kind (codes "late") then option_map Late (number_at (codes "passes") 0 1000 manner)
     else if bytes_eq kind (codes "silent") then option_map Silent (number_at (codes "from") 0 64 manner)
     else if bytes_eq kind (codes "output") then option_map Output (output_in manner)
+    else if bytes_eq kind (codes "forge") then forge_in manner
+    else if bytes_eq kind (codes "noise") then option_map Noise (word_at (codes "seed") manner)
+    else if bytes_eq kind (codes "tape") then option_map Tape (tape_in manner)
     else None
 
 -- a manner that is known

@@ -1,15 +1,22 @@
-ghost use Rattle.std.specs.Prelude.{◌≡◌, ◌≤◌, length};
+ghost use Rattle.std.proofs.Props.{props};
+ghost use Rattle.std.specs.Prelude.{◌≡◌, ◌≤◌, length, IfSome};
 
 use rd_base::{Bytes, Listed, Script};
 
 /// The version of the commitments of every case.
 pub const VERSION: u32 = 1;
 
-/// Into how many parts a round of bisection cuts its interval, in every case.
-pub const FAN: u32 = 2;
+/// The fewest parts into which a round cuts its interval, and those of a case that doesn't say.
+pub const MIN_FAN: u32 = 2;
+
+/// The most parts into which a round cuts its interval.
+pub const MAX_FAN: u32 = 16;
+
+/// The largest stake.
+pub const MAX_STAKE: u64 = 1_000_000_000;
 
 /// The largest bound, in steps.
-pub const MAX_BOUND: u64 = 16_777_216;
+pub const MAX_BOUND: u64 = 4_294_967_295;
 
 /// The largest patience, in passes.
 pub const MAX_PATIENCE: u64 = 100;
@@ -24,12 +31,14 @@ pub enum Format {
     Flat,
     /// An ELF file (ELF32), whose program headers say what lies where.
     Elf,
+    /// A program in assembly, which loads as the flat file of its words.
+    Asm,
 }
 
 /// A case, with each number in its range.
 #[derive(Debug, Drop)]
 pub struct Case {
-    /// The image's bytes.
+    /// The image's bytes; of assembly those of its text.
     pub image: Bytes,
     /// The image's format.
     pub format: Format,
@@ -41,16 +50,20 @@ pub struct Case {
     pub patience: u32,
     /// The version of the commitments, 1.
     pub version: u32,
-    /// Into how many parts a round of bisection cuts its interval, 2.
+    /// Into how many parts a round cuts its interval.
     pub fan: u32,
+    /// What each prover puts down, where there are deposits.
+    pub stake: Option<u64>,
     /// The provers, by number from 1.
     pub provers: Listed<Script>,
     ghost input_is_short: { length input ≤ 1048576 },
     ghost bound_is_positive: { 1 ≤ bound },
-    ghost bound_in_range: { bound ≤ 16777216 },
+    ghost bound_in_range: { bound ≤ 4294967295 },
     ghost patience_in_range: { patience ≤ 100 },
     ghost first_version: { version ≡ 1 },
-    ghost halves: { fan ≡ 2 },
+    ghost parted: { 2 ≤ fan },
+    ghost few_parts: { fan ≤ 16 },
+    ghost small_stake: { IfSome stake (λ s. s ≤ 1000000000) } by { Prim.hlevel props },
     ghost somebody_plays: { 1 ≤ length provers },
     ghost few_play: { length provers ≤ 16 },
 }

@@ -15,6 +15,8 @@ pub enum Key {
     Input,
     Bound,
     Patience,
+    Fan,
+    Stake,
     Provers,
 }
 
@@ -29,6 +31,8 @@ impl Key {
             Key::Input => "input",
             Key::Bound => "bound",
             Key::Patience => "patience",
+            Key::Fan => "fan",
+            Key::Stake => "stake",
             Key::Provers => "provers",
         }
     }

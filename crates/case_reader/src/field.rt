@@ -1,7 +1,7 @@
-ghost use Rattle.std.specs.Prelude.{◌≤◌, map, Ok, IfOk};
+ghost use Rattle.std.specs.Prelude.{◌≤◌, map, Ok, IfOk, IfSome};
 ghost use Rattle.serde_json.specs.View.{view, items_view};
 ghost use Rattle.rd_base.specs.Results.{Gives};
-ghost use Rattle.case_reader.specs.Fields.{field, text_in, bytes_in, number_in, array_in, hex_of};
+ghost use Rattle.case_reader.specs.Fields.{field, text_in, bytes_in, number_of, number_in, optional_number_in, array_in, hex_of};
 
 use crate::fault::{CaseFault, Key};
 use hex::FromHexError;
@@ -53,6 +53,34 @@ pub fn number_of(tree: &Value, key: Key, low: u64, high: u64) -> Result<u64, Cas
     ensures to { IfOk result (λ n. n ≤ high) }
 {
     let value = value_of(tree, key)?;
+    number_in_range(value, key, low, high)
+}
+
+/// The number of a key that may be missing, from `low` to `high`.
+#[tactic(auto, unfolding(crate::specs::Fields::optional_number_in))]
+pub fn optional_number_of(
+    tree: &Value,
+    key: Key,
+    low: u64,
+    high: u64,
+) -> Result<Option<u64>, CaseFault>
+    ensures value { Gives CaseFault.Memory (λ number. number) result (optional_number_in key low high (view tree.now)) }
+    ensures from { IfOk result (λ number. IfSome number (λ n. low ≤ n)) }
+    ensures to { IfOk result (λ number. IfSome number (λ n. n ≤ high)) }
+{
+    match tree.get(key.name()) {
+        Some(value) => Ok(Some(number_in_range(value, key, low, high)?)),
+        None => Ok(None),
+    }
+}
+
+/// The number that a key's value is, from `low` to `high`.
+#[tactic(auto, unfolding(crate::specs::Fields::number_of))]
+fn number_in_range(value: &Value, key: Key, low: u64, high: u64) -> Result<u64, CaseFault>
+    ensures value { Gives CaseFault.Memory (λ n. n) result (number_of key low high (view «value».now)) }
+    ensures from { IfOk result (λ n. low ≤ n) }
+    ensures to { IfOk result (λ n. n ≤ high) }
+{
     let number = value.as_u64().ok_or(CaseFault::WrongType(key))?;
     if low <= number && number <= high {
         Ok(number)

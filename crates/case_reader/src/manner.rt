@@ -2,13 +2,14 @@ ghost use Rattle.std.specs.Prelude.{◌≡◌, Ok, codes};
 ghost use Rattle.std.specs.Option.{option_map};
 ghost use Rattle.serde_json.specs.View.{view};
 ghost use Rattle.rd_base.specs.Results.{Gives};
-ghost use Rattle.rd_base.specs.declared.script.Manner.TheVariants.{Late, Silent, Output};
-ghost use Rattle.case_reader.specs.Scripts.{number_at, output_in, manner_in};
+ghost use Rattle.rd_base.specs.declared.script.Manner.TheVariants.{Late, Silent, Output, Noise, Tape};
+ghost use Rattle.case_reader.specs.Scripts.{number_at, word_at, output_in, forge_in, tape_in, manner_in};
 
 use crate::fault::CaseFault;
 use crate::field::hex_bytes;
-use crate::member::{number_at, text_at};
-use rd_base::{ClaimOutput, FirstSilentRound, Manner, PassCount};
+use crate::member::{number_at, text_at, word_at};
+use crate::tape::tape_of;
+use rd_base::{ClaimOutput, FirstSilentRound, Manner, PassCount, RegisterNumber};
 use serde_json::Value;
 use std::alloc::Global;
 
@@ -42,6 +43,34 @@ fn output_of(alloc: Global, manner: &Value) -> Result<Option<Manner>, CaseFault>
     }
 }
 
+/// The keys of the kind `forge`.
+#[tactic(auto, unfolding(crate::specs::Scripts::forge_in))]
+fn forge_of(manner: &Value) -> Option<Manner>
+    ensures { result ≡ forge_in (view manner.now) }
+{
+    Some(Manner::Forge {
+        step: word_at(manner, "step")?,
+        reg: RegisterNumber::new(number_at(manner, "reg", 1, 31)? as u8)?,
+        value: word_at(manner, "value")?,
+    })
+}
+
+/// The key of the kind `noise`.
+fn noise_of(manner: &Value) -> Option<Manner>
+    ensures { result ≡ option_map Noise (word_at (codes "seed") (view manner.now)) }
+{
+    Some(Manner::Noise {
+        seed: word_at(manner, "seed")?,
+    })
+}
+
+/// The key of the kind `tape`.
+fn taped_of(alloc: Global, manner: &Value) -> Result<Option<Manner>, CaseFault>
+    ensures { Gives CaseFault.Memory (λ known. known) result (Ok (option_map Tape (tape_in (view manner.now)))) }
+{
+    Ok(tape_of(alloc, manner)?.map(Manner::Tape))
+}
+
 /// The manner of a value, where it is one that is known.
 #[tactic(auto, unfolding(crate::specs::Scripts::manner_in))]
 pub fn manner_of(alloc: Global, manner: &Value) -> Result<Option<Manner>, CaseFault>
@@ -54,6 +83,9 @@ pub fn manner_of(alloc: Global, manner: &Value) -> Result<Option<Manner>, CaseFa
         "late" => Ok(late_of(manner)),
         "silent" => Ok(silent_of(manner)),
         "output" => output_of(alloc, manner),
+        "forge" => Ok(forge_of(manner)),
+        "noise" => Ok(noise_of(manner)),
+        "tape" => taped_of(alloc, manner),
         _ => Ok(None),
     }
 }

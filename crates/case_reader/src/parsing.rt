@@ -1,14 +1,16 @@
-ghost use Rattle.std.specs.Prelude.{◌≡◌, ◌≤◌, length, map, IfOk};
+ghost use Rattle.std.specs.Prelude.{◌≡◌, ◌≤◌, length, map, IfOk, IfSome};
 ghost use Rattle.std.specs.Option.{ok_or};
 ghost use Rattle.serde_json.specs.View.{view};
 ghost use Rattle.rd_base.specs.Results.{Gives};
-ghost use Rattle.case_reader.specs.Fields.{format_in, input_in, provers_in};
+ghost use Rattle.case_reader.specs.Fields.{text_in, format_in, image_in, input_in, fan_in, stake_in, provers_in};
 ghost use Rattle.case_reader.specs.Case.{case_of, case_at, tree_of, data_of};
 ghost use Rattle.case_reader.specs.declared.fault.CaseFault.TheVariants.{NotJson};
 
-use crate::case::{Case, FAN, Format, MAX_BOUND, MAX_PATIENCE, MAX_PROVERS, VERSION};
+use crate::case::{
+    Case, Format, MAX_BOUND, MAX_FAN, MAX_PATIENCE, MAX_PROVERS, MAX_STAKE, MIN_FAN, VERSION,
+};
 use crate::fault::{CaseFault, Key};
-use crate::field::{array_of, bytes_of, number_of, text_of};
+use crate::field::{array_of, bytes_of, number_of, optional_number_of, text_of};
 use crate::prover::scripts_of;
 use rd_base::{Bytes, MAX_INPUT_BYTES};
 use serde_json::Value;
@@ -21,7 +23,26 @@ fn format_of(tree: &Value) -> Result<Format, CaseFault>
     match text_of(tree, Key::Format)? {
         "flat" => Ok(Format::Flat),
         "elf" => Ok(Format::Elf),
+        "asm" => Ok(Format::Asm),
         _ => Err(CaseFault::OutOfRange(Key::Format)),
+    }
+}
+
+/// The bytes of a key's text.
+fn text_bytes_of(alloc: Global, tree: &Value, key: Key) -> Result<Bytes, CaseFault>
+    ensures { Gives CaseFault.Memory (λ bytes. bytes) result (text_in key (view tree.now)) }
+{
+    let text = text_of(tree, key)?;
+    Ok(Bytes::new(Vec::from_slice(alloc, text.as_bytes())?))
+}
+
+#[tactic(auto, unfolding(crate::specs::Fields::image_in))]
+fn image_of(alloc: Global, tree: &Value, format: Format) -> Result<Bytes, CaseFault>
+    ensures { Gives CaseFault.Memory (λ image. image) result (image_in format (view tree.now)) }
+{
+    match format {
+        Format::Asm => text_bytes_of(alloc, tree, Key::Image),
+        Format::Flat | Format::Elf => bytes_of(alloc, tree, Key::Image),
     }
 }
 
@@ -36,6 +57,25 @@ fn input_of(alloc: Global, tree: &Value) -> Result<Bytes, CaseFault>
     } else {
         Err(CaseFault::OutOfRange(Key::Input))
     }
+}
+
+#[tactic(auto, unfolding(crate::specs::Fields::fan_in))]
+fn fan_of(tree: &Value) -> Result<u32, CaseFault>
+    ensures value { Gives CaseFault.Memory (λ fan. fan) result (fan_in (view tree.now)) }
+    ensures parted { IfOk result (λ fan. 2 ≤ fan) }
+    ensures few { IfOk result (λ fan. fan ≤ 16) }
+{
+    match optional_number_of(tree, Key::Fan, u64::from(MIN_FAN), u64::from(MAX_FAN))? {
+        Some(fan) => Ok(fan as u32),
+        None => Ok(MIN_FAN),
+    }
+}
+
+fn stake_of(tree: &Value) -> Result<Option<u64>, CaseFault>
+    ensures value { Gives CaseFault.Memory (λ stake. stake) result (stake_in (view tree.now)) }
+    ensures small { IfOk result (λ stake. IfSome stake (λ s. s ≤ 1000000000)) }
+{
+    optional_number_of(tree, Key::Stake, 0, MAX_STAKE)
 }
 
 #[tactic(auto, unfolding(crate::specs::Fields::provers_in))]
@@ -60,10 +100,12 @@ fn case_of_tree(alloc: Global, tree: &Value) -> Result<Case, CaseFault>
         return Err(CaseFault::NotObject);
     }
     let format = format_of(tree)?;
-    let image = bytes_of(alloc, tree, Key::Image)?;
+    let image = image_of(alloc, tree, format)?;
     let input = input_of(alloc, tree)?;
     let bound = number_of(tree, Key::Bound, 1, MAX_BOUND)?;
     let patience = number_of(tree, Key::Patience, 0, MAX_PATIENCE)? as u32;
+    let fan = fan_of(tree)?;
+    let stake = stake_of(tree)?;
     let provers = provers_of(tree)?;
     let provers = scripts_of(alloc, provers)?;
     Ok(Case {
@@ -73,7 +115,8 @@ fn case_of_tree(alloc: Global, tree: &Value) -> Result<Case, CaseFault>
         bound,
         patience,
         version: VERSION,
-        fan: FAN,
+        fan,
+        stake,
         provers,
     })
 }

@@ -1,6 +1,6 @@
 //! Which keys, tampers and manners are taken, rule by rule, stands in the stored rows of `test_refcli`.
 
-use case_reader::{CaseFault, Key, read_case};
+use case_reader::{CaseFault, Format, Key, read_case};
 use std::alloc::Global;
 use std::test::Fail;
 
@@ -35,10 +35,10 @@ fn bytes_that_hold_no_object_are_refused(rt: HostRuntime) {
 fn of_two_faults_the_earlier_rule_names_the_fault(rt: HostRuntime) -> Result<(), Fail> {
     let alloc = rt.alloc();
     for (old, new, other, instead, want) in [
-        ("{\"f", "[{\"f", "flat", "asm", CaseFault::NotJson),
+        ("{\"f", "[{\"f", "flat", "raw", CaseFault::NotJson),
         (
             "flat",
-            "asm",
+            "raw",
             "image",
             "Image",
             CaseFault::OutOfRange(Key::Format),
@@ -100,6 +100,87 @@ fn of_two_faults_the_earlier_rule_names_the_fault(rt: HostRuntime) -> Result<(),
     Ok(())
 }
 
+/// Keys that may be missing are tested where they are there: the fan after the patience, then the stake, then the provers.
+#[test]
+fn fan_and_stake_have_their_types_and_ranges(rt: HostRuntime) -> Result<(), Fail> {
+    let alloc = rt.alloc();
+    let fan_type = Some(CaseFault::WrongType(Key::Fan));
+    let fan_range = Some(CaseFault::OutOfRange(Key::Fan));
+    let stake_type = Some(CaseFault::WrongType(Key::Stake));
+    let stake_range = Some(CaseFault::OutOfRange(Key::Stake));
+    for (keys, want) in [
+        ("\"patience\":0,\"fan\":2", None),
+        ("\"patience\":0,\"fan\":16", None),
+        ("\"patience\":0,\"fan\":1", fan_range),
+        ("\"patience\":0,\"fan\":17", fan_range),
+        ("\"patience\":0,\"fan\":\"4\"", fan_type),
+        ("\"patience\":0,\"fan\":-4", fan_type),
+        ("\"patience\":0,\"fan\":null", fan_type),
+        ("\"patience\":0,\"stake\":0", None),
+        ("\"patience\":0,\"stake\":1000000000", None),
+        ("\"patience\":0,\"stake\":1000000001", stake_range),
+        ("\"patience\":0,\"stake\":-1", stake_type),
+        ("\"patience\":0,\"stake\":\"5\"", stake_type),
+        (
+            "\"patience\":101,\"fan\":17",
+            Some(CaseFault::OutOfRange(Key::Patience)),
+        ),
+        ("\"stake\":-1,\"patience\":0,\"fan\":17", fan_range),
+        (
+            "\"patience\":0,\"stake\":-1,\"Provers\":[],\"fan\":2",
+            stake_type,
+        ),
+    ] {
+        let text = BASE.replace(alloc, "\"patience\":0", keys)?;
+        assert_eq!(rt; fault_of(alloc, text.as_str()), want, "{keys}");
+        let text = text.replace(alloc, "[{}]", "[5]")?;
+        let want = want.or(Some(CaseFault::BadProver(1)));
+        assert_eq!(rt; fault_of(alloc, text.as_str()), want, "{keys}");
+    }
+    Ok(())
+}
+
+#[test]
+fn a_bound_is_below_two_to_the_32nd(rt: HostRuntime) -> Result<(), Fail> {
+    let alloc = rt.alloc();
+    let range = Some(CaseFault::OutOfRange(Key::Bound));
+    for (bound, want) in [
+        (":16777217", None),
+        (":4294967295", None),
+        (":4294967296", range),
+        (":0", range),
+    ] {
+        let text = BASE.replace(alloc, ":8", bound)?;
+        assert_eq!(rt; fault_of(alloc, text.as_str()), want, "{bound}");
+    }
+    Ok(())
+}
+
+/// The image of assembly is its text, which needn't be hexadecimal digits and may have escapes.
+#[test]
+fn an_image_of_assembly_is_its_text(rt: HostRuntime) -> Result<(), Fail> {
+    let alloc = rt.alloc();
+    let assembly = BASE.replace(alloc, "flat", "asm")?;
+    for (image, want) in [
+        ("\"1g\"", None),
+        ("\"\"", None),
+        ("5", Some(CaseFault::WrongType(Key::Image))),
+        ("[]", Some(CaseFault::WrongType(Key::Image))),
+        ("\"\",\"input\":5", Some(CaseFault::Missing(Key::Image))),
+    ] {
+        let text = match want {
+            Some(CaseFault::Missing(_)) => assembly.replace(alloc, "image", "Image")?,
+            _ => assembly.replace(alloc, "\"1305a002\"", image)?,
+        };
+        assert_eq!(rt; fault_of(alloc, text.as_str()), want, "{image}");
+    }
+    let text = assembly.replace(alloc, "1305a002", "fence\\n\\u00e9")?;
+    let case = read_case(alloc, text.as_bytes())?;
+    assert_eq!(rt; case.image.as_slice(), b"fence\n\xc3\xa9".as_slice());
+    assert!(rt; matches!(case.format, Format::Asm));
+    Ok(())
+}
+
 #[test]
 fn a_prover_that_is_not_known_is_named_by_its_number(rt: HostRuntime) -> Result<(), Fail> {
     let alloc = rt.alloc();
@@ -107,7 +188,7 @@ fn a_prover_that_is_not_known_is_named_by_its_number(rt: HostRuntime) -> Result<
         ("[[]]", 1),
         ("[{},5]", 2),
         ("[{},{},{\"tamper\":0}]", 3),
-        ("[{},{\"manner\":{\"kind\":\"tape\",\"answers\":[]}},5]", 2),
+        ("[{},{\"manner\":{\"kind\":\"echo\",\"answers\":[]}},5]", 2),
         ("[{\"tamper\":{\"kind\":\"early\"},\"manner\":{}},{}]", 1),
     ] {
         let text = BASE.replace(alloc, "[{}]", provers)?;
@@ -175,15 +256,15 @@ fn a_case_is_read_whole(rt: HostRuntime) -> Result<(), Fail> {
         (
             BASE,
             "Case { image: Listed { items: [19, 5, 160, 2] }, format: Flat, input: Listed { items: [] }, \
-             bound: 8, patience: 0, version: 1, fan: 2, provers: Listed { items: [Script { tamper: Untouched, manner: Plain }] } }",
+             bound: 8, patience: 0, version: 1, fan: 2, stake: None, provers: Listed { items: [Script { tamper: Untouched, manner: Plain }] } }",
         ),
         // Keys come in any order, the last of two counts, digits are of either case, and other keys are ignored.
         (
             "{\"provers\":[{\"name\":1},{\"manner\":{\"bytes\":\"aB\",\"kind\":\"output\",\"x\":[]}}],\
-             \"patience\":100,\"bound\":0,\"bound\":16777216,\"input\":\"00Ff\",\"image\":\"\",\
-             \"note\":{\"bound\":0},\"format\":\"elf\"}",
+             \"patience\":100,\"bound\":0,\"bound\":4294967295,\"input\":\"00Ff\",\"image\":\"\",\
+             \"stake\":1000000000,\"fan\":16,\"note\":{\"bound\":0},\"format\":\"elf\"}",
             "Case { image: Listed { items: [] }, format: Elf, input: Listed { items: [0, 255] }, \
-             bound: 16777216, patience: 100, version: 1, fan: 2, provers: Listed { items: [\
+             bound: 4294967295, patience: 100, version: 1, fan: 16, stake: Some(1000000000), provers: Listed { items: [\
              Script { tamper: Untouched, manner: Plain }, \
              Script { tamper: Untouched, manner: Output(ClaimOutput { bytes: Listed { items: [171] } }) }] } }",
         ),
@@ -192,12 +273,14 @@ fn a_case_is_read_whole(rt: HostRuntime) -> Result<(), Fail> {
             "{\"format\":\"flat\",\"image\":\"\",\"input\":\"\",\"bound\":1,\"patience\":0,\"provers\":[\
              {\"tamper\":{\"kind\":\"flip\",\"step\":1,\"addr\":2,\"mask\":3},\"manner\":{\"kind\":\"late\",\"passes\":4}},\
              {\"tamper\":{\"kind\":\"reg\",\"step\":5,\"reg\":6,\"value\":7},\"manner\":{\"kind\":\"silent\",\"from\":8}},\
-             {\"tamper\":{\"kind\":\"early\",\"steps\":9}}]}",
+             {\"tamper\":{\"kind\":\"early\",\"steps\":9},\"manner\":{\"kind\":\"noise\",\"seed\":10}},\
+             {\"manner\":{\"kind\":\"forge\",\"step\":11,\"reg\":12,\"value\":13}}]}",
             "Case { image: Listed { items: [] }, format: Flat, input: Listed { items: [] }, \
-             bound: 1, patience: 0, version: 1, fan: 2, provers: Listed { items: [\
+             bound: 1, patience: 0, version: 1, fan: 2, stake: None, provers: Listed { items: [\
              Script { tamper: Flip { step: 1, addr: 2, mask: 3 }, manner: Late(PassCount { count: 4 }) }, \
              Script { tamper: Register { step: 5, reg: RegisterNumber { number: 6 }, value: 7 }, manner: Silent(FirstSilentRound { round: 8 }) }, \
-             Script { tamper: Early { steps: 9 }, manner: Plain }] } }",
+             Script { tamper: Early { steps: 9 }, manner: Noise { seed: 10 } }, \
+             Script { tamper: Untouched, manner: Forge { step: 11, reg: RegisterNumber { number: 12 }, value: 13 } }] } }",
         ),
     ] {
         let case = read_case(alloc, text.as_bytes())?;
@@ -241,6 +324,16 @@ fn a_fault_has_its_rule_and_its_text(rt: HostRuntime) -> Result<(), Fail> {
             CaseFault::OutOfRange(Key::Provers),
             Some(6),
             "provers is out of range",
+        ),
+        (
+            CaseFault::WrongType(Key::Fan),
+            Some(4),
+            "fan has another type",
+        ),
+        (
+            CaseFault::OutOfRange(Key::Stake),
+            Some(6),
+            "stake is out of range",
         ),
         (
             CaseFault::BadProver(2),

@@ -6,6 +6,8 @@
 #[cfg(test)]
 mod case_reader_test;
 #[cfg(test)]
+mod manners_test;
+#[cfg(test)]
 mod transcript_text_test;
 #[cfg(test)]
 mod workload_test;

@@ -1,5 +1,5 @@
 -- To believe. The large workload of a seed: the tree that its text writes, and the case that it is.
-use Rattle.std.specs.Prelude.{ℕ, ◌+◌, ◌*◌, ◌/◌, ◌%◌, ◌^◌, ◌==◌, List, codes, if◌then◌else◌}
+use Rattle.std.specs.Prelude.{ℕ, ◌+◌, ◌*◌, ◌/◌, ◌%◌, ◌^◌, ◌==◌, List, None, codes, if◌then◌else◌}
 use Rattle.hex.specs.Hex.{encode_lower}
 use Rattle.serde_json.specs.Data.{Data, unsigned, number, string, array, object, Items, Members, no_members, member}
 use Rattle.serde_json.specs.View.{items_of}
@@ -80,5 +80,6 @@ big_data seed = record {
   patience = 0;
   version = 1;
   fan = 2;
+  stake = None;
   provers = first_values 8 (prover_script seed);
 }
