@@ -1,8 +1,9 @@
 //! Matches of toy players, and their reports.
 ghost use denote.Param.Send.{IsSync};
-ghost use Rattle.std.specs.Prelude.{length, ◌<◌, ◌≤◌};
+ghost use Rattle.std.specs.Prelude.{length, ◌<◌, ◌≤◌, ◌^◌};
 
 use bisect_game::{Answerer, Kind, Question};
+use deposits::Balances;
 use rd_base::{Answer, Memory, Qid};
 use std::alloc::Global;
 use std::thread::Threads;
@@ -30,6 +31,23 @@ pub(crate) struct Wrong {
 pub(crate) const NOBODY: Wrong = Wrong {
     prover: 0,
     round: 0,
+};
+
+/// How a match is played.
+#[derive(Clone, Copy, Debug)]
+pub(crate) struct Terms {
+    pub bound: u64,
+    pub fan: u32,
+    pub patience: u32,
+    pub wrong: Wrong,
+}
+
+/// Over 8 steps in halves, without patience.
+pub(crate) const HALVES: Terms = Terms {
+    bound: 8,
+    fan: 2,
+    patience: 0,
+    wrong: NOBODY,
 };
 
 /// An answer of another kind than asked.
@@ -71,21 +89,31 @@ fn move_prover<R: Threads + Sync>(
     Ok(())
 }
 
-/// A match over 8 steps of these players, who move in turn in this order; the place of the first is 0.
+/// A match of these players, who move in turn in this order; the place of the first is 0.
 fn played<R: Threads + Sync>(
     rt: &R,
     alloc: Global,
     players: &[Player],
     order: &[usize],
-    patience: u32,
-    wrong: Wrong,
+    terms: Terms,
 ) -> Result<Match<ToyJudge>, Memory>
     requires sync { IsSync R.row }
     requires some { 0 < length players.now }
     requires few { length players.now ≤ 16 }
+    requires steps { 0 < terms.bound }
+    requires short { terms.bound < 2 ^ 32 }
+    requires parted { 1 < terms.fan }
+    requires few_parts { terms.fan ≤ 16 }
 {
     let judge = ToyJudge { name: 0 };
-    let mut game = Match::new(alloc, judge, players.len() as u32, 8, 2, patience, root(0))?;
+    let count = players.len() as u32;
+    let Terms {
+        bound,
+        fan,
+        patience,
+        wrong,
+    } = terms;
+    let mut game = Match::new(alloc, judge, count, bound, fan, patience, root(0))?;
     for _ in 0..64 {
         for place in order {
             if let Some(player) = players.get(*place) {
@@ -109,33 +137,36 @@ fn accepted(verdict: &Verdict) -> u32 {
 }
 
 /// The report of a match of these players, of whom there are 1 to 16, and whose claim is accepted, 0 where none is. The report is
-/// empty where there is no match of so many, and where it isn't over.
+/// empty where there is no match on such terms, and where it isn't over.
 pub(crate) fn report_of<R: Threads + Sync>(
     rt: &R,
     alloc: Global,
     players: &[Player],
     order: &[usize],
-    patience: u32,
-    wrong: Wrong,
+    terms: Terms,
+    balances: Option<&Balances>,
 ) -> Result<(Vec<u8>, u32), Memory>
     requires { IsSync R.row }
 {
     if players.is_empty() || players.len() > 16 {
         return Ok((Vec::new(alloc), 0));
     }
-    let game = played(rt, alloc, players, order, patience, wrong)?;
+    if terms.bound == 0 || terms.bound > 4_294_967_295 || terms.fan < 2 || terms.fan > 16 {
+        return Ok((Vec::new(alloc), 0));
+    }
+    let game = played(rt, alloc, players, order, terms)?;
     let head = Head {
         provers: players.len() as u32,
-        bound: 8,
-        patience,
+        bound: terms.bound,
+        patience: terms.patience,
         version: 1,
-        fan: 2,
+        fan: terms.fan,
         digest: DigestName::Sha256,
         start: root(0),
     };
     match game.verdict() {
         Some(verdict) => {
-            let text = report(alloc, &head, game.record(), &verdict)?;
+            let text = report(alloc, &head, game.record(), &verdict, balances)?;
             Ok((text, accepted(&verdict)))
         }
         None => Ok((Vec::new(alloc), 0)),

@@ -1,4 +1,6 @@
-use crate::playing::{NOBODY, Wrong, report_of};
+use crate::playing::{HALVES, NOBODY, Terms, Wrong, report_of};
+use deposits::Balances;
+use rd_base::Listed;
 use std::test::Fail;
 use toy_game::{HONEST, LIAR, Player, SILENT};
 
@@ -203,14 +205,13 @@ fn each_match_has_its_report(rt: HostRuntime) -> Result<(), Fail> {
         ),
     ];
     for (players, patience, wrong, accepted, want) in rows {
-        let (text, prover) = report_of(
-            &rt,
-            rt.alloc(),
-            players,
-            &[0, 1, 2, 3, 4],
+        let terms = Terms {
             patience,
             wrong,
-        )?;
+            ..HALVES
+        };
+        let order = [0, 1, 2, 3, 4];
+        let (text, prover) = report_of(&rt, rt.alloc(), players, &order, terms, None)?;
         assert_eq!(rt; text.as_slice(), want.as_bytes(), "{wrong:?}");
         assert_eq!(rt; prover, accepted, "{wrong:?}");
     }
@@ -243,9 +244,134 @@ fn all_orders_end_in_one_report(rt: HostRuntime) -> Result<(), Fail> {
         [2, 1, 0],
     ];
     for order in orders {
-        let (text, accepted) = report_of(&rt, rt.alloc(), &players, &order, 1, NOBODY)?;
+        let terms = Terms {
+            patience: 1,
+            ..HALVES
+        };
+        let (text, accepted) = report_of(&rt, rt.alloc(), &players, &order, terms, None)?;
         assert_eq!(rt; text.as_slice(), want.as_bytes(), "{order:?}");
         assert_eq!(rt; accepted, 2, "{order:?}");
     }
+    Ok(())
+}
+
+/// A round of a larger fan shows its interval, its parts and which one is kept, also where it has only two parts.
+#[test]
+fn each_round_of_several_parts_has_its_line(rt: HostRuntime) -> Result<(), Fail> {
+    let early = Player { from: 1, ..LIAR };
+    let late = Player { from: 7, ..LIAR };
+    let silent = Player {
+        silent_from: 2,
+        ..LIAR
+    };
+    let wrong = Wrong {
+        prover: 1,
+        round: 2,
+    };
+    let rows: [(Player, u64, u32, Wrong, &str); 6] = [
+        (
+            LIAR,
+            8,
+            4,
+            NOBODY,
+            "match provers 2 bound 8 patience 0 version 1 fan 4 digest sha256\n\
+             p1 claims running output\np2 claims running output\nstage 1\ndispute 1 p1 p2\n\
+             round 1 in 0 8 by 4 keep 1\nround 2 in 0 2 by 2 keep 2\nstep 1 p1 proved p2 refuted\n\
+             accept running output\n",
+        ),
+        (
+            late,
+            7,
+            3,
+            NOBODY,
+            "match provers 2 bound 7 patience 0 version 1 fan 3 digest sha256\n\
+             p1 claims running output\np2 claims running output\nstage 1\ndispute 1 p1 p2\n\
+             round 1 in 0 7 by 3 keep 3\nround 2 in 4 7 by 3 keep 3\nstep 6 p1 proved p2 refuted\n\
+             accept running output\n",
+        ),
+        (
+            early,
+            8,
+            4,
+            NOBODY,
+            "match provers 2 bound 8 patience 0 version 1 fan 4 digest sha256\n\
+             p1 claims running output\np2 claims running output\nstage 1\ndispute 1 p1 p2\n\
+             round 1 in 0 8 by 4 keep 1\nround 2 in 0 2 by 2 keep 1\nstep 0 p1 proved p2 refuted\n\
+             accept running output\n",
+        ),
+        (
+            LIAR,
+            4_294_967_295,
+            16,
+            NOBODY,
+            "match provers 2 bound 4294967295 patience 0 version 1 fan 16 digest sha256\n\
+             p1 claims running output\np2 claims running output\nstage 1\ndispute 1 p1 p2\n\
+             round 1 in 0 4294967295 by 16 keep 1\nround 2 in 0 268435455 by 16 keep 1\n\
+             round 3 in 0 16777215 by 16 keep 1\nround 4 in 0 1048575 by 16 keep 1\n\
+             round 5 in 0 65535 by 16 keep 1\nround 6 in 0 4095 by 16 keep 1\n\
+             round 7 in 0 255 by 16 keep 1\nround 8 in 0 15 by 15 keep 2\nstep 1 p1 proved p2 refuted\n\
+             accept running output\n",
+        ),
+        (
+            LIAR,
+            8,
+            4,
+            wrong,
+            "match provers 2 bound 8 patience 0 version 1 fan 4 digest sha256\n\
+             p1 claims running output\np2 claims running output\nstage 1\ndispute 1 p1 p2\n\
+             round 1 in 0 8 by 4 keep 1\nround 2 in 0 2 by 2 p1 faulty p2 given\n\
+             accept running output\n",
+        ),
+        (
+            silent,
+            8,
+            3,
+            NOBODY,
+            "match provers 2 bound 8 patience 0 version 1 fan 3 digest sha256\n\
+             p1 claims running output\np2 claims running output\nstage 1\ndispute 1 p1 p2\n\
+             round 1 in 0 8 by 3 keep 1\nround 2 in 0 2 by 2 p1 given p2 spent\n\
+             accept running output\n",
+        ),
+    ];
+    for (liar, bound, fan, wrong, want) in rows {
+        let terms = Terms {
+            bound,
+            fan,
+            wrong,
+            ..HALVES
+        };
+        let players = [HONEST, liar];
+        let (text, _) = report_of(&rt, rt.alloc(), &players, &[0, 1], terms, None)?;
+        assert_eq!(rt; text.as_slice(), want.as_bytes(), "{terms:?}");
+    }
+    Ok(())
+}
+
+/// In a match with deposits what each prover has, and the pool, stand before the verdict.
+#[test]
+fn balances_stand_before_the_verdict(rt: HostRuntime) -> Result<(), Fail> {
+    let alloc = rt.alloc();
+    let balances = Balances {
+        of: Listed::new(vec![in alloc; 20, 0]?),
+        pool: 0,
+    };
+    let players = [HONEST, LIAR];
+    let terms = Terms { fan: 4, ..HALVES };
+    let want = "match provers 2 bound 8 patience 0 version 1 fan 4 digest sha256\n\
+                p1 claims running output\np2 claims running output\nstage 1\ndispute 1 p1 p2\n\
+                round 1 in 0 8 by 4 keep 1\nround 2 in 0 2 by 2 keep 2\nstep 1 p1 proved p2 refuted\n\
+                balance p1 20\nbalance p2 0\npool 0\naccept running output\n";
+    let (text, _) = report_of(&rt, alloc, &players, &[0, 1], terms, Some(&balances))?;
+    assert_eq!(rt; text.as_slice(), want.as_bytes());
+    let balances = Balances {
+        of: Listed::new(vec![in alloc; 0, 1_000_000_000]?),
+        pool: 18_446_744_073_709_551_615,
+    };
+    let want = "match provers 2 bound 8 patience 0 version 1 fan 2 digest sha256\n\
+                out p1 spent\nout p2 spent\n\
+                balance p1 0\nbalance p2 1000000000\npool 18446744073709551615\nnone left\n";
+    let players = [SILENT, SILENT];
+    let (text, _) = report_of(&rt, alloc, &players, &[0, 1], HALVES, Some(&balances))?;
+    assert_eq!(rt; text.as_slice(), want.as_bytes());
     Ok(())
 }

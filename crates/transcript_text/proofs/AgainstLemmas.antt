@@ -1,5 +1,6 @@
 -- No line speaks against a prover whose answers are given and true and that isn't put out.
 use Rattle.std.proofs.Common.{◌≡◌, ℕ, suc, ◌+◌, ◌-◌, Bool, true, false, ◌&&◌, ◌||◌, ◌==◌, ◌⊎◌, inl, inr, List, [], ◌∷◌, ◌++◌, length, slice_get, Option, Some, None, if◌then◌else◌, refl, arith}
+use Rattle.std.specs.Prelude.{min}
 use Rattle.std.proofs.lemmas.Bool.Decides.{nat_tests}
 use Rattle.rd_base.specs.declared.answer.Answer.TheVariants as answer
 use Rattle.bisect_game.specs.declared.interval.Round.{Round}
@@ -18,7 +19,7 @@ use Rattle.tournament.specs.Truthful.{IsSafe}
 use Rattle.transcript_text.specs.declared.word.Word.{Word}
 use Rattle.transcript_text.specs.declared.word.Word.TheVariants as word
 use Rattle.transcript_text.specs.Words.{said_word, said_word_of_proof, speaks_against}
-use Rattle.transcript_text.specs.Lines.{Line, stage_line, said_in, is_said_against, is_against, is_against_if_there, are_against, line_of_claim, lines_of_claims, line_of_round, lines_of_rounds, line_of_step, line_of_last, lines_of_dispute, lines_of_disputes, lines_of_record}
+use Rattle.transcript_text.specs.Lines.{Parted, Line, stage_line, said_in, is_said_against, is_against, is_against_if_there, are_against, line_of_claim, lines_of_claims, line_of_halves, line_of_parts, line_of_round, lines_of_rounds, line_of_step, line_of_last, lines_of_dispute, lines_of_disputes, lines_of_record}
 
 either : (b : Bool) → (b ≡ true) ⊎ (b ≡ false)
 either true = inl refl
@@ -60,26 +61,45 @@ true-proof t k out (Faulty a) stays is = absurd is
 true-proof t k out Spent stays is = absurd is
 
 -- a round
-quiet-round : (p : ℕ) (d : Bisection) (n m : ℕ) (a b : Settled) → (d.first ≡ p → speaks_against (said_word a) ≡ false) → (d.second ≡ p → speaks_against (said_word b) ≡ false)
-    → is_against p (line_of_round d n m a b) ≡ false
-quiet-round p d n m (Given (answer.Root x)) (Given (answer.Root y)) f g = refl
-quiet-round p d n m (Given (answer.Root x)) (Given (answer.Claim y)) f g = quiet-said p d word.Given word.Given f g
-quiet-round p d n m (Given (answer.Root x)) (Given (answer.Roots ys)) f g = quiet-said p d word.Given word.Given f g
-quiet-round p d n m (Given (answer.Root x)) (Given (answer.Step y)) f g = quiet-said p d word.Given word.Given f g
-quiet-round p d n m (Given (answer.Root x)) (Faulty y) f g = quiet-said p d word.Given word.Faulty f g
-quiet-round p d n m (Given (answer.Root x)) Spent f g = quiet-said p d word.Given word.Spent f g
-quiet-round p d n m (Given (answer.Claim x)) b f g = quiet-said p d word.Given (said_word b) f g
-quiet-round p d n m (Given (answer.Roots xs)) b f g = quiet-said p d word.Given (said_word b) f g
-quiet-round p d n m (Given (answer.Step x)) b f g = quiet-said p d word.Given (said_word b) f g
-quiet-round p d n m (Faulty x) b f g = quiet-said p d word.Faulty (said_word b) f g
-quiet-round p d n m Spent b f g = quiet-said p d word.Spent (said_word b) f g
+quiet-halves : (p : ℕ) (d : Bisection) (n m : ℕ) (a b : Settled) → (d.first ≡ p → speaks_against (said_word a) ≡ false) → (d.second ≡ p → speaks_against (said_word b) ≡ false)
+    → is_against p (line_of_halves d n m a b) ≡ false
+quiet-halves p d n m (Given (answer.Root x)) (Given (answer.Root y)) f g = refl
+quiet-halves p d n m (Given (answer.Root x)) (Given (answer.Claim y)) f g = quiet-said p d word.Given word.Given f g
+quiet-halves p d n m (Given (answer.Root x)) (Given (answer.Roots ys)) f g = quiet-said p d word.Given word.Given f g
+quiet-halves p d n m (Given (answer.Root x)) (Given (answer.Step y)) f g = quiet-said p d word.Given word.Given f g
+quiet-halves p d n m (Given (answer.Root x)) (Faulty y) f g = quiet-said p d word.Given word.Faulty f g
+quiet-halves p d n m (Given (answer.Root x)) Spent f g = quiet-said p d word.Given word.Spent f g
+quiet-halves p d n m (Given (answer.Claim x)) b f g = quiet-said p d word.Given (said_word b) f g
+quiet-halves p d n m (Given (answer.Roots xs)) b f g = quiet-said p d word.Given (said_word b) f g
+quiet-halves p d n m (Given (answer.Step x)) b f g = quiet-said p d word.Given (said_word b) f g
+quiet-halves p d n m (Faulty x) b f g = quiet-said p d word.Faulty (said_word b) f g
+quiet-halves p d n m Spent b f g = quiet-said p d word.Spent (said_word b) f g
+
+quiet-parts : (p : ℕ) (d : Bisection) (r : Parted) (a b : Settled) → (d.first ≡ p → speaks_against (said_word a) ≡ false) → (d.second ≡ p → speaks_against (said_word b) ≡ false)
+    → is_against p (line_of_parts d r a b) ≡ false
+quiet-parts p d r (Given x) (Given y) f g = refl
+quiet-parts p d r (Given x) (Faulty y) f g = quiet-said p d word.Given word.Faulty f g
+quiet-parts p d r (Given x) Spent f g = quiet-said p d word.Given word.Spent f g
+quiet-parts p d r (Faulty x) b f g = quiet-said p d word.Faulty (said_word b) f g
+quiet-parts p d r Spent b f g = quiet-said p d word.Spent (said_word b) f g
+
+quiet-round : (p : ℕ) (d : Bisection) (n lo hi : ℕ) (a b : Settled) → (d.first ≡ p → speaks_against (said_word a) ≡ false) → (d.second ≡ p → speaks_against (said_word b) ≡ false)
+    → is_against p (line_of_round d n lo hi a b) ≡ false
+quiet-round p d n lo hi a b f g = by (d.fan == 2)
+  where
+    r : Parted
+    r = record { number = n; lo = lo; hi = hi; parts = min d.fan (hi - lo) }
+
+    by : (halves : Bool) → is_against p (if halves then line_of_halves d n (middle lo hi) a b else line_of_parts d r a b) ≡ false
+    by true = quiet-halves p d n (middle lo hi) a b f g
+    by false = quiet-parts p d r a b f g
 
 quiet-rounds : (t : Truth) (fan p : ℕ) (d : Bisection) (n : ℕ) (rs : List Round) → (d.first ≡ p → AllTrue t fan First rs) → (d.second ≡ p → AllTrue t fan Second rs)
     → are_against p (lines_of_rounds d n rs) ≡ false
 quiet-rounds t fan p d n [] f g = refl
 quiet-rounds t fan p d n (r ∷ rs) f g =
     neither _ _
-    (quiet-round p d n (middle r.lo r.hi) r.first r.second (λ mine. true-word t _ r.first (f mine).0) (λ mine. true-word t _ r.second (g mine).0))
+    (quiet-round p d n r.lo r.hi r.first r.second (λ mine. true-word t _ r.first (f mine).0) (λ mine. true-word t _ r.second (g mine).0))
     (quiet-rounds t fan p d (n + 1) rs (λ mine. (f mine).1) (λ mine. (g mine).1))
 
 -- the last round
@@ -99,9 +119,9 @@ quiet-last : (t : Truth) (k : Kind) (p : ℕ) (d : Bisection) (a b : Option Sett
     → (d.first ≡ p → (is_put_out First d.close ≡ false) × IsTrueSoFar t k a) → (d.second ≡ p → (is_put_out Second d.close ≡ false) × IsTrueSoFar t k b)
     → is_against_if_there p (line_of_last d a b) ≡ false
 quiet-last t k p d (Some a) (Some b) f g =
-    quiet-choice p (is_step d.place) (line_of_step d d.close a b) (Some (line_of_round d (length d.past + 1) (middle d.place.lo d.place.hi) a b))
+    quiet-choice p (is_step d.place) (line_of_step d d.close a b) (Some (line_of_round d (length d.past + 1) d.place.lo d.place.hi a b))
     (quiet-step t k p d d.close a b f g)
-    (quiet-round p d _ _ a b (λ mine. true-word t k a (f mine).1) (λ mine. true-word t k b (g mine).1))
+    (quiet-round p d _ _ _ a b (λ mine. true-word t k a (f mine).1) (λ mine. true-word t k b (g mine).1))
 quiet-last t k p d (Some a) None f g = refl
 quiet-last t k p d None b f g = refl
 

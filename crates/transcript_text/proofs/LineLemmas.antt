@@ -1,9 +1,9 @@
 -- Texts of lines.
-use Rattle.std.proofs.Common.{◌≡◌, ℕ, ◌+◌, ◌<◌, List, [], ◌∷◌, ◌++◌, length, drop, get_or, Option, refl, sym, ap, ◌∙◌, append_assoc, add-one, drop-cons}
+use Rattle.std.proofs.Common.{◌≡◌, ℕ, ◌+◌, ◌<◌, List, [], ◌∷◌, ◌++◌, length, drop, get_or, Option, Some, refl, sym, ap, ◌∙◌, append_assoc, add-one, drop-cons}
 use Rattle.std.proofs.lemmas.List.{append-nil}
 use Rattle.bisect_game.specs.Bisection.{Bisection}
 use Rattle.transcript_text.specs.Lines.{Line, lines_of_dispute, lines_of_disputes}
-use Rattle.transcript_text.specs.Report.{text_if_there, lines_text}
+use Rattle.transcript_text.specs.Report.{line_text, text_if_there, lines_text}
 
 -- the text of lines and more lines
 pub lines_text_append : (xs ys : List (Option Line)) → lines_text (xs ++ ys) ≡ lines_text xs ++ lines_text ys
@@ -18,6 +18,10 @@ added_lines start mid end xs ys p q =
 -- a text after lines were added, and then one more
 pub added_last : (start mid end : List ℕ) (xs : List (Option Line)) (l : Option Line) → mid ≡ start ++ lines_text xs → end ≡ mid ++ text_if_there l → end ≡ start ++ lines_text (xs ++ l ∷ [])
 added_last start mid end xs l p q = added_lines start mid end xs (l ∷ []) p (q ∙ ap (λ t. mid ++ t) (sym (append-nil (text_if_there l))))
+
+-- a text after lines were added, and then this one
+pub added_line : (start mid end : List ℕ) (xs : List (Option Line)) (l : Line) → mid ≡ start ++ lines_text xs → end ≡ mid ++ line_text l → end ≡ start ++ lines_text (xs ++ Some l ∷ [])
+added_line start mid end xs l p q = added_last start mid end xs (Some l) p q
 
 -- the next of the disputes that are left
 pub drop-next : (ds : List Bisection) (i : ℕ) (d : Bisection) → i < length ds → d ≡ get_or ds i d → drop i ds ≡ d ∷ drop (i + 1) ds

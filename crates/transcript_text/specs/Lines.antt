@@ -1,6 +1,6 @@
 -- To believe. The lines of a report: which ones a record and a verdict have, and which speak against a prover. A line that a
 -- report leaves out, as of an answer that isn't settled, is None.
-use Rattle.std.specs.Prelude.{ℕ, ◌+◌, Bool, false, ◌&&◌, ◌||◌, ◌==◌, List, [], ◌∷◌, ◌++◌, length, Option, Some, None, if◌then◌else◌}
+use Rattle.std.specs.Prelude.{ℕ, ◌+◌, ◌-◌, min, Bool, false, ◌&&◌, ◌||◌, ◌==◌, List, [], ◌∷◌, ◌++◌, length, Option, Some, None, if◌then◌else◌}
 use Rattle.rd_base.specs.declared.status.Status.{Status}
 use Rattle.rd_base.specs.declared.answer.Answer.TheVariants as answer
 use Rattle.bisect_game.specs.declared.interval.Round.{Round}
@@ -10,10 +10,11 @@ use Rattle.bisect_game.specs.declared.settled.Settled.TheVariants as settled
 use Rattle.bisect_game.specs.declared.settled.Close.{Close}
 use Rattle.bisect_game.specs.Ruling.{same_digest}
 use Rattle.bisect_game.specs.Closing.{is_step}
-use Rattle.bisect_game.specs.Bisection.{Bisection, middle}
+use Rattle.bisect_game.specs.Bisection.{Bisection, middle, roots_in, kept_part}
 use Rattle.bisect_game.specs.Truth.{is_put_out}
 use Rattle.tournament.specs.declared.verdict.Verdict.{Verdict}
 use Rattle.tournament.specs.Bracket.{Record}
+use Rattle.deposits.specs.declared.amounts.Balances.{Balances}
 use Rattle.text_types.specs.declared.text.Stated.{Stated}
 use Rattle.text_types.specs.declared.text.Stated.TheVariants.{Accept, NoneLeft, Collision}
 use Rattle.text_types.specs.StatedVerdict.{given_claim, stated_claim, stated_of}
@@ -28,6 +29,13 @@ pub record Said : Type 0 where
   pub second : ℕ
   pub of_second : Word
 
+-- a round, the interval that it cuts, and in how many parts: `round R in LO HI by G`
+pub record Parted : Type 0 where
+  pub number : ℕ
+  pub lo : ℕ
+  pub hi : ℕ
+  pub parts : ℕ
+
 pub data Line : Type 0 where
   -- `pI claims STATE output HEX`
   claim_line : ℕ → Status → List ℕ → Line
@@ -41,8 +49,16 @@ pub data Line : Type 0 where
   compared_line : ℕ → ℕ → Bool → Line
   -- `round R at MID pA X pB Y`
   round_line : ℕ → ℕ → Said → Line
+  -- `round R in LO HI by G keep J`
+  kept_line : Parted → ℕ → Line
+  -- `round R in LO HI by G pA X pB Y`
+  parts_line : Parted → Said → Line
   -- `step LO pA X pB Y`
   step_line : ℕ → Said → Line
+  -- `balance pI N`
+  balance_line : ℕ → ℕ → Line
+  -- `pool N`
+  pool_line : ℕ → Line
   -- `accept STATE output HEX`
   accept_line : Status → List ℕ → Line
   -- `none left`
@@ -68,15 +84,26 @@ lines_of_claims p (s ∷ ss) = line_of_claim p s ∷ lines_of_claims (p + 1) ss
 abbrev pub said_in : Bisection → Word → Word → Said
 said_in d x y = record { first = d.first; of_first = x; second = d.second; of_second = y }
 
--- a round in which a root is asked: whether both roots are the same, or what became of either side's answer
-abbrev pub line_of_round : Bisection → ℕ → ℕ → Settled → Settled → Line
-line_of_round d number mid (settled.Given (answer.Root x)) (settled.Given (answer.Root y)) = compared_line number mid (same_digest x y)
-line_of_round d number mid a b = round_line number mid (said_in d (said_word a) (said_word b))
+-- a round of two parts: whether both roots at the middle are the same, or what became of either side's answer
+abbrev pub line_of_halves : Bisection → ℕ → ℕ → Settled → Settled → Line
+line_of_halves d number mid (settled.Given (answer.Root x)) (settled.Given (answer.Root y)) = compared_line number mid (same_digest x y)
+line_of_halves d number mid a b = round_line number mid (said_in d (said_word a) (said_word b))
+
+-- a round of a larger fan: which part is kept, counted from 1, or what became of either side's answer
+abbrev pub line_of_parts : Bisection → Parted → Settled → Settled → Line
+line_of_parts d r (settled.Given x) (settled.Given y) = kept_line r (kept_part r.parts (roots_in x) (roots_in y) + 1)
+line_of_parts d r a b = parts_line r (said_in d (said_word a) (said_word b))
+
+-- a round that asks for roots between two steps, by the dispute's fan
+abbrev pub line_of_round : Bisection → ℕ → ℕ → ℕ → Settled → Settled → Line
+line_of_round d number lo hi a b =
+    if d.fan == 2 then line_of_halves d number (middle lo hi) a b
+    else line_of_parts d (record { number = number; lo = lo; hi = hi; parts = min d.fan (hi - lo) }) a b
 
 -- the rounds that went on, the first of which has this number
 abbrev pub lines_of_rounds : Bisection → ℕ → List Round → List (Option Line)
 lines_of_rounds d number [] = []
-lines_of_rounds d number (r ∷ rs) = Some (line_of_round d number (middle r.lo r.hi) r.first r.second) ∷ lines_of_rounds d (number + 1) rs
+lines_of_rounds d number (r ∷ rs) = Some (line_of_round d number r.lo r.hi r.first r.second) ∷ lines_of_rounds d (number + 1) rs
 
 -- the proof round: a side's proof is refuted where the side is out
 abbrev pub line_of_step : Bisection → Option Close → Settled → Settled → Option Line
@@ -84,7 +111,7 @@ line_of_step d (Some c) a b = Some (step_line d.place.lo (said_in d (said_word_o
 line_of_step d None a b = None
 
 abbrev pub line_of_last : Bisection → Option Settled → Option Settled → Option Line
-line_of_last d (Some a) (Some b) = if is_step d.place then line_of_step d d.close a b else Some (line_of_round d (length d.past + 1) (middle d.place.lo d.place.hi) a b)
+line_of_last d (Some a) (Some b) = if is_step d.place then line_of_step d d.close a b else Some (line_of_round d (length d.past + 1) d.place.lo d.place.hi a b)
 line_of_last d (Some a) None = None
 line_of_last d None b = None
 
@@ -108,6 +135,17 @@ lines_of_disputes before (d ∷ ds) = lines_of_dispute before d ++ lines_of_disp
 -- stages count from 1
 abbrev pub lines_of_record : Record → List (Option Line)
 lines_of_record t = lines_of_claims 1 t.claims ++ lines_of_disputes 0 t.disputes
+
+-- DEPOSITS, in a match that has them: what each prover has, and what is in the pool
+
+-- of provers the first of which has this number
+abbrev pub lines_of_provers : ℕ → List ℕ → List (Option Line)
+lines_of_provers p [] = []
+lines_of_provers p (has ∷ others) = Some (balance_line p has) ∷ lines_of_provers (p + 1) others
+
+abbrev pub lines_of_balances : Option Balances → List (Option Line)
+lines_of_balances (Some b) = lines_of_provers 1 b.of ++ Some (pool_line b.pool) ∷ []
+lines_of_balances None = []
 
 -- THE VERDICT
 
@@ -135,11 +173,15 @@ is_said_against p said = ((said.first == p) && speaks_against said.of_first) || 
 abbrev pub is_against : ℕ → Line → Bool
 is_against p (out_line q w) = (q == p) && speaks_against w
 is_against p (round_line number mid said) = is_said_against p said
+is_against p (parts_line r said) = is_said_against p said
 is_against p (step_line lo said) = is_said_against p said
 is_against p (claim_line q status output) = false
 is_against p (stage_line stage) = false
 is_against p (dispute_line number first second) = false
 is_against p (compared_line number mid same) = false
+is_against p (kept_line r part) = false
+is_against p (balance_line q has) = false
+is_against p (pool_line has) = false
 is_against p (accept_line status output) = false
 is_against p none_left_line = false
 is_against p (collision_line x y) = false

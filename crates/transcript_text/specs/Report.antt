@@ -3,10 +3,11 @@ use Rattle.std.specs.Prelude.{ℕ, List, Bool, true, false, [], ◌∷◌, ◌++
 use Rattle.hex.specs.Hex.{encode_lower}
 use Rattle.rd_base.specs.Status.{status_text}
 use Rattle.rd_base.specs.declared.status.Status.{Status}
+use Rattle.deposits.specs.declared.amounts.Balances.{Balances}
 use Rattle.tournament.specs.declared.verdict.Verdict.{Verdict}
 use Rattle.tournament.specs.Bracket.{Record}
 use Rattle.transcript_text.specs.Words.{word_text}
-use Rattle.transcript_text.specs.Lines.{Said, Line, claim_line, out_line, stage_line, dispute_line, compared_line, round_line, step_line, accept_line, none_left_line, collision_line, lines_of_record, line_of_verdict}
+use Rattle.transcript_text.specs.Lines.{Said, Parted, Line, claim_line, out_line, stage_line, dispute_line, compared_line, round_line, kept_line, parts_line, step_line, balance_line, pool_line, accept_line, none_left_line, collision_line, lines_of_record, lines_of_balances, line_of_verdict}
 use Rattle.text_types.specs.Digest.{digest_text}
 use Rattle.text_types.specs.declared.text.Head.{Head}
 
@@ -51,6 +52,14 @@ compared_text false = codes " differ\n"
 abbrev pub round_text : ℕ → ℕ → List ℕ
 round_text number mid = codes "round " ++ (decimal number ++ (codes " at " ++ decimal mid))
 
+-- which interval a round cuts, and in how many parts
+abbrev pub parted_text : Parted → List ℕ
+parted_text r = codes "round " ++ (decimal r.number ++ (codes " in " ++ (decimal r.lo ++ (codes " " ++ (decimal r.hi ++ (codes " by " ++ decimal r.parts))))))
+
+-- the rest of a line that says which part is kept
+abbrev pub kept_text : ℕ → List ℕ
+kept_text part = codes " keep " ++ (decimal part ++ codes "\n")
+
 abbrev pub line_text : Line → List ℕ
 line_text (claim_line p status output) = codes "p" ++ (decimal p ++ (codes " claims " ++ (answer_text status output ++ codes "\n")))
 line_text (out_line p word) = codes "out p" ++ (decimal p ++ (codes " " ++ (word_text word ++ codes "\n")))
@@ -58,7 +67,11 @@ line_text (stage_line stage) = codes "stage " ++ (decimal stage ++ codes "\n")
 line_text (dispute_line number first second) = codes "dispute " ++ (decimal number ++ (codes " p" ++ (decimal first ++ (codes " p" ++ (decimal second ++ codes "\n")))))
 line_text (compared_line number mid same) = round_text number mid ++ compared_text same
 line_text (round_line number mid said) = round_text number mid ++ said_text said
+line_text (kept_line r part) = parted_text r ++ kept_text part
+line_text (parts_line r said) = parted_text r ++ said_text said
 line_text (step_line lo said) = codes "step " ++ (decimal lo ++ said_text said)
+line_text (balance_line p has) = codes "balance p" ++ (decimal p ++ (codes " " ++ (decimal has ++ codes "\n")))
+line_text (pool_line has) = codes "pool " ++ (decimal has ++ codes "\n")
 line_text (accept_line status output) = codes "accept " ++ (answer_text status output ++ codes "\n")
 line_text none_left_line = codes "none left\n"
 line_text (collision_line x y) = codes "collision " ++ (encode_lower x ++ (codes " " ++ (encode_lower y ++ codes "\n")))
@@ -71,8 +84,13 @@ abbrev pub lines_text : List (Option Line) → List ℕ
 lines_text [] = []
 lines_text (l ∷ ls) = text_if_there l ++ lines_text ls
 
-abbrev pub report_text : Head → Record → Verdict → List ℕ
-report_text head match_record verdict = head_line head ++ (lines_text (lines_of_record match_record) ++ text_if_there (line_of_verdict match_record.claims verdict))
+-- the report of a match; the balances are those of a match with deposits
+abbrev pub report_text : Head → Record → Verdict → Option Balances → List ℕ
+report_text head match_record verdict balances =
+    head_line head
+    ++ (lines_text (lines_of_record match_record)
+    ++ (lines_text (lines_of_balances balances)
+    ++ text_if_there (line_of_verdict match_record.claims verdict)))
 
 -- the line that answers with the status and the output of a run
 abbrev pub answer_line_text : Status → List ℕ → List ℕ

@@ -1,14 +1,15 @@
-ghost use Rattle.std.specs.Prelude.{◌≡◌, ◌++◌, string_bytes, OnOk, Some};
+ghost use Rattle.std.specs.Prelude.{◌≡◌, ◌++◌, ◌+◌, ◌-◌, min, string_bytes, OnOk, Some};
 ghost use Rattle.bisect_game.specs.Truth.{is_put_out};
-ghost use Rattle.bisect_game.specs.Bisection.{middle};
-ghost use Rattle.transcript_text.specs.Lines.{dispute_line, lines_of_all_rounds, said_in, line_of_round, lines_of_rounds, line_of_step, line_of_last, line_of_stage, lines_of_dispute, lines_of_disputes};
-ghost use Rattle.transcript_text.specs.Report.{said_text, line_text, text_if_there, lines_text};
+ghost use Rattle.bisect_game.specs.Bisection.{middle, roots_in, kept_part};
+ghost use Rattle.transcript_text.specs.Lines.{dispute_line, lines_of_all_rounds, said_in, line_of_halves, line_of_parts, line_of_round, lines_of_rounds, line_of_step, line_of_last, line_of_stage, lines_of_dispute, lines_of_disputes};
+ghost use Rattle.transcript_text.specs.Report.{said_text, parted_text, kept_text, line_text, text_if_there, lines_text};
 
 use crate::word::{Word, said_word, said_word_of_proof};
-use bisect_game::{Close, Dispute, Interval, Settled, Side, same_digest};
-use rd_base::Answer;
+use bisect_game::{Close, Dispute, Interval, Settled, Side, kept_part, parts_of, same_digest};
+use rd_base::{Answer, Digest32};
 use std::alloc::AllocError;
 use std::fmt::Write;
+use std::slice;
 
 /// Adds what a line says of both sides, and ends the line.
 fn add_said(
@@ -32,8 +33,8 @@ fn middle(lo: u64, hi: u64) -> u64
     lo + hi.saturating_sub(lo) / 2
 }
 
-/// Adds the line of a round in which a root was asked.
-fn add_round(
+/// Adds the line of a round of two parts.
+fn add_halves(
     text: &mut String,
     dispute: &Dispute,
     number: usize,
@@ -41,7 +42,7 @@ fn add_round(
     first: &Settled,
     second: &Settled,
 ) -> Result<(), AllocError>
-    ensures { OnOk result (string_bytes text.new ≡ string_bytes text.old ++ line_text (line_of_round dispute.now number mid first.now second.now)) }
+    ensures { OnOk result (string_bytes text.new ≡ string_bytes text.old ++ line_text (line_of_halves dispute.now number mid first.now second.now)) }
 {
     write!(text, "round {number} at {mid}")?;
     match (first, second) {
@@ -56,14 +57,98 @@ fn add_round(
     }
 }
 
+/// Adds which interval a round cuts, and in how many parts.
+fn add_parted(
+    text: &mut String,
+    number: usize,
+    lo: u64,
+    hi: u64,
+    parts: u32,
+) -> Result<(), AllocError>
+    ensures { OnOk result (string_bytes text.new ≡ string_bytes text.old ++ parted_text (record { number = number; lo = lo; hi = hi; parts = parts })) }
+{
+    write!(text, "round {number} in {lo}")?;
+    write!(text, " {hi} by {parts}")
+}
+
+/// The roots that an answer gives.
+fn roots_in(answer: &Answer) -> &[Digest32]
+    ensures { result.now ≡ roots_in answer.now }
+{
+    match answer {
+        Answer::Root(root) => slice::from_ref(root),
+        Answer::Roots(roots) => roots.as_slice(),
+        _ => &[],
+    }
+}
+
+/// Adds which of so many parts is kept, counted from 1, and ends the line.
+fn add_kept(
+    text: &mut String,
+    parts: u32,
+    first: &Answer,
+    second: &Answer,
+) -> Result<(), AllocError>
+    ensures { OnOk result (string_bytes text.new ≡ string_bytes text.old ++ kept_text (kept_part parts (roots_in first.now) (roots_in second.now) + 1)) }
+{
+    let part = u64::from(kept_part(parts, roots_in(first), roots_in(second))) + 1;
+    write!(text, " keep {part}\n")
+}
+
+/// Adds the line of a round of a larger fan.
+fn add_parts(
+    text: &mut String,
+    dispute: &Dispute,
+    number: usize,
+    lo: u64,
+    hi: u64,
+    first: &Settled,
+    second: &Settled,
+) -> Result<(), AllocError>
+    ensures { OnOk result (string_bytes text.new ≡ string_bytes text.old ++ line_text (line_of_parts dispute.now (record { number = number; lo = lo; hi = hi; parts = min dispute.now.fan (hi - lo) }) first.now second.now)) }
+{
+    let parts = parts_of(dispute.fan(), lo, hi);
+    add_parted(text, number, lo, hi, parts)?;
+    match (first, second) {
+        (Settled::Given(x), Settled::Given(y)) => add_kept(text, parts, x, y),
+        _ => add_said(text, dispute, said_word(first), said_word(second)),
+    }
+}
+
+/// Adds the line of a round that asked for roots.
+fn add_round(
+    text: &mut String,
+    dispute: &Dispute,
+    number: usize,
+    lo: u64,
+    hi: u64,
+    first: &Settled,
+    second: &Settled,
+) -> Result<(), AllocError>
+    ensures { OnOk result (string_bytes text.new ≡ string_bytes text.old ++ line_text (line_of_round dispute.now number lo hi first.now second.now)) }
+{
+    if dispute.fan() == 2 {
+        add_halves(text, dispute, number, middle(lo, hi), first, second)
+    } else {
+        add_parts(text, dispute, number, lo, hi, first, second)
+    }
+}
+
 /// Adds the lines of the rounds that went on.
 fn add_rounds(text: &mut String, dispute: &Dispute) -> Result<(), AllocError>
     ensures { OnOk result (string_bytes text.new ≡ string_bytes text.old ++ lines_text (lines_of_rounds dispute.now 1 dispute.now.past)) }
 {
     let rounds = dispute.rounds();
     'rounds: for (i, round) in rounds.iter().enumerate() {
-        let mid = middle(round.lo, round.hi);
-        add_round(text, dispute, i + 1, mid, &round.first, &round.second)?;
+        add_round(
+            text,
+            dispute,
+            i + 1,
+            round.lo,
+            round.hi,
+            &round.first,
+            &round.second,
+        )?;
     }
     Ok(())
 }
@@ -113,7 +198,7 @@ fn add_last(text: &mut String, dispute: &Dispute) -> Result<(), AllocError>
         return add_step(text, dispute, first, second);
     }
     let number = dispute.rounds().len() + 1;
-    add_round(text, dispute, number, middle(lo, hi), first, second)
+    add_round(text, dispute, number, lo, hi, first, second)
 }
 
 /// Adds the line of a stage, where it isn't that of the dispute before.

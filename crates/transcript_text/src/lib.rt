@@ -1,13 +1,15 @@
 //! The texts that a match leaves.
 //!
-//! The layers above may rely on this: the report is the text `report_text` of the match's head, record and verdict, whose
-//! lines are listed by `lines_of_record` and `line_of_verdict`, so that what a report says of a prover can be read off them.
+//! The layers above may rely on this: the report is the text `report_text` of the match's head, record and verdict, and of its
+//! balances in a match with deposits. Its lines are listed by `lines_of_record`, `lines_of_balances` and `line_of_verdict`, so
+//! that what a report says of a prover can be read off them.
 //! The full text is `full_text`, with one line for each of `moves_of` the record, and the same line of the verdict. The line
 //! of a run is `answer_line_text`, that of a large workload `summary_text`, that of a root `root_line`. Read
 //! `specs/Lines.antt`, `specs/Report.antt` and `specs/FullLines.antt` first, then `reporting` and `refereed`.
 #![tactic(auto)]
 
 mod answer;
+mod balances;
 mod claims;
 mod disputes;
 mod laws;

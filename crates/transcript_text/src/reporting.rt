@@ -5,9 +5,11 @@ ghost use Rattle.transcript_text.specs.Lines.{line_of_accepted, line_of_verdict,
 ghost use Rattle.transcript_text.specs.Report.{played_text, patience_text, committed_text, numbers_text, head_line, line_text, text_if_there, lines_text, report_text};
 
 use crate::answer::add_answer;
+use crate::balances::add_balances;
 use crate::claims::add_claims;
 use crate::disputes::add_disputes;
 use bisect_game::Settled;
+use deposits::Balances;
 use rd_base::{Answer, Memory};
 use std::alloc::{AllocError, Global};
 use std::fmt::Write;
@@ -146,8 +148,8 @@ fn add_record(text: &mut String, alloc: Global, match_record: &Record) -> Result
     add_disputes(text, match_record.disputes())
 }
 
-/// The report of a match: the line of its head, one line for each prover, the disputes with their rounds, and the line of
-/// the verdict. Each line ends with a line feed.
+/// The report of a match: the line of its head, one line for each prover, the disputes with their rounds, in a match with
+/// deposits what each prover has and what is in the pool, and the line of the verdict. Each line ends with a line feed.
 ///
 /// What isn't settled yet has no line, and neither has an accepted claim that wasn't given. An `Err` is out of memory.
 pub fn report(
@@ -155,12 +157,14 @@ pub fn report(
     head: &Head,
     match_record: &Record,
     verdict: &Verdict,
+    balances: Option<&Balances>,
 ) -> Result<Vec<u8>, Memory>
-    ensures { IfOk result (λ text. text.items ≡ report_text head.now match_record.now verdict.now) }
+    ensures { IfOk result (λ text. text.items ≡ report_text head.now match_record.now verdict.now (option_copied balances.entry)) }
 {
     let mut text = String::new(alloc);
     add_head(&mut text, head)?;
     add_record(&mut text, alloc, match_record)?;
+    add_balances(&mut text, balances)?;
     add_verdict(&mut text, alloc, match_record.claims(), verdict)?;
     Ok(text.into_bytes())
 }
