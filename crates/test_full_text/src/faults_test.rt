@@ -46,13 +46,13 @@ fn a_text_that_ends_before_its_verdict_is_cut_off(rt: HostRuntime) -> Result<(),
 #[test]
 fn a_head_has_one_form_and_numbers_in_their_limits(rt: HostRuntime) -> Result<(), Fail> {
     let alloc = rt.alloc();
-    let rows: [(&[u8], Told); 24] = [
+    let rows: [(&[u8], Told); 27] = [
         (
             b"refereed provers 1 bound 1 patience 0 version 1 fan 2 digest sha256 ",
             Told::Moves(0),
         ),
         (
-            b"refereed provers 16 bound 16777216 patience 100 version 1 fan 2 digest sha256 ",
+            b"refereed provers 16 bound 4294967295 patience 100 version 1 fan 16 digest sha256 ",
             Told::Moves(0),
         ),
         (
@@ -68,7 +68,7 @@ fn a_head_has_one_form_and_numbers_in_their_limits(rt: HostRuntime) -> Result<()
             HEAD_OUT_OF_RANGE,
         ),
         (
-            b"refereed provers 2 bound 16777217 patience 0 version 1 fan 2 digest sha256 ",
+            b"refereed provers 2 bound 4294967296 patience 0 version 1 fan 2 digest sha256 ",
             HEAD_OUT_OF_RANGE,
         ),
         (
@@ -84,7 +84,11 @@ fn a_head_has_one_form_and_numbers_in_their_limits(rt: HostRuntime) -> Result<()
             HEAD_OUT_OF_RANGE,
         ),
         (
-            b"refereed provers 2 bound 8 patience 0 version 1 fan 3 digest sha256 ",
+            b"refereed provers 2 bound 8 patience 0 version 1 fan 1 digest sha256 ",
+            HEAD_OUT_OF_RANGE,
+        ),
+        (
+            b"refereed provers 2 bound 8 patience 0 version 1 fan 17 digest sha256 ",
             HEAD_OUT_OF_RANGE,
         ),
         (
@@ -97,6 +101,14 @@ fn a_head_has_one_form_and_numbers_in_their_limits(rt: HostRuntime) -> Result<()
         ),
         (
             b"refereed provers 2 bound 8 patience 0 version 1 fan 2 digest weak8 ",
+            Told::Moves(0),
+        ),
+        (
+            b"refereed provers 2 bound 8 patience 0 version 1 fan 2 digest WEAK8 ",
+            BAD_HEAD,
+        ),
+        (
+            b"refereed provers 2 bound 8 patience 0 version 1 fan 2 digest weak ",
             BAD_HEAD,
         ),
         (

@@ -3,7 +3,7 @@ ghost use denote.Param.Send.{IsSync};
 ghost use Rattle.std.specs.Prelude.{length, ◌<◌, ◌≤◌};
 
 use bisect_game::{Answerer, Settled};
-use rd_base::{Answer, Memory};
+use rd_base::{Answer, Digest32, Memory};
 use std::alloc::Global;
 use std::test::Fail;
 use std::thread::Threads;
@@ -44,14 +44,21 @@ fn liar_is_bisected() -> &'static [u8] {
         accept running output\n"
 }
 
-/// The text of a match of these players over 8 steps without patience; empty where it isn't over.
-fn full_of<R: Threads + Sync>(rt: &R, alloc: Global, players: &[Player]) -> Result<Vec<u8>, Memory>
+/// The text of a match of these players over 8 steps without patience, with this fan; empty where it isn't over.
+fn full_of<R: Threads + Sync>(
+    rt: &R,
+    alloc: Global,
+    players: &[Player],
+    fan: u32,
+) -> Result<Vec<u8>, Memory>
     requires sync { IsSync R.row }
     requires some { 0 < length players.now }
     requires few { length players.now ≤ 16 }
+    requires parted { 1 < fan }
+    requires few_parts { fan ≤ 16 }
 {
     let judge = ToyJudge { name: 0 };
-    let mut game = Match::new(alloc, judge, players.len() as u32, 8, 2, 0, root(0))?;
+    let mut game = Match::new(alloc, judge, players.len() as u32, 8, fan, 0, root(0))?;
     for _ in 0..64 {
         for (place, player) in players.iter().enumerate() {
             let p = place as u32 + 1;
@@ -74,7 +81,7 @@ fn full_of<R: Threads + Sync>(rt: &R, alloc: Global, players: &[Player]) -> Resu
         bound: 8,
         patience: 0,
         version: 1,
-        fan: 2,
+        fan,
         digest: DigestName::Sha256,
         start: root(0),
     };
@@ -92,11 +99,20 @@ fn are_alike(one: &[u8], other: &[u8]) -> bool {
 /// A move in short: dispute, round, prover, and the first byte of the answer's root, 255 where it is spent and 254 where it has none.
 type Short = (u32, u32, u32, u8);
 
-/// The first byte of the root that an answer gives.
+/// The first byte of the last of these roots, 254 where there is none.
+fn last_mark(roots: &[Digest32]) -> u8 {
+    match roots {
+        [.., last] => last.0[0],
+        [] => 254,
+    }
+}
+
+/// The first byte of the root that an answer gives, and of several that of the last.
 fn mark_of(settled: &Settled) -> u8 {
     match settled {
         Settled::Given(Answer::Claim(claim)) => claim.mem.0[0],
         Settled::Given(Answer::Root(root)) => root.0[0],
+        Settled::Given(Answer::Roots(roots)) => last_mark(roots.as_slice()),
         Settled::Spent => 255,
         _ => 254,
     }
@@ -135,7 +151,7 @@ fn accepts_running_without_output(stated: &Stated) -> bool {
 #[test]
 fn the_text_of_a_dispute_is_written_and_read_back(rt: HostRuntime) -> Result<(), Fail> {
     let alloc = rt.alloc();
-    let text = full_of(&rt, alloc, &[HONEST, LIAR])?;
+    let text = full_of(&rt, alloc, &[HONEST, LIAR], 2)?;
     assert!(rt; are_alike(text.as_slice(), liar_is_bisected()));
     let read = match read_full(alloc, text.as_slice()) {
         Ok(read) => read,
@@ -168,10 +184,42 @@ fn the_text_of_a_dispute_is_written_and_read_back(rt: HostRuntime) -> Result<(),
 #[test]
 fn the_text_of_silent_provers_has_four_lines(rt: HostRuntime) -> Result<(), Fail> {
     let alloc = rt.alloc();
-    let text = full_of(&rt, alloc, &[SILENT, SILENT])?;
+    let text = full_of(&rt, alloc, &[SILENT, SILENT], 2)?;
     let want = b"refereed provers 2 bound 8 patience 0 version 1 fan 2 digest sha256 start \
         0000000000000000000000000000000000000000000000000000000000000000\n\
         move 0 0 p1 spent\nmove 0 0 p2 spent\nnone left\n";
     assert!(rt; are_alike(text.as_slice(), want.as_slice()));
+    Ok(())
+}
+
+/// With a fan of 4 a round's answer has the roots of three cuts, at 2, 4 and 6, and over two steps that of one. They are written and read
+/// back.
+#[test]
+fn roots_of_several_cuts_are_written_and_read_back(rt: HostRuntime) -> Result<(), Fail> {
+    let alloc = rt.alloc();
+    let text = full_of(&rt, alloc, &[HONEST, LIAR], 4)?;
+    let read = match read_full(alloc, text.as_slice()) {
+        Ok(read) => read,
+        Err(fault) => return Err(Fail::new(fault)),
+    };
+    let moves = in_short(alloc, &read)?;
+    let want: [Short; 8] = [
+        (0, 0, 1, 6),
+        (0, 0, 2, 108),
+        (1, 1, 1, 6),
+        (1, 1, 2, 106),
+        (1, 2, 1, 1),
+        (1, 2, 2, 1),
+        (1, 3, 1, 254),
+        (1, 3, 2, 254),
+    ];
+    assert_eq!(rt; moves.as_slice(), want.as_slice());
+    assert_eq!(rt; numbers_of(&read.head), (2, 8, 0, 1, 4));
+    let zeros = "00".repeat(alloc, 31)?;
+    let line = format!(in alloc; "\nmove 1 1 p1 given 050302{zeros}04{zeros}06{zeros}\n")?;
+    let whole = String::from_utf8(text)?;
+    assert!(rt; whole.as_str().contains(line.as_str()));
+    let line = format!(in alloc; "\nmove 1 2 p2 given 050101{zeros}\n")?;
+    assert!(rt; whole.as_str().contains(line.as_str()));
     Ok(())
 }

@@ -13,7 +13,7 @@ use Rattle.proof_wire.specs.Wire.{wire_form, Spells}
 use Rattle.proof_wire.specs.Reading.{answer_in}
 use Rattle.text_types.specs.Digest.{digest_text}
 use Rattle.text_types.specs.declared.digest.DigestName.{DigestName}
-use Rattle.text_types.specs.declared.digest.DigestName.TheVariants.{Sha256}
+use Rattle.text_types.specs.declared.digest.DigestName.TheVariants.{Sha256, Weak8}
 use Rattle.transcript_text.specs.Report.{played_text, patience_text, committed_text, output_text, answer_text as status_and_output, line_text}
 use Rattle.text_types.specs.declared.text.Head.{Head}
 use Rattle.text_types.specs.declared.text.TextMove.{TextMove}
@@ -224,9 +224,11 @@ digest-back h i =
 name-back : (d : DigestName) (rest : List ℕ) → name_at (digest_text d ++ rest) ≡ Ok (d, rest)
 unfolding name_at
 name-back Sha256 rest = refl
+name-back Weak8 rest = refl
 
 without-name : (d : DigestName) → Without 10 (digest_text d)
 without-name Sha256 = without-literal 10 (codes "sha256") refl
+without-name Weak8 = without-literal 10 (codes "weak8") refl
 
 abbrev pub numbers_of : Head → HeadNumbers
 numbers_of h = record { provers = h.provers; bound = h.bound; patience = h.patience; version = h.version; fan = h.fan; digest = h.digest; start = h.start }

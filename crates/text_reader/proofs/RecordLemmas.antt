@@ -173,9 +173,9 @@ parts-in-limits of_provers few_disputes few_rounds rules xs head s playable of l
     let some : 1 ≤ head.provers = limits.provers.0 in
     let fan : head.fan ≡ rules.fan = of.fan in
     let low : 2 ≤ head.fan = limits.fan.0 in
-    let high : head.fan ≤ 2 = limits.fan.1 in
+    let high : head.fan ≤ 16 = limits.fan.1 in
     let bound : head.bound ≡ rules.bound = of.bound in
-    let short : head.bound ≤ 16777216 = limits.bound.1 in
+    let short : head.bound ≤ 4294967295 = limits.bound.1 in
     let count : length (record_after rules xs).claims ≡ rules.provers = numbers.claims in
     let disputes : length (record_after rules xs).disputes < rules.provers = few_disputes rules xs (omega (arith, some, provers)) in
     let moves : AreMovesInLimits rules.provers (moves_of (record_after rules xs)) =
