@@ -15,7 +15,7 @@ use Rattle.tournament.specs.Bracket.{Record, open_question, settle, nothing_sett
 use Rattle.tournament.specs.Moves.{MatchState, begun, passes_of, settled_by, moved}
 use Rattle.tournament.specs.Journals.{turn, turn_on, turns, Legal, said, settled_after, answers_of, RecordOfCase}
 use Rattle.tournament.specs.Posting.{same_qid, record_after, NobodyAskedIsOver}
-use Rattle.tournament.specs.Length.{IsMost, most_entries, SpareIsEnough}
+use Rattle.tournament.specs.Length.{IsMost, most_entries, SpareIsEnough, ThereIsAMost}
 use Rattle.text_types.specs.declared.text.TextMove.{TextMove}
 use Rattle.text_types.specs.declared.text.Stated.{Stated}
 use Rattle.text_types.specs.declared.text.FullText.{FullText}
@@ -31,7 +31,6 @@ use Rattle.audit.proofs.PassLemmas.{same-number, begin_passing, passes-there, pa
 use Rattle.audit.proofs.NextLemmas.{next_is_open, nobody_next}
 use Rattle.audit.proofs.StatedLemmas.{eqb-same, is-eqb, both-true, is-this}
 use Rattle.audit.proofs.LegalLemmas.{after_moves, IsLegalEntry, AllLegal, IsConfirmed, confirmed-played, Reaches, reach-on, settled-posts, fit-given, unfit-faulty, not-true}
-use Rattle.audit.proofs.MostLemmas.{most-rounds}
 use Rattle.audit.proofs.OrderLemmas.{move_on, all-none, none-moves}
 use Rattle.audit.proofs.GrowLemmas.{IsInOrder, order-nothing, IsLonger, grows, next-prover, AreOther, other-found, unseen}
 
@@ -346,18 +345,18 @@ pub record IsCaseDriven (rules : Rules) (says : Says) : Type 0 where
   pub driven : IsDriven rules says (nothing_settled rules)
   pub same : after_moves rules driven.rest (nothing_settled rules) ≡ bracket rules (answers_of rules says)
 
-pub case-driven : RecordOfCase → SpareIsEnough → NobodyAskedIsOver → (rules : Rules) (says : Says) → ArePlayable rules → IsCaseDriven rules says
-case-driven of_case enough over rules says playable =
-    let k : (k : ℕ) × IsMost rules.fan rules.bound k = most-rounds rules.fan rules.bound playable.parted playable.steps in
+pub case-driven : RecordOfCase → SpareIsEnough → ThereIsAMost → NobodyAskedIsOver → (rules : Rules) (says : Says) → ArePlayable rules → IsCaseDriven rules says
+case-driven of_case enough most over rules says playable =
+    let k : (k : ℕ) × IsMost rules.fan rules.bound k = most rules.fan rules.bound playable.parted playable.steps in
     let d : IsDriven rules says (nothing_settled rules) = drive enough over rules says k.0 playable k.1 (suc (most_entries rules k.0)) 0 (nothing_settled rules) (omega arith)
     (record { plays = play-none rules says (begun rules); posts = ([], refl); order = order-nothing rules }) in
     record { driven = d; same = record-of-case of_case rules says _ 0 playable d.plays d.complete }
 
-pub case-confirmed : RecordOfCase → SpareIsEnough → NobodyAskedIsOver → CaseTextsAreConfirmed
+pub case-confirmed : RecordOfCase → SpareIsEnough → ThereIsAMost → NobodyAskedIsOver → CaseTextsAreConfirmed
 unfolding audited
-case-confirmed of_case enough over ruling says text playable is_text =
+case-confirmed of_case enough most over ruling says text playable is_text =
     let rules : Rules = rules_of_head ruling text.head in
-    let c : IsCaseDriven rules says = case-driven of_case enough over rules says playable in
+    let c : IsCaseDriven rules says = case-driven of_case enough most over rules says playable in
     let own : c.driven.rest ≡ text.moves = sym (ap (λ (xs : List TextMove). xs ++ c.driven.rest) (nothing-moves rules)) ∙ (sym c.driven.moves ∙ (ap moves_of c.same ∙ sym is_text.moves)) in
     let legal : AllLegal rules text.moves (nothing_settled rules) = subst (λ (xs : List TextMove). AllLegal rules xs (nothing_settled rules)) own c.driven.legal in
     let at : after_moves rules text.moves (nothing_settled rules) ≡ bracket rules (answers_of rules says) = ap (λ (xs : List TextMove). after_moves rules xs (nothing_settled rules)) (sym own) ∙ c.same in
@@ -365,11 +364,11 @@ case-confirmed of_case enough over ruling says text playable is_text =
     let n = legal-audits rules 2 text.moves text.stated (nothing_settled rules) legal in
     ◌∙◌ {b = end_of rules n.0 text.stated (after_moves rules text.moves (nothing_settled rules))} n.1 (ends-confirmed rules n.0 text.stated (after_moves rules text.moves (nothing_settled rules)) (verdict_of rules (bracket rules (answers_of rules says))) (rw at complete) (rw at refl) (rw at is_text.stated))
 
-own-confirmed : RecordOfCase → SpareIsEnough → NobodyAskedIsOver → (ruling : Ruling) (text : FullText) (v : Verdict) → let rules : Rules = rules_of_head ruling text.head in
+own-confirmed : RecordOfCase → SpareIsEnough → ThereIsAMost → NobodyAskedIsOver → (ruling : Ruling) (text : FullText) (v : Verdict) → let rules : Rules = rules_of_head ruling text.head in
     ArePlayable rules → IsTextOf rules text v → audited ruling text ≡ Confirmed v
-own-confirmed of_case enough over ruling text v playable own =
-    case-confirmed of_case enough over ruling (says_in text.moves) text playable (record { moves = sym own.moves; stated = rw own.verdict own.stated }) ∙ ap Confirmed own.verdict
+own-confirmed of_case enough most over ruling text v playable own =
+    case-confirmed of_case enough most over ruling (says_in text.moves) text playable (record { moves = sym own.moves; stated = rw own.verdict own.stated }) ∙ ap Confirmed own.verdict
 
-pub confirmed_exactly : RecordOfCase → SpareIsEnough → NobodyAskedIsOver → ConfirmedExactly
-confirmed_exactly of_case enough over ruling text v playable of =
-    (confirmed-text of_case ruling text v playable of, own-confirmed of_case enough over ruling text v playable)
+pub confirmed_exactly : RecordOfCase → SpareIsEnough → ThereIsAMost → NobodyAskedIsOver → ConfirmedExactly
+confirmed_exactly of_case enough most over ruling text v playable of =
+    (confirmed-text of_case ruling text v playable of, own-confirmed of_case enough most over ruling text v playable)

@@ -5,7 +5,6 @@ pub mod ReadLemmas
 pub mod LegalLemmas
 pub mod OrderLemmas
 pub mod GrowLemmas
-pub mod MostLemmas
 pub mod ExactLemmas
 pub mod WrittenLemmas
 pub mod GivenLemmas

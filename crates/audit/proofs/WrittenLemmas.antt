@@ -6,7 +6,7 @@ use Rattle.tournament.specs.Bracket.{Record, verdict_of, bracket}
 use Rattle.tournament.specs.Moves.{MatchState}
 use Rattle.tournament.specs.Journals.{answers_of, RecordOfCase}
 use Rattle.tournament.specs.Posting.{Post, record_after, NobodyAskedIsOver}
-use Rattle.tournament.specs.Length.{SpareIsEnough}
+use Rattle.tournament.specs.Length.{SpareIsEnough, ThereIsAMost}
 use Rattle.text_types.specs.declared.text.Head.{Head}
 use Rattle.text_types.specs.MoveLists.{moves_of}
 use Rattle.transcript_text.specs.FullLines.{AreWritten}
@@ -32,16 +32,16 @@ read-back law ruling head r s xs same is playable limits written strings =
     subst (λ (x : Record). IsReadBack (rules_of_head ruling head) head x) at
     (law (rules_of_head ruling head) xs head playable (record { provers = refl; bound = refl; fan = refl }) limits (rw at written) (rw at strings))
 
-pub written-confirmed : RecordOfCase → SpareIsEnough → NobodyAskedIsOver → MatchesAreReadBack → WrittenCasesAreConfirmed
-written-confirmed of_case enough over back ruling says head limits written strings =
+pub written-confirmed : RecordOfCase → SpareIsEnough → ThereIsAMost → NobodyAskedIsOver → MatchesAreReadBack → WrittenCasesAreConfirmed
+written-confirmed of_case enough most over back ruling says head limits written strings =
     let rules : Rules = rules_of_head ruling head in
     let r : Record = bracket rules (answers_of rules says) in
     let playable : ArePlayable rules = playable-head ruling head limits in
-    let c : IsCaseDriven rules says = case-driven of_case enough over rules says playable in
+    let c : IsCaseDriven rules says = case-driven of_case enough most over rules says playable in
     let same = ap (λ (st : MatchState). st.record_) c.driven.posts.1 in
     let b : IsReadBack rules head r = read-back back ruling head r _ c.driven.posts.0 same c.same playable limits written strings in
     record {
       text = parts_of head r b.stated;
       read = b.read;
-      confirmed = case-confirmed of_case enough over ruling says (parts_of head r b.stated) playable (record { moves = refl; stated = b.of_verdict });
+      confirmed = case-confirmed of_case enough most over ruling says (parts_of head r b.stated) playable (record { moves = refl; stated = b.of_verdict });
     }

@@ -9,7 +9,7 @@ use text_reader::{a_full_text_is_read_back, reading_is_the_inverse_of_writing};
 use text_types::FullText;
 use tournament::{
     a_number_names_one_question, nobody_asked_means_over, one_record_of_a_case, spare_is_enough,
-    the_verdict_is_right, true_moves_are_true_answers,
+    the_verdict_is_right, there_is_a_most_number_of_rounds, true_moves_are_true_answers,
 };
 
 /// A text is confirmed exactly where it is the full text of the match whose provers say what the text says, and the stated verdict is
@@ -19,6 +19,7 @@ pub fn confirmed_exactly()
 {
     one_record_of_a_case();
     spare_is_enough();
+    there_is_a_most_number_of_rounds();
     nobody_asked_means_over();
 }
 
@@ -28,6 +29,7 @@ pub fn case_texts_are_confirmed()
 {
     one_record_of_a_case();
     spare_is_enough();
+    there_is_a_most_number_of_rounds();
     nobody_asked_means_over();
 }
 
@@ -38,6 +40,7 @@ pub fn written_cases_are_confirmed()
 {
     one_record_of_a_case();
     spare_is_enough();
+    there_is_a_most_number_of_rounds();
     nobody_asked_means_over();
     a_full_text_is_read_back();
 }

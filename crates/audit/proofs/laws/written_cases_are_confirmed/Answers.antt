@@ -2,4 +2,4 @@ use Rattle.audit.proofs.WrittenLemmas as lemmas
 use Rattle.audit.proofs.laws.written_cases_are_confirmed.Goals as goal
 
 pub returns : goal.returns
-returns c = lemmas.written-confirmed c.one_record_of_a_case.ensures c.spare_is_enough.ensures c.nobody_asked_means_over.ensures c.a_full_text_is_read_back.ensures.matches
+returns c = lemmas.written-confirmed c.one_record_of_a_case.ensures c.spare_is_enough.ensures c.there_is_a_most_number_of_rounds.ensures c.nobody_asked_means_over.ensures c.a_full_text_is_read_back.ensures.matches
