@@ -1,9 +1,8 @@
 -- Which options of `big` are taken, after its seed.
-use Rattle.std.proofs.Common.{ℕ, pos, Bool, true, false, not, ◌≡◌, ◌≤◌, ◌&&◌, ◌||◌, ◌∙◌, ap, ap₂, refl, sym, subst, [], ◌∷◌, ◌++◌, List, Option, Some, None, codes, cond, arith}
+use Rattle.std.proofs.Common.{ℕ, pos, Bool, true, false, not, ◌≡◌, ◌≤◌, ◌&&◌, ◌||◌, ◌∙◌, ap, ap₂, refl, sym, subst, [], ◌∷◌, All, List, Option, Some, None, codes, cond, map, arith}
 use Rattle.std.specs.Prelude.{fold, option_map}
 use Rattle.std.specs.Option.{option_and_then, option_map_or}
-use Rattle.std.specs.Str.{bytes_eq}
-use Rattle.clap.specs.Walk.{Text, Rule, Row, Walk, walked, nothing_held, finished, settled, walk, walk_from, with_default, one_of, has_row, default_rows, settled_rows, reading_by, more_values, row_text}
+use Rattle.clap.specs.Walk.{Text, Row, Walk, walked, nothing_held, finished, settled, walk, walk_from, with_default, one_of, settled_rows, row_text}
 use Rattle.clap.specs.Facts.{explicit_source}
 use Rattle.clap.specs.Simple.{built, names_of, entered}
 use Rattle.clap.specs.Faults.{fault_of, walk_fault, settle_fault, defaults_fault, check_fault}
@@ -12,14 +11,14 @@ use Rattle.clap.specs.Values.{reading_of}
 use Rattle.clap.specs.ValueTests.{is_unsigned_in, is_signed_in}
 use Rattle.clap.specs.declared.builder.value_parser.ValueParser.TheVariants as vp
 use Rattle.clap.specs.declared.error.kind.ErrorKind.TheVariants.{ValueValidation}
-use Rattle.clap.specs.declared.parser.matches.ValueSource.TheVariants.{CommandLine, DefaultValue}
+use Rattle.clap.specs.declared.parser.matches.ValueSource.TheVariants.{CommandLine}
 use Rattle.clap.proofs.OnLiterals.{clap_on_literals}
 use Rattle.command_line.specs.Words.{command_line, is_taken, named, command_of, chosen, seed_in}
-use Rattle.command_line.specs.Options.{OptionName, workers, posters, every, most_of, Given, words_of, begins_with_digit, AllDigits, number_given, is_there, are_taken, are_taken_after}
+use Rattle.command_line.specs.Options.{Given, number, full, digest, workers, posters, every, words_of, begins_with_digit, IsOfBig, are_taken}
 use Rattle.command_line.specs.declared.request.Command.TheVariants.{Big}
 use Rattle.command_line.proofs.NumberLemmas.{each_digit, unsigned}
-use Rattle.command_line.proofs.OptionLemmas.{shape, rules, ok, ok-both, held, between, end, FaultsFrom, one-more, taken-from, digit-from, digit-to, Pending, AreRows, row_at, or_row, row_of, last_is, and-grouped, row-at-end, at-no-row, walks-text, used-is, row-added, more-rows, row-is-there, not-there}
-use Rattle.command_line.proofs.TakenLemmas.{collected, no-more, all_faults, level, AllFine, defaults-ok, and-true}
+use Rattle.command_line.proofs.OptionLemmas.{shape, rules, ok, ok-both, and-true, and-grouped, held, between, end, IsBase, are-of, digit-from, digit-to, FaultsFrom, settle-first, taken-from, settled-first, ends-with, row_of, row_at, row-finished}
+use Rattle.command_line.proofs.TakenLemmas.{collected, no-more, all_faults, level, AllFine, defaults-ok}
 
 -- the seed
 
@@ -69,67 +68,20 @@ big-fine : AllFine (rules true)
 unfolding clap_on_literals
 big-fine = (refl, (refl, (refl, (refl, (refl, tt)))))
 
--- the seed's row stays
+-- the seed's row is no option's
+seed-base : (seed : Text) → IsBase (seed_row seed ∷ [])
+seed-base seed (number workers text) = refl
+seed-base seed (number posters text) = refl
+seed-base seed (number every text) = refl
+seed-base seed full = refl
+seed-base seed (digest name) = refl
 
 abbrev HasSeed : Text → List Row → Type 0
 HasSeed seed rows = row_at (codes "N") rows ≡ Some (seed_row seed)
 
-added-keeps : (seed : Text) (row : Row) (rows : List Row) → HasSeed seed rows → HasSeed seed (rows ++ row ∷ [])
-added-keeps seed row rows has = row-at-end (codes "N") row rows ∙ ap (λ found. or_row found (bytes_eq row.id (codes "N")) row) has
-
-default-keeps : (seed : Text) (rows : List Row) (a : Rule) → HasSeed seed rows → HasSeed seed (with_default rows a)
-default-keeps seed rows a has = by (has_row a.id rows) refl
-  where
-    more : (values : List Text) → has_row a.id rows ≡ false → HasSeed seed (default_rows a.id (reading_by a) values rows)
-    more [] none = has
-    more (v ∷ vs) none = subst (HasSeed seed) (sym (at-no-row a.id (more_values DefaultValue (v ∷ vs)) _ rows none)) (added-keeps seed _ rows has)
-
-    by : (there : Bool) → has_row a.id rows ≡ there → HasSeed seed (cond there rows (default_rows a.id (reading_by a) a.defaults rows))
-    by true is = has
-    by false is = more a.defaults is
-
-finished-keeps : (seed : Text) (all : List Rule) (rows : List Row) → HasSeed seed rows → HasSeed seed (fold with_default rows all)
-finished-keeps seed [] rows has = has
-finished-keeps seed (a ∷ later) rows has = finished-keeps seed later (with_default rows a) (default-keeps seed rows a has)
-
-first-of : (a b c : Bool) → (a && (b && c)) ≡ true → a ≡ true
-first-of true b c is = refl
-first-of false b c is = is
-
-last-of : (a b c : Bool) → (a && (b && c)) ≡ true → c ≡ true
-last-of true true c is = is
-last-of true false c is = absurd (cc is)
-last-of false b c is = absurd (cc is)
-
-end-more : (rows : List Row) (pending : Pending) (g : Given) (gs : List Given) → begins_with_digit g.number ≡ true
-    → end true rows pending (words_of (g ∷ gs)) ≡ end true (settled_rows (rules true) pending rows) (last_is g.option g.number) (words_of gs)
-end-more rows pending g gs digit = ap (λ (w : Walk). fold (walked (rules true) []) w (words_of gs)) (walks-text true g.option g.number rows pending digit)
-
-ends-with-seed : (seed : Text) (gs : List Given) (o : OptionName) (text : Text) (rows : List Row) (before : List Given) → AreRows rows before → begins_with_digit text ≡ true → AllDigits gs
-    → are_taken_after before (record { option = o; number = text } ∷ gs) ≡ true → HasSeed seed rows
-    → HasSeed seed (settled (rules true) (end true rows (last_is o text) (words_of gs)).held).rows
-ends-with-seed seed [] o text rows before are digit digits taken has =
-    let none : is_there (number_given o before) ≡ false = not-there (is_there (number_given o before)) (first-of (not (is_there (number_given o before))) (is_unsigned_in 1 (most_of o) text) _ taken) in
-    subst (HasSeed seed) (sym (used-is true o text rows ∙ row-added o text rows (row-is-there o rows before are ∙ none))) (added-keeps seed (row_of o text) rows has)
-ends-with-seed seed (g ∷ gs) o text rows before are digit digits taken has =
-    let none : is_there (number_given o before) ≡ false = not-there (is_there (number_given o before)) (first-of (not (is_there (number_given o before))) (is_unsigned_in 1 (most_of o) text) _ taken) in
-    let rows_are : settled_rows (rules true) (last_is o text) rows ≡ rows ++ row_of o text ∷ [] = used-is true o text rows ∙ row-added o text rows (row-is-there o rows before are ∙ none) in
-    let ends : end true rows (last_is o text) (words_of (g ∷ gs)) ≡ end true (rows ++ row_of o text ∷ []) (last_is g.option g.number) (words_of gs) =
-    end-more rows (last_is o text) g gs digits.0 ∙ ap (λ rs. end true rs (last_is g.option g.number) (words_of gs)) rows_are in
-    subst (λ (w : Walk). HasSeed seed (settled (rules true) w.held).rows) (sym ends)
-    (ends-with-seed seed gs g.option g.number (rows ++ row_of o text ∷ []) (record { option = o; number = text } ∷ before) (more-rows o text rows before are none) digits.0 digits.1
-    (last-of (not (is_there (number_given o before))) (is_unsigned_in 1 (most_of o) text) _ taken) (added-keeps seed (row_of o text) rows has))
-
-seed-rows : (seed : Text) → AreRows (seed_row seed ∷ []) []
-seed-rows seed workers = refl
-seed-rows seed posters = refl
-seed-rows seed every = refl
-
-all-end-with-seed : (seed : Text) (gs : List Given) → AllDigits gs → are_taken gs ≡ true → HasSeed seed (settled (rules true) (end true [] (seed_last seed) (words_of gs)).held).rows
-all-end-with-seed seed [] digits taken = refl
-all-end-with-seed seed (g ∷ gs) digits taken =
-    subst (λ (w : Walk). HasSeed seed (settled (rules true) w.held).rows) (sym (end-more [] (seed_last seed) g gs digits.0))
-    (ends-with-seed seed gs g.option g.number (seed_row seed ∷ []) [] (seed-rows seed) digits.0 digits.1 taken refl)
+has-seed : (seed : Text) (rows : List Row) → HasSeed seed (fold with_default (seed_row seed ∷ rows) (rules true))
+unfolding clap_on_literals
+has-seed seed rows = row-finished (codes "N") (rules true) (seed_row seed ∷ rows)
 
 -- the faults after a seed, and the command
 
@@ -150,12 +102,10 @@ seed-value (x ∷ rest) digit = by (is_signed_in (pos 0) (pos 4294967295) (x ∷
     by true = refl
     by false = refl
 
-big-options : (seed : Text) (gs : List Given) → begins_with_digit seed ≡ true → AllDigits gs → FaultsFrom true [] (seed_last seed) gs ≡ is_unsigned_in 0 4294967295 seed && are_taken gs
-unfolding walk_fault
-big-options seed [] digit digits = seed-value seed digit ∙ sym (and-true (is_unsigned_in 0 4294967295 seed))
-big-options seed (g ∷ gs) digit digits =
-    one-more true [] (seed_last seed) g gs digits.0
-    ∙ ap₂ (λ (a b : Bool). a && b) (seed-value seed digit) (taken-from true gs g.option g.number (seed_row seed ∷ []) [] (seed-rows seed) digits.0 digits.1)
+big-options : (seed : Text) (gs : List Given) → begins_with_digit seed ≡ true → All IsOfBig gs → FaultsFrom true [] (seed_last seed) gs ≡ is_unsigned_in 0 4294967295 seed && are_taken gs
+big-options seed gs digit of =
+    settle-first true (seed_last seed) [] (seed_row seed ∷ []) _ gs (are-of true gs of) refl (seed-used seed)
+    ∙ ap₂ (λ (a b : Bool). a && b) (seed-value seed digit) (taken-from true (seed_row seed ∷ []) [] gs (seed-base seed) (are-of true gs of))
 
 abbrev checked : List Text → Kinds
 checked words = check_fault (shape true) (rows_of_words words) false
@@ -184,12 +134,14 @@ seed-read (x ∷ rest) digit = each_digit (λ y. row_text (seed_row (y ∷ rest)
 one-where : (seed : Text) (rows : List Row) → begins_with_digit seed ≡ true → HasSeed seed rows → one_of (codes "N") rows ≡ Some seed
 one-where seed rows digit has = ap (option_and_then row_text) has ∙ seed-read seed digit
 
-rows-are : (seed : Text) (gs : List Given) → begins_with_digit seed ≡ true → AllDigits gs → are_taken gs ≡ true → HasSeed seed (rows_of_words (seed ∷ words_of gs))
-rows-are seed gs digit digits taken =
+rows-are : (seed : Text) (gs : List Given) → begins_with_digit seed ≡ true → All IsOfBig gs → are_taken gs ≡ true → HasSeed seed (rows_of_words (seed ∷ words_of gs))
+rows-are seed gs digit of taken =
     subst (λ (w : Walk). HasSeed seed (finished (rules true) w.held)) (sym (seed-words seed (words_of gs) digit))
-    (finished-keeps seed (rules true) (settled (rules true) (end true [] (seed_last seed) (words_of gs)).held).rows (all-end-with-seed seed gs digits taken))
+    (subst (λ (rows : List Row). HasSeed seed (fold with_default rows (rules true)))
+    (sym (settled-first true (seed_last seed) [] (seed_row seed ∷ []) gs (are-of true gs of) (seed-used seed) ∙ ends-with true (seed_row seed ∷ []) [] gs (seed-base seed) (are-of true gs of) taken))
+    (has-seed seed (map row_of gs)))
 
-pub big_options_are_taken : (program seed : Text) (gs : List Given) → begins_with_digit seed ≡ true → AllDigits gs
+pub big_options_are_taken : (program seed : Text) (gs : List Given) → begins_with_digit seed ≡ true → All IsOfBig gs
     → chosen (program ∷ codes "big" ∷ seed ∷ words_of gs) ≡ cond (are_taken gs) (option_map Big (seed_in seed)) None
 unfolding is_taken
 big_options_are_taken program seed gs digit digits =

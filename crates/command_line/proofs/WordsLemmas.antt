@@ -1,7 +1,10 @@
 -- What the clauses of `clap` say of our command line.
 use Rattle.std.proofs.Common.{ℕ, Bool, false, ◌<◌, ◌≤◌, ◌^◌, max, Result, Ok, Err, arith, ◌≡◌, ◌≢◌, inl, inr, subst, ◌∙◌, List, [], ◌∷◌, true, Option, Some, None, codes, refl, sym, ap, cond}
+use Rattle.std.specs.Prelude.{unwrap_or}
 use Rattle.std.specs.Option.{option_and_then}
-use Rattle.std.specs.Str.Parse.{IsNumeral, ParsesUnsigned, digits_value, without_leading_plus}
+use Rattle.std.specs.Str.{bytes_eq}
+use Rattle.std.specs.Str.Parse.{IsNumeral, ParsesBool, ParsesUnsigned, digits_value, without_leading_plus}
+use Rattle.std.proofs.lemmas.Slice.Eq.{bytes_eq-Decides}
 use Rattle.clap.specs.Walk.{Text}
 use Rattle.clap.specs.Matches.{ReadsOne}
 use Rattle.clap.specs.Simple.{App, HasMatchesOf, is_simple, subcommand_of, subcommand_rows_of}
@@ -16,9 +19,11 @@ use Rattle.clap.specs.Faults.{fault_of, is_simple_and_free}
 use Rattle.clap.specs.declared.error.kind.ErrorKind.{ErrorKind}
 use Rattle.clap.specs.declared.parser.matches.ArgMatches.{ArgMatches}
 use Rattle.clap.proofs.OnLiterals.{clap_on_literals}
-use Rattle.command_line.specs.Words.{command_line, is_faultless, is_taken, command_of, named, seed_in, chosen, rows_given, given_options, IsNumberOf}
+use Rattle.command_line.specs.Words.{command_line, is_faultless, is_taken, command_of, named, text_in, seed_in, chosen, rows_given, given_options, IsNumberOf}
+use Rattle.text_types.specs.declared.digest.DigestName.TheVariants.{Sha256, Weak8}
+use Rattle.command_line.specs.declared.request.MatchText.TheVariants.{Report, Full}
 use Rattle.command_line.specs.declared.request.Command.{Command}
-use Rattle.command_line.specs.declared.request.Command.TheVariants.{Judge, Run, Roots, Big}
+use Rattle.command_line.specs.declared.request.Command.TheVariants.{Judge, Run, Roots, Audit, Big}
 
 pub command_line-is-simple : is_simple command_line ≡ true
 unfolding command_line
@@ -42,7 +47,7 @@ unfolding is_taken
 chosen-refused words k among = untaken (command_of words) (fault_of command_line words) k among
 
 -- plain arguments: the program's name and a command
-pub judge_is_taken : (program : Text) → chosen (program ∷ codes "judge" ∷ []) ≡ Some Judge
+pub judge_is_taken : (program : Text) → chosen (program ∷ codes "judge" ∷ []) ≡ Some (Judge Report Sha256)
 unfolding clap_on_literals command_line is_taken command_of
 judge_is_taken program = refl
 
@@ -53,6 +58,70 @@ run_is_taken program = refl
 pub roots_is_taken : (program : Text) → chosen (program ∷ codes "roots" ∷ []) ≡ Some Roots
 unfolding clap_on_literals command_line is_taken command_of
 roots_is_taken program = refl
+
+pub full_is_taken : (program : Text) → chosen (program ∷ codes "judge" ∷ codes "--full" ∷ []) ≡ Some (Judge Full Sha256)
+unfolding clap_on_literals command_line is_taken command_of
+full_is_taken program = refl
+
+pub audit_is_taken : (program : Text) → chosen (program ∷ codes "audit" ∷ []) ≡ Some Audit
+unfolding clap_on_literals command_line is_taken command_of
+audit_is_taken program = refl
+
+pub valued_full_is_refused : (program : Text) → chosen (program ∷ codes "judge" ∷ codes "--full=true" ∷ []) ≡ None
+unfolding clap_on_literals command_line is_taken command_of
+valued_full_is_refused program = refl
+
+pub full_of_big_is_refused : (program : Text) → chosen (program ∷ codes "big" ∷ codes "0" ∷ codes "--full" ∷ []) ≡ None
+unfolding clap_on_literals command_line is_taken command_of
+full_of_big_is_refused program = refl
+
+pub digest_of_big_is_refused : (program : Text) → chosen (program ∷ codes "big" ∷ codes "0" ∷ codes "--digest" ∷ codes "sha256" ∷ []) ≡ None
+unfolding clap_on_literals command_line is_taken command_of
+digest_of_big_is_refused program = refl
+
+pub full_of_run_is_refused : (program : Text) → chosen (program ∷ codes "run" ∷ codes "--full" ∷ []) ≡ None
+unfolding clap_on_literals command_line is_taken command_of
+full_of_run_is_refused program = refl
+
+pub digest_of_run_is_refused : (program : Text) → chosen (program ∷ codes "run" ∷ codes "--digest" ∷ codes "sha256" ∷ []) ≡ None
+unfolding clap_on_literals command_line is_taken command_of
+digest_of_run_is_refused program = refl
+
+pub full_of_roots_is_refused : (program : Text) → chosen (program ∷ codes "roots" ∷ codes "--full" ∷ []) ≡ None
+unfolding clap_on_literals command_line is_taken command_of
+full_of_roots_is_refused program = refl
+
+pub digest_of_roots_is_refused : (program : Text) → chosen (program ∷ codes "roots" ∷ codes "--digest" ∷ codes "sha256" ∷ []) ≡ None
+unfolding clap_on_literals command_line is_taken command_of
+digest_of_roots_is_refused program = refl
+
+pub full_of_audit_is_refused : (program : Text) → chosen (program ∷ codes "audit" ∷ codes "--full" ∷ []) ≡ None
+unfolding clap_on_literals command_line is_taken command_of
+full_of_audit_is_refused program = refl
+
+pub digest_of_audit_is_refused : (program : Text) → chosen (program ∷ codes "audit" ∷ codes "--digest" ∷ codes "sha256" ∷ []) ≡ None
+unfolding clap_on_literals command_line is_taken command_of
+digest_of_audit_is_refused program = refl
+
+pub weak8_is_taken : (program : Text) → chosen (program ∷ codes "judge" ∷ codes "--digest" ∷ codes "weak8" ∷ []) ≡ Some (Judge Report Weak8)
+unfolding clap_on_literals command_line is_taken command_of
+weak8_is_taken program = refl
+
+pub weak8_in_capitals_is_refused : (program : Text) → chosen (program ∷ codes "judge" ∷ codes "--digest" ∷ codes "WEAK8" ∷ []) ≡ None
+unfolding clap_on_literals command_line is_taken command_of
+weak8_in_capitals_is_refused program = refl
+
+pub md5_is_refused : (program : Text) → chosen (program ∷ codes "judge" ∷ codes "--digest" ∷ codes "md5" ∷ []) ≡ None
+unfolding clap_on_literals command_line is_taken command_of
+md5_is_refused program = refl
+
+pub upper_case_is_refused : (program : Text) → chosen (program ∷ codes "judge" ∷ codes "--digest" ∷ codes "SHA256" ∷ []) ≡ None
+unfolding clap_on_literals command_line is_taken command_of
+upper_case_is_refused program = refl
+
+pub no_name_is_refused : (program : Text) → chosen (program ∷ codes "judge" ∷ codes "--digest" ∷ []) ≡ None
+unfolding clap_on_literals command_line is_taken command_of
+no_name_is_refused program = refl
 
 pub least_seed_is_taken : (program : Text) → chosen (program ∷ codes "big" ∷ codes "0" ∷ []) ≡ Some (Big 0)
 unfolding clap_on_literals command_line is_taken command_of
@@ -153,3 +222,23 @@ pub seed-of-getter : {E : Type 0} {gives : List ℕ → Result ℕ E → Type 0}
 seed-of-getter None given r parses same none value = rw (← same) (none refl)
 seed-of-getter (Some t) given (Some v) parses same none value = rw (← same) (seed-of-number t v (parses t (Ok v) (value t refl)))
 seed-of-getter (Some t) given None parses same none value = let failed = value t refl in rw (← same) (no-seed t _ refl (parses t (Err failed.0) failed.1))
+
+-- the text that a flag asks for
+
+flag-text : (E : Type 0) (t : Text) (b : Bool) → ParsesBool {E = E} t (Ok b) → cond b Full Report ≡ text_in (Some t)
+flag-text E t true is = rw is refl
+flag-text E t false is = rw is refl
+
+no-flag-text : {E : Type 0} (t : Text) (e : E) → ParsesBool t (Err e) → Report ≡ text_in (Some t)
+no-flag-text t e failed = by (bytes_eq t (codes "true")) refl
+  where
+    by : (same : Bool) → bytes_eq t (codes "true") ≡ same → Report ≡ cond same Full Report
+    by true is = absurd (failed.0 ((bytes_eq-Decides t (codes "true")).0 is))
+    by false is = refl
+
+-- where there is none it is the report
+pub text-of-getter : {E : Type 0} {gives : List ℕ → Result Bool E → Type 0} (read given : Option Text) (r : Option Bool) → ((bs : List ℕ) (x : Result Bool E) → gives bs x → ParsesBool bs x) → read ≡ given
+    → (read ≡ None → r ≡ None) → ((t : Text) → read ≡ Some t → ReadsOne gives t r) → cond (unwrap_or r false) Full Report ≡ text_in given
+text-of-getter None given r parses same none value = rw (← same) (ap (λ (flag : Option Bool). cond (unwrap_or flag false) Full Report) (none refl))
+text-of-getter {E} (Some t) given (Some b) parses same none value = rw (← same) (flag-text E t b (parses t (Ok b) (value t refl)))
+text-of-getter (Some t) given None parses same none value = let failed = value t refl in rw (← same) (no-flag-text t failed.0 (parses t (Err failed.0) failed.1))

@@ -1,12 +1,30 @@
--- Derived. The options of a match as they are written, and which lists of them are taken. The law `options_are_taken` shows it.
-use Rattle.std.specs.Prelude.{◌≡◌, ℕ, ◌&&◌, List, [], ◌∷◌, Bool, true, false, not, codes, nat_le, Option, Some, None, if◌then◌else◌}
+-- Derived. The options of `judge` and of `big` as they are written, and which lists of them are taken. The law `options_are_taken` shows it.
+use Rattle.std.specs.Prelude.{◌≡◌, ℕ, ◌&&◌, List, [], ◌∷◌, ◌++◌, Bool, true, false, not, codes, find, is_some, nat_le, Option, Some, if◌then◌else◌}
+use Rattle.std.specs.Str.{bytes_eq}
 use Rattle.clap.specs.ValueTests.{is_unsigned_in}
 use Rattle.clap.specs.Walk.{Text}
+use Rattle.text_types.specs.Digest.{digest_text}
+use Rattle.text_types.specs.declared.digest.DigestName.{DigestName}
+use Rattle.text_types.specs.declared.digest.DigestName.TheVariants.{Sha256}
+use Rattle.command_line.specs.declared.request.MatchText.{MatchText}
+use Rattle.command_line.specs.declared.request.MatchText.TheVariants.{Report, Full}
+use Rattle.command_line.specs.declared.request.Command.{Command}
+use Rattle.command_line.specs.declared.request.Command.TheVariants.{Judge}
 
+-- an option with a number
 pub data OptionName : Type 0 where
   workers : OptionName
   posters : OptionName
   every : OptionName
+
+-- an option as it was given
+pub data Given : Type 0 where
+  -- one with its number's word
+  number : OptionName → Text → Given
+  -- `--full`
+  full : Given
+  -- `--digest` with the name of a digest
+  digest : DigestName → Given
 
 -- its name
 abbrev pub name_text : OptionName → Text
@@ -14,62 +32,76 @@ name_text workers = codes "workers"
 name_text posters = codes "posters"
 name_text every = codes "every"
 
--- its largest number
+abbrev pub name_of : Given → Text
+name_of (number o text) = name_text o
+name_of full = codes "full"
+name_of (digest name) = codes "digest"
+
+-- the largest number of an option
 abbrev pub most_of : OptionName → ℕ
 most_of workers = 64
 most_of posters = 16
 most_of every = 65536
 
--- its word
+-- the name with its hyphens
 abbrev pub word_of : OptionName → Text
 word_of workers = codes "--workers"
 word_of posters = codes "--posters"
 word_of every = codes "--every"
 
--- an option with its number's word
-pub record Given : Type 0 where
-  pub option : OptionName
-  pub number : Text
-
--- two words an option
+-- the words of options one after another
 abbrev pub words_of : List Given → List Text
 words_of [] = []
-words_of (g ∷ gs) = word_of g.option ∷ g.number ∷ words_of gs
+words_of (number o text ∷ gs) = word_of o ∷ text ∷ words_of gs
+words_of (full ∷ gs) = codes "--full" ∷ words_of gs
+words_of (digest name ∷ gs) = codes "--digest" ∷ digest_text name ∷ words_of gs
 
--- the number's word begins with a decimal digit
 abbrev pub begins_with_digit : Text → Bool
 begins_with_digit [] = false
 begins_with_digit (x ∷ xs) = nat_le 48 x && nat_le x 57
 
-abbrev pub AllDigits : List Given → Type 0
-AllDigits [] = Unit {0}
-AllDigits (g ∷ gs) = (begins_with_digit g.number ≡ true) × AllDigits gs
+-- an option of `judge`: a number's word begins with a decimal digit
+abbrev pub IsOfJudge : Given → Type 0
+IsOfJudge (number o text) = begins_with_digit text ≡ true
+IsOfJudge full = Unit {0}
+IsOfJudge (digest name) = Unit {0}
 
-abbrev pub same_option : OptionName → OptionName → Bool
-same_option workers workers = true
-same_option posters posters = true
-same_option every every = true
-same_option workers posters = false
-same_option workers every = false
-same_option posters workers = false
-same_option posters every = false
-same_option every workers = false
-same_option every posters = false
+-- an option of `big`: one with a number, whose word begins with a decimal digit
+abbrev pub IsOfBig : Given → Type 0
+IsOfBig (number o text) = begins_with_digit text ≡ true
+IsOfBig full = ⊥
+IsOfBig (digest name) = ⊥
 
--- the number's word that an option is given, the first if there are more
-abbrev pub number_given : OptionName → List Given → Option Text
-number_given name [] = None
-number_given name (g ∷ gs) = if same_option g.option name then Some g.number else number_given name gs
+-- a number is in its option's range
+abbrev pub is_fine : Given → Bool
+is_fine (number o text) = is_unsigned_in 1 (most_of o) text
+is_fine full = true
+is_fine (digest name) = true
 
-abbrev pub is_there : Option Text → Bool
-is_there None = false
-is_there (Some text) = true
+-- the first option of this name
+abbrev pub given_by : Text → List Given → Option Given
+given_by name gs = find (λ g. bytes_eq (name_of g) name) gs
 
 -- each number is in its option's range, and no option is given twice, nor one that stands among those before
 abbrev pub are_taken_after : List Given → List Given → Bool
 are_taken_after before [] = true
-are_taken_after before (g ∷ gs) =
-    not (is_there (number_given g.option before)) && (is_unsigned_in 1 (most_of g.option) g.number && are_taken_after (g ∷ before) gs)
+are_taken_after before (g ∷ gs) = not (is_some (given_by (name_of g) before)) && (is_fine g && are_taken_after (before ++ g ∷ []) gs)
 
 abbrev pub are_taken : List Given → Bool
 are_taken gs = are_taken_after [] gs
+
+-- the full text is asked for by `--full`, and else the report
+abbrev pub text_asked : List Given → MatchText
+text_asked gs = if is_some (given_by (codes "full") gs) then Full else Report
+
+abbrev pub digest_or : Option Given → DigestName
+digest_or (Some (digest name)) = name
+digest_or other = Sha256
+
+-- the digest is that of the name, and SHA-256 where none is given
+abbrev pub digest_asked : List Given → DigestName
+digest_asked gs = digest_or (given_by (codes "digest") gs)
+
+-- `judge` with these options
+abbrev pub judge_of : List Given → Command
+judge_of gs = Judge (text_asked gs) (digest_asked gs)

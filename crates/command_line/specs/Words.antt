@@ -1,5 +1,5 @@
 -- To believe. The arguments of the command line, as `clap` takes them.
-use Rattle.std.specs.Prelude.{◌≡◌, ◌<◌, ℕ, pos, List, [], ◌∷◌, Bool, true, false, codes, map, option_map, Option, Some, None, if◌then◌else◌, String, string_bytes}
+use Rattle.std.specs.Prelude.{◌≡◌, ◌<◌, ℕ, pos, List, [], ◌∷◌, Bool, true, false, codes, find, map, option_map, Option, Some, None, if◌then◌else◌, String, string_bytes}
 use Rattle.std.specs.declared.alloc.Global.{Global}
 use Rattle.std.specs.Option.{option_and_then, option_map_or}
 use Rattle.std.specs.Str.{bytes_eq}
@@ -7,12 +7,17 @@ use Rattle.std.specs.Str.Parse.{digits_value, without_leading_plus}
 use Rattle.clap.specs.Kinds.{Kinds}
 use Rattle.clap.specs.Values.{IsUnsignedIn}
 use Rattle.clap.specs.ValueTests.{is_unsigned_in}
-use Rattle.clap.specs.Walk.{Row, Rule, Text, one_of}
+use Rattle.clap.specs.Walk.{Row, Rule, Text, first_of, one_of}
 use Rattle.clap.specs.Simple.{App, Shape, new_app, new_rule, new_shape, on_top, subcommand_of, with_rule, with_subcommand}
 use Rattle.clap.specs.Faults.{fault_of}
+use Rattle.clap.specs.declared.builder.action.ArgAction.TheVariants.{SetTrue}
 use Rattle.clap.specs.declared.builder.value_parser.ValueParser.TheVariants as vp
+use Rattle.text_types.specs.Digest.{digest_text, digests}
+use Rattle.text_types.specs.declared.digest.DigestName.{DigestName}
+use Rattle.command_line.specs.declared.request.MatchText.{MatchText}
+use Rattle.command_line.specs.declared.request.MatchText.TheVariants.{Report, Full}
 use Rattle.command_line.specs.declared.request.Command.{Command}
-use Rattle.command_line.specs.declared.request.Command.TheVariants.{Judge, Run, Roots, Big}
+use Rattle.command_line.specs.declared.request.Command.TheVariants.{Judge, Run, Roots, Audit, Big}
 use Rattle.command_line.specs.declared.request.Options.{Options}
 
 -- arguments as their bytes
@@ -32,8 +37,17 @@ with_match_options app =
     with_rule (with_rule (with_rule app (number_option (codes "workers") 64 (codes "1"))) (number_option (codes "posters") 16 (codes "1")))
     (number_option (codes "every") 65536 (codes "1024"))
 
+-- `--full`, without a value
+abbrev pub full_option : Rule
+full_option = record (new_rule (codes "full")) { long = Some (codes "full"); action = Some SetTrue }
+
+-- `--digest NAME`. Which names there are says `digest_in`.
+abbrev pub digest_option : Rule
+digest_option = record (new_rule (codes "digest")) { long = Some (codes "digest"); defaults = codes "sha256" ∷ [] }
+
+-- `judge` has two options of its own
 abbrev pub judge_line : App
-judge_line = with_match_options (new_app (codes "judge"))
+judge_line = with_rule (with_rule (with_match_options (new_app (codes "judge"))) full_option) digest_option
 
 -- the seed of `big`, from 0 to 4,294,967,295, which has to be given
 abbrev pub seed_rule : Rule
@@ -42,11 +56,11 @@ seed_rule = record (new_rule (codes "N")) { parser = Some (vp.Signed (pos 0) (po
 abbrev pub big_line : App
 big_line = with_match_options (with_rule (new_app (codes "big")) seed_rule)
 
--- the command line: one of the commands `judge`, `run`, `roots` and `big`, of which `run` and `roots` have no options
+-- the command line: one of the commands `judge`, `run`, `roots`, `audit` and `big`, of which `run`, `roots` and `audit` have no options
 unfoldable pub command_line : App
 command_line =
-    with_subcommand (with_subcommand (with_subcommand (with_subcommand (on_top with_required_subcommand (new_app (codes "refcli"))) judge_line.top)
-    (new_shape (codes "run"))) (new_shape (codes "roots"))) big_line.top
+    with_subcommand (with_subcommand (with_subcommand (with_subcommand (with_subcommand (on_top with_required_subcommand (new_app (codes "refcli"))) judge_line.top)
+    (new_shape (codes "run"))) (new_shape (codes "roots"))) (new_shape (codes "audit"))) big_line.top
 
 -- there is no fault among those that may be found
 abbrev pub is_faultless : Kinds → Bool
@@ -61,12 +75,26 @@ is_taken words = is_faultless (fault_of command_line words)
 abbrev pub seed_in : Text → Option ℕ
 seed_in text = if is_unsigned_in 0 4294967295 text then Some (digits_value 10 (without_leading_plus text)) else None
 
+-- the text of a match that is asked for: the full text by `--full`, and else the report
+abbrev pub text_in : Option Text → MatchText
+text_in None = Report
+text_in (Some text) = if bytes_eq text (codes "true") then Full else Report
+
+-- the digest of a name
+abbrev pub digest_in : Text → Option DigestName
+digest_in text = find (λ name. bytes_eq text (digest_text name)) digests
+
+-- `judge`, by what was given to it
+abbrev pub judge_in : List Row → Option Command
+judge_in rows = option_map (Judge (text_in (one_of (codes "full") rows))) (option_and_then digest_in (first_of (codes "digest") rows))
+
 -- the command of a name, by what was given to it
 abbrev pub command_of_name : Text → List Row → Option Command
 command_of_name name rows =
-    if bytes_eq name (codes "judge") then Some Judge
+    if bytes_eq name (codes "judge") then judge_in rows
     else if bytes_eq name (codes "run") then Some Run
     else if bytes_eq name (codes "roots") then Some Roots
+    else if bytes_eq name (codes "audit") then Some Audit
     else if bytes_eq name (codes "big") then option_map Big (option_and_then seed_in (one_of (codes "N") rows))
     else None
 
@@ -105,7 +133,7 @@ pub record AreAtLeastOne (options : Options) : Type 0 where
   pub posters : 0 < options.posters
   pub every : 0 < options.every
 
--- the command reads a case from its source; no other arguments have anything read
+-- the command reads its source; no other arguments have anything read
 abbrev pub reads : Option Command → Bool
 reads None = false
 reads (Some (Big seed)) = false

@@ -1,16 +1,18 @@
 //! What was given to the command line.
-ghost use Rattle.std.specs.Prelude.{◌≡◌, ◌<◌, codes, IfOk, IfSome, option_map, option_and_then};
+ghost use Rattle.std.specs.Prelude.{◌≡◌, ◌<◌, codes, IfOk, IfSome, option_map, option_and_then, if◌then◌else◌};
 ghost use Rattle.clap.specs.Matches.{found_of};
-ghost use Rattle.clap.specs.Walk.{one_of, rows_of};
+ghost use Rattle.clap.specs.Walk.{first_of, one_of, rows_of};
 ghost use Rattle.clap.specs.Simple.{subcommand_rows_of};
-ghost use Rattle.command_line.specs.Words.{texts, command_of_name, named, chosen, seed_in, rows_given, given_options, IsNumberOf, AreAtLeastOne, AreGiven};
+ghost use Rattle.command_line.specs.declared.request.MatchText.TheVariants.{Report, Full};
+ghost use Rattle.command_line.specs.Words.{texts, command_of_name, named, chosen, text_in, digest_in, judge_in, seed_in, rows_given, given_options, IsNumberOf, AreAtLeastOne, AreGiven};
 
 use crate::parser::command_line;
-use crate::request::{Command, Options, Request};
+use crate::request::{Command, MatchText, Options, Request};
 use clap::ArgMatches;
 use clap::error::ErrorKind;
 use rd_base::Memory;
 use std::alloc::Global;
+use text_types::DigestName;
 
 /// The seed that was given.
 fn seed_given(given: &ArgMatches<'_>) -> Option<u32>
@@ -19,14 +21,59 @@ fn seed_given(given: &ArgMatches<'_>) -> Option<u32>
     given.get_one::<u32>("N")
 }
 
+/// The full text where it is asked for, and else the report.
+fn text_where(is_full: bool) -> MatchText
+    ensures { result ≡ (if is_full then Full else Report) }
+{
+    if is_full {
+        MatchText::Full
+    } else {
+        MatchText::Report
+    }
+}
+
+/// The text that was asked for.
+fn text_given(given: &ArgMatches<'_>) -> MatchText
+    ensures { result ≡ text_in (one_of (codes "full") (rows_of (found_of given.now))) }
+{
+    text_where(given.get_one("full").unwrap_or(false))
+}
+
+/// The digest of a name.
+fn digest_in(name: &str) -> Option<DigestName>
+    ensures { result ≡ digest_in name.now }
+{
+    match name {
+        "sha256" => Some(DigestName::Sha256),
+        "weak8" => Some(DigestName::Weak8),
+        _ => None,
+    }
+}
+
+/// The digest that was asked for.
+fn digest_given(given: &ArgMatches<'_>) -> Option<DigestName>
+    ensures { result ≡ option_and_then digest_in (first_of (codes "digest") (rows_of (found_of given.now))) }
+{
+    digest_in(given.get_str("digest")?)
+}
+
+/// `judge`, by what was given to it.
+fn judge_given(given: &ArgMatches<'_>) -> Option<Command>
+    ensures { result ≡ judge_in (rows_of (found_of given.now)) }
+{
+    let digest = digest_given(given)?;
+    Some(Command::Judge(text_given(given), digest))
+}
+
 /// The command of a name, by what was given to it.
 fn command_named(name: &str, given: &ArgMatches<'_>) -> Option<Command>
     ensures { result ≡ command_of_name name.now (rows_of (found_of given.now)) }
 {
     match name {
-        "judge" => Some(Command::Judge),
+        "judge" => judge_given(given),
         "run" => Some(Command::Run),
         "roots" => Some(Command::Roots),
+        "audit" => Some(Command::Audit),
         "big" => match seed_given(given) {
             Some(seed) => Some(Command::Big(seed)),
             None => None,

@@ -1,16 +1,34 @@
 //! Which arguments name a command.
-ghost use Rattle.std.specs.Prelude.{◌≡◌, ◌≤◌, ℕ, List, [], ◌∷◌, true, Some, None, codes, option_map, if◌then◌else◌};
+ghost use Rattle.std.specs.Prelude.{◌≡◌, ◌≤◌, ℕ, List, [], ◌∷◌, All, true, Some, None, codes, option_map, if◌then◌else◌};
+ghost use Rattle.text_types.specs.declared.digest.DigestName.TheVariants.{Sha256, Weak8};
 ghost use Rattle.command_line.specs.Words.{chosen, seed_in};
-ghost use Rattle.command_line.specs.Options.{Given, AllDigits, begins_with_digit, words_of, are_taken};
+ghost use Rattle.command_line.specs.Options.{Given, IsOfJudge, IsOfBig, begins_with_digit, words_of, are_taken, judge_of};
 
-use crate::request::Command;
+use crate::request::{Command, MatchText};
 
-/// The program's name, whatever it is, and the name of a command are arguments that name it.
-#[tactic(auto, using(crate::proofs::WordsLemmas::judge_is_taken, crate::proofs::WordsLemmas::run_is_taken, crate::proofs::WordsLemmas::roots_is_taken))]
+/// The program's name, whatever it is, and the name of a command are arguments that name it. `judge` alone asks for the report, by
+/// SHA-256, and `--full` for the full text.
+#[tactic(auto, using(crate::proofs::WordsLemmas::judge_is_taken, crate::proofs::WordsLemmas::full_is_taken, crate::proofs::WordsLemmas::run_is_taken, crate::proofs::WordsLemmas::roots_is_taken, crate::proofs::WordsLemmas::audit_is_taken))]
 pub fn plain_words()
-    ensures judge { (program : List ℕ) → chosen (program ∷ codes "judge" ∷ []) ≡ Some Command.Judge }
+    ensures judge { (program : List ℕ) → chosen (program ∷ codes "judge" ∷ []) ≡ Some (Command.Judge MatchText.Report Sha256) }
+    ensures full { (program : List ℕ) → chosen (program ∷ codes "judge" ∷ codes "--full" ∷ []) ≡ Some (Command.Judge MatchText.Full Sha256) }
     ensures run { (program : List ℕ) → chosen (program ∷ codes "run" ∷ []) ≡ Some Command.Run }
     ensures roots { (program : List ℕ) → chosen (program ∷ codes "roots" ∷ []) ≡ Some Command.Roots }
+    ensures audit { (program : List ℕ) → chosen (program ∷ codes "audit" ∷ []) ≡ Some Command.Audit }
+{}
+
+/// `--full` and `--digest` are options of `judge` alone, and the first takes no value.
+#[tactic(auto, using(crate::proofs::WordsLemmas::valued_full_is_refused, crate::proofs::WordsLemmas::full_of_big_is_refused, crate::proofs::WordsLemmas::full_of_run_is_refused, crate::proofs::WordsLemmas::full_of_roots_is_refused, crate::proofs::WordsLemmas::full_of_audit_is_refused, crate::proofs::WordsLemmas::digest_of_big_is_refused, crate::proofs::WordsLemmas::digest_of_run_is_refused, crate::proofs::WordsLemmas::digest_of_roots_is_refused, crate::proofs::WordsLemmas::digest_of_audit_is_refused))]
+pub fn own_options()
+    ensures valued { (program : List ℕ) → chosen (program ∷ codes "judge" ∷ codes "--full=true" ∷ []) ≡ None }
+    ensures full_of_big { (program : List ℕ) → chosen (program ∷ codes "big" ∷ codes "0" ∷ codes "--full" ∷ []) ≡ None }
+    ensures full_of_run { (program : List ℕ) → chosen (program ∷ codes "run" ∷ codes "--full" ∷ []) ≡ None }
+    ensures full_of_roots { (program : List ℕ) → chosen (program ∷ codes "roots" ∷ codes "--full" ∷ []) ≡ None }
+    ensures full_of_audit { (program : List ℕ) → chosen (program ∷ codes "audit" ∷ codes "--full" ∷ []) ≡ None }
+    ensures digest_of_big { (program : List ℕ) → chosen (program ∷ codes "big" ∷ codes "0" ∷ codes "--digest" ∷ codes "sha256" ∷ []) ≡ None }
+    ensures digest_of_run { (program : List ℕ) → chosen (program ∷ codes "run" ∷ codes "--digest" ∷ codes "sha256" ∷ []) ≡ None }
+    ensures digest_of_roots { (program : List ℕ) → chosen (program ∷ codes "roots" ∷ codes "--digest" ∷ codes "sha256" ∷ []) ≡ None }
+    ensures digest_of_audit { (program : List ℕ) → chosen (program ∷ codes "audit" ∷ codes "--digest" ∷ codes "sha256" ∷ []) ≡ None }
 {}
 
 /// The seed of `big` is taken at the ends of its range, refused beyond it, and has to be given once.
@@ -30,13 +48,23 @@ pub fn seeds_are_numbers()
         chosen (program ∷ codes "big" ∷ (digit ∷ rest) ∷ []) ≡ option_map Command.Big (seed_in (digit ∷ rest)) }
 {}
 
+/// `--digest` chooses a digest by its name. Names that no digest has are refused, and so is a name of one in other letters.
+#[tactic(auto, using(crate::proofs::WordsLemmas::weak8_is_taken, crate::proofs::WordsLemmas::md5_is_refused, crate::proofs::WordsLemmas::upper_case_is_refused, crate::proofs::WordsLemmas::weak8_in_capitals_is_refused, crate::proofs::WordsLemmas::no_name_is_refused))]
+pub fn digests_by_name()
+    ensures weak8 { (program : List ℕ) → chosen (program ∷ codes "judge" ∷ codes "--digest" ∷ codes "weak8" ∷ []) ≡ Some (Command.Judge MatchText.Report Weak8) }
+    ensures md5 { (program : List ℕ) → chosen (program ∷ codes "judge" ∷ codes "--digest" ∷ codes "md5" ∷ []) ≡ None }
+    ensures upper_case { (program : List ℕ) → chosen (program ∷ codes "judge" ∷ codes "--digest" ∷ codes "SHA256" ∷ []) ≡ None }
+    ensures weak8_in_capitals { (program : List ℕ) → chosen (program ∷ codes "judge" ∷ codes "--digest" ∷ codes "WEAK8" ∷ []) ≡ None }
+    ensures no_name { (program : List ℕ) → chosen (program ∷ codes "judge" ∷ codes "--digest" ∷ []) ≡ None }
+{}
+
 /// Options of `judge` and of `big`, however many and in whatever order, are taken exactly where each is given once and its number's
 /// word is a number in its option's range: so no option disturbs another. Each number's word, and the seed's, begins with a decimal
 /// digit.
 #[tactic(auto, using(crate::proofs::TakenLemmas::judge_options_are_taken, crate::proofs::BigLemmas::big_options_are_taken))]
 pub fn options_are_taken()
-    ensures judge { (program : List ℕ) (given : List Given) → AllDigits given →
-        chosen (program ∷ codes "judge" ∷ words_of given) ≡ (if are_taken given then Some Command.Judge else None) }
-    ensures big { (program seed : List ℕ) (given : List Given) → begins_with_digit seed ≡ true → AllDigits given →
+    ensures judge { (program : List ℕ) (given : List Given) → All IsOfJudge given →
+        chosen (program ∷ codes "judge" ∷ words_of given) ≡ (if are_taken given then Some (judge_of given) else None) }
+    ensures big { (program seed : List ℕ) (given : List Given) → begins_with_digit seed ≡ true → All IsOfBig given →
         chosen (program ∷ codes "big" ∷ seed ∷ words_of given) ≡ (if are_taken given then option_map Command.Big (seed_in seed) else None) }
 {}

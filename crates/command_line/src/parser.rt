@@ -4,10 +4,10 @@ ghost use Rattle.clap.specs.Walk.{rule_of};
 ghost use Rattle.clap.specs.Simple.{app_of};
 ghost use Rattle.clap.specs.declared.builder.command.Command.TheViews.{out-Command as fields_of};
 ghost use Rattle.clap.specs.declared.builder.value_parser.ValueParser.TheVariants as parsers;
-ghost use Rattle.command_line.specs.Words.{seed_rule, number_option as the_number_option, with_match_options as the_match_options, judge_line as the_judge_line, big_line as the_big_line, command_line as the_command_line};
+ghost use Rattle.command_line.specs.Words.{seed_rule, number_option as the_number_option, with_match_options as the_match_options, full_option as the_full_option, digest_option as the_digest_option, judge_line as the_judge_line, big_line as the_big_line, command_line as the_command_line};
 
 use clap::builder::ValueParser;
-use clap::{Arg, Command as Parser, value_parser};
+use clap::{Arg, ArgAction, Command as Parser, value_parser};
 use std::alloc::{AllocError, Global};
 
 /// An option `--name` with a number, and its default.
@@ -61,12 +61,36 @@ fn with_match_options<'a>(alloc: Global, command: Parser<'a>) -> Result<Parser<'
     command.arg(workers)?.arg(posters)?.arg(every)
 }
 
+/// `--full`.
+fn full_option<'a>(alloc: Global) -> Arg<'a>
+    ensures rule { rule_of result ≡ the_full_option }
+    ensures own { result.global ≡ false }
+{
+    Arg::new(alloc, "full")
+        .long("full")
+        .action(ArgAction::SetTrue)
+}
+
+/// `--digest`, with the name of a digest.
+fn digest_option<'a>(alloc: Global) -> Arg<'a>
+    ensures rule { rule_of result ≡ the_digest_option }
+    ensures own { result.global ≡ false }
+{
+    Arg::new(alloc, "digest")
+        .long("digest")
+        .default_value("sha256")
+}
+
 /// The command `judge` with its options.
 fn judge_line<'a>(alloc: Global) -> Result<Parser<'a>, AllocError>
     ensures app { IfOk result (λ parser. app_of parser ≡ the_judge_line) }
     ensures local { IfOk result (λ parser. (fields_of parser).has_globals ≡ false) }
 {
-    with_match_options(alloc, Parser::new(alloc, "judge"))
+    let full = full_option(alloc);
+    let digest = digest_option(alloc);
+    with_match_options(alloc, Parser::new(alloc, "judge"))?
+        .arg(full)?
+        .arg(digest)
 }
 
 /// The seed of the large workload, which has to be given.
@@ -95,11 +119,13 @@ pub fn command_line<'a>(alloc: Global) -> Result<Parser<'a>, AllocError>
     let judge = judge_line(alloc)?;
     let run = Parser::new(alloc, "run");
     let roots = Parser::new(alloc, "roots");
+    let audit = Parser::new(alloc, "audit");
     let big = big_line(alloc)?;
     Parser::new(alloc, "refcli")
         .subcommand_required(true)
         .subcommand(judge)?
         .subcommand(run)?
         .subcommand(roots)?
+        .subcommand(audit)?
         .subcommand(big)
 }

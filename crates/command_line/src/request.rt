@@ -1,14 +1,27 @@
 //! What the program is asked to do.
 
+use text_types::DigestName;
+
+/// Which text of a match is written.
+#[derive(Clone, Copy, Debug, PartialEq, Eq)]
+pub enum MatchText {
+    /// Its report, which people read.
+    Report,
+    /// Its full text, which can be audited.
+    Full,
+}
+
 /// What the program is asked to do.
 #[derive(Clone, Copy, Debug, PartialEq, Eq)]
 pub enum Command {
-    /// To decide a match, and to write its report.
-    Judge,
+    /// To decide a match by commitments of a digest, and to write a text of it.
+    Judge(MatchText, DigestName),
     /// To run a case's program, and to write what its run answers.
     Run,
     /// To run a case's program, and to write the root of each of its states.
     Roots,
+    /// To audit a full text, and to write what is found.
+    Audit,
     /// To decide the match of the large workload of a seed, and to write a summary.
     Big(u32),
 }
