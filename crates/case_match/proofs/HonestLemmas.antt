@@ -1,11 +1,13 @@
 -- A prover with an untouched run and an honest manner is truthful in each case.
-use Rattle.std.proofs.Common.{◌≡◌, ℕ, zero, suc, ◌+◌, ◌-◌, ◌<◌, ◌≤◌, min, nat_lt, nat_le, Bool, true, false, ◌&&◌, if◌then◌else◌, List, [], ◌∷◌, length, map, slice_get, Option, Some, None, refl, ◌∙◌, ap, ap₂, arith}
+use Rattle.std.proofs.Common.{◌≡◌, ℕ, zero, suc, ◌+◌, ◌-◌, ◌<◌, ◌≤◌, min, nat_lt, nat_le, Bool, true, false, ◌&&◌, if◌then◌else◌, List, [], ◌∷◌, length, map, slice_get, slice_index, Option, Some, None, IsSomeAnd, refl, ◌∙◌, ap, ap₂, arith}
 use Rattle.std.proofs.lemmas.Bool.Decides.{nat_tests}
 use Rattle.rd_base.specs.declared.answer.Answer.{Answer}
 use Rattle.rd_base.specs.declared.digest.Digest32.{Digest32}
 use Rattle.rd_base.specs.declared.script.Script.{Script}
 use Rattle.rd_base.specs.declared.script.Manner.{Manner}
-use Rattle.rd_base.specs.declared.script.Manner.TheVariants.{Plain, Late, Silent, Output}
+use Rattle.rd_base.specs.declared.script.Manner.TheVariants.{Plain, Late, Silent, Output, Forge, Noise, Tape}
+use Rattle.rd_base.specs.declared.tape.TapeAnswer.{TapeAnswer}
+use Rattle.rd_base.specs.declared.tamper.Tamper.{Tamper}
 use Rattle.rd_base.specs.declared.tamper.Tamper.TheVariants.{Untouched}
 use Rattle.checkpoint_run.specs.TamperedRun.{run_at}
 use Rattle.rv_step.specs.State.{State}
@@ -24,7 +26,10 @@ use Rattle.step_referee.specs.MachineTruth.{machine_truth}
 use Rattle.prover_run.specs.Plain.{plain, plain_root, plain_says}
 use Rattle.prover_run.specs.CaseScripts.{script_says, case_says}
 use Rattle.case_match.specs.Match.{rules_of_case, says_of_case, truth_of_case}
-use Rattle.case_match.specs.HonestScripts.{untampered, IsHonest, UntouchedProversAreTruthful}
+use Rattle.case_match.specs.HonestScripts.{untampered, IsHonest, UntouchedProversAreTruthful, TrueTapesAreTruthful}
+use Rattle.prover_script.specs.Manners.{asks_roots, written}
+use Rattle.bisect_game.specs.Truth.{Truth}
+use Rattle.bisect_game.specs.Says.{Says}
 
 -- what the laws of the scripts say
 
@@ -44,10 +49,25 @@ abbrev SaysByScript : Type 0
 SaysByScript = (digest : List ℕ → List ℕ) (start : State) (bound : ℕ) (scripts : List Script) (p : ℕ) (script : Script) →
     slice_get scripts (p - 1) ≡ Some script → case_says digest start bound scripts p ≡ script_says digest start bound script
 
+abbrev ForgerySays : Type 0
+ForgerySays = (digest : List ℕ → List ℕ) (start : State) (bound step reg value : ℕ) (q : Question) (passes : ℕ) → (q.kind ≡ kind.Proof step → slice_index (state_at start (min step bound)).regs reg ≡ value) →
+    script_says digest start bound (untampered (Forge step reg value)) q passes ≡ Some (plain digest (state_at start) bound q.kind)
+
+abbrev NoiseSays : Type 0
+NoiseSays = (digest : List ℕ → List ℕ) (start : State) (bound seed : ℕ) (q : Question) (passes : ℕ) → asks_roots q.kind ≡ false →
+    script_says digest start bound (untampered (Noise seed)) q passes ≡ Some (plain digest (state_at start) bound q.kind)
+
+abbrev TapeSays : Type 0
+TapeSays = (digest : List ℕ → List ℕ) (start : State) (bound : ℕ) (tamper : Tamper) (entries : List TapeAnswer) (q : Question) (passes : ℕ) →
+    script_says digest start bound (record { tamper = tamper; manner = Tape entries }) q passes ≡ written entries q.qid
+
 pub record ScriptLaws : Type 0 where
   pub plain_ : PlainSays
   pub late : LateSays
   pub output : OutputSays
+  pub forge : ForgerySays
+  pub noise : NoiseSays
+  pub tape : TapeSays
   pub by_script : SaysByScript
 
 -- the roots at the cuts of an interval within the bound are those of the run
@@ -100,6 +120,20 @@ plain-true digest divide start bound (kind.Roots lo hi parts) is =
     ∙ roots-true digest start bound divide lo hi parts 1 (parts - 1) (omega (arith, parted)) is.long is.high (omega (arith, parted))
 plain-true digest divide start bound (kind.Proof i) within = let e : min i bound ≡ i = omega (arith, within) in ap (machine_truth digest start bound).proof e
 
+-- a step whose proof is asked within the bound is below the bound
+proof-below : (bound step : ℕ) (k : Kind) → IsWithinBound bound k → k ≡ kind.Proof step → step < bound
+proof-below bound step kind.Claim within is = absurd (cc)
+proof-below bound step (kind.Root i) within is = absurd (cc)
+proof-below bound step (kind.Roots lo hi parts) within is = absurd (cc)
+proof-below bound step (kind.Proof i) within is = let e : i ≡ step = cc in omega (arith, within, e)
+
+-- of one step no root is asked
+no-root-of-one : (bound : ℕ) (k : Kind) → bound ≡ 1 → IsWithinBound bound k → asks_roots k ≡ false
+no-root-of-one bound kind.Claim one within = refl
+no-root-of-one bound (kind.Root i) one within = absurd (omega (arith, one, within.0, within.1))
+no-root-of-one bound (kind.Roots lo hi parts) one within = absurd (omega (arith, one, within.parted, within.long, within.high))
+no-root-of-one bound (kind.Proof i) one within = refl
+
 passes-by : (o : Option Answer) (b : Bool) → b ≡ true → (if b then None else o) ≡ None
 passes-by o true e = refl
 passes-by o false e = absurd (cc)
@@ -107,9 +141,9 @@ passes-by o false e = absurd (cc)
 late-passes : (digest : List ℕ → List ℕ) (start : State) (bound many : ℕ) (q : Question) (n : ℕ) → n < many → script_says digest start bound (untampered (Late many)) q n ≡ None
 late-passes digest start bound many q n lt = let yes : nat_lt n many ≡ true = grind (arith, nat_tests) in passes-by (plain_says digest (run_at Untouched start) bound q n) (nat_lt n many) yes
 
-answers-by : (digest : List ℕ → List ℕ) (laws : ScriptLaws) (c : CaseData) (start : State) (p : ℕ) (manner : Manner) (q : Question) → slice_get c.provers (p - 1) ≡ Some (untampered manner) → IsHonest c start manner →
+answers-by : (digest : List ℕ → List ℕ) (laws : ScriptLaws) (c : CaseData) (start : State) (p : ℕ) (manner : Manner) (q : Question) → slice_get c.provers (p - 1) ≡ Some (untampered manner) → IsHonest c start manner → IsWithinBound c.bound q.kind →
     IsTrueAnswer (truth_of_case digest c start) q.kind (plain digest (state_at start) c.bound q.kind) → AnswersTruly (says_of_case digest c start) c.patience (truth_of_case digest c start) p q
-answers-by digest laws c start p Plain q is honest true_ =
+answers-by digest laws c start p Plain q is honest within true_ =
     let says : case_says digest start c.bound c.provers p ≡ script_says digest start c.bound (untampered Plain) = laws.by_script digest start c.bound c.provers p _ is in
     record {
       passes = 0;
@@ -119,7 +153,7 @@ answers-by digest laws c start p Plain q is honest true_ =
       gives = ap (λ (f : Question → ℕ → Option Answer). f q 0) says ∙ laws.plain_ digest start c.bound q 0;
       is_true = true_;
     }
-answers-by digest laws c start p (Late many) q is honest true_ =
+answers-by digest laws c start p (Late many) q is honest within true_ =
     let says : case_says digest start c.bound c.provers p ≡ script_says digest start c.bound (untampered (Late many)) = laws.by_script digest start c.bound c.provers p _ is in
     record {
       passes = many;
@@ -129,8 +163,8 @@ answers-by digest laws c start p (Late many) q is honest true_ =
       gives = ap (λ (f : Question → ℕ → Option Answer). f q many) says ∙ laws.late digest start c.bound many q many (omega arith);
       is_true = true_;
     }
-answers-by digest laws c start p (Silent from) q is honest true_ = absurd honest
-answers-by digest laws c start p (Output bytes) q is honest true_ =
+answers-by digest laws c start p (Silent from) q is honest within true_ = absurd honest
+answers-by digest laws c start p (Output bytes) q is honest within true_ =
     let same : slice_get c.provers (p - 1) ≡ Some (untampered (Output (state_at start c.bound).output)) = is ∙ ap (λ (o : List ℕ). Some (untampered (Output o))) honest in
     let says : case_says digest start c.bound c.provers p ≡ script_says digest start c.bound (untampered (Output (state_at start c.bound).output)) =
     laws.by_script digest start c.bound c.provers p _ same in
@@ -142,6 +176,31 @@ answers-by digest laws c start p (Output bytes) q is honest true_ =
       gives = ap (λ (f : Question → ℕ → Option Answer). f q 0) says ∙ laws.output digest start c.bound q 0;
       is_true = true_;
     }
+answers-by digest laws c start p (Forge step reg value) q is honest within true_ =
+    let says : case_says digest start c.bound c.provers p ≡ script_says digest start c.bound (untampered (Forge step reg value)) = laws.by_script digest start c.bound c.provers p _ is in
+    record {
+      passes = 0;
+      few = omega arith;
+      passing = λ n lt. absurd (omega (arith, lt));
+      answer = plain digest (state_at start) c.bound q.kind;
+      gives = ap (λ (f : Question → ℕ → Option Answer). f q 0) says
+          ∙ laws.forge digest start c.bound step reg value q 0 (λ asks.
+          let below = proof-below c.bound step q.kind within asks in
+          let e : min step c.bound ≡ step = omega (arith, below) in
+          ap (λ (j : ℕ). slice_index (state_at start j).regs reg) e ∙ honest below);
+      is_true = true_;
+    }
+answers-by digest laws c start p (Noise seed) q is honest within true_ =
+    let says : case_says digest start c.bound c.provers p ≡ script_says digest start c.bound (untampered (Noise seed)) = laws.by_script digest start c.bound c.provers p _ is in
+    record {
+      passes = 0;
+      few = omega arith;
+      passing = λ n lt. absurd (omega (arith, lt));
+      answer = plain digest (state_at start) c.bound q.kind;
+      gives = ap (λ (f : Question → ℕ → Option Answer). f q 0) says ∙ laws.noise digest start c.bound seed q 0 (no-root-of-one c.bound q.kind honest within);
+      is_true = true_;
+    }
+answers-by digest laws c start p (Tape entries) q is honest within true_ = absurd honest
 
 there-at : (scripts : List Script) (k : ℕ) (script : Script) → slice_get scripts k ≡ Some script → k < length scripts
 there-at [] k script e = absurd (cc)
@@ -152,6 +211,30 @@ pub untouched-are-truthful : (digest : List ℕ → List ℕ) → ScriptLaws →
 untouched-are-truthful digest laws divide within c start p manner range some is honest = record {
   some = some;
   there = omega (arith, some, there-at c.provers (p - 1) _ is);
-  answers = λ q asked_. answers-by digest laws c start p manner q is honest (plain-true digest divide start c.bound q.kind
-      (within (rules_of_case digest c start) (answers_of (rules_of_case digest c start) (says_of_case digest c start)) p q.qid q.kind (record { some = range.some; parted = omega arith; few_parts = omega arith; steps = range.steps }) asked_));
+  answers = λ q asked_.
+      let below : IsWithinBound c.bound q.kind =
+      within (rules_of_case digest c start) (answers_of (rules_of_case digest c start) (says_of_case digest c start)) p q.qid q.kind
+      (record { some = range.some; parted = range.parted; few_parts = range.few_parts; steps = range.steps }) asked_ in
+      answers-by digest laws c start p manner q is honest below (plain-true digest divide start c.bound q.kind below);
+}
+
+-- what is written down, and true
+truly-written : (says : Says) (patience : ℕ) (t : Truth) (p : ℕ) (q : Question) (o : Option Answer) → says p q 0 ≡ o → IsSomeAnd o (IsTrueAnswer t q.kind) → AnswersTruly says patience t p q
+truly-written says patience t p q None gives true_ = absurd true_
+truly-written says patience t p q (Some a) gives true_ = record {
+  passes = 0;
+  few = omega arith;
+  passing = λ n lt. absurd (omega (arith, lt));
+  answer = a;
+  gives = gives;
+  is_true = true_;
+}
+
+pub true-tapes-are-truthful : (digest : List ℕ → List ℕ) → ScriptLaws → TrueTapesAreTruthful digest
+true-tapes-are-truthful digest laws c start p tamper entries some is tape = record {
+  some = some;
+  there = omega (arith, some, there-at c.provers (p - 1) _ is);
+  answers = λ q asked_.
+      truly-written (says_of_case digest c start) c.patience (truth_of_case digest c start) p q (written entries q.qid)
+      (ap (λ (f : Question → ℕ → Option Answer). f q 0) (laws.by_script digest start c.bound c.provers p _ is) ∙ laws.tape digest start c.bound tamper entries q 0) (tape q asked_);
 }

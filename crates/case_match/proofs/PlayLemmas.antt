@@ -26,7 +26,7 @@ answer-as answers digest x start bound scripts xs ys is same all =
 
 -- what is played by, of a case with these scripts and the root at step 0
 abbrev rules_for : (List ℕ → List ℕ) → CaseData → List Script → Digest32 → Rules
-rules_for digest c scripts root = rules_of (machine_ruling digest) (record { provers = length scripts; bound = c.bound; fan = 2; patience = c.patience; start = root })
+rules_for digest c scripts root = rules_of (machine_ruling digest) (record { provers = length scripts; bound = c.bound; fan = c.fan; patience = c.patience; start = root })
 
 abbrev record_for : (List ℕ → List ℕ) → CaseData → List Script → Digest32 → CaseScripts → Record
 record_for digest c scripts root x = bracket (rules_for digest c scripts root) (answers_of (rules_for digest c scripts root) (case_says digest x.start x.bound x.scripts))

@@ -24,5 +24,5 @@ safe-in-cases digest laws runs fair c start p range truthful =
     runs start (rules_of_case digest c start) range.valid range.version (let none : length start.output ≡ 0 = ap (λ (o : List ℕ). length o) range.silent in omega (arith, none, range.short)) refl refl in
     let safe : IsSafeCase (rules_of_case digest c start) (truth_of_case digest c start) p (record_of_case digest c start) =
     case-is-safe laws (rules_of_case digest c start) (says_of_case digest c start) (truth_of_case digest c start) p
-    (record { some = range.some; parted = omega arith; few_parts = omega arith; steps = range.steps }) fair run truthful.some truthful.there truthful.answers in
+    (record { some = range.some; parted = range.parted; few_parts = range.few_parts; steps = range.steps }) fair run truthful.some truthful.there truthful.answers in
     record { complete = safe.complete; safe = safe.safe }

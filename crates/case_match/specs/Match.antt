@@ -17,10 +17,10 @@ use Rattle.step_referee.specs.MachineTruth.{machine_truth}
 use Rattle.prover_run.specs.CaseScripts.{case_says}
 use Rattle.case_reader.specs.Case.{CaseData}
 
--- the numbers of the match of a case whose run starts in this state: a round halves its interval, and the root at step 0 is that
--- state's
+-- the numbers of the match of a case whose run starts in this state: a round cuts its interval as the case says, and the root at step 0 is
+-- that state's
 abbrev pub setup_of : (List ℕ → List ℕ) → CaseData → State → Setup
-setup_of digest c start = record { provers = length c.provers; bound = c.bound; fan = 2; patience = c.patience; start = record { 0 = state_root digest start } }
+setup_of digest c start = record { provers = length c.provers; bound = c.bound; fan = c.fan; patience = c.patience; start = record { 0 = state_root digest start } }
 
 -- the judge of the machine decides, and the match has these numbers
 abbrev pub rules_of_case : (List ℕ → List ℕ) → CaseData → State → Rules

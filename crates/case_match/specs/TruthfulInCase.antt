@@ -24,7 +24,9 @@ pub record IsInRange (c : CaseData) (start : State) : Type 0 where
   pub some : 0 < length c.provers
   pub few : length c.provers ≤ 16
   pub steps : 0 < c.bound
-  pub short : c.bound ≤ 16777216
+  pub short : c.bound ≤ 4294967295
+  pub parted : 1 < c.fan
+  pub few_parts : c.fan ≤ 16
   pub patience : c.patience ≤ 100
   pub valid : IsValid start
   pub silent : start.output ≡ []

@@ -1,11 +1,11 @@
 //! Laws of the match of a case, each the contract of a function that does nothing.
 ghost use Rattle.std.specs.Prelude.{ℕ, List};
 ghost use Rattle.case_match.specs.TruthfulInCase.{TruthfulProversOfCasesAreSafe};
-ghost use Rattle.case_match.specs.HonestScripts.{UntouchedProversAreTruthful};
+ghost use Rattle.case_match.specs.HonestScripts.{UntouchedProversAreTruthful, TrueTapesAreTruthful};
 
 use bisect_game::cuts_divide;
 use digest_core::Digester;
-use prover_run::untouched_provers;
+use prover_run::{harmless_manners, untouched_provers};
 use step_referee::machine_runs_are_true;
 use tournament::{
     nobody_asked_means_over, one_record_of_a_case, questions_are_within_the_bound, spare_is_enough,
@@ -26,11 +26,14 @@ pub fn truthful_provers_of_cases_are_safe<D: Digester>()
 }
 
 /// Which provers answer truly in every case, by any digest function: those with an untouched run that answer at once, after no more
-/// passes than the patience, or with the sequential run's output. A prover with the script `{}` is one of the first.
+/// passes than the patience, with the sequential run's output, with a forgery that changes nothing, or with noise where no root is
+/// asked (`untouched`); and those with a tape of true answers (`tape`). A prover with the script `{}` is one of the first.
 pub fn untouched_provers_are_truthful()
-    ensures { (digest : List ℕ → List ℕ) → UntouchedProversAreTruthful digest }
+    ensures untouched { (digest : List ℕ → List ℕ) → UntouchedProversAreTruthful digest }
+    ensures tape { (digest : List ℕ → List ℕ) → TrueTapesAreTruthful digest }
 {
     untouched_provers();
+    harmless_manners();
     cuts_divide();
     questions_are_within_the_bound();
 }

@@ -21,9 +21,6 @@ use std::thread::Threads;
 use step_referee::MachineJudge;
 use tournament::{Record, Setup, Verdict};
 
-/// In how many parts a round cuts its interval.
-const HALVES: u32 = 2;
-
 /// The match of a case whose run starts in this machine: what is settled in it, and how it ends. The machine has put out
 /// nothing, and its chain is that of no output by the digester `d`; each option is at least 1, and none changes the answer.
 ///
@@ -72,7 +69,7 @@ where
     let setup = Setup {
         provers: scripts.len() as u32,
         bound: case.bound,
-        fan: HALVES,
+        fan: case.fan,
         patience: case.patience,
         start: root,
     };
