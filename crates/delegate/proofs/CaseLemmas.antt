@@ -5,13 +5,16 @@ use Rattle.rd_base.specs.Results.{◌>>=◌}
 use Rattle.rv_step.specs.State.{State}
 use Rattle.case_reader.specs.Case.{CaseData}
 use Rattle.workload.specs.Workload.{big_data}
+use Rattle.text_types.specs.declared.digest.DigestName.{DigestName}
 use Rattle.command_line.specs.Words.{chosen}
+use Rattle.command_line.specs.declared.request.MatchText.{MatchText}
+use Rattle.command_line.specs.declared.request.MatchText.TheVariants.{Report, Full}
 use Rattle.command_line.specs.declared.request.Command.{Command}
-use Rattle.command_line.specs.declared.request.Command.TheVariants.{Judge, Run, Roots, Big}
+use Rattle.command_line.specs.declared.request.Command.TheVariants.{Judge, Run, Roots, Audit, Big}
 use Rattle.case_match.specs.TruthfulInCase.{IsInRange}
 use Rattle.delegate.specs.Refusal.{too_long}
 use Rattle.delegate.specs.Loading.{within_limit, case_in, start_in}
-use Rattle.delegate.specs.Decided.{Deciding, report, summary, case_for, decided}
+use Rattle.delegate.specs.Decided.{Deciding, written_as, summary, case_of, case_for, decided}
 use Rattle.delegate.specs.commands.Judge.{judging, judged}
 use Rattle.delegate.specs.commands.Big.{summing_up, summed_up}
 use Rattle.delegate.specs.Outcome.{bytes_for, carried_out, decides, response_to, outcome}
@@ -22,10 +25,17 @@ use Rattle.delegate.proofs.OutcomeLemmas.{goes_on, both_steps, of_command, outco
 
 -- a command that decides answers a case by its match
 
-judged-case : (c : CaseData) (start : State) (read : Result (List ℕ) Response) → (read >>= case_in) ≡ Ok c → start_in c ≡ Ok start → (read >>= judged) ≡ Ok (decided judging c start)
+judged-case : (text : MatchText) (name : DigestName) (c : CaseData) (start : State) (read : Result (List ℕ) Response) → (read >>= case_in) ≡ Ok c → start_in c ≡ Ok start
+    → (read >>= judged text name) ≡ Ok (decided (judging text name) c start)
 unfolding judged
-judged-case c start (Ok given) reads loads = goes_on _ _ _ reads ∙ goes_on _ _ _ loads
-judged-case c start (Err e) reads loads = absurd (cc reads)
+judged-case text name c start (Ok given) reads loads = goes_on _ _ _ reads ∙ goes_on _ _ _ loads
+judged-case text name c start (Err e) reads loads = absurd (cc reads)
+
+-- whichever text is asked for, the case is that of the bytes
+case-read : (text : MatchText) (bytes : List ℕ) → case_for (written_as text) bytes ≡ case_of bytes
+unfolding case_for
+case-read Report bytes = refl
+case-read Full bytes = refl
 
 summed_up-case : (seed : ℕ) (start : State) → start_in (big_data seed) ≡ Ok start → summed_up seed ≡ Ok (decided (summing_up seed) (big_data seed) start)
 unfolding summed_up
@@ -37,10 +47,11 @@ Answered command bytes m c start = (bytes_for command bytes >>= (λ given. carri
 command-case : (command : Command) (bytes : List ℕ) (m : Deciding) (c : CaseData) (start : State) → decides command ≡ Some m → case_for m.written bytes ≡ Ok c → start_in c ≡ Ok start
     → Answered command bytes m c start
 unfolding case_for
-command-case Judge bytes m c start is reads loads =
-    let m_is : judging ≡ m = cc is in
-    subst (λ (x : Deciding). Answered Judge bytes x c start) m_is
-    (judged-case c start (within_limit bytes) (subst (λ (x : Deciding). case_for x.written bytes ≡ Ok c) (sym m_is) reads) loads)
+command-case (Judge text name) bytes m c start is reads loads =
+    let m_is : judging text name ≡ m = cc is in
+    let own : case_for (written_as text) bytes ≡ Ok c = subst (λ (x : Deciding). case_for x.written bytes ≡ Ok c) (sym m_is) reads in
+    subst (λ (x : Deciding). Answered (Judge text name) bytes x c start) m_is
+    (judged-case text name c start (within_limit bytes) (sym (case-read text bytes) ∙ own) loads)
 command-case (Big seed) bytes m c start is reads loads =
     let m_is : summing_up seed ≡ m = cc is in
     let own : case_for (summing_up seed).written bytes ≡ Ok c = subst (λ (x : Deciding). case_for x.written bytes ≡ Ok c) (sym m_is) reads in
@@ -50,6 +61,7 @@ command-case (Big seed) bytes m c start is reads loads =
     (summed_up-case seed start (subst (λ (x : CaseData). start_in x ≡ Ok start) (sym c_is) loads)))
 command-case Run bytes m c start is reads loads = absurd (cc is)
 command-case Roots bytes m c start is reads loads = absurd (cc is)
+command-case Audit bytes m c start is reads loads = absurd (cc is)
 
 case-steps : (words : List (List ℕ)) (bytes : List ℕ) (m : Deciding) (c : CaseData) (start : State) → IsCase words bytes m c start → response_to words bytes ≡ Ok (decided m c start)
 case-steps words bytes m c start is = by (chosen words) refl
@@ -81,12 +93,13 @@ limited bytes given is = by (nat_lt 16777216 (length bytes)) is
 same-case : (command : Command) (bytes given : List ℕ) (m : Deciding) (c : CaseData) → decides command ≡ Some m → bytes_for command bytes ≡ Ok given → case_for m.written bytes ≡ Ok c
     → case_for m.written given ≡ Ok c
 unfolding case_for
-same-case Judge bytes given m c is read reads = subst (λ bs. case_for m.written bs ≡ Ok c) (limited bytes given read) reads
+same-case (Judge text name) bytes given m c is read reads = subst (λ bs. case_for m.written bs ≡ Ok c) (limited bytes given read) reads
 same-case (Big seed) bytes given m c is read reads =
     let m_is : summing_up seed ≡ m = cc is in
     subst (λ (x : Deciding). case_for x.written given ≡ Ok c) m_is (subst (λ (x : Deciding). case_for x.written bytes ≡ Ok c) (sym m_is) reads)
 same-case Run bytes given m c is read reads = absurd (cc is)
 same-case Roots bytes given m c is read reads = absurd (cc is)
+same-case Audit bytes given m c is read reads = absurd (cc is)
 
 in-range : (words : List (List ℕ)) (bytes given : List ℕ) (command : Command) → chosen words ≡ Some command → bytes_for command bytes ≡ Ok given → DecidesInRange command given
     → CasesAreInRange words bytes
@@ -124,9 +137,9 @@ same-in-range reading c start reads loads range other started is starts =
     let start_is : start ≡ started = same-ok (start_in c) start started loads (subst (λ (x : CaseData). start_in x ≡ Ok started) (sym c_is) starts) in
     subst (λ (x : CaseData). IsInRange x started) c_is (subst (λ (s : State). IsInRange c s) start_is range)
 
-pub report-in-range : (bytes : List ℕ) (c : CaseData) (start : State) → case_in bytes ≡ Ok c → start_in c ≡ Ok start → IsInRange c start → IsInRangeIfThere (case_for report bytes)
-unfolding case_for
-report-in-range bytes c start reads loads range other started is starts = same-in-range (case_in bytes) c start reads loads range other started (by (nat_lt 16777216 (length bytes)) is) starts
+pub judged-in-range : (text : MatchText) (bytes : List ℕ) (c : CaseData) (start : State) → case_in bytes ≡ Ok c → start_in c ≡ Ok start → IsInRange c start → IsInRangeIfThere (case_for (written_as text) bytes)
+judged-in-range text bytes c start reads loads range other started is starts =
+    same-in-range (case_in bytes) c start reads loads range other started (by (nat_lt 16777216 (length bytes)) (sym (case-read text bytes) ∙ is)) starts
   where
     by : (many : Bool) → (cond many (Err too_long) (Ok bytes) >>= case_in) ≡ Ok other → case_in bytes ≡ Ok other
     by true e = absurd (cc e)
@@ -142,10 +155,10 @@ big-stands seed c start response same loads is =
 
 -- of a command
 
-pub judge-in-range : (command : Command) (bytes : List ℕ) → command ≡ Judge → IsInRangeIfThere (case_for report bytes) → DecidesInRange command bytes
-judge-in-range command bytes is range m asked =
-    let both : Some judging ≡ Some m = sym (ap decides is) ∙ asked in
-    let m_is : judging ≡ m = cc both in
+pub judge-in-range : (command : Command) (text : MatchText) (name : DigestName) (bytes : List ℕ) → command ≡ Judge text name → IsInRangeIfThere (case_for (written_as text) bytes) → DecidesInRange command bytes
+judge-in-range command text name bytes is range m asked =
+    let both : Some (judging text name) ≡ Some m = sym (ap decides is) ∙ asked in
+    let m_is : judging text name ≡ m = cc both in
     subst (λ (x : Deciding). IsInRangeIfThere (case_for x.written bytes)) m_is range
 
 pub big-in-range : (command : Command) (seed : ℕ) (bytes : List ℕ) → command ≡ Big seed → IsInRangeIfThere (case_for (summary seed) bytes) → DecidesInRange command bytes

@@ -14,17 +14,20 @@ use Rattle.tournament.specs.Theorem.{HasTrueClaim, IsRightVerdict}
 use Rattle.rv_step.specs.State.{State}
 use Rattle.case_reader.specs.Case.{CaseData}
 use Rattle.text_types.specs.declared.digest.DigestName.{DigestName}
-use Rattle.text_types.specs.declared.digest.DigestName.TheVariants.{Sha256}
+use Rattle.text_types.specs.declared.digest.DigestName.TheVariants.{Sha256, Weak8}
 use Rattle.transcript_text.specs.Lines.{accept_line, line_of_accepted, line_of_verdict}
 use Rattle.transcript_text.specs.Report.{text_if_there}
 use Rattle.transcript_text.specs.Laws.{NothingIsSaidAgainstTheTruthful}
 use Rattle.case_match.specs.Match.{rules_of_case, record_of_case, verdict_of_record, truth_of_case}
 use Rattle.case_match.specs.TruthfulInCase.{IsSafeInCase, TruthfulProversOfCasesAreSafe}
+use Rattle.command_line.specs.declared.request.MatchText.{MatchText}
+use Rattle.command_line.specs.declared.request.MatchText.TheVariants.{Report, Full}
 use Rattle.delegate.specs.Digest.{digest_of}
 use Rattle.text_types.specs.declared.text.Head.{Head}
-use Rattle.delegate.specs.Decided.{Written, report, summary, Deciding, match_text, head_of, start_root, before_verdict, answered_for, decided}
+use Rattle.delegate.specs.Decided.{Written, report, full, summary, written_as, Deciding, match_text, answered_by, head_of, start_root, before_verdict, answered_for, decided}
 use Rattle.delegate.specs.declared.answered.Answered.TheVariants.{Done}
 use Rattle.delegate.specs.Headline.{AcceptsTheRun, ShowsCollision, HeadlineOfCases}
+use Rattle.delegate.proofs.SparedLemmas.{no-moves-against}
 
 -- a prover whose claim is accepted has a number above 0
 
@@ -55,11 +58,18 @@ line-of-true t claims (suc k) some claim =
 text-before : (written : Written) (head : Head) (settled : Record) (verdict : Verdict)
     → match_text written head settled verdict ≡ before_verdict written head settled (text_if_there (line_of_verdict settled.claims verdict))
 text-before report head settled verdict = refl
+text-before full head settled verdict = refl
 text-before (summary seed) head settled verdict = refl
+
+-- whichever text `judge` writes, it answers by the verdict
+pub answered_as : (text : MatchText) (verdict : Verdict) → answered_by verdict ≡ answered_for (written_as text) verdict
+answered_as Report verdict = refl
+answered_as Full verdict = refl
 
 -- where a claim is accepted the answer is that all is done
 accepts-done : (written : Written) (n : ℕ) → answered_for written (Accept n) ≡ Done
 accepts-done report n = refl
+accepts-done full n = refl
 accepts-done (summary seed) n = refl
 
 -- how the text ends where the verdict is right
@@ -88,8 +98,9 @@ ends m c start (Collision x y) is right =
 ends m c start NoneLeft is right = absurd right
 
 -- a law of the function of each name
-pub by-name : (P : (List ℕ → List ℕ) → Type 0) → P (digest_of Sha256) → (name : DigestName) → P (digest_of name)
-by-name P of_sha256 Sha256 = of_sha256
+pub by-name : (P : (List ℕ → List ℕ) → Type 0) → P (digest_of Sha256) → P (digest_of Weak8) → (name : DigestName) → P (digest_of name)
+by-name P of_sha256 of_weak8 Sha256 = of_sha256
+by-name P of_sha256 of_weak8 Weak8 = of_weak8
 
 pub headline-of-cases : ((name : DigestName) → TruthfulProversOfCasesAreSafe (digest_of name)) → NothingIsSaidAgainstTheTruthful → HeadlineOfCases
 headline-of-cases safe_by spared m c start p range truthful =
@@ -100,6 +111,7 @@ headline-of-cases safe_by spared m c start p range truthful =
         answers = case.safe.answers;
         stays = case.safe.stays;
         spared = spared (rules_of_case (digest_of m.digest) c start) (truth_of_case (digest_of m.digest) c start) p (record_of_case (digest_of m.digest) c start) case.safe;
+        spared_in_full = no-moves-against (rules_of_case (digest_of m.digest) c start) (truth_of_case (digest_of m.digest) c start) p (record_of_case (digest_of m.digest) c start) case.safe;
       };
       ends = ends m c start _ refl (case.safe.verdict case.complete);
     }

@@ -6,24 +6,39 @@ use Rattle.rv_step.specs.State.{State}
 use Rattle.rv_step.specs.Loaded.{started}
 use Rattle.case_reader.specs.Case.{CaseData, case_at}
 use Rattle.case_reader.specs.declared.fault.CaseFault.{CaseFault}
-use Rattle.image_reader.specs.Image.{Image}
+use Rattle.case_reader.specs.declared.case.Format.{Format}
+use Rattle.case_reader.specs.declared.case.Format.TheVariants.{Flat, Elf, Asm}
+use Rattle.image_reader.specs.Image.{Image, flat_at}
+use Rattle.image_reader.specs.Elf.{elf_at}
 use Rattle.image_reader.specs.declared.fault.ImageFault.{ImageFault}
+use Rattle.asm_image.specs.AsmImage.{asm_at}
+use Rattle.asm_image.specs.declared.image.AsmImageFault.{AsmImageFault}
 use Rattle.tournament.specs.declared.verdict.Verdict.{Verdict}
 use Rattle.tournament.specs.declared.verdict.Verdict.TheVariants.{Accept, NoneLeft, Collision as Collided}
+use Rattle.text_types.specs.declared.digest.DigestName.{DigestName}
 use Rattle.text_types.specs.declared.digest.DigestName.TheVariants.{Sha256}
+use Rattle.text_types.specs.declared.text.FullText.{FullText}
+use Rattle.text_types.specs.declared.text.Stated.{Stated}
+use Rattle.text_reader.specs.declared.fault.TextFault.{TextFault}
+use Rattle.text_reader.specs.ReadText.{read_text}
+use Rattle.audit.specs.declared.finding.Audit.{Audit}
+use Rattle.audit.specs.declared.finding.Audit.TheVariants.{Confirmed, Refused}
+use Rattle.audit.specs.LineByLine.{audited}
+use Rattle.command_line.specs.declared.request.MatchText.{MatchText}
 use Rattle.workload.specs.Workload.{big_data}
 use Rattle.case_match.specs.Match.{record_of_case, verdict_of_record}
 use Rattle.command_line.specs.Words.{chosen}
 use Rattle.command_line.specs.declared.request.Command.{Command}
-use Rattle.command_line.specs.declared.request.Command.TheVariants.{Judge, Run, Roots, Big}
-use Rattle.delegate.specs.Answered.{is_outcome, is_of_a_command}
-use Rattle.delegate.specs.Refusal.{usage, too_long, bound_refusal, case_refusal, image_refusal, or_refusal}
+use Rattle.command_line.specs.declared.request.Command.TheVariants.{Judge, Run, Roots, Big, Audit as AuditOf}
+use Rattle.delegate.specs.Answered.{is_outcome}
+use Rattle.delegate.specs.Refusal.{usage, too_long, bound_refusal, case_refusal, image_refusal, asm_refusal, or_refusal}
 use Rattle.delegate.specs.Digest.{digest_of}
 use Rattle.delegate.specs.Loading.{within_limit, case_in, image_by, start_in}
-use Rattle.delegate.specs.Decided.{Written, report, summary, Deciding, answered_for, decided}
+use Rattle.delegate.specs.Decided.{Written, report, full, summary, Deciding, answered_for, decided}
 use Rattle.delegate.specs.commands.Judge.{judging, judged}
 use Rattle.delegate.specs.commands.Run.{ran}
 use Rattle.delegate.specs.commands.Roots.{roots_of_run, rooted}
+use Rattle.delegate.specs.commands.Audit.{text_refusal, judge_of, found, checked}
 use Rattle.delegate.specs.commands.Big.{summing_up, summed_up}
 use Rattle.delegate.specs.Outcome.{bytes_for, carried_out, either_way, outcome}
 use Rattle.delegate.specs.Visible.{ForItsBytes}
@@ -35,7 +50,7 @@ use Rattle.delegate.proofs.OutcomeLemmas.{no_command, of_command, outcome-of}
 -- an answer to arguments that name a command
 abbrev answers_bytes : Answered → Bool
 answers_bytes Usage = false
-answers_bytes answered = is_of_a_command answered
+answers_bytes answered = is_outcome answered
 
 abbrev AnswersBytes : Result Response Response → Type 0
 AnswersBytes r = answers_bytes (either_way r).answered ≡ true
@@ -49,18 +64,43 @@ case-then bytes next further = by (case_at bytes)
     by (Ok c) = further c
     by (Err fault) = refl
 
+-- an image, or a response to bytes that are none
+abbrev IsFit : Result Image Response → Type 0
+IsFit (Ok image) = Unit {0}
+IsFit (Err response) = answers_bytes response.answered ≡ true
+
+image-fit : (format : Format) (file : List ℕ) → IsFit (image_by format file)
+image-fit Flat file = by (flat_at file)
+  where
+    by : (r : Result Image ImageFault) → IsFit (or_refusal image_refusal r)
+    by (Ok image) = tt
+    by (Err fault) = refl
+image-fit Elf file = by (elf_at file)
+  where
+    by : (r : Result Image ImageFault) → IsFit (or_refusal image_refusal r)
+    by (Ok image) = tt
+    by (Err fault) = refl
+image-fit Asm text = by (asm_at text)
+  where
+    by : (r : Result Image AsmImageFault) → IsFit (or_refusal asm_refusal r)
+    by (Ok image) = tt
+    by (Err fault) = refl
+
 start-then : (c : CaseData) (next : State → Result Response Response) → ((start : State) → AnswersBytes (next start)) → AnswersBytes (start_in c >>= next)
 unfolding start_in
-start-then c next further = by (image_by c.format c.image)
+start-then c next further = by (image_by c.format c.image) (image-fit c.format c.image)
   where
-    by : (r : Result Image ImageFault) → AnswersBytes ((or_refusal image_refusal r >>= (λ image. Ok (started 1 image.memory image.entry c.input))) >>= next)
-    by (Ok image) = further (started 1 image.memory image.entry c.input)
-    by (Err fault) = refl
+    by : (r : Result Image Response) → IsFit r → AnswersBytes ((r >>= (λ image. Ok (started 1 image.memory image.entry c.input))) >>= next)
+    by (Ok image) fit = further (started 1 image.memory image.entry c.input)
+    by (Err response) fit = fit
 
 verdict-kind : (written : Written) (verdict : Verdict) → answers_bytes (answered_for written verdict) ≡ true
 verdict-kind report (Accept number) = refl
 verdict-kind report NoneLeft = refl
 verdict-kind report (Collided x y) = refl
+verdict-kind full (Accept number) = refl
+verdict-kind full NoneLeft = refl
+verdict-kind full (Collided x y) = refl
 verdict-kind (summary seed) verdict = refl
 
 decided-kind : (m : Deciding) (c : CaseData) (start : State) → AnswersBytes (Ok (decided m c start))
@@ -68,9 +108,9 @@ decided-kind m c start = verdict-kind m.written (verdict_of_record (digest_of m.
 
 -- the commands
 
-judged-kind : (bytes : List ℕ) → AnswersBytes (judged bytes)
+judged-kind : (text : MatchText) (name : DigestName) (bytes : List ℕ) → AnswersBytes (judged text name bytes)
 unfolding judged
-judged-kind bytes = case-then bytes _ (λ c. start-then c _ (λ start. decided-kind judging c start))
+judged-kind text name bytes = case-then bytes _ (λ c. start-then c _ (λ start. decided-kind (judging text name) c start))
 
 ran-kind : (bytes : List ℕ) → AnswersBytes (ran bytes)
 unfolding ran
@@ -88,6 +128,18 @@ rooted-kind bytes = case-then bytes _ (λ c. by c (nat_lt 4096 c.bound))
     by c true = refl
     by c false = start-then c _ (λ start. refl)
 
+found-kind : (stated : Stated) (finding : Audit) → answers_bytes (found stated finding).answered ≡ true
+found-kind stated (Confirmed verdict) = refl
+found-kind stated (Refused line cause) = refl
+
+checked-kind : (bytes : List ℕ) → AnswersBytes (checked bytes)
+unfolding checked
+checked-kind bytes = by (read_text bytes)
+  where
+    by : (r : Result FullText TextFault) → AnswersBytes (or_refusal text_refusal r >>= (λ text. Ok (found text.stated (audited (judge_of text) text))))
+    by (Ok text) = found-kind text.stated (audited (judge_of text) text)
+    by (Err fault) = refl
+
 summed_up-kind : (seed : ℕ) → AnswersBytes (summed_up seed)
 unfolding summed_up
 summed_up-kind seed = start-then (big_data seed) _ (λ start. decided-kind (summing_up seed) (big_data seed) start)
@@ -100,9 +152,10 @@ limit-then bytes next further = by (nat_lt 16777216 (length bytes))
     by false = further bytes
 
 command-kind : (command : Command) (bytes : List ℕ) → AnswersBytes (bytes_for command bytes >>= (λ given. carried_out command given))
-command-kind Judge bytes = limit-then bytes _ judged-kind
+command-kind (Judge text name) bytes = limit-then bytes _ (judged-kind text name)
 command-kind Run bytes = limit-then bytes _ ran-kind
 command-kind Roots bytes = limit-then bytes _ rooted-kind
+command-kind AuditOf bytes = limit-then bytes _ checked-kind
 command-kind (Big seed) bytes = summed_up-kind seed
 
 taken-kind : (words : List (List ℕ)) (bytes : List ℕ) (command : Command) → chosen words ≡ Some command → answers_bytes (outcome words bytes).answered ≡ true
@@ -112,39 +165,26 @@ taken-kind words bytes command is =
 untaken : (words : List (List ℕ)) (bytes : List ℕ) → chosen words ≡ None → outcome words bytes ≡ usage
 untaken words bytes none = outcome-of words bytes _ (no_command words bytes none)
 
-bytes-of_a_command : (answered : Answered) → answers_bytes answered ≡ true → is_of_a_command answered ≡ true
-bytes-of_a_command Done is = is
-bytes-of_a_command Usage is = refl
-bytes-of_a_command Case is = is
-bytes-of_a_command BadImage is = is
-bytes-of_a_command ReadFault is = is
-bytes-of_a_command WriteFault is = is
-bytes-of_a_command AuditRefused is = is
-bytes-of_a_command Memory is = is
-bytes-of_a_command NobodyLeft is = is
-bytes-of_a_command Collision is = is
-bytes-of_a_command TooLong is = is
+is-outcome : (answered : Answered) → answers_bytes answered ≡ true → is_outcome answered ≡ true
+is-outcome Done is = is
+is-outcome Usage is = refl
+is-outcome Case is = is
+is-outcome BadImage is = is
+is-outcome ReadFault is = is
+is-outcome WriteFault is = is
+is-outcome AuditRefused is = is
+is-outcome Memory is = is
+is-outcome NobodyLeft is = is
+is-outcome Collision is = is
+is-outcome TooLong is = is
 
-of_a_command-outcome : (answered : Answered) → is_of_a_command answered ≡ true → is_outcome answered ≡ true
-of_a_command-outcome Done is = is
-of_a_command-outcome Usage is = is
-of_a_command-outcome Case is = is
-of_a_command-outcome BadImage is = is
-of_a_command-outcome ReadFault is = is
-of_a_command-outcome WriteFault is = is
-of_a_command-outcome AuditRefused is = refl
-of_a_command-outcome Memory is = is
-of_a_command-outcome NobodyLeft is = is
-of_a_command-outcome Collision is = refl
-of_a_command-outcome TooLong is = is
-
--- every outcome is one of a command, or of arguments that name none, and usage is that of such arguments alone
-outcome-kind : (words : List (List ℕ)) (bytes : List ℕ) → is_of_a_command (outcome words bytes).answered ≡ true
+-- no outcome is a fault, and usage is that of arguments that name no command alone
+outcome-kind : (words : List (List ℕ)) (bytes : List ℕ) → is_outcome (outcome words bytes).answered ≡ true
 outcome-kind words bytes = by (chosen words) refl
   where
-    by : (command : Option Command) → chosen words ≡ command → is_of_a_command (outcome words bytes).answered ≡ true
-    by None none = ap (λ response. is_of_a_command response.answered) (untaken words bytes none)
-    by (Some command) some = bytes-of_a_command (outcome words bytes).answered (taken-kind words bytes command some)
+    by : (command : Option Command) → chosen words ≡ command → is_outcome (outcome words bytes).answered ≡ true
+    by None none = ap (λ response. is_outcome response.answered) (untaken words bytes none)
+    by (Some command) some = is-outcome (outcome words bytes).answered (taken-kind words bytes command some)
 
 outcome-usage : (words : List (List ℕ)) (bytes : List ℕ) → (outcome words bytes).answered ≡ Usage → chosen words ≡ None
 outcome-usage words bytes is = by (chosen words) refl
@@ -158,11 +198,8 @@ outcome-usage words bytes is = by (chosen words) refl
 abbrev pub IsItsOutcome : Option (List ℕ) → List (List ℕ) → (List ℕ → Type 0) → Response → Type 0
 IsItsOutcome left words More response = ForItsBytes left (λ bytes. (response ≡ outcome words bytes) × More bytes)
 
-pub response-of_a_command : (left : Option (List ℕ)) (words : List (List ℕ)) (More : List ℕ → Type 0) (response : Response) → IsItsOutcome left words More response → is_of_a_command response.answered ≡ true
-response-of_a_command left words More response its = subst (λ r. is_of_a_command r.answered ≡ true) (sym its.2.0) (outcome-kind words its.0)
-
 pub response-kind : (left : Option (List ℕ)) (words : List (List ℕ)) (More : List ℕ → Type 0) (response : Response) → IsItsOutcome left words More response → is_outcome response.answered ≡ true
-response-kind left words More response its = of_a_command-outcome response.answered (response-of_a_command left words More response its)
+response-kind left words More response its = subst (λ r. is_outcome r.answered ≡ true) (sym its.2.0) (outcome-kind words its.0)
 
 pub response-usage : (left : Option (List ℕ)) (words : List (List ℕ)) (More : List ℕ → Type 0) (response : Response) → IsItsOutcome left words More response
     → (response.answered ≡ Usage) ↔ (chosen words ≡ None)

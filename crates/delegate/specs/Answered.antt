@@ -23,11 +23,6 @@ is_outcome WriteFault = false
 is_outcome Memory = false
 is_outcome _ = true
 
--- such an answer of one of the commands, or to arguments that name none
-abbrev pub is_of_a_command : Answered → Bool
-is_of_a_command AuditRefused = false
-is_of_a_command answered = is_outcome answered
-
 -- an answer for which the source is read to its end
 abbrev pub reads_all : Answered → Bool
 reads_all Usage = false

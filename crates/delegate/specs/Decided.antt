@@ -1,5 +1,5 @@
--- To believe. What is written of a match that is decided: by `judge` its report, and by `big` a summary in one line.
-use Rattle.std.specs.Prelude.{ℕ, List, ◌++◌, length, codes, Result, Ok}
+-- To believe. What is written of a match that is decided: by `judge` its report or its full text, and by `big` a summary in one line.
+use Rattle.std.specs.Prelude.{ℕ, List, ◌++◌, length, codes, Option, None, Result, Ok}
 use Rattle.rd_base.specs.Results.{◌>>=◌}
 use Rattle.rd_base.specs.declared.digest.Digest32.{Digest32}
 use Rattle.rv_step.specs.State.{State}
@@ -10,10 +10,14 @@ use Rattle.tournament.specs.Bracket.{Record}
 use Rattle.case_reader.specs.Case.{CaseData}
 use Rattle.text_types.specs.declared.text.Head.{Head}
 use Rattle.text_types.specs.declared.digest.DigestName.{DigestName}
+use Rattle.text_types.specs.MoveLists.{moves_of}
 use Rattle.transcript_text.specs.Lines.{lines_of_record}
 use Rattle.transcript_text.specs.Report.{report_text, head_line, lines_text}
+use Rattle.transcript_text.specs.FullLines.{full_text, refereed_text, moves_text}
 use Rattle.transcript_text.specs.Summary.{summary_text, rounds_in, workload_text, counts_text}
 use Rattle.workload.specs.Workload.{big_data}
+use Rattle.command_line.specs.declared.request.MatchText.{MatchText}
+use Rattle.command_line.specs.declared.request.MatchText.TheVariants.{Report, Full}
 use Rattle.case_match.specs.Match.{record_of_case, verdict_of_record}
 use Rattle.delegate.specs.Digest.{digest_of}
 use Rattle.delegate.specs.Loading.{within_limit, case_in}
@@ -25,20 +29,32 @@ use Rattle.delegate.specs.declared.answered.Answered.TheVariants as answered
 pub data Written : Type 0 where
   -- the report of the case that is read
   report : Written
+  -- its full text
+  full : Written
   -- the summary of the large workload of a seed
   summary : ℕ → Written
+
+-- by `judge`
+abbrev pub written_as : MatchText → Written
+written_as Report = report
+written_as Full = full
 
 -- what a command that decides a match is asked for: the digest of the match's commitments, and the text
 pub record Deciding : Type 0 where
   pub digest : DigestName
   pub written : Written
 
+-- the case of the bytes, which are not too many
+abbrev pub case_of : List ℕ → Result CaseData Response
+case_of bytes = do
+  given ← within_limit bytes
+  case_in given
+
 -- the case of the match: that of the bytes, or the large workload of a seed, for which nothing is read
 unfoldable pub case_for : Written → List ℕ → Result CaseData Response
 case_for (summary seed) bytes = Ok (big_data seed)
-case_for report bytes = do
-  given ← within_limit bytes
-  case_in given
+case_for report bytes = case_of bytes
+case_for full bytes = case_of bytes
 
 -- what the match is played over, from the root of the state in which the run starts
 abbrev pub head_of : DigestName → CaseData → Digest32 → Head
@@ -53,21 +69,24 @@ answered_by (Accept number) = answered.Done
 answered_by NoneLeft = answered.NoneLeft
 answered_by (Collision x y) = answered.Collision
 
--- a report answers by the verdict, and a summary always with its line
+-- a report and a full text answer by the verdict, and a summary always with its line
 abbrev pub answered_for : Written → Verdict → Answered
 answered_for (summary seed) verdict = answered.Done
 answered_for report verdict = answered_by verdict
+answered_for full verdict = answered_by verdict
 
 -- the text of a match's head, record and verdict
 abbrev pub match_text : Written → Head → Record → Verdict → List ℕ
 match_text (summary seed) head settled verdict = summary_text seed settled verdict
-match_text report head settled verdict = report_text head settled verdict
+match_text report head settled verdict = report_text head settled verdict None
+match_text full head settled verdict = full_text head settled verdict
 
--- the text before the verdict's line: the report's lines, or what a summary counts
+-- the text before the verdict's line: the lines of the report or of the full text, or what a summary counts
 abbrev pub before_verdict : Written → Head → Record → List ℕ → List ℕ
 before_verdict (summary seed) head settled verdict_text =
     workload_text seed (length settled.claims) ++ (counts_text (length settled.disputes) (rounds_in settled.disputes) ++ (codes " " ++ verdict_text))
 before_verdict report head settled verdict_text = head_line head ++ (lines_text (lines_of_record settled) ++ verdict_text)
+before_verdict full head settled verdict_text = refereed_text head ++ (codes "\n" ++ (moves_text (moves_of settled) ++ verdict_text))
 
 -- the verdict of a case, by a digest function, and its text
 abbrev pub told : (List ℕ → List ℕ) → Deciding → CaseData → State → Response

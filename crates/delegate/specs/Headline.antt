@@ -8,6 +8,7 @@ use Rattle.tournament.specs.declared.verdict.Verdict.TheVariants.{Collision}
 use Rattle.tournament.specs.Bracket.{live}
 use Rattle.tournament.specs.Theorem.{AreTrue, Stays, IsCollisionIn}
 use Rattle.text_types.specs.declared.digest.DigestName.{DigestName}
+use Rattle.text_types.specs.MoveLists.{moves_of}
 use Rattle.transcript_text.specs.Lines.{accept_line, collision_line, lines_of_record, are_against}
 use Rattle.transcript_text.specs.Report.{line_text}
 use Rattle.command_line.specs.Words.{chosen}
@@ -17,6 +18,7 @@ use Rattle.delegate.specs.Digest.{digest_of}
 use Rattle.delegate.specs.Loading.{start_in}
 use Rattle.delegate.specs.Decided.{Deciding, case_for, answered_for, head_of, start_root, before_verdict, decided}
 use Rattle.delegate.specs.Outcome.{decides}
+use Rattle.delegate.specs.Spared.{are_moves_against}
 use Rattle.delegate.specs.declared.response.Response.{Response}
 use Rattle.delegate.specs.declared.answered.Answered.TheVariants.{Done}
 
@@ -27,12 +29,13 @@ pub record IsCase (words : List (List ℕ)) (bytes : List ℕ) (m : Deciding) (c
   pub loads : start_in c ≡ Ok start
 
 -- IT IS NOT ELIMINATED: it is live at the end, with the true claim; its answers in each of its disputes are given and true; and
--- no line of the report calls it faulty, spent or refuted
+-- no line of the report or of the full text calls it faulty, spent or refuted
 pub record IsNotEliminated (name : DigestName) (c : CaseData) (start : State) (p : ℕ) : Type 0 where
   pub is_live : Contains (live (record_of_case (digest_of name) c start)) (p, (truth_of_case (digest_of name) c start).claim)
   pub answers : AreTrue (rules_of_case (digest_of name) c start) (truth_of_case (digest_of name) c start) p (record_of_case (digest_of name) c start)
   pub stays : Stays (rules_of_case (digest_of name) c start) (truth_of_case (digest_of name) c start) p (record_of_case (digest_of name) c start)
   pub spared : are_against p (lines_of_record (record_of_case (digest_of name) c start)) ≡ false
+  pub spared_in_full : are_moves_against p (moves_of (record_of_case (digest_of name) c start)) ≡ false
 
 -- EITHER the verdict's line accepts the status and the output of the sequential run
 pub record AcceptsTheRun (m : Deciding) (response : Response) (c : CaseData) (start : State) : Type 0 where

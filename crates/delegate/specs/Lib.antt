@@ -10,6 +10,10 @@ pub use Rattle.image_reader.specs.Image
 pub use Rattle.image_reader.specs.Elf
 pub use Rattle.transcript_text.specs.Report
 pub use Rattle.transcript_text.specs.Roots
+pub use Rattle.transcript_text.specs.FullLines
+pub use Rattle.text_reader.specs.ReadText
+pub use Rattle.audit.specs.LineByLine
+pub use Rattle.machine_audit.specs.MachineAudit
 pub use Rattle.case_match.specs.Match
 pub use Rattle.case_match.specs.TruthfulInCase
 pub mod Answered
@@ -21,6 +25,8 @@ pub mod commands
 pub mod Outcome
 pub mod Visible
 pub mod Writing
+pub mod Spared
 pub mod Headline
+pub mod Confirmed
 pub mod Stages
 pub mod Process

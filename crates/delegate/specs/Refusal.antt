@@ -6,6 +6,9 @@ use Rattle.case_reader.specs.declared.fault.CaseFault.{CaseFault}
 use Rattle.case_reader.specs.declared.fault.CaseFault.TheVariants.{NotJson, NotObject, Missing, WrongType, BadHex, OutOfRange, BadProver, Memory}
 use Rattle.image_reader.specs.Fault.{rule_of}
 use Rattle.image_reader.specs.declared.fault.ImageFault.{ImageFault}
+use Rattle.rv_text.specs.Faults.{number_of}
+use Rattle.asm_image.specs.declared.image.AsmImageFault.{AsmImageFault}
+use Rattle.asm_image.specs.declared.image.AsmImageFault.TheVariants as asm
 use Rattle.delegate.specs.declared.response.Response.{Response}
 use Rattle.delegate.specs.declared.answered.Answered.TheVariants as answered
 
@@ -42,6 +45,15 @@ rule_text None = []
 
 abbrev pub image_refusal : ImageFault → Response
 image_refusal fault = record { answered = answered.Image; text = rule_text (rule_of fault) }
+
+-- what is wrong with an assembly text: its fault, by kind and line, or the rule of images that its words break
+abbrev pub asm_fault_text : AsmImageFault → List ℕ
+asm_fault_text (asm.Text fault) = codes "fault image 12 " ++ (decimal (number_of fault.kind) ++ (codes " " ++ (decimal fault.line ++ codes "\n")))
+asm_fault_text (asm.Image fault) = rule_text (rule_of fault)
+asm_fault_text asm.Memory = []
+
+abbrev pub asm_refusal : AsmImageFault → Response
+asm_refusal fault = record { answered = answered.Image; text = asm_fault_text fault }
 
 -- what a reader gives, its fault as the response to it
 abbrev pub or_refusal : {A E : Type 0} → (E → Response) → Result A E → Result A Response

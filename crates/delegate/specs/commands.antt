@@ -2,4 +2,5 @@
 pub mod Judge
 pub mod Run
 pub mod Roots
+pub mod Audit
 pub mod Big

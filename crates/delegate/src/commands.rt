@@ -4,6 +4,7 @@ ghost use Rattle.command_line.specs.Words.{AreAtLeastOne};
 ghost use Rattle.delegate.specs.Outcome.{carried_out};
 ghost use Rattle.delegate.specs.Stages.{Stands, DecidesInRange};
 
+mod auditing;
 mod big;
 mod judge;
 mod roots;
@@ -15,7 +16,7 @@ use std::alloc::Global;
 use std::sync::Wait;
 use std::thread::Threads;
 
-/// Carries out a command on the bytes that were read for it. `run` and `roots` wait for nobody.
+/// Carries out a command on the bytes that were read for it. `run`, `roots` and `audit` wait for nobody.
 pub fn carry_out<R: Threads + Wait + Sync>(
     rt: &R,
     alloc: Global,
@@ -27,9 +28,10 @@ pub fn carry_out<R: Threads + Wait + Sync>(
     ensures in_range { IfOk result (λ response. DecidesInRange request.command bytes.items) }
 {
     match request.command {
-        Command::Judge => judge::judge(rt, alloc, request.options, bytes),
+        Command::Judge(text, name) => judge::judge(rt, alloc, text, name, request.options, bytes),
         Command::Run => run::run(alloc, bytes),
         Command::Roots => roots::roots(rt, alloc, bytes),
+        Command::Audit => auditing::check(alloc, bytes),
         Command::Big(seed) => big::big(rt, alloc, seed, request.options),
     }
 }

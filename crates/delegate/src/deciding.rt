@@ -4,13 +4,14 @@ ghost use Rattle.std.specs.Prelude.{◌≡◌, ℕ, [], IfOk};
 ghost use Rattle.rv_step.specs.State.{state_of, IsChained};
 ghost use Rattle.case_reader.specs.Case.{data_of};
 ghost use Rattle.command_line.specs.Words.{AreAtLeastOne};
-ghost use Rattle.delegate.specs.Decided.{report, summary, told, head_of, answered_by};
+ghost use Rattle.delegate.specs.Decided.{written_as, summary, match_text, told, head_of, answered_by};
+ghost use Rattle.delegate.specs.commands.Judge.{judging};
 
 use crate::answered::Answered;
 use crate::response::Response;
 use case_match::{verdict_from, verdict_of_case};
 use case_reader::Case;
-use command_line::Options;
+use command_line::{MatchText, Options};
 use rd_base::{Bytes, Digest32, Memory};
 use rv_step::Machine;
 use segment_replay::Replays;
@@ -18,7 +19,7 @@ use state_commit::state_root;
 use std::alloc::Global;
 use std::sync::Wait;
 use std::thread::Threads;
-use tournament::Verdict;
+use tournament::{Record, Verdict};
 use transcript_text::{DigestName, Head};
 
 /// What the match of a case is played over, from the root of the state in which its run starts.
@@ -46,13 +47,31 @@ fn answered_by(verdict: &Verdict) -> Answered
     }
 }
 
-/// Plays the match of a case by the digester `d`, which has this name, and reports it. The machine and the options are as for
-/// `verdict_of_case`. An `Err` is out of memory.
-pub fn report<R: Threads + Wait + Sync, D: Replays>(
+/// The text of a match that is asked for.
+fn text_of(
+    alloc: Global,
+    text: MatchText,
+    head: &Head,
+    match_record: &Record,
+    verdict: &Verdict,
+) -> Result<Vec<u8>, Memory>
+    ensures { IfOk result (λ bytes. bytes.items ≡ match_text (written_as text) head.now match_record.now verdict.now) }
+{
+    match text {
+        MatchText::Report => transcript_text::report(alloc, head, match_record, verdict, None),
+        MatchText::Full => transcript_text::full(alloc, head, match_record, verdict),
+    }
+}
+
+/// Plays the match of a case by the digester `d`, which has this name, and writes the text of it that is asked for. The machine and
+/// the options are as for `verdict_of_case`. An `Err` is out of memory.
+#[tactic(auto, using(crate::proofs::HeadlineLemmas::answered_as))]
+pub fn judge<R: Threads + Wait + Sync, D: Replays>(
     rt: &R,
     alloc: Global,
     d: D,
     name: DigestName,
+    text: MatchText,
     options: Options,
     case: &Case,
     start: Machine,
@@ -62,15 +81,15 @@ where
     requires chained { IsChained D.digest_of start }
     requires silent { start.output.items ≡ [] }
     requires options { AreAtLeastOne options }
-    ensures { IfOk result (λ response. response ≡ told D.digest_of (record { digest = name; written = report }) (data_of case.now) (state_of start)) }
+    ensures { IfOk result (λ response. response ≡ told D.digest_of (judging text name) (data_of case.now) (state_of start)) }
 {
     let root = state_root(d, &start);
     let (match_record, verdict) = verdict_from(rt, alloc, d, case, start, root, options)?;
     let head = head_of(name, case, root);
-    let text = transcript_text::report(alloc, &head, &match_record, &verdict)?;
+    let bytes = text_of(alloc, text, &head, &match_record, &verdict)?;
     Ok(Response {
         answered: answered_by(&verdict),
-        text: Bytes::new(text),
+        text: Bytes::new(bytes),
     })
 }
 

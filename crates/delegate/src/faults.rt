@@ -1,8 +1,10 @@
 ghost use Rattle.std.specs.Prelude.{◌≡◌, IfOk, string_bytes};
-ghost use Rattle.delegate.specs.Refusal.{usage, too_long, case_refusal, image_refusal};
+ghost use Rattle.image_reader.specs.Fault.{rule_of};
+ghost use Rattle.delegate.specs.Refusal.{usage, too_long, case_refusal, image_refusal, asm_refusal, rule_text};
 
 use crate::answered::Answered;
 use crate::response::Response;
+use asm_image::AsmImageFault;
 use case_reader::CaseFault;
 use image_reader::ImageFault;
 use rd_base::Bytes;
@@ -45,9 +47,31 @@ pub fn case_refusal(alloc: Global, fault: CaseFault) -> Result<Response, AllocEr
 pub fn image_refusal(alloc: Global, fault: ImageFault) -> Result<Response, AllocError>
     ensures { IfOk result (λ response. response ≡ image_refusal fault) }
 {
-    let text = match fault.rule() {
-        Some(rule) => format!(in alloc; "fault image {rule}\n")?,
-        None => String::new(alloc),
+    let text = rule_text(alloc, fault)?;
+    Ok(response(Answered::Image, text))
+}
+
+/// The text about a rule of images that is broken; it is empty where memory ran out.
+fn rule_text(alloc: Global, fault: ImageFault) -> Result<String, AllocError>
+    ensures { IfOk result (λ text. string_bytes text ≡ rule_text (rule_of fault)) }
+{
+    match fault.rule() {
+        Some(rule) => Ok(format!(in alloc; "fault image {rule}\n")?),
+        None => Ok(String::new(alloc)),
+    }
+}
+
+/// The response to what is wrong with an assembly text. The text is empty where memory ran out.
+pub fn asm_refusal(alloc: Global, fault: AsmImageFault) -> Result<Response, AllocError>
+    ensures { IfOk result (λ response. response ≡ asm_refusal fault) }
+{
+    let text = match fault {
+        AsmImageFault::Text(fault) => {
+            let (kind, line) = (fault.kind.number(), fault.line);
+            format!(in alloc; "fault image 12 {kind} {line}\n")?
+        }
+        AsmImageFault::Image(fault) => rule_text(alloc, fault)?,
+        AsmImageFault::Memory => String::new(alloc),
     };
     Ok(response(Answered::Image, text))
 }

@@ -1,6 +1,5 @@
 //! How every command on a case reads it and loads its image.
 ghost use Rattle.std.specs.Prelude.{◌≡◌, ℕ, List, [], IfOk, Ok};
-ghost use Rattle.rd_base.specs.Results.{Gives};
 ghost use Rattle.rv_step.specs.State.{State, state_of, IsChained};
 ghost use Rattle.case_reader.specs.Case.{data_of};
 ghost use Rattle.image_reader.specs.Image.{loaded_of};
@@ -10,6 +9,7 @@ ghost use Rattle.delegate.specs.Stages.{Stands};
 
 use crate::faults;
 use crate::response::Stop;
+use asm_image::{AsmImageFault, load_asm};
 use case_reader::{Case, CaseFault, Format, read_case};
 use image_reader::{ImageFault, Loaded, load_elf, load_flat};
 use rv_step::{Machine, machines_are_valid};
@@ -26,12 +26,36 @@ pub fn case_in(alloc: Global, bytes: Vec<u8>) -> Result<Case, Stop>
     }
 }
 
-fn load(alloc: Global, case: &Case) -> Result<Loaded, ImageFault>
-    ensures { Gives ImageFault.Memory loaded_of result (image_by case.now.format case.now.image) }
+/// The image of a flat file.
+fn flat_image(alloc: Global, file: &[u8]) -> Result<Loaded, Stop>
+    ensures { Stands loaded_of result (image_by Format.Flat file.now) }
 {
-    match case.format {
-        Format::Flat => load_flat(alloc, case.image.as_slice()),
-        Format::Elf => load_elf(alloc, case.image.as_slice()),
+    match load_flat(alloc, file) {
+        Ok(loaded) => Ok(loaded),
+        Err(ImageFault::Memory) => Err(Stop::Memory),
+        Err(fault) => Err(Stop::Refused(faults::image_refusal(alloc, fault)?)),
+    }
+}
+
+/// The image of an ELF file.
+fn elf_image(alloc: Global, file: &[u8]) -> Result<Loaded, Stop>
+    ensures { Stands loaded_of result (image_by Format.Elf file.now) }
+{
+    match load_elf(alloc, file) {
+        Ok(loaded) => Ok(loaded),
+        Err(ImageFault::Memory) => Err(Stop::Memory),
+        Err(fault) => Err(Stop::Refused(faults::image_refusal(alloc, fault)?)),
+    }
+}
+
+/// The image of an assembly text.
+fn asm_image(alloc: Global, text: &[u8]) -> Result<Loaded, Stop>
+    ensures { Stands loaded_of result (image_by Format.Asm text.now) }
+{
+    match load_asm(alloc, text) {
+        Ok(loaded) => Ok(loaded),
+        Err(AsmImageFault::Memory) => Err(Stop::Memory),
+        Err(fault) => Err(Stop::Refused(faults::asm_refusal(alloc, fault)?)),
     }
 }
 
@@ -39,10 +63,11 @@ fn load(alloc: Global, case: &Case) -> Result<Loaded, ImageFault>
 fn image_in(alloc: Global, case: &Case) -> Result<Loaded, Stop>
     ensures { Stands loaded_of result (image_in (data_of case.now)) }
 {
-    match load(alloc, case) {
-        Ok(loaded) => Ok(loaded),
-        Err(ImageFault::Memory) => Err(Stop::Memory),
-        Err(fault) => Err(Stop::Refused(faults::image_refusal(alloc, fault)?)),
+    let file = case.image.as_slice();
+    match case.format {
+        Format::Flat => flat_image(alloc, file),
+        Format::Elf => elf_image(alloc, file),
+        Format::Asm => asm_image(alloc, file),
     }
 }
 

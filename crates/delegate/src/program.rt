@@ -2,7 +2,7 @@
 ghost use Rattle.std.specs.Prelude.{◌≡◌, ◌≢◌, ◌↔◌, true, false, None, IfSome, codes};
 ghost use Rattle.std.specs.Io.KnownBytes.{Appends, IsAtEnd};
 ghost use Rattle.io_edge.specs.Device.{Rises, IsLaterIn, AppendsPart};
-ghost use Rattle.delegate.specs.Answered.{is_outcome, is_of_a_command, reads_all};
+ghost use Rattle.delegate.specs.Answered.{is_outcome, reads_all};
 ghost use Rattle.delegate.specs.Outcome.{outcome};
 ghost use Rattle.delegate.specs.Headline.{AnswersTheCase, KeepsTheTruthful};
 ghost use Rattle.delegate.specs.Visible.{ForItsBytes};
@@ -18,8 +18,8 @@ use std::alloc::Global;
 use std::sync::Wait;
 use std::thread::Threads;
 
-/// Runs the program: reads a case from the source where the arguments name a command that reads one, carries the command
-/// out, and writes the text.
+/// Runs the program: reads a case or a full text from the source where the arguments name a command that reads one, carries the
+/// command out, and writes the text.
 ///
 /// The answer and the text are the outcome of the arguments and of the bytes that the source had, or a fault of a
 /// device, or out of memory. Nothing is written before the whole text is made, and writing takes no memory.
@@ -32,7 +32,6 @@ pub fn run<R: Threads + Wait + Sync, S: Source, K: Sink>(
 ) -> Answered
     // What it answers and writes, for the source's bytes where they are visible, and for some bytes where they aren't.
     ensures answers { is_outcome result ≡ true → ForItsBytes (S.left source.old) (λ bytes. IsWritten (outcome (texts words.now) bytes) result (K.held sink.old) (K.held sink.new)) }
-    ensures of_a_command { is_outcome result ≡ true → is_of_a_command result ≡ true }
 
     // Arguments that name no command are refused, and nothing is read; nor is it for a large workload.
     ensures usage { is_outcome result ≡ true → (result ≡ Answered.Usage) ↔ (chosen (texts words.now) ≡ None) }
@@ -55,13 +54,14 @@ pub fn run<R: Threads + Wait + Sync, S: Source, K: Sink>(
     ensures nothing_read_fault { result ≡ Answered.ReadFault → K.held sink.new ≡ K.held sink.old }
     ensures nothing_memory { result ≡ Answered.Memory → K.held sink.new ≡ K.held sink.old }
 
-    // Completeness, of the same bytes: each case is answered by the verdict of its record, and its report or summary is written whole.
+    // Completeness, of the same bytes: each case is answered by the verdict of its record, and the text that is asked for is written whole.
     ensures completeness { is_outcome result ≡ true → ForItsBytes (S.left source.old) (λ bytes.
         IsWritten (outcome (texts words.now) bytes) result (K.held sink.old) (K.held sink.new)
         × AnswersTheCase (texts words.now) bytes (outcome (texts words.now) bytes)) }
 
     // The headline, of the same bytes: a prover that claims and answers as the machine's definition says, within its patience, is
-    // not eliminated, and the text accepts the sequential run's status and output or shows a collision. No option is named.
+    // not eliminated, and the text accepts the sequential run's status and output or shows a collision. No option is named but those
+    // that choose the text and the digest.
     ensures headline { is_outcome result ≡ true → ForItsBytes (S.left source.old) (λ bytes.
         IsWritten (outcome (texts words.now) bytes) result (K.held sink.old) (K.held sink.new)
         × KeepsTheTruthful (texts words.now) bytes (outcome (texts words.now) bytes)) }

@@ -3,7 +3,7 @@ use Rattle.delegate.proofs.CaseLemmas.{judge-in-range, big-in-range}
 use Rattle.delegate.proofs.commands.carry_out.Goals as goal
 
 pub returns-in-Judge-clause-in_range : goal.returns-in-Judge-clause-in_range
-returns-in-Judge-clause-in_range g c = IfOk-weaker c.judge.result _ _ (λ response range. judge-in-range c.args.request.command c.args.bytes.items c.in-Judge.is range) c.judge.ensures.in_range
+returns-in-Judge-clause-in_range g c = IfOk-weaker c.judge.result _ _ (λ response range. judge-in-range c.args.request.command c.in-Judge.text c.in-Judge.name c.args.bytes.items c.in-Judge.is range) c.judge.ensures.in_range
 
 pub returns-in-Big-clause-in_range : goal.returns-in-Big-clause-in_range
 returns-in-Big-clause-in_range g c =

@@ -1,4 +1,4 @@
-use Rattle.std.proofs.Common.{◌≡◌, ℕ, ◌+◌, ◌++◌, string_bytes, sym, ap, ◌∙◌, add-one}
+use Rattle.std.proofs.Common.{ℕ, ◌++◌, sym, ap, ◌∙◌, add-one}
 use Rattle.rv_step.specs.Step.{step, state_at}
 use Rattle.state_commit.specs.StateRoot.{state_root}
 use Rattle.transcript_text.specs.Roots.{root_line, root_lines}

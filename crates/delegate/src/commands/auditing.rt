@@ -1,0 +1,152 @@
+//! `audit`: to check a full text line by line, and to write its verdict.
+ghost use Rattle.std.specs.Prelude.{◌≡◌, ◌++◌, Ok, codes, string_bytes, IfOk, OnOk};
+ghost use Rattle.transcript_text.specs.Lines.{accept_line, line_of_stated};
+ghost use Rattle.transcript_text.specs.Report.{output_text, line_text};
+ghost use Rattle.text_reader.specs.ReadText.{read_text};
+ghost use Rattle.audit.specs.LineByLine.{audited};
+ghost use Rattle.delegate.specs.commands.Audit.{text_refusal, full_text_in, cause_number, found, judge_of, checked};
+ghost use Rattle.delegate.specs.Stages.{Stands};
+
+use crate::answered::Answered;
+use crate::response::{Response, Stop};
+use audit::{Audit, Cause, a_read_text_may_be_audited, audit};
+use digest_core::{Sha256, Weak8};
+use rd_base::{Bytes, Memory, Status};
+use std::alloc::{AllocError, Global};
+use std::fmt::Write;
+use step_referee::MachineJudge;
+use text_reader::{TextFault, read_full};
+use text_types::{DigestName, FullText, Stated};
+
+fn response(answered: Answered, text: String) -> Response
+    ensures { result ≡ record { answered = answered; text = string_bytes text } }
+{
+    Response {
+        answered,
+        text: Bytes::new(text.into_bytes()),
+    }
+}
+
+/// The response to a fault of a text. The text is empty where memory ran out.
+fn text_refusal(alloc: Global, fault: TextFault) -> Result<Response, AllocError>
+    ensures { IfOk result (λ response. response ≡ text_refusal fault) }
+{
+    let text = match fault {
+        TextFault::BadHead => String::from_str(alloc, "fault text 1\n")?,
+        TextFault::BadLine(line) => format!(in alloc; "fault text 2 {line}\n")?,
+        TextFault::Truncated => String::from_str(alloc, "fault text 3\n")?,
+        TextFault::OutOfRange(line) => format!(in alloc; "fault text 4 {line}\n")?,
+        TextFault::Memory => String::new(alloc),
+    };
+    Ok(response(Answered::AuditRefused, text))
+}
+
+/// The full text of the bytes.
+fn full_text_in(alloc: Global, bytes: &[u8]) -> Result<FullText, Stop>
+    ensures stands { Stands (λ text. text) result (full_text_in bytes.now) }
+    ensures read { IfOk result (λ text. read_text bytes.now ≡ Ok text) }
+{
+    match read_full(alloc, bytes) {
+        Ok(text) => Ok(text),
+        Err(TextFault::Memory) => Err(Stop::Memory),
+        Err(fault) => Err(Stop::Refused(text_refusal(alloc, fault)?)),
+    }
+}
+
+/// Audits a text that was read before the judge of the machine, by the digest that the text's head names.
+fn audit_by_name(alloc: Global, bytes: &[u8], text: &FullText) -> Result<Audit, Memory>
+    requires { read_text bytes.now ≡ Ok text.now }
+    ensures { IfOk result (λ found. found ≡ audited (judge_of text.now) text.now) }
+{
+    a_read_text_may_be_audited(bytes, text);
+    match text.head.digest {
+        DigestName::Sha256 => audit(alloc, text, MachineJudge::new(Sha256)),
+        DigestName::Weak8 => audit(alloc, text, MachineJudge::new(Weak8)),
+    }
+}
+
+/// The number of a cause.
+fn number_of(cause: Cause) -> u32
+    ensures { result ≡ cause_number cause }
+{
+    match cause {
+        Cause::NotAsked => 1,
+        Cause::OtherReply => 2,
+        Cause::OtherVerdict => 3,
+        Cause::MovesMissing => 4,
+        Cause::MovesAfterEnd => 5,
+    }
+}
+
+/// Adds an output, where there is any.
+fn add_output(text: &mut String, alloc: Global, output: &[u8]) -> Result<(), AllocError>
+    ensures { OnOk result (string_bytes text.new ≡ string_bytes text.old ++ output_text output.now) }
+{
+    if output.is_empty() {
+        return Ok(());
+    }
+    let digits = hex::encode(alloc, output)?;
+    write!(text, " {digits}")
+}
+
+/// Adds the line of a claim that is accepted.
+fn add_accepted(
+    text: &mut String,
+    alloc: Global,
+    status: Status,
+    output: &[u8],
+) -> Result<(), AllocError>
+    ensures { OnOk result (string_bytes text.new ≡ string_bytes text.old ++ line_text (accept_line status output.now)) }
+{
+    write!(text, "accept {status} output")?;
+    add_output(text, alloc, output)?;
+    text.push_str("\n")
+}
+
+/// Adds the line of a stated verdict.
+fn add_stated(text: &mut String, alloc: Global, stated: &Stated) -> Result<(), AllocError>
+    ensures { OnOk result (string_bytes text.new ≡ string_bytes text.old ++ line_text (line_of_stated stated.now)) }
+{
+    match stated {
+        Stated::Accept(status, output) => add_accepted(text, alloc, *status, output.as_slice()),
+        Stated::NoneLeft => text.push_str("none left\n"),
+        Stated::Collision(x, y) => {
+            let first = hex::encode(alloc, x.as_slice())?;
+            let second = hex::encode(alloc, y.as_slice())?;
+            write!(text, "collision {first} {second}\n")
+        }
+    }
+}
+
+/// The response to a text that is confirmed: the line of its verdict.
+fn confirmed(alloc: Global, stated: &Stated) -> Result<Response, AllocError>
+    ensures { IfOk result (λ response. response ≡ record { answered = Answered.Done; text = codes "confirmed " ++ line_text (line_of_stated stated.now) }) }
+{
+    let mut text = String::from_str(alloc, "confirmed ")?;
+    add_stated(&mut text, alloc, stated)?;
+    Ok(response(Answered::Done, text))
+}
+
+/// The response to what an audit finds of a text with this stated verdict.
+fn found(alloc: Global, stated: &Stated, audit: &Audit) -> Result<Response, AllocError>
+    ensures { IfOk result (λ response. response ≡ found stated.now audit.now) }
+{
+    match audit {
+        Audit::Confirmed(_) => confirmed(alloc, stated),
+        Audit::Refused { line, cause } => {
+            let number = number_of(*cause);
+            let text = format!(in alloc; "refused {line} {number}\n")?;
+            Ok(response(Answered::AuditRefused, text))
+        }
+    }
+}
+
+/// Audits the full text of the bytes, and answers with the line of its verdict, or with what refuses it.
+#[tactic(auto, unfolding(crate::specs::commands::Audit::checked))]
+pub fn check(alloc: Global, bytes: Vec<u8>) -> Result<Response, Stop>
+    ensures { Stands (λ response. response) result (checked bytes.items) }
+{
+    let text = full_text_in(alloc, bytes.as_slice())?;
+    let finding = audit_by_name(alloc, bytes.as_slice(), &text)?;
+    Ok(found(alloc, &text.stated, &finding)?)
+}
