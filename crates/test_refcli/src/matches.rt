@@ -98,15 +98,13 @@ pub fn add_numbers<R: Threads + Wait + Sync>(
     )?;
     let case = case_of_provers(alloc, 8, 101, 0, LIAR, "{}");
     add_line(rt, alloc, lines, "patience 101", judge, case)?;
-    let case = case_of_provers(alloc, 16_777_216, 0, 1, LIAR, "{}");
+    let case = case_of_provers(alloc, 4_294_967_295, 0, 1, LIAR, "{}");
     add_line(
         rt,
         alloc,
         lines,
-        "a bound of 16777216 steps, 24 rounds",
+        "a bound of 4294967295 steps, 32 rounds",
         judge,
         case,
-    )?;
-    let case = case_of_provers(alloc, 16_777_217, 0, 1, LIAR, "{}");
-    add_line(rt, alloc, lines, "a bound of 16777217 steps", judge, case)
+    )
 }

@@ -1,12 +1,21 @@
 use crate::answering::outcome_of;
 use io_edge::{Source, read_all};
 use rd_base::Memory;
-use std::alloc::Global;
+use std::alloc::{AllocError, Global};
 use std::sync::Wait;
 use std::thread::Threads;
 
 /// The most bytes of all rows.
 const MOST: usize = 1_048_576;
+
+/// The bytes of a row, in which each `|` stands for a line feed.
+fn bytes_of(alloc: Global, text: &str) -> Result<Vec<u8>, AllocError> {
+    let mut bytes = Vec::new(alloc);
+    for byte in text.bytes() {
+        bytes.push(if byte == b'|' { b'\n' } else { byte })?;
+    }
+    Ok(bytes)
+}
 
 /// Adds what comes of a row: a line with its name and the status, and the text.
 fn add_row<R: Threads + Wait + Sync>(
@@ -15,10 +24,10 @@ fn add_row<R: Threads + Wait + Sync>(
     lines: &mut String,
     name: &str,
     command: &str,
-    case: &str,
+    text: &str,
 ) -> Result<(), Memory> {
-    let case = case.as_bytes().to_vec(alloc)?;
-    let outcome = outcome_of(rt, alloc, command, case)?;
+    let bytes = bytes_of(alloc, text)?;
+    let outcome = outcome_of(rt, alloc, command, bytes)?;
     let status = outcome.answered.status();
     let first = format!(in alloc; "{name}: status {status}\n")?;
     lines.push_str(first.as_str())?;
@@ -26,11 +35,11 @@ fn add_row<R: Threads + Wait + Sync>(
     Ok(())
 }
 
-/// The name, the command and the case of a row, which are parted by tabs.
+/// The name, the command and the bytes of a row, which are parted by tabs.
 fn parts_of(row: &str) -> Option<(&str, &str, &str)> {
     let (name, rest) = row.split_once('\t')?;
-    let (command, case) = rest.split_once('\t')?;
-    Some((name, command, case))
+    let (command, text) = rest.split_once('\t')?;
+    Some((name, command, text))
 }
 
 /// What comes of the rows that a source has, one a line. `Memory` where they can't be read, too.
@@ -47,8 +56,8 @@ pub fn lines_of_rows<R: Threads + Wait + Sync, S: Source>(
         return Err(Memory);
     };
     for row in rows.as_str().lines() {
-        if let Some((name, command, case)) = parts_of(row) {
-            add_row(rt, alloc, &mut lines, name, command, case)?;
+        if let Some((name, command, text)) = parts_of(row) {
+            add_row(rt, alloc, &mut lines, name, command, text)?;
         }
     }
     Ok(lines)
