@@ -12,8 +12,11 @@ import hashlib
 import os
 import sys
 
+# No folders of compiled modules beside the sources.
+sys.dont_write_bytecode = True
 sys.path.insert(0, os.path.join(os.path.dirname(os.path.abspath(__file__)), "differential"))
 import machine  # noqa: E402
+from printing import end  # noqa: E402
 
 LEVELS = 27
 CHUNK = 32
@@ -98,12 +101,25 @@ def roots(image, bound, given):
         machine.step(state)
 
 
+def hexadecimal(text, what):
+    try:
+        return bytes.fromhex(text)
+    except ValueError:
+        sys.exit(f"roots.py: {what} isn't bytes in hexadecimal")
+
+
 def main():
-    image, bound = bytes.fromhex(sys.argv[1]), int(sys.argv[2])
-    given = bytes.fromhex(sys.argv[3]) if len(sys.argv) > 3 else b""
-    for step, root in roots(image, bound, given):
+    if len(sys.argv) not in (3, 4):
+        print(__doc__, end="", file=sys.stderr)
+        return 2
+    if not (sys.argv[2].isascii() and sys.argv[2].isdigit()):
+        sys.exit(f"roots.py: the bound {sys.argv[2]!r} isn't a number")
+    image = hexadecimal(sys.argv[1], "IMAGE")
+    given = hexadecimal(sys.argv[3], "INPUT") if len(sys.argv) > 3 else b""
+    for step, root in roots(image, int(sys.argv[2]), given):
         print(step, root.hex())
+    return 0
 
 
 if __name__ == "__main__":
-    main()
+    end("roots.py", main)

@@ -90,7 +90,7 @@ ROWS = [
     ("the largest flat image", text_with(image=digits(MOST_IMAGE)), "answer trapped 2 output"),
     ("the largest input", text_with(input=digits(MOST_INPUT)), ANSWER),
     ("the least bound", text_with(bound="1"), "answer running output"),
-    ("the greatest bound", text_with(bound="16777216"), ANSWER),
+    ("the greatest bound", text_with(bound="4294967295"), ANSWER),
     ("the greatest patience", text_with(patience="100"), ANSWER),
     ("sixteen provers", text_with(provers=json.dumps([{}] * 16)), ANSWER),
     ("a false claim", text_with(provers=output_manner('"2B"')), ANSWER),
@@ -137,7 +137,7 @@ ROWS = [
         (f"bound {value}", text_with(bound=value), "fault case 4 bound")
         for value in ('"8"', "8.0", "8e0", "-1", "-0", "null", "true", str(2**64))
     ],
-    *[(f"bound {value}", text_with(bound=value), "fault case 6 bound") for value in ("0", "16777217", str(2**64 - 1))],
+    *[(f"bound {value}", text_with(bound=value), "fault case 6 bound") for value in ("0", "4294967296", str(2**64 - 1))],
     ("patience 0.0", text_with(patience="0.0"), "fault case 4 patience"),
     ("patience 101", text_with(patience="101"), "fault case 6 patience"),
     ("provers without an array", text_with(provers="{}"), "fault case 4 provers"),
