@@ -10,6 +10,8 @@ mod changed_lines_test;
 #[cfg(test)]
 mod matches_test;
 #[cfg(test)]
+mod parts_test;
+#[cfg(test)]
 mod pieces;
 #[cfg(test)]
 mod playing;

@@ -16,7 +16,7 @@ const BOUND: u64 = 8;
 /// More turns than any of these matches has.
 const TURNS: u32 = 64;
 
-/// The full text of a match of these players; empty where it isn't over.
+/// The full text of a match of these players, by bisection; empty where it isn't over.
 pub(crate) fn full_of<R: Threads + Sync>(
     rt: &R,
     alloc: Global,
@@ -27,13 +27,30 @@ pub(crate) fn full_of<R: Threads + Sync>(
     requires some { 0 < length players.now }
     requires few { length players.now ≤ 16 }
 {
+    full_in_parts(rt, alloc, players, patience, 2)
+}
+
+/// The full text of a match of these players, of which a round cuts its interval in so many parts; empty where it isn't over.
+pub(crate) fn full_in_parts<R: Threads + Sync>(
+    rt: &R,
+    alloc: Global,
+    players: &[Player],
+    patience: u32,
+    fan: u32,
+) -> Result<Vec<u8>, Memory>
+    requires sync { IsSync R.row }
+    requires some { 0 < length players.now }
+    requires few { length players.now ≤ 16 }
+    requires parted { 1 < fan }
+    requires few_parts { fan ≤ 16 }
+{
     let judge = ToyJudge { name: 0 };
     let mut game = Match::new(
         alloc,
         judge,
         players.len() as u32,
         BOUND,
-        2,
+        fan,
         patience,
         root(0),
     )?;
@@ -59,7 +76,7 @@ pub(crate) fn full_of<R: Threads + Sync>(
         bound: BOUND,
         patience,
         version: 1,
-        fan: 2,
+        fan,
         digest: DigestName::Sha256,
         start: root(0),
     };
