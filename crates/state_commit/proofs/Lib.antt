@@ -1,4 +1,3 @@
 pub mod ScratchLemmas
 pub mod StateLemmas
-pub mod PathLemmas
 pub mod VersionLemmas

@@ -1,64 +1,81 @@
-ghost use Rattle.std.specs.Prelude.{◌≡◌, ◌≢◌, ℕ, [], ◌/◌, ◌<◌, ◌^◌, Some, IfOk, OnOk, IfSome};
-ghost use Rattle.mem_plain.specs.Contents.{Contents, byte_at};
-ghost use Rattle.mem_tree.specs.Tree.{IsTreeOf};
+ghost use Rattle.std.specs.Prelude.{◌≡◌, ◌≢◌, ◌<◌, ◌==◌, ◌^◌, IfOk, true, false};
+ghost use Rattle.rv_step.specs.State.{state_of};
+ghost use Rattle.state_commit.specs.Committing.{HasTreeFor, HasRegisters, HasInput};
 
-use crate::root::root_over;
-use digest_core::Digester;
-use mem_plain::PlainMem;
-use mem_tree::MemTree;
-use rd_base::{Digest32, Memory, Path};
-use rv_step::{Machine, one_page_changes, step, touches};
+use crate::kept_memory::KeptMemory;
+use crate::root::{INPUT_TREE, WHOLE_REGISTERS, root_of_parts};
+use digest_core::{Digester, registers_text};
+use rd_base::{Digest32, InPath, Memory, Path, RegPath};
+use rv_step::{Machine, runs_keep_the_input};
+use state_trees::{InputTree, RegTree};
 use std::alloc::Global;
 use std::marker::Model;
 use std::thread::Threads;
 
-/// Brings a tree up to a memory that differs from the tree's in one page at most. An `Err` is out of memory.
-fn follow<D: Digester>(
-    tree: &mut MemTree<D>,
-    page: Option<u32>,
-    mem: &PlainMem,
-) -> Result<(), Memory>
-    requires untouched { tree.old.touched ≡ [] }
-    requires page { IfSome page (λ p. p < 2 ^ 20) }
-    ensures untouched { OnOk result (tree.new.touched ≡ []) }
-    ensures tree { OnOk result ((m : Contents) → IsTreeOf D.digest_of tree.old m →
-        ((a : ℕ) → page ≢ Some (a / 4096) → byte_at m a ≡ byte_at mem.now a) → IsTreeOf D.digest_of tree.new mem.now) }
+/// The tree of a machine's registers, where its version has one.
+fn registers_of<D: Digester>(d: D, machine: &Machine) -> Option<RegTree<D>>
+    ensures { HasRegisters (state_of machine.now) result }
 {
-    match page {
-        Some(page) => {
-            tree.touch(page)?;
-            tree.refresh(mem)?;
-            Ok(())
-        }
-        None => {
-            tree.refresh(mem)?;
-            Ok(())
-        }
+    if machine.version == WHOLE_REGISTERS {
+        None
+    } else {
+        Some(RegTree::new(d, &machine.regs))
     }
 }
 
-/// A machine that is kept with the tree of its memory.
+/// The tree of registers made that of a machine's, whose version has one exactly where there is one.
+fn registers_after<D: Digester>(tree: Option<RegTree<D>>, machine: &Machine) -> Option<RegTree<D>>
+    requires { HasTreeFor machine.now.version tree }
+    ensures { HasRegisters (state_of machine.now) result }
+{
+    match tree {
+        Some(mut tree) => {
+            tree.refresh(&machine.regs);
+            Some(tree)
+        }
+        None => None,
+    }
+}
+
+/// The tree of a machine's input, where its version has one. An `Err` is out of memory.
+fn input_of<D: Digester>(
+    alloc: Global,
+    d: D,
+    machine: &Machine,
+) -> Result<Option<InputTree<D>>, Memory>
+    ensures { IfOk result (λ tree. HasInput D.digest_of (state_of machine.now) tree) }
+{
+    if machine.version == INPUT_TREE {
+        Ok(Some(InputTree::build(alloc, d, &machine.input)?))
+    } else {
+        Ok(None)
+    }
+}
+
+/// A machine that is kept with the trees that the commitment to its states has in its version: of its memory, from version 2 on of
+/// its registers, and in version 3 of its input.
 ///
 /// Contracts see it as the machine's state.
 #[derive(Drop)]
 pub struct Committed<D: Digester> {
     d: D,
-    machine: Machine,
-    tree: MemTree<D>,
+    kept: KeptMemory<D>,
+    regs: Option<RegTree<D>>,
+    input: Option<InputTree<D>>,
 }
 
 impl<D: Digester> Model for Committed<D> {
-    ghost use Rattle.rv_step.specs.State.{State, state_of};
+    ghost use Rattle.rv_step.specs.State.{State};
     ghost use Rattle.rv_step.specs.StateCode.{state_code};
-    ghost use Rattle.state_commit.specs.Committing.{IsCommitted};
+    ghost use Rattle.state_commit.specs.Committing.{HasRegisters, HasInput};
 
     ghost Value = { State };
 
     ghost coded = { state_code };
 
-    ghost view = { λ c. state_of c.machine };
+    ghost view = { λ c. c.kept };
 
-    ghost invariant = { λ c. IsCommitted D.digest_of c.machine c.tree };
+    ghost invariant = { λ c. HasRegisters c.kept c.regs × HasInput D.digest_of c.kept c.input };
 }
 
 impl<D: Digester> Committed<D> {
@@ -66,10 +83,13 @@ impl<D: Digester> Committed<D> {
     ghost use Rattle.rv_step.specs.Step.{step as step_of};
     ghost use Rattle.merkle_nodes.specs.Opening.{IsPath};
     ghost use Rattle.mem_tree.specs.Memory.{memory_leaf};
-    ghost use Rattle.state_commit.specs.StateRoot.{state_root, memory_digest};
+    ghost use Rattle.state_commit.specs.StateRoot.{memory_digest};
+    ghost use Rattle.state_commit.specs.StateRoot.{registers_digest, root_in};
+    ghost use Rattle.state_trees.specs.RegisterTree.{register_leaf};
+    ghost use Rattle.state_trees.specs.InputTree.{input_leaf, input_root};
 
-    /// A machine with the tree of its memory, which is built from scratch. The machine's chain is that of its output, by
-    /// this digester. An `Err` is out of memory, and drops the machine.
+    /// A machine with the trees of its version, which are built from scratch. The machine's chain is that of its output, by this
+    /// digester. An `Err` is out of memory, and drops the machine.
     pub fn new<R: Threads + Sync>(
         rt: &R,
         alloc: Global,
@@ -81,22 +101,37 @@ impl<D: Digester> Committed<D> {
         requires { IsChained D.digest_of machine }
         ensures { IfOk result (λ c. c ≡ state_of machine) }
     {
-        let tree = MemTree::build(rt, alloc, d, &machine.mem)?;
-        Ok(Committed { d, machine, tree })
+        let regs = registers_of(d, &machine);
+        let input = input_of(alloc, d, &machine)?;
+        let kept = KeptMemory::new(rt, alloc, d, machine)?;
+        Ok(Committed {
+            d,
+            kept,
+            regs,
+            input,
+        })
     }
 
-    /// The machine after one more step, with the tree of its memory. An `Err` is out of memory, and drops both.
+    /// The machine after one more step, with its trees: at most one page, at most one register and no part of the input are digested
+    /// anew. An `Err` is out of memory, and drops all.
     pub fn step(self) -> Result<Self, Memory>
         ensures { IfOk result (λ c. c ≡ step_of self) }
     {
-        let Committed { d, machine, tree } = self;
-        let mut machine = machine;
-        let mut tree = tree;
-        let page = touches(&machine);
-        one_page_changes();
-        step(&mut machine, &d)?;
-        follow(&mut tree, page, &machine.mem)?;
-        Ok(Committed { d, machine, tree })
+        let Committed {
+            d,
+            kept,
+            regs,
+            input,
+        } = self;
+        runs_keep_the_input();
+        let kept = kept.step()?;
+        let regs = registers_after(regs, kept.machine());
+        Ok(Committed {
+            d,
+            kept,
+            regs,
+            input,
+        })
     }
 
     /// The machine. Its chain is that of its output.
@@ -104,21 +139,51 @@ impl<D: Digester> Committed<D> {
         ensures state { state_of result.now ≡ self.now }
         ensures chained { IsChained D.digest_of result.now }
     {
-        &self.machine
+        self.kept.machine()
     }
 
-    /// The digest of the machine's memory: the root of the tree.
-    pub fn memory_digest(&self) -> Digest32
+    /// The root of the machine's memory.
+    pub fn memory_root(&self) -> Digest32
         ensures { result.0 ≡ memory_digest D.digest_of self.now }
     {
-        self.tree.root()
+        self.kept.memory_digest()
     }
 
-    /// The root of the machine's state.
-    pub fn root(&self) -> Digest32
-        ensures { result.0 ≡ state_root D.digest_of self.now }
+    /// The digest of the machine's registers in its version.
+    pub fn registers_digest(&self) -> Digest32
+        ensures { result.0 ≡ registers_digest D.digest_of self.now.version self.now.regs }
     {
-        root_over(self.d, self.tree.root(), &self.machine)
+        match &self.regs {
+            Some(tree) => tree.root(),
+            None => self
+                .d
+                .digest(registers_text(&self.kept.machine().regs).as_slice()),
+        }
+    }
+
+    /// The root of the machine's input in version 3, and else 32 zeros.
+    pub fn input_root(&self) -> Digest32
+        ensures { self.now.version ≡ 3 → result.0 ≡ input_root D.digest_of self.now.input }
+    {
+        match &self.input {
+            Some(tree) => tree.root(),
+            None => Digest32::ZERO,
+        }
+    }
+
+    /// The root of the machine's state in its version.
+    pub fn root(&self) -> Digest32
+        ensures { result.0 ≡ root_in D.digest_of self.now.version self.now }
+    {
+        let machine = self.kept.machine();
+        root_of_parts(
+            self.d,
+            machine.version,
+            self.memory_root(),
+            self.registers_digest(),
+            self.input_root(),
+            machine,
+        )
     }
 
     /// The path of a chunk of the machine's memory, by the chunk's index below 2^27.
@@ -126,6 +191,30 @@ impl<D: Digester> Committed<D> {
         requires { chunk < 2 ^ 27 }
         ensures { IsPath D.digest_of (memory_leaf self.now.memory) 27 chunk result.0 }
     {
-        self.tree.path(chunk)
+        self.kept.path(chunk)
+    }
+
+    /// The path of a register, from `x0` to `x31`, where the version is above 1.
+    pub fn register_path(&self, reg: u8) -> RegPath
+        requires reg { reg < 32 }
+        requires version { self.now.version ≢ 1 }
+        ensures { IsPath D.digest_of (register_leaf self.now.regs) 5 reg result.0 }
+    {
+        match &self.regs {
+            Some(tree) => tree.path(reg),
+            None => RegPath([Digest32::ZERO; 5]),
+        }
+    }
+
+    /// The path of a chunk of the machine's input, by the chunk's index below 2^15, where the version is 3.
+    pub fn input_path(&self, chunk: u32) -> InPath
+        requires chunk { chunk < 2 ^ 15 }
+        requires version { self.now.version ≡ 3 }
+        ensures { IsPath D.digest_of (input_leaf self.now.input) 15 chunk result.0 }
+    {
+        match &self.input {
+            Some(tree) => tree.path(chunk),
+            None => InPath([Digest32::ZERO; 15]),
+        }
     }
 }

@@ -1,7 +1,7 @@
 ghost use Rattle.std.specs.Prelude.{◌≡◌};
-ghost use Rattle.state_commit.specs.VersionRoot.{registers_digest};
+ghost use Rattle.state_commit.specs.StateRoot.{registers_digest};
 
-use crate::versions::WHOLE_REGISTERS;
+use crate::root::WHOLE_REGISTERS;
 use digest_core::{Digester, registers_text};
 use rd_base::{Digest32, Regs};
 use state_trees::RegTree;

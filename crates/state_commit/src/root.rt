@@ -1,30 +1,99 @@
-ghost use Rattle.std.specs.Prelude.{◌≡◌};
+//! The root of a machine's state in each version of the commitment.
+ghost use Rattle.std.specs.Prelude.{◌≡◌, ◌==◌, if◌then◌else◌};
+ghost use Rattle.digest_core.specs.Text.{storage_text as text_of_storage};
 ghost use Rattle.rv_step.specs.State.{state_of, IsChained};
 ghost use Rattle.state_commit.specs.StateRoot as state;
+ghost use Rattle.state_trees.specs.InputTree as inputs;
 
 use crate::scratch::memory_root;
-use digest_core::{Digester, registers_text};
+use digest_core::{Digester, registers_text, storage_text};
 use out_chain::parts_root;
-use rd_base::Digest32;
+use rd_base::{Digest32, Regs};
 use rv_step::Machine;
+use state_trees::{RegTree, input_root};
 
-/// The root of a machine's state, from the digest of its memory (its `memory_root`, or the root of a tree that is kept with
-/// it). The machine's chain is that of its output, by this digester.
-pub fn root_over<D: Digester>(d: D, memory: Digest32, machine: &Machine) -> Digest32
-    requires chained { IsChained D.digest_of machine.now }
-    requires memory { memory.0 ≡ state.memory_digest D.digest_of (state_of machine.now) }
-    ensures { result.0 ≡ state.state_root D.digest_of (state_of machine.now) }
+/// The version of the commitment in which the registers are digested as one string.
+pub(crate) const WHOLE_REGISTERS: u8 = 1;
+
+/// The version of the commitment in which the input is a tree.
+pub(crate) const INPUT_TREE: u8 = 3;
+
+/// The digest of registers in a version of the commitment, from scratch: that of their string in version 1, and from version 2 on
+/// the root of their tree.
+pub fn registers_digest<D: Digester>(d: D, version: u8, regs: &Regs) -> Digest32
+    ensures { result.0 ≡ state.registers_digest D.digest_of version regs.now }
 {
-    let _out_len = machine.ctl.out_len;
-    let registers = d.digest(registers_text(&machine.regs).as_slice());
-    parts_root(d, memory, registers, &machine.ctl)
+    if version == WHOLE_REGISTERS {
+        d.digest(registers_text(regs).as_slice())
+    } else {
+        RegTree::new(d, regs).root()
+    }
 }
 
-/// The root of a machine's state, from scratch: it digests each chunk of the pages that hold a byte other than 0, and the
-/// nodes above them. It takes no memory. The machine's chain is that of its output, by this digester.
-pub fn state_root<D: Digester>(d: D, machine: &Machine) -> Digest32
-    requires { IsChained D.digest_of machine.now }
-    ensures { result.0 ≡ state.state_root D.digest_of (state_of machine.now) }
+/// The digest of what a state stores, from the root of its memory and the length and the root of its input. A version below 3 has
+/// the root of memory alone.
+fn storage_digest<D: Digester>(
+    d: D,
+    version: u8,
+    memory: Digest32,
+    input_len: u32,
+    input: Digest32,
+) -> Digest32
+    ensures { result.0 ≡ (if version == 3 then D.digest_of (text_of_storage memory.0 input_len input.0) else memory.0) }
 {
-    root_over(d, memory_root(d, &machine.mem), machine)
+    if version == INPUT_TREE {
+        d.digest(storage_text(&memory, input_len, &input).as_slice())
+    } else {
+        memory
+    }
+}
+
+/// The root of a machine's state in a version of the commitment, from the root of its memory, the digest of its registers in this
+/// version, and the root of its input, which only version 3 needs. The machine's chain is that of its output, by this digester. By
+/// two digests, and in version 3 by three.
+pub fn root_of_parts<D: Digester>(
+    d: D,
+    version: u8,
+    memory: Digest32,
+    registers: Digest32,
+    input: Digest32,
+    machine: &Machine,
+) -> Digest32
+    requires chained { IsChained D.digest_of machine.now }
+    requires memory { memory.0 ≡ state.memory_digest D.digest_of (state_of machine.now) }
+    requires registers { registers.0 ≡ state.registers_digest D.digest_of version machine.now.regs }
+    requires input { version ≡ 3 → input.0 ≡ inputs.input_root D.digest_of machine.now.input.items }
+    ensures { result.0 ≡ state.root_in D.digest_of version (state_of machine.now) }
+{
+    let _out_len = machine.ctl.out_len;
+    let storage = storage_digest(d, version, memory, machine.input.len() as u32, input);
+    parts_root(d, storage, registers, &machine.ctl)
+}
+
+/// The root of the input that a state's root has in a version of the commitment: 32 zeros where it has none.
+fn input_part<D: Digester>(d: D, version: u8, input: &[u8]) -> Digest32
+    ensures { version ≡ 3 → result.0 ≡ inputs.input_root D.digest_of input.now }
+{
+    if version == INPUT_TREE {
+        input_root(d, input)
+    } else {
+        Digest32::ZERO
+    }
+}
+
+/// The root of a machine's state in a version of the commitment, from scratch: it digests each chunk of the pages that hold a byte
+/// other than 0 and the nodes above them, and, as the version has them, the registers' tree and the input's. It takes no memory. The
+/// machine's chain is that of its output, by this digester.
+pub fn state_root_in<D: Digester>(d: D, version: u8, machine: &Machine) -> Digest32
+    requires { IsChained D.digest_of machine.now }
+    ensures { result.0 ≡ state.root_in D.digest_of version (state_of machine.now) }
+{
+    root_of_parts(
+        d,
+        version,
+        memory_root(d, &machine.mem),
+        registers_digest(d, version, &machine.regs),
+        input_part(d, version, &machine.input),
+        machine,
+    )
 }

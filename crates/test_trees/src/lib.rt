@@ -1,4 +1,4 @@
-//! Tests of commitments: digests, the chain of an output, trees of memory and roots of states.
+//! Tests of commitments: digests, the chain of an output, trees of memory, registers and input, and roots of states.
 //!
 //! No layer of the product stands on this crate. Each module has the tests of the crate that it is named for.
 #![tactic(auto)]
@@ -13,3 +13,7 @@ mod merkle_nodes_test;
 mod out_chain_test;
 #[cfg(test)]
 mod state_commit_test;
+#[cfg(test)]
+mod state_trees_test;
+#[cfg(test)]
+mod versions_test;

@@ -3,7 +3,7 @@ ghost use Rattle.std.specs.Prelude.{◌≤◌, length};
 use digest_core::{Sha256, leaf_text};
 use merkle_nodes::climb;
 use rd_base::Memory;
-use state_commit::{Committed, state_root};
+use state_commit::{Committed, state_root_in};
 use std::alloc::Global;
 use std::test::Fail;
 use std::thread::Threads;
@@ -21,7 +21,9 @@ fn roots_are<R: Threads + Sync>(
     let mut committed = Committed::new(rt, alloc, Sha256, machine_of(alloc, image)?)?;
     for root in roots {
         let kept = committed.root();
-        if kept != state_root(Sha256, committed.machine()) || !kept.0.as_slice().starts_with(root) {
+        if kept != state_root_in(Sha256, 1, committed.machine())
+            || !kept.0.as_slice().starts_with(root)
+        {
             return Ok(false);
         }
         committed = committed.step()?;
@@ -143,7 +145,7 @@ fn a_path_climbs_to_the_digest_of_memory(rt: HostRuntime) -> Result<(), Fail> {
     for index in [0, 0x800, 0x1000, 0x7ff_ffff] {
         let leaf = leaf_text(&committed.machine().mem.chunk(index));
         let digest = climb(Sha256, index, &leaf, &committed.path(index).0);
-        assert!(rt; digest == committed.memory_digest(), "chunk {index}");
+        assert!(rt; digest == committed.memory_root(), "chunk {index}");
     }
     Ok(())
 }
