@@ -1,24 +1,17 @@
--- To believe: a state seen from what a proof holds of it, where digests stand for memory and output, and the step on
--- that. The law `steps_need_opened_parts_alone` ties it to the step.
-use Rattle.std.specs.Prelude.{ℕ, ◌+◌, ◌/◌, ◌%◌, ◌^◌, ◌==◌, List, Option, Some, None, if◌then◌else◌}
-use Rattle.rd_base.specs.Status.{is_running}
+-- To believe: a state seen from what a proof holds of it, where digests stand for memory and output, and what an effect changes of
+-- that. A law of the crate `proof_facts`, `shown_states_lead`, ties the step on it to the step of the machine.
+use Rattle.std.specs.Prelude.{ℕ, ◌+◌, ◌/◌, ◌%◌, ◌^◌, List, Option, Some, None}
 use Rattle.rd_base.specs.declared.ctl.Ctl.{Ctl}
 use Rattle.rd_base.specs.declared.digest.Digest32.{Digest32}
 use Rattle.rd_base.specs.declared.opened.Opening.{Opening}
-use Rattle.rd_base.specs.declared.proof.StepProof.{StepProof}
-use Rattle.rv_decode.specs.Reading.{reading_of}
-use Rattle.rv_decode.specs.declared.instr.Instr.{Instr}
 use Rattle.mem_plain.specs.Page.{number_in, with_number_in}
-use Rattle.digest_core.specs.Text.{registers_text, leaf_text, link_text}
+use Rattle.digest_core.specs.Text.{leaf_text, link_text}
 use Rattle.merkle_nodes.specs.Node.{digest_at}
 use Rattle.merkle_nodes.specs.Opening.{opened}
-use Rattle.out_chain.specs.Root.{parts_text}
 use Rattle.rv_step.specs.State.{State}
-use Rattle.rv_step.specs.Effect.{effect}
 use Rattle.rv_step.specs.Step.{regs_after, pc_after, status_after}
-use Rattle.rv_step.specs.Codes.{misaligned_jump, illegal_instruction}
 use Rattle.rv_step.specs.declared.effect.Effect.{Effect}
-use Rattle.rv_step.specs.declared.effect.Effect.TheVariants.{Store, Put, Trap}
+use Rattle.rv_step.specs.declared.effect.Effect.TheVariants.{Store, Put}
 use Rattle.state_commit.specs.StateRoot.{ctl_of, memory_digest}
 
 -- the digest of memory, the registers, and the control fields
@@ -30,17 +23,6 @@ pub record Held : Type 0 where
 -- what is held of a state
 abbrev pub held_of : (List ℕ → List ℕ) → State → Held
 held_of digest s = record { mem = memory_digest digest s; regs = s.regs; ctl = ctl_of digest s }
-
--- what a proof holds: its parts
-abbrev pub held_by : StepProof → Held
-held_by proof = record { mem = proof.mem.0; regs = proof.regs; ctl = proof.ctl }
-
--- the state string of the state of which this is held, and its root
-abbrev pub text_of_held : (List ℕ → List ℕ) → Held → List ℕ
-text_of_held digest p = parts_text digest p.mem (digest (registers_text p.regs)) p.ctl
-
-abbrev pub root_of_held : (List ℕ → List ℕ) → Held → List ℕ
-root_of_held digest p = digest (text_of_held digest p)
 
 -- the number of so many bytes at an address, in the chunk that holds them
 abbrev pub number_shown : Option Opening → ℕ → ℕ → ℕ
@@ -81,17 +63,3 @@ held_after digest operand p e = record {
     chain = link_after digest p.ctl.chain e;
   };
 }
-
--- what is held after the instruction that a word is, or after a word that is none
-abbrev pub held_after_word : (List ℕ → List ℕ) → Option Opening → Held → Option Instr → Held
-held_after_word digest operand p (Some i) = held_after digest operand p (effect p.regs p.ctl.pc (number_shown operand) i)
-held_after_word digest operand p None = held_after digest operand p (Trap illegal_instruction)
-
--- the step, from the chunk that holds the word at pc and the chunk that the instruction reads or writes
-unfoldable pub held_step : (List ℕ → List ℕ) → Option Opening → Option Opening → Held → Held
-held_step digest fetch operand p =
-    if is_running p.ctl.status
-    then (if p.ctl.pc % 4 == 0
-    then held_after_word digest operand p (reading_of (number_shown fetch p.ctl.pc 4))
-    else held_after digest operand p (Trap misaligned_jump))
-    else p

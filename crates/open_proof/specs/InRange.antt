@@ -1,10 +1,9 @@
--- To believe, where a law speaks of proofs that no program holds: digests, chunks and paths have their lengths, and numbers
+-- To believe, where a law speaks of parts that no program holds: digests, chunks and paths have their lengths, and numbers
 -- are within the ranges of their types.
 use Rattle.std.specs.Prelude.{ℕ, ◌^◌, ◌==◌, nat_lt, List, [], ◌∷◌, length, Bool, true, ◌&&◌, Option, Some, None}
 use Rattle.rd_base.specs.declared.ctl.Ctl.{Ctl}
 use Rattle.rd_base.specs.declared.digest.Digest32.{Digest32}
 use Rattle.rd_base.specs.declared.opened.Opening.{Opening}
-use Rattle.rd_base.specs.declared.proof.StepProof.{StepProof}
 use Rattle.digest_core.specs.Text.{status_code}
 
 -- each number is a word of 32 bits
@@ -24,9 +23,3 @@ is_opening_in_range None = true
 abbrev pub is_ctl_in_range : Ctl → Bool
 is_ctl_in_range ctl =
     nat_lt ctl.pc (2 ^ 32) && nat_lt (status_code ctl.status) (2 ^ 32) && nat_lt ctl.out_len (2 ^ 64) && (length ctl.chain.0 == 32)
-
--- as in each proof that a program holds
-unfoldable pub is_in_range : StepProof → Bool
-is_in_range proof =
-    (length proof.mem.0 == 32) && (length proof.regs == 32) && are_words proof.regs && is_ctl_in_range proof.ctl
-    && is_opening_in_range proof.fetch && is_opening_in_range proof.operand

@@ -1,15 +1,6 @@
 pub mod Held
-pub mod Leads
+pub mod Called
 pub mod Opened
-pub mod Collision
-pub mod StateCollision
+pub mod OpenedChunk
 pub mod InRange
-pub mod LeadsTo
-pub mod PlainProof
-pub mod LawsBelow
 pub mod RangeLaws
-pub mod PartsLaws
-pub mod ClimbLaws
-pub mod CollisionLaws
-pub mod LeadsLaws
-pub mod ApartLaws

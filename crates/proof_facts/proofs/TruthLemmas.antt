@@ -31,14 +31,13 @@ use Rattle.rv_step.specs.Step.{step}
 use Rattle.rv_step.specs.Valid.{IsValid, HasWordCode}
 use Rattle.rv_step.specs.declared.asked.Need.{Need}
 use Rattle.rv_step.specs.declared.asked.Need.TheVariants as need
-use Rattle.state_commit.specs.StateRoot.{ctl_of, memory_digest}
-use Rattle.state_commit.specs.VersionRoot.{registers_digest, storage_of, storage_digest, text_in, root_in}
-use Rattle.state_commit.specs.VersionStrings.{IsStringIn}
-use Rattle.state_commit.specs.VersionStrings.IsStringIn.{is_state, is_control, is_memory, is_registers, is_register, is_storage, is_input}
+use Rattle.state_commit.specs.StateRoot.{ctl_of, memory_digest, registers_digest, storage_of, storage_digest, text_in, root_in}
+use Rattle.state_commit.specs.Strings.{IsStringIn}
+use Rattle.state_commit.specs.Strings.IsStringIn.{is_state, is_control, is_memory, is_registers, is_register, is_storage, is_input}
 use Rattle.state_trees.specs.RegisterTree.{register_leaf, register_node, registers_root}
 use Rattle.state_trees.specs.InputTree.{input_chunk, input_leaf, input_node, input_root}
-use Rattle.open_proof.specs.Leads.{fetch_address, fetched_in, address_needed}
-use Rattle.open_proof.specs.PlainProof.{IsShownAt, opening_at, siblings_of, fetched_at, fetch_of_state}
+use Rattle.open_proof.specs.Called.{fetch_address, fetched_in, address_needed}
+use Rattle.open_proof.specs.OpenedChunk.{IsShownAt, opening_at, siblings_of, fetched_at, fetch_of_state}
 use Rattle.proof_facts.specs.Conditions.{AllHold, LeadsFrom, conditions}
 use Rattle.proof_facts.specs.Facts.{facts_of, fetched, named_called, values_of, file_of, file_shown, file_of_facts, needed_by, needed_of, operand_called, byte_needed, input_called, offering}
 use Rattle.proof_facts.specs.InRange.{is_in_range}

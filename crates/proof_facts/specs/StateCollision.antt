@@ -1,7 +1,7 @@
 -- To believe: a string that a proof opens and a different string of a state, in its version, have one digest.
 use Rattle.std.specs.Prelude.{◌≡◌, ◌≢◌, ℕ, List, Contains}
 use Rattle.rv_step.specs.State.{State}
-use Rattle.state_commit.specs.VersionStrings.{IsStringIn}
+use Rattle.state_commit.specs.Strings.{IsStringIn}
 use Rattle.proof_facts.specs.Strings.{opened_by_facts}
 use Rattle.proof_facts.specs.declared.facts.Facts.{Facts}
 

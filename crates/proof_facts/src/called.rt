@@ -1,7 +1,7 @@
 //! For which openings the parts of a state call.
 ghost use Rattle.std.specs.Prelude.{◌≡◌};
 ghost use Rattle.rv_step.specs.Named.{AreRegisters};
-ghost use Rattle.open_proof.specs.Leads as leads;
+ghost use Rattle.open_proof.specs.Called as chunks;
 ghost use Rattle.proof_facts.specs.Facts as facts;
 
 use crate::facts::{Facts, HeldInput, HeldRegisters};
@@ -62,7 +62,7 @@ pub fn needed_by(tree: &Option<HeldInput>, file: &Regs, pc: u32, instr: &Option<
 
 /// The address of the data that is needed.
 pub fn address_needed(need: Need) -> Option<u32>
-    ensures { result ≡ leads.address_needed need }
+    ensures { result ≡ chunks.address_needed need }
 {
     match need {
         Need::Nothing => None,

@@ -7,7 +7,7 @@ ghost use Rattle.rv_step.specs.Named.{named_by};
 ghost use Rattle.rv_step.specs.State.{State};
 ghost use Rattle.rv_step.specs.Step.{step};
 ghost use Rattle.rv_step.specs.Valid.{IsValid};
-ghost use Rattle.state_commit.specs.VersionRoot.{root_in};
+ghost use Rattle.state_commit.specs.StateRoot.{root_in};
 ghost use Rattle.proof_facts.specs.Conditions.{LeadsFrom};
 ghost use Rattle.proof_facts.specs.Facts.{facts_of};
 ghost use Rattle.proof_facts.specs.InRange.{is_in_range};

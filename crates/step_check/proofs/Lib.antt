@@ -1,3 +1,2 @@
 pub mod CarryLemmas
-pub mod TestLemmas
 pub mod BoundLemmas

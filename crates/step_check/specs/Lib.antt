@@ -1,3 +1,4 @@
 pub mod HeldParts
 pub mod Ticks
 pub mod Tests
+pub mod TestLaws

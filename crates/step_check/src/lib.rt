@@ -9,6 +9,8 @@
 mod carrying;
 mod check;
 mod chunk;
+mod laws;
 mod opening;
 
 pub use check::{StepCheck, check_step};
+pub use laws::leading_is_decided;

@@ -10,7 +10,7 @@ use Rattle.step_check.specs.Ticks.{opening_digests, ticks_of}
 use Rattle.step_check.specs.declared.check.StepCheck.{StepCheck}
 use Rattle.step_check.specs.declared.check.StepCheck.TheVariants as check
 use Rattle.step_check.proofs.BoundLemmas.{IsShaped, bounded}
-use Rattle.step_check.proofs.TestLemmas.{checked-leads, checked-fails}
+use Rattle.step_check.specs.TestLaws.{checked-leads, checked-fails}
 use Rattle.step_check.proofs.check.check_step.Goals as goal
 
 pub returns-clause-leads : goal.returns-clause-leads

@@ -1,4 +1,5 @@
--- The answer by tests is the one by the conditions that they decide: once for any list of tests.
+-- Derived: the answer by tests is the one by the conditions that they decide, once for any list of tests. The law `leading_is_decided` has
+-- the same as a clause.
 use Rattle.std.proofs.Common.{◌≡◌, ◌↔◌, ◌⊎◌, inl, inr, ⊎_elim, ℕ, List, [], ◌∷◌, length, Bool, true, false, true≢false, ◌&&◌, cond, is_some, Option, Some, None, refl, sym, ap, ◌∙◌}
 use Rattle.std.specs.Prelude.{bytes_eq}
 use Rattle.std.proofs.lemmas.Bool.{and_parts, and_from}
@@ -7,7 +8,7 @@ use Rattle.std.proofs.lemmas.Slice.Eq.{bytes_eq-Decides}
 use Rattle.rd_base.specs.declared.digest.Digest32.{Digest32}
 use Rattle.merkle_nodes.specs.Node.{digest_at}
 use Rattle.merkle_nodes.specs.PathLaws.{opens-climbs, climbs-opens}
-use Rattle.open_proof.specs.Leads.{fetch_address}
+use Rattle.open_proof.specs.Called.{fetch_address}
 use Rattle.proof_facts.specs.Conditions.{Refusal, Condition, AllHold, FirstFails, conditions, LeadsFrom}
 use Rattle.proof_facts.specs.Conditions.Refusal.{shape, opening}
 use Rattle.proof_facts.specs.Facts.{named_called, operand_called, input_called}

@@ -1,9 +1,8 @@
--- To believe: the plain proof of a step, which is the true answer to the question for it.
+-- To believe: the opened chunks of a memory, each with its path.
 use Rattle.std.specs.Prelude.{◌≡◌, ℕ, ◌/◌, ◌^◌, List, map, Option, Some, None}
 use Rattle.std.specs.List.{range_with_len}
 use Rattle.rd_base.specs.declared.digest.Digest32.{Digest32}
 use Rattle.rd_base.specs.declared.opened.Opening.{Opening}
-use Rattle.rd_base.specs.declared.proof.StepProof.{StepProof}
 use Rattle.rv_decode.specs.Reading.{reading_of}
 use Rattle.rv_decode.specs.declared.instr.Instr.{Instr}
 use Rattle.mem_plain.specs.Contents.{Contents, chunk_at, number_at}
@@ -11,8 +10,8 @@ use Rattle.merkle_nodes.specs.Node.{beside}
 use Rattle.merkle_nodes.specs.Opening.{IsPath}
 use Rattle.mem_tree.specs.Memory.{memory_leaf, memory_node}
 use Rattle.rv_step.specs.State.{State}
-use Rattle.state_commit.specs.StateRoot.{ctl_of, memory_digest}
-use Rattle.open_proof.specs.Leads.{fetch_address, operand_address}
+use Rattle.state_commit.specs.StateRoot.{ctl_of}
+use Rattle.open_proof.specs.Called.{fetch_address}
 
 -- the path of a chunk, by its index: the node beside it at each of the levels 0 to 26
 unfoldable pub siblings_of : (List ℕ → List ℕ) → Contents → ℕ → List Digest32
@@ -26,7 +25,7 @@ abbrev pub opening_at : (List ℕ → List ℕ) → Contents → Option ℕ → 
 opening_at digest m (Some addr) = Some (opening_of digest m addr)
 opening_at digest m None = None
 
--- the addresses for which a state calls for a chunk: that of the word at pc, and that of the instruction's data
+-- the address for which a state calls for a chunk first: that of the word at pc
 abbrev pub fetch_of_state : (List ℕ → List ℕ) → State → Option ℕ
 fetch_of_state digest s = fetch_address (ctl_of digest s)
 
@@ -34,19 +33,6 @@ fetch_of_state digest s = fetch_address (ctl_of digest s)
 abbrev pub fetched_at : Contents → Option ℕ → Option Instr
 fetched_at m (Some addr) = reading_of (number_at m addr 4)
 fetched_at m None = None
-
-abbrev pub operand_of_state : (List ℕ → List ℕ) → State → Option ℕ
-operand_of_state digest s = operand_address s.regs (fetched_at s.memory (fetch_of_state digest s))
-
--- the proof that has a state's parts, and with their paths exactly the chunks that they call for
-unfoldable pub plain_proof : (List ℕ → List ℕ) → State → StepProof
-plain_proof digest s = record {
-  mem = record { 0 = memory_digest digest s };
-  regs = s.regs;
-  ctl = ctl_of digest s;
-  fetch = opening_at digest s.memory (fetch_of_state digest s);
-  operand = opening_at digest s.memory (operand_of_state digest s);
-}
 
 -- an opened chunk is that of a memory which holds an address, and its path is the memory's
 pub record IsShown (digest : List ℕ → List ℕ) (m : Contents) (o : Opening) (addr : ℕ) : Type 0 where
