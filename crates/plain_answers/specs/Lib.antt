@@ -1,0 +1,2 @@
+pub use Rattle.proof_facts.specs.PlainProof
+pub mod PlainClaim

@@ -1,0 +1,123 @@
+//! The openings of a state.
+ghost use Rattle.std.specs.Prelude.{◌≡◌, ◌≢◌, ◌+◌, ◌<◌, ◌≤◌, ◌++◌, length, map, IfSome};
+ghost use Rattle.rv_step.specs.Named.{AreRegisters};
+ghost use Rattle.open_proof.specs.OpenedChunk as memory;
+ghost use Rattle.proof_facts.specs.PlainProof as parts;
+
+use digest_core::Digester;
+use rd_base::{InOpening, InPath, Opening, Path, RegOpening, RegOpenings, RegPath};
+use state_commit::Committed;
+use state_trees::input_chunk;
+
+/// A path of memory has 27 siblings.
+fn paths_have_27_levels(path: &Path)
+    ensures { length path.now.0 ≡ 27 }
+{
+    let _first = path.0[0];
+}
+
+/// A path of registers has 5 siblings.
+fn paths_have_5_levels(path: &RegPath)
+    ensures { length path.now.0 ≡ 5 }
+{
+    let _first = path.0[0];
+}
+
+/// A path of the input has 15 siblings.
+fn paths_have_15_levels(path: &InPath)
+    ensures { length path.now.0 ≡ 15 }
+{
+    let _first = path.0[0];
+}
+
+/// The chunk of memory that holds an address, with its path.
+fn opening_of<D: Digester>(committed: &Committed<D>, addr: u32) -> Opening
+    ensures { result ≡ memory.opening_of D.digest_of committed.now.memory addr }
+{
+    let index = addr / 32;
+    let chunk = committed.machine().mem.chunk(index);
+    let path = committed.path(index);
+    paths_have_27_levels(&path);
+    Opening { chunk, path }
+}
+
+/// The same where a chunk is called for.
+pub(crate) fn opening_at<D: Digester>(
+    committed: &Committed<D>,
+    address: Option<u32>,
+) -> Option<Opening>
+    ensures { result ≡ memory.opening_at D.digest_of committed.now.memory address }
+{
+    match address {
+        Some(addr) => Some(opening_of(committed, addr)),
+        None => None,
+    }
+}
+
+/// A register, with its path.
+fn register_opening<D: Digester>(committed: &Committed<D>, reg: u8) -> RegOpening
+    requires reg { reg < 32 }
+    requires version { committed.now.version ≢ 1 }
+    ensures { result ≡ parts.register_opening D.digest_of committed.now.regs reg }
+{
+    let value = committed.machine().regs.get(reg);
+    let path = committed.register_path(reg);
+    paths_have_5_levels(&path);
+    RegOpening { value, path }
+}
+
+/// Puts registers behind others, with their paths: at most three altogether.
+fn put_openings<D: Digester>(committed: &Committed<D>, names: &[u8], opened: &mut RegOpenings)
+    requires registers { AreRegisters names.now }
+    requires version { committed.now.version ≢ 1 }
+    requires few { length opened.old + length names.now ≤ 3 }
+    ensures { opened.new ≡ opened.old ++ map (parts.register_opening D.digest_of committed.now.regs) names.now }
+{
+    match names {
+        [] => {}
+        [reg, more @ ..] => {
+            opened.push(register_opening(committed, *reg));
+            put_openings(committed, more, opened);
+        }
+    }
+}
+
+/// The registers of these numbers, with their paths.
+pub(crate) fn named_openings<D: Digester>(committed: &Committed<D>, names: &[u8]) -> RegOpenings
+    requires registers { AreRegisters names.now }
+    requires version { committed.now.version ≢ 1 }
+    requires few { length names.now ≤ 3 }
+    ensures { result ≡ map (parts.register_opening D.digest_of committed.now.regs) names.now }
+{
+    let mut opened = RegOpenings::new();
+    put_openings(committed, names, &mut opened);
+    opened
+}
+
+/// The chunk of the input that holds a byte, with its path.
+fn input_opening_of<D: Digester>(committed: &Committed<D>, byte: u32) -> InOpening
+    requires byte { byte < 1048576 }
+    requires version { committed.now.version ≡ 3 }
+    ensures { result ≡ parts.input_opening_of D.digest_of committed.now.input byte }
+{
+    let index = byte / 32;
+    let chunk = input_chunk(&committed.machine().input, index as usize);
+    let path = committed.input_path(index);
+    paths_have_15_levels(&path);
+    InOpening { chunk, path }
+}
+
+/// The same where a chunk is called for.
+pub(crate) fn input_opening_at<D: Digester>(
+    committed: &Committed<D>,
+    byte: Option<u32>,
+) -> Option<InOpening>
+    requires byte { IfSome byte (λ k. k < 1048576) }
+    requires version { committed.now.version ≡ 3 }
+    ensures { result ≡ parts.input_opening_at D.digest_of committed.now.input byte }
+{
+    match byte {
+        Some(k) => Some(input_opening_of(committed, k)),
+        None => None,
+    }
+}
