@@ -1,3 +1,3 @@
-pub mod CheckedLemmas
-pub mod CarryLemmas
+pub mod LeadLemmas
+pub mod RangeLemmas
 pub mod TruthLemmas

@@ -1,12 +1,11 @@
 -- A run of the machine is a true run for the game.
 use Rattle.std.proofs.Common.{◌≡◌, ℕ, zero, suc, ◌+◌, ◌%◌, ◌^◌, ◌<◌, ◌≤◌, eqb, cond, List, length, Option, Some, None, Bool, true, false, refl, sym, ap, ◌∙◌, subst, arith, add-one, length-append, []}
 use Rattle.std.specs.Prelude.{bytes_eq, if◌then◌else◌, ◌∷◌}
+use Rattle.std.proofs.lemmas.Bool.{and_from}
 use Rattle.std.proofs.lemmas.Bool.Decides.{Decides-eqb, Decides-ltb}
 use Rattle.std.proofs.lemmas.Slice.Eq.{bytes_eq-Decides}
 use Rattle.rd_base.specs.Status.{is_running}
 use Rattle.rd_base.specs.declared.digest.Digest32.{Digest32}
-use Rattle.rd_base.specs.declared.proof.StepProof.{StepProof}
-use Rattle.rd_base.specs.declared.proof.Proof.TheVariants.{V1}
 use Rattle.rv_decode.specs.Reading.{reading_of}
 use Rattle.rv_decode.specs.declared.instr.Instr.{Instr}
 use Rattle.digest_core.specs.Chain.{chain_of}
@@ -19,18 +18,19 @@ use Rattle.rv_step.specs.Step.{step, state_at, after_word, after_effect, output_
 use Rattle.rv_step.specs.Valid.{IsValid}
 use Rattle.rv_step.specs.declared.effect.Effect.{Effect}
 use Rattle.rv_step.specs.declared.effect.Effect.TheVariants.{Write, Jump, Branch, Next, Store, Put, Exit, Trap}
-use Rattle.state_commit.specs.StateRoot.{ctl_of, memory_digest, state_root}
-use Rattle.open_proof.specs.Held.{held_of}
-use Rattle.open_proof.specs.InRange.{is_in_range}
-use Rattle.open_proof.specs.Leads.{Leads}
-use Rattle.open_proof.specs.LeadsTo.{leads_to}
-use Rattle.open_proof.specs.PlainProof.{plain_proof}
-use Rattle.open_proof.specs.RangeLaws.{IsHeldInRange, range-of, and-true}
+use Rattle.state_commit.specs.StateRoot.{ctl_of, memory_digest, registers_digest, storage_of, storage_digest, root_in}
+use Rattle.state_trees.specs.RegisterTree.{registers_root}
+use Rattle.proof_facts.specs.Conditions.{LeadsFrom}
+use Rattle.proof_facts.specs.Facts.{facts_of}
+use Rattle.proof_facts.specs.PlainProof.{plain_proof}
+use Rattle.plain_answers.specs.PlainClaim.{plain_claim}
 use Rattle.bisect_game.specs.Ruling.{Ruling}
 use Rattle.bisect_game.specs.Rules.{Rules}
 use Rattle.bisect_game.specs.Truth.{IsRun}
-use Rattle.step_referee.specs.MachineRuling.{machine_ruling}
-use Rattle.step_referee.specs.MachineTruth.{plain_claim, machine_truth}
+use Rattle.step_referee.specs.MachineFair.{leads-exactly}
+use Rattle.step_referee.specs.MachineRuling.{leads_in, machine_ruling}
+use Rattle.step_referee.specs.MachineTruth.{machine_truth}
+use Rattle.step_referee.proofs.RangeLemmas.{code-fits, length-fits, memory-size, registers-size, plain-in-range}
 
 -- a step puts out one byte at most
 effect-adds : (xs : List ℕ) (e : Effect) → length (output_after xs e) ≤ length xs + 1
@@ -69,9 +69,8 @@ pub record RunLaws (digest : List ℕ → List ℕ) : Type 0 where
   pub chained : (output : List ℕ) → length (chain_of digest output) ≡ 32
   pub valid : (s : State) → IsValid s → IsValid (step s)
   pub version : (s : State) (n : ℕ) → (state_at s n).version ≡ s.version
-  pub leads : (s : State) (a b : Digest32) → IsValid s → s.version < 3 → a.0 ≡ state_root digest s → b.0 ≡ state_root digest (step s) → Leads digest a (plain_proof digest s) b
-  pub in_range : (s : State) → IsValid s → is_in_range (plain_proof digest s) ≡ true
-  pub found : (a : Digest32) (proof : StepProof) (b : Digest32) → is_in_range proof ≡ true → Leads digest a proof b → leads_to digest a proof ≡ Some b
+  pub leads : (s : State) (a b : Digest32) → IsValid s → a.0 ≡ root_in digest s.version s → b.0 ≡ root_in digest s.version (step s)
+      → LeadsFrom digest s.version a (facts_of (plain_proof digest s)) b
 
 module _ (digest : List ℕ → List ℕ) (laws : RunLaws digest) where
   valid-at : (s : State) (i : ℕ) → IsValid s → IsValid (state_at s i)
@@ -79,16 +78,29 @@ module _ (digest : List ℕ → List ℕ) (laws : RunLaws digest) where
   valid-at s (suc i) valid = laws.valid (state_at s i) (valid-at s i valid)
 
   abbrev root-at : State → Digest32
-  root-at s = record { 0 = state_root digest s }
+  root-at s = record { 0 = root_in digest s.version s }
 
-  plain-leads : (s : State) → IsValid s → s.version < 3 → leads_to digest (root-at s) (plain_proof digest s) ≡ Some (root-at (step s))
-  plain-leads s valid plain = laws.found (root-at s) (plain_proof digest s) (root-at (step s)) (laws.in_range s valid) (laws.leads s (root-at s) (root-at (step s)) valid plain refl refl)
-
-  held-range : (s : State) → IsValid s → IsHeldInRange (held_of digest s)
-  unfolding plain_proof
-  held-range s valid = (range-of (plain_proof digest s) (laws.in_range s valid)).parts
+  plain-leads : (s : State) → IsValid s → leads_in digest s.version (root-at s) (plain_proof digest s) ≡ Some (root-at (step s))
+  plain-leads s valid =
+      let next : root_in digest (step s).version (step s) ≡ root_in digest s.version (step s) = ap (λ v. root_in digest v (step s)) (laws.version s 1) in
+      (leads-exactly digest s.version (root-at s) (root-at (step s)) (plain_proof digest s)).1
+      (plain-in-range digest laws.is_digest laws.chained s valid, laws.leads s (root-at s) (root-at (step s)) valid refl next)
 
   -- the plain claim is sound
+  storage-size : (s : State) → length (storage_digest digest s.version s) ≡ 32
+  storage-size s = go (eqb s.version 3)
+    where
+      go : (three : Bool) → length (if three then digest (storage_of digest s) else memory_digest digest s) ≡ 32
+      go true = laws.is_digest _
+      go false = memory-size digest laws.is_digest s
+
+  registers-held : (s : State) → length (registers_digest digest s.version s.regs) ≡ 32
+  registers-held s = go (eqb s.version 1)
+    where
+      go : (one : Bool) → length (if one then digest (registers_text s.regs) else registers_root digest s.regs) ≡ 32
+      go true = laws.is_digest _
+      go false = registers-size digest laws.is_digest s.regs
+
   plain-checked : (s : State) → length s.output < 2 ^ 64 → says_sound (claim_check digest (plain_claim digest s)) ≡ true
   plain-checked s low =
       let n = length s.output in
@@ -99,27 +111,27 @@ module _ (digest : List ℕ → List ℕ) (laws : RunLaws digest) where
   plain-sound : (s : State) → IsValid s → length s.output < 2 ^ 64 → is_sound digest (plain_claim digest s) ≡ true
   unfolding is_sound
   plain-sound s valid low =
-      let held = held-range s valid in
-      and-true _ _
-      (and-true _ _ (and-true _ _ (and-true _ _ (and-true _ _ (and-true _ _
-      ((Decides-eqb (length (memory_digest digest s)) 32).1 held.mem_size)
-      ((Decides-eqb (length (digest (registers_text s.regs))) 32).1 (laws.is_digest (registers_text s.regs))))
+      and_from _ _
+      (and_from _ _ (and_from _ _ (and_from _ _ (and_from _ _ (and_from _ _
+      ((Decides-eqb (length (storage_digest digest s.version s)) 32).1 (storage-size s))
+      ((Decides-eqb (length (registers_digest digest s.version s.regs)) 32).1 (registers-held s)))
       ((Decides-eqb (length (chain_of digest s.output)) 32).1 (laws.chained s.output)))
-      ((Decides-ltb s.pc (2 ^ 32)).1 held.pc_fits))
-      ((Decides-ltb (status_code s.status) (2 ^ 32)).1 held.code_fits))
-      ((Decides-ltb (ctl_of digest s).out_len (2 ^ 64)).1 held.length_fits))
+      ((Decides-ltb s.pc (2 ^ 32)).1 valid.pc))
+      ((Decides-ltb (status_code s.status) (2 ^ 32)).1 (code-fits s.status valid.status)))
+      ((Decides-ltb (ctl_of digest s).out_len (2 ^ 64)).1 (length-fits s.output)))
       (plain-checked s low)
 
-  pub machine-runs : (s : State) (rules : Rules) → IsValid s → s.version < 3 → length s.output + rules.bound < 2 ^ 64 → rules.ruling ≡ machine_ruling digest → rules.start.0 ≡ state_root digest s
-      → IsRun rules (machine_truth digest s rules.bound)
-  machine-runs s rules valid plain low is start =
+  pub machine-runs : (s : State) (rules : Rules) → IsValid s → length s.output + rules.bound < 2 ^ 64 → rules.ruling ≡ machine_ruling digest s.version
+      → rules.start.0 ≡ root_in digest s.version s → IsRun rules (machine_truth digest s rules.bound)
+  machine-runs s rules valid low is start =
       let last = state_at s rules.bound in
       let short = output-at s rules.bound in
       let fits : length last.output < 2 ^ 64 = omega (arith, short, low) in
       record {
         begins = λ i. record { 0 = sym start i };
-        leads = λ i below. subst (λ (r : Ruling). r.leads (root-at (state_at s i)) (V1 (plain_proof digest (state_at s i))) ≡ Some (root-at (state_at s (i + 1)))) (sym is)
-            (plain-leads (state_at s i) (valid-at s i valid) (subst (λ v. v < 3) (sym (laws.version s i)) plain) ∙ ap (λ n. Some (root-at (state_at s n))) (sym (add-one i)));
+        leads = λ i below. subst (λ (r : Ruling). r.leads (root-at (state_at s i)) (plain_proof digest (state_at s i)) ≡ Some (root-at (state_at s (i + 1)))) (sym is)
+            (subst (λ v. leads_in digest v (root-at (state_at s i)) (plain_proof digest (state_at s i)) ≡ Some (root-at (state_at s (i + 1)))) (laws.version s i)
+            (plain-leads (state_at s i) (valid-at s i valid) ∙ ap (λ n. Some (root-at (state_at s n))) (sym (add-one i))));
         sound = subst (λ (r : Ruling). r.is_sound (plain_claim digest last) ≡ true) (sym is) (plain-sound last (valid-at s rules.bound valid) fits);
         ends = subst (λ (r : Ruling). r.root_of (plain_claim digest last) ≡ root-at last) (sym is) refl;
       }

@@ -1,7 +1,3 @@
-pub mod HeldParts
-pub mod Checked
-pub mod Refusal
-pub mod Ticks
 pub mod MachineRuling
 pub mod MachineTruth
 pub mod MachineFair

@@ -1,66 +1,74 @@
 ghost use Rattle.std.specs.Prelude.{◌≡◌};
-ghost use Rattle.out_chain.specs.Root as root;
-ghost use Rattle.open_proof.specs.LeadsTo.{leads_to};
-ghost use Rattle.step_referee.specs.MachineRuling.{machine_ruling};
+ghost use Rattle.step_referee.specs.MachineRuling.{leads_in, machine_ruling};
 ghost use Rattle.step_referee.specs.MachineFair.{machine_ruling_is_fair};
 
-use crate::check::{StepCheck, check_step};
 use bisect_game::Judge;
 use digest_core::Digester;
-use open_proof::{leading_is_decided, proofs_are_in_range};
-use rd_base::{Claim, Digest32, OpenText, Proof, StepProof, Steps};
+use proof_facts::proofs_are_in_range;
+use rd_base::{Claim, Digest32, OpenText, Proof, Steps};
 use std::marker::Brand;
 use std::sync::ledger::{Blank, Ledger};
+use step_check::{StepCheck, check_step, leading_is_decided};
 
 fn lead_in<D: Digester, L: Ledger>(
     d: D,
+    version: u8,
     from: Digest32,
-    proof: &StepProof,
+    proof: &Proof,
     blank: Blank,
 ) -> Option<Digest32>
     requires name { blank.name ≡ L.name }
     requires parts { blank.parts ≡ L.parts }
     requires one { L.parts ≡ 1 }
-    ensures { result ≡ leads_to D.digest_of from proof.now }
+    ensures { result ≡ leads_in D.digest_of version from proof.now }
 {
     leading_is_decided();
     proofs_are_in_range(proof);
     let mut steps = Steps::<L>::new(blank);
-    match check_step(d, from, proof, &mut steps) {
+    match check_step(d, version, from, proof, &mut steps) {
         StepCheck::Leads(b) => Some(b),
         StepCheck::NotOpen => None,
         StepCheck::WrongShape => None,
     }
 }
 
-/// The names of the judge of the machine: there are none, since its type alone says what it decides.
+/// The names of the judge of the machine: the version of the commitment. The judge's type says all else that it decides by.
 #[derive(Clone, Copy, Debug)]
-pub struct MachineNames;
+pub struct MachineNames {
+    /// The version of the commitment: 1, 2 or 3. In another one no proof leads anywhere.
+    pub version: u8,
+}
 
-/// The judge of the machine: claims and proofs of its steps, with digests by `D`. It takes no memory.
+/// The judge of the machine: claims and proofs of its steps in a version of the commitment, with digests by `D`. It takes no memory.
 #[derive(Clone, Copy, Debug)]
 pub struct MachineJudge<D> {
     /// What digests strings. Its type alone says how.
     pub digester: D,
+    /// The version of the commitment.
+    pub version: u8,
 }
 
 impl<D: Digester> MachineJudge<D> {
-    /// The judge that digests by `d`.
-    pub fn new(d: D) -> Self
-        ensures { result.digester ≡ d }
+    /// The judge of a version that digests by `d`.
+    pub fn new(d: D, version: u8) -> Self
+        ensures digester { result.digester ≡ d }
+        ensures version { result.version ≡ version }
     {
-        MachineJudge { digester: d }
+        MachineJudge {
+            digester: d,
+            version,
+        }
     }
 }
 
 impl<D: Digester> Judge for MachineJudge<D> {
     type Names = MachineNames;
 
-    ghost names = { λ j. record {} };
+    ghost names = { λ j. record { version = j.version } };
 
-    ghost ruling = { λ n. machine_ruling D.digest_of };
+    ghost ruling = { λ n. machine_ruling D.digest_of n.version };
 
-    ghost is_fair = { λ n. machine_ruling_is_fair D.digest_of D.is_digest };
+    ghost is_fair = { λ n. machine_ruling_is_fair D.digest_of D.is_digest n.version };
 
     fn sound(&self, claim: &Claim) -> bool {
         out_chain::check_claim(self.digester, claim).is_sound()
@@ -71,10 +79,7 @@ impl<D: Digester> Judge for MachineJudge<D> {
     }
 
     fn leads(&self, from: Digest32, proof: &Proof) -> Option<Digest32> {
-        match proof {
-            Proof::V1(parts) => lead_in::<D, Brand>(self.digester, from, parts, Blank::new(1)),
-            Proof::V2(_) | Proof::V3(_) => None,
-        }
+        lead_in::<D, Brand>(self.digester, self.version, from, proof, Blank::new(1))
     }
 
     fn claim_collision(&self, first: &Claim, second: &Claim) -> Option<(OpenText, OpenText)> {
@@ -87,9 +92,6 @@ impl<D: Digester> Judge for MachineJudge<D> {
         first: &Proof,
         second: &Proof,
     ) -> Option<(OpenText, OpenText)> {
-        match (first, second) {
-            (Proof::V1(x), Proof::V1(y)) => open_proof::step_collision(self.digester, from, x, y),
-            _ => None,
-        }
+        proof_collision::step_collision(self.digester, self.version, from, first, second)
     }
 }

@@ -1,29 +1,39 @@
-//! The law that ties the machine to the game, the contract of a function that does nothing.
-ghost use Rattle.std.specs.Prelude.{◌≡◌, ◌+◌, ◌^◌, ◌<◌, length};
+//! The laws that tie the judge to the conditions of proofs and the machine to the game, each the contract of a function that does nothing.
+ghost use Rattle.std.specs.Prelude.{◌≡◌, ◌↔◌, ◌+◌, ◌^◌, ◌<◌, ℕ, List, Some, length, true};
+ghost use Rattle.rd_base.specs.declared.digest.Digest32.{Digest32};
+ghost use Rattle.rd_base.specs.declared.proof.Proof.{Proof};
 ghost use Rattle.rv_step.specs.State.{State};
 ghost use Rattle.rv_step.specs.Valid.{IsValid};
-ghost use Rattle.state_commit.specs.StateRoot.{state_root};
+ghost use Rattle.state_commit.specs.StateRoot.{root_in};
 ghost use Rattle.bisect_game.specs.Rules.{Rules};
 ghost use Rattle.bisect_game.specs.Truth.{IsRun};
-ghost use Rattle.step_referee.specs.MachineRuling.{machine_ruling};
+ghost use Rattle.proof_facts.specs.Conditions.{LeadsFrom};
+ghost use Rattle.proof_facts.specs.Facts.{facts_of};
+ghost use Rattle.proof_facts.specs.InRange.{is_in_range};
+ghost use Rattle.step_referee.specs.MachineRuling.{leads_in, machine_ruling};
 ghost use Rattle.step_referee.specs.MachineTruth.{machine_truth};
 
 use digest_core::{Digester, chain_grows};
-use open_proof::{leading_is_decided, plain_proofs_are_in_range, plain_proofs_lead};
+use proof_facts::plain_proofs_lead;
 use rv_step::{runs_keep_the_input, steps_keep_valid_states};
 
-/// A run of the machine is a true run for the game that its judge decides: each plain proof leads from a root of the run to
-/// the next, and the claim at the bound is sound and has the last root. The run starts from any valid state of a
-/// version below 3; its output stays below 2^64 bytes.
+/// By the judge of a version a proof leads from a root to another exactly where it is in the ranges of its types, as each proof that a
+/// program holds, and its conditions for this version hold.
+pub fn judged_leading_is_exact()
+    ensures { (digest : List ℕ → List ℕ) (version : ℕ) (a b : Digest32) (proof : Proof) →
+        (leads_in digest version a proof ≡ Some b) ↔ ((is_in_range proof ≡ true) × LeadsFrom digest version a (facts_of proof) b) }
+{}
+
+/// A run of the machine is a true run for the game that the judge of its version decides: each plain proof leads from a root of the run to
+/// the next, and the claim at the bound is sound and has the last root. The run starts from any valid state; its output stays below 2^64
+/// bytes.
 pub fn machine_runs_are_true<D: Digester>()
-    ensures { (s : State) (rules : Rules) → IsValid s → s.version < 3 → length s.output + rules.bound < 2 ^ 64 →
-        rules.ruling ≡ machine_ruling D.digest_of → rules.start.0 ≡ state_root D.digest_of s →
+    ensures { (s : State) (rules : Rules) → IsValid s → length s.output + rules.bound < 2 ^ 64 →
+        rules.ruling ≡ machine_ruling D.digest_of s.version → rules.start.0 ≡ root_in D.digest_of s.version s →
         IsRun rules (machine_truth D.digest_of s rules.bound) }
 {
     chain_grows();
     steps_keep_valid_states();
     runs_keep_the_input();
     plain_proofs_lead();
-    plain_proofs_are_in_range();
-    leading_is_decided();
 }

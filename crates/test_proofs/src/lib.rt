@@ -1,11 +1,22 @@
-//! Tests of proofs of one step: their form as bytes, their openings and the referee.
+//! Tests of proofs of one step, in each version of the commitment: their form as bytes, their openings, their collisions and the referee.
 //!
-//! No layer of the product stands on this crate. Each module has the tests of the crate that it is named for.
+//! No layer of the product stands on this crate. Each module of tests has those of the crate that it is named for. `programs` has what is
+//! carried out, and `machines` the machines that do.
 #![tactic(auto)]
 
 #[cfg(test)]
-mod open_proof_test;
+mod changed;
+#[cfg(test)]
+mod machines;
+#[cfg(test)]
+mod plain_answers_test;
+#[cfg(test)]
+mod programs;
+#[cfg(test)]
+mod proof_collision_test;
 #[cfg(test)]
 mod proof_wire_test;
+#[cfg(test)]
+mod step_check_test;
 #[cfg(test)]
 mod step_referee_test;

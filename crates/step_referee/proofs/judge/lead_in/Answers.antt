@@ -1,6 +1,19 @@
-use Rattle.std.proofs.Common.{sym}
+use Rattle.std.proofs.Common.{sym, ap, ◌∙◌}
+use Rattle.step_referee.specs.MachineRuling.{root_led}
+use Rattle.step_referee.proofs.LeadLemmas.{led-by}
 use Rattle.step_referee.proofs.judge.lead_in.Goals as goal
 
 pub returns-in-Leads : goal.returns-in-Leads
 returns-in-Leads g c =
-    sym (c.leading_is_decided.ensures.found g.D.Digester.digest_of c.args.from c.args.proof.now c.in-Leads.b c.proofs_are_in_range.ensures ((c.check_step.ensures.leads c.in-Leads.b).0 c.in-Leads.is))
+    sym (ap root_led c.in-Leads.is)
+    ∙ led-by g.D.Digester.digest_of (c.leading_is_decided.ensures g.D.Digester.digest_of) c.args.version c.args.from c.args.proof.now c.check_step.result c.proofs_are_in_range.ensures c.check_step.ensures.leads
+
+pub returns-in-NotOpen : goal.returns-in-NotOpen
+returns-in-NotOpen g c =
+    sym (ap root_led c.in-NotOpen.is)
+    ∙ led-by g.D.Digester.digest_of (c.leading_is_decided.ensures g.D.Digester.digest_of) c.args.version c.args.from c.args.proof.now c.check_step.result c.proofs_are_in_range.ensures c.check_step.ensures.leads
+
+pub returns : goal.returns
+returns g c =
+    sym (ap root_led c.in-WrongShape.is)
+    ∙ led-by g.D.Digester.digest_of (c.leading_is_decided.ensures g.D.Digester.digest_of) c.args.version c.args.from c.args.proof.now c.check_step.result c.proofs_are_in_range.ensures c.check_step.ensures.leads

@@ -11,7 +11,5 @@ returns g c =
       valid = c.steps_keep_valid_states.ensures;
       version = c.runs_keep_the_input.ensures.version;
       leads = c.plain_proofs_lead.ensures digest;
-      in_range = c.plain_proofs_are_in_range.ensures digest is_digest;
-      found = c.leading_is_decided.ensures.found digest;
     } in
     machine-runs digest laws

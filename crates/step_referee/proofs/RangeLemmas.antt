@@ -1,0 +1,156 @@
+-- The plain proof of a valid state is in the ranges of its types, in each version.
+use Rattle.std.proofs.Common.{◌≡◌, ℕ, zero, suc, ◌+◌, ◌*◌, ◌/◌, ◌%◌, ◌^◌, ◌<◌, eqb, ltb, cond, List, [], ◌∷◌, map, length, slice_index, Option, Some, None, Bool, true, false, ◌&&◌, refl, ap, ◌∙◌, subst, arith}
+use Rattle.std.proofs.lemmas.Bool.{and_from}
+use Rattle.std.proofs.lemmas.Bool.Decides.{Decides-eqb, Decides-ltb}
+use Rattle.std.proofs.lemmas.List.FromFn.{length-map-range_with_len, get_or-map-range_with_len}
+use Rattle.std.specs.List.{range_with_len}
+use Rattle.rd_base.specs.declared.digest.Digest32.{Digest32}
+use Rattle.rd_base.specs.declared.status.Status.{Status}
+use Rattle.rd_base.specs.declared.status.Status.TheVariants.{Running, Exited, Trapped}
+use Rattle.rd_base.specs.declared.proof.Proof.TheVariants.{V1, V2, V3}
+use Rattle.digest_core.specs.Chain.{chain_of}
+use Rattle.digest_core.specs.Text.{status_code}
+use Rattle.mem_plain.specs.Contents.{Contents, byte_at, chunk_at}
+use Rattle.merkle_nodes.specs.Node.{node, beside, digest_at}
+use Rattle.mem_tree.specs.Memory.{memory_node}
+use Rattle.rv_step.specs.Alike.{named_at}
+use Rattle.rv_step.specs.State.{State}
+use Rattle.rv_step.specs.Valid.{IsValid, HasWordCode}
+use Rattle.state_commit.specs.StateRoot.{ctl_of, memory_digest}
+use Rattle.state_trees.specs.RegisterTree.{register_node, registers_root}
+use Rattle.state_trees.specs.InputTree.{input_chunk, input_node, input_root}
+use Rattle.open_proof.specs.InRange.{are_digests, are_words, is_opening_in_range, is_ctl_in_range}
+use Rattle.open_proof.specs.OpenedChunk.{siblings_of, opening_at, fetch_of_state}
+use Rattle.open_proof.specs.RangeLaws.{words_are, digests_are}
+use Rattle.proof_facts.specs.Facts.{facts_of}
+use Rattle.proof_facts.specs.InRange.{is_input_in_range, are_openings_in_range, are_registers_in_range, is_tree_in_range, are_facts_in_range, is_in_range}
+use Rattle.proof_facts.specs.PlainProof.{register_siblings, register_opening, input_siblings, input_opening_at, plain_proof, plain_proof_1, plain_proof_2, plain_proof_3}
+use Rattle.proof_facts.specs.Shown.{operand_of_state, input_of_state}
+use Rattle.proof_facts.specs.declared.facts.Facts.{Facts}
+
+is-true : (x y : ℕ) → x ≡ y → eqb x y ≡ true
+is-true x y same = (Decides-eqb x y).1 same
+
+-- the control fields of a valid state
+pub code-fits : (s : Status) → HasWordCode s → status_code s < 2 ^ 32
+code-fits Running word = omega arith
+code-fits (Exited code) word = word
+code-fits (Trapped code) word = word
+
+pub length-fits : (output : List ℕ) → length output % 2 ^ 64 < 2 ^ 64
+length-fits output = omega arith
+
+-- a path of digests of 32 bytes, by the digest at each of its levels
+levels : (along : ℕ → Digest32) (n : ℕ) → length (map along (range_with_len 0 n)) ≡ n
+levels along n = length-map-range_with_len along 0 n
+
+sizes : (along : ℕ → Digest32) (n : ℕ) → ((l : ℕ) → length (along l).0 ≡ 32) → are_digests (map along (range_with_len 0 n)) ≡ true
+sizes along n size = digests_are (map along (range_with_len 0 n)) (λ l below.
+    let low : l < n = subst (λ k. l < k) (levels along n) below in
+    ap (λ (d : Digest32). length d.0) (get_or-map-range_with_len along 0 n l l (record { 0 = [] }) low (omega arith)) ∙ size l)
+
+-- what is held is in range where each part is
+parts-true : (f : Facts) → length f.mem.0 ≡ 32 → is_tree_in_range f.input_tree ≡ true → are_registers_in_range f.regs ≡ true → is_ctl_in_range f.ctl ≡ true
+    → is_opening_in_range f.fetch ≡ true → is_opening_in_range f.operand ≡ true → is_input_in_range f.input ≡ true → are_facts_in_range f ≡ true
+unfolding are_facts_in_range
+parts-true f mem tree regs ctl fetch operand input =
+    and_from _ _ (and_from _ _ (and_from _ _ (and_from _ _ (and_from _ _ (and_from _ _ (is-true (length f.mem.0) 32 mem) tree) regs) ctl) fetch) operand) input
+
+module _ (digest : List ℕ → List ℕ) (is_digest : (bytes : List ℕ) → length (digest bytes) ≡ 32) where
+  node-size : (leaf : ℕ → List ℕ) (l k : ℕ) → length (node digest leaf l k) ≡ 32
+  unfolding node
+  node-size leaf zero k = is_digest _
+  node-size leaf (suc l) k = is_digest _
+
+  pub memory-size : (s : State) → length (memory_digest digest s) ≡ 32
+  memory-size s = node-size _ 27 0
+
+  pub registers-size : (xs : List ℕ) → length (registers_root digest xs) ≡ 32
+  registers-size xs = node-size _ 5 0
+
+  input-size : (input : List ℕ) → length (input_root digest input) ≡ 32
+  input-size input = node-size _ 15 0
+
+  chunk-path : (m : Contents) (k : ℕ) → (length (siblings_of digest m k) ≡ 27) × (are_digests (siblings_of digest m k) ≡ true)
+  unfolding siblings_of
+  chunk-path m k =
+      let along : ℕ → Digest32 = λ l. record { 0 = memory_node digest m l (beside (k / 2 ^ l)) } in
+      (levels along 27, sizes along 27 (λ l. node-size _ l (beside (k / 2 ^ l))))
+
+  chunk-range : (m : Contents) (address : Option ℕ) → is_opening_in_range (opening_at digest m address) ≡ true
+  chunk-range m None = refl
+  chunk-range m (Some addr) =
+      let k = addr / 32 in
+      let path = chunk-path m k in
+      let size : length (chunk_at m k) ≡ 32 = length-map-range_with_len (λ j. byte_at m (32 * k + j)) 0 32 in
+      and_from (eqb (length (chunk_at m k)) 32 && eqb (length (siblings_of digest m k)) 27) (are_digests (siblings_of digest m k))
+      (and_from (eqb (length (chunk_at m k)) 32) (eqb (length (siblings_of digest m k)) 27) (is-true _ 32 size) (is-true _ 27 path.0)) path.1
+
+  register-path : (xs : List ℕ) (r : ℕ) → (length (register_siblings digest xs r) ≡ 5) × (are_digests (register_siblings digest xs r) ≡ true)
+  unfolding register_siblings
+  register-path xs r =
+      let along : ℕ → Digest32 = λ l. record { 0 = register_node digest xs l (beside (r / 2 ^ l)) } in
+      (levels along 5, sizes along 5 (λ l. node-size _ l (beside (r / 2 ^ l))))
+
+  each-range : (xs : List ℕ) → ((r : ℕ) → slice_index xs r < 2 ^ 32) → (rs : List ℕ) → are_openings_in_range (map (register_opening digest xs) rs) ≡ true
+  each-range xs words [] = refl
+  each-range xs words (r ∷ rs) =
+      let path = register-path xs r in
+      let value : ltb (slice_index xs r) (2 ^ 32) ≡ true = (Decides-ltb (slice_index xs r) (2 ^ 32)).1 (words r) in
+      and_from (ltb (slice_index xs r) (2 ^ 32) && eqb (length (register_siblings digest xs r)) 5 && are_digests (register_siblings digest xs r)) (are_openings_in_range (map (register_opening digest xs) rs))
+      (and_from (ltb (slice_index xs r) (2 ^ 32) && eqb (length (register_siblings digest xs r)) 5) (are_digests (register_siblings digest xs r))
+      (and_from (ltb (slice_index xs r) (2 ^ 32)) (eqb (length (register_siblings digest xs r)) 5) value (is-true _ 5 path.0)) path.1)
+      (each-range xs words rs)
+
+  input-path : (input : List ℕ) (k : ℕ) → (length (input_siblings digest input k) ≡ 15) × (are_digests (input_siblings digest input k) ≡ true)
+  unfolding input_siblings
+  input-path input k =
+      let along : ℕ → Digest32 = λ l. record { 0 = input_node digest input l (beside (k / 2 ^ l)) } in
+      (levels along 15, sizes along 15 (λ l. node-size _ l (beside (k / 2 ^ l))))
+
+  input-chunk-size : (input : List ℕ) (k : ℕ) → length (input_chunk input k) ≡ 32
+  unfolding input_chunk
+  input-chunk-size input k = length-map-range_with_len (λ i. slice_index input (32 * k + i)) 0 32
+
+  input-range : (input : List ℕ) (byte : Option ℕ) → is_input_in_range (input_opening_at digest input byte) ≡ true
+  input-range input None = refl
+  input-range input (Some b) =
+      let k = b / 32 in
+      let path = input-path input k in
+      and_from (eqb (length (input_chunk input k)) 32 && eqb (length (input_siblings digest input k)) 15) (are_digests (input_siblings digest input k))
+      (and_from (eqb (length (input_chunk input k)) 32) (eqb (length (input_siblings digest input k)) 15) (is-true _ 32 (input-chunk-size input k)) (is-true _ 15 path.0)) path.1
+
+  module _ (chained : (output : List ℕ) → length (chain_of digest output) ≡ 32) (s : State) (valid : IsValid s) where
+    ctl-range : is_ctl_in_range (ctl_of digest s) ≡ true
+    ctl-range =
+        and_from _ _ (and_from _ _ (and_from _ _ ((Decides-ltb s.pc (2 ^ 32)).1 valid.pc) ((Decides-ltb (status_code s.status) (2 ^ 32)).1 (code-fits s.status valid.status)))
+        ((Decides-ltb (ctl_of digest s).out_len (2 ^ 64)).1 (length-fits s.output))) (is-true (length (chain_of digest s.output)) 32 (chained s.output))
+
+    opened-range : (eqb (length (registers_root digest s.regs)) 32 && are_openings_in_range (map (register_opening digest s.regs) (named_at s))) ≡ true
+    opened-range = and_from _ _ (is-true _ 32 (registers-size s.regs)) (each-range s.regs valid.regs.words (named_at s))
+
+    first : is_in_range (V1 (plain_proof_1 digest s)) ≡ true
+    first = parts-true (facts_of (V1 (plain_proof_1 digest s))) (memory-size s) refl
+        (and_from _ _ (is-true (length s.regs) 32 valid.regs.thirty_two) (words_are s.regs valid.regs.words)) ctl-range
+        (chunk-range s.memory (fetch_of_state digest s)) (chunk-range s.memory (operand_of_state digest s)) refl
+
+    second : is_in_range (V2 (plain_proof_2 digest s)) ≡ true
+    second = parts-true (facts_of (V2 (plain_proof_2 digest s))) (memory-size s) refl opened-range ctl-range
+        (chunk-range s.memory (fetch_of_state digest s)) (chunk-range s.memory (operand_of_state digest s)) refl
+
+    third : is_in_range (V3 (plain_proof_3 digest s)) ≡ true
+    third =
+        let short = valid.short in
+        let fits : length s.input < 2 ^ 32 = omega (arith, short) in
+        parts-true (facts_of (V3 (plain_proof_3 digest s))) (memory-size s)
+        (and_from _ _ ((Decides-ltb (length s.input) (2 ^ 32)).1 fits) (is-true _ 32 (input-size s.input))) opened-range ctl-range
+        (chunk-range s.memory (fetch_of_state digest s)) (chunk-range s.memory (operand_of_state digest s)) (input-range s.input (input_of_state digest s))
+
+    pub plain-in-range : is_in_range (plain_proof digest s) ≡ true
+    unfolding plain_proof
+    plain-in-range = go (eqb s.version 1) (eqb s.version 3)
+      where
+        go : (one three : Bool) → is_in_range (cond one (V1 (plain_proof_1 digest s)) (cond three (V3 (plain_proof_3 digest s)) (V2 (plain_proof_2 digest s)))) ≡ true
+        go true three = first
+        go false true = third
+        go false false = second
