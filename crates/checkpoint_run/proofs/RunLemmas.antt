@@ -71,7 +71,7 @@ KeepsInput = (s : State) → ((step s).version ≡ s.version) × ((step s).input
 pub kept_by : ((s : State) (n : ℕ) → (state_at s n).version ≡ s.version) → ((s : State) (n : ℕ) → (state_at s n).input ≡ s.input) → KeepsInput
 kept_by version input s = (version s 1, input s 1)
 
-tampered_input : (t : Tamper) (i : ℕ) (s : State) → ((tampered t i s).version ≡ s.version) × ((tampered t i s).input ≡ s.input)
+pub tampered_input : (t : Tamper) (i : ℕ) (s : State) → ((tampered t i s).version ≡ s.version) × ((tampered t i s).input ≡ s.input)
 tampered_input Untouched i s = (refl, refl)
 tampered_input (Flip at addr mask) i s = elim (eqb i at) as (λ b. ((cond b (flipped s addr mask) s).version ≡ s.version) × ((cond b (flipped s addr mask) s).input ≡ s.input)) [ true ↦ (refl, refl) | false ↦ (refl, refl) ]
 tampered_input (Register at reg value) i s = elim (eqb i at) as (λ b. ((cond b (with_value s reg value) s).version ≡ s.version) × ((cond b (with_value s reg value) s).input ≡ s.input)) [ true ↦ (refl, refl) | false ↦ (refl, refl) ]

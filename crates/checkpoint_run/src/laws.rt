@@ -8,7 +8,7 @@ ghost use Rattle.checkpoint_run.specs.TamperedRun.{run_from, run_at, tampered, f
 ghost use Rattle.checkpoint_run.specs.AtRest.{rests};
 ghost use Rattle.rd_base.specs.Status.{is_running};
 
-use rv_step::stopped_states_stay;
+use rv_step::{runs_keep_the_input, stopped_states_stay};
 
 /// The run of a prover in the words of the machine's own. Without a tamper it is the machine's (`plain`). Before the step at
 /// which a byte is flipped or a register set it is the machine's too (`flip_before`, `register_before`); there the state is
@@ -28,6 +28,17 @@ pub fn tampered_runs()
     ensures stands { (t : Tamper) (first : State) (bound i : ℕ) → still t first bound ≤ i → i ≤ bound → run_from t first i ≡ run_from t first (still t first bound) }
 {
     stopped_states_stay();
+}
+
+/// A tamper changes neither the version nor the input (`version_at`, `input_at`), and so each state of a run has those of the first
+/// one (`version`, `input`).
+pub fn tampered_runs_keep_the_input()
+    ensures version_at { (t : Tamper) (i : ℕ) (s : State) → (tampered t i s).version ≡ s.version }
+    ensures input_at { (t : Tamper) (i : ℕ) (s : State) → (tampered t i s).input ≡ s.input }
+    ensures version { (t : Tamper) (first : State) (i : ℕ) → (run_from t first i).version ≡ first.version }
+    ensures input { (t : Tamper) (first : State) (i : ℕ) → (run_from t first i).input ≡ first.input }
+{
+    runs_keep_the_input();
 }
 
 /// The first stop of a run below a step is the first: below it each state runs (`runs_before`), and where it is below the step

@@ -5,7 +5,7 @@
 //! still. The layers above may rely on this: `machine_at` gives the machine of a checkpoint, and `next` takes it to the next
 //! step where it is, and tells the pages that were written; so each state of the run is had by replaying fewer steps than lie between two
 //! checkpoints. Both keep the chain by the digester that recorded the run. Laws of the run, in the words of the machine's
-//! own, are `tampered_runs` and `stops_come_first`.
+//! own, are `tampered_runs` and `stops_come_first`; by `tampered_runs_keep_the_input` each state has the run's version and input.
 //!
 //! The output stands once in a run. A checkpoint takes one version of each page that was written since the checkpoint before,
 //! and of no other (the clauses of `add_checkpoint` and `note`); which pages a step writes says `specs/WrittenPages.antt`. So,
@@ -23,5 +23,7 @@ mod tampering;
 mod version;
 mod versions;
 
-pub use laws::{pages_of_two_places, stops_come_first, tampered_runs};
+pub use laws::{
+    pages_of_two_places, stops_come_first, tampered_runs, tampered_runs_keep_the_input,
+};
 pub use run::{Run, machine_at, next, record_run};

@@ -74,6 +74,20 @@ impl Run {
     {
         self.still
     }
+
+    /// The version of the commitment to the run's states.
+    pub fn version(&self) -> u8
+        ensures { result ≡ self.now.first.version }
+    {
+        self.version
+    }
+
+    /// The input that the run's states have beside their memory.
+    pub fn input(&self) -> &[u8]
+        ensures { result.now ≡ self.now.first.input }
+    {
+        &self.input
+    }
 }
 
 /// Records the run of a prover from a machine, with this tamper, up to the step `bound`, with a checkpoint at every `every`

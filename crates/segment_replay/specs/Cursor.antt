@@ -1,7 +1,7 @@
 -- Derived: a machine of a run, and a tree that is kept with its memory.
-use Rattle.std.specs.Prelude.{◌≡◌, ℕ, List, []}
-use Rattle.mem_plain.specs.Contents.{Contents}
-use Rattle.mem_tree.specs.Tree.{Tree, IsTreeOf, SameBut}
+use Rattle.std.specs.Prelude.{◌≡◌, ℕ, List, [], true}
+use Rattle.mem_plain.specs.Contents.{Contents, IsUsed}
+use Rattle.mem_tree.specs.Tree.{Tree, IsTreeOf, SameBut, is_among}
 use Rattle.rv_step.specs.State.{state_of, IsChained}
 use Rattle.rv_step.specs.declared.machine.Machine.{Machine}
 use Rattle.checkpoint_run.specs.Recorded.{Recorded, state_of_step}
@@ -20,3 +20,7 @@ pub record IsBehind (digest : List ℕ → List ℕ) (tree : Tree) (old new : Co
 pub record IsFresh (digest : List ℕ → List ℕ) (tree : Tree) (m : Contents) : Type 0 where
   pub untouched : tree.touched ≡ []
   pub tree_of : IsTreeOf digest tree m
+
+-- each page that a memory has in use is touched
+abbrev pub HasTouched : Tree → Contents → Type 0
+HasTouched tree m = (p : ℕ) → IsUsed m p → is_among tree.touched p ≡ true

@@ -1,12 +1,22 @@
 -- To believe: the roots of a run.
-use Rattle.std.specs.Prelude.{ℕ, List, map, min}
+use Rattle.std.specs.Prelude.{◌≡◌, ℕ, List, map, min}
 use Rattle.rd_base.specs.declared.digest.Digest32.{Digest32}
-use Rattle.state_commit.specs.StateRoot.{state_root}
+use Rattle.rv_step.specs.State.{State}
+use Rattle.state_commit.specs.StateRoot.{root_in}
+use Rattle.state_trees.specs.InputTree.{input_root}
 use Rattle.checkpoint_run.specs.Recorded.{Recorded, state_of_step}
+
+-- the root of a state, in the version of the commitment that the state has
+abbrev pub own_root : (List ℕ → List ℕ) → State → List ℕ
+own_root digest s = root_in digest s.version s
 
 -- the root of a run's state of a step; above the bound the last state stands for it
 abbrev pub root_at : (List ℕ → List ℕ) → Recorded → ℕ → List ℕ
-root_at digest r i = state_root digest (state_of_step r (min i r.bound))
+root_at digest r i = own_root digest (state_of_step r (min i r.bound))
+
+-- these are the bytes of the root of a run's input, if the run's version has one
+abbrev pub IsInputRoot : (List ℕ → List ℕ) → Recorded → List ℕ → Type 0
+IsInputRoot digest r root = r.first.version ≡ 3 → root ≡ input_root digest r.first.input
 
 -- the bytes of digests
 abbrev pub digests : List Digest32 → List (List ℕ)

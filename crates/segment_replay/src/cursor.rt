@@ -1,33 +1,37 @@
 //! One worker: a machine of a run, moved from step to step with the tree of its memory.
-ghost use Rattle.std.specs.Prelude.{◌≡◌, ℕ, ◌+◌, ◌<◌, ◌≤◌, ◌∷◌, [], false, IfOk, OnOk, IfSome, min};
+ghost use Rattle.std.specs.Prelude.{◌≡◌, ℕ, ◌+◌, ◌<◌, ◌≤◌, ◌∷◌, [], true, false, IfOk, OnOk, IfSome, min};
 ghost use Rattle.mem_plain.specs.Contents.{Contents};
 ghost use Rattle.mem_tree.specs.Tree.{IsTreeOf, is_among};
 ghost use Rattle.rv_step.specs.State.{state_of, IsChained};
-ghost use Rattle.state_commit.specs.StateRoot.{state_root};
 ghost use Rattle.checkpoint_run.specs.NamedPages.{IsNamed, ArePages};
 ghost use Rattle.checkpoint_run.specs.Recorded.{AreChained, state_of_step, still_of};
-ghost use Rattle.segment_replay.specs.Roots.{root_at};
-ghost use Rattle.segment_replay.specs.Cursor.{IsMachineOf, IsBehind, IsFresh};
+ghost use Rattle.segment_replay.specs.Roots.{IsInputRoot, root_at};
+ghost use Rattle.segment_replay.specs.Cursor.{IsMachineOf, IsBehind, IsFresh, HasTouched};
 
-use checkpoint_run::{Run, machine_at, next, pages_of_two_places, tampered_runs};
+use checkpoint_run::{
+    Run, machine_at, next, pages_of_two_places, tampered_runs, tampered_runs_keep_the_input,
+};
 use digest_core::Digester;
 use mem_plain::PlainMem;
 use mem_tree::MemTree;
 use rd_base::{Digest32, Memory};
 use rv_step::Machine;
-use state_commit::root_over;
+use state_commit::{KeptRegisters, root_of_parts};
+use state_trees::input_root;
 use std::alloc::Global;
 use std::thread::Threads;
 
-/// A cursor is moved on by up to so many steps whatever its memory holds, rather than that a tree is built anew. They take half a
-/// millisecond, about as long as the smallest tree and the memory that is put together for it.
-const STEPS_WORTH_A_TREE: u64 = 16_384;
+/// A cursor is moved on by up to so many steps whatever its memory holds, rather than that its machine is put together from a
+/// checkpoint. They take half a millisecond, about as long as going over the versions of pages of a long run.
+const STEPS_WORTH_A_CHECKPOINT: u64 = 16_384;
 
 /// A cursor is moved on by up to so many steps for each page in use, too. They take 20 to 120 us of a processor, the more the more
-/// pages are in use. A page of a new tree takes 275 digests, about 140 us, and so does a page that changed in between when the
-/// tree is refreshed. So where all pages changed, moving on takes up to twice as much as a new tree, and where few did, less. By
-/// the clock a new tree may be faster than that, as its pages are digested side by side.
+/// pages are in use. A machine that is put together from a checkpoint copies each page in use, and its tree compares the page's 128
+/// chunks with those that it keeps. What has changed is digested either way.
 const STEPS_WORTH_A_PAGE: u64 = 1_024;
+
+/// The version of the commitment in which the input is a tree.
+const INPUT_TREE: u8 = 3;
 
 /// A machine of a run, at which step it is, and the tree of its memory.
 #[derive(Drop)]
@@ -157,14 +161,66 @@ fn has_pages(mem: &PlainMem, count: u64) -> bool {
     true
 }
 
-/// Whether moving a cursor with this memory on by so many steps is taken to cost less than a new tree. No answer depends on it.
+/// Whether moving a cursor with this memory on by so many steps is taken to cost less than putting a machine together from a
+/// checkpoint. No answer depends on it.
 fn is_near(mem: &PlainMem, steps: u64) -> bool {
-    steps <= STEPS_WORTH_A_TREE || has_pages(mem, steps.div_ceil(STEPS_WORTH_A_PAGE))
+    steps <= STEPS_WORTH_A_CHECKPOINT || has_pages(mem, steps.div_ceil(STEPS_WORTH_A_PAGE))
+}
+
+/// A tree with each page touched that a memory has in use, beside those that were. An `Err` is out of memory.
+fn with_used<D: Digester>(tree: MemTree<D>, mem: &PlainMem) -> Result<MemTree<D>, Memory>
+    ensures tree { IfOk result (λ t. (m : Contents) → IsTreeOf D.digest_of tree m → IsTreeOf D.digest_of t m) }
+    ensures used { IfOk result (λ t. HasTouched t mem.now) }
+    ensures others { IfOk result (λ t. (p : ℕ) → is_among tree.touched p ≡ true → is_among t.touched p ≡ true) }
+{
+    let mut with = tree;
+    let mut least = 0;
+    'pages: while let Some(page) = mem.next_page(least) {
+        with.touch(page)?;
+        least = page + 1;
+    }
+    Ok(with)
+}
+
+/// The tree of a cursor, with each page touched that its memory has in use. An `Err` is out of memory.
+fn let_go<D: Digester>(cursor: Cursor<D>) -> Result<MemTree<D>, Memory>
+    ensures tree { IfOk result (λ t. (m : Contents) → IsTreeOf D.digest_of cursor.tree m → IsTreeOf D.digest_of t m) }
+    ensures used { IfOk result (λ t. HasTouched t cursor.machine.mem) }
+{
+    let Cursor { machine, tree, .. } = cursor;
+    with_used(tree, &machine.mem)
+}
+
+/// The cursor of a step, ahead or behind, up to the one from which the run stands still: its machine is replayed from the last
+/// checkpoint up to the step, and its tree is that of the cursor at hand, brought up to the machine's memory. So the chunks alone
+/// that differ are digested, and the nodes above them. An `Err` is out of memory.
+fn turned_to<D: Digester>(
+    d: D,
+    run: &Run,
+    cursor: Cursor<D>,
+    goal: u64,
+) -> Result<Cursor<D>, Memory>
+    requires goal { goal ≤ still_of run.now }
+    requires chained { AreChained D.digest_of run.now }
+    requires tree { IsFresh D.digest_of cursor.tree cursor.machine.mem }
+    ensures at { IfOk result (λ c. c.at ≡ goal) }
+    ensures machine { IfOk result (λ c. IsMachineOf D.digest_of run.now goal c.machine) }
+    ensures tree { IfOk result (λ c. IsFresh D.digest_of c.tree c.machine.mem) }
+{
+    let kept = let_go(cursor)?;
+    let machine = machine_up_to(d, run, goal)?;
+    let mut turned = with_used(kept, &machine.mem)?;
+    turned.refresh(&machine.mem)?;
+    Ok(Cursor {
+        at: goal,
+        machine,
+        tree: turned,
+    })
 }
 
 /// The cursor of a step, up to the one from which the run stands still: the cursor at hand moved on, where the step lies
-/// ahead of it and is near or no checkpoint lies between, else a new one from the last checkpoint up to the step. An `Err` is
-/// out of memory.
+/// ahead of it and is near or no checkpoint lies between; else the one at hand turned to the step; and a new one where there is none
+/// at hand. An `Err` is out of memory.
 fn cursor_at<D: Digester + Send + Sync, R: Threads + Sync>(
     rt: &R,
     alloc: Global,
@@ -189,6 +245,7 @@ fn cursor_at<D: Digester + Send + Sync, R: Threads + Sync>(
                 return moved_on(d, run, cursor, goal);
             }
         }
+        return turned_to(d, run, cursor, goal);
     }
     let machine = machine_up_to(d, run, goal)?;
     let tree = MemTree::build(rt, alloc, d, &machine.mem)?;
@@ -199,24 +256,52 @@ fn cursor_at<D: Digester + Send + Sync, R: Threads + Sync>(
     })
 }
 
-/// The root of a step, and a cursor for the next one. An `Err` is out of memory.
+/// The root of the run's input if the run's version is 3, and else 32 zeros. The runs of one machine have the same, whatever is
+/// tampered with.
+pub fn run_input_root<D: Digester>(d: D, run: &Run) -> Digest32
+    ensures { IsInputRoot D.digest_of run.now result.0 }
+{
+    if run.version() == INPUT_TREE {
+        input_root(d, run.input())
+    } else {
+        Digest32::ZERO
+    }
+}
+
+/// The root of a step, from the root of the run's input, and a cursor for the next one. Of the registers those leaves alone are
+/// digested that differ from those of the root before. An `Err` is out of memory.
 pub fn root_of_step<D: Digester + Send + Sync, R: Threads + Sync>(
     rt: &R,
     alloc: Global,
     d: D,
     run: &Run,
+    input: Digest32,
+    registers: &mut KeptRegisters<D>,
     at_hand: Option<Cursor<D>>,
     step: u64,
 ) -> Result<(Cursor<D>, Digest32), Memory>
     requires chained { AreChained D.digest_of run.now }
+    requires input { IsInputRoot D.digest_of run.now input.0 }
+    requires registers { registers.old ≡ run.now.first.version }
     requires machine { IfSome at_hand (λ c. IsMachineOf D.digest_of run.now c.at c.machine) }
     requires tree { IfSome at_hand (λ c. IsFresh D.digest_of c.tree c.machine.mem) }
+    ensures registers { registers.new ≡ registers.old }
     ensures machine { IfOk result (λ r. IsMachineOf D.digest_of run.now r.0.at r.0.machine) }
     ensures tree { IfOk result (λ r. IsFresh D.digest_of r.0.tree r.0.machine.mem) }
     ensures root { IfOk result (λ r. r.1.0 ≡ root_at D.digest_of run.now step) }
 {
+    tampered_runs_keep_the_input();
     let goal = goal_of(run, step);
     let cursor = cursor_at(rt, alloc, d, run, at_hand, goal)?;
-    let root = root_over(d, cursor.tree.root(), &cursor.machine);
+    let machine = &cursor.machine;
+    let digest = registers.digest(&machine.regs);
+    let root = root_of_parts(
+        d,
+        machine.version,
+        cursor.tree.root(),
+        digest,
+        input,
+        machine,
+    );
     Ok((cursor, root))
 }

@@ -1,20 +1,24 @@
 //! Roots of a recorded run, replayed piece by piece from its checkpoints.
 //!
-//! The layers above may rely on this: `roots` gives the root of the run's state of each step asked, in the order asked, and
-//! `committed_at` the machine of a step with the tree of its memory; each is that of the definition, whatever the spacing of
-//! the checkpoints and the number of workers. Workers run side by side where threads can be made; the answers don't depend
-//! on it.
+//! The layers above may rely on this: `roots` gives the root of the run's state of each step asked, in the version of the run and in
+//! the order asked, and `committed_at` the machine of a step with the trees of its version; each is that of the definition, whatever
+//! the spacing of the checkpoints and the number of workers. Workers run side by side where threads can be made; the answers don't
+//! depend on it. The root of the run's input, which version 3 has, is made once a call, or once for all runs of a machine if the caller
+//! hands it on (`run_input_root`, `roots_with_input`). A `KeptRun` gives one root after the other, each made from the one before.
 //!
-//! The steps are cut into at most as many pieces as there are workers, which is proved of `piece_size`. Asked in ascending order,
-//! each worker goes on from step to step with one tree of memory, so long as the next step is near, measured by the pages in
-//! use, or no checkpoint lies between; else it builds a tree anew, from the last checkpoint up to its step, at 275 digests for
-//! each page in use. That is not proved: it is read in `cursor`, and a test in `test_replay` counts the digests. Read
-//! `specs/Roots.antt` first, then `replaying`, then `cursor`.
+//! The steps are cut into at most as many pieces as there are workers, which is proved of `piece_size`. Each worker goes from step to
+//! step with one tree of memory and one of registers, so that what differs alone is digested. It carries out the steps in between where
+//! the next step lies ahead and is near, measured by the pages in use, or no checkpoint lies between; else it replays from the last
+//! checkpoint up to the step, and compares all pages in use. That is not proved: it is read in `cursor`, and tests in `test_replay`
+//! count the digests. Read `specs/Roots.antt` first, then `replaying`, then `cursor`.
 #![tactic(auto)]
 
 mod cursor;
+mod kept_run;
 mod replaying;
 mod replays;
 
-pub use replaying::{committed_at, roots};
+pub use cursor::run_input_root;
+pub use kept_run::KeptRun;
+pub use replaying::{committed_at, roots, roots_with_input};
 pub use replays::Replays;

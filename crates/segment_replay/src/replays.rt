@@ -1,9 +1,10 @@
 ghost use denote.Param.Send.{IsSync};
 ghost use Rattle.std.specs.Prelude.{◌≡◌, ◌<◌, IfOk, map, min};
 ghost use Rattle.checkpoint_run.specs.Recorded.{AreChained, state_of_step};
-ghost use Rattle.segment_replay.specs.Roots.{root_at, digests};
+ghost use Rattle.segment_replay.specs.Roots.{IsInputRoot, root_at, digests};
 
-use crate::replaying::{committed_at, roots};
+use crate::kept_run::KeptRun;
+use crate::replaying::{committed_at, roots, roots_with_input};
 use checkpoint_run::Run;
 use digest_core::{Digester, Sha256, Weak8};
 use rd_base::{Digest32, Memory};
@@ -27,6 +28,34 @@ pub trait Replays: Digester {
         requires workers { 0 < workers }
         requires chained { AreChained Self.digest_of run.now }
         ensures { IfOk result (λ v. digests v.items ≡ map (root_at Self.digest_of run.now) steps.now) };
+
+    /// `roots_with_input` by this digester.
+    fn roots_with_input_of<R: Threads + Sync>(
+        self,
+        rt: &R,
+        alloc: Global,
+        run: &Run,
+        input: Digest32,
+        steps: &[u64],
+        workers: u32,
+    ) -> Result<Vec<Digest32>, Memory>
+        requires sync { IsSync R.row }
+        requires workers { 0 < workers }
+        requires chained { AreChained Self.digest_of run.now }
+        requires input { IsInputRoot Self.digest_of run.now input.0 }
+        ensures { IfOk result (λ v. digests v.items ≡ map (root_at Self.digest_of run.now) steps.now) };
+
+    /// `KeptRun::root` by this digester.
+    fn kept_root_of<R: Threads + Sync>(
+        self,
+        rt: &R,
+        alloc: Global,
+        kept: &mut KeptRun<Self>,
+        step: u64,
+    ) -> Result<Digest32, Memory>
+        requires { IsSync R.row }
+        ensures root { IfOk result (λ r. r.0 ≡ root_at Self.digest_of kept.old step) }
+        ensures run { kept.new ≡ kept.old };
 
     /// `committed_at` by this digester.
     fn committed_of<R: Threads + Sync>(
@@ -53,6 +82,28 @@ impl Replays for Sha256 {
         roots(rt, alloc, self, run, steps, workers)
     }
 
+    fn roots_with_input_of<R: Threads + Sync>(
+        self,
+        rt: &R,
+        alloc: Global,
+        run: &Run,
+        input: Digest32,
+        steps: &[u64],
+        workers: u32,
+    ) -> Result<Vec<Digest32>, Memory> {
+        roots_with_input(rt, alloc, self, run, input, steps, workers)
+    }
+
+    fn kept_root_of<R: Threads + Sync>(
+        self,
+        rt: &R,
+        alloc: Global,
+        kept: &mut KeptRun<Self>,
+        step: u64,
+    ) -> Result<Digest32, Memory> {
+        kept.root(rt, alloc, step)
+    }
+
     fn committed_of<R: Threads + Sync>(
         self,
         rt: &R,
@@ -74,6 +125,28 @@ impl Replays for Weak8 {
         workers: u32,
     ) -> Result<Vec<Digest32>, Memory> {
         roots(rt, alloc, self, run, steps, workers)
+    }
+
+    fn roots_with_input_of<R: Threads + Sync>(
+        self,
+        rt: &R,
+        alloc: Global,
+        run: &Run,
+        input: Digest32,
+        steps: &[u64],
+        workers: u32,
+    ) -> Result<Vec<Digest32>, Memory> {
+        roots_with_input(rt, alloc, self, run, input, steps, workers)
+    }
+
+    fn kept_root_of<R: Threads + Sync>(
+        self,
+        rt: &R,
+        alloc: Global,
+        kept: &mut KeptRun<Self>,
+        step: u64,
+    ) -> Result<Digest32, Memory> {
+        kept.root(rt, alloc, step)
     }
 
     fn committed_of<R: Threads + Sync>(

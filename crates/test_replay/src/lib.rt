@@ -11,3 +11,5 @@ mod programs;
 mod segment_replay_test;
 #[cfg(test)]
 mod tampers;
+#[cfg(test)]
+mod versions_test;

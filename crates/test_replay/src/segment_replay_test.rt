@@ -10,7 +10,7 @@ use digest_core::Sha256;
 use mem_plain::PlainMem;
 use rd_base::{Memory, Tamper};
 use rv_step::Machine;
-use segment_replay::{committed_at, roots};
+use segment_replay::{KeptRun, committed_at, roots};
 use std::alloc::Global;
 use std::sync::atomic::{AtomicU64, Ordering};
 use std::test::Fail;
@@ -242,49 +242,118 @@ fn digests_of<R: Threads + Sync>(
     Ok(made.load(Ordering::SeqCst))
 }
 
-/// How many digests more the root of a step takes after that of step 0 than after its own: none where the tree is kept, all
-/// those of a tree where it is built anew.
+/// How many digests more the root of a step takes after that of another one.
 fn digests_between<R: Threads + Sync>(
+    rt: &R,
+    alloc: Global,
+    run: &Run,
+    from: u64,
+    to: u64,
+) -> Result<u64, Memory>
+    requires { AreChained sha256 run.now }
+{
+    let both = digests_of(rt, alloc, run, [from, to])?;
+    let twice = digests_of(rt, alloc, run, [from, from])?;
+    Ok(both.wrapping_sub(twice))
+}
+
+/// Whether the root of a step of STAYS, whose memory never changes, takes as many digests after that of another one as after its own.
+fn moves_the_tree<R: Threads + Sync>(
     rt: &R,
     alloc: Global,
     pages: u32,
     every: u32,
-    step: u64,
-) -> Result<u64, Memory> {
+    steps: [u64; 2],
+) -> Result<bool, Memory> {
     let machine = staying(alloc, pages)?;
-    let run = record_run(
-        alloc,
-        Sha256,
-        &machine,
-        20_000,
-        every.max(1),
-        Tamper::Untouched,
-    )?;
-    let moved = digests_of(rt, alloc, &run, [0, step])?;
-    let stayed = digests_of(rt, alloc, &run, [step, step])?;
-    Ok(moved.wrapping_sub(stayed))
+    let tamper = Tamper::Untouched;
+    let run = record_run(alloc, Sha256, &machine, 20_000, every.max(1), tamper)?;
+    Ok(digests_between(rt, alloc, &run, steps[0], steps[1])? == 0)
 }
 
-/// A tree takes 28 digests for its empty nodes, and for each page in use one for each chunk that isn't of zeros and for each node
-/// over such chunks, 8 at least and 255 at most, and, as no two of the pages lie side by side, at most 20 for the nodes above it.
 #[test]
-fn a_tree_is_kept_up_to_a_step_that_is_near(rt: HostRuntime) -> Result<(), Fail> {
-    // how many pages are in use, the spacing of the checkpoints, and the last step for which the tree is kept
-    let rows: [(u32, u32, u64); 5] = [
-        // near by itself
-        (1, 1024, 16_384),
-        (16, 1024, 16_384),
-        // near by the pages in use
-        (17, 1024, 17_408),
-        (18, 100, 18_432),
-        // no checkpoint lies between
-        (1, 19_000, 18_999),
+fn a_tree_goes_to_every_step_without_digests_of_what_stays(rt: HostRuntime) -> Result<(), Fail> {
+    // how many pages are in use, the spacing of the checkpoints, and the steps
+    let rows: [(u32, u32, [u64; 2]); 8] = [
+        // the step is near, or no checkpoint lies between
+        (1, 1024, [0, 16_384]),
+        (17, 1024, [0, 17_408]),
+        (1, 19_000, [0, 18_999]),
+        // it is far ahead
+        (1, 1024, [0, 16_385]),
+        (17, 1024, [0, 20_000]),
+        // it lies behind, before the same checkpoint and at it, and before another one
+        (1, 1024, [5, 4]),
+        (17, 1024, [1024, 0]),
+        (18, 100, [20_000, 1]),
     ];
-    for (pages, every, last) in rows {
-        assert_eq!(rt; digests_between(&rt, rt.alloc(), pages, every, last)?, 0);
-        let anew = digests_between(&rt, rt.alloc(), pages, every, last + 1)?;
-        assert!(rt; anew > 28 + 8 * u64::from(pages));
-        assert!(rt; anew <= 28 + 275 * u64::from(pages));
+    for (pages, every, steps) in rows {
+        assert!(rt; moves_the_tree(&rt, rt.alloc(), pages, every, steps)?);
     }
+    Ok(())
+}
+
+/// A_STORE_IN_EACH_PAGE has stored to 21 pages by step 64, and to 101 by step 305: 80 chunks differ, each of another page. Each takes
+/// at most 28 digests; the pages that hold nothing take those of the 20 levels above them at least.
+#[test]
+fn a_tree_goes_to_a_step_by_the_chunks_that_differ(rt: HostRuntime) -> Result<(), Fail> {
+    let machine = machine_of(rt.alloc(), &A_STORE_IN_EACH_PAGE)?;
+    let run = record_run(rt.alloc(), Sha256, &machine, 305, 16, Tamper::Untouched)?;
+    for (from, to) in [(64, 305), (305, 64)] {
+        let digests = digests_between(&rt, rt.alloc(), &run, from, to)?;
+        assert!(rt;
+            20 <= digests && digests <= 28 * 80,
+            "{from} to {to}: {digests}"
+        );
+    }
+    Ok(())
+}
+
+/// The expected roots were computed by `checks/roots.py A_STORE_IN_EACH_PAGE 305`.
+#[test]
+fn roots_are_those_of_their_steps_in_any_order(rt: HostRuntime) -> Result<(), Fail> {
+    let wanted = [
+        (305, 0xeb35_95e4_f86a_5143),
+        (64, 0x9769_9149_a202_ab01),
+        (100, 0xa02b_39a7_4eda_f4c7),
+        (10, 0x7dd4_b059_386a_5608),
+        (200, 0xdc18_fc32_3b17_f08a),
+        (200, 0xdc18_fc32_3b17_f08a),
+        (0, 0x0e68_4df4_bf36_e8d8),
+        (305, 0xeb35_95e4_f86a_5143),
+    ];
+    let machine = machine_of(rt.alloc(), &A_STORE_IN_EACH_PAGE)?;
+    for (every, workers) in [(16, 1), (16, 3), (1024, 1)] {
+        let run = record_run(rt.alloc(), Sha256, &machine, 305, every, Tamper::Untouched)?;
+        assert!(rt; are_roots(&rt, rt.alloc(), &run, workers, &wanted)?);
+    }
+    Ok(())
+}
+
+/// The roots are those of the test above. A root of the same state once more takes the digests of its registers, its control string and
+/// its state string.
+#[test]
+fn a_kept_run_goes_from_root_to_root_in_any_order(rt: HostRuntime) -> Result<(), Fail> {
+    let machine = machine_of(rt.alloc(), &A_STORE_IN_EACH_PAGE)?;
+    let run = record_run(rt.alloc(), Sha256, &machine, 305, 16, Tamper::Untouched)?;
+    let made = AtomicU64::new(0);
+    let counted = Counted {
+        of: Sha256,
+        made: &made,
+    };
+    let mut kept = KeptRun::new(counted, run);
+    for (step, root) in [
+        (305, 0xeb35_95e4_f86a_5143),
+        (64, 0x9769_9149_a202_ab01),
+        (100, 0xa02b_39a7_4eda_f4c7),
+        (10, 0x7dd4_b059_386a_5608),
+        (306, 0xeb35_95e4_f86a_5143),
+    ] {
+        let found = kept.root(&rt, rt.alloc(), step)?;
+        assert_eq!(rt; first_eight(found), root, "step {step}");
+    }
+    let before = made.load(Ordering::SeqCst);
+    kept.root(&rt, rt.alloc(), 305)?;
+    assert_eq!(rt; made.load(Ordering::SeqCst).wrapping_sub(before), 3);
     Ok(())
 }

@@ -8,7 +8,7 @@ use Rattle.segment_replay.specs.Roots.{root_at, digests}
 use Rattle.segment_replay.specs.Pieces.{ArePieces}
 use Rattle.segment_replay.proofs.PieceLemmas.{map_chunk, whole_chunks}
 use Rattle.std.proofs.lemmas.List.{length-map}
-use Rattle.segment_replay.proofs.replaying.roots.Goals as goal
+use Rattle.segment_replay.proofs.replaying.roots_with_input.Goals as goal
 
 piece_is : (r : Result (Vec Digest32 Global) Memory) (xs ys : List (List ℕ)) → xs ≡ ys → IfOk r (λ v. digests v.items ≡ xs) → IfOk r (λ v. digests v.items ≡ ys)
 piece_is (Ok v) xs ys same h = h ∙ same

@@ -1,0 +1,271 @@
+//! Tests of roots and of committed machines in each version of the commitment.
+ghost use Rattle.std.specs.Prelude.{◌≤◌, ◌<◌, length, IfOk};
+ghost use Rattle.checkpoint_run.specs.Recorded.{AreChained};
+ghost use Rattle.sha2.specs.Sha256.{sha256};
+
+use crate::programs::SIX_STEPS;
+use crate::tampers::register;
+use checkpoint_run::{Run, record_run};
+use digest_core::Sha256;
+use mem_plain::PlainMem;
+use rd_base::{Digest32, Memory, Tamper};
+use rv_step::Machine;
+use segment_replay::{committed_at, roots, roots_with_input, run_input_root};
+use state_commit::state_root_in;
+use std::alloc::Global;
+use std::sync::atomic::{AtomicU64, Ordering};
+use std::test::Fail;
+use std::thread::Threads;
+use toy_machine::{Counted, first_eight};
+
+/// xori x5, x5, 1; jal x0, -4: its register changes in each even step, and every fourth state is the same
+const TOGGLES: [u8; 8] = [0x93, 0xc2, 0x12, 0x00, 0x6f, 0xf0, 0xdf, 0xff];
+
+/// The run of an image of at most 64 bytes, which lies at 0x10000, with an input of at most 64 bytes, in a version, up to step 8. An
+/// `Err` is out of memory.
+fn run_in(
+    alloc: Global,
+    version: u8,
+    image: &[u8],
+    input: &[u8],
+    every: u32,
+    tamper: Tamper,
+) -> Result<Run, Memory>
+    requires version { (1 ≤ version) × (version ≤ 3) }
+    requires image { length image.now ≤ 64 }
+    requires input { length input.now ≤ 64 }
+    requires every { 0 < every }
+    ensures { IfOk result (λ r. AreChained sha256 r) }
+{
+    let mem = PlainMem::new(alloc).lay(0x1_0000, image)?;
+    let machine = Machine::new(alloc, version, mem, 0x1_0000, input)?;
+    record_run(alloc, Sha256, &machine, 8, every, tamper)
+}
+
+/// The roots of the steps 0 to 8 of a run, by two workers. An `Err` is out of memory.
+fn nine_roots<R: Threads + Sync>(rt: &R, alloc: Global, run: &Run) -> Result<Vec<Digest32>, Memory>
+    requires { AreChained sha256 run.now }
+{
+    roots(rt, alloc, Sha256, run, &[0, 1, 2, 3, 4, 5, 6, 7, 8], 2)
+}
+
+/// Whether the roots of a run begin with these eight bytes each, and each is that of the committed machine of its step and that of
+/// the machine's state from scratch.
+fn are_roots<R: Threads + Sync>(
+    rt: &R,
+    alloc: Global,
+    run: &Run,
+    wanted: &[u64; 9],
+) -> Result<bool, Memory>
+    requires { AreChained sha256 run.now }
+{
+    let found = nine_roots(rt, alloc, run)?;
+    if found.len() != 9 {
+        return Ok(false);
+    }
+    for (step, root) in found.iter().enumerate() {
+        let committed = committed_at(rt, alloc, Sha256, run, step as u64)?;
+        let machine = committed.machine();
+        let scratch = state_root_in(Sha256, machine.version, machine);
+        if committed.root() != *root
+            || scratch != *root
+            || first_eight(*root) != wanted[step.min(8)]
+        {
+            return Ok(false);
+        }
+    }
+    Ok(true)
+}
+
+/// The roots of SIX_STEPS in versions 2 and 3, by a program in Python: the machine and the roots of `checks/`, with the digest of
+/// registers from version 2 on, and that of the storage, in version 3, by
+///
+/// ```python
+///     def registers_digest(registers):
+///         return root(b'\7' + number(register, 4) for register in registers)
+///     def storage_digest(memory, given):
+///         padded = given + bytes(2**20 - len(given))
+///         tree = root(leaf_string(padded[32 * k : 32 * k + 32]) for k in range(2**15))
+///         return digest(b'\10' + memory + number(len(given), 4) + tree)
+///     def root(strings):
+///         level = [digest(string) for string in strings]
+///         while len(level) > 1:
+///             pairs = zip(level[0::2], level[1::2])
+///             level = [digest(node_string(left, right)) for left, right in pairs]
+///         return level[0]
+/// ```
+const SIX_IN_VERSION_2: [u64; 9] = [
+    0xd714_641a_2c07_c58a,
+    0x4b22_9aee_b4ba_e0d4,
+    0x3680_33c4_0f2d_edde,
+    0xd8a4_7d42_4f66_b389,
+    0xc568_e58b_8b98_871e,
+    0xc99c_c4f5_f7c6_51a4,
+    0xd984_0bc5_501e_218e,
+    0xd984_0bc5_501e_218e,
+    0xd984_0bc5_501e_218e,
+];
+
+const SIX_IN_VERSION_3: [u64; 9] = [
+    0xf971_b197_4980_a96f,
+    0x2721_c421_f5ac_5423,
+    0xc342_3389_44ad_d525,
+    0x732d_7a16_2b94_8922,
+    0x022d_bf00_72a4_92be,
+    0xf69d_d49d_1a6e_bb18,
+    0xdb4e_1ec4_213b_3bd6,
+    0xdb4e_1ec4_213b_3bd6,
+    0xdb4e_1ec4_213b_3bd6,
+];
+
+#[test]
+fn a_run_has_the_roots_of_its_version(rt: HostRuntime) -> Result<(), Fail> {
+    for every in [1, 3, 1024] {
+        let two = run_in(rt.alloc(), 2, &SIX_STEPS, b"", every, Tamper::Untouched)?;
+        assert!(rt; are_roots(&rt, rt.alloc(), &two, &SIX_IN_VERSION_2)?);
+        let three = run_in(rt.alloc(), 3, &SIX_STEPS, b"", every, Tamper::Untouched)?;
+        assert!(rt; are_roots(&rt, rt.alloc(), &three, &SIX_IN_VERSION_3)?);
+    }
+    Ok(())
+}
+
+/// addi x10, x0, 0; addi x17, x0, 2; ecall; addi x17, x0, 1; ecall; jal x0, 0: it puts out the input's first byte
+const READS_ITS_INPUT: [u8; 24] = [
+    0x13, 0x05, 0x00, 0x00, 0x93, 0x08, 0x20, 0x00, 0x73, 0x00, 0x00, 0x00, 0x93, 0x08, 0x10, 0x00,
+    0x73, 0x00, 0x00, 0x00, 0x6f, 0x00, 0x00, 0x00,
+];
+
+/// The roots of its states in version 3 with the input `A`, and those with 66 in register 10 from step 3 on, by the same program.
+const READS_A: [u64; 9] = [
+    0xd216_48c7_a4ed_18a9,
+    0xa04d_8514_82e7_15a1,
+    0x9890_3356_a8c5_9f72,
+    0xa507_273e_2a89_8dda,
+    0xd8b9_1f72_67b8_788d,
+    0xcfe4_d0f3_8192_3e9e,
+    0xcfe4_d0f3_8192_3e9e,
+    0xcfe4_d0f3_8192_3e9e,
+    0xcfe4_d0f3_8192_3e9e,
+];
+
+const READS_A_TAMPERED: [u64; 9] = [
+    0xd216_48c7_a4ed_18a9,
+    0xa04d_8514_82e7_15a1,
+    0x9890_3356_a8c5_9f72,
+    0xaf58_48f6_b675_c6bb,
+    0x3c01_cb33_fac7_9f15,
+    0x62c8_b920_4de4_4969,
+    0x62c8_b920_4de4_4969,
+    0x62c8_b920_4de4_4969,
+    0x62c8_b920_4de4_4969,
+];
+
+#[test]
+fn a_run_that_reads_its_input_has_the_roots_of_its_states(rt: HostRuntime) -> Result<(), Fail> {
+    let reads = &READS_ITS_INPUT;
+    for every in [1, 5] {
+        let plain = run_in(rt.alloc(), 3, reads, b"A", every, Tamper::Untouched)?;
+        assert!(rt; are_roots(&rt, rt.alloc(), &plain, &READS_A)?);
+        let tampered = run_in(rt.alloc(), 3, reads, b"A", every, register(3, 10, 66))?;
+        assert!(rt; are_roots(&rt, rt.alloc(), &tampered, &READS_A_TAMPERED)?);
+    }
+    Ok(())
+}
+
+/// Whether two of some roots are equal exactly where those of the same places are of others, and none is among the others.
+fn are_alike(some: &[Digest32], others: &[Digest32]) -> bool {
+    if some.len() != others.len() {
+        return false;
+    }
+    for (i, one) in some.iter().enumerate() {
+        for (j, two) in some.iter().enumerate() {
+            if (one == two) != (others[i] == others[j]) || *one == others[j] {
+                return false;
+            }
+        }
+    }
+    true
+}
+
+#[test]
+fn roots_of_versions_are_equal_for_the_same_steps_and_never_to_each_other(
+    rt: HostRuntime,
+) -> Result<(), Fail> {
+    for image in [&SIX_STEPS[..], &TOGGLES[..]] {
+        let first = run_in(rt.alloc(), 1, image, b"", 3, Tamper::Untouched)?;
+        let second = run_in(rt.alloc(), 2, image, b"", 3, Tamper::Untouched)?;
+        let third = run_in(rt.alloc(), 3, image, b"", 3, Tamper::Untouched)?;
+        let one = nine_roots(&rt, rt.alloc(), &first)?;
+        let two = nine_roots(&rt, rt.alloc(), &second)?;
+        let three = nine_roots(&rt, rt.alloc(), &third)?;
+        assert!(rt; are_alike(&one, &two) && are_alike(&one, &three) && are_alike(&two, &three));
+    }
+    Ok(())
+}
+
+/// How many digests the roots of some steps take, by one worker, and how many of them where the root of the input is given.
+fn digests_of<R: Threads + Sync>(
+    rt: &R,
+    alloc: Global,
+    run: &Run,
+    steps: &[u64],
+) -> Result<(u64, u64), Memory>
+    requires { AreChained sha256 run.now }
+{
+    let made = AtomicU64::new(0);
+    let counted = Counted {
+        of: Sha256,
+        made: &made,
+    };
+    roots(rt, alloc, counted, run, steps, 1)?;
+    let whole = made.load(Ordering::SeqCst);
+    let input = run_input_root(Sha256, run);
+    roots_with_input(rt, alloc, counted, run, input, steps, 1)?;
+    Ok((whole, made.load(Ordering::SeqCst).wrapping_sub(whole)))
+}
+
+/// How many digests more the root of a step of TOGGLES takes after that of another one.
+fn digests_between<R: Threads + Sync>(
+    rt: &R,
+    alloc: Global,
+    version: u8,
+    steps: [u64; 2],
+) -> Result<u64, Memory>
+    requires { (1 ≤ version) × (version ≤ 3) }
+{
+    let run = run_in(alloc, version, &TOGGLES, b"", 3, Tamper::Untouched)?;
+    let (first, _) = digests_of(rt, alloc, &run, &steps[..1])?;
+    let (both, _) = digests_of(rt, alloc, &run, &steps)?;
+    Ok(both.wrapping_sub(first))
+}
+
+/// Each root takes the digests of the control and the state string, and in version 3 that of the storage string. A changed register
+/// takes the digest of all of them in version 1, and else its leaf and the five nodes above it.
+#[test]
+fn a_root_after_one_changed_register_takes_its_path(rt: HostRuntime) -> Result<(), Fail> {
+    // the register changes in step 0, and not in step 1
+    for (version, changed, kept) in [(1, 3, 3), (2, 8, 2), (3, 9, 3)] {
+        let count = digests_between(&rt, rt.alloc(), version, [0, 1])?;
+        assert_eq!(rt; count, changed, "version {version}");
+        let count = digests_between(&rt, rt.alloc(), version, [1, 2])?;
+        assert_eq!(rt; count, kept, "version {version}");
+        // the same state again, four steps later
+        let count = digests_between(&rt, rt.alloc(), version, [1, 5])?;
+        assert_eq!(rt; count, kept, "version {version}");
+    }
+    Ok(())
+}
+
+/// An input of 33 bytes takes 16 digests for the nodes over zeros, two for its leaves, and 15 for the nodes above them.
+#[test]
+fn the_root_of_the_input_is_made_once_for_all_roots(rt: HostRuntime) -> Result<(), Fail> {
+    let input: [u8; 33] = [7; 33];
+    for (version, wanted) in [(2u8, 0), (3, 33)] {
+        let run = run_in(rt.alloc(), version, &TOGGLES, &input, 3, Tamper::Untouched)?;
+        for steps in [&[0u64][..], &[0, 1, 2, 3, 4, 5, 6, 7, 8, 8][..]] {
+            let (whole, rest) = digests_of(&rt, rt.alloc(), &run, steps)?;
+            assert_eq!(rt; whole.wrapping_sub(rest), wanted, "version {version}");
+        }
+    }
+    Ok(())
+}
