@@ -3,12 +3,11 @@ use Rattle.std.proofs.Common.{◌≡◌, ◌^◌, ◌≤◌, ◌<◌, ℕ, zero,
 use Rattle.rd_base.specs.declared.digest.Digest32.{Digest32}
 use Rattle.rd_base.specs.declared.answer.Answer.TheVariants as answer
 use Rattle.rv_step.specs.State.{State}
-use Rattle.state_commit.specs.StateRoot.{state_root}
 use Rattle.checkpoint_run.specs.TamperedRun.{tampered, run_from}
 use Rattle.checkpoint_run.specs.Recorded.{Recorded, state_of_step}
 use Rattle.bisect_game.specs.declared.question.Kind.{Kind}
 use Rattle.bisect_game.specs.declared.question.Kind.TheVariants as kind
-use Rattle.segment_replay.specs.Roots.{root_at, digests}
+use Rattle.segment_replay.specs.Roots.{own_root, root_at, digests}
 use Rattle.prover_run.specs.Growing.{OutputGrowsSlowly}
 use Rattle.bisect_game.specs.Bisection.{steps_asked}
 use Rattle.prover_run.specs.Plain.{plain, plain_root}
@@ -43,8 +42,8 @@ states_of p r first tamper = ap (λ t. run_from t r.first) tamper ∙ ap (run_fr
 pub roots_of_run : (digest : List ℕ → List ℕ) (p : Prover) (r : Recorded) → IsRunOf digest p r → root_of digest p ≡ root_at digest r
 unfolding root_of
 roots_of_run digest p r is =
-    ap (λ (run : ℕ → State). let f : ℕ → List ℕ = λ i. state_root digest (run (min i p.bound)) in f) (sym is.states)
-    ∙ ap (λ (bound : ℕ). let f : ℕ → List ℕ = λ i. state_root digest (state_of_step r (min i bound)) in f) (sym is.bound)
+    ap (λ (run : ℕ → State). let f : ℕ → List ℕ = λ i. own_root digest (run (min i p.bound)) in f) (sym is.states)
+    ∙ ap (λ (bound : ℕ). let f : ℕ → List ℕ = λ i. own_root digest (state_of_step r (min i bound)) in f) (sym is.bound)
 
 -- and so are the plain answers
 pub answers_of_run : (digest : List ℕ → List ℕ) (p : Prover) (r : Recorded) (k : Kind) → IsRunOf digest p r → plain digest (state_of_step r) r.bound k ≡ plain digest (run_of p) p.bound k
@@ -66,7 +65,7 @@ roots_of_digests digest p [] [] same = refl
 roots_of_digests digest p [] (r ∷ rs) same = absurd (cc)
 roots_of_digests digest p (i ∷ steps) [] same = absurd (cc)
 roots_of_digests digest p (i ∷ steps) (r ∷ rs) same =
-    let first : r.0 ≡ state_root digest (run_of p (min i p.bound)) = cc in
+    let first : r.0 ≡ own_root digest (run_of p (min i p.bound)) = cc in
     ap₂ (λ (x : Digest32) (xs : List Digest32). x ∷ xs) (λ j. record { 0 = first j }) (roots_of_digests digest p steps rs (cc))
 
 pub roots_answer : (digest : List ℕ → List ℕ) (p : Prover) (r : Recorded) (k : Kind) (lo hi parts : ℕ) (roots : List Digest32) → IsRunOf digest p r → k ≡ kind.Roots lo hi parts

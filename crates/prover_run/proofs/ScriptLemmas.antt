@@ -1,10 +1,11 @@
 -- What an untouched prover says, in the words of the machine's own run.
-use Rattle.std.proofs.Common.{◌≡◌, ℕ, ◌==◌, Bool, true, false, if◌then◌else◌, List, [], ◌∷◌, map, min, slice_index, slice_set, Some, refl, sym, ap, ap₂, ◌∙◌, arith}
+use Rattle.std.proofs.Common.{◌≡◌, ℕ, ◌+◌, ◌*◌, ◌/◌, ◌%◌, ◌≤◌, ◌==◌, ◌&&◌, Bool, true, false, cond, if◌then◌else◌, List, [], ◌∷◌, map, min, slice_index, slice_set, Some, None, refl, sym, ap, ap₂, ◌∙◌, arith}
 use Rattle.std.proofs.lemmas.Bool.Decides.{nat_tests}
 use Rattle.std.proofs.lemmas.List.{set-get_or}
 use Rattle.rd_base.specs.declared.proof.Proof.{Proof}
 use Rattle.rd_base.specs.declared.proof.StepProof.{StepProof}
-use Rattle.rd_base.specs.declared.proof.Proof.TheVariants.{V1}
+use Rattle.rd_base.specs.declared.proof.Proof.TheVariants.{V1, V2, V3}
+use Rattle.rd_base.specs.declared.opened.RegOpening.{RegOpening}
 use Rattle.rd_base.specs.declared.answer.Answer.{Answer}
 use Rattle.rd_base.specs.declared.tamper.Tamper.TheVariants.{Untouched}
 use Rattle.rd_base.specs.declared.script.Manner.TheVariants.{Forge, Noise}
@@ -16,9 +17,18 @@ use Rattle.bisect_game.specs.declared.question.Kind.TheVariants as kind
 use Rattle.bisect_game.specs.Bisection.{steps_asked}
 use Rattle.bisect_game.specs.declared.question.Question.{Question}
 use Rattle.rv_step.specs.Step.{state_at}
-use Rattle.open_proof.specs.PlainProof.{plain_proof}
+use Rattle.rd_base.specs.Status.{is_running}
+use Rattle.rv_decode.specs.Reading.{reading_of}
+use Rattle.mem_plain.specs.Contents.{Contents, chunk_at, number_at}
+use Rattle.mem_plain.specs.Page.{number_in}
+use Rattle.rv_step.specs.Alike.{named_at}
+use Rattle.rv_step.specs.Named.{named_by}
+use Rattle.open_proof.specs.Called.{fetched_in}
+use Rattle.open_proof.specs.OpenedChunk.{opening_at, fetched_at, fetch_of_state}
+use Rattle.proof_facts.specs.PlainProof.{register_opening, plain_proof, plain_proof_1, plain_proof_2, plain_proof_3}
+use Rattle.proof_facts.specs.Shown.{word_of_state}
 use Rattle.checkpoint_run.specs.TamperedRun.{run_at}
-use Rattle.prover_script.specs.Manners.{with_shown, with_forgery, with_roots, noise, asks_roots}
+use Rattle.prover_script.specs.Manners.{with_opened, with_shown, with_forgery, with_roots, noise, asks_roots}
 use Rattle.prover_run.specs.CaseScripts.{script_says}
 use Rattle.prover_run.specs.Plain.{plain, plain_root}
 
@@ -44,30 +54,86 @@ set-to-same false xs reg value holds = ap (slice_set xs reg) (sym holds) ∙ set
 kept-shown : (proof : StepProof) (reg value : ℕ) → slice_index proof.regs reg ≡ value → with_shown reg value (V1 proof) ≡ V1 proof
 kept-shown proof reg value holds = ap (λ (xs : List ℕ). V1 (record proof { regs = xs })) (set-to-same (reg == 0) proof.regs reg value holds)
 
--- and so it is where it is the plain one
-shown-same : (digest : List ℕ → List ℕ) (s : State) (reg value : ℕ) → slice_index s.regs reg ≡ value → with_shown reg value (V1 (plain_proof digest s)) ≡ V1 (plain_proof digest s)
-unfolding plain_proof
-shown-same digest s reg value holds = kept-shown (plain_proof digest s) reg value holds
+-- an opened register that shows what it holds is the same
+opened-same : (b : Bool) (o : RegOpening) (value : ℕ) → (b ≡ true → o.value ≡ value) → (if b then record o { value = value } else o) ≡ o
+opened-same true o value holds = let same = holds refl in λ i. record { value = sym same i; path = o.path }
+opened-same false o value holds = refl
+
+kept-opened : (digest : List ℕ → List ℕ) (xs : List ℕ) (reg value : ℕ) → slice_index xs reg ≡ value → (rs : List ℕ)
+    → with_opened reg value (map (register_opening digest xs) rs) rs ≡ map (register_opening digest xs) rs
+kept-opened digest xs reg value holds [] = refl
+kept-opened digest xs reg value holds (r ∷ rs) = ap₂ (λ (o : RegOpening) (os : List RegOpening). o ∷ os)
+    (opened-same (r == reg) (register_opening digest xs r) value (λ same. let e : r ≡ reg = grind (arith, nat_tests) in ap (slice_index xs) e ∙ holds))
+    (kept-opened digest xs reg value holds rs)
+
+-- a number that lies in one chunk
+abbrev pub LieInChunks : Type 0
+LieInChunks = (m : Contents) (index place width : ℕ) → place + width ≤ 32 → number_in (chunk_at m index) place width ≡ number_at m (32 * index + place) width
+
+abbrev pub NameRegisters : Type 0
+NameRegisters = (digest : List ℕ → List ℕ) (s : State) → named_by (word_of_state digest s) ≡ named_at s
+
+-- the instruction that a state's plain opening shows is the one that the state fetches
+word-shown : LieInChunks → (digest : List ℕ → List ℕ) (s : State) → fetched_in (opening_at digest s.memory (fetch_of_state digest s)) (fetch_of_state digest s) ≡ word_of_state digest s
+word-shown lie digest s = go (is_running s.status) (s.pc % 4 == 0) refl
+  where
+    go : (r b : Bool) → (s.pc % 4 == 0) ≡ b → fetched_in (opening_at digest s.memory (cond (r && b) (Some s.pc) None)) (cond (r && b) (Some s.pc) None) ≡ fetched_at s.memory (cond (r && b) (Some s.pc) None)
+    go true true test =
+        let even : s.pc % 4 ≡ 0 = grind (arith, nat_tests) in
+        let whole : 32 * (s.pc / 32) + s.pc % 32 ≡ s.pc = omega arith in
+        ap reading_of (lie s.memory (s.pc / 32) (s.pc % 32) 4 (omega arith) ∙ ap (λ (a : ℕ). number_at s.memory a 4) whole)
+    go true false test = refl
+    go false b test = refl
+
+-- the plain proof of a state with a register that shows what it holds, in each version
+module _ (lie : LieInChunks) (name : NameRegisters) (digest : List ℕ → List ℕ) (s : State) (reg value : ℕ) (holds : slice_index s.regs reg ≡ value) where
+  abbrev shown : List ℕ
+  shown = named_by (fetched_in (opening_at digest s.memory (fetch_of_state digest s)) (fetch_of_state digest s))
+
+  named-same : with_opened reg value (map (register_opening digest s.regs) (named_at s)) shown ≡ map (register_opening digest s.regs) (named_at s)
+  named-same =
+      ap (λ (rs : List ℕ). with_opened reg value (map (register_opening digest s.regs) (named_at s)) rs) (ap named_by (word-shown lie digest s) ∙ name digest s)
+      ∙ kept-opened digest s.regs reg value holds (named_at s)
+
+  same-2 : with_shown reg value (V2 (plain_proof_2 digest s)) ≡ V2 (plain_proof_2 digest s)
+  same-2 = ap (λ (os : List RegOpening). V2 (record (plain_proof_2 digest s) { named = os })) named-same
+
+  same-3 : with_shown reg value (V3 (plain_proof_3 digest s)) ≡ V3 (plain_proof_3 digest s)
+  same-3 = ap (λ (os : List RegOpening). V3 (record (plain_proof_3 digest s) { named = os })) named-same
+
+  abbrev by_version : Bool → Bool → Proof
+  by_version one three = if one then V1 (plain_proof_1 digest s) else if three then V3 (plain_proof_3 digest s) else V2 (plain_proof_2 digest s)
+
+  by-version-same : (one three : Bool) → with_shown reg value (by_version one three) ≡ by_version one three
+  by-version-same true three = kept-shown (plain_proof_1 digest s) reg value holds
+  by-version-same false true = same-3
+  by-version-same false false = same-2
+
+  shown-same : with_shown reg value (plain_proof digest s) ≡ plain_proof digest s
+  unfolding plain_proof
+  shown-same = by-version-same (s.version == 1) (s.version == 3)
 
 at-its-step : (b : Bool) (forged proof : Proof) → (b ≡ true → forged ≡ proof) → answer.Step (if b then forged else proof) ≡ answer.Step proof
 at-its-step true forged proof same = ap answer.Step (same refl)
 at-its-step false forged proof same = refl
 
-forged-same : (digest : List ℕ → List ℕ) (run : ℕ → State) (bound step reg value : ℕ) (k : Kind) → (k ≡ kind.Proof step → slice_index (run (min step bound)).regs reg ≡ value)
-    → with_forgery step reg value k (plain digest run bound k) ≡ plain digest run bound k
-forged-same digest run bound step reg value kind.Claim holds = refl
-forged-same digest run bound step reg value (kind.Root i) holds = refl
-forged-same digest run bound step reg value (kind.Roots lo hi parts) holds = refl
-forged-same digest run bound step reg value (kind.Proof i) holds =
-    at-its-step (i == step) (with_shown reg value (V1 (plain_proof digest (run (min i bound))))) (V1 (plain_proof digest (run (min i bound))))
-    (λ same. let e : i ≡ step = grind (arith, nat_tests) in shown-same digest (run (min i bound)) reg value (ap (λ (j : ℕ). slice_index (run (min j bound)).regs reg) e ∙ holds (ap kind.Proof e)))
+forged-same : LieInChunks → NameRegisters → (digest : List ℕ → List ℕ) (run : ℕ → State) (bound step reg value : ℕ) (k : Kind)
+    → (k ≡ kind.Proof step → slice_index (run (min step bound)).regs reg ≡ value) → with_forgery step reg value k (plain digest run bound k) ≡ plain digest run bound k
+forged-same lie name digest run bound step reg value kind.Claim holds = refl
+forged-same lie name digest run bound step reg value (kind.Root i) holds = refl
+forged-same lie name digest run bound step reg value (kind.Roots lo hi parts) holds = refl
+forged-same lie name digest run bound step reg value (kind.Proof i) holds =
+    at-its-step (i == step) (with_shown reg value (plain_proof digest (run (min i bound)))) (plain_proof digest (run (min i bound)))
+    (λ same.
+    let e : i ≡ step = grind (arith, nat_tests) in
+    shown-same lie name digest (run (min i bound)) reg value (ap (λ (j : ℕ). slice_index (run (min j bound)).regs reg) e ∙ holds (ap kind.Proof e)))
 
-pub forged_says : (digest : List ℕ → List ℕ) (start : State) → ((i : ℕ) → run_at Untouched start i ≡ state_at start i) → (bound step reg value : ℕ) (q : Question) (passes : ℕ)
+pub forged_says : LieInChunks → NameRegisters → (digest : List ℕ → List ℕ) (start : State) → ((i : ℕ) → run_at Untouched start i ≡ state_at start i) → (bound step reg value : ℕ) (q : Question) (passes : ℕ)
     → (q.kind ≡ kind.Proof step → slice_index (state_at start (min step bound)).regs reg ≡ value)
     → script_says digest start bound (record { tamper = Untouched; manner = Forge step reg value }) q passes ≡ Some (plain digest (state_at start) bound q.kind)
-forged_says digest start untouched bound step reg value q passes holds =
+forged_says lie name digest start untouched bound step reg value q passes holds =
     ap (λ (a : Answer). Some a)
-    (forged-same digest (run_at Untouched start) bound step reg value q.kind (λ asked. ap (λ (s : State). slice_index s.regs reg) (untouched (min step bound)) ∙ holds asked)
+    (forged-same lie name digest (run_at Untouched start) bound step reg value q.kind (λ asked. ap (λ (s : State). slice_index s.regs reg) (untouched (min step bound)) ∙ holds asked)
     ∙ same_plain digest (run_at Untouched start) (state_at start) untouched bound q.kind)
 
 -- where no root is asked, noise changes nothing

@@ -24,3 +24,7 @@ asked_after None step = step ∷ []
 -- the same, of a run up to a bound
 unfoldable pub asked_with : ℕ → ℕ → List ℕ
 asked_with bound step = asked_after (interval_of 32 0 bound step) step
+
+-- the steps that are asked where so many workers compute the roots: one worker computes none but the one that is asked
+unfoldable pub asked_by : ℕ → ℕ → ℕ → List ℕ
+asked_by workers bound step = if nat_le workers 1 then step ∷ [] else asked_with bound step

@@ -10,10 +10,10 @@ use Rattle.rd_base.specs.declared.tamper.Tamper.{Tamper}
 use Rattle.rd_base.specs.contracts.tamper.Tamper as tampers
 use Rattle.rv_step.specs.State.{State, IsChained}
 use Rattle.rv_step.specs.declared.machine.Machine.{Machine}
-use Rattle.state_commit.specs.StateRoot.{state_root}
 use Rattle.checkpoint_run.specs.TamperedRun.{run_at}
 use Rattle.rv_step.specs.StateCode.{state_code}
 use Rattle.checkpoint_run.specs.Recorded.{Recorded, AreChained, state_of_step}
+use Rattle.segment_replay.specs.Roots.{own_root}
 use Rattle.bisect_game.specs.declared.question.Question.{Question}
 use Rattle.prover_run.specs.Plain.{plain_says}
 
@@ -42,7 +42,7 @@ prover_says digest p = plain_says digest (run_of p) p.bound
 
 -- the root of its state of a step; above the bound the last state stands for it
 unfoldable pub root_of : (List ℕ → List ℕ) → Prover → ℕ → List ℕ
-root_of digest p i = state_root digest (run_of p (min i p.bound))
+root_of digest p i = own_root digest (run_of p (min i p.bound))
 
 -- a recorded run is the prover's, and its checkpoints are chained by this digest
 pub record IsRunOf (digest : List ℕ → List ℕ) (p : Prover) (r : Recorded) : Type 0 where

@@ -15,6 +15,8 @@ ghost use Rattle.prover_run.specs.CaseScripts.{script_says, case_says};
 ghost use Rattle.prover_run.specs.Growing.{OutputGrowsSlowly};
 
 use checkpoint_run::tampered_runs;
+use mem_plain::numbers_lie_in_chunks;
+use proof_facts::states_name_registers;
 
 /// A run puts out one byte a step at most, whatever the tamper.
 pub fn outputs_grow_slowly()
@@ -51,6 +53,8 @@ pub fn harmless_manners()
         script_says digest start bound (record { tamper = tamper; manner = Tape entries }) q passes ≡ written entries q.qid }
 {
     tampered_runs();
+    numbers_lie_in_chunks();
+    states_name_registers();
 }
 
 /// Each prover of a case stays with its answer: once it has given it, it gives it after more passes too.

@@ -1,15 +1,16 @@
 //! Provers that answer by their run.
 //!
 //! The layers above may rely on this: a `RunAnswerer` gives the plain answers of its run (`specs/Plain.antt`), the
-//! machine's own with what a tamper does to it, and no call changes what it answers, not even one that runs out of
-//! memory; `CaseProvers` tells what each prover of a case says, by its script (`specs/CaseScripts.antt`), and where it
-//! waits; `answerers_of` makes the answerers that say so. What an untouched script says in the words of the sequential run
-//! is in `laws`, and that each prover stays with its answer.
+//! machine's own with what a tamper does to it, in the version of the commitment that the machine has, and no call changes
+//! what it answers, not even one that runs out of memory; `CaseProvers` tells what each prover of a case says, by its
+//! script (`specs/CaseScripts.antt`), and where it waits; `answerers_of` makes the answerers that say so. What an untouched
+//! script says in the words of the sequential run is in `laws`, and that each prover stays with its answer.
 //!
-//! Which roots are asked of a run in one go, and in which order, says `specs/Middles.antt`; no answer depends on it. They are
-//! asked in ascending order, so that one tree of memory is moved on from step to step. That a run is recorded once and each
-//! root is computed once is read in `prover` and `answering`, and not proved. Read `specs/Plain.antt` first, then `prover`,
-//! then `provers`.
+//! Which roots are asked of a run in one go, and in which order, says `specs/Middles.antt`; no answer depends on it. One worker makes
+//! the root alone that is asked, from the one before, as the run is kept with its cursor (`KeptRun`). Several workers make those of
+//! the next rounds too, in ascending order. That a run is recorded once and each root is made once is read in `prover` and
+//! `answering`, and not proved; tests in `test_provers` count the digests. Read `specs/Plain.antt` first, then `prover`, then
+//! `provers`.
 #![tactic(auto)]
 
 mod answerers;

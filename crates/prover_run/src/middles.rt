@@ -98,3 +98,17 @@ pub fn asked_with(alloc: Global, bound: u64, step: u64) -> Result<Asked, Memory>
     let interval = interval_of(MOST_ROUNDS, 0, bound, step);
     asked_after(alloc, interval, step)
 }
+
+/// The steps whose roots are asked of a run in one go where so many workers compute them, and where the one that is asked stands:
+/// `asked_with` for several, and for one that step alone. An `Err` is out of memory.
+#[tactic(auto, unfolding(crate::specs::Middles::asked_by))]
+pub fn asked_by(alloc: Global, workers: u32, bound: u64, step: u64) -> Result<Asked, Memory>
+    ensures value { IfOk result (λ a. a.steps.items ≡ asked.asked_by workers bound step) }
+    ensures inside { IfOk result (λ a. a.place < length a.steps.items) }
+    ensures place { IfOk result (λ a. slice_index a.steps.items a.place ≡ step) }
+{
+    if workers <= 1 {
+        return asked_after(alloc, None, step);
+    }
+    asked_with(alloc, bound, step)
+}

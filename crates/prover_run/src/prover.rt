@@ -6,11 +6,10 @@ ghost use Rattle.prover_run.specs.Prover.{IsRunOf};
 use crate::answering::{RunReader, plain_answer};
 use crate::laws::outputs_grow_slowly;
 use bisect_game::{Answerer, Question};
-use checkpoint_run::{Run, record_run};
-use digest_core::Digester;
+use checkpoint_run::record_run;
 use rd_base::{Answer, Digest32, Memory, Tamper};
 use rv_step::Machine;
-use segment_replay::Replays;
+use segment_replay::{KeptRun, Replays};
 use std::alloc::Global;
 use std::collections::BTreeMap;
 use std::marker::Model;
@@ -28,7 +27,8 @@ pub struct RunAnswerer<D: Replays> {
     every: u32,
     tamper: Tamper,
     workers: u32,
-    run: Option<Run>,
+    /// The run, with what its last root was made of.
+    run: Option<KeptRun<D>>,
     /// The roots that were asked for so far, and those that were asked with them, by their steps.
     roots: BTreeMap<u64, Digest32>,
 }
@@ -82,15 +82,15 @@ impl<D: Replays> RunAnswerer<D> {
 }
 
 /// The run at hand, or else the recorded run of a prover. An `Err` is out of memory.
-fn recorded<D: Digester>(
+fn recorded<D: Replays>(
     alloc: Global,
     d: D,
     start: &Machine,
     bound: u64,
     every: u32,
     tamper: Tamper,
-    at_hand: Option<Run>,
-) -> Result<Run, Memory>
+    at_hand: Option<KeptRun<D>>,
+) -> Result<KeptRun<D>, Memory>
     requires chained { IsChained D.digest_of start.now }
     requires every { 0 < every }
     requires recorded { IfSome at_hand (IsRunOf D.digest_of (record { start = state_of start.now; tamper = tamper; bound = bound })) }
@@ -98,7 +98,10 @@ fn recorded<D: Digester>(
 {
     match at_hand {
         Some(run) => Ok(run),
-        None => record_run(alloc, d, start, bound, every, tamper),
+        None => {
+            let run = record_run(alloc, d, start, bound, every, tamper)?;
+            Ok(KeptRun::new(d, run))
+        }
     }
 }
 
@@ -114,7 +117,7 @@ impl<D: Replays> Answerer for RunAnswerer<D> {
         _passes: u32,
     ) -> Result<Option<Answer>, Memory> {
         outputs_grow_slowly();
-        let run = recorded(
+        let mut run = recorded(
             self.alloc,
             self.d,
             &self.start,
@@ -126,10 +129,9 @@ impl<D: Replays> Answerer for RunAnswerer<D> {
         let reader = RunReader {
             alloc: self.alloc,
             d: self.d,
-            run: &run,
             workers: self.workers,
         };
-        let answer = plain_answer(rt, &reader, &mut self.roots, question.kind);
+        let answer = plain_answer(rt, &reader, &mut run, &mut self.roots, question.kind);
         self.run = Some(run);
         Ok(Some(answer?))
     }

@@ -2,6 +2,7 @@
 use Rattle.std.specs.Prelude.{◌≡◌, ℕ, ◌≤◌, ◌==◌, ◌&&◌, Bool, true, false, List, [], ◌∷◌, map, Option, Some, None, option_map, is_none, nat_lt, nat_le, if◌then◌else◌}
 use Rattle.rd_base.specs.Regs.{with_register}
 use Rattle.rd_base.specs.declared.digest.Digest32.{Digest32}
+use Rattle.rd_base.specs.declared.opened.RegOpening.{RegOpening}
 use Rattle.rd_base.specs.declared.proof.Proof.{Proof}
 use Rattle.rd_base.specs.declared.proof.Proof.TheVariants.{V1, V2, V3}
 use Rattle.rd_base.specs.declared.answer.Qid.{Qid}
@@ -14,6 +15,7 @@ use Rattle.digest_core.specs.Text.{noise_text}
 use Rattle.bisect_game.specs.declared.question.Kind.{Kind}
 use Rattle.bisect_game.specs.declared.question.Kind.TheVariants as kind
 use Rattle.bisect_game.specs.declared.question.Question.{Question}
+use Rattle.proof_facts.specs.Facts.{facts_of, named_called}
 
 -- what one prover answers to a question after so many passes on it; None is a pass
 abbrev pub Behaviour : Type 0
@@ -24,11 +26,18 @@ abbrev pub with_output : List ℕ → Kind → Answer → Answer
 with_output bytes kind.Claim (answer.Claim claim) = answer.Claim (record claim { output = bytes })
 with_output bytes k a = a
 
--- a proof with another value in a register, where it shows that register: one row for each commitment version
+-- opened registers with another value in one, where it is among them: each opening is that of the register that is named at its
+-- place, and one at whose place none is named stays
+abbrev pub with_opened : ℕ → ℕ → List RegOpening → List ℕ → List RegOpening
+with_opened reg value (o ∷ os) (r ∷ rs) = (if r == reg then record o { value = value } else o) ∷ with_opened reg value os rs
+with_opened reg value os rs = os
+
+-- a proof with another value in a register, where it shows that register: one row for each commitment version. From version 2 on it
+-- shows the registers that its fetched instruction names
 abbrev pub with_shown : ℕ → ℕ → Proof → Proof
 with_shown reg value (V1 proof) = V1 (record proof { regs = with_register proof.regs reg value })
-with_shown reg value (V2 proof) = V2 proof
-with_shown reg value (V3 proof) = V3 proof
+with_shown reg value (V2 proof) = V2 (record proof { named = with_opened reg value proof.named (named_called (facts_of (V2 proof))) })
+with_shown reg value (V3 proof) = V3 (record proof { named = with_opened reg value proof.named (named_called (facts_of (V3 proof))) })
 
 -- a proof that answers the question for this step, with another value in a register; any other answer stays
 abbrev pub with_forgery : ℕ → ℕ → ℕ → Kind → Answer → Answer

@@ -1,11 +1,15 @@
 //! What manners make of an answer.
-ghost use Rattle.std.specs.Prelude.{◌≡◌, IfOk, map};
+ghost use Rattle.std.specs.Prelude.{◌≡◌, ◌≤◌, ◌+◌, ◌++◌, IfOk, length, map};
+ghost use Rattle.proof_facts.specs.Facts as facts;
+ghost use Rattle.prover_script.specs.Manners as manners;
 ghost use Rattle.prover_script.specs.Manners.{with_output, with_shown, with_forgery, noise, with_roots};
 
 use bisect_game::Kind;
 use digest_core::{Digester, noise_text};
+use proof_facts::{Names, called_by, facts_of};
 use rd_base::{
-    Answer, Boxed, Claim, ClaimOutput, Digest32, Memory, Proof, Qid, RegisterNumber, RootList,
+    Answer, Boxed, Claim, ClaimOutput, Digest32, Memory, Proof, Qid, RegOpening, RegOpenings,
+    RegisterNumber, RootList,
 };
 use std::alloc::Global;
 
@@ -29,18 +33,71 @@ pub fn with_output(
     }
 }
 
+/// Puts opened registers behind others, at most three altogether, with another value in the register `reg`, where it is named at the
+/// place of one.
+fn put_opened(reg: u8, value: u32, opened: &[RegOpening], names: &[u8], altered: &mut RegOpenings)
+    requires { length altered.old + length opened.now ≤ 3 }
+    ensures { altered.new ≡ altered.old ++ manners.with_opened reg value opened.now names.now }
+{
+    match opened {
+        [] => {}
+        [opening, others @ ..] => match names {
+            [] => {
+                altered.push(*opening);
+                put_opened(reg, value, others, names, altered);
+            }
+            [name, more @ ..] => {
+                altered.push(if *name == reg {
+                    RegOpening {
+                        value,
+                        path: opening.path,
+                    }
+                } else {
+                    *opening
+                });
+                put_opened(reg, value, others, more, altered);
+            }
+        },
+    }
+}
+
+/// Opened registers with another value in the register `reg`, where it is named at the place of one.
+fn with_opened(reg: u8, value: u32, opened: &RegOpenings, names: &[u8]) -> RegOpenings
+    ensures { result ≡ manners.with_opened reg value opened.now names.now }
+{
+    let mut altered = RegOpenings::new();
+    put_opened(reg, value, opened.as_slice(), names, &mut altered);
+    altered
+}
+
+/// The registers that the instruction fetched by a proof names.
+fn named_in(proof: &Proof) -> Names
+    ensures { result ≡ facts.named_called (facts.facts_of proof.now) }
+{
+    called_by(&facts_of(proof)).names
+}
+
 /// A proof with another value in a register, where it shows that register. It takes no memory.
 fn with_shown(reg: RegisterNumber, value: u32, proof: &Proof) -> Proof
     ensures { result ≡ with_shown reg value proof.now }
 {
+    let names = named_in(proof);
     match proof {
         Proof::V1(proof) => {
             let mut shown = *proof;
             shown.regs.set(reg.get(), value);
             Proof::V1(shown)
         }
-        Proof::V2(proof) => Proof::V2(proof.copy()),
-        Proof::V3(proof) => Proof::V3(proof.copy()),
+        Proof::V2(proof) => {
+            let mut shown = proof.copy();
+            shown.named = with_opened(reg.get(), value, &proof.named, names.as_slice());
+            Proof::V2(shown)
+        }
+        Proof::V3(proof) => {
+            let mut shown = proof.copy();
+            shown.named = with_opened(reg.get(), value, &proof.named, names.as_slice());
+            Proof::V3(shown)
+        }
     }
 }
 

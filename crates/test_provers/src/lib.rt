@@ -4,6 +4,8 @@
 #![tactic(auto)]
 
 #[cfg(test)]
+mod plain_answers_test;
+#[cfg(test)]
 mod prover_run_test;
 #[cfg(test)]
 mod prover_script_test;

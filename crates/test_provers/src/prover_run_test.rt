@@ -3,21 +3,25 @@ ghost use Rattle.std.specs.Prelude.{◌≡◌, ◌≤◌, ℕ, [], List, length,
 ghost use Rattle.rv_step.specs.State.{IsChained};
 
 use bisect_game::{Answerer, Kind, Provers, Question};
-use digest_core::{Digester, Sha256, registers_text};
+use checkpoint_run::Run;
+use digest_core::{Digester, Sha256, leaf_text, register_text, registers_text, storage_text};
 use mem_plain::PlainMem;
-use open_proof::climb;
+use merkle_nodes::climb;
 use out_chain::{ClaimCheck, check_claim, parts_root, root_of_claim};
 use prover_run::{Asked, CaseProvers, RunAnswerer, answerers_of, asked_with};
 use prover_script::Scripted;
 use rd_base::{
-    Answer, ClaimOutput, Digest32, FirstSilentRound, Manner, Memory, PassCount, Proof, Qid, Script,
-    Tamper, Tape, TapeAnswer,
+    Answer, ClaimOutput, Digest32, FirstSilentRound, Manner, Memory, Opening, PassCount, Proof,
+    Qid, RegOpening, Script, Tamper, Tape, TapeAnswer,
 };
 use rv_step::Machine;
+use segment_replay::{KeptRun, Replays, committed_at, roots, roots_with_input};
+use state_commit::Committed;
 use std::alloc::Global;
+use std::sync::atomic::{AtomicU64, Ordering};
 use std::test::Fail;
 use std::thread::Threads;
-use toy_machine::first_eight;
+use toy_machine::{Counted, first_eight};
 
 /// A bound, a step, the steps that are asked with it, and where it stands among them.
 type AskedRow = (u64, u64, &'static [u64], usize);
@@ -64,13 +68,19 @@ const EIGHT_STEPS: [u8; 32] = [
     0x13, 0x55, 0x85, 0x01, 0x93, 0x08, 0x10, 0x00, 0x73, 0x00, 0x00, 0x00, 0x03, 0xa5, 0x12, 0x00,
 ];
 
-/// A machine at the start of these instructions, which lie at 0x10000.
-fn eight_steps(alloc: Global) -> Result<Machine, Memory>
+/// A machine at the start of these instructions, which lie at 0x10000, in version 2 or 3 of the commitment, and in version 1 for any
+/// other number.
+fn eight_steps(alloc: Global, version: u8) -> Result<Machine, Memory>
     ensures chained { IfOk result (λ m. (digest : List ℕ → List ℕ) → IsChained digest m) }
     ensures silent { IfOk result (λ m. m.output.items ≡ []) }
 {
     let mem = PlainMem::new(alloc).lay(0x1_0000, &EIGHT_STEPS)?;
-    Machine::new(alloc, 1, mem, 0x1_0000, &[])
+    let version = if version == 2 || version == 3 {
+        version
+    } else {
+        1
+    };
+    Machine::new(alloc, version, mem, 0x1_0000, &[])
 }
 
 /// The question of this kind in a round.
@@ -81,8 +91,29 @@ fn asked(round: u32, kind: Kind) -> Question {
     }
 }
 
+/// How the root begins of the state whose parts a proof has.
+fn root_of_parts(proof: &Proof) -> u64 {
+    let root = match proof {
+        Proof::V1(parts) => {
+            let regs = Sha256.digest(registers_text(&parts.regs).as_slice());
+            parts_root(Sha256, parts.mem, regs, &parts.ctl)
+        }
+        Proof::V2(parts) => parts_root(Sha256, parts.mem, parts.regs, &parts.ctl),
+        Proof::V3(parts) => {
+            let text = storage_text(&parts.mem, parts.input_len, &parts.input_root);
+            parts_root(
+                Sha256,
+                Sha256.digest(text.as_slice()),
+                parts.regs,
+                &parts.ctl,
+            )
+        }
+    };
+    first_eight(root)
+}
+
 /// How the root begins that an answer stands for: that of the claimed state, the root itself, or that of the state whose
-/// parts a proof of version 1 has. 0 where a claim doesn't agree with itself, and of any other answer.
+/// parts a proof has. 0 where a claim doesn't agree with itself, and of several roots.
 fn root_in(answer: &Answer) -> u64 {
     match answer {
         Answer::Root(root) => first_eight(*root),
@@ -90,24 +121,18 @@ fn root_in(answer: &Answer) -> u64 {
             ClaimCheck::Sound => first_eight(root_of_claim(Sha256, claim)),
             _ => 0,
         },
-        Answer::Step(proof) => match proof.get() {
-            Proof::V1(parts) => {
-                let regs = Sha256.digest(registers_text(&parts.regs).as_slice());
-                first_eight(parts_root(Sha256, parts.mem, regs, &parts.ctl))
-            }
-            Proof::V2(_) | Proof::V3(_) => 0,
-        },
+        Answer::Step(proof) => root_of_parts(proof.get()),
         Answer::Roots(_) => 0,
     }
 }
 
-/// A tamper; how the roots of the steps 0, 3, 4 and 8 begin, as in the tests of `segment_replay`; the byte at 0x20003 in step
-/// 3, and the last output.
-type Row = (Tamper, [u64; 4], u8, &'static [u8]);
+/// A version and a tamper; how the roots of the steps 0, 3, 4 and 8 begin; the byte at 0x20003 in step 3, and the last output.
+type Row = (u8, Tamper, [u64; 4], u8, &'static [u8]);
 
 /// The rows of a run without a tamper, with a flipped byte, and with an early end.
-const ROWS: [Row; 3] = [
+const ROWS: [Row; 7] = [
     (
+        1,
         Tamper::Untouched,
         [
             0x8d82_837f_5857_b213,
@@ -119,6 +144,7 @@ const ROWS: [Row; 3] = [
         &[0x7a],
     ),
     (
+        1,
         Tamper::Flip {
             step: 3,
             addr: 0x2_0003,
@@ -134,6 +160,7 @@ const ROWS: [Row; 3] = [
         &[0x85],
     ),
     (
+        1,
         Tamper::Early { steps: 3 },
         [
             0x8d82_837f_5857_b213,
@@ -144,24 +171,112 @@ const ROWS: [Row; 3] = [
         0x7a,
         &[],
     ),
+    (
+        2,
+        Tamper::Untouched,
+        [
+            0x1d36_7f5e_0f28_dc79,
+            0x7eb0_5187_b9f5_dd96,
+            0x1322_7f76_7e6a_2a1e,
+            0x7a26_ece6_2c7e_e261,
+        ],
+        0x7a,
+        &[0x7a],
+    ),
+    (
+        2,
+        Tamper::Flip {
+            step: 3,
+            addr: 0x2_0003,
+            mask: 0xff,
+        },
+        [
+            0x1d36_7f5e_0f28_dc79,
+            0x2bd4_44ac_b1ac_51df,
+            0xf2cb_252e_a6e9_932d,
+            0xfa82_a2ef_1f5f_7791,
+        ],
+        0x85,
+        &[0x85],
+    ),
+    (
+        3,
+        Tamper::Untouched,
+        [
+            0x653f_c057_0c36_9493,
+            0x79b2_cf15_a27a_2231,
+            0x5aad_9e37_4a70_83cd,
+            0xc82f_3d3f_1476_3045,
+        ],
+        0x7a,
+        &[0x7a],
+    ),
+    (
+        3,
+        Tamper::Flip {
+            step: 3,
+            addr: 0x2_0003,
+            mask: 0xff,
+        },
+        [
+            0x653f_c057_0c36_9493,
+            0xef77_5d55_bfee_62ff,
+            0xffc7_f4f9_c570_b5ec,
+            0x6cfa_a138_2512_dd22,
+        ],
+        0x85,
+        &[0x85],
+    ),
 ];
 
-/// Whether a proof of step 3 opens the chunk of its word and the chunk that it loads from, whose fourth byte is this one.
-fn opens_both(proof: &Proof, byte: u8) -> bool {
-    let Proof::V1(proof) = proof else {
-        return false;
-    };
-    match (&proof.fetch, &proof.operand) {
-        (Some(fetch), Some(operand)) => climb(Sha256, 0x800, fetch.chunk, &fetch.path) == proof.mem
-            && climb(Sha256, 0x1000, operand.chunk, &operand.path) == proof.mem
+/// Whether the chunk of the word of step 3 is opened, and the chunk that it loads from, whose fourth byte is this one.
+fn opens_chunks(
+    fetch: &Option<Opening>,
+    operand: &Option<Opening>,
+    root: Digest32,
+    byte: u8,
+) -> bool {
+    match (fetch, operand) {
+        (Some(fetch), Some(operand)) => climb(
+            Sha256,
+            0x800,
+            &leaf_text(&fetch.chunk),
+            &fetch.path.0,
+        ) == root
+            && climb(Sha256, 0x1000, &leaf_text(&operand.chunk), &operand.path.0) == root
             && operand.chunk[3] == byte,
         _ => false,
     }
 }
 
-/// A prover of the eight steps, whose run has a checkpoint at every third.
-fn prover_with(alloc: Global, tamper: Tamper) -> Result<RunAnswerer<Sha256>, Memory> {
-    let machine = eight_steps(alloc)?;
+/// Whether a register holds this, and its path leads to this root.
+fn is_register(opened: &RegOpening, reg: u32, value: u32, root: Digest32) -> bool {
+    opened.value == value && climb(Sha256, reg, &register_text(value), &opened.path.0) == root
+}
+
+/// Whether the registers that step 3 names are opened: `x5`, from which it has its address, and `x10`, which it writes.
+fn opens_registers(named: &[RegOpening], root: Digest32) -> bool {
+    match named {
+        [first, last] => is_register(first, 5, 0x2_0000, root) && is_register(last, 10, 0, root),
+        _ => false,
+    }
+}
+
+/// Whether a proof of step 3 opens both chunks, and in versions 2 and 3 both registers.
+fn opens_all(proof: &Proof, byte: u8) -> bool {
+    match proof {
+        Proof::V1(proof) => opens_chunks(&proof.fetch, &proof.operand, proof.mem, byte),
+        Proof::V2(proof) => opens_chunks(&proof.fetch, &proof.operand, proof.mem, byte)
+            && opens_registers(proof.named.as_slice(), proof.regs),
+        Proof::V3(proof) => opens_chunks(&proof.fetch, &proof.operand, proof.mem, byte)
+            && opens_registers(proof.named.as_slice(), proof.regs)
+            && proof.input.is_none(),
+    }
+}
+
+/// A prover of the eight steps in a version, whose run has a checkpoint at every third.
+fn prover_with(alloc: Global, version: u8, tamper: Tamper) -> Result<RunAnswerer<Sha256>, Memory> {
+    let machine = eight_steps(alloc, version)?;
     RunAnswerer::new(alloc, Sha256, &machine, 8, 3, tamper, 2)
 }
 
@@ -183,7 +298,7 @@ fn is_answered<R: Threads + Sync>(
     }
     match (kind, &answer) {
         (Kind::Claim, Some(Answer::Claim(claim))) => Ok(claim.output.as_slice() == output),
-        (Kind::Proof(3), Some(Answer::Step(proof))) => Ok(opens_both(proof.get(), byte)),
+        (Kind::Proof(3), Some(Answer::Step(proof))) => Ok(opens_all(proof.get(), byte)),
         (Kind::Root(_), Some(Answer::Root(_))) => Ok(true),
         (Kind::Proof(_), Some(Answer::Step(_))) => Ok(true),
         _ => Ok(false),
@@ -203,8 +318,8 @@ const QUESTIONS: [(Kind, usize); 7] = [
 
 #[test]
 fn an_answerer_gives_the_answers_of_its_run(rt: HostRuntime) -> Result<(), Fail> {
-    for (tamper, roots, byte, output) in ROWS {
-        let mut prover = prover_with(rt.alloc(), tamper)?;
+    for (version, tamper, roots, byte, output) in ROWS {
+        let mut prover = prover_with(rt.alloc(), version, tamper)?;
         for (kind, place) in QUESTIONS {
             let root = roots[place.min(3)];
             assert!(rt; is_answered(&rt, &mut prover, kind, root, byte, output)?);
@@ -261,7 +376,7 @@ fn seven_scripts(alloc: Global) -> Result<Vec<Script>, Memory>
 fn provers_with(alloc: Global, scripts: &[Script]) -> Result<CaseProvers<Sha256>, Memory>
     requires { length scripts.now ≤ 7 }
 {
-    let machine = eight_steps(alloc)?;
+    let machine = eight_steps(alloc, 1)?;
     CaseProvers::new(alloc, Sha256, scripts, &machine, 8)
 }
 
@@ -270,7 +385,7 @@ fn answerers_with(
     alloc: Global,
     scripts: &[Script],
 ) -> Result<Vec<Scripted<RunAnswerer<Sha256>, Sha256>>, Memory> {
-    let machine = eight_steps(alloc)?;
+    let machine = eight_steps(alloc, 1)?;
     answerers_of(alloc, Sha256, scripts, &machine, 8, 1024, 1)
 }
 
@@ -373,5 +488,145 @@ fn each_prover_answers_by_its_script(rt: HostRuntime) -> Result<(), Fail> {
         assert!(rt; is_said(&rt, &provers, &mut answerers, said)?);
     }
     assert_eq!(rt; counts(rt.alloc(), &[])?, (0, 0));
+    Ok(())
+}
+
+/// A digest function that counts its digests, by which provers replay their runs.
+#[derive(Clone, Copy)]
+struct Counting<'a, D> {
+    of: Counted<'a, D>,
+}
+
+impl<D: Digester> Digester for Counting<'_, D> {
+    ghost digest_of = { D.digest_of };
+
+    ghost is_digest = { D.is_digest };
+
+    ghost is_bytes = { D.is_bytes };
+
+    fn digest(&self, bytes: &[u8]) -> Digest32 {
+        self.of.digest(bytes)
+    }
+}
+
+impl Replays for Counting<'_, Sha256> {
+    fn roots_of<R: Threads + Sync>(
+        self,
+        rt: &R,
+        alloc: Global,
+        run: &Run,
+        steps: &[u64],
+        workers: u32,
+    ) -> Result<Vec<Digest32>, Memory> {
+        roots(rt, alloc, self, run, steps, workers)
+    }
+
+    fn roots_with_input_of<R: Threads + Sync>(
+        self,
+        rt: &R,
+        alloc: Global,
+        run: &Run,
+        input: Digest32,
+        steps: &[u64],
+        workers: u32,
+    ) -> Result<Vec<Digest32>, Memory> {
+        roots_with_input(rt, alloc, self, run, input, steps, workers)
+    }
+
+    fn kept_root_of<R: Threads + Sync>(
+        self,
+        rt: &R,
+        alloc: Global,
+        kept: &mut KeptRun<Self>,
+        step: u64,
+    ) -> Result<Digest32, Memory> {
+        kept.root(rt, alloc, step)
+    }
+
+    fn committed_of<R: Threads + Sync>(
+        self,
+        rt: &R,
+        alloc: Global,
+        run: &Run,
+        step: u64,
+    ) -> Result<Committed<Self>, Memory> {
+        committed_at(rt, alloc, self, run, step)
+    }
+}
+
+/// lui x5, 0x20; then addi x6, x6, 1; sw x6, 0(x5); jal x0, -8: in the state of step i it has stored i / 3 times to one chunk, each
+/// time another number, and x6 is (i + 1) / 3
+const STORES_TO_ONE_CHUNK: [u8; 16] = [
+    0xb7, 0x02, 0x02, 0x00, 0x13, 0x03, 0x13, 0x00, 0x23, 0xa0, 0x62, 0x00, 0x6f, 0xf0, 0x9f, 0xff,
+];
+
+/// A machine at the start of them in a version of the commitment, with an input of forty bytes.
+fn storing(alloc: Global, version: u8) -> Result<Machine, Memory>
+    ensures chained { IfOk result (λ m. (digest : List ℕ → List ℕ) → IsChained digest m) }
+    ensures silent { IfOk result (λ m. m.output.items ≡ []) }
+{
+    let mem = PlainMem::new(alloc).lay(0x1_0000, &STORES_TO_ONE_CHUNK)?;
+    Machine::new(alloc, version.clamp(1, 3), mem, 0x1_0000, &[7; 40])
+}
+
+/// Whether the roots of these steps, asked one after the other once that of step 12 is made, take so many digests each.
+fn takes<R: Threads + Sync>(
+    rt: &R,
+    alloc: Global,
+    version: u8,
+    workers: u32,
+    wanted: &[(u64, u64)],
+) -> Result<bool, Memory>
+    requires { IsSync R.row }
+{
+    let made = AtomicU64::new(0);
+    let of = Counted {
+        of: Sha256,
+        made: &made,
+    };
+    let machine = storing(alloc, version)?;
+    let tamper = Tamper::Untouched;
+    let mut prover = RunAnswerer::new(
+        alloc,
+        Counting { of },
+        &machine,
+        24,
+        4,
+        tamper,
+        workers.max(1),
+    )?;
+    prover.answer(rt, &asked(1, Kind::Root(12)), 0)?;
+    for (step, digests) in wanted {
+        let before = made.load(Ordering::SeqCst);
+        prover.answer(rt, &asked(1, Kind::Root(*step)), 0)?;
+        if made.load(Ordering::SeqCst).wrapping_sub(before) != *digests {
+            return Ok(false);
+        }
+    }
+    Ok(true)
+}
+
+/// A changed chunk takes 28 digests: its own, those of the 7 nodes above it in its page, and those of the 20 above the page. A root
+/// of version 1 takes 3 beside: of the registers, of the control string, and of the state string. In versions 2 and 3 a changed
+/// register takes 6, its own and the 5 above it, and in version 3 the storage string takes one. The input's root is made no more.
+#[test]
+fn a_root_takes_the_digests_of_what_changed(rt: HostRuntime) -> Result<(), Fail> {
+    let rows: [(u8, [(u64, u64); 5]); 3] = [
+        (1, [(6, 31), (9, 31), (10, 3), (11, 3), (10, 0)]),
+        (2, [(6, 36), (9, 36), (10, 2), (11, 8), (10, 0)]),
+        (3, [(6, 37), (9, 37), (10, 3), (11, 9), (10, 0)]),
+    ];
+    for (version, wanted) in rows {
+        assert!(rt;
+            takes(&rt, rt.alloc(), version, 1, &wanted)?,
+            "version {version}"
+        );
+    }
+    Ok(())
+}
+
+#[test]
+fn several_workers_make_the_roots_of_the_next_rounds(rt: HostRuntime) -> Result<(), Fail> {
+    assert!(rt; takes(&rt, rt.alloc(), 1, 2, &[(6, 0), (9, 0), (10, 0)])?);
     Ok(())
 }

@@ -4,9 +4,9 @@ use bisect_game::{Answerer, Kind, Question};
 use digest_core::Sha256;
 use prover_script::{Scripted, waits};
 use rd_base::{
-    Answer, Boxed, Claim, ClaimOutput, Ctl, Digest32, FirstSilentRound, Manner, Memory, PassCount,
-    Proof, Qid, RegOpenings, RegisterNumber, Regs, RootList, Status, StepProof, StepProof2, Tape,
-    TapeAnswer,
+    Answer, Boxed, Claim, ClaimOutput, Ctl, Digest32, FirstSilentRound, Manner, Memory, Opening,
+    PassCount, Path, Proof, Qid, RegOpening, RegOpenings, RegPath, RegisterNumber, Regs, RootList,
+    Status, StepProof, StepProof2, StepProof3, Tape, TapeAnswer,
 };
 use std::alloc::{AllocError, Global};
 use std::test::Fail;
@@ -95,15 +95,27 @@ fn manner_of(alloc: Global, named: Named) -> Result<Manner, Memory> {
 }
 
 /// What an answerer without a manner gives: a claim of the output `2a`, a root of sevens, three roots of sevens, a proof in which
-/// x5 holds 5 and x6 holds 6, a proof of version 2, or a pass.
+/// x5 holds 5 and x6 holds 6, a proof of version 2 or 3 that opens some registers, or a pass.
 #[derive(Clone, Copy, Debug, PartialEq, Eq)]
 enum Gives {
     Claim,
     Root,
     Roots,
     Step,
-    Step2,
+    Step2(Opens),
+    Step3(Opens),
     Pass,
+}
+
+/// What a proof opens: three registers, which hold 1, 2 and 3, of the instruction `add x6, x5, x7`, `add x6, x7, x5`, or
+/// `add x6, x7, x8`; of the first one no register; or three registers without an instruction.
+#[derive(Clone, Copy, Debug, PartialEq, Eq)]
+enum Opens {
+    X5First,
+    X5Second,
+    NotX5,
+    NoRegister,
+    NoWord,
 }
 
 const CTL: Ctl = Ctl {
@@ -126,15 +138,63 @@ fn proof_of_version_1() -> Proof {
     })
 }
 
-fn proof_of_version_2() -> Proof {
+/// The chunk at 65536, which begins with the word of an instruction.
+fn chunk_opened(opens: Opens) -> Option<Opening> {
+    let mut chunk = [0; 32];
+    let word: [u8; 4] = match opens {
+        Opens::X5First | Opens::NoRegister => [0x33, 0x83, 0x72, 0x00],
+        Opens::X5Second => [0x33, 0x83, 0x53, 0x00],
+        Opens::NotX5 => [0x33, 0x83, 0x83, 0x00],
+        Opens::NoWord => return None,
+    };
+    for (k, byte) in word.iter().enumerate() {
+        chunk[k % 32] = *byte;
+    }
+    Some(Opening {
+        chunk,
+        path: Path([Digest32([4; 32]); 27]),
+    })
+}
+
+/// Three opened registers, or none.
+fn registers_opened(opens: Opens) -> RegOpenings {
+    let mut named = RegOpenings::new();
+    if opens != Opens::NoRegister {
+        let path = RegPath([Digest32([5; 32]); 5]);
+        named.push(RegOpening { value: 1, path });
+        named.push(RegOpening { value: 2, path });
+        named.push(RegOpening { value: 3, path });
+    }
+    named
+}
+
+fn proof_of_version_2(opens: Opens) -> Proof {
     Proof::V2(StepProof2 {
         mem: Digest32([1; 32]),
         regs: Digest32([2; 32]),
         ctl: CTL,
-        fetch: None,
-        named: RegOpenings::new(),
+        fetch: chunk_opened(opens),
+        named: registers_opened(opens),
         operand: None,
     })
+}
+
+fn proof_of_version_3(opens: Opens) -> Proof {
+    Proof::V3(StepProof3 {
+        mem: Digest32([1; 32]),
+        input_len: 0,
+        input_root: Digest32([6; 32]),
+        regs: Digest32([2; 32]),
+        ctl: CTL,
+        fetch: chunk_opened(opens),
+        named: registers_opened(opens),
+        operand: None,
+        input: None,
+    })
+}
+
+fn step_of(alloc: Global, proof: Proof) -> Result<Answer, AllocError> {
+    Ok(Answer::Step(Boxed::new(Box::new(alloc, proof)?)))
 }
 
 fn inner_of(alloc: Global, gives: Gives) -> Result<Fixed, AllocError> {
@@ -142,8 +202,9 @@ fn inner_of(alloc: Global, gives: Gives) -> Result<Fixed, AllocError> {
         Gives::Claim => output_of(alloc, 0x2a)?.map(claim_of),
         Gives::Root => Some(Answer::Root(Digest32([7; 32]))),
         Gives::Roots => { RootList::new(vec![in alloc; Digest32([7; 32]); 3]?).map(Answer::Roots) }
-        Gives::Step => Some(Answer::Step(Boxed::new(Box::new(alloc, proof_of_version_1())?))),
-        Gives::Step2 => Some(Answer::Step(Boxed::new(Box::new(alloc, proof_of_version_2())?))),
+        Gives::Step => Some(step_of(alloc, proof_of_version_1())?),
+        Gives::Step2(opens) => Some(step_of(alloc, proof_of_version_2(opens))?),
+        Gives::Step3(opens) => Some(step_of(alloc, proof_of_version_3(opens))?),
         Gives::Pass => None,
     };
     Ok(Fixed { alloc, answer })
@@ -159,19 +220,27 @@ fn claim_of(output: ClaimOutput) -> Answer {
 }
 
 /// What was answered: of a root how it begins, of several how many there are and how the first and the last begin, of a proof of
-/// version 1 what x5 and x6 hold in it, of a claim the first byte of its output.
+/// version 1 what x5 and x6 hold in it, of one of version 2 or 3 what the opened registers hold, and 0 where there is none, of a
+/// claim the first byte of its output.
 #[derive(Clone, Copy, Debug, PartialEq, Eq)]
 enum Heard {
     Pass,
     Root(u64),
     Roots(usize, u64, u64),
     Step(u32, u32),
-    Step2,
+    Opened([u32; 3]),
     Claim(Option<u8>),
 }
 
 fn begins(root: Option<&Digest32>) -> u64 {
     root.map_or(0, |root| first_eight(*root))
+}
+
+/// What the opened registers hold, and 0 where there is none.
+fn values_of(named: &RegOpenings) -> [u32; 3] {
+    let named = named.as_slice();
+    let value = |place: usize| named.get(place).map_or(0, |opened| opened.value);
+    [value(0), value(1), value(2)]
 }
 
 fn what_was_heard(answer: &Option<Answer>) -> Heard {
@@ -184,7 +253,8 @@ fn what_was_heard(answer: &Option<Answer>) -> Heard {
         }
         Some(Answer::Step(proof)) => match proof.get() {
             Proof::V1(parts) => Heard::Step(parts.regs.get(5), parts.regs.get(6)),
-            Proof::V2(_) | Proof::V3(_) => Heard::Step2,
+            Proof::V2(parts) => Heard::Opened(values_of(&parts.named)),
+            Proof::V3(parts) => Heard::Opened(values_of(&parts.named)),
         },
         Some(Answer::Claim(claim)) => Heard::Claim(claim.output.as_slice().first().copied()),
     }
@@ -454,14 +524,32 @@ fn a_forgery_shows_another_value_in_the_proof_of_its_step(rt: HostRuntime) -> Re
             TRUE_CLAIM,
         ),
         (Named::Forge, Gives::Pass, asked, proof, 0, Heard::Pass),
-        // a proof that shows no register x5
-        (Named::Forge, Gives::Step2, asked, proof, 0, Heard::Step2),
     ] {
         let (named, gives, number, kind, passes, want) = row;
         assert!(rt;
             answers_so(&rt, rt.alloc(), row)?,
             "{named:?} {gives:?} {number:?} {kind:?} {passes} {want:?}"
         );
+    }
+    Ok(())
+}
+
+/// Each opening is that of the register that is named at its place.
+#[test]
+fn a_forgery_replaces_a_register_where_it_is_opened(rt: HostRuntime) -> Result<(), Fail> {
+    let proof = Kind::Proof(2);
+    for (opens, kind, want) in [
+        (Opens::X5First, proof, [77, 2, 3]),
+        (Opens::X5Second, proof, [1, 77, 3]),
+        (Opens::NotX5, proof, [1, 2, 3]),
+        (Opens::NoRegister, proof, [0, 0, 0]),
+        (Opens::NoWord, proof, [1, 2, 3]),
+        (Opens::X5First, Kind::Proof(3), [1, 2, 3]),
+    ] {
+        for gives in [Gives::Step2(opens), Gives::Step3(opens)] {
+            let row = (Named::Forge, gives, (1, 4), kind, 0, Heard::Opened(want));
+            assert!(rt; answers_so(&rt, rt.alloc(), row)?, "{gives:?} {kind:?}");
+        }
     }
     Ok(())
 }

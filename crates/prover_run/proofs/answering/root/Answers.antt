@@ -4,4 +4,4 @@ use Rattle.prover_run.proofs.answering.root.Goals as goal
 
 pub returns-clause-root : goal.returns-clause-root
 returns-clause-root g c root is kept =
-    root_of_step (root_at g.D.Digester.digest_of c.args.reader.now.run.now) root _ _ c.in_ok-steps.field-0.place c.args.step c.computed.result is c.deref.ensures.value c.in_ok-steps.ensures.place c.computed.ensures.root
+    root_of_step (root_at g.D.Digester.digest_of c.args.run.now) root _ _ c.in_ok-steps.field-0.place c.args.step c.computed.result is c.deref.ensures.value c.in_ok-steps.ensures.place c.computed.ensures.root

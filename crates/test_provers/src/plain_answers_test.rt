@@ -1,0 +1,268 @@
+ghost use denote.Param.Send.{IsSync};
+ghost use Rattle.std.specs.Prelude.{◌≡◌, ◌≤◌, ℕ, List, length, IfOk};
+ghost use Rattle.rv_step.specs.State.{IsChained};
+
+use digest_core::{Digester, Sha256, leaf_text, register_text, storage_text};
+use mem_plain::PlainMem;
+use merkle_nodes::climb;
+use out_chain::{ClaimCheck, check_claim, parts_root, root_of_claim};
+use plain_answers::{make_claim, make_proof};
+use proof_wire::encode;
+use rd_base::{
+    Answer, Boxed, Claim, Digest32, InOpening, Memory, Opening, Proof, RegOpening, StepProof3,
+};
+use rv_step::Machine;
+use state_commit::Committed;
+use std::alloc::Global;
+use std::test::Fail;
+use std::thread::Threads;
+use toy_machine::first_eight;
+
+/// addi x10, x0, 42; addi x17, x0, 1; ecall; addi x10, x0, 0; addi x17, x0, 93; ecall: it has ended in step 6.
+const SIX_STEPS: [u8; 24] = [
+    0x13, 0x05, 0xa0, 0x02, 0x93, 0x08, 0x10, 0x00, 0x73, 0x00, 0x00, 0x00, 0x13, 0x05, 0x00, 0x00,
+    0x93, 0x08, 0xd0, 0x05, 0x73, 0x00, 0x00, 0x00,
+];
+
+/// lui x5, 0x20; addi x6, x0, 122; sb x6, 3(x5); lw x10, 0(x5); srli x10, x10, 24; addi x17, x0, 1; ecall; lw x10, 1(x5): it
+/// stores in step 2, and traps in step 7.
+const EIGHT_STEPS: [u8; 32] = [
+    0xb7, 0x02, 0x02, 0x00, 0x13, 0x03, 0xa0, 0x07, 0xa3, 0x81, 0x62, 0x00, 0x03, 0xa5, 0x02, 0x00,
+    0x13, 0x55, 0x85, 0x01, 0x93, 0x08, 0x10, 0x00, 0x73, 0x00, 0x00, 0x00, 0x03, 0xa5, 0x12, 0x00,
+];
+
+/// addi x10, x0, 0; addi x17, x0, 2; ecall: in step 2 it asks for the first byte of its input.
+const ASKS_FOR_INPUT: [u8; 12] = [
+    0x13, 0x05, 0x00, 0x00, 0x93, 0x08, 0x20, 0x00, 0x73, 0x00, 0x00, 0x00,
+];
+
+/// A machine at the start of an image that lies at 0x10000, in version 2 or 3 of the commitment, and in version 1 for any other
+/// number.
+fn machine_in(alloc: Global, version: u8, image: &[u8], input: &[u8]) -> Result<Machine, Memory>
+    requires image { length image.now ≤ 64 }
+    requires input { length input.now ≤ 1 }
+    ensures { IfOk result (λ m. (digest : List ℕ → List ℕ) → IsChained digest m) }
+{
+    let mem = PlainMem::new(alloc).lay(0x1_0000, image)?;
+    let version = if version == 2 || version == 3 {
+        version
+    } else {
+        1
+    };
+    Machine::new(alloc, version, mem, 0x1_0000, input)
+}
+
+/// The machine with its trees after so many steps.
+fn after<R: Threads + Sync>(
+    rt: &R,
+    alloc: Global,
+    version: u8,
+    image: &[u8],
+    input: &[u8],
+    steps: u32,
+) -> Result<Committed<Sha256>, Memory>
+    requires image { length image.now ≤ 64 }
+    requires input { length input.now ≤ 1 }
+{
+    let machine = machine_in(alloc, version, image, input)?;
+    let mut committed = Committed::new(rt, alloc, Sha256, machine)?;
+    for _ in 0..steps {
+        committed = committed.step()?;
+    }
+    Ok(committed)
+}
+
+/// A program of these tests.
+#[derive(Clone, Copy, Debug)]
+enum Program {
+    SixSteps,
+    EightSteps,
+    AsksForInput,
+}
+
+/// A program after so many steps; the one that asks for its input has the byte `41`.
+fn program_after<R: Threads + Sync>(
+    rt: &R,
+    alloc: Global,
+    version: u8,
+    program: Program,
+    steps: u32,
+) -> Result<Committed<Sha256>, Memory> {
+    match program {
+        Program::SixSteps => after(rt, alloc, version, &SIX_STEPS, &[], steps),
+        Program::EightSteps => after(rt, alloc, version, &EIGHT_STEPS, &[], steps),
+        Program::AsksForInput => after(rt, alloc, version, &ASKS_FOR_INPUT, &[0x41], steps),
+    }
+}
+
+/// The wire form of the true proof of a program's step.
+fn proof_bytes<R: Threads + Sync>(
+    rt: &R,
+    alloc: Global,
+    version: u8,
+    program: Program,
+    step: u32,
+) -> Result<Vec<u8>, Memory> {
+    let committed = program_after(rt, alloc, version, program, step)?;
+    let proof = Box::new(alloc, make_proof(&committed))?;
+    encode(alloc, &Answer::Step(Boxed::new(proof)))
+}
+
+/// A version, a program and its step; of the wire form of the true proof the first byte and the length; where its flags stand, and
+/// what they and the byte behind them are.
+type WireRow = (u8, Program, u32, u8, usize, usize, [u8; 2]);
+
+/// With a chunk of memory a proof has 896 bytes more, with a register 164, and with a chunk of the input 512.
+const WIRE_ROWS: [WireRow; 5] = [
+    (2, Program::SixSteps, 6, 4, 116, 114, [0, 0]),
+    (2, Program::EightSteps, 2, 4, 2236, 114, [3, 2]),
+    (3, Program::AsksForInput, 2, 6, 1888, 150, [5, 2]),
+    (3, Program::SixSteps, 6, 6, 152, 150, [0, 0]),
+    (3, Program::EightSteps, 2, 6, 2272, 150, [3, 2]),
+];
+
+#[test]
+fn true_proofs_have_the_lengths_of_what_they_open(rt: HostRuntime) -> Result<(), Fail> {
+    for (version, program, step, tag, len, flags, bytes) in WIRE_ROWS {
+        let wire = proof_bytes(&rt, rt.alloc(), version, program, step)?;
+        assert_eq!(rt; wire.len(), len, "{version} {program:?}");
+        assert_eq!(rt; wire.first(), Some(&tag));
+        assert_eq!(rt; wire.get(flags), Some(&bytes[0]), "{version} {program:?}");
+        assert_eq!(rt;
+            wire.get(flags.min(150) + 1),
+            Some(&bytes[1]),
+            "{version} {program:?}"
+        );
+    }
+    Ok(())
+}
+
+/// Whether an opened register holds this, and its path leads to this root.
+fn shows_register(opened: Option<&RegOpening>, reg: u32, value: u32, root: Digest32) -> bool {
+    match opened {
+        Some(opened) => {
+            opened.value == value
+                && climb(Sha256, reg, &register_text(value), &opened.path.0) == root
+        }
+        None => false,
+    }
+}
+
+/// Whether a chunk is opened whose path leads to this root of memory.
+fn shows_chunk(opened: &Option<Opening>, index: u32, root: Digest32) -> bool {
+    match opened {
+        Some(opened) => climb(Sha256, index, &leaf_text(&opened.chunk), &opened.path.0) == root,
+        None => false,
+    }
+}
+
+/// Whether the first chunk of the input is opened, which has the byte `41` alone, and its path leads to this root.
+fn shows_input(opened: &Option<InOpening>, root: Digest32) -> bool {
+    match opened {
+        Some(opened) => {
+            let mut chunk = [0; 32];
+            chunk[0] = 0x41;
+            opened.chunk == chunk && climb(Sha256, 0, &leaf_text(&chunk), &opened.path.0) == root
+        }
+        None => false,
+    }
+}
+
+/// Whether a proof of the store is of version 2 and of this root, and opens `x5` and `x6`, and the chunks of its word and of the byte
+/// that it stores.
+fn opens_the_store(proof: &Proof, root: Digest32) -> bool {
+    let Proof::V2(proof) = proof else {
+        return false;
+    };
+    let named = proof.named.as_slice();
+    named.len() == 2
+        && shows_register(named.first(), 5, 0x2_0000, proof.regs)
+        && shows_register(named.get(1), 6, 122, proof.regs)
+        && shows_chunk(&proof.fetch, 0x800, proof.mem)
+        && shows_chunk(&proof.operand, 0x1000, proof.mem)
+        && parts_root(Sha256, proof.mem, proof.regs, &proof.ctl) == root
+}
+
+#[test]
+fn a_proof_of_version_2_opens_what_the_instruction_names(rt: HostRuntime) -> Result<(), Fail> {
+    let committed = program_after(&rt, rt.alloc(), 2, Program::EightSteps, 2)?;
+    assert!(rt; opens_the_store(&make_proof(&committed), committed.root()));
+    Ok(())
+}
+
+/// The root of the state whose parts a proof of version 3 has.
+fn root_of_proof(proof: &StepProof3) -> Digest32 {
+    let text = storage_text(&proof.mem, proof.input_len, &proof.input_root);
+    let storage = Sha256.digest(text.as_slice());
+    parts_root(Sha256, storage, proof.regs, &proof.ctl)
+}
+
+/// Whether a proof of the call is of version 3 and of this root, and opens `x17` and `x10`, the chunk of its word, and that of the
+/// input's first byte.
+fn opens_the_call(proof: &Proof, root: Digest32) -> bool {
+    let Proof::V3(proof) = proof else {
+        return false;
+    };
+    let named = proof.named.as_slice();
+    named.len() == 2
+        && shows_register(named.first(), 17, 2, proof.regs)
+        && shows_register(named.get(1), 10, 0, proof.regs)
+        && shows_chunk(&proof.fetch, 0x800, proof.mem)
+        && proof.operand.is_none()
+        && shows_input(&proof.input, proof.input_root)
+        && proof.input_len == 1
+        && root_of_proof(proof) == root
+}
+
+#[test]
+fn a_proof_of_version_3_opens_the_input(rt: HostRuntime) -> Result<(), Fail> {
+    let committed = program_after(&rt, rt.alloc(), 3, Program::AsksForInput, 2)?;
+    assert_eq!(rt; first_eight(committed.root()), 0xa873_98d2_1fef_5c36);
+    assert!(rt; opens_the_call(&make_proof(&committed), committed.root()));
+    Ok(())
+}
+
+/// How many bytes a machine has put out.
+fn output_len(committed: &Committed<Sha256>) -> usize
+    ensures { result ≡ length committed.now.output }
+{
+    committed.machine().output.len()
+}
+
+/// The true claim of a machine that has put out few bytes.
+fn claim_made(alloc: Global, committed: &Committed<Sha256>) -> Result<Option<Claim>, Memory> {
+    if output_len(committed) > 255 {
+        return Ok(None);
+    }
+    Ok(Some(make_claim(alloc, Sha256, committed)?))
+}
+
+/// Whether a claim agrees with itself, and has this output and a root that begins so.
+fn is_claim(claim: &Option<Claim>, root: u64, output: &[u8]) -> bool {
+    let Some(claim) = claim else {
+        return false;
+    };
+    match check_claim(Sha256, claim) {
+        ClaimCheck::Sound => {
+            claim.output.as_slice() == output && first_eight(root_of_claim(Sha256, claim)) == root
+        }
+        _ => false,
+    }
+}
+
+/// How the root of the eighth state of the program of eight steps begins, in each version.
+const LAST_ROOTS: [(u8, u64); 3] = [
+    (1, 0x82f8_4640_36cd_320e),
+    (2, 0x7a26_ece6_2c7e_e261),
+    (3, 0xc82f_3d3f_1476_3045),
+];
+
+#[test]
+fn a_true_claim_has_the_root_of_its_version(rt: HostRuntime) -> Result<(), Fail> {
+    for (version, root) in LAST_ROOTS {
+        let committed = program_after(&rt, rt.alloc(), version, Program::EightSteps, 8)?;
+        let claim = claim_made(rt.alloc(), &committed)?;
+        assert!(rt; is_claim(&claim, root, &[0x7a]), "{version}");
+    }
+    Ok(())
+}
