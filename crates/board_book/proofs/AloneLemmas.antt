@@ -14,6 +14,7 @@ use Rattle.board_book.specs.Entries.{IsEntry, IsJournal, who}
 use Rattle.board_book.specs.Asking.{ask_on}
 use Rattle.board_book.specs.Tasks.{Task, numbered, Game, Games, begun_game, games_of, turned, after_entry, IsTaskEntry, IsTaskJournal, games_after, entries_of, of_task}
 use Rattle.board_book.specs.Alone.{played, TasksAreAlone, OwnEntriesDecide}
+use Rattle.board_book.specs.Numbers.{AreToldApart}
 
 -- an entry of the task, and one of another
 
@@ -96,6 +97,9 @@ entries_join t (x ∷ xs) ys =
 pub entries_of_block : (t : ℕ) (es : List Entry) → entries_of t (of_task t es) ≡ es
 entries_of_block t [] = refl
 entries_of_block t (e ∷ es) = own_entries t (t, e) (of_task t es) (itself t) ∙ ap (λ (fs : List Entry). e ∷ fs) (entries_of_block t es)
+
+pub are_told_apart : AreToldApart
+are_told_apart = record { joined = entries_join; own = entries_of_block }
 
 pub entries_of_others : (t u : ℕ) (es : List Entry) → (t ≡ u → ⊥) → entries_of t (of_task u es) ≡ []
 entries_of_others t u [] never = refl

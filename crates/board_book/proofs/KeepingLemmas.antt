@@ -21,6 +21,7 @@ use Rattle.board_book.specs.Tasks.{Task, task_of, numbered, Games, begun_game, g
 use Rattle.board_book.specs.Alone.{played}
 use Rattle.board_book.specs.Playing.{noted_for}
 use Rattle.board_book.specs.Keeping.{most_of, all_entries, HasRoom, AreKept, Grows}
+use Rattle.board_book.specs.Numbers.{AreNumbered}
 use Rattle.board_book.proofs.AloneLemmas.{alone, journals_join, block_is_legal, entries_join, entries_of_block, entries_of_others, journal_rest}
 
 -- numbers and places
@@ -42,15 +43,6 @@ at_place xs t a e = let some : 0 < t = is_positive xs t a e in
 pub numbered_map : {A B : Type 0} (f : A → B) (xs : List A) (t : ℕ) (a : A) → numbered xs t ≡ Some a → numbered (map f xs) t ≡ Some (f a)
 numbered_map f xs t a e =
     numbered_at (map f xs) t (f a) (is_positive xs t a e) (slice_get-map f xs (t - 1) ∙ ap (option_map f) (at_place xs t a e))
-
--- the last of a list, where there is one alone
-pub alone_in : {X Y : Type 0} (f : X → Y) (xs rest : List X) (b : X) (h : Y) → map f xs ≡ h ∷ [] → xs ≡ rest ++ b ∷ [] → xs ≡ b ∷ []
-alone_in f xs [] b h one last = last
-alone_in f xs (x ∷ rest) b h one last =
-    let long : length xs ≡ 1 = sym (length-map xs f) ∙ ap length one in
-    let more : length xs ≡ suc (length (rest ++ b ∷ [])) = ap length last in
-    let some : length (rest ++ b ∷ []) ≡ length rest + 1 = length_push rest b in
-    absurd (omega (arith, long, more, some))
 
 get_set_same : {A : Type 0} (xs : List A) (i : ℕ) (a b : A) → slice_get xs i ≡ Some a → slice_get (set xs i b) i ≡ Some b
 get_set_same [] i a b e = absurd (none-some a e)
@@ -109,6 +101,20 @@ module _ {N M : Type 0} where
   -- the task and the game of a book
   pub task_there : (ruling : N → Ruling) (says : M → Says) (bs : List (BookOf N M)) (t : ℕ) (b : BookOf N M) → numbered bs t ≡ Some b → numbered (tasks_of ruling says (openings bs)) t ≡ Some (task_of ruling says b.0)
   task_there ruling says bs t b there = numbered_map (task_of ruling says) (openings bs) t b.0 (numbered_map (λ (c : BookOf N M). c.0) bs t b there)
+
+  pub are_numbered : (ruling : N → Ruling) (says : M → Says) → AreNumbered ruling says
+  are_numbered ruling says = record {
+    book = λ bs t b there. numbered_map (λ (c : BookOf N M). c.0) bs t b there;
+    opening = λ heads t h there. numbered_map (task_of ruling says) heads t h there;
+    task = λ heads t k there. (is_positive (tasks_of ruling says heads) t k there, few heads t k there);
+  }
+    where
+      few : (heads : List (N × M × Setup)) (t : ℕ) (k : Task) → numbered (tasks_of ruling says heads) t ≡ Some k → t ≤ length heads
+      few heads t k there =
+          let some : 0 < t = is_positive (tasks_of ruling says heads) t k there in
+          let within : t - 1 < length (tasks_of ruling says heads) = slice_get_within (tasks_of ruling says heads) (t - 1) k (at_place (tasks_of ruling says heads) t k there) in
+          let long : length (tasks_of ruling says heads) ≡ length heads = length-map heads (task_of ruling says) in
+          omega (arith, some, within, long)
 
   game_there : (ruling : N → Ruling) (says : M → Says) (bs : List (BookOf N M)) (t : ℕ) (b : BookOf N M) → numbered bs t ≡ Some b → games_of (tasks_of ruling says (openings bs)) t ≡ Some (begun_game (task_of ruling says b.0))
   game_there ruling says bs t b there = ap (option_map begun_game) (task_there ruling says bs t b there)

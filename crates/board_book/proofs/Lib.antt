@@ -2,3 +2,4 @@ pub mod BookLemmas
 pub mod AloneLemmas
 pub mod KeepingLemmas
 pub mod FinishLemmas
+pub mod OnlyLemmas

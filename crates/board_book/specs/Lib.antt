@@ -5,3 +5,4 @@ pub mod Tasks
 pub mod Alone
 pub mod Keeping
 pub mod Playing
+pub mod Numbers

@@ -117,6 +117,18 @@ impl<J: Judge + Drop, P: Provers + Drop> Books<J, P> {
         books
     }
 
+    /// The book of the only task, whose journal is that of all. It takes no memory.
+    pub fn into_one(self) -> Book<J, P>
+        requires one { length self.0 ≡ 1 }
+        ensures { self ≡ (result ∷ [], of_task 1 result.1) }
+    {
+        let Books { mut books, .. } = self;
+        match books.pop() {
+            Some(book) => book,
+            None => unreachable!(),
+        }
+    }
+
     /// The journal is legal, and the entries of each task are the journal of its book.
     pub fn is_legal(&self)
         ensures some { 0 < length self.now.0 }

@@ -23,4 +23,6 @@ mod room;
 pub use book::Book;
 pub use books::Books;
 pub use entry::{Ask, Entry};
-pub use laws::tasks_are_alone;
+pub use laws::{
+    answerers_say_in_order, entries_are_told_apart, tasks_are_alone, tasks_are_numbered,
+};

@@ -1,3 +1,4 @@
 pub mod Journals
 pub mod Points
 pub mod There
+pub mod Single

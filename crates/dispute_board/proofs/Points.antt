@@ -2,15 +2,19 @@
 use Rattle.std.proofs.Common.{◌≡◌, ℕ, ◌<◌, ◌==◌, Bool, true, false, not, ◌&&◌, if◌then◌else◌, List, [], ◌∷◌, ◌++◌, length, Option, Some, None, is_none, refl, sym, ap, ap₂, ◌∙◌, subst, arith, All}
 use Rattle.std.proofs.lemmas.Bool.Decides.{nat_tests}
 use Rattle.std.proofs.lemmas.List.{length-map}
+use Rattle.std.proofs.lemmas.Option.{same_Some}
 use mathlib.Core.List.{map-append}
 use Rattle.rd_base.specs.declared.answer.Answer.{Answer}
 use Rattle.rd_base.specs.declared.answer.Qid.{Qid}
+use Rattle.bisect_game.specs.declared.question.Kind.{Kind}
 use Rattle.bisect_game.specs.declared.question.Question.{Question}
 use Rattle.bisect_game.specs.Says.{Says, GiveOneAnswer}
 use Rattle.bisect_game.specs.Rules.{Rules}
 use Rattle.tournament.specs.declared.posting.Reply.{Reply}
 use Rattle.tournament.specs.declared.posting.Reply.TheVariants.{Stale}
-use Rattle.tournament.specs.Bracket.{open_question, is_complete}
+use Rattle.tournament.specs.Asked.{asked}
+use Rattle.tournament.specs.Bracket.{open_question, is_complete, bracket}
+use Rattle.tournament.specs.Journals.{answers_of}
 use Rattle.tournament.specs.Moves.{MatchState, passes_of, settled_by}
 use Rattle.tournament.specs.Posting.{same_qid, reply_by, reply_on, reply_to}
 use Rattle.board_book.specs.declared.entry.Entry.{Entry}
@@ -25,7 +29,7 @@ use Rattle.seat_lock.specs.Seats.{Known}
 use Rattle.seat_lock.specs.Turned.{Turned}
 use Rattle.dispute_board.specs.declared.turns.Posted.{Posted}
 use Rattle.dispute_board.specs.Logs.{numbers_of, log_of_journal, with_entry, turn_of}
-use Rattle.dispute_board.specs.Replies.{MayPost, MayPostFor, IsReply}
+use Rattle.dispute_board.specs.Replies.{MayPost, MayPostFor, IsOfTheCase, IsReply, SaidMayBePosted}
 use Rattle.dispute_board.specs.OneHistory.{Stands, AsksOnBoard, PostsOnBoard, entry_unless_stale, own_state}
 use Rattle.dispute_board.specs.Turns.{is_due, reply_on_board, reply_in, AsksTheCase, Asks, Posts}
 
@@ -169,3 +173,16 @@ module _ {T H : Type 0} (head : T → H) (log : T → List (List ℕ)) (journal 
         reply = is_reply posts.task.rules posts.task.says (own_state posts.task t (journal x)) p qid m posted.reply posts.one_answer (may posts.task posts.there) posts.asked posts.reply;
         receipt = posts.receipt;
       }
+
+-- what may be posted
+
+same_question : (a b : Question) → a.qid ≡ b.qid → a.kind ≡ b.kind → a ≡ b
+same_question a b q k = ap₂ (λ (i : Qid) (j : Kind). record { qid = i; kind = j }) q k
+
+may_post : (rules : Rules) (says : Says) (p : ℕ) (q : Question) (n : ℕ) (m : Option Answer) → IsOfTheCase rules says p q → m ≡ says p q n → MayPost rules says p q.qid m
+may_post rules says p q n m of_case said r same also =
+    (n, said ∙ ap (λ (x : Question). says p x n) (same_question q r (sym same) (same_Some q.kind r.kind (sym of_case ∙ subst (λ (i : Qid). asked rules (bracket rules (answers_of rules says)) p i ≡ Some r.kind) same also))))
+
+pub said_may_be_posted : SaidMayBePosted
+said_may_be_posted tasks t p task q n m there of_case said k also =
+    subst (λ (j : Task). MayPost j.rules j.says p q.qid m) (same_Some task k (sym there ∙ also)) (may_post task.rules task.says p q n m of_case said)

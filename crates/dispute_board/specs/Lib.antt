@@ -2,3 +2,4 @@ pub mod Logs
 pub mod Replies
 pub mod OneHistory
 pub mod Turns
+pub mod OneTask

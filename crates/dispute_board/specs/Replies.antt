@@ -43,3 +43,8 @@ pub record IsReply (rules : Rules) (says : Says) (st : MatchState) (p : ℕ) (qi
   pub said : (q : Question) → open_question rules st.record_ p ≡ Some q → m ≡ says p q (passes_of st p) → r ≡ reply_to rules st p qid m
   pub unsaid : (q : Question) → open_question rules st.record_ p ≡ Some q → m ≢ says p q (passes_of st p) → r ≡ reply.Stale (Some q.qid)
   pub unasked : open_question rules st.record_ p ≡ None → r ≡ reply.Stale None
+
+-- what a prover says to a question that its task's case asks it may be posted for it
+abbrev pub SaidMayBePosted : Type 0
+SaidMayBePosted =
+    (tasks : List Task) (t p : ℕ) (task : Task) (q : Question) (n : ℕ) (m : Option Answer) → numbered tasks t ≡ Some task → IsOfTheCase task.rules task.says p q → m ≡ task.says p q n → MayPostFor tasks t p q.qid m

@@ -10,7 +10,7 @@ ghost use Rattle.dispute_board.specs.Logs.{log_of_journal};
 ghost use Rattle.dispute_board.specs.Replies.{MayPost};
 ghost use Rattle.dispute_board.specs.OneHistory.{AsksOnBoard, PostsOnBoard};
 
-use crate::task_board::{Seat, TaskBoard};
+use crate::task_board::{TaskBoard, TaskSeat};
 use crate::turns::Posted;
 use bisect_game::{Judge, Provers};
 use board_book::{Ask, Book, Books};
@@ -34,14 +34,35 @@ impl<J: Judge + Drop, P: Provers + Drop> Model for Board<J, P> {
     ghost view = { λ board. board.tasks };
 }
 
+/// A seat at the board of one task, to ask and post with. It has no bytes. Contracts see the opening of the book (`head`), what the
+/// seat has seen of the journal, and the places of its own posts there (`receipts`).
+///
+/// A seat that is dropped stays out: the board can then only be dropped.
+#[derive(Drop)]
+pub struct Seat<J: Judge + Drop, P: Provers + Drop> {
+    tasks: TaskSeat<J, P>,
+}
+
+impl<J: Judge + Drop, P: Provers + Drop> Model for Seat<J, P> {
+    ghost use Rattle.tournament.specs.declared.setup.Setup.{Setup};
+    ghost use Rattle.seat_lock.specs.Seats.{Known};
+    ghost use Rattle.dispute_board.specs.OneTask.{of_one, HasOneTask};
+
+    ghost Value = { Known (J.Names × P.Names × Setup) };
+
+    ghost view = { λ seat. of_one seat.tasks };
+
+    ghost invariant = { λ seat. HasOneTask seat.tasks };
+}
+
 impl<J: Judge + Drop, P: Provers + Drop> Board<J, P> {
     /// A board over the book, and its first seat, which has seen the book's journal. An `Err` is out of memory; the book is then
     /// dropped.
     pub fn new(alloc: Global, book: Book<J, P>) -> Result<(Board<J, P>, Seat<J, P>), Memory>
-        ensures { IfOk result (λ made. made.1 ≡ first_seat made.0 (book.0 ∷ []) (log_of_journal (of_task 1 book.1))) }
+        ensures { IfOk result (λ made. made.1 ≡ first_seat made.0 book.0 (log_of_journal (of_task 1 book.1))) }
     {
         let (tasks, seat) = TaskBoard::new(alloc, Books::one(alloc, book)?)?;
-        Ok((Board { tasks }, seat))
+        Ok((Board { tasks }, Seat { tasks: seat }))
     }
 
     /// Asks in one turn what prover `p`, from 1 to their count, is asked. The answer is that of the book at that point of the
@@ -49,10 +70,10 @@ impl<J: Judge + Drop, P: Provers + Drop> Board<J, P> {
     pub fn ask<R: Wait>(&self, rt: &R, seat: &mut Seat<J, P>, p: u32) -> Ask
         requires lock { seat.old.lock ≡ self.now }
         requires some { 0 < p }
-        requires few { (head : J.Names × P.Names × Setup) × (seat.old.head ≡ Some (head ∷ [])) × (p ≤ head.2.provers) }
-        ensures { (head : J.Names × P.Names × Setup) × (seat.old.head ≡ Some (head ∷ [])) × AsksOnBoard (task_of J.ruling P.says head ∷ []) seat.old 1 p result seat.new }
+        requires few { (head : J.Names × P.Names × Setup) × (seat.old.head ≡ Some head) × (p ≤ head.2.provers) }
+        ensures { (head : J.Names × P.Names × Setup) × (seat.old.head ≡ Some head) × AsksOnBoard (task_of J.ruling P.says head ∷ []) seat.old 1 p result seat.new }
     {
-        self.tasks.ask(rt, seat, 1, p)
+        self.tasks.ask(rt, &mut seat.tasks, 1, p)
     }
 
     /// Posts in one turn a move of prover `p`, from 1 to their count, on the question of this number.
@@ -70,11 +91,11 @@ impl<J: Judge + Drop, P: Provers + Drop> Board<J, P> {
     ) -> Posted
         requires lock { seat.old.lock ≡ self.now }
         requires some { 0 < p }
-        requires few { (head : J.Names × P.Names × Setup) × (seat.old.head ≡ Some (head ∷ [])) × (p ≤ head.2.provers) }
-        requires may { (head : J.Names × P.Names × Setup) → seat.old.head ≡ Some (head ∷ []) → MayPost (rules_of (J.ruling head.0) head.2) (P.says head.1) p qid (answer_of turn) }
-        ensures { (head : J.Names × P.Names × Setup) × (seat.old.head ≡ Some (head ∷ [])) × PostsOnBoard (task_of J.ruling P.says head ∷ []) seat.old 1 p qid (answer_of turn) result seat.new }
+        requires few { (head : J.Names × P.Names × Setup) × (seat.old.head ≡ Some head) × (p ≤ head.2.provers) }
+        requires may { (head : J.Names × P.Names × Setup) → seat.old.head ≡ Some head → MayPost (rules_of (J.ruling head.0) head.2) (P.says head.1) p qid (answer_of turn) }
+        ensures { (head : J.Names × P.Names × Setup) × (seat.old.head ≡ Some head) × PostsOnBoard (task_of J.ruling P.says head ∷ []) seat.old 1 p qid (answer_of turn) result seat.new }
     {
-        self.tasks.post(rt, seat, 1, p, qid, turn)
+        self.tasks.post(rt, &mut seat.tasks, 1, p, qid, turn)
     }
 
     /// Splits a seat off the first one. It has seen the same and has no receipts. It takes no memory.
@@ -85,7 +106,9 @@ impl<J: Judge + Drop, P: Provers + Drop> Board<J, P> {
         ensures first { seat.new ≡ after_split seat.old }
         ensures other { result ≡ split_off seat.old result.number }
     {
-        self.tasks.split(seat)
+        Seat {
+            tasks: self.tasks.split(&mut seat.tasks),
+        }
     }
 
     /// Joins a seat that was split off into the first one, which takes its receipts behind its own.
@@ -94,7 +117,7 @@ impl<J: Judge + Drop, P: Provers + Drop> Board<J, P> {
         requires first { seat.old.number ≡ 0 }
         ensures { seat.new ≡ after_join seat.old other }
     {
-        self.tasks.join(seat, other);
+        self.tasks.join(&mut seat.tasks, other.tasks);
     }
 
     /// The book, once every seat that was split off is joined in again. Its opening is that of the seat, and its journal begins with
@@ -103,19 +126,13 @@ impl<J: Judge + Drop, P: Provers + Drop> Board<J, P> {
         requires lock { seat.lock ≡ self }
         requires first { seat.number ≡ 0 }
         requires none_out { seat.out ≡ 0 }
-        requires one { (head : J.Names × P.Names × Setup) × (seat.head ≡ Some (head ∷ [])) }
-        ensures opening { seat.head ≡ Some (result.0 ∷ []) }
+        ensures opening { seat.head ≡ Some result.0 }
         ensures journal { Begins (log_of seat.seen) (log_of_journal (of_task 1 result.1)) }
         ensures joined { All (λ seen. Begins (log_of seen) (log_of_journal (of_task 1 result.1))) seat.joined }
         ensures receipts { NoneTwice seat.receipts × All (λ place. place < length result.1) seat.receipts }
     {
         let Board { tasks } = self;
-        let books = tasks.into_books(seat);
-        books.is_legal();
-        let mut list = books.into_list();
-        match list.pop() {
-            Some(book) => book,
-            None => unreachable!(),
-        }
+        let Seat { tasks: seat } = seat;
+        tasks.into_books(seat).into_one()
     }
 }

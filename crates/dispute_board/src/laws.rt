@@ -1,4 +1,5 @@
-//! Laws: each function has an empty body, and its clause holds of all journals.
+//! Laws: each function has an empty body, and its clauses hold of all journals and tasks.
+ghost use Rattle.dispute_board.specs.Replies.{SaidMayBePosted};
 ghost use Rattle.dispute_board.specs.Logs.{LogsTellJournals, StartsTellJournals};
 
 /// Different journals have different logs, so a log says all that its journal says. Where a log begins with another, so does its
@@ -7,4 +8,10 @@ ghost use Rattle.dispute_board.specs.Logs.{LogsTellJournals, StartsTellJournals}
 pub fn logs_tell_journals()
     ensures same { LogsTellJournals }
     ensures start { StartsTellJournals }
+{}
+
+/// What a prover says to a question that its task's case asks it, after any number of passes, may be posted under the question's number.
+#[tactic(auto, using(crate::proofs::Points::said_may_be_posted))]
+pub fn what_is_said_may_be_posted()
+    ensures { SaidMayBePosted }
 {}

@@ -14,7 +14,7 @@ mod laws;
 mod task_board;
 mod turns;
 
-pub use board::Board;
-pub use laws::logs_tell_journals;
-pub use task_board::{Seat, TaskBoard};
+pub use board::{Board, Seat};
+pub use laws::{logs_tell_journals, what_is_said_may_be_posted};
+pub use task_board::{TaskBoard, TaskSeat};
 pub use turns::{Locked, Posted};

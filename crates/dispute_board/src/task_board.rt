@@ -20,11 +20,11 @@ use std::marker::Model;
 use std::sync::Wait;
 use tournament::Move;
 
-/// A seat at a board, to ask and post with. It has no bytes. Contracts see the openings of the tasks' books (`head`), what the seat has
+/// A seat at the board of many tasks, to ask and post with. It has no bytes. Contracts see the openings of the tasks' books (`head`), what the seat has
 /// seen of the journal of all tasks, and the places of its own posts there (`receipts`).
 ///
 /// A seat that is dropped stays out: the board can then only be dropped.
-pub type Seat<J, P> = seat_lock::Seat<Locked<J, P>>;
+pub type TaskSeat<J, P> = seat_lock::Seat<Locked<J, P>>;
 
 /// The books of many tasks under one lock, which threads share by reference. Contracts see which lock it is.
 #[derive(Drop)]
@@ -43,7 +43,10 @@ impl<J: Judge + Drop, P: Provers + Drop> Model for TaskBoard<J, P> {
 impl<J: Judge + Drop, P: Provers + Drop> TaskBoard<J, P> {
     /// A board over the books, and its first seat, which has seen their journal. An `Err` is out of memory; the books are then
     /// dropped.
-    pub fn new(alloc: Global, books: Books<J, P>) -> Result<(TaskBoard<J, P>, Seat<J, P>), Memory>
+    pub fn new(
+        alloc: Global,
+        books: Books<J, P>,
+    ) -> Result<(TaskBoard<J, P>, TaskSeat<J, P>), Memory>
         ensures { IfOk result (λ made. made.1 ≡ first_seat made.0 (openings books.0) (log_of_journal books.1)) }
     {
         let (lock, seat) = SeatLock::new(alloc, Locked { books })?;
@@ -52,7 +55,7 @@ impl<J: Judge + Drop, P: Provers + Drop> TaskBoard<J, P> {
 
     /// Asks in one turn what prover `p` of task `t` is asked. The answer is that of the task's book at that point of the journal,
     /// which the task's own entries decide.
-    pub fn ask<R: Wait>(&self, rt: &R, seat: &mut Seat<J, P>, t: u32, p: u32) -> Ask
+    pub fn ask<R: Wait>(&self, rt: &R, seat: &mut TaskSeat<J, P>, t: u32, p: u32) -> Ask
         requires lock { seat.old.lock ≡ self.now }
         requires there { (heads : List (J.Names × P.Names × Setup)) → seat.old.head ≡ Some heads → IsThere (tasks_of J.ruling P.says heads) t p }
         ensures { (heads : List (J.Names × P.Names × Setup)) × (seat.old.head ≡ Some heads) × AsksOnBoard (tasks_of J.ruling P.says heads) seat.old t p result seat.new }
@@ -68,7 +71,7 @@ impl<J: Judge + Drop, P: Provers + Drop> TaskBoard<J, P> {
     pub fn post<R: Wait>(
         &self,
         rt: &R,
-        seat: &mut Seat<J, P>,
+        seat: &mut TaskSeat<J, P>,
         t: u32,
         p: u32,
         qid: Qid,
@@ -83,7 +86,7 @@ impl<J: Judge + Drop, P: Provers + Drop> TaskBoard<J, P> {
     }
 
     /// Splits a seat off the first one. It has seen the same and has no receipts. It takes no memory.
-    pub fn split(&self, seat: &mut Seat<J, P>) -> Seat<J, P>
+    pub fn split(&self, seat: &mut TaskSeat<J, P>) -> TaskSeat<J, P>
         requires lock { seat.old.lock ≡ self.now }
         requires first { seat.old.number ≡ 0 }
         requires few { seat.old.out + 2 < 2 ^ 64 }
@@ -94,7 +97,7 @@ impl<J: Judge + Drop, P: Provers + Drop> TaskBoard<J, P> {
     }
 
     /// Joins a seat that was split off into the first one, which takes its receipts behind its own.
-    pub fn join(&self, seat: &mut Seat<J, P>, other: Seat<J, P>)
+    pub fn join(&self, seat: &mut TaskSeat<J, P>, other: TaskSeat<J, P>)
         requires lock { (seat.old.lock ≡ self.now) × (other.lock ≡ self.now) }
         requires first { seat.old.number ≡ 0 }
         ensures { seat.new ≡ after_join seat.old other }
@@ -105,7 +108,7 @@ impl<J: Judge + Drop, P: Provers + Drop> TaskBoard<J, P> {
     /// The books, once every seat that was split off is joined in again. Their openings are those of the seat, and their journal begins
     /// with all that was seen. The seat has the receipts of all seats then: no place stands in them twice, and each is a place of the
     /// journal.
-    pub fn into_books(self, seat: Seat<J, P>) -> Books<J, P>
+    pub fn into_books(self, seat: TaskSeat<J, P>) -> Books<J, P>
         requires lock { seat.lock ≡ self }
         requires first { seat.number ≡ 0 }
         requires none_out { seat.out ≡ 0 }

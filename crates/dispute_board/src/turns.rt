@@ -9,7 +9,7 @@ ghost use Rattle.dispute_board.specs.OneHistory.{receipt_of};
 ghost use Rattle.dispute_board.specs.Turns.{Asks, Posts, is_due, undue};
 
 use bisect_game::{Judge, Provers};
-use board_book::{Ask, Book, Books};
+use board_book::{Ask, Book, Books, tasks_are_numbered};
 use rd_base::Qid;
 use seat_lock::{Job, Logged};
 use std::collections::LinkedList;
@@ -98,6 +98,7 @@ fn ask_in_turn<J: Judge + Drop, P: Provers + Drop>(books: &Books<J, P>, t: u32, 
     ensures { Asks (tasks_of J.ruling P.says (openings books.now.0)) books.now.1 t p result }
 {
     books.is_legal();
+    tasks_are_numbered::<J, P>();
     let book = books.book(t);
     book.is_legal();
     book.asks_what_the_case_asks();
@@ -160,6 +161,7 @@ fn post_in_turn<J: Judge + Drop, P: Provers + Drop>(
     ensures posts { Posts (tasks_of J.ruling P.says (openings books.old.0)) books.old.1 post.t post.p post.qid (answer_of post.turn) result books.new.1 }
 {
     books.is_legal();
+    tasks_are_numbered::<J, P>();
     let book = books.book(post.t);
     book.is_legal();
     book.asks_what_the_case_asks();

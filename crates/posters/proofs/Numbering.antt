@@ -1,5 +1,5 @@
 -- The provers of all tasks by their numbers: who stands there, and what is said there.
-use Rattle.std.proofs.Common.{◌≡◌, ℕ, zero, suc, ◌+◌, ◌-◌, ◌*◌, ◌<◌, ◌≤◌, ◌⊎◌, inl, inr, ◌==◌, Bool, if◌then◌else◌, List, [], ◌∷◌, ◌++◌, map, length, get_or, take, Option, Some, None, refl, sym, ap, ap₂, ◌∙◌, subst, arith, append_assoc}
+use Rattle.std.proofs.Common.{◌≡◌, ℕ, zero, suc, ◌+◌, ◌-◌, ◌*◌, ◌<◌, ◌≤◌, ◌⊎◌, inl, inr, Bool, if◌then◌else◌, List, [], ◌∷◌, ◌++◌, map, length, get_or, take, Option, Some, None, refl, sym, ap, ap₂, ◌∙◌, subst, arith, append_assoc}
 use Rattle.std.specs.Prelude.{slice_get}
 use Rattle.std.specs.List.{range_with_len}
 use Rattle.std.proofs.lemmas.Bool.{ne_eqb}
@@ -13,9 +13,7 @@ use Rattle.tournament.specs.declared.setup.Setup.{Setup}
 use Rattle.board_book.specs.declared.entry.Entry.{Entry}
 use Rattle.board_book.specs.Tasks.{Task, task_of, BookOf, openings, tasks_of, numbered, entries_of, of_task}
 use Rattle.board_book.specs.Playing.{sayings_from, sayings}
-use Rattle.board_book.proofs.AloneLemmas.{entries_join, entries_of_block}
-use Rattle.board_book.proofs.KeepingLemmas.{numbered_map, opening_there}
-use Rattle.board_book.proofs.FinishLemmas.{said_in_order}
+use Rattle.board_book.specs.Numbers.{AreNumbered, AreToldApart, SayInOrder}
 use Rattle.dispute_board.specs.Replies.{IsThere}
 use Rattle.posters.specs.declared.place.Place.{Place}
 use Rattle.posters.specs.Places.{provers_from, places_from}
@@ -93,13 +91,13 @@ module _ {N M : Type 0} (says : M → Says) where
         says_it = same ∙ get_or_from_slice_get (sayings says heads) n (says p.head.1 x.prover) silent p.said;
       }
 
-module _ {N M : Type 0} (ruling : N → Ruling) (says : M → Says) where
+module _ {N M : Type 0} (ruling : N → Ruling) (says : M → Says) (law : AreNumbered ruling says) where
   -- a prover that is there
   pub is_there : (heads : List (N × M × Setup)) (x : Place) (said : Saying) → IsProver says heads x said → IsThere (tasks_of ruling says heads) x.task x.prover
-  is_there heads x said p = (task_of ruling says p.head, numbered_map (task_of ruling says) heads x.task p.head p.there, p.some, p.few)
+  is_there heads x said p = (task_of ruling says p.head, law.opening heads x.task p.head p.there, p.some, p.few)
 
   pub task_same : (heads : List (N × M × Setup)) (x : Place) (said : Saying) (k : Task) → (p : IsProver says heads x said) → numbered (tasks_of ruling says heads) x.task ≡ Some k → task_of ruling says p.head ≡ k
-  task_same heads x said k p e = same_Some (task_of ruling says p.head) k (sym (numbered_map (task_of ruling says) heads x.task p.head p.there) ∙ e)
+  task_same heads x said k p e = same_Some (task_of ruling says p.head) k (sym (law.opening heads x.task p.head p.there) ∙ e)
 
 -- a list by its numbers
 list_by_number : {B : Type 0} (d : B) (zs ys : List B) (j : ℕ) → length zs ≡ j → map (λ n. get_or (zs ++ ys) n d) (range_with_len j (length ys)) ≡ ys
@@ -177,17 +175,19 @@ placed_more {N} {M} hs i m h xs ys there so_far few is small next =
 
 -- what the answerers of one task say
 
-pub single_said : {A : Type 0} (answers : A → Saying) (says : Says) (m : ℕ) (xs : List A) → length xs ≡ m → AnswerAs answers says 1 xs → map answers xs ≡ sayings_from says 1 m ++ []
-single_said answers says m xs long a = said_in_order answers says 1 xs a ∙ (ap (sayings_from says 1) long ∙ sym (append-nil (sayings_from says 1 m)))
+pub single_said : {A : Type 0} (answers : A → Saying) → SayInOrder answers → (says : Says) (m : ℕ) (xs : List A) → length xs ≡ m → AnswerAs answers says 1 xs → map answers xs ≡ sayings_from says 1 m ++ []
+single_said answers law says m xs long a = law says 1 xs a ∙ (ap (sayings_from says 1) long ∙ sym (append-nil (sayings_from says 1 m)))
 
 -- the opening of the next book
 
-pub opening_of : {N M : Type 0} (bs : List (BookOf N M)) (i : ℕ) (b : BookOf N M) → numbered bs (i + 1) ≡ Some b → slice_get (openings bs) i ≡ Some b.0
-opening_of bs i b e =
+pub opening_of : {N M : Type 0} (ruling : N → Ruling) (says : M → Says) → AreNumbered ruling says → (bs : List (BookOf N M)) (i : ℕ) (b : BookOf N M) → numbered bs (i + 1) ≡ Some b → slice_get (openings bs) i ≡ Some b.0
+opening_of ruling says law bs i b e =
     let place : i + 1 - 1 ≡ i = omega arith in
-    ap (slice_get (openings bs)) (sym place) ∙ opening_there bs (i + 1) b e
+    ap (slice_get (openings bs)) (sym place)
+    ∙ (sym (ap (λ (z : Bool). if z then None else slice_get (openings bs) (i + 1 - 1)) (ne_eqb (i + 1) 0 (λ z. absurd (omega (arith, z))))) ∙ law.book bs (i + 1) b e)
 
 -- the entries of one task, after those that its book had
 
-pub entries_more : (es : List Entry) (xs : List (ℕ × Entry)) → entries_of 1 (of_task 1 es ++ xs) ≡ es ++ entries_of 1 xs
-entries_more es xs = entries_join 1 (of_task 1 es) xs ∙ ap (λ (l : List Entry). l ++ entries_of 1 xs) (entries_of_block 1 es)
+pub entries_more : AreToldApart → (after es : List Entry) (xs all : List (ℕ × Entry)) → all ≡ of_task 1 after → all ≡ of_task 1 es ++ xs → after ≡ es ++ entries_of 1 xs
+entries_more law after es xs all is more =
+    sym (law.own 1 after) ∙ (ap (entries_of 1) (sym is ∙ more) ∙ (law.joined 1 (of_task 1 es) xs ∙ ap (λ (l : List Entry). l ++ entries_of 1 xs) (law.own 1 es)))

@@ -1,18 +1,15 @@
 -- Seats of posters, and what they may post.
-use Rattle.std.proofs.Common.{◌≡◌, ℕ, List, [], ◌∷◌, ◌++◌, Option, Some, None, refl, sym, ap, ap₂, ◌∙◌, subst}
+use Rattle.std.proofs.Common.{◌≡◌, ℕ, List, [], ◌∷◌, ◌++◌, Option, Some, refl, ap, ◌∙◌}
 use Rattle.std.specs.List.{All}
 use Rattle.std.proofs.lemmas.List.Elements.{All-nil, All-cons, All-head, All-tail}
 use Rattle.rd_base.specs.declared.answer.Answer.{Answer}
-use Rattle.rd_base.specs.declared.answer.Qid.{Qid}
-use Rattle.bisect_game.specs.declared.question.Kind.{Kind}
 use Rattle.bisect_game.specs.declared.question.Question.{Question}
 use Rattle.bisect_game.specs.Says.{Says}
-use Rattle.bisect_game.specs.Rules.{Rules}
 use Rattle.seat_lock.specs.History.{LogEntry, History, log_of, turns_of, Begins}
 use Rattle.seat_lock.specs.Seats.{LockId, Known, after_join}
 use Rattle.seat_lock.specs.Turned.{SameSeat}
-use Rattle.dispute_board.specs.Replies.{IsOfTheCase, MayPost, MayPostFor}
-use Rattle.std.proofs.lemmas.Option.{same_Some}
+use Rattle.board_book.specs.Numbers.{AreNumbered}
+use Rattle.dispute_board.specs.Replies.{IsOfTheCase, MayPostFor, SaidMayBePosted}
 use Rattle.bisect_game.specs.Ruling.{Ruling}
 use Rattle.tournament.specs.declared.setup.Setup.{Setup}
 use Rattle.board_book.specs.Tasks.{Task, task_of, numbered, tasks_of}
@@ -20,22 +17,12 @@ use Rattle.posters.specs.declared.place.Place.{Place}
 use Rattle.posters.specs.Serving.{kept_of, IsSeatOf, KnowsStart, IsProver}
 use Rattle.posters.proofs.Numbering.{task_same}
 
-pub same_question : (a b : Question) → a.qid ≡ b.qid → a.kind ≡ b.kind → a ≡ b
-same_question a b q k = ap₂ (λ (i : Qid) (j : Kind). record { qid = i; kind = j }) q k
-
--- what a prover says to a question that the case asks it may be posted under the question's number
-pub may_post : (rules : Rules) (says : Says) (p : ℕ) (q : Question) (n : ℕ) (m : Option Answer) → IsOfTheCase rules says p q → m ≡ says p q n → MayPost rules says p q.qid m
-may_post rules says p q n m asked said r same also =
-    (n, said ∙ ap (λ (x : Question). says p x n) (same_question q r (sym same) (same_Some q.kind r.kind (sym asked ∙ subst (λ i. Rattle.tournament.specs.Asked.asked rules (Rattle.tournament.specs.Bracket.bracket rules (Rattle.tournament.specs.Journals.answers_of rules says)) p i ≡ Some r.kind) same also))))
-
 -- what the prover of a place says to a question that its task's case asks may be posted for it
-pub may_post_for : {N M : Type 0} (ruling : N → Ruling) (says : M → Says) (heads : List (N × M × Setup)) (x : Place) (said : Question → ℕ → Option Answer) (q : Question) (n : ℕ) (m : Option Answer) → IsProver says heads x said →
+pub may_post_for : {N M : Type 0} (ruling : N → Ruling) (says : M → Says) → AreNumbered ruling says → SaidMayBePosted → (heads : List (N × M × Setup)) (x : Place) (said : Question → ℕ → Option Answer) (q : Question) (n : ℕ) (m : Option Answer) → IsProver says heads x said →
     (k : Task) → numbered (tasks_of ruling says heads) x.task ≡ Some k → IsOfTheCase k.rules k.says x.prover q → m ≡ said q n → MayPostFor (tasks_of ruling says heads) x.task x.prover q.qid m
-may_post_for ruling says heads x said q n m p k there asked same l also =
-    let one : task_of ruling says p.head ≡ k = task_same ruling says heads x said k p there in
-    let two : k ≡ l = same_Some k l (sym there ∙ also) in
-    let own : m ≡ k.says x.prover q n = same ∙ (ap (λ (f : Question → ℕ → Option Answer). f q n) p.says_it ∙ ap (λ (j : Task). j.says x.prover q n) one) in
-    subst (λ (j : Task). MayPost j.rules j.says x.prover q.qid m) two (may_post k.rules k.says x.prover q n m asked own)
+may_post_for ruling says law may heads x said q n m p k there asked same =
+    let one : task_of ruling says p.head ≡ k = task_same ruling says law heads x said k p there in
+    may (tasks_of ruling says heads) x.task x.prover k q n m there asked (same ∙ (ap (λ (f : Question → ℕ → Option Answer). f q n) p.says_it ∙ ap (λ (j : Task). j.says x.prover q n) one))
 
 pub log_of-turns_of : (log : List LogEntry) → log_of (turns_of log) ≡ log
 log_of-turns_of [] = refl

@@ -7,7 +7,7 @@ ghost use Rattle.board_book.specs.declared.entry.Entry.{Entry};
 use crate::gate::{Gate, OneGate};
 use crate::playing::play_tasks;
 use bisect_game::{Answerer, Judge, Provers};
-use board_book::{Book, Books};
+use board_book::{Book, Books, answerers_say_in_order, entries_are_told_apart};
 use rd_base::Memory;
 use std::alloc::Global;
 use std::sync::Wait;
@@ -46,12 +46,9 @@ where
     ensures prefix { IfOk result (λ played. (es : List Entry) × (played.1 ≡ book.1 ++ es)) }
     ensures keeps { AnswerAs A.answers (P.says book.0.1) 1 answerers.new }
 {
+    answerers_say_in_order::<A>();
+    entries_are_told_apart();
     let books = Books::one(alloc, book)?;
     let played = play_tasks(rt, alloc, books, answerers, posters, &OneGate { gate })?;
-    played.is_legal();
-    let mut list = played.into_list();
-    match list.pop() {
-        Some(book) => Ok(book),
-        None => unreachable!(),
-    }
+    Ok(played.into_one())
 }

@@ -14,8 +14,8 @@ use crate::gate::TaskGate;
 use crate::place::Place;
 use crate::serving::{Hall, Poster};
 use bisect_game::{Answerer, Judge, Provers};
-use board_book::Books;
-use dispute_board::{Seat, TaskBoard, logs_tell_journals};
+use board_book::{Books, tasks_are_numbered};
+use dispute_board::{TaskBoard, TaskSeat, logs_tell_journals};
 use rd_base::Memory;
 use round_robin::serve_all;
 use std::alloc::Global;
@@ -44,6 +44,7 @@ fn places_of<J: Judge + Drop, P: Provers + Drop>(
     ensures places { IfOk result (λ places. places.items ≡ places_from 1 (openings books.now.0)) }
     ensures few { IfOk result (λ places. length places.items ≤ 128) }
 {
+    tasks_are_numbered::<J, P>();
     let mut places = Vec::new(alloc);
     for i in 0..books.count() {
         add_provers(&mut places, i + 1, books.book(i + 1).setup().provers)?;
@@ -54,7 +55,7 @@ fn places_of<J: Judge + Drop, P: Provers + Drop>(
 // Splits a seat off for each poster, the classes from 0 on.
 fn seat_posters<J: Judge + Drop, P: Provers + Drop>(
     board: &TaskBoard<J, P>,
-    seat: &mut Seat<J, P>,
+    seat: &mut TaskSeat<J, P>,
     posters: &mut Vec<Poster<J, P>>,
     count: u32,
 )
@@ -76,7 +77,7 @@ fn seat_posters<J: Judge + Drop, P: Provers + Drop>(
 #[tactic(auto, using(crate::proofs::Seats::knows_itself))]
 fn join_posters<J: Judge + Drop, P: Provers + Drop>(
     board: &TaskBoard<J, P>,
-    seat: &mut Seat<J, P>,
+    seat: &mut TaskSeat<J, P>,
     mut posters: Vec<Poster<J, P>>,
 )
     requires seat { (seat.old.lock ≡ board.now) × (seat.old.number ≡ 0) × (seat.old.out ≡ length posters.items) }

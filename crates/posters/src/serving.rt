@@ -10,8 +10,8 @@ ghost use Rattle.posters.specs.Serving.{kept_of, IsSeatOf, IsProver, said_by};
 use crate::gate::TaskGate;
 use crate::place::Place;
 use bisect_game::{Answerer, Judge, Provers};
-use board_book::Ask;
-use dispute_board::{Seat, TaskBoard};
+use board_book::{Ask, tasks_are_numbered};
+use dispute_board::{TaskBoard, TaskSeat, what_is_said_may_be_posted};
 use rd_base::Answer;
 use round_robin::Worker;
 use std::sync::Wait;
@@ -46,7 +46,7 @@ pub struct Hall<'g, J: Judge + Drop, P: Provers + Drop, G: TaskGate> {
 #[derive(Drop)]
 pub struct Poster<J: Judge + Drop, P: Provers + Drop> {
     pub class: u32,
-    pub seat: Seat<J, P>,
+    pub seat: TaskSeat<J, P>,
 }
 
 /// What a turn of a poster came to.
@@ -135,13 +135,21 @@ fn serve_prover<
     A: Answerer,
     G: TaskGate,
     R: Threads + Wait + Sync,
->(rt: &R, hall: &Hall<'_, J, P, G>, seat: &mut Seat<J, P>, place: Place, answerer: &mut A) -> Turn
+>(
+    rt: &R,
+    hall: &Hall<'_, J, P, G>,
+    seat: &mut TaskSeat<J, P>,
+    place: Place,
+    answerer: &mut A,
+) -> Turn
     requires sync { IsSync R.row }
     requires seat { (heads : List (J.Names × P.Names × Setup)) × IsSeatOf hall.now.board heads seat.old × IsProver P.says heads place (A.answers answerer.old) }
     ensures seat { kept_of seat.new ≡ kept_of seat.old }
     ensures answerer { A.answers answerer.new ≡ A.answers answerer.old }
 {
     let Place { task, prover } = place;
+    tasks_are_numbered::<J, P>();
+    what_is_said_may_be_posted();
     match hall.board.ask(rt, seat, task, prover) {
         Ask::Over => Turn::Over,
         Ask::Nothing => Turn::Idle,
@@ -168,7 +176,7 @@ fn serve_round<
 >(
     rt: &R,
     hall: &Hall<'_, J, P, G>,
-    seat: &mut Seat<J, P>,
+    seat: &mut TaskSeat<J, P>,
     numbers: &[u32],
     answerers: &mut [A],
     idle_before: u32,
@@ -214,7 +222,7 @@ fn serve_all_rounds<
 >(
     rt: &R,
     hall: &Hall<'_, J, P, G>,
-    seat: &mut Seat<J, P>,
+    seat: &mut TaskSeat<J, P>,
     numbers: &[u32],
     answerers: &mut [A],
 ) -> bool

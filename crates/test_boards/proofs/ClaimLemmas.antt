@@ -21,19 +21,12 @@ use Rattle.test_boards.specs.Seats.{IsSeatOfTwo}
 pub some_is : {A : Type 0} (a b : A) → Some a ≡ Some b → a ≡ b
 some_is {A} a b e = ap (λ (o : Option A). elim o [ None ↦ a | Some x ↦ x ]) e
 
--- the opening of one task
-pub the_opening : (board : LockId) (cast : Cast) (k : Known (List (ℕ × Cast × Setup))) → IsSeatOfTwo board cast k → (head : ℕ × Cast × Setup) × (k.head ≡ Some (head ∷ []))
-the_opening board cast k s = ((s.judge, cast, s.setup), s.head)
-
-pub has_prover : (board : LockId) (cast : Cast) (k : Known (List (ℕ × Cast × Setup))) (p : ℕ) → IsSeatOfTwo board cast k → p ≤ 2 → (head : ℕ × Cast × Setup) × (k.head ≡ Some (head ∷ [])) × (p ≤ head.2.provers)
+-- there are two provers
+pub has_prover : (board : LockId) (cast : Cast) (k : Known (ℕ × Cast × Setup)) (p : ℕ) → IsSeatOfTwo board cast k → p ≤ 2 → (head : ℕ × Cast × Setup) × (k.head ≡ Some head) × (p ≤ head.2.provers)
 has_prover board cast k p s few = ((s.judge, cast, s.setup), s.head, subst (λ (n : ℕ). p ≤ n) (sym s.two) few)
 
-abbrev first_of : {A : Type 0} → A → List A → A
-first_of d [] = d
-first_of d (x ∷ xs) = x
-
-pub same_opening : (board : LockId) (cast : Cast) (k : Known (List (ℕ × Cast × Setup))) (head : ℕ × Cast × Setup) → (s : IsSeatOfTwo board cast k) → k.head ≡ Some (head ∷ []) → (s.judge, cast, s.setup) ≡ head
-same_opening board cast k head s e = ap (first_of head) (some_is ((s.judge, cast, s.setup) ∷ []) (head ∷ []) (sym s.head ∙ e))
+pub same_opening : (board : LockId) (cast : Cast) (k : Known (ℕ × Cast × Setup)) (head : ℕ × Cast × Setup) → (s : IsSeatOfTwo board cast k) → k.head ≡ Some head → (s.judge, cast, s.setup) ≡ head
+same_opening board cast k head s e = some_is (s.judge, cast, s.setup) head (sym s.head ∙ e)
 
 same_question : (a b : Question) → a.qid ≡ b.qid → a.kind ≡ b.kind → a ≡ b
 same_question a b q k = ap₂ (λ (i : Qid) (j : Kind). record { qid = i; kind = j }) q k

@@ -9,13 +9,9 @@ use Rattle.seat_lock.specs.Seats.{LockId, Known, first_seat}
 use Rattle.seat_lock.specs.Turned.{SameSeat}
 use Rattle.board_book.specs.declared.entry.Ask.{Ask}
 use Rattle.board_book.specs.declared.entry.Ask.TheVariants as variant
-use Rattle.board_book.specs.Tasks.{Task, BookOf, openings, tasks_of, numbered}
-use Rattle.dispute_board.specs.Replies.{IsThere, MayPostFor}
+use Rattle.board_book.specs.Tasks.{Task, task_of, BookOf, openings, tasks_of, numbered}
+use Rattle.dispute_board.specs.Replies.{IsThere, MayPostFor, SaidMayBePosted}
 use Rattle.dispute_board.specs.OneHistory.{AsksOnBoard}
-use Rattle.posters.specs.declared.place.Place.{Place}
-use Rattle.posters.specs.Serving.{IsProver}
-use Rattle.posters.proofs.Numbering.{is_there}
-use Rattle.posters.proofs.Seats.{may_post_for}
 use Rattle.toy_game.specs.declared.cast.Cast.{Cast}
 use Rattle.toy_game.specs.Toy.{toy_ruling, says_of}
 use Rattle.test_boards.specs.Casts.{opening_of, cast_at}
@@ -28,8 +24,8 @@ says cast = says_of cast.players
 abbrev Opening : Type 0
 Opening = ℕ × Cast × Setup
 
--- the opening of task t
-the_task : (a b : Cast) (t : ℕ) → 0 < t → t ≤ 2 → numbered (opening_of a ∷ opening_of b ∷ []) t ≡ Some (opening_of (cast_at a b t))
+-- task t
+the_task : (a b : Cast) (t : ℕ) → 0 < t → t ≤ 2 → numbered (tasks_of toy_ruling says (opening_of a ∷ opening_of b ∷ [])) t ≡ Some (task_of toy_ruling says (opening_of (cast_at a b t)))
 the_task a b zero some few = absurd (omega (arith, some))
 the_task a b (suc zero) some few = refl
 the_task a b (suc (suc zero)) some few = refl
@@ -43,28 +39,19 @@ module _ (board : LockId) (a b : Cast) (k : Known (List Opening)) (s : IsSeatOfT
   abbrev heads_of : List Opening
   heads_of = opening_of a ∷ opening_of b ∷ []
 
-  prover_of : (t p : ℕ) → 0 < t → t ≤ 2 → 0 < p → p ≤ 2 → IsProver says heads_of (record { task = t; prover = p }) (says (cast_at a b t) p)
-  prover_of t p some few low high = record {
-    head = opening_of (cast_at a b t);
-    there = the_task a b t some few;
-    some = low;
-    few = subst (λ (n : ℕ). p ≤ n) (sym (two_at (t == 1) a b s.two.0 s.two.1)) high;
-    says_it = refl;
-  }
-
   pub there_of : (t p : ℕ) → 0 < t → t ≤ 2 → 0 < p → p ≤ 2 → (heads : List Opening) → k.head ≡ Some heads → IsThere (tasks_of toy_ruling says heads) t p
   there_of t p some few low high heads e =
       subst (λ (hs : List Opening). IsThere (tasks_of toy_ruling says hs) t p) (same_Some heads_of heads (sym s.head ∙ e))
-      (is_there toy_ruling says heads_of (record { task = t; prover = p }) (says (cast_at a b t) p) (prover_of t p some few low high))
+      (task_of toy_ruling says (opening_of (cast_at a b t)), the_task a b t some few, low, subst (λ (n : ℕ). p ≤ n) (sym (two_at (t == 1) a b s.two.0 s.two.1)) high)
 
-  pub may_of : (t p : ℕ) → 0 < t → t ≤ 2 → 0 < p → p ≤ 2 → (q : Question) (n : ℕ) (m : Option Answer) (ask : Ask) (after : Known (List Opening)) (heads : List Opening) → k.head ≡ Some heads → (asks : AsksOnBoard (tasks_of toy_ruling says heads) k t p ask after) → ask ≡ variant.Question q n → m ≡ says (cast_at a b t) p q n →
+  pub may_of : SaidMayBePosted → (t p : ℕ) → 0 < t → t ≤ 2 → (q : Question) (n : ℕ) (m : Option Answer) (ask : Ask) (after : Known (List Opening)) (heads : List Opening) → k.head ≡ Some heads → (asks : AsksOnBoard (tasks_of toy_ruling says heads) k t p ask after) → ask ≡ variant.Question q n → m ≡ says (cast_at a b t) p q n →
       (hs : List Opening) → after.head ≡ Some hs → MayPostFor (tasks_of toy_ruling says hs) t p q.qid m
-  may_of t p some few low high q n m ask after heads e asks is said hs later =
+  may_of may t p some few q n m ask after heads e asks is said hs later =
       let same : heads ≡ heads_of = same_Some heads heads_of (sym e ∙ s.head) in
       let next : heads_of ≡ hs = same_Some heads_of hs (sym (asks.stands.same.head ∙ s.head) ∙ later) in
-      subst (λ (l : List Opening). MayPostFor (tasks_of toy_ruling says l) t p q.qid m) next
-      (may_post_for toy_ruling says heads_of (record { task = t; prover = p }) (says (cast_at a b t) p) q n m (prover_of t p some few low high) asks.task
-      (subst (λ (l : List Opening). numbered (tasks_of toy_ruling says l) t ≡ Some asks.task) same asks.there) (asks.asked q n is) said)
+      let own : task_of toy_ruling says (opening_of (cast_at a b t)) ≡ asks.task = same_Some (task_of toy_ruling says (opening_of (cast_at a b t))) asks.task (sym (the_task a b t some few) ∙ subst (λ (l : List Opening). numbered (tasks_of toy_ruling says l) t ≡ Some asks.task) same asks.there) in
+      subst (λ (l : List Opening). MayPostFor (tasks_of toy_ruling says l) t p q.qid m) (same ∙ next)
+      (may (tasks_of toy_ruling says heads) t p asks.task q n m asks.there (asks.asked q n is) (said ∙ ap (λ (j : Task). j.says p q n) own))
 
   pub still_there : (after : Known (List Opening)) → SameSeat k after → IsSeatOfTasks board a b after
   still_there after same = record {

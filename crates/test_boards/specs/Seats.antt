@@ -6,11 +6,11 @@ use Rattle.toy_game.specs.declared.cast.Cast.{Cast}
 use Rattle.test_boards.specs.Casts.{opening_of}
 
 -- a seat at this board, where two players of this cast play one task
-pub record IsSeatOfTwo (board : LockId) (cast : Cast) (k : Known (List (ℕ × Cast × Setup))) : Type 0 where
+pub record IsSeatOfTwo (board : LockId) (cast : Cast) (k : Known (ℕ × Cast × Setup)) : Type 0 where
   pub judge : ℕ
   pub setup : Setup
   pub lock : k.lock ≡ board
-  pub head : k.head ≡ Some ((judge, cast, setup) ∷ [])
+  pub head : k.head ≡ Some (judge, cast, setup)
   pub two : setup.provers ≡ 2
 
 -- a seat at this board, where two players of each cast play a task, the first cast task 1

@@ -133,7 +133,6 @@ fn ask_and_pass<R: Wait>(
 }
 
 /// What comes of two silent provers without patience, who pass one after another, and how many entries they leave.
-#[tactic(auto, using(crate::proofs::ClaimLemmas::the_opening))]
 fn both_pass<R: Wait>(rt: &R, alloc: Global) -> Result<([(Asked, Receipt); 5], usize), Memory> {
     let cast = two(SILENT, SILENT);
     let (board, mut seat) = board_of(alloc, cast, 0)?;
@@ -163,7 +162,6 @@ fn silent_provers_are_spent_one_by_one(rt: HostRuntime) -> Result<(), Fail> {
 
 /// What comes of a player that passes once on each question. The first seat asks for it and passes; a second seat, which is split off the
 /// first one, posts the other player's claim and is joined in again; then the first one asks once more and posts the late claim.
-#[tactic(auto, using(crate::proofs::ClaimLemmas::the_opening))]
 fn late_over_two_seats<R: Threads + Wait + Sync>(
     rt: &R,
     alloc: Global,
@@ -195,7 +193,6 @@ fn a_late_prover_over_two_seats(rt: HostRuntime) -> Result<(), Fail> {
 }
 
 /// What comes of a player that passes twice on each question, passes once and then posts its claim.
-#[tactic(auto, using(crate::proofs::ClaimLemmas::the_opening))]
 fn claim_too_early<R: Threads + Wait + Sync>(
     rt: &R,
     alloc: Global,

@@ -9,7 +9,7 @@ use crate::casts::{ToyBooks, all_in_short, books_of, cast_of, played};
 use crate::in_short::{Short, in_short};
 use bisect_game::Answerer;
 use board_book::{Ask, Book, Entry};
-use dispute_board::{Seat, TaskBoard};
+use dispute_board::{TaskBoard, TaskSeat, what_is_said_may_be_posted};
 use posters::{OpenGate, TaskGate};
 use rd_base::{Answer, Memory, Qid};
 use std::alloc::Global;
@@ -191,7 +191,7 @@ fn posters_of_two_tasks_side_by_side(rt: HostRuntime) -> Result<(), Fail> {
 
 type ToyTasks = TaskBoard<ToyJudge, Cast>;
 
-type ToySeat = Seat<ToyJudge, Cast>;
+type ToySeat = TaskSeat<ToyJudge, Cast>;
 
 // The move that gives this answer; a pass for none.
 fn move_of(answer: Option<Answer>) -> Move
@@ -236,6 +236,7 @@ fn serve<R: Threads + Wait + Sync>(
     ensures seat { IsSeatOfTasks board.now first second seat.new }
     ensures same { kept_of seat.new ≡ kept_of seat.old }
 {
+    what_is_said_may_be_posted();
     match board.ask(rt, seat, t, p) {
         Ask::Question(question, passes) => {
             let player = player_at(&first, &second, t, p);

@@ -1,4 +1,4 @@
-use Rattle.std.proofs.Common.{◌≤◌, ◌-◌, ◌∙◌, length, refl, sym, subst, drop}
+use Rattle.std.proofs.Common.{◌≤◌, ◌∙◌, length, refl, sym, subst, drop}
 use Rattle.std.proofs.lemmas.Option.{same_Some}
 use Rattle.bisect_game.specs.Says.{AnswerAs}
 use Rattle.board_book.specs.Tasks.{of_task, BookOf}

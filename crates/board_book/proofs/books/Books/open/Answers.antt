@@ -1,4 +1,3 @@
-use Rattle.std.proofs.Common.{[]}
 use Rattle.board_book.proofs.KeepingLemmas.{kept_empty}
 use Rattle.board_book.proofs.books.Books.open.Goals as goal
 

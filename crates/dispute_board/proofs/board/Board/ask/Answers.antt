@@ -1,19 +1,23 @@
-use Rattle.std.proofs.Common.{◌≡◌, ◌∙◌, List, [], ◌∷◌, sym, refl, subst}
-use Rattle.std.proofs.lemmas.Option.{same_Some}
-use Rattle.tournament.specs.declared.setup.Setup.{Setup}
-use Rattle.board_book.specs.Tasks.{task_of, tasks_of}
-use Rattle.dispute_board.specs.Replies.{IsThere}
+use Rattle.std.proofs.Common.{◌∙◌, [], ◌∷◌, ap, subst}
+use Rattle.board_book.specs.Tasks.{task_of}
 use Rattle.dispute_board.specs.OneHistory.{AsksOnBoard}
+use Rattle.dispute_board.specs.OneTask.{of_one}
+use Rattle.dispute_board.proofs.Single.{head_is, still_one, only_there, only_asks}
 use Rattle.dispute_board.proofs.board.Board.ask.Goals as goal
 
 pub ask-requires-clause-there : goal.ask-requires-clause-there
-ask-requires-clause-there g c = λ heads e.
+ask-requires-clause-there g c =
     let f = c.requires.few in
-    let one : f.0 ∷ [] ≡ heads = same_Some (f.0 ∷ []) heads (sym f.1 ∙ e) in
-    subst (λ (hs : List (g.row.J-Names.Denot × g.row.P-Names.Denot × Setup)). IsThere (tasks_of g.J.Judge.ruling g.P.Provers.says hs) 1 c.args.p) one (task_of g.J.Judge.ruling g.P.Provers.says f.0, refl, c.requires.some, f.2)
+    only_there g.J.Judge.ruling g.P.Provers.says c.seat.inside.tasks f.0 c.args.p (head_is c.seat.inside.tasks f.0 c.seat.invariant (ap (λ k. k.head) c.seat.view_is ∙ f.1)) c.requires.some f.2
+
+pub invariant_of-seat : goal.invariant_of-seat
+invariant_of-seat g c = still_one c.seat.inside.tasks c.ask.new.seat c.ask.ensures.2.stands.same c.seat.invariant
 
 pub returns : goal.returns
 returns g c =
-    let a = c.ask.ensures in let f = c.requires.few in
-    let one : a.0 ≡ f.0 ∷ [] = same_Some a.0 (f.0 ∷ []) (sym a.1 ∙ f.1) in
-    (f.0, f.1, subst (λ (hs : List (g.row.J-Names.Denot × g.row.P-Names.Denot × Setup)). AsksOnBoard (tasks_of g.J.Judge.ruling g.P.Provers.says hs) c.args.seat.now 1 c.args.p c.ask.result c.ask.new.seat) one a.2)
+    let f = c.requires.few in let a = c.ask.ensures in (
+      f.0,
+      f.1,
+      subst (λ k. AsksOnBoard (task_of g.J.Judge.ruling g.P.Provers.says f.0 ∷ []) k 1 c.args.p c.ask.result (of_one c.ask.new.seat)) c.seat.view_is
+          (only_asks g.J.Judge.ruling g.P.Provers.says c.seat.inside.tasks c.ask.new.seat f.0 c.args.p c.ask.result (head_is c.seat.inside.tasks f.0 c.seat.invariant (ap (λ k. k.head) c.seat.view_is ∙ f.1)) a.0 a.1 a.2),
+    )

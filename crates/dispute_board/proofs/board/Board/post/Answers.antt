@@ -1,27 +1,29 @@
-use Rattle.std.proofs.Common.{◌≡◌, ◌∙◌, List, [], ◌∷◌, sym, refl, subst}
-use Rattle.std.proofs.lemmas.Option.{same_Some}
-use Rattle.tournament.specs.declared.setup.Setup.{Setup}
+use Rattle.std.proofs.Common.{◌∙◌, [], ◌∷◌, ap, subst}
 use Rattle.tournament.specs.Posting.{answer_of}
-use Rattle.board_book.specs.Tasks.{Task, task_of, tasks_of}
-use Rattle.dispute_board.specs.Replies.{MayPost, MayPostFor, IsThere}
+use Rattle.board_book.specs.Tasks.{task_of}
 use Rattle.dispute_board.specs.OneHistory.{PostsOnBoard}
+use Rattle.dispute_board.specs.OneTask.{of_one}
+use Rattle.dispute_board.proofs.Single.{head_is, still_one, only_there, only_may, only_posts}
 use Rattle.dispute_board.proofs.board.Board.post.Goals as goal
 
 pub post-requires-clause-there : goal.post-requires-clause-there
-post-requires-clause-there g c = λ heads e.
+post-requires-clause-there g c =
     let f = c.requires.few in
-    let one : f.0 ∷ [] ≡ heads = same_Some (f.0 ∷ []) heads (sym f.1 ∙ e) in
-    subst (λ (hs : List (g.row.J-Names.Denot × g.row.P-Names.Denot × Setup)). IsThere (tasks_of g.J.Judge.ruling g.P.Provers.says hs) 1 c.args.p) one (task_of g.J.Judge.ruling g.P.Provers.says f.0, refl, c.requires.some, f.2)
+    only_there g.J.Judge.ruling g.P.Provers.says c.seat.inside.tasks f.0 c.args.p (head_is c.seat.inside.tasks f.0 c.seat.invariant (ap (λ k. k.head) c.seat.view_is ∙ f.1)) c.requires.some f.2
 
 pub post-requires-clause-may : goal.post-requires-clause-may
-post-requires-clause-may g c = λ heads e.
+post-requires-clause-may g c =
     let f = c.requires.few in
-    let one : f.0 ∷ [] ≡ heads = same_Some (f.0 ∷ []) heads (sym f.1 ∙ e) in
-    subst (λ (hs : List (g.row.J-Names.Denot × g.row.P-Names.Denot × Setup)). MayPostFor (tasks_of g.J.Judge.ruling g.P.Provers.says hs) 1 c.args.p c.args.qid (answer_of c.args.turn)) one
-    (λ k is. subst (λ (j : Task). MayPost j.rules j.says c.args.p c.args.qid (answer_of c.args.turn)) (same_Some (task_of g.J.Judge.ruling g.P.Provers.says f.0) k is) (c.requires.may f.0 f.1))
+    only_may g.J.Judge.ruling g.P.Provers.says c.seat.inside.tasks f.0 c.args.p c.args.qid (answer_of c.args.turn) (head_is c.seat.inside.tasks f.0 c.seat.invariant (ap (λ k. k.head) c.seat.view_is ∙ f.1)) (c.requires.may f.0 f.1)
+
+pub invariant_of-seat : goal.invariant_of-seat
+invariant_of-seat g c = still_one c.seat.inside.tasks c.post.new.seat c.post.ensures.2.stands.same c.seat.invariant
 
 pub returns : goal.returns
 returns g c =
-    let a = c.post.ensures in let f = c.requires.few in
-    let one : a.0 ≡ f.0 ∷ [] = same_Some a.0 (f.0 ∷ []) (sym a.1 ∙ f.1) in
-    (f.0, f.1, subst (λ (hs : List (g.row.J-Names.Denot × g.row.P-Names.Denot × Setup)). PostsOnBoard (tasks_of g.J.Judge.ruling g.P.Provers.says hs) c.args.seat.now 1 c.args.p c.args.qid (answer_of c.args.turn) c.post.result c.post.new.seat) one a.2)
+    let f = c.requires.few in let a = c.post.ensures in (
+      f.0,
+      f.1,
+      subst (λ k. PostsOnBoard (task_of g.J.Judge.ruling g.P.Provers.says f.0 ∷ []) k 1 c.args.p c.args.qid (answer_of c.args.turn) c.post.result (of_one c.post.new.seat)) c.seat.view_is
+          (only_posts g.J.Judge.ruling g.P.Provers.says c.seat.inside.tasks c.post.new.seat f.0 c.args.p c.args.qid (answer_of c.args.turn) c.post.result (head_is c.seat.inside.tasks f.0 c.seat.invariant (ap (λ k. k.head) c.seat.view_is ∙ f.1)) a.0 a.1 a.2),
+    )
