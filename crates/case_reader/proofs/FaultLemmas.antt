@@ -14,27 +14,31 @@ use Rattle.case_reader.specs.declared.fault.Key.TheVariants as keys
 use Rattle.serde_json.specs.Find.{get}
 use Rattle.case_reader.specs.Key.{key_text}
 use Rattle.case_reader.specs.Case.{case_of, case_at}
-use Rattle.case_reader.specs.Fields.{field, text_in, bytes_in, number_of, number_in, number_if_there, optional_number_in, format_in, image_in, input_in, fan_in, stake_in, array_in, provers_in}
+use Rattle.case_reader.specs.Fields.{field, text_in, bytes_in, number_of, number_in, number_if_there, optional_number_in, has_tasks, single_in, format_in, image_in, input_in, version_in, fan_in, array_in, provers_in}
 use Rattle.case_reader.specs.Provers.{scripts_in}
 
 -- a reading that doesn't end as out of memory
-abbrev IsFree : {A : Type 0} → Result A CaseFault → Type 0
+abbrev pub IsFree : {A : Type 0} → Result A CaseFault → Type 0
 IsFree r = ¬ (r ≡ Err Memory)
 
-then-free : {A B : Type 0} (r : Result A CaseFault) (f : A → Result B CaseFault) → IsFree r → ((x : A) → IsFree (f x)) → IsFree (r >>= f)
+pub then-free : {A B : Type 0} (r : Result A CaseFault) (f : A → Result B CaseFault) → IsFree r → ((x : A) → IsFree (f x)) → IsFree (r >>= f)
 then-free (Ok x) f free further = further x
 then-free (Err e) f free further = λ is. free (ap Err (cc is))
 
-some-free : {A : Type 0} (o : Option A) (e : CaseFault) → e ≢ Memory → IsFree (ok_or o e)
+pub some-free : {A : Type 0} (o : Option A) (e : CaseFault) → e ≢ Memory → IsFree (ok_or o e)
 some-free (Some x) e other = λ is. absurd (cc is)
 some-free None e other = λ is. other (cc is)
 
 ok-free : {A : Type 0} (x : A) → IsFree (Ok x)
 ok-free x = λ is. absurd (cc is)
 
-if-free : {A : Type 0} (b : Bool) (x : A) (e : CaseFault) → e ≢ Memory → IsFree (if b then Ok x else Err e)
+pub if-free : {A : Type 0} (b : Bool) (x : A) (e : CaseFault) → e ≢ Memory → IsFree (if b then Ok x else Err e)
 if-free true x e other = λ is. absurd (cc is)
 if-free false x e other = λ is. other (cc is)
+
+else-free : {A : Type 0} (b : Bool) (x : A) (e : CaseFault) → e ≢ Memory → IsFree (if b then Err e else Ok x)
+else-free true x e other = λ is. other (cc is)
+else-free false x e other = λ is. absurd (cc is)
 
 field-free : (key : Key) (tree : Data) → IsFree (field key tree)
 field-free key tree = some-free _ (Missing key) (λ is. cc is)
@@ -66,6 +70,10 @@ optional-free : (key : Key) (low high : ℕ) (tree : Data) → IsFree (optional_
 unfolding optional_number_in
 optional-free key low high tree = there-free key low high (get (key_text key) tree)
 
+version-free : (tree : Data) → IsFree (version_in tree)
+unfolding version_in
+version-free tree = then-free _ _ (optional-free keys.Version 1 3 tree) (λ version. ok-free _)
+
 fan-free : (tree : Data) → IsFree (fan_in tree)
 unfolding fan_in
 fan-free tree = then-free _ _ (optional-free keys.Fan 2 16 tree) (λ fan. ok-free _)
@@ -84,7 +92,7 @@ input-free : (tree : Data) → IsFree (input_in tree)
 unfolding input_in
 input-free tree = then-free _ _ (bytes-free _ tree) (λ input. if-free _ input (OutOfRange _) (λ is. cc is))
 
-array-free : (key : Key) (tree : Data) → IsFree (array_in key tree)
+pub array-free : (key : Key) (tree : Data) → IsFree (array_in key tree)
 unfolding array_in
 array-free key tree = then-free (field key tree) _ (field-free key tree) (λ value. some-free _ (WrongType key) (λ is. cc is))
 
@@ -98,19 +106,24 @@ scripts-free number [] = ok-free []
 scripts-free number (prover ∷ provers) =
     then-free _ _ (some-free _ (BadProver number) (λ is. cc is)) (λ script. then-free _ _ (scripts-free (number + 1) provers) (λ scripts. ok-free (script ∷ scripts)))
 
-case-free : (tree : Data) → IsFree (case_of tree)
+single-free : (tree : Data) → IsFree (single_in tree)
+single-free tree = else-free (has_tasks tree) tree (OutOfRange _) (λ is. cc is)
+
+pub case-free : (tree : Data) → IsFree (case_of tree)
 unfolding case_of
 case-free tree =
     then-free _ _ (some-free _ NotObject (λ is. cc is))
-    (λ members. then-free _ _ (format-free tree)
+    (λ members. then-free _ _ (single-free tree)
+    (λ single. then-free _ _ (format-free tree)
     (λ format. then-free _ _ (image-free format tree)
     (λ image. then-free _ _ (input-free tree)
     (λ input. then-free _ _ (number-free _ _ _ tree)
     (λ bound. then-free _ _ (number-free _ _ _ tree)
-    (λ patience. then-free _ _ (fan-free tree)
+    (λ patience. then-free _ _ (version-free tree)
+    (λ version. then-free _ _ (fan-free tree)
     (λ fan. then-free _ _ (optional-free _ _ _ tree)
     (λ stake. then-free _ _ (provers-free tree)
-    (λ provers. then-free _ _ (scripts-free 1 provers) (λ scripts. ok-free _))))))))))
+    (λ provers. then-free _ _ (scripts-free 1 provers) (λ scripts. ok-free _))))))))))))
 
 pub no_fault_is_memory : (bytes : List ℕ) → IsFree (case_at bytes)
 unfolding case_at

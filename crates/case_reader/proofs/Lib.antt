@@ -1,3 +1,5 @@
 pub mod ReadingLemmas
 pub mod FaultLemmas
 pub mod TapeLemmas
+pub mod TaskLemmas
+pub mod TaskFaults

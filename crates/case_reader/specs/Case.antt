@@ -1,5 +1,5 @@
 -- To believe. Reading a case: from the bytes to a JSON tree, and from the tree to a case or its first fault. Keys are
--- tested in the order format, image, input, bound, patience, fan, stake, provers, and last the provers, one after another.
+-- tested in the order tasks, which a case hasn't, format, image, input, bound, patience, version, fan, stake, provers, and last the provers, one after another.
 use Rattle.std.specs.Prelude.{ℕ, List, Option, None, Result, Ok, if◌then◌else◌}
 use Rattle.std.specs.Option.{ok_or}
 use Rattle.std.specs.Str.{is_utf8}
@@ -8,7 +8,7 @@ use Rattle.serde_json.specs.Read.{read}
 use Rattle.serde_json.specs.Find.{as_object}
 use Rattle.rd_base.specs.Results.{◌>>=◌}
 use Rattle.rd_base.specs.declared.script.Script.{Script}
-use Rattle.case_reader.specs.Fields.{format_in, image_in, input_in, number_in, fan_in, stake_in, provers_in}
+use Rattle.case_reader.specs.Fields.{single_in, format_in, image_in, input_in, number_in, version_in, fan_in, stake_in, provers_in}
 use Rattle.case_reader.specs.Provers.{scripts_in}
 use Rattle.case_reader.specs.declared.case.Case.{Case}
 use Rattle.case_reader.specs.declared.case.Format.{Format}
@@ -41,20 +41,22 @@ data_of c = record {
   provers = c.provers;
 }
 
--- the case of a JSON tree, or the first fault; the version is 1
+-- the case of a JSON tree, or the first fault
 unfoldable pub case_of : Data → Result CaseData CaseFault
 case_of tree = do
   members ← ok_or (as_object tree) NotObject
+  single ← single_in tree
   format ← format_in tree
   image ← image_in format tree
   input ← input_in tree
   bound ← number_in Bound 1 4294967295 tree
   patience ← number_in Patience 0 100 tree
+  version ← version_in tree
   fan ← fan_in tree
   stake ← stake_in tree
   provers ← provers_in tree
   scripts ← scripts_in 1 provers
-  Ok (record { image = image; format = format; input = input; bound = bound; patience = patience; version = 1; fan = fan; stake = stake; provers = scripts })
+  Ok (record { image = image; format = format; input = input; bound = bound; patience = patience; version = version; fan = fan; stake = stake; provers = scripts })
 
 -- the JSON tree of bytes that are UTF-8 (RFC 8259, as `serde_json` reads it)
 abbrev pub tree_of : List ℕ → Option Data

@@ -1,6 +1,6 @@
 -- To believe. The value of a key of a case: that the key is there, then its type, then its hexadecimal digits, then its
 -- range.
-use Rattle.std.specs.Prelude.{ℕ, ◌&&◌, List, [], ◌∷◌, length, codes, nat_le, Option, Some, None, Result, Ok, Err, if◌then◌else◌}
+use Rattle.std.specs.Prelude.{ℕ, ◌&&◌, List, [], ◌∷◌, length, codes, nat_le, Bool, is_some, Option, Some, None, Result, Ok, Err, if◌then◌else◌}
 use Rattle.std.specs.Option.{ok_or, unwrap_or, option_map, option_and_then}
 use Rattle.std.specs.Result.{result_ok}
 use Rattle.std.specs.Str.{bytes_eq}
@@ -56,6 +56,14 @@ number_if_there key low high None = Ok None
 unfoldable pub optional_number_in : Key → ℕ → ℕ → Data → Result (Option ℕ) CaseFault
 optional_number_in key low high tree = number_if_there key low high (get (key_text key) tree)
 
+-- the key `tasks` is there, whatever it holds
+abbrev pub has_tasks : Data → Bool
+has_tasks tree = is_some (get (key_text keys.Tasks) tree)
+
+-- an object of one case, which has no tasks
+abbrev pub single_in : Data → Result Data CaseFault
+single_in tree = if has_tasks tree then Err (OutOfRange keys.Tasks) else Ok tree
+
 -- a format by its name
 abbrev pub format_named : List ℕ → Option Format
 format_named text =
@@ -80,6 +88,12 @@ unfoldable pub input_in : Data → Result (List ℕ) CaseFault
 input_in tree = do
   input ← bytes_in keys.Input tree
   if nat_le (length input) 1048576 then Ok input else Err (OutOfRange keys.Input)
+
+-- the version of the commitments: 1 to 3, and 1 for a case without the key
+unfoldable pub version_in : Data → Result ℕ CaseFault
+version_in tree = do
+  version ← optional_number_in keys.Version 1 3 tree
+  Ok (unwrap_or version 1)
 
 -- into how many parts a round cuts its interval: 2 to 16, and 2 for a case without the key
 unfoldable pub fan_in : Data → Result ℕ CaseFault

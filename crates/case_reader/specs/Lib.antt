@@ -5,3 +5,4 @@ pub mod Fields
 pub mod Scripts
 pub mod Provers
 pub mod Case
+pub mod Tasks

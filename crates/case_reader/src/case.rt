@@ -1,10 +1,13 @@
 ghost use Rattle.std.proofs.Props.{props};
-ghost use Rattle.std.specs.Prelude.{◌≡◌, ◌≤◌, length, IfSome};
+ghost use Rattle.std.specs.Prelude.{◌≤◌, length, IfSome};
 
 use rd_base::{Bytes, Listed, Script};
 
-/// The version of the commitments of every case.
-pub const VERSION: u32 = 1;
+/// The first version of the commitments, and that of a case that doesn't say.
+pub const MIN_VERSION: u32 = 1;
+
+/// The last version of the commitments.
+pub const MAX_VERSION: u32 = 3;
 
 /// The fewest parts into which a round cuts its interval, and those of a case that doesn't say.
 pub const MIN_FAN: u32 = 2;
@@ -23,6 +26,9 @@ pub const MAX_PATIENCE: u64 = 100;
 
 /// The most provers.
 pub const MAX_PROVERS: usize = 16;
+
+/// The most tasks.
+pub const MAX_TASKS: usize = 8;
 
 /// The format of an image.
 #[derive(Clone, Copy, Debug, PartialEq, Eq)]
@@ -48,7 +54,7 @@ pub struct Case {
     pub bound: u64,
     /// How many passes each question allows.
     pub patience: u32,
-    /// The version of the commitments, 1.
+    /// The version of the commitments.
     pub version: u32,
     /// Into how many parts a round cuts its interval.
     pub fan: u32,
@@ -60,10 +66,18 @@ pub struct Case {
     ghost bound_is_positive: { 1 ≤ bound },
     ghost bound_in_range: { bound ≤ 4294967295 },
     ghost patience_in_range: { patience ≤ 100 },
-    ghost first_version: { version ≡ 1 },
+    ghost version_is_positive: { 1 ≤ version },
+    ghost version_in_range: { version ≤ 3 },
     ghost parted: { 2 ≤ fan },
     ghost few_parts: { fan ≤ 16 },
     ghost small_stake: { IfSome stake (λ s. s ≤ 1000000000) } by { Prim.hlevel props },
     ghost somebody_plays: { 1 ≤ length provers },
     ghost few_play: { length provers ≤ 16 },
+}
+
+/// What a text holds: one case, or the cases of 1 to 8 tasks, in their order.
+#[derive(Debug, Drop)]
+pub enum Tasks {
+    One(Case),
+    Many(Vec<Case>),
 }

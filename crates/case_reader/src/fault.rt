@@ -2,6 +2,7 @@ ghost use Rattle.std.specs.Prelude.{◌≡◌, Some};
 ghost use Rattle.case_reader.specs.Key.{key_text};
 ghost use Rattle.case_reader.specs.Fault.{rule_of};
 ghost use Rattle.case_reader.specs.declared.fault.CaseFault.TheVariants.{Memory};
+ghost use Rattle.case_reader.specs.declared.fault.TaskFault.TheVariants as task;
 
 use std::alloc::{AllocError, AllocFailed};
 use std::fmt;
@@ -10,11 +11,13 @@ use thiserror::Error;
 /// A key of a case, in the order in which keys are tested.
 #[derive(Clone, Copy, Debug, PartialEq, Eq)]
 pub enum Key {
+    Tasks,
     Format,
     Image,
     Input,
     Bound,
     Patience,
+    Version,
     Fan,
     Stake,
     Provers,
@@ -26,11 +29,13 @@ impl Key {
         ensures { result.now ≡ key_text self }
     {
         match self {
+            Key::Tasks => "tasks",
             Key::Format => "format",
             Key::Image => "image",
             Key::Input => "input",
             Key::Bound => "bound",
             Key::Patience => "patience",
+            Key::Version => "version",
             Key::Fan => "fan",
             Key::Stake => "stake",
             Key::Provers => "provers",
@@ -106,5 +111,37 @@ impl<T: Drop> From<AllocFailed<T>> for CaseFault {
 
     fn from(_e: AllocFailed<T>) -> CaseFault {
         CaseFault::Memory
+    }
+}
+
+/// Why bytes are neither a case nor tasks: the first rule that is broken, or out of memory.
+///
+/// No fault within is `CaseFault::Memory`, which is `Memory` here.
+#[derive(Clone, Copy, Debug, PartialEq, Eq, Error)]
+pub enum TaskFault {
+    /// The rule is one of the whole text.
+    #[error("{0}")]
+    Whole(CaseFault),
+    /// The rule is one of the case of the task of this number, counted from 1.
+    #[error("task {0}: {1}")]
+    Task(u32, CaseFault),
+    /// An allocation was refused.
+    #[error("out of memory")]
+    Memory,
+}
+
+impl From<AllocError> for TaskFault {
+    ghost from_gives = { λ _ e. e ≡ task.Memory };
+
+    fn from(_e: AllocError) -> TaskFault {
+        TaskFault::Memory
+    }
+}
+
+impl<T: Drop> From<AllocFailed<T>> for TaskFault {
+    ghost from_gives = { λ _ e. e ≡ task.Memory };
+
+    fn from(_e: AllocFailed<T>) -> TaskFault {
+        TaskFault::Memory
     }
 }

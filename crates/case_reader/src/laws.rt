@@ -1,11 +1,24 @@
-//! A law of the definitions, the contract of a function that does nothing.
+//! Laws of the definitions, each the contract of a function that does nothing.
 ghost use Rattle.std.specs.Prelude.{◌≡◌, ℕ, List, Err};
 ghost use Rattle.case_reader.specs.Case.{case_at};
+ghost use Rattle.case_reader.specs.Tasks.{tasks_at, CasesAreTasks};
 
-use crate::fault::CaseFault;
+use crate::fault::{CaseFault, TaskFault};
 
 /// No bytes have out of memory as their fault: it comes of reading them, and is no rule of a case.
 #[tactic(auto, using(crate::proofs::FaultLemmas::no_fault_is_memory))]
 pub fn no_fault_of_a_case_is_out_of_memory()
     ensures { (bytes : List ℕ) → ¬ (case_at bytes ≡ Err CaseFault.Memory) }
+{}
+
+/// Nor have bytes it as their fault as tasks, in the whole text or in a task.
+pub fn no_fault_of_tasks_is_out_of_memory()
+    ensures none { (bytes : List ℕ) → ¬ (tasks_at bytes ≡ Err TaskFault.Memory) }
+    ensures whole { (bytes : List ℕ) → ¬ (tasks_at bytes ≡ Err (TaskFault.Whole CaseFault.Memory)) }
+    ensures task { (bytes : List ℕ) (number : ℕ) → ¬ (tasks_at bytes ≡ Err (TaskFault.Task number CaseFault.Memory)) }
+{}
+
+/// Bytes are read as one task exactly where they are read as a case.
+pub fn cases_are_read_as_one_task()
+    ensures { CasesAreTasks }
 {}

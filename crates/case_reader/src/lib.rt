@@ -2,8 +2,9 @@
 //!
 //! The layers above may rely on this: what `read_case` reads is the case of the bytes, by the definition `case_at`, which
 //! tests keys in one order, and a refusal other than out of memory is that definition's, whose own faults are never out of
-//! memory. Read `case` first, then
-//! `parsing`; `prover` reads a prover's script, by `tamper`, `manner` and `tape`.
+//! memory. What `read_tasks` reads is, by the definition `tasks_at`, one such case or those of 1 to 8 tasks, of which the first
+//! that is refused is named. Read `case` first, then `parsing` and `tasks`; `prover` reads a prover's script, by `tamper`, `manner`
+//! and `tape`.
 #![tactic(auto)]
 
 mod case;
@@ -16,10 +17,16 @@ mod parsing;
 mod prover;
 mod tamper;
 mod tape;
+mod tasks;
 
 pub use case::{
-    Case, Format, MAX_BOUND, MAX_FAN, MAX_PATIENCE, MAX_PROVERS, MAX_STAKE, MIN_FAN, VERSION,
+    Case, Format, MAX_BOUND, MAX_FAN, MAX_PATIENCE, MAX_PROVERS, MAX_STAKE, MAX_TASKS, MAX_VERSION,
+    MIN_FAN, MIN_VERSION, Tasks,
 };
-pub use fault::{CaseFault, Key};
-pub use laws::no_fault_of_a_case_is_out_of_memory;
+pub use fault::{CaseFault, Key, TaskFault};
+pub use laws::{
+    cases_are_read_as_one_task, no_fault_of_a_case_is_out_of_memory,
+    no_fault_of_tasks_is_out_of_memory,
+};
 pub use parsing::read_case;
+pub use tasks::read_tasks;

@@ -2,12 +2,13 @@ ghost use Rattle.std.specs.Prelude.{◌≡◌, ◌≤◌, length, map, IfOk, IfS
 ghost use Rattle.std.specs.Option.{ok_or};
 ghost use Rattle.serde_json.specs.View.{view};
 ghost use Rattle.rd_base.specs.Results.{Gives};
-ghost use Rattle.case_reader.specs.Fields.{text_in, format_in, image_in, input_in, fan_in, stake_in, provers_in};
+ghost use Rattle.case_reader.specs.Fields.{has_tasks, text_in, format_in, image_in, input_in, version_in, fan_in, stake_in, provers_in};
 ghost use Rattle.case_reader.specs.Case.{case_of, case_at, tree_of, data_of};
 ghost use Rattle.case_reader.specs.declared.fault.CaseFault.TheVariants.{NotJson};
 
 use crate::case::{
-    Case, Format, MAX_BOUND, MAX_FAN, MAX_PATIENCE, MAX_PROVERS, MAX_STAKE, MIN_FAN, VERSION,
+    Case, Format, MAX_BOUND, MAX_FAN, MAX_PATIENCE, MAX_PROVERS, MAX_STAKE, MAX_VERSION, MIN_FAN,
+    MIN_VERSION,
 };
 use crate::fault::{CaseFault, Key};
 use crate::field::{array_of, bytes_of, number_of, optional_number_of, text_of};
@@ -59,6 +60,23 @@ fn input_of(alloc: Global, tree: &Value) -> Result<Bytes, CaseFault>
     }
 }
 
+#[tactic(auto, unfolding(crate::specs::Fields::version_in))]
+fn version_of(tree: &Value) -> Result<u32, CaseFault>
+    ensures value { Gives CaseFault.Memory (λ version. version) result (version_in (view tree.now)) }
+    ensures first { IfOk result (λ version. 1 ≤ version) }
+    ensures last { IfOk result (λ version. version ≤ 3) }
+{
+    match optional_number_of(
+        tree,
+        Key::Version,
+        u64::from(MIN_VERSION),
+        u64::from(MAX_VERSION),
+    )? {
+        Some(version) => Ok(version as u32),
+        None => Ok(MIN_VERSION),
+    }
+}
+
 #[tactic(auto, unfolding(crate::specs::Fields::fan_in))]
 fn fan_of(tree: &Value) -> Result<u32, CaseFault>
     ensures value { Gives CaseFault.Memory (λ fan. fan) result (fan_in (view tree.now)) }
@@ -92,18 +110,30 @@ fn provers_of(tree: &Value) -> Result<&[Value], CaseFault>
     }
 }
 
+/// Whether the tree is an object with the key `tasks`.
+pub fn has_tasks(tree: &Value) -> bool
+    ensures { result ≡ has_tasks (view tree.now) }
+{
+    tree.get(Key::Tasks.name()).is_some()
+}
+
+/// The case of a tree.
 #[tactic(auto, unfolding(crate::specs::Case::case_of))]
-fn case_of_tree(alloc: Global, tree: &Value) -> Result<Case, CaseFault>
+pub fn case_of_tree(alloc: Global, tree: &Value) -> Result<Case, CaseFault>
     ensures { Gives CaseFault.Memory data_of result (case_of (view tree.now)) }
 {
     if !tree.is_object() {
         return Err(CaseFault::NotObject);
+    }
+    if has_tasks(tree) {
+        return Err(CaseFault::OutOfRange(Key::Tasks));
     }
     let format = format_of(tree)?;
     let image = image_of(alloc, tree, format)?;
     let input = input_of(alloc, tree)?;
     let bound = number_of(tree, Key::Bound, 1, MAX_BOUND)?;
     let patience = number_of(tree, Key::Patience, 0, MAX_PATIENCE)? as u32;
+    let version = version_of(tree)?;
     let fan = fan_of(tree)?;
     let stake = stake_of(tree)?;
     let provers = provers_of(tree)?;
@@ -114,7 +144,7 @@ fn case_of_tree(alloc: Global, tree: &Value) -> Result<Case, CaseFault>
         input,
         bound,
         patience,
-        version: VERSION,
+        version,
         fan,
         stake,
         provers,
@@ -122,7 +152,7 @@ fn case_of_tree(alloc: Global, tree: &Value) -> Result<Case, CaseFault>
 }
 
 /// The JSON tree of bytes.
-fn tree_of_bytes(alloc: Global, bytes: &[u8]) -> Result<Value, CaseFault>
+pub fn tree_of_bytes(alloc: Global, bytes: &[u8]) -> Result<Value, CaseFault>
     ensures { Gives CaseFault.Memory view result (ok_or (tree_of bytes.now) NotJson) }
 {
     match Value::from_slice(alloc, bytes) {
@@ -140,7 +170,7 @@ fn tree_of_bytes(alloc: Global, bytes: &[u8]) -> Result<Value, CaseFault>
 /// Reads a case.
 ///
 /// What comes back is the case that the bytes hold. A fault is the first rule that is broken: the bytes are a JSON
-/// text (`NotJson`) that is an object (`NotObject`); then of each key in its order that it is there (`Missing`), has
+/// text (`NotJson`) that is an object (`NotObject`) without the key `tasks` (`OutOfRange`); then of each key in its order that it is there (`Missing`), has
 /// its type (`WrongType`), its hexadecimal digits (`BadHex`) and its range (`OutOfRange`); and last that each prover
 /// is known (`BadProver`, by its number). `Memory` comes where memory ran out.
 #[tactic(auto, unfolding(crate::specs::Case::case_at))]

@@ -100,6 +100,35 @@ fn of_two_faults_the_earlier_rule_names_the_fault(rt: HostRuntime) -> Result<(),
     Ok(())
 }
 
+/// The version is tested after the patience and before the fan.
+#[test]
+fn a_version_is_a_whole_number_from_1_to_3(rt: HostRuntime) -> Result<(), Fail> {
+    let alloc = rt.alloc();
+    let types = Some(CaseFault::WrongType(Key::Version));
+    let range = Some(CaseFault::OutOfRange(Key::Version));
+    for (version, want) in [
+        ("1", None),
+        ("2", None),
+        ("3", None),
+        ("0", range),
+        ("4", range),
+        ("18446744073709551615", range),
+        ("18446744073709551616", types),
+        ("-1", types),
+        ("1.0", types),
+        ("\"2\"", types),
+    ] {
+        let keys = format!(in alloc; ":0,\"fan\":17,\"version\":{version}")?;
+        let text = BASE.replace(alloc, ":0", keys.as_str())?;
+        let want = want.or(Some(CaseFault::OutOfRange(Key::Fan)));
+        assert_eq!(rt; fault_of(alloc, text.as_str()), want, "{version}");
+        let text = text.replace(alloc, ":0", ":101")?;
+        let want = Some(CaseFault::OutOfRange(Key::Patience));
+        assert_eq!(rt; fault_of(alloc, text.as_str()), want, "{version}");
+    }
+    Ok(())
+}
+
 /// Keys that may be missing are tested where they are there: the fan after the patience, then the stake, then the provers.
 #[test]
 fn fan_and_stake_have_their_types_and_ranges(rt: HostRuntime) -> Result<(), Fail> {
@@ -262,9 +291,9 @@ fn a_case_is_read_whole(rt: HostRuntime) -> Result<(), Fail> {
         (
             "{\"provers\":[{\"name\":1},{\"manner\":{\"bytes\":\"aB\",\"kind\":\"output\",\"x\":[]}}],\
              \"patience\":100,\"bound\":0,\"bound\":4294967295,\"input\":\"00Ff\",\"image\":\"\",\
-             \"stake\":1000000000,\"fan\":16,\"note\":{\"bound\":0},\"format\":\"elf\"}",
+             \"stake\":1000000000,\"version\":3,\"fan\":16,\"note\":{\"bound\":0},\"format\":\"elf\"}",
             "Case { image: Listed { items: [] }, format: Elf, input: Listed { items: [0, 255] }, \
-             bound: 4294967295, patience: 100, version: 1, fan: 16, stake: Some(1000000000), provers: Listed { items: [\
+             bound: 4294967295, patience: 100, version: 3, fan: 16, stake: Some(1000000000), provers: Listed { items: [\
              Script { tamper: Untouched, manner: Plain }, \
              Script { tamper: Untouched, manner: Output(ClaimOutput { bytes: Listed { items: [171] } }) }] } }",
         ),
@@ -324,6 +353,11 @@ fn a_fault_has_its_rule_and_its_text(rt: HostRuntime) -> Result<(), Fail> {
             CaseFault::OutOfRange(Key::Provers),
             Some(6),
             "provers is out of range",
+        ),
+        (
+            CaseFault::WrongType(Key::Version),
+            Some(4),
+            "version has another type",
         ),
         (
             CaseFault::WrongType(Key::Fan),

@@ -8,6 +8,8 @@ mod case_reader_test;
 #[cfg(test)]
 mod manners_test;
 #[cfg(test)]
+mod tasks_test;
+#[cfg(test)]
 mod transcript_text_test;
 #[cfg(test)]
 mod workload_test;
