@@ -1,13 +1,11 @@
 -- What is read is within the limits, and these are the conditions of the audit.
-use Rattle.std.proofs.Common.{◌≡◌, ℕ, ◌<◌, ◌≤◌, ◌^◌, List, [], ◌∷◌, arith}
-use Rattle.std.specs.Prelude.{Ok}
+use Rattle.std.proofs.Common.{ℕ, List, [], ◌∷◌, arith}
 use Rattle.std.proofs.lemmas.List.Elements.{All-nil, All-cons}
 use Rattle.text_types.specs.declared.text.TextMove.{TextMove}
-use Rattle.text_types.specs.declared.text.FullText.{FullText}
-use Rattle.text_reader.specs.ReadText.{read_text}
 use Rattle.text_reader.specs.InLimits.{IsHeadInLimits, IsMoveInLimits, AreMovesInLimits, IsInLimits}
 use Rattle.text_reader.specs.Laws.{ReadsExactly}
 use Rattle.audit.specs.LineByLine.{IsOfProver, AreOfProvers}
+use Rattle.audit.specs.Auditable.{IsAuditable, ReadTextsMayBeAudited}
 
 of-provers : (provers : ℕ) (ms : List TextMove) → AreMovesInLimits provers ms → AreOfProvers provers ms
 of-provers provers [] limits = All-nil (IsOfProver provers)
@@ -15,16 +13,7 @@ of-provers provers (m ∷ ms) limits =
     let here : IsMoveInLimits provers m = limits.0 in
     All-cons (IsOfProver provers) m ms (omega (arith, here.prover.0), here.prover.1) (of-provers provers ms limits.1)
 
-pub record IsAuditable (text : FullText) : Type 0 where
-  pub some : 0 < text.head.provers
-  pub few : text.head.provers ≤ 2 ^ 16
-  pub steps : 0 < text.head.bound
-  pub short : text.head.bound < 2 ^ 32
-  pub parted : 1 < text.head.fan
-  pub few_parts : text.head.fan ≤ 16
-  pub provers : AreOfProvers text.head.provers text.moves
-
-pub read-auditable : ReadsExactly → (bytes : List ℕ) (text : FullText) → read_text bytes ≡ Ok text → IsAuditable text
+pub read-auditable : ReadsExactly → ReadTextsMayBeAudited
 read-auditable exactly bytes text e =
     let limits : IsInLimits text = ((exactly bytes text).0 e).0 in
     let h : IsHeadInLimits text.head = limits.head in

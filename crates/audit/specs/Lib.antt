@@ -3,3 +3,4 @@ pub mod LineByLine
 pub mod BetweenLines
 pub mod OwnMatch
 pub mod TrueLines
+pub mod Auditable

@@ -1,6 +1,7 @@
 //! Laws of the audit, each the contract of a function that does nothing.
 ghost use Rattle.std.specs.Prelude.{◌≡◌, ◌<◌, ◌≤◌, ◌^◌, Ok};
 ghost use Rattle.text_reader.specs.ReadText.{read_text};
+ghost use Rattle.audit.specs.Auditable.{ReadTextsMayBeAudited};
 ghost use Rattle.audit.specs.LineByLine.{AreOfProvers};
 ghost use Rattle.audit.specs.OwnMatch.{ConfirmedExactly, CaseTextsAreConfirmed, WrittenCasesAreConfirmed};
 ghost use Rattle.audit.specs.TrueLines.{ConfirmedTextIsRight};
@@ -56,6 +57,13 @@ pub fn a_confirmed_text_is_right()
     a_number_names_one_question();
 }
 
+/// The conditions of `audit` hold of every text that was read, whatever its bytes are.
+pub fn read_texts_may_be_audited()
+    ensures { ReadTextsMayBeAudited }
+{
+    reading_is_the_inverse_of_writing();
+}
+
 /// A text that was read may be audited: the conditions of `audit` hold of it.
 pub fn a_read_text_may_be_audited(bytes: &[u8], text: &FullText)
     requires { read_text bytes.now ≡ Ok text.now }
@@ -67,5 +75,5 @@ pub fn a_read_text_may_be_audited(bytes: &[u8], text: &FullText)
     ensures few_parts { text.now.head.fan ≤ 16 }
     ensures provers { AreOfProvers text.now.head.provers text.now.moves }
 {
-    reading_is_the_inverse_of_writing();
+    read_texts_may_be_audited();
 }

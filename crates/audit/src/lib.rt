@@ -20,5 +20,5 @@ pub use auditing::audit;
 pub use finding::{Audit, Cause};
 pub use laws::{
     a_confirmed_text_is_right, a_read_text_may_be_audited, case_texts_are_confirmed,
-    confirmed_exactly, written_cases_are_confirmed,
+    confirmed_exactly, read_texts_may_be_audited, written_cases_are_confirmed,
 };

@@ -1,43 +1,41 @@
 -- A run of the machine is a true run, so what holds of confirmed texts holds of the machine.
-use Rattle.std.proofs.Common.{◌≡◌, ℕ, ◌+◌, ◌^◌, ◌<◌, List, length, refl, ap, arith}
+use Rattle.std.proofs.Common.{◌≡◌, ℕ, ◌+◌, ◌^◌, ◌<◌, List, length, sym, ap, ◌∙◌, arith}
 use Rattle.bisect_game.specs.Rules.{Rules, ArePlayable}
 use Rattle.bisect_game.specs.Truth.{IsRun}
 use Rattle.rv_step.specs.State.{State}
 use Rattle.rv_step.specs.Valid.{IsValid}
-use Rattle.state_commit.specs.StateRoot.{state_root}
+use Rattle.state_commit.specs.StateRoot.{root_in}
 use Rattle.step_referee.specs.MachineRuling.{machine_ruling}
 use Rattle.step_referee.specs.MachineTruth.{machine_truth}
 use Rattle.step_referee.specs.MachineFair.{machine_ruling_is_fair}
 use Rattle.text_types.specs.declared.text.Stated.{Stated}
 use Rattle.text_types.specs.declared.text.Stated.TheVariants.{Accept, NoneLeft, Collision}
 use Rattle.text_types.specs.declared.text.FullText.{FullText}
-use Rattle.text_reader.specs.InLimits.{IsHeadInLimits}
-use Rattle.text_reader.specs.Laws.{ReadsExactly}
+use Rattle.audit.specs.Auditable.{IsAuditable, ReadTextsMayBeAudited}
 use Rattle.audit.specs.LineByLine.{rules_of_head}
 use Rattle.audit.specs.TrueLines.{IsRightStated, ConfirmedTextIsRight}
-use Rattle.audit.proofs.ReadLemmas.{IsAuditable, read-auditable}
 use Rattle.machine_audit.specs.MachineAudit.{IsAnswerOrCollision, ConfirmedCasesAreRight}
 
 -- what the machine's law says
 abbrev pub RunsAreTrue : (List ℕ → List ℕ) → Type 0
 RunsAreTrue digest =
-    (s : State) (rules : Rules) → IsValid s → s.version < 3 → length s.output + rules.bound < 2 ^ 64 → rules.ruling ≡ machine_ruling digest → rules.start.0 ≡ state_root digest s →
+    (s : State) (rules : Rules) → IsValid s → length s.output + rules.bound < 2 ^ 64 → rules.ruling ≡ machine_ruling digest s.version → rules.start.0 ≡ root_in digest s.version s →
     IsRun rules (machine_truth digest s rules.bound)
 
 answer-of : (digest : List ℕ → List ℕ) (text : FullText) (s : State) (said : Stated)
-    → IsRightStated (machine_ruling digest) (machine_truth digest s text.head.bound) text.moves said → IsAnswerOrCollision digest text s said
+    → IsRightStated (machine_ruling digest text.head.version) (machine_truth digest s text.head.bound) text.moves said → IsAnswerOrCollision digest text s said
 answer-of digest text s (Accept status output) right = right
 answer-of digest text s NoneLeft right = right
 answer-of digest text s (Collision x y) right = right
 
-pub cases-right : (digest : List ℕ → List ℕ) → ((bytes : List ℕ) → length (digest bytes) ≡ 32) → RunsAreTrue digest → ConfirmedTextIsRight → ReadsExactly → ConfirmedCasesAreRight digest
-cases-right digest is_digest runs right exactly bytes text v s p read confirmed start some few lines =
-    let rules : Rules = rules_of_head (machine_ruling digest) text.head in
-    let fit : IsAuditable text = read-auditable exactly bytes text read in
-    let head : IsHeadInLimits text.head = (((exactly bytes text).0 read).0).head in
-    let early : s.version < 3 = omega (arith, start.version, head.version.1) in
+pub cases-right : (digest : List ℕ → List ℕ) → ((bytes : List ℕ) → length (digest bytes) ≡ 32) → RunsAreTrue digest → ConfirmedTextIsRight → ReadTextsMayBeAudited → ConfirmedCasesAreRight digest
+cases-right digest is_digest runs right auditable bytes text v s p read confirmed start some few lines =
+    let ruling = machine_ruling digest text.head.version in
+    let rules : Rules = rules_of_head ruling text.head in
+    let fit : IsAuditable text = auditable bytes text read in
     let short : length s.output + text.head.bound < 2 ^ 64 = (let none : length s.output ≡ 0 = ap length start.silent in omega (arith, none, fit.short)) in
-    let run : IsRun rules (machine_truth digest s text.head.bound) = runs s rules start.valid early short refl start.root in
+    let run : IsRun rules (machine_truth digest s text.head.bound) =
+    runs s rules start.valid short (ap (machine_ruling digest) (sym start.version)) (start.root ∙ ap (λ v. root_in digest v s) (sym start.version)) in
     let playable : ArePlayable rules = record { some = fit.some; parted = fit.parted; few_parts = fit.few_parts; steps = fit.steps } in
     answer-of digest text s text.stated
-    (right (machine_ruling digest) (machine_truth digest s text.head.bound) text v p playable (machine_ruling_is_fair digest is_digest) run some few fit.provers confirmed lines)
+    (right ruling (machine_truth digest s text.head.bound) text v p playable (machine_ruling_is_fair digest is_digest text.head.version) run some few fit.provers confirmed lines)

@@ -3,7 +3,7 @@
 //! The layers above may rely on this: of every case with the stated root at step 0, and with the numbers of the text's head, in which
 //! one prover's lines are all given and true, a text that is confirmed before the judge of the machine states the status and the
 //! output of the run, or two different strings of one digest that answers of the text open. The law says it of any digester, and of
-//! the bytes that were read. Read `specs/MachineAudit.antt`.
+//! the bytes that were read, for each version of the commitment that a head may name. Read `specs/MachineAudit.antt`.
 #![tactic(auto)]
 
 mod laws;

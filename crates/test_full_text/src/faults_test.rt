@@ -46,7 +46,7 @@ fn a_text_that_ends_before_its_verdict_is_cut_off(rt: HostRuntime) -> Result<(),
 #[test]
 fn a_head_has_one_form_and_numbers_in_their_limits(rt: HostRuntime) -> Result<(), Fail> {
     let alloc = rt.alloc();
-    let rows: [(&[u8], Told); 27] = [
+    let rows: [(&[u8], Told); 29] = [
         (
             b"refereed provers 1 bound 1 patience 0 version 1 fan 2 digest sha256 ",
             Told::Moves(0),
@@ -81,6 +81,14 @@ fn a_head_has_one_form_and_numbers_in_their_limits(rt: HostRuntime) -> Result<()
         ),
         (
             b"refereed provers 2 bound 8 patience 0 version 2 fan 2 digest sha256 ",
+            Told::Moves(0),
+        ),
+        (
+            b"refereed provers 2 bound 8 patience 0 version 3 fan 2 digest sha256 ",
+            Told::Moves(0),
+        ),
+        (
+            b"refereed provers 2 bound 8 patience 0 version 4 fan 2 digest sha256 ",
             HEAD_OUT_OF_RANGE,
         ),
         (

@@ -26,7 +26,7 @@ use Rattle.text_types.specs.declared.text.TextMove.{TextMove}
 use Rattle.text_types.specs.declared.text.Stated.{Stated}
 use Rattle.text_types.specs.declared.text.Stated.TheVariants as stated
 use Rattle.text_types.specs.MoveLists.{qid_of, move_if, moves_of_claims, moves_of_round, moves_of_past, moves_of_dispute, moves_of_disputes, moves_of}
-use Rattle.text_types.specs.RecordNumbers.{IsProver, AreNumbered, IsOfProvers, RecordsAreOfProvers}
+use Rattle.tournament.specs.Numbers.{IsProver, AreNumbered, IsOfProvers, RecordsAreOfProvers}
 use Rattle.text_types.specs.StatedVerdict.{settled_at, given_claim, stated_claim, stated_of, VerdictsAreStated}
 use Rattle.transcript_text.specs.FullLines.{IsWritten, AreWritten}
 use Rattle.transcript_text.specs.Laws.{parts_of}

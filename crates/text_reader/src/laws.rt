@@ -2,8 +2,8 @@
 ghost use Rattle.text_reader.specs.Laws.{ReadsExactly, AlikeIsEqual, ReadsRecordsBack, MatchesAreReadBack};
 
 use proof_wire::{reading_is_spelling, spelled_in_bytes};
-use text_types::{a_record_is_of_its_provers, a_verdict_is_stated};
-use tournament::a_match_has_few_disputes_and_rounds;
+use text_types::a_verdict_is_stated;
+use tournament::{a_match_has_few_disputes_and_rounds, a_record_is_of_its_provers};
 use transcript_text::a_full_text_is_that_of_its_parts;
 
 /// Bytes are read as a text exactly where it is within the limits and they are its bytes (`exactly`), so that two texts that

@@ -2,4 +2,3 @@ pub mod Digest
 pub mod Limits
 pub mod MoveLists
 pub mod StatedVerdict
-pub mod RecordNumbers

@@ -20,7 +20,7 @@ patience_limit = record { least = 0; most = 100 }
 
 -- which versions of the commitments there are
 abbrev pub version_limit : Limit
-version_limit = record { least = 1; most = 1 }
+version_limit = record { least = 1; most = 3 }
 
 -- into how many parts a round cuts its interval
 abbrev pub fan_limit : Limit

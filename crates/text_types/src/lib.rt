@@ -12,6 +12,6 @@ pub mod limits;
 mod text;
 
 pub use digest::DigestName;
-pub use laws::{a_record_is_of_its_provers, a_verdict_is_stated};
+pub use laws::a_verdict_is_stated;
 pub use limits::Limit;
 pub use text::{FullText, Head, Stated, TextMove};

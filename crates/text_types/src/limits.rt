@@ -31,6 +31,6 @@ pub const PATIENCE: Limit = Limit {
     most: 100,
 };
 /// Which versions of the commitments there are.
-pub const VERSION: Limit = Limit { least: 1, most: 1 };
+pub const VERSION: Limit = Limit { least: 1, most: 3 };
 /// Into how many parts a round may cut its interval.
 pub const FAN: Limit = Limit { least: 2, most: 16 };
