@@ -13,9 +13,12 @@ use Rattle.bisect_game.specs.Truth.{Truth, IsRun}
 use Rattle.tournament.specs.Bracket.{Record, open_question, is_complete, bracket}
 use Rattle.tournament.specs.Moves.{MatchState, begun, passes_of}
 use Rattle.tournament.specs.Journals.{turn, turn_on, turns, IsAskedOf, Legal, answers_of, RecordOfCase}
-use Rattle.tournament.specs.Posting.{same_qid, posted, posted_on, Post, after_posts, NobodyAskedIsOver}
+use Rattle.tournament.specs.Posting.{same_qid, posted, posted_on, Post, after_posts, record_after, NobodyAskedIsOver}
 use Rattle.tournament.specs.Length.{IsMost, most_entries, SpareIsEnough}
 use Rattle.tournament.specs.Truthful.{IsTruthfulProver, IsSafe, TruthfulProversAreSafe}
+use Rattle.deposits.specs.Balances.{IsSettledUp}
+use Rattle.deposits.specs.Theorem.{EndedIsSettledUp}
+use Rattle.case_match.specs.SettledUp.{RecordsOfCasesAreSettledUp}
 
 -- one more move
 
@@ -130,10 +133,10 @@ pub record AreLaws : Type 0 where
   pub safe : TruthfulProversAreSafe
 
 -- each case has a legal list of moves after which nothing is open
-pub case-ends : AreLaws → (rules : Rules) (says : Says) → ArePlayable rules → (ps : List ℕ) × IsEnding rules says ps
-case-ends laws rules says playable =
+pub case-ends : SpareIsEnough → NobodyAskedIsOver → (rules : Rules) (says : Says) → ArePlayable rules → (ps : List ℕ) × IsEnding rules says ps
+case-ends enough over rules says playable =
     let k = most-rounds rules.fan rules.bound playable.parted playable.steps in
-    ends-from laws.spare laws.over rules says k.0 playable k.1 (suc (most_entries rules k.0)) [] tt (omega arith)
+    ends-from enough over rules says k.0 playable k.1 (suc (most_entries rules k.0)) [] tt (omega arith)
 
 -- in the record of a case nothing is open, and a truthful prover is safe
 pub record IsSafeCase (rules : Rules) (t : Truth) (p : ℕ) (r : Record) : Type 0 where
@@ -143,9 +146,19 @@ pub record IsSafeCase (rules : Rules) (t : Truth) (p : ℕ) (r : Record) : Type 
 pub case-is-safe : AreLaws → (rules : Rules) (says : Says) (t : Truth) (p : ℕ) → ArePlayable rules → IsFair rules.ruling → IsRun rules t → 0 < p → p ≤ rules.provers → IsTruthfulProver rules says t p
     → IsSafeCase rules t p (bracket rules (answers_of rules says))
 case-is-safe laws rules says t p playable fair run some few truthful =
-    let ending = case-ends laws rules says playable in
+    let ending = case-ends laws.spare laws.over rules says playable in
     let e = laws.of_case rules says ending.0 playable ending.1.legal ending.1.complete in
     record {
       complete = subst (λ r. is_complete r ≡ true) e ending.1.complete;
       safe = subst (IsSafe rules t p) e (laws.safe rules says t ending.0 p playable fair run some few truthful ending.1.legal);
     }
+
+-- the record of a case is that of posts after which nothing is open, and may be paid
+pub case-is-settled-up : SpareIsEnough → NobodyAskedIsOver → RecordOfCase → EndedIsSettledUp → RecordsOfCasesAreSettledUp
+case-is-settled-up enough over of_case ended rules says playable =
+    let ending = case-ends enough over rules says playable in
+    let posts = posts-of rules says ending.0 (begun rules) ending.1.legal in
+    let closed : is_complete (record_after rules posts.0) ≡ true = subst (λ (st : MatchState). is_complete st.record_ ≡ true) (sym posts.1) ending.1.complete in
+    let comes : record_after rules posts.0 ≡ bracket rules (answers_of rules says) =
+    ap (λ (st : MatchState). st.record_) posts.1 ∙ of_case rules says ending.0 playable ending.1.legal ending.1.complete in
+    subst (λ (r : Record). IsSettledUp rules.provers r) comes (ended rules posts.0 playable closed)

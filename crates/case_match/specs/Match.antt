@@ -6,7 +6,7 @@ use Rattle.bisect_game.specs.Rules.{Rules}
 use Rattle.bisect_game.specs.Truth.{Truth}
 use Rattle.rv_step.specs.State.{State}
 use Rattle.rv_step.specs.Step.{state_at}
-use Rattle.state_commit.specs.StateRoot.{state_root}
+use Rattle.state_commit.specs.StateRoot.{root_in}
 use Rattle.tournament.specs.declared.setup.Setup.{Setup}
 use Rattle.tournament.specs.declared.verdict.Verdict.{Verdict}
 use Rattle.tournament.specs.Bracket.{Record, bracket, verdict_of}
@@ -18,13 +18,13 @@ use Rattle.prover_run.specs.CaseScripts.{case_says}
 use Rattle.case_reader.specs.Case.{CaseData}
 
 -- the numbers of the match of a case whose run starts in this state: a round cuts its interval as the case says, and the root at step 0 is
--- that state's
+-- that state's, in its version
 abbrev pub setup_of : (List ℕ → List ℕ) → CaseData → State → Setup
-setup_of digest c start = record { provers = length c.provers; bound = c.bound; fan = c.fan; patience = c.patience; start = record { 0 = state_root digest start } }
+setup_of digest c start = record { provers = length c.provers; bound = c.bound; fan = c.fan; patience = c.patience; start = record { 0 = root_in digest start.version start } }
 
--- the judge of the machine decides, and the match has these numbers
+-- the judge of the machine in this version decides, and the match has these numbers
 abbrev pub rules_of_case : (List ℕ → List ℕ) → CaseData → State → Rules
-rules_of_case digest c start = rules_of (machine_ruling digest) (setup_of digest c start)
+rules_of_case digest c start = rules_of (machine_ruling digest start.version) (setup_of digest c start)
 
 -- what the provers of the case say, each by its script
 abbrev pub says_of_case : (List ℕ → List ℕ) → CaseData → State → Says

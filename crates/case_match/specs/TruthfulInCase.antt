@@ -19,7 +19,7 @@ pub record IsSafeInCase (digest : List ℕ → List ℕ) (c : CaseData) (start :
   pub complete : is_complete (record_of_case digest c start) ≡ true
   pub safe : IsSafe (rules_of_case digest c start) (truth_of_case digest c start) p (record_of_case digest c start)
 
--- a case with numbers in the ranges that are read, whose run starts in a valid state of a version below 3, with no output
+-- a case with numbers in the ranges that are read, whose run starts in a valid state, of whatever version, with no output
 pub record IsInRange (c : CaseData) (start : State) : Type 0 where
   pub some : 0 < length c.provers
   pub few : length c.provers ≤ 16
@@ -30,7 +30,6 @@ pub record IsInRange (c : CaseData) (start : State) : Type 0 where
   pub patience : c.patience ≤ 100
   pub valid : IsValid start
   pub silent : start.output ≡ []
-  pub version : start.version < 3
 
 -- each such prover of each such case is safe
 abbrev pub TruthfulProversOfCasesAreSafe : (List ℕ → List ℕ) → Type 0

@@ -1,9 +1,11 @@
 //! Laws of the match of a case, each the contract of a function that does nothing.
 ghost use Rattle.std.specs.Prelude.{ℕ, List};
 ghost use Rattle.case_match.specs.TruthfulInCase.{TruthfulProversOfCasesAreSafe};
+ghost use Rattle.case_match.specs.SettledUp.{RecordsOfCasesAreSettledUp};
 ghost use Rattle.case_match.specs.HonestScripts.{UntouchedProversAreTruthful, TrueTapesAreTruthful};
 
 use bisect_game::cuts_divide;
+use deposits::a_match_that_has_ended_is_settled_up;
 use digest_core::Digester;
 use prover_run::{harmless_manners, untouched_provers};
 use step_referee::machine_runs_are_true;
@@ -12,7 +14,7 @@ use tournament::{
     truthful_provers_are_safe,
 };
 
-/// In the record of each case whose numbers are in range, and whose run starts in a valid state of a version below 3 without output, nothing is open,
+/// In the record of each case whose numbers are in range, and whose run starts in a valid state without output, nothing is open,
 /// and a prover that claims and answers as the machine's definition says, within its patience, is safe: it is live at the end, its
 /// answers are true, and the verdict is right.
 pub fn truthful_provers_of_cases_are_safe<D: Digester>()
@@ -23,6 +25,16 @@ pub fn truthful_provers_of_cases_are_safe<D: Digester>()
     one_record_of_a_case();
     truthful_provers_are_safe();
     machine_runs_are_true::<D>();
+}
+
+/// Whatever the provers of a match say, the record of its case is that of a match that has ended, and meets the condition of `balances`.
+pub fn records_of_cases_are_settled_up()
+    ensures { RecordsOfCasesAreSettledUp }
+{
+    spare_is_enough();
+    nobody_asked_means_over();
+    one_record_of_a_case();
+    a_match_that_has_ended_is_settled_up();
 }
 
 /// Which provers answer truly in every case, by any digest function: those with an untouched run that answer at once, after no more

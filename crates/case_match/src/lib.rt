@@ -11,5 +11,8 @@ mod laws;
 mod playing;
 mod verdict;
 
-pub use laws::{truthful_provers_of_cases_are_safe, untouched_provers_are_truthful};
+pub use laws::{
+    records_of_cases_are_settled_up, truthful_provers_of_cases_are_safe,
+    untouched_provers_are_truthful,
+};
 pub use verdict::{verdict_from, verdict_of_case};

@@ -4,7 +4,9 @@ ghost use Rattle.tournament.specs.Bracket.{bracket, verdict_of};
 ghost use Rattle.tournament.specs.Journals.{answers_of};
 ghost use Rattle.tournament.specs.Posting.{rules_of};
 ghost use Rattle.bisect_game.specs.Says.{AnswerAs};
+ghost use Rattle.deposits.specs.Balances.{IsSettledUp};
 
+use crate::laws::records_of_cases_are_settled_up;
 use bisect_game::{Answerer, Judge, Provers};
 use board_book::Book;
 use posters::{OpenGate, play};
@@ -14,8 +16,8 @@ use std::sync::Wait;
 use std::thread::Threads;
 use tournament::{Record, Setup, Verdict};
 
-/// Plays a match by these numbers out, with so many posters: what is settled in it, and how it ends. Its answerers, one for
-/// each prover, answer as the provers say. How many posters there are changes nothing. An `Err` is out of memory.
+/// Plays a match by these numbers out, with so many posters: what is settled in it, and how it ends. The record is that of a match
+/// that has ended, so that deposits may be paid by it. Its answerers, one for each prover, answer as the provers say. How many posters there are changes nothing. An `Err` is out of memory.
 pub fn play_out<
     R: Threads + Wait + Sync,
     J: Judge + Drop + Send,
@@ -46,6 +48,7 @@ where
     requires says { AnswerAs A.answers (P.says (P.names provers)) 1 answerers.old }
     ensures record_kept { let rules = rules_of (J.ruling (J.names judge)) setup in IfOk result (λ played. played.0 ≡ bracket rules (answers_of rules (P.says (P.names provers)))) }
     ensures verdict { IfOk result (λ played. played.1 ≡ verdict_of (rules_of (J.ruling (J.names judge)) setup) played.0) }
+    ensures settled_up { IfOk result (λ played. IsSettledUp setup.provers played.0) }
 {
     let book = Book::open(
         alloc,
@@ -58,6 +61,7 @@ where
     )?;
     let book = play(rt, alloc, book, answerers, posters, &OpenGate)?;
     book.has_the_record_of_the_case();
+    records_of_cases_are_settled_up();
     let verdict = book.verdict().unwrap();
     Ok((book.into_record(), verdict))
 }

@@ -1,11 +1,12 @@
 //! The match of a case, played.
 ghost use denote.Param.Send.{IsSync};
-ghost use Rattle.std.specs.Prelude.{◌≡◌, [], IfOk};
+ghost use Rattle.std.specs.Prelude.{◌≡◌, [], length, IfOk};
 ghost use Rattle.rv_step.specs.State.{state_of, IsChained};
 ghost use Rattle.case_reader.specs.Case.{data_of};
-ghost use Rattle.state_commit.specs.StateRoot.{state_root};
+ghost use Rattle.state_commit.specs.StateRoot.{root_in};
 ghost use Rattle.case_match.specs.Match.{record_of_case, verdict_of_record};
 ghost use Rattle.command_line.specs.Words.{AreAtLeastOne};
+ghost use Rattle.deposits.specs.Balances.{IsSettledUp};
 
 use crate::playing::play_out;
 use case_reader::Case;
@@ -14,7 +15,7 @@ use prover_run::{CaseProvers, answerers_of};
 use rd_base::{Digest32, Memory};
 use rv_step::Machine;
 use segment_replay::Replays;
-use state_commit::state_root;
+use state_commit::state_root_in;
 use std::alloc::Global;
 use std::sync::Wait;
 use std::thread::Threads;
@@ -41,12 +42,13 @@ where
     requires options { AreAtLeastOne options }
     ensures record_kept { IfOk result (λ played. played.0 ≡ record_of_case D.digest_of (data_of case.now) (state_of start)) }
     ensures verdict { IfOk result (λ played. played.1 ≡ verdict_of_record D.digest_of (data_of case.now) (state_of start) played.0) }
+    ensures settled_up { IfOk result (λ played. IsSettledUp (length case.now.provers) played.0) }
 {
-    let root = state_root(d, &start);
+    let root = state_root_in(d, start.version, &start);
     verdict_from(rt, alloc, d, case, start, root, options)
 }
 
-/// The same where the root of the start state is at hand.
+/// The same where the root of the start state, in its version, is at hand.
 pub fn verdict_from<R: Threads + Wait + Sync, D: Replays>(
     rt: &R,
     alloc: Global,
@@ -60,10 +62,11 @@ where
     D: Send + Sync,
     requires chained { IsChained D.digest_of start }
     requires silent { start.output.items ≡ [] }
-    requires root { root.0 ≡ state_root D.digest_of (state_of start) }
+    requires root { root.0 ≡ root_in D.digest_of start.version (state_of start) }
     requires options { AreAtLeastOne options }
     ensures record_kept { IfOk result (λ played. played.0 ≡ record_of_case D.digest_of (data_of case.now) (state_of start)) }
     ensures verdict { IfOk result (λ played. played.1 ≡ verdict_of_record D.digest_of (data_of case.now) (state_of start) played.0) }
+    ensures settled_up { IfOk result (λ played. IsSettledUp (length case.now.provers) played.0) }
 {
     let scripts = case.provers.as_slice();
     let setup = Setup {
@@ -83,10 +86,11 @@ where
         options.every,
         options.workers,
     )?;
+    let judge = MachineJudge::new(d, start.version);
     play_out(
         rt,
         alloc,
-        MachineJudge::new(d),
+        judge,
         provers,
         setup,
         answerers.as_mut_slice(),
