@@ -23,7 +23,7 @@ use Rattle.command_line.specs.Words.{command_line, is_faultless, is_taken, comma
 use Rattle.text_types.specs.declared.digest.DigestName.TheVariants.{Sha256, Weak8}
 use Rattle.command_line.specs.declared.request.MatchText.TheVariants.{Report, Full}
 use Rattle.command_line.specs.declared.request.Command.{Command}
-use Rattle.command_line.specs.declared.request.Command.TheVariants.{Judge, Run, Roots, Audit, Big}
+use Rattle.command_line.specs.declared.request.Command.TheVariants.{Judge, Run, Roots, Audit, Listing, Big}
 
 pub command_line-is-simple : is_simple command_line ≡ true
 unfolding command_line
@@ -67,6 +67,10 @@ pub audit_is_taken : (program : Text) → chosen (program ∷ codes "audit" ∷ 
 unfolding clap_on_literals command_line is_taken command_of
 audit_is_taken program = refl
 
+pub list_is_taken : (program : Text) → chosen (program ∷ codes "list" ∷ []) ≡ Some Listing
+unfolding clap_on_literals command_line is_taken command_of
+list_is_taken program = refl
+
 pub valued_full_is_refused : (program : Text) → chosen (program ∷ codes "judge" ∷ codes "--full=true" ∷ []) ≡ None
 unfolding clap_on_literals command_line is_taken command_of
 valued_full_is_refused program = refl
@@ -102,6 +106,14 @@ full_of_audit_is_refused program = refl
 pub digest_of_audit_is_refused : (program : Text) → chosen (program ∷ codes "audit" ∷ codes "--digest" ∷ codes "sha256" ∷ []) ≡ None
 unfolding clap_on_literals command_line is_taken command_of
 digest_of_audit_is_refused program = refl
+
+pub full_of_list_is_refused : (program : Text) → chosen (program ∷ codes "list" ∷ codes "--full" ∷ []) ≡ None
+unfolding clap_on_literals command_line is_taken command_of
+full_of_list_is_refused program = refl
+
+pub digest_of_list_is_refused : (program : Text) → chosen (program ∷ codes "list" ∷ codes "--digest" ∷ codes "sha256" ∷ []) ≡ None
+unfolding clap_on_literals command_line is_taken command_of
+digest_of_list_is_refused program = refl
 
 pub weak8_is_taken : (program : Text) → chosen (program ∷ codes "judge" ∷ codes "--digest" ∷ codes "weak8" ∷ []) ≡ Some (Judge Report Weak8)
 unfolding clap_on_literals command_line is_taken command_of

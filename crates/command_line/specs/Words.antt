@@ -17,7 +17,7 @@ use Rattle.text_types.specs.declared.digest.DigestName.{DigestName}
 use Rattle.command_line.specs.declared.request.MatchText.{MatchText}
 use Rattle.command_line.specs.declared.request.MatchText.TheVariants.{Report, Full}
 use Rattle.command_line.specs.declared.request.Command.{Command}
-use Rattle.command_line.specs.declared.request.Command.TheVariants.{Judge, Run, Roots, Audit, Big}
+use Rattle.command_line.specs.declared.request.Command.TheVariants.{Judge, Run, Roots, Audit, Listing, Big}
 use Rattle.command_line.specs.declared.request.Options.{Options}
 
 -- arguments as their bytes
@@ -56,11 +56,12 @@ seed_rule = record (new_rule (codes "N")) { parser = Some (vp.Signed (pos 0) (po
 abbrev pub big_line : App
 big_line = with_match_options (with_rule (new_app (codes "big")) seed_rule)
 
--- the command line: one of the commands `judge`, `run`, `roots`, `audit` and `big`, of which `run`, `roots` and `audit` have no options
+-- the command line: one of the commands `judge`, `run`, `roots`, `audit`, `list` and `big`, of which `run`, `roots`, `audit` and `list`
+-- have no options
 unfoldable pub command_line : App
 command_line =
-    with_subcommand (with_subcommand (with_subcommand (with_subcommand (with_subcommand (on_top with_required_subcommand (new_app (codes "refcli"))) judge_line.top)
-    (new_shape (codes "run"))) (new_shape (codes "roots"))) (new_shape (codes "audit"))) big_line.top
+    with_subcommand (with_subcommand (with_subcommand (with_subcommand (with_subcommand (with_subcommand (on_top with_required_subcommand (new_app (codes "refcli"))) judge_line.top)
+    (new_shape (codes "run"))) (new_shape (codes "roots"))) (new_shape (codes "audit"))) (new_shape (codes "list"))) big_line.top
 
 -- there is no fault among those that may be found
 abbrev pub is_faultless : Kinds → Bool
@@ -95,6 +96,7 @@ command_of_name name rows =
     else if bytes_eq name (codes "run") then Some Run
     else if bytes_eq name (codes "roots") then Some Roots
     else if bytes_eq name (codes "audit") then Some Audit
+    else if bytes_eq name (codes "list") then Some Listing
     else if bytes_eq name (codes "big") then option_map Big (option_and_then seed_in (one_of (codes "N") rows))
     else None
 

@@ -74,6 +74,7 @@ fn command_named(name: &str, given: &ArgMatches<'_>) -> Option<Command>
         "run" => Some(Command::Run),
         "roots" => Some(Command::Roots),
         "audit" => Some(Command::Audit),
+        "list" => Some(Command::Listing),
         "big" => match seed_given(given) {
             Some(seed) => Some(Command::Big(seed)),
             None => None,

@@ -8,27 +8,30 @@ use crate::request::{Command, MatchText};
 
 /// The program's name, whatever it is, and the name of a command are arguments that name it. `judge` alone asks for the report, by
 /// SHA-256, and `--full` for the full text.
-#[tactic(auto, using(crate::proofs::WordsLemmas::judge_is_taken, crate::proofs::WordsLemmas::full_is_taken, crate::proofs::WordsLemmas::run_is_taken, crate::proofs::WordsLemmas::roots_is_taken, crate::proofs::WordsLemmas::audit_is_taken))]
+#[tactic(auto, using(crate::proofs::WordsLemmas::judge_is_taken, crate::proofs::WordsLemmas::full_is_taken, crate::proofs::WordsLemmas::run_is_taken, crate::proofs::WordsLemmas::roots_is_taken, crate::proofs::WordsLemmas::audit_is_taken, crate::proofs::WordsLemmas::list_is_taken))]
 pub fn plain_words()
     ensures judge { (program : List ℕ) → chosen (program ∷ codes "judge" ∷ []) ≡ Some (Command.Judge MatchText.Report Sha256) }
     ensures full { (program : List ℕ) → chosen (program ∷ codes "judge" ∷ codes "--full" ∷ []) ≡ Some (Command.Judge MatchText.Full Sha256) }
     ensures run { (program : List ℕ) → chosen (program ∷ codes "run" ∷ []) ≡ Some Command.Run }
     ensures roots { (program : List ℕ) → chosen (program ∷ codes "roots" ∷ []) ≡ Some Command.Roots }
     ensures audit { (program : List ℕ) → chosen (program ∷ codes "audit" ∷ []) ≡ Some Command.Audit }
+    ensures list { (program : List ℕ) → chosen (program ∷ codes "list" ∷ []) ≡ Some Command.Listing }
 {}
 
 /// `--full` and `--digest` are options of `judge` alone, and the first takes no value.
-#[tactic(auto, using(crate::proofs::WordsLemmas::valued_full_is_refused, crate::proofs::WordsLemmas::full_of_big_is_refused, crate::proofs::WordsLemmas::full_of_run_is_refused, crate::proofs::WordsLemmas::full_of_roots_is_refused, crate::proofs::WordsLemmas::full_of_audit_is_refused, crate::proofs::WordsLemmas::digest_of_big_is_refused, crate::proofs::WordsLemmas::digest_of_run_is_refused, crate::proofs::WordsLemmas::digest_of_roots_is_refused, crate::proofs::WordsLemmas::digest_of_audit_is_refused))]
+#[tactic(auto, using(crate::proofs::WordsLemmas::valued_full_is_refused, crate::proofs::WordsLemmas::full_of_big_is_refused, crate::proofs::WordsLemmas::full_of_run_is_refused, crate::proofs::WordsLemmas::full_of_roots_is_refused, crate::proofs::WordsLemmas::full_of_audit_is_refused, crate::proofs::WordsLemmas::full_of_list_is_refused, crate::proofs::WordsLemmas::digest_of_big_is_refused, crate::proofs::WordsLemmas::digest_of_run_is_refused, crate::proofs::WordsLemmas::digest_of_roots_is_refused, crate::proofs::WordsLemmas::digest_of_audit_is_refused, crate::proofs::WordsLemmas::digest_of_list_is_refused))]
 pub fn own_options()
     ensures valued { (program : List ℕ) → chosen (program ∷ codes "judge" ∷ codes "--full=true" ∷ []) ≡ None }
     ensures full_of_big { (program : List ℕ) → chosen (program ∷ codes "big" ∷ codes "0" ∷ codes "--full" ∷ []) ≡ None }
     ensures full_of_run { (program : List ℕ) → chosen (program ∷ codes "run" ∷ codes "--full" ∷ []) ≡ None }
     ensures full_of_roots { (program : List ℕ) → chosen (program ∷ codes "roots" ∷ codes "--full" ∷ []) ≡ None }
     ensures full_of_audit { (program : List ℕ) → chosen (program ∷ codes "audit" ∷ codes "--full" ∷ []) ≡ None }
+    ensures full_of_list { (program : List ℕ) → chosen (program ∷ codes "list" ∷ codes "--full" ∷ []) ≡ None }
     ensures digest_of_big { (program : List ℕ) → chosen (program ∷ codes "big" ∷ codes "0" ∷ codes "--digest" ∷ codes "sha256" ∷ []) ≡ None }
     ensures digest_of_run { (program : List ℕ) → chosen (program ∷ codes "run" ∷ codes "--digest" ∷ codes "sha256" ∷ []) ≡ None }
     ensures digest_of_roots { (program : List ℕ) → chosen (program ∷ codes "roots" ∷ codes "--digest" ∷ codes "sha256" ∷ []) ≡ None }
     ensures digest_of_audit { (program : List ℕ) → chosen (program ∷ codes "audit" ∷ codes "--digest" ∷ codes "sha256" ∷ []) ≡ None }
+    ensures digest_of_list { (program : List ℕ) → chosen (program ∷ codes "list" ∷ codes "--digest" ∷ codes "sha256" ∷ []) ≡ None }
 {}
 
 /// The seed of `big` is taken at the ends of its range, refused beyond it, and has to be given once.

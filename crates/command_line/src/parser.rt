@@ -120,6 +120,7 @@ pub fn command_line<'a>(alloc: Global) -> Result<Parser<'a>, AllocError>
     let run = Parser::new(alloc, "run");
     let roots = Parser::new(alloc, "roots");
     let audit = Parser::new(alloc, "audit");
+    let list = Parser::new(alloc, "list");
     let big = big_line(alloc)?;
     Parser::new(alloc, "refcli")
         .subcommand_required(true)
@@ -127,5 +128,6 @@ pub fn command_line<'a>(alloc: Global) -> Result<Parser<'a>, AllocError>
         .subcommand(run)?
         .subcommand(roots)?
         .subcommand(audit)?
+        .subcommand(list)?
         .subcommand(big)
 }

@@ -22,6 +22,8 @@ pub enum Command {
     Roots,
     /// To audit a full text, and to write what is found.
     Audit,
+    /// To write the listing of a case's image.
+    Listing,
     /// To decide the match of the large workload of a seed, and to write a summary.
     Big(u32),
 }

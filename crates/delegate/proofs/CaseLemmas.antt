@@ -10,7 +10,7 @@ use Rattle.command_line.specs.Words.{chosen}
 use Rattle.command_line.specs.declared.request.MatchText.{MatchText}
 use Rattle.command_line.specs.declared.request.MatchText.TheVariants.{Report, Full}
 use Rattle.command_line.specs.declared.request.Command.{Command}
-use Rattle.command_line.specs.declared.request.Command.TheVariants.{Judge, Run, Roots, Audit, Big}
+use Rattle.command_line.specs.declared.request.Command.TheVariants.{Judge, Run, Roots, Audit, Listing, Big}
 use Rattle.case_match.specs.TruthfulInCase.{IsInRange}
 use Rattle.delegate.specs.Refusal.{too_long}
 use Rattle.delegate.specs.Loading.{within_limit, case_in, start_in}
@@ -62,6 +62,7 @@ command-case (Big seed) bytes m c start is reads loads =
 command-case Run bytes m c start is reads loads = absurd (cc is)
 command-case Roots bytes m c start is reads loads = absurd (cc is)
 command-case Audit bytes m c start is reads loads = absurd (cc is)
+command-case Listing bytes m c start is reads loads = absurd (cc is)
 
 case-steps : (words : List (List ℕ)) (bytes : List ℕ) (m : Deciding) (c : CaseData) (start : State) → IsCase words bytes m c start → response_to words bytes ≡ Ok (decided m c start)
 case-steps words bytes m c start is = by (chosen words) refl
@@ -100,6 +101,7 @@ same-case (Big seed) bytes given m c is read reads =
 same-case Run bytes given m c is read reads = absurd (cc is)
 same-case Roots bytes given m c is read reads = absurd (cc is)
 same-case Audit bytes given m c is read reads = absurd (cc is)
+same-case Listing bytes given m c is read reads = absurd (cc is)
 
 in-range : (words : List (List ℕ)) (bytes given : List ℕ) (command : Command) → chosen words ≡ Some command → bytes_for command bytes ≡ Ok given → DecidesInRange command given
     → CasesAreInRange words bytes

@@ -1,10 +1,12 @@
 -- All is done for `audit` only where the bytes are confirmed, and then the machine's law holds of the text.
-use Rattle.std.proofs.Common.{◌≡◌, ℕ, List, length, nat_lt, Result, Ok, Err, Bool, true, false, cond, refl, sym, subst}
+use Rattle.std.proofs.Common.{◌≡◌, ℕ, ◌≤◌, List, length, nat_lt, Result, Ok, Err, Bool, true, false, cond, refl, sym, subst, arith}
 use Rattle.rd_base.specs.Results.{◌>>=◌}
 use Rattle.text_types.specs.declared.digest.DigestName.{DigestName}
 use Rattle.text_types.specs.declared.text.FullText.{FullText}
 use Rattle.text_reader.specs.declared.fault.TextFault.{TextFault}
 use Rattle.text_reader.specs.ReadText.{read_text}
+use Rattle.text_reader.specs.InLimits.{IsInLimits}
+use Rattle.text_reader.specs.Laws.{ReadsExactly}
 use Rattle.audit.specs.declared.finding.Audit.{Audit}
 use Rattle.audit.specs.declared.finding.Audit.TheVariants.{Confirmed, Refused}
 use Rattle.audit.specs.LineByLine.{audited}
@@ -18,6 +20,12 @@ use Rattle.delegate.specs.Confirmed.{IsConfirmed, ConfirmedTextsAreRight}
 use Rattle.delegate.specs.declared.response.Response.{Response}
 use Rattle.delegate.specs.declared.answered.Answered.TheVariants.{Done}
 use Rattle.delegate.proofs.OutcomeLemmas.{of_command, outcome-of}
+
+-- the head of a text that was read names a version up to 3
+pub known-version : ReadsExactly → (bytes : List ℕ) (text : FullText) → read_text bytes ≡ Ok text → text.head.version ≤ 3
+known-version exactly bytes text read =
+    let limits : IsInLimits text = ((exactly bytes text).0 read).0 in
+    omega (arith, limits.head.version.1)
 
 abbrev AreRight : Type 0
 AreRight = (name : DigestName) → ConfirmedCasesAreRight (digest_of name)

@@ -11,6 +11,8 @@ use Rattle.tournament.specs.declared.verdict.Verdict.{Verdict}
 use Rattle.tournament.specs.declared.verdict.Verdict.TheVariants.{Accept, NoneLeft, Collision}
 use Rattle.tournament.specs.Bracket.{Record, live_from, lowest, or_lowest, is_out_in, claim_in, also, verdict_of}
 use Rattle.tournament.specs.Theorem.{HasTrueClaim, IsRightVerdict}
+use Rattle.deposits.specs.declared.amounts.Balances.{Balances}
+use Rattle.deposits.specs.Theorem.{WhoStaysKeepsStake}
 use Rattle.rv_step.specs.State.{State}
 use Rattle.case_reader.specs.Case.{CaseData}
 use Rattle.text_types.specs.declared.digest.DigestName.{DigestName}
@@ -24,7 +26,7 @@ use Rattle.command_line.specs.declared.request.MatchText.{MatchText}
 use Rattle.command_line.specs.declared.request.MatchText.TheVariants.{Report, Full}
 use Rattle.delegate.specs.Digest.{digest_of}
 use Rattle.text_types.specs.declared.text.Head.{Head}
-use Rattle.delegate.specs.Decided.{Written, report, full, summary, written_as, Deciding, match_text, answered_by, head_of, start_root, before_verdict, answered_for, decided}
+use Rattle.delegate.specs.Decided.{Written, report, full, summary, written_as, Deciding, match_text, answered_by, head_of, start_root, balances_in, before_verdict, answered_for, decided}
 use Rattle.delegate.specs.declared.answered.Answered.TheVariants.{Done}
 use Rattle.delegate.specs.Headline.{AcceptsTheRun, ShowsCollision, HeadlineOfCases}
 use Rattle.delegate.proofs.SparedLemmas.{no-moves-against}
@@ -55,11 +57,11 @@ line-of-true t claims (suc k) some claim =
     ap line_of_accepted (subst (λ i. slice_get claims i ≡ Some (Some (settled.Given (answer.Claim t.claim)))) (omega arith) claim)
 
 -- the text is what comes before the verdict's line, and that line
-text-before : (written : Written) (head : Head) (settled : Record) (verdict : Verdict)
-    → match_text written head settled verdict ≡ before_verdict written head settled (text_if_there (line_of_verdict settled.claims verdict))
-text-before report head settled verdict = refl
-text-before full head settled verdict = refl
-text-before (summary seed) head settled verdict = refl
+text-before : (written : Written) (head : Head) (settled : Record) (balances : Option Balances) (verdict : Verdict)
+    → match_text written head settled balances verdict ≡ before_verdict written head settled balances (text_if_there (line_of_verdict settled.claims verdict))
+text-before report head settled balances verdict = refl
+text-before full head settled balances verdict = refl
+text-before (summary seed) head settled balances verdict = refl
 
 -- whichever text `judge` writes, it answers by the verdict
 pub answered_as : (text : MatchText) (verdict : Verdict) → answered_by verdict ≡ answered_for (written_as text) verdict
@@ -79,21 +81,23 @@ ends : (m : Deciding) (c : CaseData) (start : State) (verdict : Verdict) → ver
 ends m c start (Accept n) is right =
     let settled = record_of_case (digest_of m.digest) c start in
     let head = head_of m.digest c (start_root (digest_of m.digest) start) in
+    let balances = balances_in c settled in
     inl (record {
       done = ap (answered_for m.written) is ∙ accepts-done m.written n;
-      text = ap (match_text m.written head settled) is
-          ∙ (text-before m.written head settled (Accept n)
-          ∙ ap (λ line. before_verdict m.written head settled (text_if_there line))
+      text = ap (match_text m.written head settled balances) is
+          ∙ (text-before m.written head settled balances (Accept n)
+          ∙ ap (λ line. before_verdict m.written head settled balances (text_if_there line))
           (line-of-true (truth_of_case (digest_of m.digest) c start) settled.claims n (accepted-number (rules_of_case (digest_of m.digest) c start) settled n is) right));
     })
 ends m c start (Collision x y) is right =
     let settled = record_of_case (digest_of m.digest) c start in
     let head = head_of m.digest c (start_root (digest_of m.digest) start) in
+    let balances = balances_in c settled in
     inr (record {
       pair = (x, y);
       collision = right;
       answered = ap (answered_for m.written) is;
-      text = ap (match_text m.written head settled) is ∙ text-before m.written head settled (Collision x y);
+      text = ap (match_text m.written head settled balances) is ∙ text-before m.written head settled balances (Collision x y);
     })
 ends m c start NoneLeft is right = absurd right
 
@@ -102,8 +106,8 @@ pub by-name : (P : (List ℕ → List ℕ) → Type 0) → P (digest_of Sha256) 
 by-name P of_sha256 of_weak8 Sha256 = of_sha256
 by-name P of_sha256 of_weak8 Weak8 = of_weak8
 
-pub headline-of-cases : ((name : DigestName) → TruthfulProversOfCasesAreSafe (digest_of name)) → NothingIsSaidAgainstTheTruthful → HeadlineOfCases
-headline-of-cases safe_by spared m c start p range truthful =
+pub headline-of-cases : ((name : DigestName) → TruthfulProversOfCasesAreSafe (digest_of name)) → NothingIsSaidAgainstTheTruthful → WhoStaysKeepsStake → HeadlineOfCases
+headline-of-cases safe_by spared keep m c start p range truthful =
     let case : IsSafeInCase (digest_of m.digest) c start p = safe_by m.digest c start p range truthful in
     record {
       stays = record {
@@ -112,6 +116,7 @@ headline-of-cases safe_by spared m c start p range truthful =
         stays = case.safe.stays;
         spared = spared (rules_of_case (digest_of m.digest) c start) (truth_of_case (digest_of m.digest) c start) p (record_of_case (digest_of m.digest) c start) case.safe;
         spared_in_full = no-moves-against (rules_of_case (digest_of m.digest) c start) (truth_of_case (digest_of m.digest) c start) p (record_of_case (digest_of m.digest) c start) case.safe;
+        keeps = λ stake is. keep stake (rules_of_case (digest_of m.digest) c start) (truth_of_case (digest_of m.digest) c start) p (record_of_case (digest_of m.digest) c start) case.safe.stays;
       };
       ends = ends m c start _ refl (case.safe.verdict case.complete);
     }

@@ -1,7 +1,10 @@
 pub mod OutcomeLemmas
+pub mod ResponseLemmas
 pub mod KindLemmas
+pub mod WhyLemmas
 pub mod SparedLemmas
 pub mod HeadlineLemmas
 pub mod ConfirmedLemmas
 pub mod CaseLemmas
 pub mod ProcessLemmas
+pub mod ListLemmas

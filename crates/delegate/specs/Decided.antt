@@ -1,17 +1,19 @@
 -- To believe. What is written of a match that is decided: by `judge` its report or its full text, and by `big` a summary in one line.
-use Rattle.std.specs.Prelude.{ℕ, List, ◌++◌, length, codes, Option, None, Result, Ok}
+use Rattle.std.specs.Prelude.{ℕ, List, ◌++◌, length, codes, Option, option_map, Result, Ok}
 use Rattle.rd_base.specs.Results.{◌>>=◌}
 use Rattle.rd_base.specs.declared.digest.Digest32.{Digest32}
 use Rattle.rv_step.specs.State.{State}
-use Rattle.state_commit.specs.StateRoot.{state_root}
+use Rattle.state_commit.specs.StateRoot.{root_in}
 use Rattle.tournament.specs.declared.verdict.Verdict.{Verdict}
 use Rattle.tournament.specs.declared.verdict.Verdict.TheVariants.{Accept, NoneLeft, Collision}
 use Rattle.tournament.specs.Bracket.{Record}
+use Rattle.deposits.specs.declared.amounts.Balances.{Balances}
+use Rattle.deposits.specs.Balances.{balances_of}
 use Rattle.case_reader.specs.Case.{CaseData}
 use Rattle.text_types.specs.declared.text.Head.{Head}
 use Rattle.text_types.specs.declared.digest.DigestName.{DigestName}
 use Rattle.text_types.specs.MoveLists.{moves_of}
-use Rattle.transcript_text.specs.Lines.{lines_of_record}
+use Rattle.transcript_text.specs.Lines.{lines_of_record, lines_of_balances}
 use Rattle.transcript_text.specs.Report.{report_text, head_line, lines_text}
 use Rattle.transcript_text.specs.FullLines.{full_text, refereed_text, moves_text}
 use Rattle.transcript_text.specs.Summary.{summary_text, rounds_in, workload_text, counts_text}
@@ -60,9 +62,9 @@ case_for full bytes = case_of bytes
 abbrev pub head_of : DigestName → CaseData → Digest32 → Head
 head_of name c root = record { provers = length c.provers; bound = c.bound; patience = c.patience; version = c.version; fan = c.fan; digest = name; start = root }
 
--- that root
+-- that root, in the version of the state
 abbrev pub start_root : (List ℕ → List ℕ) → State → Digest32
-start_root digest start = record { 0 = state_root digest start }
+start_root digest start = record { 0 = root_in digest start.version start }
 
 abbrev pub answered_by : Verdict → Answered
 answered_by (Accept number) = answered.Done
@@ -75,25 +77,29 @@ answered_for (summary seed) verdict = answered.Done
 answered_for report verdict = answered_by verdict
 answered_for full verdict = answered_by verdict
 
--- the text of a match's head, record and verdict
-abbrev pub match_text : Written → Head → Record → Verdict → List ℕ
-match_text (summary seed) head settled verdict = summary_text seed settled verdict
-match_text report head settled verdict = report_text head settled verdict None
-match_text full head settled verdict = full_text head settled verdict
+-- what each prover has once the match has ended, and what is in the pool, where the case has deposits
+abbrev pub balances_in : CaseData → Record → Option Balances
+balances_in c settled = option_map (λ stake. balances_of stake (length c.provers) settled) c.stake
+
+-- the text of a match's head, record, balances and verdict. The balances stand in the report alone.
+abbrev pub match_text : Written → Head → Record → Option Balances → Verdict → List ℕ
+match_text (summary seed) head settled balances verdict = summary_text seed settled verdict
+match_text report head settled balances verdict = report_text head settled verdict balances
+match_text full head settled balances verdict = full_text head settled verdict
 
 -- the text before the verdict's line: the lines of the report or of the full text, or what a summary counts
-abbrev pub before_verdict : Written → Head → Record → List ℕ → List ℕ
-before_verdict (summary seed) head settled verdict_text =
+abbrev pub before_verdict : Written → Head → Record → Option Balances → List ℕ → List ℕ
+before_verdict (summary seed) head settled balances verdict_text =
     workload_text seed (length settled.claims) ++ (counts_text (length settled.disputes) (rounds_in settled.disputes) ++ (codes " " ++ verdict_text))
-before_verdict report head settled verdict_text = head_line head ++ (lines_text (lines_of_record settled) ++ verdict_text)
-before_verdict full head settled verdict_text = refereed_text head ++ (codes "\n" ++ (moves_text (moves_of settled) ++ verdict_text))
+before_verdict report head settled balances verdict_text = head_line head ++ (lines_text (lines_of_record settled) ++ (lines_text (lines_of_balances balances) ++ verdict_text))
+before_verdict full head settled balances verdict_text = refereed_text head ++ (codes "\n" ++ (moves_text (moves_of settled) ++ verdict_text))
 
 -- the verdict of a case, by a digest function, and its text
 abbrev pub told : (List ℕ → List ℕ) → Deciding → CaseData → State → Response
 told digest m c start =
     let settled = record_of_case digest c start in
     let verdict = verdict_of_record digest c start settled in
-    record { answered = answered_for m.written verdict; text = match_text m.written (head_of m.digest c (start_root digest start)) settled verdict }
+    record { answered = answered_for m.written verdict; text = match_text m.written (head_of m.digest c (start_root digest start)) settled (balances_in c settled) verdict }
 
 -- by the digest function that is asked for: it depends on nothing but that, the case and the text that is asked for
 abbrev pub decided : Deciding → CaseData → State → Response

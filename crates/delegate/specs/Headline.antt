@@ -1,12 +1,13 @@
 -- To believe. The headline: a prover that claims and answers as the machine's definition says, within its patience, is not
--- eliminated, and the text accepts the sequential run's status and output or shows a collision.
-use Rattle.std.specs.Prelude.{◌≡◌, ℕ, ◌⊎◌, false, List, Contains, Some, Ok}
+-- eliminated, keeps its stake where there are deposits, and the text accepts the sequential run's status and output or shows a collision.
+use Rattle.std.specs.Prelude.{◌≡◌, ℕ, ◌≤◌, ◌⊎◌, false, List, Contains, Some, Ok}
 use Rattle.std.specs.Option.{option_and_then}
 use Rattle.rv_step.specs.State.{State}
 use Rattle.case_reader.specs.Case.{CaseData}
 use Rattle.tournament.specs.declared.verdict.Verdict.TheVariants.{Collision}
 use Rattle.tournament.specs.Bracket.{live}
 use Rattle.tournament.specs.Theorem.{AreTrue, Stays, IsCollisionIn}
+use Rattle.deposits.specs.Balances.{balance}
 use Rattle.text_types.specs.declared.digest.DigestName.{DigestName}
 use Rattle.text_types.specs.MoveLists.{moves_of}
 use Rattle.transcript_text.specs.Lines.{accept_line, collision_line, lines_of_record, are_against}
@@ -16,7 +17,7 @@ use Rattle.case_match.specs.Match.{rules_of_case, record_of_case, truth_of_case,
 use Rattle.case_match.specs.TruthfulInCase.{IsTruthfulInCase, IsInRange}
 use Rattle.delegate.specs.Digest.{digest_of}
 use Rattle.delegate.specs.Loading.{start_in}
-use Rattle.delegate.specs.Decided.{Deciding, case_for, answered_for, head_of, start_root, before_verdict, decided}
+use Rattle.delegate.specs.Decided.{Deciding, case_for, answered_for, head_of, start_root, balances_in, before_verdict, decided}
 use Rattle.delegate.specs.Outcome.{decides}
 use Rattle.delegate.specs.Spared.{are_moves_against}
 use Rattle.delegate.specs.declared.response.Response.{Response}
@@ -28,26 +29,27 @@ pub record IsCase (words : List (List ℕ)) (bytes : List ℕ) (m : Deciding) (c
   pub reads : case_for m.written bytes ≡ Ok c
   pub loads : start_in c ≡ Ok start
 
--- IT IS NOT ELIMINATED: it is live at the end, with the true claim; its answers in each of its disputes are given and true; and
--- no line of the report or of the full text calls it faulty, spent or refuted
+-- IT IS NOT ELIMINATED: it is live at the end, with the true claim; its answers in each of its disputes are given and true;
+-- no line of the report or of the full text calls it faulty, spent or refuted; and where there are deposits it ends with at least its stake
 pub record IsNotEliminated (name : DigestName) (c : CaseData) (start : State) (p : ℕ) : Type 0 where
   pub is_live : Contains (live (record_of_case (digest_of name) c start)) (p, (truth_of_case (digest_of name) c start).claim)
   pub answers : AreTrue (rules_of_case (digest_of name) c start) (truth_of_case (digest_of name) c start) p (record_of_case (digest_of name) c start)
   pub stays : Stays (rules_of_case (digest_of name) c start) (truth_of_case (digest_of name) c start) p (record_of_case (digest_of name) c start)
   pub spared : are_against p (lines_of_record (record_of_case (digest_of name) c start)) ≡ false
   pub spared_in_full : are_moves_against p (moves_of (record_of_case (digest_of name) c start)) ≡ false
+  pub keeps : (stake : ℕ) → c.stake ≡ Some stake → stake ≤ balance stake (record_of_case (digest_of name) c start) p
 
 -- EITHER the verdict's line accepts the status and the output of the sequential run
 pub record AcceptsTheRun (m : Deciding) (response : Response) (c : CaseData) (start : State) : Type 0 where
   pub done : response.answered ≡ Done
-  pub text : response.text ≡ before_verdict m.written (head_of m.digest c (start_root (digest_of m.digest) start)) (record_of_case (digest_of m.digest) c start) (line_text (accept_line (final_state c start).status (final_state c start).output))
+  pub text : response.text ≡ before_verdict m.written (head_of m.digest c (start_root (digest_of m.digest) start)) (record_of_case (digest_of m.digest) c start) (balances_in c (record_of_case (digest_of m.digest) c start)) (line_text (accept_line (final_state c start).status (final_state c start).output))
 
 -- OR it shows two different strings with one digest, each opened by an answer of the record
 pub record ShowsCollision (m : Deciding) (response : Response) (c : CaseData) (start : State) : Type 0 where
   pub pair : List ℕ × List ℕ
   pub collision : IsCollisionIn (rules_of_case (digest_of m.digest) c start) (record_of_case (digest_of m.digest) c start) pair
   pub answered : response.answered ≡ answered_for m.written (Collision (pair.0) (pair.1))
-  pub text : response.text ≡ before_verdict m.written (head_of m.digest c (start_root (digest_of m.digest) start)) (record_of_case (digest_of m.digest) c start) (line_text (collision_line (pair.0) (pair.1)))
+  pub text : response.text ≡ before_verdict m.written (head_of m.digest c (start_root (digest_of m.digest) start)) (record_of_case (digest_of m.digest) c start) (balances_in c (record_of_case (digest_of m.digest) c start)) (line_text (collision_line (pair.0) (pair.1)))
 
 -- what holds of the response to a case with a truthful prover
 pub record Headline (m : Deciding) (response : Response) (c : CaseData) (start : State) (p : ℕ) : Type 0 where

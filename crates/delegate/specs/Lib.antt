@@ -8,6 +8,7 @@ pub use Rattle.command_line.specs.Words
 pub use Rattle.case_reader.specs.Case
 pub use Rattle.image_reader.specs.Image
 pub use Rattle.image_reader.specs.Elf
+pub use Rattle.deposits.specs.Balances
 pub use Rattle.transcript_text.specs.Report
 pub use Rattle.transcript_text.specs.Roots
 pub use Rattle.transcript_text.specs.FullLines
@@ -23,6 +24,7 @@ pub mod Loading
 pub mod Decided
 pub mod commands
 pub mod Outcome
+pub mod Answering
 pub mod Visible
 pub mod Writing
 pub mod Spared

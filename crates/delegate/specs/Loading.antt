@@ -30,8 +30,8 @@ image_by Asm text = or_refusal asm_refusal (asm_at text)
 abbrev pub image_in : CaseData → Result Image Response
 image_in c = image_by c.format c.image
 
--- the state in which the run of a case starts, of version 1
+-- the state in which the run of a case starts, of its version
 unfoldable pub start_in : CaseData → Result State Response
 start_in c = do
   image ← image_in c
-  Ok (started 1 image.memory image.entry c.input)
+  Ok (started c.version image.memory image.entry c.input)

@@ -4,7 +4,7 @@ use Rattle.std.specs.Option.{ok_or}
 use Rattle.rd_base.specs.Results.{◌>>=◌}
 use Rattle.command_line.specs.Words.{chosen, reads}
 use Rattle.command_line.specs.declared.request.Command.{Command}
-use Rattle.command_line.specs.declared.request.Command.TheVariants.{Judge, Run, Roots, Audit, Big}
+use Rattle.command_line.specs.declared.request.Command.TheVariants.{Judge, Run, Roots, Audit, Listing, Big}
 use Rattle.delegate.specs.Refusal.{usage}
 use Rattle.delegate.specs.Loading.{within_limit}
 use Rattle.delegate.specs.Decided.{Deciding}
@@ -12,6 +12,7 @@ use Rattle.delegate.specs.commands.Judge.{judging, judged}
 use Rattle.delegate.specs.commands.Run.{ran}
 use Rattle.delegate.specs.commands.Roots.{rooted}
 use Rattle.delegate.specs.commands.Audit.{checked}
+use Rattle.delegate.specs.commands.List.{listed}
 use Rattle.delegate.specs.commands.Big.{summing_up, summed_up}
 use Rattle.delegate.specs.declared.response.Response.{Response}
 
@@ -21,6 +22,7 @@ carried_out (Judge text name) bytes = judged text name bytes
 carried_out Run bytes = ran bytes
 carried_out Roots bytes = rooted bytes
 carried_out Audit bytes = checked bytes
+carried_out Listing bytes = listed bytes
 carried_out (Big seed) bytes = summed_up seed
 
 -- what a command that decides a match is asked for

@@ -3,4 +3,5 @@ pub mod Judge
 pub mod Run
 pub mod Roots
 pub mod Audit
+pub mod List
 pub mod Big

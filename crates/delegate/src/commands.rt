@@ -7,6 +7,7 @@ ghost use Rattle.delegate.specs.Stages.{Stands, DecidesInRange};
 mod auditing;
 mod big;
 mod judge;
+mod list;
 mod roots;
 mod run;
 
@@ -16,7 +17,7 @@ use std::alloc::Global;
 use std::sync::Wait;
 use std::thread::Threads;
 
-/// Carries out a command on the bytes that were read for it. `run`, `roots` and `audit` wait for nobody.
+/// Carries out a command on the bytes that were read for it. `run`, `roots`, `audit` and `list` wait for nobody.
 pub fn carry_out<R: Threads + Wait + Sync>(
     rt: &R,
     alloc: Global,
@@ -32,6 +33,7 @@ pub fn carry_out<R: Threads + Wait + Sync>(
         Command::Run => run::run(alloc, bytes),
         Command::Roots => roots::roots(rt, alloc, bytes),
         Command::Audit => auditing::check(alloc, bytes),
+        Command::Listing => list::list(alloc, bytes),
         Command::Big(seed) => big::big(rt, alloc, seed, request.options),
     }
 }

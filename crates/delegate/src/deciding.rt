@@ -1,10 +1,12 @@
 //! A match that is decided, and its text.
 ghost use denote.Param.Send.{IsSync};
-ghost use Rattle.std.specs.Prelude.{◌≡◌, ℕ, [], IfOk};
+ghost use Rattle.std.specs.Prelude.{◌≡◌, ℕ, [], length, IfOk};
 ghost use Rattle.rv_step.specs.State.{state_of, IsChained};
 ghost use Rattle.case_reader.specs.Case.{data_of};
 ghost use Rattle.command_line.specs.Words.{AreAtLeastOne};
-ghost use Rattle.delegate.specs.Decided.{written_as, summary, match_text, told, head_of, answered_by};
+ghost use Rattle.deposits.specs.Balances.{IsSettledUp};
+ghost use Rattle.transcript_text.specs.Report.{report_text};
+ghost use Rattle.delegate.specs.Decided.{written_as, summary, balances_in, match_text, told, head_of, answered_by};
 ghost use Rattle.delegate.specs.commands.Judge.{judging};
 
 use crate::answered::Answered;
@@ -12,10 +14,11 @@ use crate::response::Response;
 use case_match::{verdict_from, verdict_of_case};
 use case_reader::Case;
 use command_line::{MatchText, Options};
+use deposits::balances;
 use rd_base::{Bytes, Digest32, Memory};
 use rv_step::Machine;
 use segment_replay::Replays;
-use state_commit::state_root;
+use state_commit::state_root_in;
 use std::alloc::Global;
 use std::sync::Wait;
 use std::thread::Threads;
@@ -47,18 +50,40 @@ fn answered_by(verdict: &Verdict) -> Answered
     }
 }
 
-/// The text of a match that is asked for.
-fn text_of(
+/// The report of the match of a case that has ended: with what each prover has and what is in the pool, where the case has deposits.
+fn report_of(
     alloc: Global,
-    text: MatchText,
+    case: &Case,
     head: &Head,
     match_record: &Record,
     verdict: &Verdict,
 ) -> Result<Vec<u8>, Memory>
-    ensures { IfOk result (λ bytes. bytes.items ≡ match_text (written_as text) head.now match_record.now verdict.now) }
+    requires { IsSettledUp (length case.now.provers) match_record.now }
+    ensures { IfOk result (λ bytes. bytes.items ≡ report_text head.now match_record.now verdict.now (balances_in (data_of case.now) match_record.now)) }
+{
+    match case.stake {
+        Some(stake) => {
+            let paid = balances(alloc, stake, case.provers.len() as u32, match_record)?;
+            transcript_text::report(alloc, head, match_record, verdict, Some(&paid))
+        }
+        None => transcript_text::report(alloc, head, match_record, verdict, None),
+    }
+}
+
+/// The text of the match of a case that is asked for. The match has ended.
+fn text_of(
+    alloc: Global,
+    text: MatchText,
+    case: &Case,
+    head: &Head,
+    match_record: &Record,
+    verdict: &Verdict,
+) -> Result<Vec<u8>, Memory>
+    requires { IsSettledUp (length case.now.provers) match_record.now }
+    ensures { IfOk result (λ bytes. bytes.items ≡ match_text (written_as text) head.now match_record.now (balances_in (data_of case.now) match_record.now) verdict.now) }
 {
     match text {
-        MatchText::Report => transcript_text::report(alloc, head, match_record, verdict, None),
+        MatchText::Report => report_of(alloc, case, head, match_record, verdict),
         MatchText::Full => transcript_text::full(alloc, head, match_record, verdict),
     }
 }
@@ -83,10 +108,10 @@ where
     requires options { AreAtLeastOne options }
     ensures { IfOk result (λ response. response ≡ told D.digest_of (judging text name) (data_of case.now) (state_of start)) }
 {
-    let root = state_root(d, &start);
+    let root = state_root_in(d, start.version, &start);
     let (match_record, verdict) = verdict_from(rt, alloc, d, case, start, root, options)?;
     let head = head_of(name, case, root);
-    let bytes = text_of(alloc, text, &head, &match_record, &verdict)?;
+    let bytes = text_of(alloc, text, case, &head, &match_record, &verdict)?;
     Ok(Response {
         answered: answered_by(&verdict),
         text: Bytes::new(bytes),

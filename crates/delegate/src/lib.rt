@@ -21,6 +21,6 @@ mod responding;
 mod response;
 
 pub use answered::Answered;
-pub use laws::{confirmed_texts_are_right, the_headline};
+pub use laws::{answers_are_those_of_the_command, confirmed_texts_are_right, the_headline};
 pub use process::{arguments, run_process};
 pub use program::run;

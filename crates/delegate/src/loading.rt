@@ -27,7 +27,7 @@ pub fn case_in(alloc: Global, bytes: Vec<u8>) -> Result<Case, Stop>
 }
 
 /// The image of a flat file.
-fn flat_image(alloc: Global, file: &[u8]) -> Result<Loaded, Stop>
+pub fn flat_image(alloc: Global, file: &[u8]) -> Result<Loaded, Stop>
     ensures { Stands loaded_of result (image_by Format.Flat file.now) }
 {
     match load_flat(alloc, file) {
@@ -49,7 +49,7 @@ fn elf_image(alloc: Global, file: &[u8]) -> Result<Loaded, Stop>
 }
 
 /// The image of an assembly text.
-fn asm_image(alloc: Global, text: &[u8]) -> Result<Loaded, Stop>
+pub fn asm_image(alloc: Global, text: &[u8]) -> Result<Loaded, Stop>
     ensures { Stands loaded_of result (image_by Format.Asm text.now) }
 {
     match load_asm(alloc, text) {
@@ -71,10 +71,7 @@ fn image_in(alloc: Global, case: &Case) -> Result<Loaded, Stop>
     }
 }
 
-/// The version of the commitment to states by which the program plays.
-const VERSION: u8 = 1;
-
-/// The machine in which the run of the case starts. It has put out nothing, and its chain is that of no output by every digester.
+/// The machine in which the run of the case starts, of the case's version. It has put out nothing, and its chain is that of no output by every digester.
 #[tactic(auto, unfolding(crate::specs::Loading::start_in))]
 pub fn start_in(alloc: Global, case: &Case) -> Result<Machine, Stop>
     ensures stands { Stands state_of result (start_in (data_of case.now)) }
@@ -84,7 +81,7 @@ pub fn start_in(alloc: Global, case: &Case) -> Result<Machine, Stop>
 {
     let loaded = image_in(alloc, case)?;
     let input = case.input.as_slice();
-    let start = Machine::new(alloc, VERSION, loaded.mem, loaded.entry, input)?;
+    let start = Machine::new(alloc, case.version as u8, loaded.mem, loaded.entry, input)?;
     machines_are_valid(&start);
     Ok(start)
 }

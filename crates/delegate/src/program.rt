@@ -2,7 +2,7 @@
 ghost use Rattle.std.specs.Prelude.{◌≡◌, ◌≢◌, ◌↔◌, true, false, None, IfSome, codes};
 ghost use Rattle.std.specs.Io.KnownBytes.{Appends, IsAtEnd};
 ghost use Rattle.io_edge.specs.Device.{Rises, IsLaterIn, AppendsPart};
-ghost use Rattle.delegate.specs.Answered.{is_outcome, reads_all};
+ghost use Rattle.delegate.specs.Answered.{is_outcome, is_answer_to, reads_all};
 ghost use Rattle.delegate.specs.Outcome.{outcome};
 ghost use Rattle.delegate.specs.Headline.{AnswersTheCase, KeepsTheTruthful};
 ghost use Rattle.delegate.specs.Visible.{ForItsBytes};
@@ -32,6 +32,7 @@ pub fn run<R: Threads + Wait + Sync, S: Source, K: Sink>(
 ) -> Answered
     // What it answers and writes, for the source's bytes where they are visible, and for some bytes where they aren't.
     ensures answers { is_outcome result ≡ true → ForItsBytes (S.left source.old) (λ bytes. IsWritten (outcome (texts words.now) bytes) result (K.held sink.old) (K.held sink.new)) }
+    ensures of_its_command { is_outcome result ≡ true → is_answer_to (chosen (texts words.now)) result ≡ true }
 
     // Arguments that name no command are refused, and nothing is read; nor is it for a large workload.
     ensures usage { is_outcome result ≡ true → (result ≡ Answered.Usage) ↔ (chosen (texts words.now) ≡ None) }

@@ -47,9 +47,8 @@ fn bytes_for<S: Source>(alloc: Global, command: Command, source: &mut S) -> Resu
 {
     match command {
         Command::Big(_) => Ok(Vec::new(alloc)),
-        Command::Judge(_, _) | Command::Run | Command::Roots | Command::Audit => {
-            bytes_in(alloc, source)
-        }
+        Command::Judge(_, _) | Command::Run | Command::Roots | Command::Audit | Command::Listing =>
+            bytes_in(alloc, source),
     }
 }
 

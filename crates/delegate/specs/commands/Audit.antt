@@ -48,9 +48,9 @@ abbrev pub found : Stated → Audit → Response
 found stated (Confirmed verdict) = record { answered = Done; text = codes "confirmed " ++ line_text (line_of_stated stated) }
 found stated (Refused line cause) = record { answered = AuditRefused; text = codes "refused " ++ (decimal line ++ (codes " " ++ (decimal (cause_number cause) ++ codes "\n"))) }
 
--- before the judge of the machine, by the digest that its head names
+-- before the judge of the machine in the version and by the digest that its head names
 abbrev pub judge_of : FullText → Ruling
-judge_of text = machine_ruling (digest_of text.head.digest)
+judge_of text = machine_ruling (digest_of text.head.digest) text.head.version
 
 unfoldable pub checked : List ℕ → Result Response Response
 checked bytes = do

@@ -4,7 +4,7 @@ use Rattle.std.specs.Prelude.{ℕ, ◌+◌, List, nat_lt, Result, Ok, Err, if◌
 use Rattle.rd_base.specs.Results.{◌>>=◌}
 use Rattle.rv_step.specs.State.{State}
 use Rattle.rv_step.specs.Step.{state_at}
-use Rattle.state_commit.specs.StateRoot.{state_root}
+use Rattle.segment_replay.specs.Roots.{own_root}
 use Rattle.case_reader.specs.Case.{CaseData}
 use Rattle.text_types.specs.declared.digest.DigestName.TheVariants.{Sha256}
 use Rattle.transcript_text.specs.Roots.{root_lines}
@@ -18,9 +18,9 @@ use Rattle.delegate.specs.declared.answered.Answered.TheVariants.{Done}
 abbrev pub within_bound : CaseData → Result (Unit {0}) Response
 within_bound c = if nat_lt 4096 c.bound then Err bound_refusal else Ok tt
 
--- by a digest function
+-- by a digest function; each root is of the version of its state
 abbrev pub roots_of_run : (List ℕ → List ℕ) → CaseData → State → Response
-roots_of_run digest c start = record { answered = Done; text = root_lines (λ i. state_root digest (state_at start i)) (c.bound + 1) }
+roots_of_run digest c start = record { answered = Done; text = root_lines (λ i. own_root digest (state_at start i)) (c.bound + 1) }
 
 unfoldable pub rooted : List ℕ → Result Response Response
 rooted bytes = do

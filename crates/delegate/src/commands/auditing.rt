@@ -1,5 +1,5 @@
 //! `audit`: to check a full text line by line, and to write its verdict.
-ghost use Rattle.std.specs.Prelude.{◌≡◌, ◌++◌, Ok, codes, string_bytes, IfOk, OnOk};
+ghost use Rattle.std.specs.Prelude.{◌≡◌, ◌≤◌, ◌++◌, Ok, codes, string_bytes, IfOk, OnOk};
 ghost use Rattle.transcript_text.specs.Lines.{accept_line, line_of_stated};
 ghost use Rattle.transcript_text.specs.Report.{output_text, line_text};
 ghost use Rattle.text_reader.specs.ReadText.{read_text};
@@ -15,7 +15,7 @@ use rd_base::{Bytes, Memory, Status};
 use std::alloc::{AllocError, Global};
 use std::fmt::Write;
 use step_referee::MachineJudge;
-use text_reader::{TextFault, read_full};
+use text_reader::{TextFault, read_full, reading_is_the_inverse_of_writing};
 use text_types::{DigestName, FullText, Stated};
 
 fn response(answered: Answered, text: String) -> Response
@@ -53,15 +53,33 @@ fn full_text_in(alloc: Global, bytes: &[u8]) -> Result<FullText, Stop>
     }
 }
 
-/// Audits a text that was read before the judge of the machine, by the digest that the text's head names.
+/// The head of a text that was read names a version up to 3.
+fn has_a_known_version(bytes: &[u8], text: &FullText)
+    requires { read_text bytes.now ≡ Ok text.now }
+    ensures { text.now.head.version ≤ 3 }
+{
+    reading_is_the_inverse_of_writing();
+}
+
+/// The version that the head of a text names.
+fn version_of(bytes: &[u8], text: &FullText) -> u8
+    requires { read_text bytes.now ≡ Ok text.now }
+    ensures { result ≡ text.now.head.version }
+{
+    has_a_known_version(bytes, text);
+    text.head.version as u8
+}
+
+/// Audits a text that was read before the judge of the machine, in the version and by the digest that the text's head names.
 fn audit_by_name(alloc: Global, bytes: &[u8], text: &FullText) -> Result<Audit, Memory>
     requires { read_text bytes.now ≡ Ok text.now }
     ensures { IfOk result (λ found. found ≡ audited (judge_of text.now) text.now) }
 {
     a_read_text_may_be_audited(bytes, text);
+    let version = version_of(bytes, text);
     match text.head.digest {
-        DigestName::Sha256 => audit(alloc, text, MachineJudge::new(Sha256)),
-        DigestName::Weak8 => audit(alloc, text, MachineJudge::new(Weak8)),
+        DigestName::Sha256 => audit(alloc, text, MachineJudge::new(Sha256, version)),
+        DigestName::Weak8 => audit(alloc, text, MachineJudge::new(Weak8, version)),
     }
 }
 

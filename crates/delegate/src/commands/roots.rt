@@ -2,9 +2,9 @@
 ghost use Rattle.std.specs.Prelude.{◌≡◌, ◌+◌, [], string_bytes, IfOk, OnOk};
 ghost use Rattle.rv_step.specs.State.{state_of, IsChained};
 ghost use Rattle.rv_step.specs.Step.{state_at};
-ghost use Rattle.state_commit.specs.StateRoot.{state_root};
 ghost use Rattle.case_reader.specs.Case.{data_of};
 ghost use Rattle.transcript_text.specs.Roots.{root_lines};
+ghost use Rattle.segment_replay.specs.Roots.{own_root};
 ghost use Rattle.delegate.specs.commands.Roots.{within_bound, roots_of_run, rooted};
 ghost use Rattle.delegate.specs.Stages.{Stands};
 
@@ -43,7 +43,7 @@ fn add_roots<D: Digester>(
     bound: u64,
 ) -> Result<(), Memory>
     requires { string_bytes text.old ≡ [] }
-    ensures { OnOk result (string_bytes text.new ≡ root_lines (λ i. state_root D.digest_of (state_at start i)) (bound + 1)) }
+    ensures { OnOk result (string_bytes text.new ≡ root_lines (λ i. own_root D.digest_of (state_at start i)) (bound + 1)) }
 {
     let mut committed = start;
     'states: for i in 0..bound {

@@ -4,8 +4,11 @@ use Rattle.command_line.specs.Words.{texts}
 use Rattle.delegate.specs.declared.answered.Answered.TheVariants.{ReadFault, WriteFault, Memory}
 use Rattle.delegate.proofs.OutcomeLemmas.{for_its_bytes}
 use Rattle.delegate.proofs.CaseLemmas.{outcome-case, outcome-headline}
-use Rattle.delegate.proofs.KindLemmas.{response-kind, response-usage, response-usage_text, no-fault}
+use Rattle.delegate.proofs.KindLemmas.{response-kind, response-own, response-usage, response-usage_text, no-fault}
 use Rattle.delegate.proofs.program.run.Goals as goal
+
+pub returns-in-Ok-write_all-clause-of_its_command : goal.returns-in-Ok-write_all-clause-of_its_command
+returns-in-Ok-write_all-clause-of_its_command g c = λ whole. response-own (g.S.Source.left c.args.source.now) (texts c.args.words.now) _ c.in-Ok.response c.in-Ok.ensures.outcome
 
 pub returns-in-Ok-write_all-clause-usage : goal.returns-in-Ok-write_all-clause-usage
 returns-in-Ok-write_all-clause-usage g c = λ whole. response-usage (g.S.Source.left c.args.source.now) (texts c.args.words.now) _ c.in-Ok.response c.in-Ok.ensures.outcome

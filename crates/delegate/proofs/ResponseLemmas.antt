@@ -1,0 +1,195 @@
+-- What holds of each response that a command can come to holds of every outcome.
+use Rattle.std.proofs.Common.{◌≡◌, ℕ, List, length, Result, Ok, Err, Bool, true, false, cond, nat_lt, refl}
+use Rattle.rd_base.specs.Results.{◌>>=◌, map_fault}
+use Rattle.rv_step.specs.State.{State}
+use Rattle.rv_step.specs.Loaded.{started}
+use Rattle.case_reader.specs.Case.{CaseData, case_at}
+use Rattle.case_reader.specs.declared.fault.CaseFault.{CaseFault}
+use Rattle.case_reader.specs.declared.fault.CaseFault.TheVariants.{OutOfRange}
+use Rattle.case_reader.specs.declared.fault.Key.{Key}
+use Rattle.case_reader.specs.declared.fault.Key.TheVariants as key
+use Rattle.case_reader.specs.declared.case.Format.{Format}
+use Rattle.case_reader.specs.declared.case.Format.TheVariants.{Flat, Elf, Asm}
+use Rattle.image_reader.specs.Image.{Image, flat_at}
+use Rattle.image_reader.specs.Elf.{elf_at}
+use Rattle.image_reader.specs.declared.fault.ImageFault.{ImageFault}
+use Rattle.rv_text.specs.declared.fault.AsmFault.{AsmFault}
+use Rattle.rv_text.specs.Assembly.{assembled}
+use Rattle.asm_image.specs.AsmImage.{asm_at}
+use Rattle.asm_image.specs.declared.image.AsmImageFault.{AsmImageFault}
+use Rattle.asm_image.specs.declared.image.AsmImageFault.TheVariants as asm
+use Rattle.text_types.specs.declared.digest.DigestName.{DigestName}
+use Rattle.text_types.specs.declared.digest.DigestName.TheVariants.{Sha256}
+use Rattle.text_types.specs.declared.text.FullText.{FullText}
+use Rattle.text_types.specs.declared.text.Stated.{Stated}
+use Rattle.text_reader.specs.declared.fault.TextFault.{TextFault}
+use Rattle.text_reader.specs.ReadText.{read_text}
+use Rattle.audit.specs.declared.finding.Audit.{Audit}
+use Rattle.audit.specs.LineByLine.{audited}
+use Rattle.workload.specs.Program.{program}
+use Rattle.workload.specs.Workload.{big_data}
+use Rattle.command_line.specs.declared.request.MatchText.{MatchText}
+use Rattle.command_line.specs.declared.request.Command.{Command}
+use Rattle.command_line.specs.declared.request.Command.TheVariants.{Judge, Run, Roots, Listing, Big, Audit as AuditOf}
+use Rattle.delegate.specs.Refusal.{too_long, case_refusal, image_refusal, asm_refusal, or_refusal}
+use Rattle.delegate.specs.Digest.{digest_of}
+use Rattle.delegate.specs.Loading.{within_limit, case_in, image_by, start_in}
+use Rattle.delegate.specs.Decided.{Deciding, decided}
+use Rattle.delegate.specs.commands.Judge.{judging, judged}
+use Rattle.delegate.specs.commands.Run.{ran}
+use Rattle.delegate.specs.commands.Roots.{roots_of_run, rooted}
+use Rattle.delegate.specs.commands.Audit.{text_refusal, judge_of, found, checked}
+use Rattle.delegate.specs.commands.List.{words_of, words_by, listed}
+use Rattle.delegate.specs.commands.Big.{summing_up, summed_up}
+use Rattle.delegate.specs.Outcome.{bytes_for, carried_out, either_way}
+use Rattle.delegate.specs.declared.response.Response.{Response}
+use Rattle.delegate.specs.declared.answered.Answered.TheVariants.{Done}
+
+abbrev pub Of : (Response → Type 0) → Result Response Response → Type 0
+Of P r = P (either_way r)
+
+-- P of what is written of a case, and of what a case, its image or its key is refused for
+pub record OfCases (P : Response → Type 0) : Type 0 where
+  pub long : P too_long
+  pub unread : (bytes : List ℕ) (fault : CaseFault) → case_at bytes ≡ Err fault → P (case_refusal fault)
+  pub ranged : (k : Key) → P (case_refusal (OutOfRange k))
+  pub flat : (file : List ℕ) (fault : ImageFault) → flat_at file ≡ Err fault → P (image_refusal fault)
+  pub elf : (file : List ℕ) (fault : ImageFault) → elf_at file ≡ Err fault → P (image_refusal fault)
+  pub text : (text : List ℕ) (fault : AsmImageFault) → asm_at text ≡ Err fault → P (asm_refusal fault)
+  pub line : (fault : AsmFault) → P (asm_refusal (asm.Text fault))
+  pub done : (text : List ℕ) → P (record { answered = Done; text = text })
+
+-- P of a match that is decided
+abbrev pub OfMatches : (Response → Type 0) → Deciding → Type 0
+OfMatches P m = (c : CaseData) (start : State) → P (decided m c start)
+
+-- P of what is found of a text
+pub record OfTexts (P : Response → Type 0) : Type 0 where
+  pub long : P too_long
+  pub unread : (bytes : List ℕ) (fault : TextFault) → read_text bytes ≡ Err fault → P (text_refusal fault)
+  pub finding : (stated : Stated) (finding : Audit) → P (found stated finding)
+
+-- P of what a command comes to
+abbrev pub OfCommand : (Response → Type 0) → Command → Type 0
+OfCommand P (Judge text name) = OfCases P × OfMatches P (judging text name)
+OfCommand P Run = OfCases P
+OfCommand P Roots = OfCases P
+OfCommand P AuditOf = OfTexts P
+OfCommand P Listing = OfCases P
+OfCommand P (Big seed) = OfMatches P (summing_up seed)
+
+-- a case that is read, and its image
+
+case-then : (P : Response → Type 0) → OfCases P → (bytes : List ℕ) (next : CaseData → Result Response Response) → ((c : CaseData) → Of P (next c)) → Of P (case_in bytes >>= next)
+case-then P of bytes next further = by (case_at bytes) refl
+  where
+    by : (r : Result CaseData CaseFault) → case_at bytes ≡ r → Of P (or_refusal case_refusal r >>= next)
+    by (Ok c) is = further c
+    by (Err fault) is = of.unread bytes fault is
+
+-- what was read, or P of what it is refused for
+abbrev IsFit : {A : Type 0} → (Response → Type 0) → Result A Response → Type 0
+IsFit P (Ok x) = Unit {0}
+IsFit P (Err response) = P response
+
+ok-fit : {A : Type 0} (P : Response → Type 0) (x : A) → IsFit P (Ok x)
+ok-fit P x = tt
+
+fit-then : {A : Type 0} (P : Response → Type 0) (r : Result A Response) (next : A → Result Response Response) → IsFit P r → ((x : A) → Of P (next x)) → Of P (r >>= next)
+fit-then P (Ok x) next fit further = further x
+fit-then P (Err response) next fit further = fit
+
+fit-both : {A B : Type 0} (P : Response → Type 0) (r : Result A Response) (next : A → Result B Response) → IsFit P r → ((x : A) → IsFit P (next x)) → IsFit P (r >>= next)
+fit-both P (Ok x) next fit further = further x
+fit-both P (Err response) next fit further = fit
+
+image-fit : (P : Response → Type 0) → OfCases P → (format : Format) (file : List ℕ) → IsFit P (image_by format file)
+image-fit P of Flat file = by (flat_at file) refl
+  where
+    by : (r : Result Image ImageFault) → flat_at file ≡ r → IsFit P (or_refusal image_refusal r)
+    by (Ok image) is = tt
+    by (Err fault) is = of.flat file fault is
+image-fit P of Elf file = by (elf_at file) refl
+  where
+    by : (r : Result Image ImageFault) → elf_at file ≡ r → IsFit P (or_refusal image_refusal r)
+    by (Ok image) is = tt
+    by (Err fault) is = of.elf file fault is
+image-fit P of Asm text = by (asm_at text) refl
+  where
+    by : (r : Result Image AsmImageFault) → asm_at text ≡ r → IsFit P (or_refusal asm_refusal r)
+    by (Ok image) is = tt
+    by (Err fault) is = of.text text fault is
+
+start-fit : (P : Response → Type 0) → OfCases P → (c : CaseData) → IsFit P (start_in c)
+unfolding start_in
+start-fit P of c =
+    fit-both P (image_by c.format c.image) (λ image. Ok (started c.version image.memory image.entry c.input)) (image-fit P of c.format c.image)
+    (λ image. ok-fit P (started c.version image.memory image.entry c.input))
+
+words-fit : (P : Response → Type 0) → OfCases P → (format : Format) (file : List ℕ) → IsFit P (words_by format file)
+words-fit P of Flat file = fit-both P (image_by Flat file) (λ image. Ok (words_of file)) (image-fit P of Flat file) (λ image. ok-fit P (words_of file))
+words-fit P of Elf file = of.ranged key.Format
+words-fit P of Asm text =
+    fit-both P (image_by Asm text) (λ image. or_refusal asm_refusal (map_fault asm.Text (assembled text))) (image-fit P of Asm text) (λ image. by (assembled text))
+  where
+    by : (r : Result (List ℕ) AsmFault) → IsFit P (or_refusal asm_refusal (map_fault asm.Text r))
+    by (Ok words) = tt
+    by (Err fault) = of.line fault
+
+-- the commands
+
+judged-of : (P : Response → Type 0) → OfCases P → (text : MatchText) (name : DigestName) → OfMatches P (judging text name) → (bytes : List ℕ) → Of P (judged text name bytes)
+unfolding judged
+judged-of P of text name matches bytes = case-then P of bytes _ (λ c. fit-then P (start_in c) _ (start-fit P of c) (λ start. matches c start))
+
+ran-of : (P : Response → Type 0) → OfCases P → (bytes : List ℕ) → Of P (ran bytes)
+unfolding ran
+ran-of P of bytes = case-then P of bytes _ (λ c. fit-then P (start_in c) _ (start-fit P of c) (λ start. of.done _))
+
+-- a limit as a test
+abbrev limit : Response → Bool → Result (Unit {0}) Response
+limit refusal many = cond many (Err refusal) (Ok tt)
+
+rooted-of : (P : Response → Type 0) → OfCases P → (bytes : List ℕ) → Of P (rooted bytes)
+unfolding rooted
+rooted-of P of bytes = case-then P of bytes _ (λ c. by c (nat_lt 4096 c.bound))
+  where
+    by : (c : CaseData) (many : Bool) → Of P (limit (case_refusal (OutOfRange key.Bound)) many >>= (λ few. start_in c >>= (λ start. Ok (roots_of_run (digest_of Sha256) c start))))
+    by c true = of.ranged key.Bound
+    by c false = fit-then P (start_in c) _ (start-fit P of c) (λ start. of.done _)
+
+listed-of : (P : Response → Type 0) → OfCases P → (bytes : List ℕ) → Of P (listed bytes)
+unfolding listed
+listed-of P of bytes = case-then P of bytes _ (λ c. fit-then P (words_by c.format c.image) _ (words-fit P of c.format c.image) (λ words. of.done _))
+
+checked-of : (P : Response → Type 0) → OfTexts P → (bytes : List ℕ) → Of P (checked bytes)
+unfolding checked
+checked-of P of bytes = by (read_text bytes) refl
+  where
+    by : (r : Result FullText TextFault) → read_text bytes ≡ r → Of P (or_refusal text_refusal r >>= (λ text. Ok (found text.stated (audited (judge_of text) text))))
+    by (Ok text) is = of.finding text.stated (audited (judge_of text) text)
+    by (Err fault) is = of.unread bytes fault is
+
+-- the large workload loads
+big-fit : (P : Response → Type 0) (seed : ℕ) → IsFit P (start_in (big_data seed))
+unfolding start_in big_data program flat_at
+big-fit P seed = tt
+
+summed_up-of : (P : Response → Type 0) (seed : ℕ) → OfMatches P (summing_up seed) → Of P (summed_up seed)
+unfolding summed_up
+summed_up-of P seed matches = fit-then P (start_in (big_data seed)) _ (big-fit P seed) (λ start. matches (big_data seed) start)
+
+limit-then : (P : Response → Type 0) (bytes : List ℕ) (next : List ℕ → Result Response Response) → P too_long → ((given : List ℕ) → Of P (next given)) → Of P (within_limit bytes >>= next)
+limit-then P bytes next long further = by (nat_lt 16777216 (length bytes))
+  where
+    by : (many : Bool) → Of P (cond many (Err too_long) (Ok bytes) >>= next)
+    by true = long
+    by false = further bytes
+
+pub command-of : (P : Response → Type 0) (command : Command) → OfCommand P command → (bytes : List ℕ) → Of P (bytes_for command bytes >>= (λ given. carried_out command given))
+command-of P (Judge text name) of bytes = limit-then P bytes _ of.0.long (judged-of P of.0 text name of.1)
+command-of P Run of bytes = limit-then P bytes _ of.long (ran-of P of)
+command-of P Roots of bytes = limit-then P bytes _ of.long (rooted-of P of)
+command-of P AuditOf of bytes = limit-then P bytes _ of.long (checked-of P of)
+command-of P Listing of bytes = limit-then P bytes _ of.long (listed-of P of)
+command-of P (Big seed) of bytes = summed_up-of P seed of

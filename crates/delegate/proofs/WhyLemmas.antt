@@ -1,0 +1,191 @@
+-- Each refusal says why: no rule of a case or of an image is that memory ran out.
+use Rattle.std.proofs.Common.{◌≡◌, ◌≢◌, ℕ, List, [], length, nat_lt, Result, Ok, Err, Option, Some, None, Bool, true, false, cond, refl, sym, ap, subst, ◌∙◌}
+use Rattle.rd_base.specs.Results.{◌>>=◌, map_fault}
+use Rattle.case_reader.specs.Case.{case_at}
+use Rattle.case_reader.specs.declared.fault.CaseFault.{CaseFault}
+use Rattle.case_reader.specs.declared.fault.CaseFault.TheVariants as cases
+use Rattle.image_reader.specs.Image.{Image, too_large, flat_at}
+use Rattle.image_reader.specs.Elf.{header_in, loads_in, checked_in, elf_at}
+use Rattle.image_reader.specs.declared.fault.ImageFault.{ImageFault}
+use Rattle.image_reader.specs.declared.fault.ImageFault.TheVariants as images
+use Rattle.rv_text.specs.declared.fault.AsmFault.{AsmFault}
+use Rattle.rv_text.specs.Assembly.{assembled}
+use Rattle.asm_image.specs.AsmImage.{bytes_of, words_at, asm_at}
+use Rattle.asm_image.specs.declared.image.AsmImageFault.{AsmImageFault}
+use Rattle.asm_image.specs.declared.image.AsmImageFault.TheVariants as asm
+use Rattle.tournament.specs.declared.verdict.Verdict.{Verdict}
+use Rattle.tournament.specs.declared.verdict.Verdict.TheVariants.{Accept, NoneLeft, Collision}
+use Rattle.text_types.specs.declared.text.Stated.{Stated}
+use Rattle.audit.specs.declared.finding.Audit.{Audit}
+use Rattle.audit.specs.declared.finding.Audit.TheVariants.{Confirmed, Refused}
+use Rattle.command_line.specs.Words.{chosen}
+use Rattle.command_line.specs.declared.request.MatchText.{MatchText}
+use Rattle.command_line.specs.declared.request.MatchText.TheVariants.{Report, Full}
+use Rattle.command_line.specs.declared.request.Command.{Command}
+use Rattle.command_line.specs.declared.request.Command.TheVariants.{Judge, Run, Roots, Listing, Big, Audit as AuditOf}
+use Rattle.case_match.specs.Match.{record_of_case, verdict_of_record}
+use Rattle.delegate.specs.Answered.{is_refusal}
+use Rattle.delegate.specs.Refusal.{case_fault_text, rule_text, asm_fault_text}
+use Rattle.delegate.specs.Digest.{digest_of}
+use Rattle.delegate.specs.Decided.{written_as, answered_for}
+use Rattle.delegate.specs.commands.Audit.{found}
+use Rattle.delegate.specs.Outcome.{outcome}
+use Rattle.delegate.specs.Answering.{EachRefusalSaysWhy}
+use Rattle.delegate.specs.declared.response.Response.{Response}
+use Rattle.delegate.proofs.OutcomeLemmas.{of_command, outcome-of}
+use Rattle.delegate.proofs.KindLemmas.{untaken}
+use Rattle.delegate.proofs.ResponseLemmas.{OfCases, OfTexts, OfCommand, command-of}
+use Rattle.image_reader.specs.Fault.{rule_of}
+
+abbrev SaysWhy : Response → Type 0
+SaysWhy r = is_refusal r.answered ≡ true → r.text ≢ []
+
+-- no law of a case is that memory ran out
+abbrev pub NoneIsMemory : Type 0
+NoneIsMemory = (bytes : List ℕ) → ¬ (case_at bytes ≡ Err cases.Memory)
+
+case-why : (fault : CaseFault) → fault ≢ cases.Memory → case_fault_text fault ≢ []
+case-why cases.NotJson other = λ e. cc e
+case-why cases.NotObject other = λ e. cc e
+case-why (cases.Missing key) other = λ e. cc e
+case-why (cases.WrongType key) other = λ e. cc e
+case-why (cases.BadHex key) other = λ e. cc e
+case-why (cases.OutOfRange key) other = λ e. cc e
+case-why (cases.BadProver number) other = λ e. cc e
+case-why cases.Memory other = λ e. other refl
+
+-- a reading whose fault isn't out of memory
+abbrev IsFree : {A : Type 0} → Result A ImageFault → Type 0
+IsFree r = ¬ (r ≡ Err images.Memory)
+
+ok-free : {A : Type 0} (x : A) → IsFree (Ok x)
+ok-free x = λ e. cc e
+
+test-free : {A : Type 0} (b : Bool) (fault : ImageFault) (rest : Result A ImageFault) → fault ≢ images.Memory → IsFree rest → IsFree (cond b (Err fault) rest)
+test-free true fault rest other free = λ e. other (cc e)
+test-free false fault rest other free = free
+
+then-free : {A B : Type 0} (r : Result A ImageFault) (f : A → Result B ImageFault) → IsFree r → ((x : A) → IsFree (f x)) → IsFree (r >>= f)
+then-free (Ok x) f free further = further x
+then-free (Err fault) f free further = λ e. free (ap Err (cc e))
+
+flat-free : (file : List ℕ) → IsFree (flat_at file)
+unfolding flat_at
+flat-free file = test-free (too_large file) images.ImageTooLarge _ (λ e. cc e) (ok-free _)
+
+either-free : {A : Type 0} (b : Bool) (x : A) (rest : Result A ImageFault) → IsFree rest → IsFree (cond b (Ok x) rest)
+either-free true x rest free = ok-free x
+either-free false x rest free = free
+
+header-free : (file : List ℕ) → IsFree (header_in file)
+unfolding header_in
+header-free file =
+    test-free _ images.ImageTooLarge _ (λ e. cc e)
+    (test-free _ images.Short _ (λ e. cc e)
+    (test-free _ images.NotElf32Le _ (λ e. cc e)
+    (test-free _ images.NotExecutable _ (λ e. cc e)
+    (test-free _ images.NotRiscv _ (λ e. cc e) (ok-free _)))))
+
+elf-free : (file : List ℕ) → IsFree (elf_at file)
+unfolding elf_at loads_in checked_in
+elf-free file =
+    then-free (header_in file) _ (header-free file)
+    (λ header. then-free (loads_in file header) _
+    (either-free _ [] _ (test-free _ images.BadTable _ (λ e. cc e) (ok-free _)))
+    (λ loads. then-free (checked_in (length file) loads) _
+    (test-free _ images.SegmentOutsideFile _ (λ e. cc e)
+    (test-free _ images.FileLargerThanMemory _ (λ e. cc e)
+    (test-free _ images.SegmentPastEnd _ (λ e. cc e)
+    (test-free _ images.SegmentsOverlap _ (λ e. cc e) (ok-free tt)))))
+    (λ checked. test-free _ images.EntryMisaligned _ (λ e. cc e) (ok-free _))))
+
+rule-why : (fault : ImageFault) → fault ≢ images.Memory → rule_text (rule_of fault) ≢ []
+rule-why images.Short other = λ e. cc e
+rule-why images.NotElf32Le other = λ e. cc e
+rule-why images.NotExecutable other = λ e. cc e
+rule-why images.NotRiscv other = λ e. cc e
+rule-why images.BadTable other = λ e. cc e
+rule-why images.SegmentOutsideFile other = λ e. cc e
+rule-why images.FileLargerThanMemory other = λ e. cc e
+rule-why images.SegmentPastEnd other = λ e. cc e
+rule-why images.SegmentsOverlap other = λ e. cc e
+rule-why images.EntryMisaligned other = λ e. cc e
+rule-why images.ImageTooLarge other = λ e. cc e
+rule-why images.Memory other = λ e. other refl
+
+-- an assembly text
+
+abbrev AsmWhy : Result Image AsmImageFault → Type 0
+AsmWhy (Ok image) = Unit {0}
+AsmWhy (Err fault) = asm_fault_text fault ≢ []
+
+words-why : (words : List ℕ) → AsmWhy (words_at words)
+words-why words = by (flat_at (bytes_of words)) (flat-free (bytes_of words))
+  where
+    by : (r : Result Image ImageFault) → IsFree r → AsmWhy (map_fault asm.Image r)
+    by (Ok image) free = tt
+    by (Err fault) free = rule-why fault (λ e. free (ap Err e))
+
+text-why : (text : List ℕ) → AsmWhy (asm_at text)
+unfolding asm_at
+text-why text = by (nat_lt 16777216 (length text))
+  where
+    of-words : (r : Result (List ℕ) AsmFault) → AsmWhy (map_fault asm.Text r >>= words_at)
+    of-words (Ok words) = words-why words
+    of-words (Err fault) = λ e. cc e
+
+    by : (many : Bool) → AsmWhy (cond many (Err (asm.Image images.ImageTooLarge)) (map_fault asm.Text (assembled text) >>= words_at))
+    by true = λ e. cc e
+    by false = of-words (assembled text)
+
+-- the commands
+
+of-cases : NoneIsMemory → OfCases SaysWhy
+of-cases none = record {
+  long = λ refused e. cc e;
+  unread = λ bytes fault is refused. case-why fault (λ e. none bytes (is ∙ ap Err e));
+  ranged = λ k refused e. cc e;
+  flat = λ file fault is refused. rule-why fault (λ e. flat-free file (is ∙ ap Err e));
+  elf = λ file fault is refused. rule-why fault (λ e. elf-free file (is ∙ ap Err e));
+  text = λ text fault is refused. subst AsmWhy is (text-why text);
+  line = λ fault refused e. cc e;
+  done = λ text refused. absurd (cc refused);
+}
+
+of-texts : OfTexts SaysWhy
+of-texts = record {
+  long = λ refused e. cc e;
+  unread = λ bytes fault is refused. absurd (cc refused);
+  finding = by;
+}
+  where
+    by : (stated : Stated) (finding : Audit) → SaysWhy (found stated finding)
+    by stated (Confirmed verdict) = λ refused. absurd (cc refused)
+    by stated (Refused line cause) = λ refused. absurd (cc refused)
+
+no-verdict : (text : MatchText) (verdict : Verdict) → is_refusal (answered_for (written_as text) verdict) ≡ false
+no-verdict Report (Accept number) = refl
+no-verdict Report NoneLeft = refl
+no-verdict Report (Collision x y) = refl
+no-verdict Full (Accept number) = refl
+no-verdict Full NoneLeft = refl
+no-verdict Full (Collision x y) = refl
+
+parts : NoneIsMemory → (command : Command) → OfCommand SaysWhy command
+parts none (Judge text name) = (
+  of-cases none,
+  λ c start refused.
+      (let both = sym refused ∙ no-verdict text (verdict_of_record (digest_of name) c start (record_of_case (digest_of name) c start)) in absurd (cc both)),
+)
+parts none Run = of-cases none
+parts none Roots = of-cases none
+parts none Listing = of-cases none
+parts none AuditOf = of-texts
+parts none (Big seed) = λ c start refused. absurd (cc refused)
+
+pub refusals-say-why : NoneIsMemory → EachRefusalSaysWhy
+refusals-say-why none words bytes = by (chosen words) refl
+  where
+    by : (command : Option Command) → chosen words ≡ command → SaysWhy (outcome words bytes)
+    by None is = subst SaysWhy (sym (untaken words bytes is)) (λ refused e. cc e)
+    by (Some command) is = subst SaysWhy (sym (outcome-of words bytes _ (of_command words bytes command is))) (command-of SaysWhy command (parts none command) bytes)

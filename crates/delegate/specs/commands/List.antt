@@ -1,0 +1,44 @@
+-- To believe. `list`: the listing of the image of the case that is read, a line for each of its words.
+use Rattle.std.specs.Prelude.{ℕ, ◌+◌, ◌*◌, List, [], ◌∷◌, length, map, slice_index, Result, Ok, Err}
+use Rattle.std.specs.List.{range_with_len}
+use Rattle.std.specs.Int.{w32, from_le_bytes, div_ceil}
+use Rattle.rd_base.specs.Results.{◌>>=◌, map_fault}
+use Rattle.case_reader.specs.declared.case.Format.{Format}
+use Rattle.case_reader.specs.declared.case.Format.TheVariants.{Flat, Elf, Asm}
+use Rattle.case_reader.specs.declared.fault.Key.TheVariants as key
+use Rattle.case_reader.specs.declared.fault.CaseFault.TheVariants.{OutOfRange}
+use Rattle.rv_text.specs.Assembly.{assembled}
+use Rattle.rv_text.specs.Listing.{listing}
+use Rattle.asm_image.specs.declared.image.AsmImageFault.TheVariants as asm
+use Rattle.delegate.specs.Loading.{case_in, image_by}
+use Rattle.delegate.specs.Refusal.{case_refusal, asm_refusal, or_refusal}
+use Rattle.delegate.specs.declared.response.Response.{Response}
+use Rattle.delegate.specs.declared.answered.Answered.TheVariants.{Done}
+
+-- the word whose first byte, the least, stands at this place. Bytes behind the end are 0.
+abbrev pub word_at : List ℕ → ℕ → ℕ
+word_at bytes place = from_le_bytes w32 (slice_index bytes place ∷ slice_index bytes (place + 1) ∷ slice_index bytes (place + 2) ∷ slice_index bytes (place + 3) ∷ [])
+
+-- the words of bytes, four bytes each; the last one is filled with zeros
+abbrev pub words_of : List ℕ → List ℕ
+words_of bytes = map (λ k. word_at bytes (4 * k)) (range_with_len 0 (div_ceil (length bytes) 4))
+
+-- a format that has no listing
+abbrev pub format_refusal : Response
+format_refusal = case_refusal (OutOfRange key.Format)
+
+-- the words of an image, which breaks no rule: of a flat file its own, and of an assembly text those that it is assembled to
+abbrev pub words_by : Format → List ℕ → Result (List ℕ) Response
+words_by Flat file = do
+  image ← image_by Flat file
+  Ok (words_of file)
+words_by Asm text = do
+  image ← image_by Asm text
+  or_refusal asm_refusal (map_fault asm.Text (assembled text))
+words_by Elf file = Err format_refusal
+
+unfoldable pub listed : List ℕ → Result Response Response
+listed bytes = do
+  c ← case_in bytes
+  words ← words_by c.format c.image
+  Ok (record { answered = Done; text = listing words })

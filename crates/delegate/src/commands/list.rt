@@ -1,0 +1,115 @@
+//! `list`: to write the listing of a case's image.
+ghost use Rattle.std.specs.Prelude.{◌≡◌, ◌≤◌, ◌<◌, length, slice_index, IfOk};
+ghost use Rattle.rd_base.specs.Results.{map_fault};
+ghost use Rattle.rv_text.specs.Assembly.{assembled};
+ghost use Rattle.delegate.specs.Refusal.{asm_refusal, or_refusal};
+ghost use Rattle.delegate.specs.commands.List.{word_at, words_of, format_refusal, words_by, listed};
+ghost use Rattle.delegate.specs.Stages.{Stands};
+
+use crate::answered::Answered;
+use crate::faults;
+use crate::loading::{asm_image, case_in, flat_image};
+use crate::response::{Response, Stop};
+use asm_image::AsmImageFault;
+use case_reader::{Case, CaseFault, Format, Key};
+use rd_base::{Bytes, Memory};
+use rv_text::{AsmError, assemble};
+use std::alloc::{AllocError, Global};
+
+/// The byte at a place, and 0 behind the end.
+fn byte_at(bytes: &[u8], place: usize) -> u8
+    ensures { result ≡ slice_index bytes.now place }
+{
+    match bytes.get(place) {
+        Some(byte) => *byte,
+        None => 0,
+    }
+}
+
+/// The word at a place, its least byte first. Bytes behind the end are 0.
+fn word_at(bytes: &[u8], place: usize) -> u32
+    requires { place < length bytes.now }
+    ensures { result ≡ word_at bytes.now place }
+{
+    u32::from_le_bytes([
+        byte_at(bytes, place),
+        byte_at(bytes, place + 1),
+        byte_at(bytes, place + 2),
+        byte_at(bytes, place + 3),
+    ])
+}
+
+/// The words of bytes, four bytes each; the last one is filled with zeros. An `Err` is out of memory.
+fn words_of(alloc: Global, bytes: &[u8]) -> Result<Vec<u32>, Memory>
+    ensures { IfOk result (λ words. words.items ≡ words_of bytes.now) }
+{
+    let mut words = Vec::new(alloc);
+    'words: for k in 0..bytes.len().div_ceil(4) {
+        words.push(word_at(bytes, 4 * k))?;
+    }
+    Ok(words)
+}
+
+/// The words that an assembly text is assembled to.
+fn assembled(alloc: Global, text: &[u8]) -> Result<Vec<u32>, Stop>
+    requires { length text.now ≤ 16777216 }
+    ensures { Stands (λ words. words.items) result (or_refusal asm_refusal (map_fault AsmImageFault.Text (assembled text.now))) }
+{
+    match assemble(alloc, text) {
+        Ok(words) => Ok(words),
+        Err(AsmError::Memory) => Err(Stop::Memory),
+        Err(AsmError::Fault(fault)) => {
+            let fault = AsmImageFault::Text(fault);
+            Err(Stop::Refused(faults::asm_refusal(alloc, fault)?))
+        }
+    }
+}
+
+/// The words of a flat file, which breaks no rule of images.
+fn flat_words(alloc: Global, file: &[u8]) -> Result<Vec<u32>, Stop>
+    ensures { Stands (λ words. words.items) result (words_by Format.Flat file.now) }
+{
+    flat_image(alloc, file)?;
+    Ok(words_of(alloc, file)?)
+}
+
+/// The words of an assembly text, whose image breaks no rule.
+fn asm_words(alloc: Global, text: &[u8]) -> Result<Vec<u32>, Stop>
+    ensures { Stands (λ words. words.items) result (words_by Format.Asm text.now) }
+{
+    asm_image(alloc, text)?;
+    assembled(alloc, text)
+}
+
+/// The response to a format that has no listing.
+fn format_refusal(alloc: Global) -> Result<Response, AllocError>
+    ensures { IfOk result (λ response. response ≡ format_refusal) }
+{
+    faults::case_refusal(alloc, CaseFault::OutOfRange(Key::Format))
+}
+
+/// The words of the case's image.
+fn words_in(alloc: Global, case: &Case) -> Result<Vec<u32>, Stop>
+    ensures { Stands (λ words. words.items) result (words_by case.now.format case.now.image) }
+{
+    let file = case.image.as_slice();
+    match case.format {
+        Format::Flat => flat_words(alloc, file),
+        Format::Elf => Err(Stop::Refused(format_refusal(alloc)?)),
+        Format::Asm => asm_words(alloc, file),
+    }
+}
+
+/// Lists the image of the case of the bytes, and answers with the listing.
+#[tactic(auto, unfolding(crate::specs::commands::List::listed))]
+pub fn list(alloc: Global, bytes: Vec<u8>) -> Result<Response, Stop>
+    ensures { Stands (λ response. response) result (listed bytes.items) }
+{
+    let case = case_in(alloc, bytes)?;
+    let words = words_in(alloc, &case)?;
+    let text = rv_text::list(alloc, words.as_slice())?;
+    Ok(Response {
+        answered: Answered::Done,
+        text: Bytes::new(text),
+    })
+}
