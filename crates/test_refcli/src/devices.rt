@@ -8,7 +8,7 @@ use std::sync::Wait;
 use std::thread::Threads;
 
 /// A case of a program that puts the byte 42 and exits with status 0, in six steps.
-const CASE: &str =
+pub const CASE: &str =
     "{\"format\":\"flat\",\"image\":\"1305a0029308100073000000130500009308d00573000000\",\"input\":\"\",\"bound\":8,\"patience\":0,\"provers\":[{}]}";
 
 /// The number of a call that is never made.
@@ -25,7 +25,8 @@ struct Call<'a> {
     failing_write: u64,
 }
 
-fn arguments_of(alloc: Global, words: &[&str]) -> Result<Vec<String>, AllocError> {
+/// The words as arguments, of which the first is the program's name.
+pub fn arguments_of(alloc: Global, words: &[&str]) -> Result<Vec<String>, AllocError> {
     let mut arguments = Vec::new(alloc);
     for word in words {
         arguments.push(String::from_str(alloc, word)?)?;
@@ -34,7 +35,7 @@ fn arguments_of(alloc: Global, words: &[&str]) -> Result<Vec<String>, AllocError
 }
 
 // The program's answer, in a function of its own, so that the clauses of `run` burden no other proof.
-fn answer_of<R: Threads + Wait + Sync>(
+pub fn answer_of<R: Threads + Wait + Sync>(
     rt: &R,
     alloc: Global,
     arguments: &[String],

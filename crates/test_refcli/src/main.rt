@@ -9,6 +9,7 @@
 mod answering;
 mod cases;
 mod devices;
+mod failing;
 mod images;
 mod matches;
 mod rows;
@@ -26,6 +27,7 @@ use std::thread::Threads;
 fn lines_after_rows<R: Threads + Wait + Sync>(rt: &R, alloc: Global) -> Result<String, Memory> {
     let mut lines = String::new(alloc);
     devices::add_calls(rt, alloc, &mut lines)?;
+    failing::add_calls_in_turn(rt, alloc, &mut lines)?;
     runs::add_sizes(rt, alloc, &mut lines)?;
     runs::add_runs(rt, alloc, &mut lines)?;
     matches::add_options(rt, alloc, &mut lines)?;
