@@ -1,4 +1,5 @@
-/* What a program has of the machine that refcli runs: its input, and two calls. docs/MACHINE.md has the rules.
+/* What a program has of the machine that refcli runs: its input, and three calls. docs/MACHINE.md has the rules. The input
+ * is either in memory or behind a call, as the case's key `version` says: a program uses the one or the other.
  *
  * Compiled freestanding for RISC-V, as `build` does, these are loads and ECALLs. Compiled for a host they are standard
  * input, standard output and exit, so that the same program runs there. A program is one file, which includes this. */
@@ -13,13 +14,13 @@
 
 #if defined __riscv && __STDC_HOSTED__ == 0
 
-/* The input's length in bytes. */
+/* The input's length in bytes, in versions 1 and 2. */
 static inline uint32_t input_length(void)
 {
     return *(const uint32_t *)0x40000000u;
 }
 
-/* The input's bytes, one after another. */
+/* The input's bytes, one after another, in versions 1 and 2. */
 static inline const uint8_t *input_bytes(void)
 {
     return (const uint8_t *)0x40000004u;
@@ -31,6 +32,15 @@ static inline void put_byte(uint8_t byte)
     register uint32_t argument __asm__("a0") = byte;
     register uint32_t call __asm__("a7") = 1;
     __asm__ volatile("ecall" : : "r"(argument), "r"(call));
+}
+
+/* The input's byte of a number from 0, or -1 where it has no such byte, in version 3: ECALL 2. */
+static inline int32_t read_byte(uint32_t number)
+{
+    register uint32_t argument __asm__("a0") = number;
+    register uint32_t call __asm__("a7") = 2;
+    __asm__ volatile("ecall" : "+r"(argument) : "r"(call));
+    return (int32_t)argument;
 }
 
 /* Ends the run, as a return from main does: ECALL 93. A host keeps the low eight bits of the status and the machine all
@@ -84,6 +94,11 @@ static inline uint32_t input_length(void)
 {
     input_bytes();
     return (uint32_t)host_input_length;
+}
+
+static inline int32_t read_byte(uint32_t number)
+{
+    return number < input_length() ? input_bytes()[number] : -1;
 }
 
 static inline void put_byte(uint8_t byte)
