@@ -2,7 +2,7 @@
 """A second reader of full texts, written from docs/TEXTS.md and docs/COMMITMENTS.md.
 
     checks/texts.py <FILE           says how the text on standard input is read: `read`, or its fault as `refcli audit` prints it
-    checks/texts.py --mutants FILE  the same for each of the mutants of a text, a line each; `crates/test_mutants` prints these
+    checks/texts.py --mutants FILE  the same for each of the mutants of a text, a line each
 
 No code is taken from the crates. It plays no match: whether the moves are those of one is for the audit.
 """
@@ -25,7 +25,7 @@ MOVE = re.compile(b"move %b %b p%b (?:(?:given|faulty) %b|spent)" % (NUMBER, NUM
 ACCEPT = re.compile(b"accept (?:running|(?:exited|trapped) %b) output(?: %b)?" % (NUMBER, BYTES))
 COLLISION = re.compile(b"collision %b %b" % (BYTES, BYTES))
 # provers, bound, patience, version, fan
-LIMITS = (1, 16), (1, 4_294_967_295), (0, 100), (1, 1), (2, 16)
+LIMITS = (1, 16), (1, 4_294_967_295), (0, 100), (1, 3), (2, 16)
 MOST_STRING = 129
 MODULUS = 1 << 32
 

@@ -24,6 +24,7 @@ UNKNOWN_CALL = 8
 
 # 'Calls'
 CALL_PUT_OUT = 1
+CALL_READ = 2  # in version 3 of the commitments alone
 CALL_EXIT = 93
 
 
@@ -77,13 +78,14 @@ class Memory:
 
 
 class State:
-    def __init__(self, memory, pc):
+    def __init__(self, memory, pc, given=None):
         self.registers = [0] * 32
         self.pc = pc
         self.memory = memory
         self.status = RUNNING
         self.code = None  # of an exit or a trap
         self.output = bytearray()
+        self.given = given  # the input that a call reads, or None where it lies in memory
 
 
 def write_register(state, register, number):
@@ -95,8 +97,11 @@ def write_register(state, register, number):
 # 'Start'
 
 
-def start(memory, entry, given):
-    """The state at the start, from an image's memory and entry and from the input, which is laid over the image."""
+def start(memory, entry, given, version=1):
+    """The state at the start, from an image's memory and entry and from the input, which in version 3 of the commitments is kept
+    beside memory, and else laid over the image."""
+    if version == 3:
+        return State(memory, entry, given)
     memory.lay(INPUT_START, len(given).to_bytes(4, "little") + given)
     return State(memory, entry)
 
@@ -330,6 +335,9 @@ def call(state):
     number, argument = state.registers[17], state.registers[10]
     if number == CALL_PUT_OUT:
         state.output.append(argument % 256)
+        go_on(state)
+    elif number == CALL_READ and state.given is not None:
+        write_register(state, 10, state.given[argument] if argument < len(state.given) else MODULUS - 1)
         go_on(state)
     elif number == CALL_EXIT:
         state.status, state.code = EXITED, argument
