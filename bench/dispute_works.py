@@ -9,6 +9,8 @@ BOUNDS = [2**10, 2**16, 2**20, 2**24]
 PROVERS_BOUND = 2**20
 PROVERS = 16
 POSTERS, WORKERS = [1, 2, 4, 16], [1, 4]
+TASKS, TASKS_BOUND = 8, 2**20
+TASKS_POSTERS = [1, 4, 16]
 BIG_POSTERS = [1, 2, 4, 8]
 BIG_LINE = b"big 0 provers 8 disputes 7 rounds 112 accept exited 0 output f504\n"
 RUNNING = b"accept running output\n"
@@ -78,10 +80,10 @@ def two_provers(program, folder):
             yield f"{name:32} WRONG: {error}"
 
 
-def shared(name, command, source, folder, answer, posters):
+def shared(name, command, source, folder, answer, posters, workers_tried=WORKERS):
     """The same match with other numbers of posters and workers."""
     first = None
-    for workers in WORKERS:
+    for workers in workers_tried:
         for count in posters:
             line = f"{name}, K {count}, W {workers}"
             try:
@@ -102,6 +104,17 @@ def many_provers(program, folder):
     return shared("16 provers, 2^20", [program, "judge"], source, folder, (lines, RUNNING), POSTERS)
 
 
+def many_tasks(program, folder):
+    """Tasks of two provers each on one board, beside one of them alone."""
+    bound = TASKS_BOUND
+    tasks = [case(bound, [{}, liar(bound // TASKS * number + 9, number)]) for number in range(TASKS)]
+    lines = 1 + 2 + 1 + rounds(bound) + 2 + 1
+    alone = written(folder, "task.json", tasks[0])
+    yield from shared("one task alone", [program, "judge"], alone, folder, (lines, RUNNING), TASKS_POSTERS[:1], WORKERS[:1])
+    source = written(folder, "tasks.json", {"tasks": tasks})
+    yield from shared(f"{TASKS} tasks", [program, "judge"], source, folder, (TASKS * (1 + lines), RUNNING), TASKS_POSTERS, WORKERS[:1])
+
+
 def large_workload(program, folder):
     source = folder / "nothing"
     source.write_bytes(b"")
@@ -110,5 +123,5 @@ def large_workload(program, folder):
 
 def dispute_lines(program, folder):
     """The lines about matches."""
-    for lines in two_provers, many_provers, large_workload:
+    for lines in two_provers, many_provers, many_tasks, large_workload:
         yield from lines(program, folder)
