@@ -1,5 +1,5 @@
 -- One page of a tree, and the nodes above it, are written.
-use Rattle.std.proofs.Common.{◌≡◌, ◌≢◌, ℕ, ◌+◌, ◌*◌, ◌/◌, ◌^◌, ◌<◌, List, [], None, true, false, true≢false, is_some, refl, sym, ap, ◌∙◌, subst, arith, ⊎_elim}
+use Rattle.std.proofs.Common.{◌≡◌, ◌≢◌, ◌⊎◌, inl, inr, ℕ, ◌+◌, ◌*◌, ◌/◌, ◌^◌, ◌<◌, List, [], None, true, false, true≢false, is_some, refl, sym, ap, ◌∙◌, subst, arith, ⊎_elim}
 use Rattle.std.specs.Ordering.{nat_cmp}
 use Rattle.std.specs.Map.{lookup}
 use Rattle.std.specs.BTreeMap.{is_at}
@@ -16,16 +16,16 @@ use Rattle.mem_tree.proofs.MemoryLemmas.{up-one}
 use Rattle.mem_tree.proofs.UpperLemmas.{of-two, empty-above}
 
 module _ (digest : List ℕ → List ℕ) (t t' : Kept) (page : ℕ) (empties : t'.empties ≡ t.empties)
-    (pages_kept : (p : ℕ) → p ≢ page → page_at t' p ≡ page_at t p) (upper_kept : (n k : ℕ) → k ≢ page / 2 ^ n → upper_at t' n k ≡ upper_at t n k) where
+    (pages_kept : (p : ℕ) → p ≢ page → page_at t' p ≡ page_at t p) (upper_kept : (n k : ℕ) → (20 < n) ⊎ (k ≢ page / 2 ^ n) → upper_at t' n k ≡ upper_at t n k) where
   root-kept : (p : ℕ) → p ≢ page → IsRoot (upper_at t 0 p) (page_at t p) → IsRoot (upper_at t' 0 p) (page_at t' p)
   root-kept p other is =
-      subst (λ o. IsRoot o (page_at t' p)) (sym (upper_kept 0 p (λ e. other (e ∙ div-one page)))) (subst (IsRoot (upper_at t 0 p)) (sym (pages_kept p other)) is)
+      subst (λ o. IsRoot o (page_at t' p)) (sym (upper_kept 0 p (inr (λ e. other (e ∙ div-one page))))) (subst (IsRoot (upper_at t 0 p)) (sym (pages_kept p other)) is)
 
   above-kept : (n k : ℕ) → k ≢ page / 2 ^ (n + 1) → IsJoinedAbove digest t n k → IsJoinedAbove digest t' n k
   above-kept n k other is =
       let half = up-one page n in
-      of-two digest _ _ _ _ _ _ _ _ _ _ (upper_kept (n + 1) k other)
-      (upper_kept n (2 * k) (λ e. other (omega arith))) (upper_kept n (2 * k + 1) (λ e. other (omega arith)))
+      of-two digest _ _ _ _ _ _ _ _ _ _ (upper_kept (n + 1) k (inr other))
+      (upper_kept n (2 * k) (inr (λ e. other (omega arith)))) (upper_kept n (2 * k + 1) (inr (λ e. other (omega arith))))
       (ap (λ es. digest_at es (7 + n)) empties) (ap (λ es. digest_at es (7 + (n + 1))) empties) is
 
   -- they are joined anew
@@ -40,6 +40,7 @@ module _ (digest : List ℕ → List ℕ) (t t' : Kept) (page : ℕ) (empties : 
         (λ same. subst (IsJoinedAbove digest t' n) (sym same) (joined n low))
         (λ other. above-kept n k other (before.above n k low (λ p at. tells p (λ e. other (sym at ∙ ap (λ x. x / 2 ^ (n + 1)) e)) (fresh p at))))
         (cases_eq k (page / 2 ^ (n + 1)));
+    top = λ n k high. upper_kept n k (inl high) ∙ before.top n k high;
   }
 
   -- what is written in and above a stale page isn't seen
@@ -47,6 +48,7 @@ module _ (digest : List ℕ → List ℕ) (t t' : Kept) (page : ℕ) (empties : 
   stays-joined stale before is = record {
     roots = λ p fresh. root-kept p (λ e. true≢false (sym is ∙ (ap (is_among stale) (sym e) ∙ fresh))) (before.roots p fresh);
     above = λ n k low fresh. above-kept n k (λ e. true≢false (sym is ∙ fresh page (sym e))) (before.above n k low fresh);
+    top = λ n k high. upper_kept n k (inl high) ∙ before.top n k high;
   }
 
   -- each heap is made of its chunks
@@ -61,6 +63,7 @@ pub joined-fewer : (digest : List ℕ → List ℕ) (t : Kept) (stale more : Lis
 joined-fewer digest t stale more tells is = record {
   roots = λ p fresh. is.roots p (tells p fresh);
   above = λ n k low fresh. is.above n k low (λ p at. tells p (fresh p at));
+  top = is.top;
 }
 
 -- a page whose root and heap are alike is put back
@@ -77,6 +80,7 @@ back-joined digest t t' page empties upper pages node there is = record {
       (cases_eq p page);
   above = λ n k low fresh. of-two digest _ _ _ _ _ _ _ _ _ _ (upper (n + 1) k) (upper n (2 * k)) (upper n (2 * k + 1))
       (ap (λ es. digest_at es (7 + n)) empties) (ap (λ es. digest_at es (7 + (n + 1))) empties) (is.above n k low (λ p at. refl));
+  top = λ n k high. upper n k ∙ is.top n k high;
 }
 
 -- nothing is kept
@@ -89,6 +93,7 @@ nothing-joined digest t pages upper empty = record {
       let none : (i q : ℕ) → upper_at t i q ≡ None = λ i q. ap (λ (us : List ((ℕ × ℕ) × Digest32)). lookup (is_at (by_place (i, q))) us) upper in
       of-two digest None _ None _ None _ (digest_at t.empties (7 + n)) _ (digest_at t.empties (7 + (n + 1))) _ (none (n + 1) k) (none n (2 * k)) (none n (2 * k + 1)) refl refl
       (record { digest_is = ap (digest_at t.empties) next ∙ empty-above digest t.empties (7 + n) empty (omega arith); kept = refl });
+  top = λ n k high. ap (λ (us : List ((ℕ × ℕ) × Digest32)). lookup (is_at (by_place (n, k))) us) upper;
 }
 
 -- nodes whose upper ones or pages are the same

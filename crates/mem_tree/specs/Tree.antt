@@ -1,7 +1,7 @@
--- To believe: `Tree`, `is_among` and `SameBut`, which say what a refreshed tree is promised of. The rest is derived: when a kept tree
--- is the tree of a memory, but for its touched pages, the relation that every call of `MemTree` keeps, and from which its root and
--- its paths are those of the definition.
-use Rattle.std.specs.Prelude.{◌≡◌, ℕ, ◌+◌, ◌-◌, ◌*◌, ◌/◌, ◌^◌, ◌<◌, List, [], Option, Bool, true, false, ◌||◌, is_some}
+-- To believe: `Tree`, `is_among` and `SameBut`, which say what a refreshed tree is promised of; and `page_at`, `upper_at` and
+-- `IsUsedOrTouched`, which say what it keeps. The rest is derived: when a kept tree is the tree of a memory, but for its touched pages,
+-- the relation that every call of `MemTree` keeps, and from which its root and its paths are those of the definition.
+use Rattle.std.specs.Prelude.{◌≡◌, ℕ, ◌+◌, ◌-◌, ◌*◌, ◌/◌, ◌^◌, ◌<◌, ◌⊎◌, List, [], Option, None, Bool, true, false, ◌||◌, is_some}
 use Rattle.std.specs.Ordering.{nat_cmp, ordering_then}
 use Rattle.std.specs.declared.cmp.Ordering.{Ordering}
 use Rattle.std.specs.List.{list_any}
@@ -9,7 +9,7 @@ use Rattle.std.specs.Map.{lookup}
 use Rattle.std.specs.BTreeMap.{is_at}
 use Rattle.rd_base.specs.declared.digest.Digest32.{Digest32}
 use Rattle.digest_core.specs.Text.{node_text}
-use Rattle.mem_plain.specs.Contents.{Contents}
+use Rattle.mem_plain.specs.Contents.{Contents, IsUsed}
 use Rattle.merkle_nodes.specs.Node.{digest_at}
 use Rattle.mem_tree.specs.Memory.{SamePage}
 use Rattle.mem_tree.specs.Page.{place_of, heap_node, kept_or, AreEmpty, IsMadeTree, IsPageOf}
@@ -73,17 +73,19 @@ pub record IsRaised (digest : List ℕ → List ℕ) (t : Kept) (page : ℕ) (ro
   pub joined : (n : ℕ) → n < top → IsJoinedAbove digest t n (page / 2 ^ (n + 1))
   pub kept : is_some root ≡ true → is_some (upper_at t top (page / 2 ^ top)) ≡ true
 
--- each node that stands neither at nor above a stale page is the root of its page, or the digest of the two below it. So nothing is
--- kept above pages but over pages that are kept, or stale
+-- each node that stands neither at nor above a stale page is the root of its page, or the digest of the two below it; and none is
+-- kept above level 27. So nothing is kept above pages but over pages that are kept, or stale
 pub record IsJoinedBut (digest : List ℕ → List ℕ) (t : Kept) (stale : List ℕ) : Type 0 where
   pub roots : (p : ℕ) → is_among stale p ≡ false → IsRoot (upper_at t 0 p) (page_at t p)
   pub above : (n k : ℕ) → n < 20 → ((p : ℕ) → p / 2 ^ (n + 1) ≡ k → is_among stale p ≡ false) → IsJoinedAbove digest t n k
+  pub top : (n k : ℕ) → 20 < n → upper_at t n k ≡ None
 
 -- the heap of each page is the tree over its chunks, be the page stale or not
 abbrev pub AllMade : (List ℕ → List ℕ) → Kept → Type 0
 AllMade digest t = (p : ℕ) → IsMadeTree digest (page_at t p)
 
--- each page that isn't stale is the memory's: it is kept exactly where it holds a byte other than 0; and the nodes above are joined
+-- each page that isn't stale is the memory's: it is kept exactly where it holds a byte other than 0; and the nodes above are joined. So
+-- above pages nothing is kept but over used or stale pages (`only_what_is_needed_is_kept`)
 pub record IsOver (digest : List ℕ → List ℕ) (t : Kept) (stale : List ℕ) (m : Contents) : Type 0 where
   pub pages : (p : ℕ) → is_among stale p ≡ false → IsPageOf (page_at t p) m p
   pub joined : IsJoinedBut digest t stale
@@ -91,6 +93,10 @@ pub record IsOver (digest : List ℕ → List ℕ) (t : Kept) (stale : List ℕ)
 -- the tree is a memory's, but for the touched pages
 abbrev pub IsTreeOf : (List ℕ → List ℕ) → Tree → Contents → Type 0
 IsTreeOf digest t m = IsOver digest t.nodes t.touched m
+
+-- a page holds a byte other than 0, or was touched since the last refresh
+abbrev pub IsUsedOrTouched : Tree → Contents → ℕ → Type 0
+IsUsedOrTouched t m p = IsUsed m p ⊎ (is_among t.touched p ≡ true)
 
 -- two memories are alike outside these pages
 abbrev pub SameBut : List ℕ → Contents → Contents → Type 0

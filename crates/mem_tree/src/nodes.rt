@@ -152,7 +152,7 @@ impl Nodes {
         requires page { page < 2 ^ 20 }
         requires empty { AreEmpty D.digest_of self.old.empties }
         ensures raised { OnOk result (IsRaised D.digest_of (kept_of self.new) page root 20) }
-        ensures elsewhere { (n k : ℕ) → k ≢ page / 2 ^ n → upper_at (kept_of self.new) n k ≡ upper_at (kept_of self.old) n k }
+        ensures elsewhere { (n k : ℕ) → (20 < n) ⊎ (k ≢ page / 2 ^ n) → upper_at (kept_of self.new) n k ≡ upper_at (kept_of self.old) n k }
         ensures pages { self.new.pages ≡ self.old.pages }
         ensures empties { self.new.empties ≡ self.old.empties }
         ensures counted { OnOk result (is_some root ≡ true → steps.new ≡ steps.old + 20) }
