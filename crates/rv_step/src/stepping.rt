@@ -10,7 +10,7 @@ ghost use Rattle.rv_step.specs.OutOfMemory.{Puts, NeedsMemory, StepNeedsMemory};
 use crate::asked::{Need, Outcome};
 use crate::effect::{ILLEGAL_INSTRUCTION, MISALIGNED_JUMP};
 use crate::machine::Machine;
-use crate::parts::{finish, need};
+use crate::parts::{finish, need, next};
 use digest_core::{Digester, chain_grows, link};
 use mem_plain::{PAGE_BYTES, PlainMem};
 use rd_base::{Memory, Status};
@@ -74,6 +74,10 @@ fn finish_on<D: Digester>(
     Ok(page)
 }
 
+/// Carries out an instruction that is at `pc`, and tells the page that it stores to. An `Err` is out of memory, and changes nothing.
+///
+/// It is inlined with `decode`, so that the instruction isn't written to memory field by field and read back.
+#[inline(always)]
 fn carry_out<D: Digester>(
     machine: &mut Machine,
     d: &D,
@@ -95,7 +99,8 @@ fn carry_out<D: Digester>(
         }
         Need::Store { addr, width, value } => {
             machine.mem.store(addr, width, value)?;
-            finish_on(machine, d, instr, 0, Some(addr / PAGE_BYTES))
+            machine.ctl.pc = next(machine.ctl.pc);
+            Ok(Some(addr / PAGE_BYTES))
         }
         Need::Input { index } => {
             let loaded = input_byte(&machine.input, index);
@@ -113,6 +118,7 @@ fn carry_out<D: Digester>(
 /// of 4, whose word is no instruction or whose instruction can't be carried out traps, which changes the status
 /// alone. The machine's chain is its output's by the digester `d`, before and after. An `Err` is out of memory, and
 /// changes nothing; it comes only where the step stores to a page in which every byte is 0, or puts out a byte.
+#[inline(always)]
 pub fn step<D: Digester>(machine: &mut Machine, d: &D) -> Result<Option<u32>, Memory>
     requires { IsChained D.digest_of machine.old }
     ensures ok { OnOk result (state_of machine.new ≡ step_of (state_of machine.old)) }

@@ -1,12 +1,14 @@
-use Rattle.std.proofs.Common.{◌≡◌, ℕ, Option, Result, Ok, Err, IfOk, OnErr, subst, sym, ap, ◌∙◌}
+use Rattle.std.proofs.Common.{◌≡◌, ℕ, Option, Result, Ok, Err, IfOk, OnErr, refl, subst, sym, ap, ◌∙◌}
 use Rattle.std.proofs.lemmas.Result.{on_ok_weaker, on_err_weaker, IfOk-weaker}
-use Rattle.mem_plain.specs.Contents.{number_at}
+use Rattle.mem_plain.specs.Contents.{Contents, number_at}
 use Rattle.rv_step.specs.Offer.{byte_or_ones}
 use Rattle.rv_step.specs.State.{State, state_of}
-use Rattle.rv_step.specs.Step.{effect_at}
+use Rattle.rv_step.specs.Step.{effect_at, following}
 use Rattle.rv_step.specs.Touched.{stored_page}
 use Rattle.rv_step.specs.OutOfMemory.{Puts, NeedsMemory}
 use Rattle.rv_step.specs.Parts.{Finishes, after_finish, finished, by_parts, needed_in}
+use Rattle.rv_step.specs.declared.effect.Effect.{Effect}
+use Rattle.rv_step.specs.declared.effect.Effect.TheVariants.{Store}
 use Rattle.rv_step.specs.declared.asked.Need.{Need}
 use Rattle.rv_decode.specs.declared.instr.Instr.{Instr}
 use Rattle.rv_step.proofs.PartsLemmas.{at_finishes, parts_are_the_step, puts_need}
@@ -22,6 +24,11 @@ met s i n is = subst (Finishes (effect_at s i) (λ loaded. finished s.regs s.pc 
 told : {E : Type 0} (r : Result (Option ℕ) E) (s : State) (i : Instr) (n : Need) → n ≡ needed_in s.version s.regs i → IfOk r (λ page. page ≡ needed_page n) → IfOk r (λ page. page ≡ stored_page (effect_at s i))
 told r s i n is = IfOk-weaker r (λ page. page ≡ needed_page n) (λ page. page ≡ stored_page (effect_at s i)) (λ page same.
     same ∙ (ap needed_page is ∙ page_needed s.version (byte_or_ones s.input) s.regs s.pc (λ addr width. number_at s.memory addr width) i))
+
+-- the state after a store, of which the number that it would load doesn't matter
+stored : (s : State) (m n : Contents) (pc addr width value : ℕ) (e : Effect) → pc ≡ following s.pc → m ≡ n → e ≡ Store addr width value
+    → (record s { memory = m; pc = pc }) ≡ after_finish (record s { memory = n }) e
+stored s m n pc addr width value e next is store = rw (next, is, store) refl
 
 pub returns-in-Nothing-clause-ok : goal.returns-in-Nothing-clause-ok
 returns-in-Nothing-clause-ok g c =
@@ -49,9 +56,8 @@ pub returns-in_ok-store-in-Store-clause-ok : goal.returns-in_ok-store-in-Store-c
 returns-in_ok-store-in-Store-clause-ok g c =
     let s = state_of c.args.machine.now in
     let i = c.args.instr.now in
-    on_ok_weaker c.finish_on-in-Store.result
-    (λ done. done ∙ (ap (λ m. after_finish (record s { memory = m }) (finished s.regs s.pc 0 i)) c.in_ok-store-in-Store.ensures.stored ∙ (ap (by_parts s i 0) c.in-Store.ensures.value ∙ parts_are_the_step s i 0)))
-    c.finish_on-in-Store.ensures.ok
+    stored s _ _ _ c.in-Store.addr c.in-Store.width c.in-Store.value _ c.next-machine.ensures c.in_ok-store-in-Store.ensures.stored ((met s i _ c.in-Store.ensures.value).1 0)
+    ∙ (ap (by_parts s i 0) c.in-Store.ensures.value ∙ parts_are_the_step s i 0)
 
 pub returns-in-Trap-clause-ok : goal.returns-in-Trap-clause-ok
 returns-in-Trap-clause-ok g c =
@@ -69,16 +75,14 @@ pub returns-in-Input-clause-page : goal.returns-in-Input-clause-page
 returns-in-Input-clause-page g c = told c.finish_on-in-Input.result (state_of c.args.machine.now) c.args.instr.now _ c.in-Input.ensures.value c.finish_on-in-Input.ensures.page
 
 pub returns-in_ok-store-in-Store-clause-page : goal.returns-in_ok-store-in-Store-clause-page
-returns-in_ok-store-in-Store-clause-page g c = told c.finish_on-in-Store.result (state_of c.args.machine.now) c.args.instr.now _ c.in-Store.ensures.value c.finish_on-in-Store.ensures.page
+returns-in_ok-store-in-Store-clause-page g c =
+    let s = state_of c.args.machine.now in
+    ap needed_page c.in-Store.ensures.value ∙ page_needed s.version (byte_or_ones s.input) s.regs s.pc (λ addr width. number_at s.memory addr width) c.args.instr.now
 
 pub returns-in-Trap-clause-page : goal.returns-in-Trap-clause-page
 returns-in-Trap-clause-page g c =
     let s = state_of c.args.machine.now in
     ap needed_page c.in-Trap.ensures.value ∙ page_needed s.version (byte_or_ones s.input) s.regs s.pc (λ addr width. number_at s.memory addr width) c.args.instr.now
-
-pub returns-in_ok-store-in-Store-clause-err : goal.returns-in_ok-store-in-Store-clause-err
-returns-in_ok-store-in-Store-clause-err g c =
-    on_err_weaker c.finish_on-in-Store.result (λ puts. absurd (subst Puts ((met (state_of c.args.machine.now) c.args.instr.now _ c.in-Store.ensures.value).1 0) puts)) c.finish_on-in-Store.ensures.puts
 
 pub returns-in-Nothing-clause-needs : goal.returns-in-Nothing-clause-needs
 returns-in-Nothing-clause-needs g c =
@@ -100,10 +104,6 @@ returns-in-Input-clause-needs g c =
     on_err_weaker c.finish_on-in-Input.result
     (λ puts. puts_need s.memory _ (subst Puts (ap (λ n. finished s.regs s.pc n i) (c.input_byte-loaded.ensures ∙ ap (λ bytes. byte_or_ones bytes c.in-Input.index) c.deref.ensures.value) ∙ sym (met s i _ c.in-Input.ensures.value).0) puts))
     c.finish_on-in-Input.ensures.puts
-
-pub returns-in_ok-store-in-Store-clause-needs : goal.returns-in_ok-store-in-Store-clause-needs
-returns-in_ok-store-in-Store-clause-needs g c =
-    on_err_weaker c.finish_on-in-Store.result (λ puts. absurd (subst Puts ((met (state_of c.args.machine.now) c.args.instr.now _ c.in-Store.ensures.value).1 0) puts)) c.finish_on-in-Store.ensures.puts
 
 pub returns-in_err-store-in-Store-clause-needs : goal.returns-in_err-store-in-Store-clause-needs
 returns-in_err-store-in-Store-clause-needs g c =
