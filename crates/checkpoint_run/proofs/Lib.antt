@@ -1,4 +1,5 @@
 pub mod RunLemmas
 pub mod VersionLemmas
+pub mod NotedLemmas
 pub mod RecordLemmas
 pub mod EndLemmas

@@ -1,10 +1,9 @@
 -- Checkpoints that stand for states, while the run goes on.
-use Rattle.std.proofs.Common.{◌≡◌, ◌≢◌, ◌⊎◌, ℕ, zero, suc, ◌+◌, ◌*◌, ◌/◌, ◌%◌, ◌<◌, ◌≤◌, List, [], ◌∷◌, ◌++◌, length, take, Option, Some, None, IfSome, inl, inr, refl, sym, ap, subst, ◌∙◌, ⊎_elim, arith, slice_get, get_or, false, length-append}
+use Rattle.std.proofs.Common.{◌≡◌, ◌⊎◌, ℕ, zero, suc, ◌+◌, ◌*◌, ◌/◌, ◌<◌, ◌≤◌, List, [], ◌∷◌, ◌++◌, length, take, Option, Some, None, IfSome, inl, inr, refl, sym, ap, subst, ◌∙◌, ⊎_elim, arith, slice_get, get_or, false, length-append}
 use Rattle.std.proofs.lemmas.Bool.{cases_order}
 use Rattle.std.proofs.lemmas.List.{take-append-le, take_all}
 use Rattle.std.proofs.Math.Numerals.{add-one}
 use Rattle.std.proofs.lemmas.Option.{slice_get_past}
-use Rattle.std.proofs.Math.Nat.{le-div_iff_mul-le, div-lt_iff_lt-mul, div-add-mod, mul_comm, lt-div-mul-add, lt_of_mul-lt-mul_right, add-mul}
 use Rattle.digest_core.specs.Chain.{chain_of}
 use Rattle.mem_plain.specs.Contents.{Contents, byte_at}
 use Rattle.rd_base.specs.declared.ctl.Ctl.{Ctl}
@@ -140,35 +139,6 @@ all_stand_added cs new versions s ctl run every all added pc status len here =
           let P : State → Type 0 = λ x. state_by added.checkpoint versions s.output x.version x.input ≡ x in
           subst P (sym here) (rw (added.regs_are, ap (λ x. x.pc) added.ctl_is ∙ pc, whole, added.memory_is, ap (λ x. x.status) added.ctl_is ∙ status, out) refl);
     }))
-
--- the number of checkpoints, at a step that is due and at one that isn't
-pub due : (a e : ℕ) → 0 < e → (a + 1) % e ≡ 0 → (a + 1) / e ≡ a / e + 1
-due a e some even =
-    let whole = div-add-mod (a + 1) e in
-    let turned = mul_comm e ((a + 1) / e) in
-    let q = (a + 1) / e in
-    let below : a / e < q = (div-lt_iff_lt-mul some).1 (omega arith) in
-    let reach = lt-div-mul-add {a = a} some in
-    let two = add-mul (a / e) 2 e in
-    let above : q < a / e + 2 = lt_of_mul-lt-mul_right e (omega arith) in
-    omega arith
-
-pub not_due : (a e : ℕ) → 0 < e → (a + 1) % e ≢ 0 → (a + 1) / e ≡ a / e
-not_due a e some odd =
-    let whole = div-add-mod (a + 1) e in
-    let turned = mul_comm e ((a + 1) / e) in
-    let wholly = div-add-mod a e in
-    let turnedly = mul_comm e (a / e) in
-    let below : (a + 1) / e ≤ a / e = (le-div_iff_mul-le some).1 (omega arith) in
-    let above : a / e ≤ (a + 1) / e = (le-div_iff_mul-le some).1 (omega arith) in
-    omega arith
-
--- at a step that is due the next checkpoint's number is its own
-pub due_here : (a e n : ℕ) → 0 < e → (a + 1) % e ≡ 0 → n ≡ a / e + 1 → n * e ≡ a + 1
-due_here a e n some even is =
-    let whole = div-add-mod (a + 1) e in
-    let turned = mul_comm e ((a + 1) / e) in
-    ap (λ k. k * e) (is ∙ sym (due a e some even)) ∙ omega arith
 
 -- the chain of a checkpoint more
 pub all_chained_added : (digest : List ℕ → List ℕ) (cs new : List Checkpoint) (versions : List Version) (regs : List ℕ) (ctl : Ctl) (memory : Contents) (run : ℕ → State) (every : ℕ)

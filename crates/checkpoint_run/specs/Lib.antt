@@ -7,4 +7,5 @@ pub mod AtRest
 pub mod Recorded
 pub mod Versions
 pub mod Keeping
+pub mod NotedPages
 pub mod UnderWay

@@ -1,11 +1,12 @@
 -- Derived: what holds of a run that is being recorded.
-use Rattle.std.specs.Prelude.{◌≡◌, ℕ, ◌+◌, ◌*◌, ◌/◌, ◌≤◌, List, length, slice_get, IfSome}
+use Rattle.std.specs.Prelude.{◌≡◌, ℕ, ◌+◌, ◌*◌, ◌/◌, ◌<◌, ◌≤◌, List, length, vec_len, slice_get, IfSome}
 use Rattle.digest_core.specs.Chain.{chain_of}
 use Rattle.rd_base.specs.declared.tamper.Tamper.{Tamper}
 use Rattle.rv_step.specs.State.{State, state_of, IsChained}
 use Rattle.checkpoint_run.specs.TamperedRun.{run_from}
 use Rattle.checkpoint_run.specs.Versions.{AreBelow, IsShownBut}
 use Rattle.checkpoint_run.specs.WrittenPages.{writes}
+use Rattle.checkpoint_run.specs.NotedPages.{AreNoted}
 use Rattle.checkpoint_run.specs.Keeping.{AllStand, at_first}
 use Rattle.checkpoint_run.specs.declared.checkpoint.Checkpoint.{Checkpoint}
 use Rattle.checkpoint_run.specs.declared.recording.Recording.{Recording}
@@ -21,6 +22,11 @@ pub record IsUnderWay (digest : List ℕ → List ℕ) (tamper : Tamper) (first 
   pub pages : AreBelow r.changed.keys
   pub shown : IsShownBut r.versions.items r.changed.keys r.machine.mem
   pub many : length r.checkpoints.items ≡ r.at / every + 1
+  pub due : r.at + r.left ≡ length r.checkpoints.items * every
+  pub soon : 0 < r.left
+  pub within : r.left ≤ every
+  pub places : vec_len r.lately ≡ 256
+  pub noted : AreNoted r.lately.items r.changed.keys
   pub few : length r.versions.items + length r.changed.keys ≤ at_first r.checkpoints.items + writes tamper first r.at
   pub each : AllStand r.checkpoints.items r.versions.items r.machine.output.items (run_from tamper first) every
   pub chains : AllChained digest r.checkpoints.items (run_from tamper first) every

@@ -1,10 +1,11 @@
 //! A run that is being recorded.
-ghost use Rattle.std.specs.Prelude.{◌≡◌, ◌⊎◌, ℕ, ◌+◌, ◌<◌, ◌≤◌, ◌^◌, ◌∷◌, [], List, length, true, false, IfOk, OnOk};
+ghost use Rattle.std.specs.Prelude.{◌≡◌, ◌⊎◌, ℕ, ◌+◌, ◌<◌, ◌≤◌, ◌^◌, ◌∷◌, [], List, length, vec_len, true, false, IfOk, OnOk};
 ghost use Rattle.rv_step.specs.State.{State, state_of, IsChained};
 ghost use Rattle.checkpoint_run.specs.TamperedRun.{tampered};
 ghost use Rattle.checkpoint_run.specs.NamedPages.{IsNamed, ArePages};
 ghost use Rattle.checkpoint_run.specs.WrittenPages.{how_many};
 ghost use Rattle.checkpoint_run.specs.Versions.{AreBelow, IsShownBut, is_among};
+ghost use Rattle.checkpoint_run.specs.NotedPages.{AreNoted};
 ghost use Rattle.checkpoint_run.specs.UnderWay.{IsUnderWay};
 
 use crate::checkpoint::{Checkpoint, add_checkpoint};
@@ -17,13 +18,19 @@ use rv_step::Machine;
 use std::alloc::Global;
 use std::collections::BTreeSet;
 
-/// A run that is being recorded: its machine and at which step it is, the pages that were written since the last checkpoint, the
-/// versions of pages, and the checkpoints.
+/// How many places there are for pages that were noted lately.
+const PLACES: u32 = 256;
+
+/// A run that is being recorded: its machine and at which step it is, how many steps are left to the next checkpoint, the pages
+/// that were written since the last one, the versions of pages, and the checkpoints.
 #[derive(Drop)]
 pub struct Recording {
     pub machine: Machine,
     pub at: u64,
+    pub left: u32,
     pub changed: BTreeSet<u32>,
+    /// Some of the changed pages, each as its number + 1 at the place of the number's low eight bits. 0 names none.
+    pub lately: Vec<u64>,
     pub versions: Vec<Version>,
     pub checkpoints: Vec<Checkpoint>,
 }
@@ -38,10 +45,16 @@ fn first_machine(machine: &Machine, tamper: &Tamper) -> Result<Machine, Memory>
     Ok(first)
 }
 
-/// The recording at step 0. An `Err` is out of memory.
-pub fn begin(alloc: Global, machine: &Machine, tamper: &Tamper) -> Result<Recording, Memory>
+/// The recording at step 0, with a checkpoint due after every `every` steps. An `Err` is out of memory.
+pub fn begin(
+    alloc: Global,
+    machine: &Machine,
+    tamper: &Tamper,
+    every: u32,
+) -> Result<Recording, Memory>
+    requires { 0 < every }
     ensures at { IfOk result (λ r. r.at ≡ 0) }
-    ensures under_way { (digest : List ℕ → List ℕ) (every : ℕ) → 0 < every → IsChained digest machine.now →
+    ensures under_way { (digest : List ℕ → List ℕ) → IsChained digest machine.now →
         IfOk result (λ r. IsUnderWay digest tamper.now (tampered tamper.now 0 (state_of machine.now)) every r) }
 {
     let machine = first_machine(machine, tamper)?;
@@ -49,26 +62,56 @@ pub fn begin(alloc: Global, machine: &Machine, tamper: &Tamper) -> Result<Record
     let mut versions = Vec::new(alloc);
     let mut checkpoints = Vec::new(alloc);
     add_checkpoint(&machine, &mut changed, &mut versions, &mut checkpoints)?;
+    let lately = none_lately(alloc)?;
     Ok(Recording {
         machine,
         at: 0,
+        left: every,
         changed,
+        lately,
         versions,
         checkpoints,
     })
 }
 
-/// Notes a page that was written, where one is named, and no other. An `Err` is out of memory.
-fn note(changed: &mut BTreeSet<u32>, page: Option<u32>) -> Result<(), Memory>
+/// Places at which no page is named. An `Err` is out of memory.
+fn none_lately(alloc: Global) -> Result<Vec<u64>, Memory>
+    ensures places { IfOk result (λ lately. vec_len lately ≡ 256) }
+    ensures none { IfOk result (λ lately. (pages : List ℕ) → AreNoted lately.items pages) }
+{
+    Ok(vec![in alloc; 0u64; 256]?)
+}
+
+/// No page is named at any place from now on.
+fn forget(lately: &mut Vec<u64>)
+    ensures places { vec_len lately.new ≡ vec_len lately.old }
+    ensures none { (pages : List ℕ) → AreNoted lately.new.items pages }
+{
+    lately.fill(0);
+}
+
+/// Notes a page that was written, where one is named, and no other. One that was noted lately isn't looked up among all. An `Err`
+/// is out of memory.
+fn note(changed: &mut BTreeSet<u32>, lately: &mut Vec<u64>, page: Option<u32>) -> Result<(), Memory>
+    requires places { vec_len lately.old ≡ 256 }
+    requires noted { AreNoted lately.old.items changed.old.keys }
     ensures named { OnOk result ((p : ℕ) → is_among changed.new.keys p ≡ false → IsNamed p (page ∷ []) → ⊥) }
     ensures kept { OnOk result ((p : ℕ) → is_among changed.new.keys p ≡ false → is_among changed.old.keys p ≡ false) }
     ensures only { OnOk result ((p : ℕ) → is_among changed.new.keys p ≡ true → (is_among changed.old.keys p ≡ true) ⊎ IsNamed p (page ∷ [])) }
     ensures few { OnOk result (length changed.new.keys ≤ length changed.old.keys + how_many (page ∷ [])) }
     ensures pages { OnOk result (ArePages (page ∷ []) → AreBelow changed.old.keys → AreBelow changed.new.keys) }
+    ensures places { OnOk result (vec_len lately.new ≡ 256) }
+    ensures noted { OnOk result (AreNoted lately.new.items changed.new.keys) }
 {
     match page {
         Some(page) => {
+            let place = (page % PLACES) as usize;
+            let entry = u64::from(page) + 1;
+            if lately[place] == entry {
+                return Ok(());
+            }
             changed.insert(page)?;
+            lately[place] = entry;
             Ok(())
         }
         None => Ok(()),
@@ -84,6 +127,9 @@ pub fn go_on<D: Digester>(
 ) -> Result<(), Memory>
     requires every { 0 < every }
     requires room { recording.old.at + 1 < 2 ^ 64 }
+    requires left { 0 < recording.old.left }
+    requires places { vec_len recording.old.lately ≡ 256 }
+    requires noted { AreNoted recording.old.lately.items recording.old.changed.keys }
     requires chained { IsChained D.digest_of recording.old.machine }
     requires pages { AreBelow recording.old.changed.keys }
     requires shown { IsShownBut recording.old.versions.items recording.old.changed.keys recording.old.machine.mem }
@@ -92,11 +138,14 @@ pub fn go_on<D: Digester>(
 {
     let pages = follow(d, tamper, recording.at, &mut recording.machine)?;
     recording.at += 1;
-    note(&mut recording.changed, pages[0])?;
-    note(&mut recording.changed, pages[1])?;
-    if recording.at % u64::from(every) != 0 {
+    recording.left -= 1;
+    note(&mut recording.changed, &mut recording.lately, pages[0])?;
+    note(&mut recording.changed, &mut recording.lately, pages[1])?;
+    if recording.left != 0 {
         return Ok(());
     }
+    recording.left = every;
+    forget(&mut recording.lately);
     add_checkpoint(
         &recording.machine,
         &mut recording.changed,

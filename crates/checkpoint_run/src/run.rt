@@ -111,7 +111,7 @@ pub fn record_run<D: Digester>(
 {
     stopped_states_stay();
     runs_keep_the_input();
-    let mut recording = begin(alloc, machine, &tamper)?;
+    let mut recording = begin(alloc, machine, &tamper, every)?;
     'steps: while recording.at < bound
         && !is_at_rest(&tamper, bound, recording.at, &recording.machine)
     {

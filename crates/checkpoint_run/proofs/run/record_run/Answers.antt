@@ -1,4 +1,5 @@
-use Rattle.std.proofs.Common.{◌≡◌, ◌⊎◌, ℕ, ◌+◌, ◌*◌, ◌≤◌, length, slice_get, IfSome, map, true, inl, inr, sym, ap, subst, ◌∙◌, arith}
+use Rattle.std.proofs.Common.{◌≡◌, ◌⊎◌, ℕ, ◌+◌, ◌*◌, ◌≤◌, length, slice_get, IfSome, map, true, false, inl, inr, ⊎_elim, sym, ap, subst, ◌∙◌, arith}
+use Rattle.std.proofs.lemmas.Bool.{cases_lt}
 use Rattle.digest_core.specs.Chain.{chain_of}
 use Rattle.rv_step.specs.State.{State, state_of}
 use Rattle.checkpoint_run.specs.TamperedRun.{tampered, run_from, still}
@@ -15,8 +16,24 @@ steps-init g c =
     let at = c.in_ok-recording.ensures.at in
     record {
       within = omega (arith, at);
-      under_way = c.in_ok-recording.ensures.under_way g.D.Digester.digest_of c.args.every c.requires.every c.requires.chained;
+      under_way = c.in_ok-recording.ensures.under_way g.D.Digester.digest_of c.requires.chained;
       before = λ k early. absurd (omega (arith, at, early));
+    }
+
+pub steps-preserved : goal.steps-preserved
+steps-preserved g c =
+    let r = c.steps.recording in
+    let inv = c.steps.invariant in
+    let begun : State = tampered c.args.tamper 0 (state_of c.args.machine.now) in
+    let at = c.in_ok-go_on.ensures.at in
+    let here : rests c.args.tamper c.args.bound r.at (run_from c.args.tamper begun r.at) ≡ false = sym (c.if-not-is_at_rest.ensures ∙ ap (rests c.args.tamper c.args.bound r.at) inv.under_way.state) in
+    record {
+      within = omega (arith, at, c.steps-test.true);
+      under_way = c.in_ok-go_on.ensures.under_way begun inv.under_way;
+      before = λ k early. ⊎_elim
+          (λ earlier. inv.before k earlier)
+          (λ late. let last : k ≡ r.at = omega (arith, at, early) in ap (λ n. rests c.args.tamper c.args.bound n (run_from c.args.tamper begun n)) last ∙ here)
+          (cases_lt k r.at);
     }
 
 pub returns-clause-first : goal.returns-clause-first
