@@ -1,5 +1,8 @@
 -- Derived: what holds of every machine that is kept with the trees of its commitment.
 use Rattle.std.specs.Prelude.{◌≡◌, ℕ, ◌==◌, List, [], true, false, Option, Some, None}
+use Rattle.std.specs.declared.alloc.Global.{Global}
+use Rattle.std.specs.Arc.{arc_value}
+use Rattle.std.specs.declared.sync.Arc.{Arc}
 use Rattle.rd_base.specs.declared.digest.Digest32.{Digest32}
 use Rattle.mem_tree.specs.Tree.{Tree, IsTreeOf}
 use Rattle.rv_step.specs.declared.machine.Machine.{Machine}
@@ -19,6 +22,11 @@ HasTreeFor version None = (version == 1) ≡ true
 abbrev pub HasRegisters : State → Option (List ℕ) → Type 0
 HasRegisters s (Some xs) = ((s.version == 1) ≡ false) × (xs ≡ s.regs)
 HasRegisters s None = (s.version == 1) ≡ true
+
+-- the nodes of a tree that is shared, where there is one
+abbrev pub shared_nodes : Option (Arc (List Digest32) Global) → Option (List Digest32)
+shared_nodes (Some shared) = Some (arc_value shared)
+shared_nodes None = None
 
 -- the tree of the input is there exactly in version 3, and is that of a state's input
 abbrev pub HasInput : (List ℕ → List ℕ) → State → Option (List Digest32) → Type 0

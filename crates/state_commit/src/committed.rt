@@ -3,11 +3,12 @@ ghost use Rattle.rv_step.specs.State.{state_of};
 ghost use Rattle.state_commit.specs.Committing.{HasTreeFor, HasRegisters, HasInput};
 
 use crate::kept_memory::KeptMemory;
-use crate::root::{INPUT_TREE, WHOLE_REGISTERS, root_of_parts};
+use crate::root::{WHOLE_REGISTERS, root_of_parts};
+use crate::shared_input::SharedInput;
 use digest_core::{Digester, registers_text};
 use rd_base::{Digest32, InPath, Memory, Path, RegPath};
 use rv_step::{Machine, runs_keep_the_input};
-use state_trees::{InputTree, RegTree};
+use state_trees::RegTree;
 use std::alloc::Global;
 use std::marker::Model;
 use std::thread::Threads;
@@ -37,21 +38,6 @@ fn registers_after<D: Digester>(tree: Option<RegTree<D>>, machine: &Machine) -> 
     }
 }
 
-/// The tree of a machine's input, where its version has one. An `Err` is out of memory.
-fn input_of<D: Digester>(
-    alloc: Global,
-    d: D,
-    machine: &Machine,
-) -> Result<Option<InputTree<D>>, Memory>
-    ensures { IfOk result (λ tree. HasInput D.digest_of (state_of machine.now) tree) }
-{
-    if machine.version == INPUT_TREE {
-        Ok(Some(InputTree::build(alloc, d, &machine.input)?))
-    } else {
-        Ok(None)
-    }
-}
-
 /// A machine that is kept with the trees that the commitment to its states has in its version: of its memory, from version 2 on of
 /// its registers, and in version 3 of its input.
 ///
@@ -61,7 +47,7 @@ pub struct Committed<D: Digester> {
     d: D,
     kept: KeptMemory<D>,
     regs: Option<RegTree<D>>,
-    input: Option<InputTree<D>>,
+    input: SharedInput<D>,
 }
 
 impl<D: Digester> Model for Committed<D> {
@@ -101,8 +87,25 @@ impl<D: Digester> Committed<D> {
         requires { IsChained D.digest_of machine }
         ensures { IfOk result (λ c. c ≡ state_of machine) }
     {
+        let input = SharedInput::of(alloc, d, &machine)?;
+        Committed::with_input(rt, alloc, d, machine, input)
+    }
+
+    /// `new`, from the tree of the machine's input, so that no part of the input is digested.
+    pub fn with_input<R: Threads + Sync>(
+        rt: &R,
+        alloc: Global,
+        d: D,
+        machine: Machine,
+        input: SharedInput<D>,
+    ) -> Result<Self, Memory>
+    where
+        D: Send + Sync,
+        requires chained { IsChained D.digest_of machine }
+        requires input { HasInput D.digest_of (state_of machine) input }
+        ensures { IfOk result (λ c. c ≡ state_of machine) }
+    {
         let regs = registers_of(d, &machine);
-        let input = input_of(alloc, d, &machine)?;
         let kept = KeptMemory::new(rt, alloc, d, machine)?;
         Ok(Committed {
             d,
@@ -165,10 +168,7 @@ impl<D: Digester> Committed<D> {
     pub fn input_root(&self) -> Digest32
         ensures { self.now.version ≡ 3 → result.0 ≡ input_root D.digest_of self.now.input }
     {
-        match &self.input {
-            Some(tree) => tree.root(),
-            None => Digest32::ZERO,
-        }
+        self.input.root()
     }
 
     /// The root of the machine's state in its version.
@@ -212,9 +212,6 @@ impl<D: Digester> Committed<D> {
         requires version { self.now.version ≡ 3 }
         ensures { IsPath D.digest_of (input_leaf self.now.input) 15 chunk result.0 }
     {
-        match &self.input {
-            Some(tree) => tree.path(chunk),
-            None => InPath([Digest32::ZERO; 15]),
-        }
+        self.input.path(chunk)
     }
 }

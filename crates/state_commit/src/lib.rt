@@ -4,8 +4,9 @@
 //! `state_root_in` is the definition's root of a machine's state, computed from scratch and without memory; a `Committed` is a machine that
 //! is kept with the trees that its version has, so that after each step its roots and its paths are those of the definition. That only
 //! the page that the step stored to and the register that it changed are digested anew is read in `committed`. Which strings are the
-//! strings of a state says `specs/Strings.antt`. A `KeptRegisters` serves who asks for the roots of many states. Read
-//! `specs/StateRoot.antt` first, then `root` and `committed`.
+//! strings of a state says `specs/Strings.antt`. A `KeptRegisters` serves who asks for the roots of many states, and a `SharedInput`,
+//! the tree of an input, all who ask for states of machines with this input. Read `specs/StateRoot.antt` first, then `root` and
+//! `committed`.
 #![tactic(auto)]
 
 mod committed;
@@ -13,7 +14,9 @@ mod kept_memory;
 mod kept_registers;
 mod root;
 mod scratch;
+mod shared_input;
 
 pub use committed::Committed;
 pub use kept_registers::KeptRegisters;
-pub use root::{registers_digest, root_of_parts, state_root_in};
+pub use root::{registers_digest, root_of_parts, state_root_in, state_root_with};
+pub use shared_input::{SharedInput, one_input_has_one_tree};

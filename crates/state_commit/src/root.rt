@@ -3,9 +3,11 @@ ghost use Rattle.std.specs.Prelude.{◌≡◌, ◌==◌, if◌then◌else◌};
 ghost use Rattle.digest_core.specs.Text.{storage_text as text_of_storage};
 ghost use Rattle.rv_step.specs.State.{state_of, IsChained};
 ghost use Rattle.state_commit.specs.StateRoot as state;
+ghost use Rattle.state_commit.specs.Committing.{HasInput};
 ghost use Rattle.state_trees.specs.InputTree as inputs;
 
 use crate::scratch::memory_root;
+use crate::shared_input::SharedInput;
 use digest_core::{Digester, registers_text, storage_text};
 use out_chain::parts_root;
 use rd_base::{Digest32, Regs};
@@ -94,6 +96,23 @@ pub fn state_root_in<D: Digester>(d: D, version: u8, machine: &Machine) -> Diges
         memory_root(d, &machine.mem),
         registers_digest(d, version, &machine.regs),
         input_part(d, version, &machine.input),
+        machine,
+    )
+}
+
+/// The root of a machine's state in its own version, from the tree of its input. It is made from scratch but for the input, no part of
+/// which is digested, and takes no memory. The machine's chain is that of its output, by this digester.
+pub fn state_root_with<D: Digester>(d: D, machine: &Machine, input: &SharedInput<D>) -> Digest32
+    requires chained { IsChained D.digest_of machine.now }
+    requires input { HasInput D.digest_of (state_of machine.now) input.now }
+    ensures { result.0 ≡ state.root_in D.digest_of machine.now.version (state_of machine.now) }
+{
+    root_of_parts(
+        d,
+        machine.version,
+        memory_root(d, &machine.mem),
+        registers_digest(d, machine.version, &machine.regs),
+        input.root(),
         machine,
     )
 }
