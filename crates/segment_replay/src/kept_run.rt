@@ -1,18 +1,39 @@
-ghost use Rattle.std.specs.Prelude.{◌≡◌, IfOk};
-ghost use Rattle.checkpoint_run.specs.Recorded.{AreChained};
-ghost use Rattle.segment_replay.specs.Roots.{root_at};
+ghost use Rattle.std.specs.Prelude.{◌≡◌, ◌<◌, IfOk, map, min};
+ghost use Rattle.checkpoint_run.specs.Recorded.{AreChained, state_of_step};
+ghost use Rattle.state_commit.specs.Committing.{HasInput};
+ghost use Rattle.segment_replay.specs.Roots.{root_at, digests};
 
-use crate::cursor::{Cursor, root_of_step, run_input_root};
-use checkpoint_run::Run;
+use crate::cursor::{Cursor, machine_of_step, root_of_step};
+use crate::replaying::roots_with_input;
+use checkpoint_run::{Run, tampered_runs_keep_the_input};
 use digest_core::Digester;
 use rd_base::{Digest32, Memory, Regs};
-use state_commit::KeptRegisters;
+use state_commit::{Committed, KeptRegisters, SharedInput, one_input_has_one_tree};
 use std::alloc::Global;
 use std::marker::Model;
 use std::thread::Threads;
 
+/// The machine of a step with the trees of its version, from the tree of the run's input. An `Err` is out of memory.
+fn committed_with_input<D: Digester + Send + Sync, R: Threads + Sync>(
+    rt: &R,
+    alloc: Global,
+    d: D,
+    run: &Run,
+    input: SharedInput<D>,
+    step: u64,
+) -> Result<Committed<D>, Memory>
+    requires chained { AreChained D.digest_of run.now }
+    requires input { HasInput D.digest_of run.now.first input }
+    ensures { IfOk result (λ c. c ≡ state_of_step run.now (min step run.now.bound)) }
+{
+    tampered_runs_keep_the_input();
+    one_input_has_one_tree();
+    let machine = machine_of_step(d, run, step)?;
+    Committed::with_input(rt, alloc, d, machine, input)
+}
+
 /// A run that is kept with what its last root was made of, so that the next root takes the digests of what differs alone: a machine of
-/// it with the trees of its memory and of its registers, and the root of its input.
+/// it with the trees of its memory and of its registers, and the tree of its input, which all runs of a machine may share.
 ///
 /// Contracts see it as the run.
 #[derive(Drop)]
@@ -21,13 +42,13 @@ pub struct KeptRun<D: Digester> {
     run: Run,
     cursor: Option<Cursor<D>>,
     registers: KeptRegisters<D>,
-    input: Digest32,
+    input: SharedInput<D>,
 }
 
 impl<D: Digester> Model for KeptRun<D> {
     ghost use Rattle.std.specs.Prelude.{◌≡◌, IfSome};
     ghost use Rattle.checkpoint_run.specs.Recorded.{Recorded, recorded_code, AreChained};
-    ghost use Rattle.segment_replay.specs.Roots.{IsInputRoot};
+    ghost use Rattle.state_commit.specs.Committing.{HasInput};
     ghost use Rattle.segment_replay.specs.Cursor.{IsMachineOf, IsFresh};
 
     ghost Value = { Recorded };
@@ -36,19 +57,19 @@ impl<D: Digester> Model for KeptRun<D> {
 
     ghost view = { λ k. k.run };
 
-    ghost invariant = { λ k. AreChained D.digest_of k.run × (k.registers ≡ k.run.first.version) × IsInputRoot D.digest_of k.run k.input.0
+    ghost invariant = { λ k. AreChained D.digest_of k.run × (k.registers ≡ k.run.first.version) × HasInput D.digest_of k.run.first k.input
         × IfSome k.cursor (λ c. IsMachineOf D.digest_of k.run c.at c.machine) × IfSome k.cursor (λ c. IsFresh D.digest_of c.tree c.machine.mem) };
 }
 
 impl<D: Digester> KeptRun<D> {
-    /// A run of which no root was made so far. The chain of each of its checkpoints is that of its output by this digester, as
-    /// `record_run` makes it.
-    pub fn new(d: D, run: Run) -> Self
-        requires { AreChained D.digest_of run }
+    /// A run of which no root was made so far, with the tree of its input. The chain of each of its checkpoints is that of its output
+    /// by this digester, as `record_run` makes it.
+    pub fn new(d: D, run: Run, input: SharedInput<D>) -> Self
+        requires chained { AreChained D.digest_of run }
+        requires input { HasInput D.digest_of run.first input }
         ensures { result ≡ run }
     {
         let registers = KeptRegisters::new(d, run.version(), &Regs::new());
-        let input = run_input_root(d, &run);
         KeptRun {
             d,
             run,
@@ -85,12 +106,45 @@ impl<D: Digester> KeptRun<D> {
             alloc,
             self.d,
             &self.run,
-            self.input,
+            self.input.root(),
             &mut self.registers,
             at_hand,
             step,
         )?;
         self.cursor = Some(moved);
         Ok(root)
+    }
+
+    /// `roots` of the run, without the digests of its input.
+    pub fn roots<R: Threads + Sync>(
+        &self,
+        rt: &R,
+        alloc: Global,
+        steps: &[u64],
+        workers: u32,
+    ) -> Result<Vec<Digest32>, Memory>
+    where
+        D: Send + Sync,
+        requires { 0 < workers }
+        ensures { IfOk result (λ v. digests v.items ≡ map (root_at D.digest_of self.now) steps.now) }
+    {
+        let input = self.input.root();
+        roots_with_input(rt, alloc, self.d, &self.run, input, steps, workers)
+    }
+
+    /// The machine of a step with the trees of its version, that of its input shared with the run; above the bound the state of the
+    /// bound stands for it. An `Err` is out of memory.
+    pub fn committed<R: Threads + Sync>(
+        &self,
+        rt: &R,
+        alloc: Global,
+        step: u64,
+    ) -> Result<Committed<D>, Memory>
+    where
+        D: Send + Sync,
+        ensures { IfOk result (λ c. c ≡ state_of_step self.now (min step self.now.bound)) }
+    {
+        let input = self.input.share()?;
+        committed_with_input(rt, alloc, self.d, &self.run, input, step)
     }
 }

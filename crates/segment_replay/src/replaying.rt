@@ -111,8 +111,8 @@ pub fn roots<D: Digester + Send + Sync, R: Threads + Sync>(
     roots_with_input(rt, alloc, d, run, input, steps, workers)
 }
 
-/// The machine of the run's state of a step, with the trees of its version; above the bound the state of the bound stands for it. The chain of each of the run's checkpoints is that of its output by this digester, as `record_run` makes it. An `Err`
-/// is out of memory.
+/// The machine of the run's state of a step, with the trees of its version; above the bound the state of the bound stands for it. The
+/// chain of each of the run's checkpoints is that of its output by this digester, as `record_run` makes it. An `Err` is out of memory.
 pub fn committed_at<D: Digester + Send + Sync, R: Threads + Sync>(
     rt: &R,
     alloc: Global,
