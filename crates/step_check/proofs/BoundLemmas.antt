@@ -1,5 +1,5 @@
 -- How often a check ticks at most.
-use Rattle.std.proofs.Common.{◌≡◌, ℕ, zero, suc, ◌+◌, ◌*◌, ◌%◌, ◌<◌, ◌≤◌, List, [], ◌∷◌, ◌++◌, length, Option, Some, None, is_some, eqb, ltb, cond, Bool, true, false, true≢false, not, ◌&&◌, refl, sym, ap, subst, ◌∙◌, arith, length-append}
+use Rattle.std.proofs.Common.{◌≡◌, ℕ, ◌+◌, ◌*◌, ◌%◌, ◌≤◌, List, [], ◌∷◌, ◌++◌, length, Option, Some, None, is_some, eqb, cond, Bool, true, false, true≢false, not, ◌&&◌, refl, sym, ap, ◌∙◌, arith, length-append}
 use Rattle.std.proofs.lemmas.Bool.{eq-eqb}
 use Rattle.rd_base.specs.Status.{is_running}
 use Rattle.rd_base.specs.declared.digest.Digest32.{Digest32}
@@ -15,19 +15,18 @@ use Rattle.rv_step.specs.Effect.{effect_with, x}
 use Rattle.rv_step.specs.Named.{first_source, second_source, destination, kept, once, named, named_by}
 use Rattle.rv_step.specs.Parts.{needed_in}
 use Rattle.rv_step.specs.Step.{regs_after}
-use Rattle.rv_step.specs.declared.asked.Need.{Need}
 use Rattle.rv_step.specs.declared.asked.Need.TheVariants as need
 use Rattle.rv_step.specs.declared.effect.Effect.{Effect}
 use Rattle.rv_step.specs.declared.effect.Effect.TheVariants.{Write, Jump, Branch, Next, Store, Put, Exit, Trap}
 use Rattle.open_proof.specs.Held.{Held, held_after, number_shown}
 use Rattle.open_proof.specs.Called.{address_needed, fetch_address}
-use Rattle.proof_facts.specs.Facts.{facts_of, fetched, named_called, file_of_facts, needed_by, needed_of, operand_called, byte_needed, input_called, offering, offer_shown}
-use Rattle.proof_facts.specs.Next.{after_word, step_held, held_shown, held_next}
-use Rattle.proof_facts.specs.Openings.{chunk_ways, each_way, input_ways, fetch_ways, named_ways, operand_ways, read_ways}
+use Rattle.proof_facts.specs.Facts.{facts_of, fetched, named_called, file_of_facts, needed_by, operand_called, byte_needed, input_called, offering, offer_shown}
+use Rattle.proof_facts.specs.Next.{after_word, step_held, held_shown}
+use Rattle.proof_facts.specs.Openings.{chunk_ways, each_way, input_ways}
 use Rattle.proof_facts.specs.Ways.{ways_digests}
 use Rattle.proof_facts.specs.declared.facts.Facts.{Facts}
 use Rattle.proof_facts.specs.declared.facts.HeldInput.{HeldInput}
-use Rattle.step_check.specs.Ticks.{chunk_count, digests_of_effect, digests_of_word, digests_on, changed_digests, opening_digests, next_digests, ticks_of, most_ticks, most_alone}
+use Rattle.step_check.specs.Ticks.{chunk_count, digests_of_effect, digests_of_word, digests_on, changed_digests, opening_digests, ticks_of, most_ticks, most_alone}
 use Rattle.step_check.specs.declared.check.StepCheck.{StepCheck}
 use Rattle.step_check.specs.declared.check.StepCheck.TheVariants as check
 

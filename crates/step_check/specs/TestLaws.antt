@@ -1,7 +1,6 @@
--- Derived: the answer by tests is the one by the conditions that they decide, once for any list of tests. The law `leading_is_decided` has
--- the same as a clause.
-use Rattle.std.proofs.Common.{◌≡◌, ◌↔◌, ◌⊎◌, inl, inr, ⊎_elim, ℕ, List, [], ◌∷◌, length, Bool, true, false, true≢false, ◌&&◌, cond, is_some, Option, Some, None, refl, sym, ap, ◌∙◌}
-use Rattle.std.specs.Prelude.{bytes_eq}
+-- Derived: the answer by tests is the one by the conditions that they decide, and so are the ticks, once for any list of tests. The law
+-- `leading_is_decided` has the first as a clause.
+use Rattle.std.proofs.Common.{◌≡◌, ◌↔◌, ◌⊎◌, inl, inr, ⊎_elim, ℕ, ◌+◌, List, [], ◌∷◌, length, Bool, true, false, true≢false, cond, is_some, Option, Some, None, refl, sym, ap, ◌∙◌}
 use Rattle.std.proofs.lemmas.Bool.{and_parts, and_from}
 use Rattle.std.proofs.lemmas.Bool.Decides.{Decides-eqb}
 use Rattle.std.proofs.lemmas.Slice.Eq.{bytes_eq-Decides}
@@ -18,7 +17,8 @@ use Rattle.proof_facts.specs.Ways.{Way, WayOpens, way_text, way_climbs, WaysOpen
 use Rattle.proof_facts.specs.declared.facts.Facts.{Facts}
 use Rattle.proof_facts.specs.declared.facts.HeldRegisters.{HeldRegisters}
 use Rattle.proof_facts.specs.declared.facts.HeldRegisters.TheVariants.{Whole, Opened}
-use Rattle.step_check.specs.Tests.{refused, answer, is_called, tests, checked}
+use Rattle.step_check.specs.Tests.{refused, answer, is_called, tests, checked, ticked, checked_ticks}
+use Rattle.step_check.specs.Ticks.{TicksUntil, condition_digests, step_ticks}
 use Rattle.step_check.specs.declared.check.StepCheck.{StepCheck}
 use Rattle.step_check.specs.declared.check.StepCheck.TheVariants as check
 
@@ -69,6 +69,26 @@ first-fails [] (c ∷ cs) root k decides = absurd decides
 first-fails (t ∷ ts) [] root k decides = absurd decides
 first-fails (t ∷ ts) (c ∷ cs) root k decides =
     one-fails t.1 c.holds t.0 c.refusal k (answer ts root) (FirstFails k cs) decides.0 decides.1 (first-fails ts cs root k decides.2)
+
+-- as many numbers as tests
+abbrev HaveEach : List (Refusal × Bool) → List ℕ → Type 0
+HaveEach [] [] = Unit {0}
+HaveEach (t ∷ ts) (n ∷ ns) = HaveEach ts ns
+HaveEach ts ns = ⊥
+
+one-ticks : (x : Bool) (holds : Type 0) (more : ℕ → Type 0) (last rest : ℕ) → ((x ≡ true) ↔ holds) → more rest
+    → ((¬ holds) × (cond x rest last ≡ last)) ⊎ (holds × more (cond x rest last))
+one-ticks true holds more last rest decides others = inr (decides.0 refl, others)
+one-ticks false holds more last rest decides others = inl (λ h. true≢false (sym (decides.1 h)), refl)
+
+ticks-until : (ts : List (Refusal × Bool)) (cs : List Condition) (ns : List ℕ) (more old : ℕ) → DecidesAll ts cs → HaveEach ts ns → TicksUntil cs ns more old (ticked ts ns more old)
+ticks-until [] [] [] more old decides each = refl
+ticks-until [] [] (n ∷ ns) more old decides each = absurd each
+ticks-until [] (c ∷ cs) ns more old decides each = absurd decides
+ticks-until (t ∷ ts) [] ns more old decides each = absurd decides
+ticks-until (t ∷ ts) (c ∷ cs) [] more old decides each = absurd each
+ticks-until (t ∷ ts) (c ∷ cs) (n ∷ ns) more old decides each =
+    one-ticks t.1 c.holds (TicksUntil cs ns more (old + n)) (old + n) (ticked ts ns more (old + n)) decides.1 (ticks-until ts cs ns more (old + n) decides.2 each)
 
 -- what each test decides
 called-shape : {A : Type 0} (o : Option A) (place : Option ℕ) → (is_called o place ≡ true) ↔ (is_some o ≡ is_some place)
@@ -150,3 +170,7 @@ module _ (digest : List ℕ → List ℕ) (version : ℕ) (a : Digest32) (facts 
   pub checked-fails : (k : Refusal) → (checked digest version a facts ≡ refused k) ↔ FirstFails k (conditions digest version a facts)
   unfolding checked
   checked-fails k = first-fails (tests digest version a facts) (conditions digest version a facts) (record { 0 = root_next digest facts }) k all-decided
+
+  pub checked-ticks : (old : ℕ) → TicksUntil (conditions digest version a facts) (condition_digests facts) (step_ticks digest facts) old (checked_ticks digest version a facts old)
+  unfolding checked_ticks
+  checked-ticks old = ticks-until (tests digest version a facts) (conditions digest version a facts) (condition_digests facts) (step_ticks digest facts) old all-decided tt

@@ -1,5 +1,5 @@
 -- Derived, tied to the conditions of a proof by the clauses of `check_step`: the answer by tests, in the order of the conditions.
-use Rattle.std.specs.Prelude.{ℕ, ◌==◌, List, [], ◌∷◌, Bool, true, false, Option, Some, None, bytes_eq, if◌then◌else◌}
+use Rattle.std.specs.Prelude.{ℕ, ◌+◌, ◌==◌, List, [], ◌∷◌, Bool, true, false, Option, Some, None, bytes_eq, if◌then◌else◌}
 use Rattle.rd_base.specs.declared.digest.Digest32.{Digest32}
 use Rattle.open_proof.specs.Called.{fetch_address}
 use Rattle.proof_facts.specs.Conditions.{Refusal}
@@ -9,6 +9,7 @@ use Rattle.proof_facts.specs.Next.{root_before, root_next}
 use Rattle.proof_facts.specs.Openings.{is_counted, fetch_ways, named_ways, operand_ways, read_ways}
 use Rattle.proof_facts.specs.Ways.{ways_climb}
 use Rattle.proof_facts.specs.declared.facts.Facts.{Facts}
+use Rattle.step_check.specs.Ticks.{condition_digests, step_ticks}
 use Rattle.step_check.specs.declared.check.StepCheck.{StepCheck}
 use Rattle.step_check.specs.declared.check.StepCheck.TheVariants as check
 
@@ -45,3 +46,12 @@ tests digest version a facts =
 -- the answer to a proof from the root a, for a referee of a version
 unfoldable pub checked : (List ℕ → List ℕ) → ℕ → Digest32 → Facts → StepCheck
 checked digest version a facts = answer (tests digest version a facts) (record { 0 = root_next digest facts })
+
+-- a counter after tests, each with its digests, up to the first that fails; and after so many ticks more where none does
+abbrev pub ticked : List (Refusal × Bool) → List ℕ → ℕ → ℕ → ℕ
+ticked (t ∷ ts) (n ∷ ns) more old = if t.1 then ticked ts ns more (old + n) else old + n
+ticked ts ns more old = old + more
+
+-- the counter after the tests of a proof
+unfoldable pub checked_ticks : (List ℕ → List ℕ) → ℕ → Digest32 → Facts → ℕ → ℕ
+checked_ticks digest version a facts old = ticked (tests digest version a facts) (condition_digests facts) (step_ticks digest facts) old

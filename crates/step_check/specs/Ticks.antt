@@ -1,5 +1,5 @@
--- To believe, for how often the counter ticks: how many digests a proof takes to open and its step to make.
-use Rattle.std.specs.Prelude.{ℕ, ◌+◌, ◌*◌, ◌%◌, ◌==◌, List, [], ◌∷◌, slice_index, Option, Some, None, if◌then◌else◌}
+-- To believe, for how often the counter ticks: how many digests a proof takes to open, condition by condition, and its step to make.
+use Rattle.std.specs.Prelude.{◌≡◌, ◌⊎◌, ℕ, ◌+◌, ◌*◌, ◌%◌, ◌==◌, List, [], ◌∷◌, slice_index, Option, Some, None, if◌then◌else◌}
 use Rattle.rd_base.specs.Status.{is_running}
 use Rattle.rd_base.specs.declared.opened.Opening.{Opening}
 use Rattle.rd_base.specs.declared.opened.RegOpening.{RegOpening}
@@ -11,6 +11,7 @@ use Rattle.rv_step.specs.Effect.{effect_with}
 use Rattle.rv_step.specs.declared.effect.Effect.{Effect}
 use Rattle.rv_step.specs.declared.effect.Effect.TheVariants.{Store, Put}
 use Rattle.open_proof.specs.Held.{Held, number_shown}
+use Rattle.proof_facts.specs.Conditions.{Condition}
 use Rattle.proof_facts.specs.Facts.{named_called, file_of_facts, offer_shown}
 use Rattle.proof_facts.specs.Next.{held_shown, held_next}
 use Rattle.proof_facts.specs.Openings.{fetch_ways, named_ways, operand_ways, read_ways}
@@ -61,11 +62,37 @@ abbrev pub registers_changed_digests : List ℕ → HeldRegisters → List ℕ �
 registers_changed_digests rs (Whole xs) before after = 1
 registers_changed_digests rs (Opened root named) before after = changed_digests rs named before after
 
--- what it takes to open a proof: the strings of its parts, with the control and the state string, and its ways
+-- the strings of a proof's parts, with the control and the state string
+abbrev pub parts_digests : Facts → ℕ
+parts_digests facts = registers_digests facts.regs + storage_digests facts.input_tree + 2
+
+-- what it takes to open a proof: the strings of its parts, and its ways
 abbrev pub opening_digests : Facts → ℕ
 opening_digests facts =
-    registers_digests facts.regs + storage_digests facts.input_tree + 2
+    parts_digests facts
     + ways_digests (fetch_ways facts) + ways_digests (named_ways facts) + ways_digests (operand_ways facts) + ways_digests (read_ways facts)
+
+-- the same by the conditions of a proof, in their order (`conditions`): one of shape takes none
+abbrev pub condition_digests : Facts → List ℕ
+condition_digests facts =
+    0
+    ∷ 0
+    ∷ parts_digests facts
+    ∷ ways_digests (fetch_ways facts)
+    ∷ 0
+    ∷ ways_digests (named_ways facts)
+    ∷ 0
+    ∷ ways_digests (operand_ways facts)
+    ∷ 0
+    ∷ ways_digests (read_ways facts)
+    ∷ []
+
+-- a counter goes from one number to another by the digests of conditions that are tested in their order: those of each up to the first
+-- that fails, this one's too, and none after it; and by so many more where all hold
+abbrev pub TicksUntil : List Condition → List ℕ → ℕ → ℕ → ℕ → Type 0
+TicksUntil [] [] more old new = new ≡ old + more
+TicksUntil (c ∷ cs) (n ∷ ns) more old new = ((¬ c.holds) × (new ≡ old + n)) ⊎ (c.holds × TicksUntil cs ns more (old + n) new)
+TicksUntil cs ns more old new = ⊥
 
 -- the digests of the step, what it has changed of the registers, and the strings of the parts after it
 abbrev pub next_digests : (List ℕ → List ℕ) → Facts → ℕ
@@ -77,6 +104,10 @@ next_digests digest facts =
 -- the ticks of a proof that leads: its digests, and one for the step
 abbrev pub ticks_of : (List ℕ → List ℕ) → Facts → ℕ
 ticks_of digest facts = opening_digests facts + 1 + next_digests digest facts
+
+-- what ticks once all conditions hold
+abbrev pub step_ticks : (List ℕ → List ℕ) → Facts → ℕ
+step_ticks digest facts = 1 + next_digests digest facts
 
 -- the most ticks of a proof of each version, and those of one without a chunk of data
 abbrev pub most_ticks : Proof → ℕ

@@ -5,8 +5,8 @@ ghost use Rattle.proof_facts.specs.Conditions.{FirstFails, LeadsFrom, conditions
 ghost use Rattle.proof_facts.specs.Conditions.Refusal.{opening, shape};
 ghost use Rattle.proof_facts.specs.Facts as facts_of_proof;
 ghost use Rattle.proof_facts.specs.Next as next;
-ghost use Rattle.step_check.specs.Tests.{checked};
-ghost use Rattle.step_check.specs.Ticks.{most_alone, most_ticks, next_digests, opening_digests, registers_changed_digests, registers_digests, storage_digests, digests_on, ticks_of};
+ghost use Rattle.step_check.specs.Tests.{checked, checked_ticks};
+ghost use Rattle.step_check.specs.Ticks.{TicksUntil, condition_digests, step_ticks, most_alone, most_ticks, next_digests, opening_digests, registers_changed_digests, registers_digests, storage_digests, digests_on, ticks_of};
 
 use crate::carrying::{Parts, step_on};
 use crate::opening::{
@@ -76,7 +76,7 @@ fn root_next<D: Digester, L: Ledger>(
 }
 
 /// The answer to what a proof holds, by its tests in their order.
-#[tactic(auto, unfolding(crate::specs::Tests::checked))]
+#[tactic(auto, unfolding(crate::specs::Tests::checked, crate::specs::Tests::checked_ticks))]
 fn check_facts<D: Digester, L: Ledger>(
     d: D,
     version: u8,
@@ -85,6 +85,7 @@ fn check_facts<D: Digester, L: Ledger>(
     steps: &mut Steps<L>,
 ) -> StepCheck
     ensures value { result ≡ checked D.digest_of version a facts.now }
+    ensures counted { steps.new ≡ checked_ticks D.digest_of version a facts.now steps.old }
     ensures exactly { (b : Digest32) → result ≡ StepCheck.Leads b → steps.new ≡ steps.old + ticks_of D.digest_of facts.now }
     ensures not_open { result ≡ StepCheck.NotOpen → steps.new ≤ steps.old + opening_digests facts.now }
     ensures wrong_shape { result ≡ StepCheck.WrongShape → steps.new ≤ steps.old + opening_digests facts.now }
@@ -141,7 +142,9 @@ fn check_facts<D: Digester, L: Ledger>(
 ///
 /// `steps` ticks once for each digest and once for the step of the machine, which is read off the code and not proved: at most 91, 101 or
 /// 103 times, by the version (`few`), and at most 36, 57 or 69 times where there is no data chunk (`alone`). Where it leads, it ticks
-/// exactly as often as its openings and its step take (`exactly`).
+/// exactly as often as its openings and its step take (`exactly`). Where it refuses, it ticks exactly as often as the conditions take up
+/// to the first that fails, and for those of shape not at all: for the root all strings of the parts are digested, and for openings all
+/// their ways up, be the first of them wrong or the last (`counted`).
 pub fn check_step<D: Digester, L: Ledger>(
     d: D,
     version: u8,
@@ -153,6 +156,8 @@ pub fn check_step<D: Digester, L: Ledger>(
     ensures not_open { (result ≡ StepCheck.NotOpen) ↔ FirstFails opening (conditions D.digest_of version a (facts_of_proof.facts_of proof.now)) }
     ensures wrong_shape { (result ≡ StepCheck.WrongShape) ↔ FirstFails shape (conditions D.digest_of version a (facts_of_proof.facts_of proof.now)) }
     ensures exactly { (b : Digest32) → result ≡ StepCheck.Leads b → steps.new ≡ steps.old + ticks_of D.digest_of (facts_of_proof.facts_of proof.now) }
+    ensures counted { TicksUntil (conditions D.digest_of version a (facts_of_proof.facts_of proof.now)) (condition_digests (facts_of_proof.facts_of proof.now))
+        (step_ticks D.digest_of (facts_of_proof.facts_of proof.now)) steps.old steps.new }
     ensures few { steps.new ≤ steps.old + most_ticks proof.now }
     ensures alone { is_some (facts_of_proof.facts_of proof.now).operand ≡ false → steps.new ≤ steps.old + most_alone proof.now }
 {

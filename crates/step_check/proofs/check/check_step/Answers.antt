@@ -1,16 +1,16 @@
-use Rattle.std.proofs.Common.{◌≡◌, ◌↔◌, ℕ, ◌+◌, ◌≤◌, List, is_some, false, sym, ap, subst, ◌∙◌}
+use Rattle.std.proofs.Common.{◌≡◌, ◌↔◌, ℕ, ◌+◌, ◌≤◌, List, sym, ap, subst, ◌∙◌}
 use Rattle.rd_base.specs.declared.digest.Digest32.{Digest32}
 use Rattle.rd_base.specs.declared.proof.Proof.{Proof}
 use Rattle.proof_facts.specs.Conditions.{AllHold, FirstFails, LeadsFrom, conditions}
 use Rattle.proof_facts.specs.Conditions.Refusal.{opening, shape}
 use Rattle.proof_facts.specs.Facts.{facts_of}
 use Rattle.proof_facts.specs.declared.facts.Facts.{Facts}
-use Rattle.step_check.specs.Tests.{checked}
-use Rattle.step_check.specs.Ticks.{opening_digests, ticks_of}
+use Rattle.step_check.specs.Tests.{checked, checked_ticks}
+use Rattle.step_check.specs.Ticks.{TicksUntil, condition_digests, opening_digests, step_ticks, ticks_of}
 use Rattle.step_check.specs.declared.check.StepCheck.{StepCheck}
 use Rattle.step_check.specs.declared.check.StepCheck.TheVariants as check
 use Rattle.step_check.proofs.BoundLemmas.{IsShaped, bounded}
-use Rattle.step_check.specs.TestLaws.{checked-leads, checked-fails}
+use Rattle.step_check.specs.TestLaws.{checked-leads, checked-fails, checked-ticks}
 use Rattle.step_check.proofs.check.check_step.Goals as goal
 
 pub returns-clause-leads : goal.returns-clause-leads
@@ -33,6 +33,14 @@ returns-clause-wrong_shape g c =
     let facts = facts_of c.args.proof.now in
     let value = c.check_facts.ensures.value ∙ ap (checked digest c.args.version c.args.a) c.facts_of-facts.ensures in
     subst (λ (r : StepCheck). (r ≡ check.WrongShape) ↔ FirstFails shape (conditions digest c.args.version c.args.a facts)) (sym value) (checked-fails digest c.args.version c.args.a facts shape)
+
+pub returns-clause-counted : goal.returns-clause-counted
+returns-clause-counted g c =
+    let digest = g.D.Digester.digest_of in
+    let old = c.args.steps.now in
+    let facts = facts_of c.args.proof.now in
+    let now' = c.check_facts.ensures.counted ∙ ap (λ (f : Facts). checked_ticks digest c.args.version c.args.a f old) c.facts_of-facts.ensures in
+    subst (TicksUntil (conditions digest c.args.version c.args.a facts) (condition_digests facts) (step_ticks digest facts) old) (sym now') (checked-ticks digest c.args.version c.args.a facts old)
 
 -- the conditions of shape
 shapes : (digest : List ℕ → List ℕ) (version : ℕ) (a : Digest32) (facts : Facts) → AllHold (conditions digest version a facts) → IsShaped facts
