@@ -3,7 +3,6 @@ ghost use Rattle.std.specs.Prelude.{◌≡◌, ◌≤◌, ℕ, [], List, length,
 ghost use Rattle.rv_step.specs.State.{IsChained};
 
 use bisect_game::{Answerer, Kind, Provers, Question};
-use checkpoint_run::Run;
 use digest_core::{Digester, Sha256, leaf_text, register_text, registers_text, storage_text};
 use mem_plain::PlainMem;
 use merkle_nodes::climb;
@@ -15,7 +14,7 @@ use rd_base::{
     Qid, RegOpening, Script, Tamper, Tape, TapeAnswer,
 };
 use rv_step::Machine;
-use segment_replay::{KeptRun, Replays, committed_at, roots, roots_with_input};
+use segment_replay::{KeptRun, Replays};
 use state_commit::Committed;
 use std::alloc::Global;
 use std::sync::atomic::{AtomicU64, Ordering};
@@ -510,47 +509,35 @@ impl<D: Digester> Digester for Counting<'_, D> {
 }
 
 impl Replays for Counting<'_, Sha256> {
+    fn root_of<R: Threads + Sync>(
+        self,
+        rt: &R,
+        alloc: Global,
+        run: &mut KeptRun<Self>,
+        step: u64,
+    ) -> Result<Digest32, Memory> {
+        run.root(rt, alloc, step)
+    }
+
     fn roots_of<R: Threads + Sync>(
         self,
         rt: &R,
         alloc: Global,
-        run: &Run,
+        run: &KeptRun<Self>,
         steps: &[u64],
         workers: u32,
     ) -> Result<Vec<Digest32>, Memory> {
-        roots(rt, alloc, self, run, steps, workers)
-    }
-
-    fn roots_with_input_of<R: Threads + Sync>(
-        self,
-        rt: &R,
-        alloc: Global,
-        run: &Run,
-        input: Digest32,
-        steps: &[u64],
-        workers: u32,
-    ) -> Result<Vec<Digest32>, Memory> {
-        roots_with_input(rt, alloc, self, run, input, steps, workers)
-    }
-
-    fn kept_root_of<R: Threads + Sync>(
-        self,
-        rt: &R,
-        alloc: Global,
-        kept: &mut KeptRun<Self>,
-        step: u64,
-    ) -> Result<Digest32, Memory> {
-        kept.root(rt, alloc, step)
+        run.roots(rt, alloc, steps, workers)
     }
 
     fn committed_of<R: Threads + Sync>(
         self,
         rt: &R,
         alloc: Global,
-        run: &Run,
+        run: &KeptRun<Self>,
         step: u64,
     ) -> Result<Committed<Self>, Memory> {
-        committed_at(rt, alloc, self, run, step)
+        run.committed(rt, alloc, step)
     }
 }
 
@@ -560,13 +547,14 @@ const STORES_TO_ONE_CHUNK: [u8; 16] = [
     0xb7, 0x02, 0x02, 0x00, 0x13, 0x03, 0x13, 0x00, 0x23, 0xa0, 0x62, 0x00, 0x6f, 0xf0, 0x9f, 0xff,
 ];
 
-/// A machine at the start of them in a version of the commitment, with an input of forty bytes.
-fn storing(alloc: Global, version: u8) -> Result<Machine, Memory>
+/// A machine at the start of them in a version of the commitment, with an input of at most 4,096 bytes.
+fn storing(alloc: Global, version: u8, input: &[u8]) -> Result<Machine, Memory>
+    requires { length input.now ≤ 4096 }
     ensures chained { IfOk result (λ m. (digest : List ℕ → List ℕ) → IsChained digest m) }
     ensures silent { IfOk result (λ m. m.output.items ≡ []) }
 {
     let mem = PlainMem::new(alloc).lay(0x1_0000, &STORES_TO_ONE_CHUNK)?;
-    Machine::new(alloc, version.clamp(1, 3), mem, 0x1_0000, &[7; 40])
+    Machine::new(alloc, version.clamp(1, 3), mem, 0x1_0000, input)
 }
 
 /// Whether the roots of these steps, asked one after the other once that of step 12 is made, take so many digests each.
@@ -584,7 +572,7 @@ fn takes<R: Threads + Sync>(
         of: Sha256,
         made: &made,
     };
-    let machine = storing(alloc, version)?;
+    let machine = storing(alloc, version, &[7; 40])?;
     let tamper = Tamper::Untouched;
     let mut prover = RunAnswerer::new(
         alloc,
@@ -628,5 +616,74 @@ fn a_root_takes_the_digests_of_what_changed(rt: HostRuntime) -> Result<(), Fail>
 #[test]
 fn several_workers_make_the_roots_of_the_next_rounds(rt: HostRuntime) -> Result<(), Fail> {
     assert!(rt; takes(&rt, rt.alloc(), 1, 2, &[(6, 0), (9, 0), (10, 0)])?);
+    Ok(())
+}
+
+/// Scripts of sixteen provers, every other of which has a flipped byte. An `Err` is out of memory.
+fn sixteen_scripts(alloc: Global) -> Result<Vec<Script>, Memory> {
+    let mut scripts = Vec::new(alloc);
+    for k in 0..16u32 {
+        let tamper = Tamper::Flip {
+            step: if k % 2 == 0 { 25 } else { 3 },
+            addr: 0x2_0003,
+            mask: 0xff,
+        };
+        let manner = Manner::Plain;
+        scripts.push(Script { tamper, manner })?;
+    }
+    Ok(scripts)
+}
+
+/// How many digests the provers of a match of version 3 with an input of at most 4,096 bytes take, where each is asked for its claim,
+/// for roots and for a proof.
+fn digests_of_provers<R: Threads + Sync>(
+    rt: &R,
+    alloc: Global,
+    workers: u32,
+    input: &[u8],
+) -> Result<u64, Memory>
+    requires sync { IsSync R.row }
+    requires input { length input.now ≤ 4096 }
+{
+    let made = AtomicU64::new(0);
+    let of = Counted {
+        of: Sha256,
+        made: &made,
+    };
+    let machine = storing(alloc, 3, input)?;
+    let scripts = sixteen_scripts(alloc)?;
+    let mut answerers = answerers_of(
+        alloc,
+        Counting { of },
+        &scripts,
+        &machine,
+        24,
+        4,
+        workers.max(1),
+    )?;
+    let parted = Kind::Roots {
+        lo: 0,
+        hi: 24,
+        parts: 4,
+    };
+    for answerer in answerers.iter_mut() {
+        for kind in [Kind::Claim, Kind::Root(12), parted, Kind::Proof(12)] {
+            answerer.answer(rt, &asked(1, kind), 0)?;
+        }
+    }
+    Ok(made.load(Ordering::SeqCst))
+}
+
+/// An input of 4,096 bytes has 128 chunks, so that its tree takes 128 digests for the leaves, 127 for the nodes over them, and 8 for
+/// those above, more than that of no byte.
+#[test]
+fn provers_of_a_match_make_the_tree_of_the_input_once(rt: HostRuntime) -> Result<(), Fail> {
+    let bytes = vec![in rt.alloc(); 7u8; 4096]?;
+    let input = &bytes[..bytes.len().min(4096)];
+    for workers in [1, 2] {
+        let without = digests_of_provers(&rt, rt.alloc(), workers, &[])?;
+        let with = digests_of_provers(&rt, rt.alloc(), workers, input)?;
+        assert_eq!(rt; with.wrapping_sub(without), 263, "{workers} workers");
+    }
     Ok(())
 }

@@ -11,6 +11,7 @@ use mem_plain::PlainMem;
 use rd_base::{Memory, Tamper};
 use rv_step::Machine;
 use segment_replay::{KeptRun, committed_at, roots};
+use state_commit::SharedInput;
 use std::alloc::Global;
 use std::sync::atomic::{AtomicU64, Ordering};
 use std::test::Fail;
@@ -341,7 +342,8 @@ fn a_kept_run_goes_from_root_to_root_in_any_order(rt: HostRuntime) -> Result<(),
         of: Sha256,
         made: &made,
     };
-    let mut kept = KeptRun::new(counted, run);
+    let input = SharedInput::of(rt.alloc(), counted, &machine)?;
+    let mut kept = KeptRun::new(counted, run, input);
     for (step, root) in [
         (305, 0xeb35_95e4_f86a_5143),
         (64, 0x9769_9149_a202_ab01),

@@ -10,8 +10,8 @@ use digest_core::Sha256;
 use mem_plain::PlainMem;
 use rd_base::{Digest32, Memory, Tamper};
 use rv_step::Machine;
-use segment_replay::{committed_at, roots, roots_with_input, run_input_root};
-use state_commit::state_root_in;
+use segment_replay::{KeptRun, committed_at, roots, roots_with_input, run_input_root};
+use state_commit::{SharedInput, state_root_in, state_root_with};
 use std::alloc::Global;
 use std::sync::atomic::{AtomicU64, Ordering};
 use std::test::Fail;
@@ -266,6 +266,57 @@ fn the_root_of_the_input_is_made_once_for_all_roots(rt: HostRuntime) -> Result<(
             let (whole, rest) = digests_of(&rt, rt.alloc(), &run, steps)?;
             assert_eq!(rt; whole.wrapping_sub(rest), wanted, "version {version}");
         }
+    }
+    Ok(())
+}
+
+/// How many digests a machine at the start of TOGGLES takes, with an input of at most 64 bytes: the root of its state, then the machine
+/// of step 8 of its run with its trees, both without the tree of the input at hand, and then the same two with it. An `Err` is out of memory.
+fn digests_without_and_with_the_tree<R: Threads + Sync>(
+    rt: &R,
+    alloc: Global,
+    version: u8,
+    input: &[u8],
+) -> Result<[u64; 4], Memory>
+    requires version { (1 ≤ version) × (version ≤ 3) }
+    requires input { length input.now ≤ 64 }
+{
+    let made = AtomicU64::new(0);
+    let counted = Counted {
+        of: Sha256,
+        made: &made,
+    };
+    let mem = PlainMem::new(alloc).lay(0x1_0000, &TOGGLES)?;
+    let machine = Machine::new(alloc, version, mem, 0x1_0000, input)?;
+    let run = record_run(alloc, Sha256, &machine, 8, 3, Tamper::Untouched)?;
+    let tree = SharedInput::of(alloc, counted, &machine)?;
+    made.store(0, Ordering::SeqCst);
+    state_root_in(counted, version, &machine);
+    let root = made.swap(0, Ordering::SeqCst);
+    committed_at(rt, alloc, counted, &run, 8)?;
+    let committed = made.swap(0, Ordering::SeqCst);
+    state_root_with(counted, &machine, &tree);
+    let root_with = made.swap(0, Ordering::SeqCst);
+    KeptRun::new(counted, run, tree).committed(rt, alloc, 8)?;
+    Ok([root, committed, root_with, made.load(Ordering::SeqCst)])
+}
+
+/// The 33 digests of the tree of an input of 33 bytes aren't made again where the tree is at hand.
+#[test]
+fn the_tree_of_the_input_is_made_once_for_all_states(rt: HostRuntime) -> Result<(), Fail> {
+    for (version, wanted) in [(2u8, 0), (3, 33)] {
+        let [root, committed, root_with, committed_with] = digests_without_and_with_the_tree(
+            &rt,
+            rt.alloc(),
+            version,
+            &[7; 33],
+        )?;
+        assert_eq!(rt; root.wrapping_sub(root_with), wanted, "version {version}");
+        assert_eq!(rt;
+            committed.wrapping_sub(committed_with),
+            wanted,
+            "version {version}"
+        );
     }
     Ok(())
 }
