@@ -13,6 +13,7 @@ use Rattle.rv_step.specs.declared.machine.Machine.{Machine}
 use Rattle.checkpoint_run.specs.TamperedRun.{run_at}
 use Rattle.rv_step.specs.StateCode.{state_code}
 use Rattle.checkpoint_run.specs.Recorded.{Recorded, AreChained, state_of_step}
+use Rattle.state_commit.specs.Committing.{HasInput}
 use Rattle.segment_replay.specs.Roots.{own_root}
 use Rattle.bisect_game.specs.declared.question.Question.{Question}
 use Rattle.prover_run.specs.Plain.{plain_says}
@@ -54,9 +55,10 @@ pub record IsRunOf (digest : List ℕ → List ℕ) (p : Prover) (r : Recorded) 
 abbrev pub AreKept : (ℕ → List ℕ) → List (ℕ × Digest32) → Type 0
 AreKept root kept = (i : ℕ) → IfSome (lookup (is_at (nat_cmp i)) kept) (λ r. r.0 ≡ root i)
 
--- its machine is at the start of a run with no output, numbers are in range, and what is kept is its run's
-pub record IsReady (digest : List ℕ → List ℕ) (p : Prover) (start : Machine) (every workers : ℕ) (run : Option Recorded) (kept : List (ℕ × Digest32)) : Type 0 where
+-- its machine is at the start of a run with no output, the tree is that of its input, numbers are in range, and what is kept is its run's
+pub record IsReady (digest : List ℕ → List ℕ) (p : Prover) (start : Machine) (input : Option (List Digest32)) (every workers : ℕ) (run : Option Recorded) (kept : List (ℕ × Digest32)) : Type 0 where
   pub chained : IsChained digest start
+  pub has_input : HasInput digest p.start input
   pub silent : p.start.output ≡ []
   pub short : p.bound < 2 ^ 32
   pub spaced : 0 < every

@@ -1,5 +1,6 @@
 ghost use Rattle.std.specs.Prelude.{◌≡◌, ◌<◌, ◌^◌, ◌++◌, [], IfOk, OnOk, length, map};
 ghost use Rattle.rv_step.specs.State.{state_of, IsChained};
+ghost use Rattle.state_commit.specs.Committing.{HasInput};
 ghost use Rattle.bisect_game.specs.Says.{AnswerAs};
 ghost use Rattle.prover_run.specs.CaseScripts.{script_says, case_says};
 
@@ -9,26 +10,31 @@ use prover_script::Scripted;
 use rd_base::{Memory, Script};
 use rv_step::Machine;
 use segment_replay::Replays;
+use state_commit::SharedInput;
 use std::alloc::Global;
 
-/// The answerer of a script, whose run goes from a machine up to the step `bound`. An `Err` is out of memory.
+/// The answerer of a script, whose run goes from a machine with this input up to the step `bound`. An `Err` is out of memory.
 fn answerer_of<D: Replays>(
     alloc: Global,
     d: D,
     script: &Script,
     machine: &Machine,
+    input: &SharedInput<D>,
     bound: u64,
     every: u32,
     workers: u32,
 ) -> Result<Scripted<RunAnswerer<D>, D>, Memory>
     requires chained { IsChained D.digest_of machine.now }
     requires silent { machine.now.output.items ≡ [] }
+    requires input { HasInput D.digest_of (state_of machine.now) input.now }
     requires bound { bound < 2 ^ 32 }
     requires every { 0 < every }
     requires workers { 0 < workers }
     ensures { IfOk result (λ a. ⟦<Scripted<RunAnswerer<D>, D> as Answerer>⟧.answers a ≡ script_says D.digest_of (state_of machine.now) bound script.now) }
 {
-    let inner = RunAnswerer::new(alloc, d, machine, bound, every, script.tamper, workers)?;
+    let input = input.share()?;
+    let tamper = script.tamper;
+    let inner = RunAnswerer::with_input(alloc, d, machine, input, bound, every, tamper, workers)?;
     let manner = script.manner.copy(alloc)?;
     Ok(Scripted::new(alloc, d, inner, manner))
 }
@@ -39,6 +45,7 @@ fn put_answerers<D: Replays>(
     d: D,
     scripts: &[Script],
     machine: &Machine,
+    input: &SharedInput<D>,
     bound: u64,
     every: u32,
     workers: u32,
@@ -46,6 +53,7 @@ fn put_answerers<D: Replays>(
 ) -> Result<(), Memory>
     requires chained { IsChained D.digest_of machine.now }
     requires silent { machine.now.output.items ≡ [] }
+    requires input { HasInput D.digest_of (state_of machine.now) input.now }
     requires bound { bound < 2 ^ 32 }
     requires every { 0 < every }
     requires workers { 0 < workers }
@@ -54,15 +62,17 @@ fn put_answerers<D: Replays>(
     let [script, rest @ ..] = scripts else {
         return Ok(());
     };
-    let answerer = answerer_of(alloc, d, script, machine, bound, every, workers)?;
+    let answerer = answerer_of(alloc, d, script, machine, input, bound, every, workers)?;
     answerers.push(answerer)?;
-    put_answerers(alloc, d, rest, machine, bound, every, workers, answerers)
+    put_answerers(
+        alloc, d, rest, machine, input, bound, every, workers, answerers,
+    )
 }
 
 /// The answerers of the provers with these scripts, in their order, whose runs go from a machine up to the step `bound`, below
 /// 2^32. Each run is recorded with a checkpoint at every `every` steps (at least 1), and its roots are computed by `workers`
-/// threads (at least 1). The machine has put out nothing, and its chain is that of no output by the digester `d`. An `Err`
-/// is out of memory.
+/// threads (at least 1). The machine has put out nothing, and its chain is that of no output by the digester `d`. The tree of the
+/// machine's input, which version 3 has, is built once for all of them. An `Err` is out of memory.
 pub fn answerers_of<D: Replays>(
     alloc: Global,
     d: D,
@@ -80,12 +90,37 @@ pub fn answerers_of<D: Replays>(
     ensures count { IfOk result (λ v. length v.items ≡ length scripts.now) }
     ensures answers { IfOk result (λ v. AnswerAs ⟦<Scripted<RunAnswerer<D>, D> as Answerer>⟧.answers (case_says D.digest_of (state_of machine.now) bound scripts.now) 1 v.items) }
 {
+    let input = SharedInput::of(alloc, d, machine)?;
+    answerers_with_input(alloc, d, scripts, machine, &input, bound, every, workers)
+}
+
+/// `answerers_of`, from the tree of the machine's input, so that no part of the input is digested.
+pub fn answerers_with_input<D: Replays>(
+    alloc: Global,
+    d: D,
+    scripts: &[Script],
+    machine: &Machine,
+    input: &SharedInput<D>,
+    bound: u64,
+    every: u32,
+    workers: u32,
+) -> Result<Vec<Scripted<RunAnswerer<D>, D>>, Memory>
+    requires chained { IsChained D.digest_of machine.now }
+    requires silent { machine.now.output.items ≡ [] }
+    requires input { HasInput D.digest_of (state_of machine.now) input.now }
+    requires bound { bound < 2 ^ 32 }
+    requires every { 0 < every }
+    requires workers { 0 < workers }
+    ensures count { IfOk result (λ v. length v.items ≡ length scripts.now) }
+    ensures answers { IfOk result (λ v. AnswerAs ⟦<Scripted<RunAnswerer<D>, D> as Answerer>⟧.answers (case_says D.digest_of (state_of machine.now) bound scripts.now) 1 v.items) }
+{
     let mut answerers = Vec::new(alloc);
     put_answerers(
         alloc,
         d,
         scripts,
         machine,
+        input,
         bound,
         every,
         workers,

@@ -49,7 +49,7 @@ fn roots_in_turn<D: Replays, R: Threads + Sync>(
 {
     let mut roots = Vec::new(reader.alloc);
     'steps: for step in steps {
-        let root = reader.d.kept_root_of(rt, reader.alloc, run, *step)?;
+        let root = reader.d.root_of(rt, reader.alloc, run, *step)?;
         roots.push(root)?;
     }
     Ok(roots)
@@ -71,7 +71,7 @@ fn roots_of_steps<D: Replays, R: Threads + Sync>(
     if reader.workers > 1 {
         return reader
             .d
-            .roots_of(rt, reader.alloc, run.run(), steps, reader.workers);
+            .roots_of(rt, reader.alloc, run, steps, reader.workers);
     }
     roots_in_turn(rt, reader, run, steps)
 }
@@ -171,13 +171,13 @@ pub fn plain_answer<D: Replays, R: Threads + Sync>(
             Ok(Answer::Roots(roots))
         }
         Kind::Claim => {
-            let run = run.run();
-            let last = d.committed_of(rt, alloc, run, run.bound())?;
+            let bound = run.run().bound();
+            let last = d.committed_of(rt, alloc, run, bound)?;
             let claim = make_claim(alloc, d, &last)?;
             Ok(Answer::Claim(claim))
         }
         Kind::Proof(step) => {
-            let committed = d.committed_of(rt, alloc, run.run(), step)?;
+            let committed = d.committed_of(rt, alloc, run, step)?;
             let proof = make_proof(&committed);
             Ok(Answer::Step(Boxed::new(Box::new(alloc, proof)?)))
         }

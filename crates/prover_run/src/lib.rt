@@ -3,7 +3,8 @@
 //! The layers above may rely on this: a `RunAnswerer` gives the plain answers of its run (`specs/Plain.antt`), the
 //! machine's own with what a tamper does to it, in the version of the commitment that the machine has, and no call changes
 //! what it answers, not even one that runs out of memory; `CaseProvers` tells what each prover of a case says, by its
-//! script (`specs/CaseScripts.antt`), and where it waits; `answerers_of` makes the answerers that say so. What an untouched
+//! script (`specs/CaseScripts.antt`), and where it waits; `answerers_of` makes the answerers that say so. In version 3 they share one
+//! tree of the input, which `answerers_with_input` takes from its caller. What an untouched
 //! script says in the words of the sequential run is in `laws`, and that each prover stays with its answer.
 //!
 //! Which roots are asked of a run in one go, and in which order, says `specs/Middles.antt`; no answer depends on it. One worker makes
@@ -20,7 +21,7 @@ mod middles;
 mod prover;
 mod provers;
 
-pub use answerers::answerers_of;
+pub use answerers::{answerers_of, answerers_with_input};
 pub use laws::{harmless_manners, outputs_grow_slowly, provers_are_steady, untouched_provers};
 pub use middles::{Asked, asked_with};
 pub use prover::RunAnswerer;

@@ -1,15 +1,17 @@
 ghost use denote.Param.Send.{IsSync};
 ghost use Rattle.std.specs.Prelude.{◌≡◌, ◌<◌, ◌^◌, [], IfOk, IfSome};
 ghost use Rattle.rv_step.specs.State.{state_of, IsChained};
+ghost use Rattle.state_commit.specs.Committing.{HasInput};
 ghost use Rattle.prover_run.specs.Prover.{IsRunOf};
 
 use crate::answering::{RunReader, plain_answer};
 use crate::laws::outputs_grow_slowly;
 use bisect_game::{Answerer, Question};
-use checkpoint_run::record_run;
+use checkpoint_run::{record_run, tampered_runs_keep_the_input};
 use rd_base::{Answer, Digest32, Memory, Tamper};
 use rv_step::Machine;
 use segment_replay::{KeptRun, Replays};
+use state_commit::{SharedInput, one_input_has_one_tree};
 use std::alloc::Global;
 use std::collections::BTreeMap;
 use std::marker::Model;
@@ -23,6 +25,8 @@ pub struct RunAnswerer<D: Replays> {
     alloc: Global,
     d: D,
     start: Machine,
+    /// The tree of the machine's input, and so of the run's.
+    input: SharedInput<D>,
     bound: u64,
     every: u32,
     tamper: Tamper,
@@ -43,7 +47,7 @@ impl<D: Replays> Model for RunAnswerer<D> {
 
     ghost view = { λ p. record { start = state_of p.start; tamper = p.tamper; bound = p.bound } };
 
-    ghost invariant = { λ p. IsReady D.digest_of (record { start = state_of p.start; tamper = p.tamper; bound = p.bound }) p.start p.every p.workers p.run p.roots.entries };
+    ghost invariant = { λ p. IsReady D.digest_of (record { start = state_of p.start; tamper = p.tamper; bound = p.bound }) p.start p.input p.every p.workers p.run p.roots.entries };
 }
 
 impl<D: Replays> RunAnswerer<D> {
@@ -66,11 +70,35 @@ impl<D: Replays> RunAnswerer<D> {
         requires workers { 0 < workers }
         ensures { IfOk result (λ p. p ≡ record { start = state_of machine.now; tamper = tamper; bound = bound }) }
     {
+        let input = SharedInput::of(alloc, d, machine)?;
+        RunAnswerer::with_input(alloc, d, machine, input, bound, every, tamper, workers)
+    }
+
+    /// `new`, from the tree of the machine's input, so that no part of the input is digested.
+    pub fn with_input(
+        alloc: Global,
+        d: D,
+        machine: &Machine,
+        input: SharedInput<D>,
+        bound: u64,
+        every: u32,
+        tamper: Tamper,
+        workers: u32,
+    ) -> Result<Self, Memory>
+        requires chained { IsChained D.digest_of machine.now }
+        requires silent { machine.now.output.items ≡ [] }
+        requires input { HasInput D.digest_of (state_of machine.now) input }
+        requires bound { bound < 2 ^ 32 }
+        requires every { 0 < every }
+        requires workers { 0 < workers }
+        ensures { IfOk result (λ p. p ≡ record { start = state_of machine.now; tamper = tamper; bound = bound }) }
+    {
         let start = machine.copy()?;
         Ok(RunAnswerer {
             alloc,
             d,
             start,
+            input,
             bound,
             every,
             tamper,
@@ -86,12 +114,14 @@ fn recorded<D: Replays>(
     alloc: Global,
     d: D,
     start: &Machine,
+    input: &SharedInput<D>,
     bound: u64,
     every: u32,
     tamper: Tamper,
     at_hand: Option<KeptRun<D>>,
 ) -> Result<KeptRun<D>, Memory>
     requires chained { IsChained D.digest_of start.now }
+    requires input { HasInput D.digest_of (state_of start.now) input.now }
     requires every { 0 < every }
     requires recorded { IfSome at_hand (IsRunOf D.digest_of (record { start = state_of start.now; tamper = tamper; bound = bound })) }
     ensures { IfOk result (IsRunOf D.digest_of (record { start = state_of start.now; tamper = tamper; bound = bound })) }
@@ -99,8 +129,10 @@ fn recorded<D: Replays>(
     match at_hand {
         Some(run) => Ok(run),
         None => {
+            tampered_runs_keep_the_input();
+            one_input_has_one_tree();
             let run = record_run(alloc, d, start, bound, every, tamper)?;
-            Ok(KeptRun::new(d, run))
+            Ok(KeptRun::new(d, run, input.share()?))
         }
     }
 }
@@ -121,6 +153,7 @@ impl<D: Replays> Answerer for RunAnswerer<D> {
             self.alloc,
             self.d,
             &self.start,
+            &self.input,
             self.bound,
             self.every,
             self.tamper,
