@@ -1,4 +1,5 @@
-//! Tests of proofs of one step, in each version of the commitment: their form as bytes, their openings, their collisions and the referee.
+//! Tests of proofs of one step, in each version of the commitment: what they open, their collisions and the referee. Their form as
+//! bytes is tested in `test_wire`.
 //!
 //! No layer of the product stands on this crate. Each module of tests has those of the crate that it is named for. `programs` has what is
 //! carried out, and `machines` the machines that do.
@@ -14,8 +15,6 @@ mod plain_answers_test;
 mod programs;
 #[cfg(test)]
 mod proof_collision_test;
-#[cfg(test)]
-mod proof_wire_test;
 #[cfg(test)]
 mod step_check_test;
 #[cfg(test)]

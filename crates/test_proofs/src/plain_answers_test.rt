@@ -1,3 +1,4 @@
+//! What plain proofs open, step by step: chunks, registers, chunks of the input.
 ghost use Rattle.std.specs.Prelude.{◌≤◌, length};
 
 use crate::machines::{machine_after, machine_of};
@@ -8,6 +9,7 @@ use plain_answers::make_proof;
 use proof_facts::{Facts, HeldRegisters, facts_of};
 use proof_wire::encode;
 use rd_base::{Answer, Boxed, Digest32, Memory, Opening, Proof, RegOpening};
+use state_commit::Committed;
 use std::alloc::Global;
 use std::test::Fail;
 use std::thread::Threads;
@@ -23,24 +25,81 @@ fn opens(chunk: &Option<Opening>, index: Option<u32>, mem: &Digest32) -> bool {
     }
 }
 
-/// Carries out a program in a version. The proof of the i-th step opens chunks with the indices of the i-th row: the fetched one, and
-/// the data's.
-fn chunks_open<R: Threads + Sync>(
+/// The index of the fetched chunk that the proof of a step opens, and that of the data's; `None` for none.
+type Chunks = (Option<u32>, Option<u32>);
+
+/// The word is fetched from the chunk at `10000`, from the next one, or not at all, as the state has stopped.
+const FETCHED: Chunks = (Some(0x800), None);
+
+const NEXT_FETCHED: Chunks = (Some(0x801), None);
+
+const STOPPED: Chunks = (None, None);
+
+/// Beside the fetched chunk that at `20000` is opened.
+const DATA: Chunks = (Some(0x800), Some(0x1000));
+
+/// Programs, and the chunks of each of their steps, by hand from their listings.
+const CHUNKS: [(&[u8], &[Chunks]); 5] = [
+    (
+        PUTS,
+        &[
+            FETCHED, FETCHED, FETCHED, FETCHED, FETCHED, FETCHED, STOPPED,
+        ],
+    ),
+    (
+        DIVIDES,
+        &[
+            FETCHED,
+            FETCHED,
+            FETCHED,
+            FETCHED,
+            FETCHED,
+            FETCHED,
+            FETCHED,
+            FETCHED,
+            NEXT_FETCHED,
+            NEXT_FETCHED,
+            NEXT_FETCHED,
+            STOPPED,
+        ],
+    ),
+    (JUMPS, &[FETCHED, STOPPED]),
+    (
+        STORES,
+        &[
+            FETCHED, FETCHED, DATA, DATA, FETCHED, FETCHED, FETCHED, FETCHED, STOPPED,
+        ],
+    ),
+    (
+        EDGES,
+        &[
+            (Some(0x800), Some(0x7ff_ffff)),
+            FETCHED,
+            (Some(0x800), Some(0x800)),
+        ],
+    ),
+];
+
+/// Whether the plain proof of a machine opens these chunks.
+fn chunks_open(committed: &Committed<Sha256>, chunks: Chunks) -> bool {
+    let facts = facts_of(&make_proof(committed));
+    opens(&facts.fetch, chunks.0, &facts.mem) && opens(&facts.operand, chunks.1, &facts.mem)
+}
+
+/// Carries out a program in a version. Whether the proof of the i-th step opens the chunks of the i-th row.
+fn all_open<R: Threads + Sync>(
     rt: &R,
     alloc: Global,
     version: u8,
     image: &[u8],
-    rows: &[(Option<u32>, Option<u32>)],
+    rows: &[Chunks],
 ) -> Result<bool, Memory>
     requires version { (1 ≤ version) × (version ≤ 3) }
     requires image { length image.now ≤ 256 }
 {
     let mut committed = machine_of(rt, alloc, version, image, b"")?;
-    for (fetch, operand) in rows {
-        let facts = facts_of(&make_proof(&committed));
-        if !opens(&facts.fetch, *fetch, &facts.mem)
-            || !opens(&facts.operand, *operand, &facts.mem)
-        {
+    for chunks in rows {
+        if !chunks_open(&committed, *chunks) {
             return Ok(false);
         }
         committed = committed.step()?;
@@ -48,92 +107,16 @@ fn chunks_open<R: Threads + Sync>(
     Ok(true)
 }
 
-/// The same in each version.
-fn all_open<R: Threads + Sync>(
-    rt: &R,
-    alloc: Global,
-    image: &[u8],
-    rows: &[(Option<u32>, Option<u32>)],
-) -> Result<bool, Memory>
-    requires { length image.now ≤ 256 }
-{
-    Ok(
-        chunks_open(rt, alloc, 1, image, rows)?
-            && chunks_open(rt, alloc, 2, image, rows)?
-            && chunks_open(rt, alloc, 3, image, rows)?,
-    )
-}
-
-/// A step for which the word is fetched from the chunk at `10000`, and one of a state that has stopped.
-const FETCHED: (Option<u32>, Option<u32>) = (Some(0x800), None);
-
-const NEXT_FETCHED: (Option<u32>, Option<u32>) = (Some(0x801), None);
-
-const STOPPED: (Option<u32>, Option<u32>) = (None, None);
-
-/// The rows are by hand, from the programs' listings.
 #[test]
 fn proofs_of_each_step_open_the_chunks_that_the_step_reads(rt: HostRuntime) -> Result<(), Fail> {
-    let alloc = rt.alloc();
-    let data = (Some(0x800), Some(0x1000));
-    assert!(rt;
-        all_open(
-            &rt,
-            alloc,
-            PUTS,
-            &[
-                FETCHED, FETCHED, FETCHED, FETCHED, FETCHED, FETCHED, STOPPED
-            ]
-        )?,
-        "puts out a byte"
-    );
-    assert!(rt;
-        all_open(
-            &rt,
-            alloc,
-            DIVIDES,
-            &[
-                FETCHED,
-                FETCHED,
-                FETCHED,
-                FETCHED,
-                FETCHED,
-                FETCHED,
-                FETCHED,
-                FETCHED,
-                NEXT_FETCHED,
-                NEXT_FETCHED,
-                NEXT_FETCHED,
-                STOPPED
-            ]
-        )?,
-        "divides"
-    );
-    assert!(rt; all_open(&rt, alloc, JUMPS, &[FETCHED, STOPPED])?, "jumps");
-    assert!(rt;
-        all_open(
-            &rt,
-            alloc,
-            STORES,
-            &[
-                FETCHED, FETCHED, data, data, FETCHED, FETCHED, FETCHED, FETCHED, STOPPED
-            ]
-        )?,
-        "stores"
-    );
-    assert!(rt;
-        all_open(
-            &rt,
-            alloc,
-            EDGES,
-            &[
-                (Some(0x800), Some(0x7ff_ffff)),
-                FETCHED,
-                (Some(0x800), Some(0x800))
-            ]
-        )?,
-        "edges"
-    );
+    for (image, rows) in CHUNKS {
+        assert!(rt; image.len() <= 256);
+        for version in [1, 2, 3] {
+            assert!(rt; version >= 1 && version <= 3);
+            let all = all_open(&rt, rt.alloc(), version, image, rows)?;
+            assert!(rt; all, "{image:?} in version {version}");
+        }
+    }
     Ok(())
 }
 
@@ -164,7 +147,7 @@ fn registers_open(facts: &Facts, named: &[u8]) -> bool {
     }
 }
 
-/// Carries out a program in a version. The proof of the i-th step opens the registers of the i-th row.
+/// Carries out a program in a version. Whether the proof of the i-th step opens the registers of the i-th row.
 fn names_open<R: Threads + Sync>(
     rt: &R,
     alloc: Global,
@@ -186,25 +169,29 @@ fn names_open<R: Threads + Sync>(
 }
 
 /// The registers that the instructions of `PUTS` and of `STORES` name, by hand; `x0` is none of them.
+const NAMED_BY_PUTS: [&[u8]; 7] = [&[10], &[17], &[17, 10], &[10], &[17], &[17, 10], &[]];
+
+const NAMED_BY_STORES: [&[u8]; 9] = [
+    &[5],
+    &[6],
+    &[5, 6],
+    &[5, 10],
+    &[10],
+    &[17],
+    &[17, 10],
+    &[5, 10],
+    &[],
+];
+
 #[test]
 fn proofs_open_the_registers_that_are_named(rt: HostRuntime) -> Result<(), Fail> {
-    let alloc = rt.alloc();
-    let puts: [&[u8]; 7] = [&[10], &[17], &[17, 10], &[10], &[17], &[17, 10], &[]];
-    assert!(rt; names_open(&rt, alloc, 2, PUTS, &puts)?, "puts out a byte");
-    assert!(rt; names_open(&rt, alloc, 3, PUTS, &puts)?, "puts out a byte");
-    let stores: [&[u8]; 9] = [
-        &[5],
-        &[6],
-        &[5, 6],
-        &[5, 10],
-        &[10],
-        &[17],
-        &[17, 10],
-        &[5, 10],
-        &[],
-    ];
-    assert!(rt; names_open(&rt, alloc, 2, STORES, &stores)?, "stores");
-    assert!(rt; names_open(&rt, alloc, 3, STORES, &stores)?, "stores");
+    for version in [2, 3] {
+        assert!(rt; version >= 1 && version <= 3);
+        let puts = names_open(&rt, rt.alloc(), version, PUTS, &NAMED_BY_PUTS)?;
+        assert!(rt; puts, "puts out a byte in version {version}");
+        let stores = names_open(&rt, rt.alloc(), version, STORES, &NAMED_BY_STORES)?;
+        assert!(rt; stores, "stores in version {version}");
+    }
     Ok(())
 }
 
@@ -237,24 +224,21 @@ fn proofs_open_the_chunk_of_the_input_that_is_read(rt: HostRuntime) -> Result<()
     Ok(())
 }
 
-/// The wire form of an answer that gives a proof.
-fn wire_of(alloc: Global, proof: Proof) -> Result<Vec<u8>, Fail> {
+/// How many bytes the wire form of a proof has.
+fn length_of(alloc: Global, proof: Proof) -> Result<usize, Fail> {
     let answer = Answer::Step(Boxed::new(Box::new(alloc, proof)?));
-    Ok(encode(alloc, &answer)?)
+    Ok(encode(alloc, &answer)?.len())
 }
 
-/// A proof of version 2 or 3 is as long as its openings say.
+/// A proof of version 2 or 3 is as long as its openings say: of a stopped machine, of a store, of a byte of the input that is read.
 #[test]
 fn proofs_have_the_lengths_of_what_they_open(rt: HostRuntime) -> Result<(), Fail> {
     let alloc = rt.alloc();
     let stopped = make_proof(&machine_after(&rt, alloc, 2, PUTS, b"", 6)?);
-    assert_eq!(rt; wire_of(alloc, stopped)?.len(), 116, "a stopped machine");
+    assert_eq!(rt; length_of(alloc, stopped)?, 116);
     let store = make_proof(&machine_after(&rt, alloc, 2, STORES, b"", 2)?);
-    assert_eq!(rt; wire_of(alloc, store)?.len(), 2236, "a store");
+    assert_eq!(rt; length_of(alloc, store)?, 2236);
     let read = make_proof(&machine_after(&rt, alloc, 3, READS, b"A", 2)?);
-    let bytes = wire_of(alloc, read)?;
-    assert_eq!(rt; bytes.len(), 1888, "a byte of the input is read");
-    assert_eq!(rt; bytes.get(150), Some(&5), "its flags");
-    assert_eq!(rt; bytes.get(151), Some(&2), "the count of its registers");
+    assert_eq!(rt; length_of(alloc, read)?, 1888);
     Ok(())
 }

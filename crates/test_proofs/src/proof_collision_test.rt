@@ -1,3 +1,5 @@
+//! Collisions of two proofs by a digest function with one value, which finds them in any two different strings.
+
 use crate::changed::registers;
 use digest_core::{
     Digester, Sha256, control_text, leaf_text, node_text, register_text, registers_text,
@@ -108,110 +110,75 @@ fn is_pair(version: u8, first: &Proof, second: &Proof, x: &OpenText, y: &OpenTex
     }
 }
 
+/// The same of two proofs of version 1.
+fn is_pair_of(first: StepProof, second: StepProof, x: &OpenText, y: &OpenText) -> bool {
+    is_pair(1, &Proof::V1(first), &Proof::V1(second), x, y)
+}
+
+/// The string of a chunk with this byte at its start.
+fn leaf_of(byte: u8) -> OpenText {
+    leaf_text(&chunk_of([byte, 0, 0, 0]))
+}
+
+/// The string of the node whose right child is this byte 32 times, and its left the one digest.
+fn node_of(byte: u8) -> OpenText {
+    node_text(&DIGESTER.digest(&[]), &Digest32([byte; 32]))
+}
+
 /// By a digest function with one value all strings have one digest, so that the order of the strings decides.
 #[test]
 fn proofs_collide_in_their_first_different_strings(rt: HostRuntime) {
-    let one = DIGESTER.digest(&[]);
     let base = whole(64, 1, 7, 1);
-    let plain = Proof::V1(base);
     let other = whole(96, 2, 9, 2);
-    assert!(rt;
-        is_pair(
-            1,
-            &plain,
-            &Proof::V1(other),
-            &registers_text(&base.regs),
-            &registers_text(&other.regs)
-        ),
-        "registers"
-    );
+    let (x, y) = (registers_text(&base.regs), registers_text(&other.regs));
+    assert!(rt; is_pair_of(base, other, &x, &y), "registers");
     let other = whole(64, 2, 9, 2);
+    let (x, y) = (control_text(&base.ctl), control_text(&other.ctl));
+    assert!(rt; is_pair_of(base, other, &x, &y), "control");
+    let (x, y) = (node_of(7), node_of(9));
     assert!(rt;
-        is_pair(
-            1,
-            &plain,
-            &Proof::V1(other),
-            &control_text(&base.ctl),
-            &control_text(&other.ctl)
-        ),
-        "control"
-    );
-    let (seven, nine) = (Digest32([7; 32]), Digest32([9; 32]));
-    assert!(rt;
-        is_pair(
-            1,
-            &plain,
-            &Proof::V1(whole(64, 1, 9, 2)),
-            &node_text(&one, &seven),
-            &node_text(&one, &nine)
-        ),
+        is_pair_of(base, whole(64, 1, 9, 2), &x, &y),
         "a sibling of the fetched chunk"
     );
-    let (left, right) = (chunk_of([1, 0, 0, 0]), chunk_of([2, 0, 0, 0]));
+    let (x, y) = (leaf_of(1), leaf_of(2));
     assert!(rt;
-        is_pair(
-            1,
-            &plain,
-            &Proof::V1(whole(64, 1, 7, 2)),
-            &leaf_text(&left),
-            &leaf_text(&right)
-        ),
+        is_pair_of(base, whole(64, 1, 7, 2), &x, &y),
         "the data chunk"
     );
-    assert!(rt;
-        step_collision(DIGESTER, 1, one, &plain, &plain).is_none(),
-        "equal proofs"
-    );
-    assert!(rt;
-        step_collision(DIGESTER, 1, Digest32::ZERO, &plain, &Proof::V1(other)).is_none(),
-        "another root"
-    );
-    assert!(rt;
-        step_collision(DIGESTER, 2, one, &plain, &Proof::V1(other)).is_none(),
-        "another version"
-    );
+}
+
+/// Whether two proofs have a collision from a root, for a judge of a version.
+fn collide(version: u8, root: Digest32, first: &Proof, second: &Proof) -> bool {
+    step_collision(DIGESTER, version, root, first, second).is_some()
+}
+
+#[test]
+fn proofs_that_are_equal_or_open_another_root_have_no_collision(rt: HostRuntime) {
+    let one = DIGESTER.digest(&[]);
+    let (plain, other) = (Proof::V1(whole(64, 1, 7, 1)), Proof::V1(whole(64, 2, 9, 2)));
+    assert!(rt; collide(1, one, &plain, &other));
+    assert!(rt; !collide(1, one, &plain, &plain), "equal proofs");
+    assert!(rt; !collide(1, Digest32::ZERO, &plain, &other), "another root");
+    assert!(rt; !collide(2, one, &plain, &other), "another version");
+    let base = opened(64, 5, 1);
+    assert!(rt; !collide(2, one, &base, &base), "equal proofs of version 2");
 }
 
 /// In version 2 the opened registers come between the fetched chunk and the data.
 #[test]
 fn opened_registers_collide_in_their_place(rt: HostRuntime) {
-    let one = DIGESTER.digest(&[]);
     let base = opened(64, 5, 1);
+    let (x, y) = (register_text(64), register_text(96));
     assert!(rt;
-        is_pair(
-            2,
-            &base,
-            &opened(96, 9, 2),
-            &register_text(64),
-            &register_text(96)
-        ),
+        is_pair(2, &base, &opened(96, 9, 2), &x, &y),
         "what is held"
     );
-    let (five, nine) = (Digest32([5; 32]), Digest32([9; 32]));
+    let (x, y) = (node_of(5), node_of(9));
+    assert!(rt; is_pair(2, &base, &opened(64, 9, 2), &x, &y), "a sibling");
+    let (x, y) = (leaf_of(1), leaf_of(2));
     assert!(rt;
-        is_pair(
-            2,
-            &base,
-            &opened(64, 9, 2),
-            &node_text(&one, &five),
-            &node_text(&one, &nine)
-        ),
-        "a sibling"
-    );
-    let (left, right) = (chunk_of([1, 0, 0, 0]), chunk_of([2, 0, 0, 0]));
-    assert!(rt;
-        is_pair(
-            2,
-            &base,
-            &opened(64, 5, 2),
-            &leaf_text(&left),
-            &leaf_text(&right)
-        ),
+        is_pair(2, &base, &opened(64, 5, 2), &x, &y),
         "the data chunk"
-    );
-    assert!(rt;
-        step_collision(DIGESTER, 2, one, &base, &base).is_none(),
-        "equal proofs"
     );
 }
 
@@ -220,35 +187,16 @@ fn opened_registers_collide_in_their_place(rt: HostRuntime) {
 fn inputs_collide_in_their_place(rt: HostRuntime) {
     let one = DIGESTER.digest(&[]);
     let base = reading(1, 2, 1);
+    let (x, y) = (storage_text(&one, 1, &one), storage_text(&one, 2, &one));
     assert!(rt;
-        is_pair(
-            3,
-            &base,
-            &reading(2, 2, 2),
-            &storage_text(&one, 1, &one),
-            &storage_text(&one, 2, &one)
-        ),
+        is_pair(3, &base, &reading(2, 2, 2), &x, &y),
         "the storage string"
     );
+    let (x, y) = (register_text(2), register_text(3));
+    assert!(rt; is_pair(3, &base, &reading(1, 3, 2), &x, &y), "a register");
+    let (x, y) = (leaf_of(1), leaf_of(2));
     assert!(rt;
-        is_pair(
-            3,
-            &base,
-            &reading(1, 3, 2),
-            &register_text(2),
-            &register_text(3)
-        ),
-        "a register"
-    );
-    let (left, right) = (chunk_of([1, 0, 0, 0]), chunk_of([2, 0, 0, 0]));
-    assert!(rt;
-        is_pair(
-            3,
-            &base,
-            &reading(1, 2, 2),
-            &leaf_text(&left),
-            &leaf_text(&right)
-        ),
+        is_pair(3, &base, &reading(1, 2, 2), &x, &y),
         "the chunk of the input"
     );
 }

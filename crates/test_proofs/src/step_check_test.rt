@@ -1,9 +1,7 @@
-ghost use Rattle.std.specs.Prelude.{◌≡◌};
+//! Changed proofs of a store, of a stopped state and of a call that reads the input, each by what it comes to.
+ghost use Rattle.std.specs.Prelude.{◌≡◌, ◌≤◌};
 
-use crate::changed::{
-    changed, changed_chunk, changed_input, changed_input_sibling, changed_register_sibling,
-    changed_sibling, changed_value, registers,
-};
+use crate::changed::{Change, Shown, changed, changed_input, changed_opening, changed_registers};
 use crate::machines::machine_after;
 use crate::programs::{PUTS, READS, STORES};
 use digest_core::Sha256;
@@ -12,9 +10,11 @@ use rd_base::{
     Digest32, InOpening, Opening, Proof, RegOpenings, Status, StepProof, StepProof2, StepProof3,
     Steps,
 };
+use std::alloc::Global;
 use std::marker::Brand;
 use std::sync::ledger::{Blank, Ledger};
 use std::test::Fail;
+use std::thread::Threads;
 use step_check::{StepCheck, check_step};
 
 fn checked_in<L: Ledger>(version: u8, a: Digest32, proof: &Proof, blank: Blank) -> StepCheck
@@ -31,122 +31,207 @@ fn checked(version: u8, a: Digest32, proof: &Proof) -> StepCheck {
     checked_in::<Brand>(version, a, proof, Blank::new(1))
 }
 
-/// The proof with these chunks.
-fn with_chunks(proof: &StepProof, fetch: Option<Opening>, operand: Option<Opening>) -> Proof {
-    Proof::V1(StepProof {
-        mem: proof.mem,
-        regs: proof.regs,
-        ctl: proof.ctl,
-        fetch,
-        operand,
-    })
+const NOT_OPEN: StepCheck = StepCheck::NotOpen;
+
+const WRONG_SHAPE: StepCheck = StepCheck::WrongShape;
+
+/// The root of a machine of a version after so many steps of a program, its plain proof, and the next root.
+type Plain = (Digest32, Proof, Digest32);
+
+/// The machine that is about to carry out the store of `STORES`, which is its third step.
+fn plain_store<R: Threads + Sync>(rt: &R, alloc: Global, version: u8) -> Result<Plain, Fail>
+    requires { (1 ≤ version) × (version ≤ 3) }
+{
+    let committed = machine_after(rt, alloc, version, STORES, b"", 2)?;
+    let (root, proof) = (committed.root(), make_proof(&committed));
+    Ok((root, proof, committed.step()?.root()))
 }
 
-/// The proof with a bit of one field of its parts changed: of the digest of memory, a register, the `pc` (by 4, or by 1),
-/// the status, the output's length, the chain.
-fn with_changed_part(proof: &StepProof, part: u8) -> Proof {
-    let mut other = *proof;
-    match part {
-        0 => other.mem = changed(other.mem),
-        1 => other.regs.set(31, 1),
-        2 => other.ctl.pc ^= 4,
-        3 => other.ctl.pc ^= 1,
-        4 => other.ctl.status = Status::Exited(0),
-        5 => other.ctl.out_len ^= 1,
-        _ => other.ctl.chain = changed(other.ctl.chain),
+/// The machine of version 3 after so many steps of `READS` over one byte of input.
+fn plain_reading<R: Threads + Sync>(rt: &R, alloc: Global, steps: u32) -> Result<Plain, Fail> {
+    let committed = machine_after(rt, alloc, 3, READS, b"A", steps)?;
+    let (root, proof) = (committed.root(), make_proof(&committed));
+    Ok((root, proof, committed.step()?.root()))
+}
+
+/// The parts of a proof of version 1.
+fn first_of(proof: Proof) -> Result<StepProof, Fail> {
+    match proof {
+        Proof::V1(proof) => Ok(proof),
+        _ => Err(Fail::new("of another version")),
     }
+}
+
+/// The parts of a proof of version 2.
+fn second_of(proof: Proof) -> Result<StepProof2, Fail> {
+    match proof {
+        Proof::V2(proof) => Ok(proof),
+        _ => Err(Fail::new("of another version")),
+    }
+}
+
+/// The parts of a proof of version 3.
+fn third_of(proof: Proof) -> Result<StepProof3, Fail> {
+    match proof {
+        Proof::V3(proof) => Ok(proof),
+        _ => Err(Fail::new("of another version")),
+    }
+}
+
+/// The plain proof of a store leads from its root to the next one, and from no other root.
+#[test]
+fn plain_proofs_lead_from_their_root_alone(rt: HostRuntime) -> Result<(), Fail> {
+    for version in [1, 2, 3] {
+        assert!(rt; version >= 1 && version <= 3);
+        let (root, proof, next) = plain_store(&rt, rt.alloc(), version)?;
+        assert_eq!(rt;
+            checked(version, root, &proof),
+            StepCheck::Leads(next),
+            "{version}"
+        );
+        assert_eq!(rt; checked(version, next, &proof), NOT_OPEN, "{version}");
+    }
+    Ok(())
+}
+
+/// That a proof is of the referee's version is tested before its root.
+#[test]
+fn proofs_of_another_version_have_a_wrong_shape(rt: HostRuntime) -> Result<(), Fail> {
+    for version in [1, 2, 3] {
+        assert!(rt; version >= 1 && version <= 3);
+        let (_, proof, _) = plain_store(&rt, rt.alloc(), version)?;
+        for judged in [1, 2, 3] {
+            let want = if judged == version {
+                NOT_OPEN
+            } else {
+                WRONG_SHAPE
+            };
+            assert_eq!(rt;
+                checked(judged, Digest32::ZERO, &proof),
+                want,
+                "{version}, {judged}"
+            );
+        }
+    }
+    Ok(())
+}
+
+/// The proof with these chunks.
+fn with_chunks(proof: &StepProof, fetch: Option<Opening>, operand: Option<Opening>) -> Proof {
+    let mut other = *proof;
+    other.fetch = fetch;
+    other.operand = operand;
     Proof::V1(other)
 }
 
-/// Changes of the plain proof of the third step of `STORES`, which is a store.
+/// How the fetched chunk and the data's are changed, and what comes of it.
+const CHUNKS: [(Change, Change, StepCheck); 14] = [
+    (Change::LeftOut, Change::Stays, WRONG_SHAPE),
+    (Change::Stays, Change::LeftOut, WRONG_SHAPE),
+    (Change::LeftOut, Change::LeftOut, WRONG_SHAPE),
+    (Change::Byte(0), Change::Stays, NOT_OPEN),
+    (Change::Byte(31), Change::Stays, NOT_OPEN),
+    (Change::Byte(31), Change::LeftOut, NOT_OPEN),
+    (Change::Sibling(0), Change::Stays, NOT_OPEN),
+    (Change::Sibling(26), Change::Stays, NOT_OPEN),
+    (Change::Stays, Change::Other, NOT_OPEN),
+    (Change::Other, Change::Stays, NOT_OPEN),
+    (Change::Stays, Change::Byte(3), NOT_OPEN),
+    (Change::Stays, Change::Byte(31), NOT_OPEN),
+    (Change::Stays, Change::Sibling(0), NOT_OPEN),
+    (Change::Stays, Change::Sibling(26), NOT_OPEN),
+];
+
 #[test]
-fn changed_proofs_are_refused(rt: HostRuntime) -> Result<(), Fail> {
-    let committed = machine_after(&rt, rt.alloc(), 1, STORES, b"", 2)?;
-    let root = committed.root();
-    let plain = make_proof(&committed);
-    let next = committed.step()?.root();
-    assert_eq!(rt; checked(1, root, &plain), StepCheck::Leads(next));
-    assert_eq!(rt;
-        checked(1, next, &plain),
-        StepCheck::NotOpen,
-        "another root"
-    );
-    let Proof::V1(proof) = plain else {
-        return Err(Fail::new("of version 1"));
-    };
-    let (fetch, operand) = (&proof.fetch, &proof.operand);
-    for (fetch, operand, want) in [
-        (None, *operand, StepCheck::WrongShape),
-        (*fetch, None, StepCheck::WrongShape),
-        (None, None, StepCheck::WrongShape),
-        (changed_chunk(fetch, 0), *operand, StepCheck::NotOpen),
-        (changed_chunk(fetch, 31), *operand, StepCheck::NotOpen),
-        (changed_chunk(fetch, 31), None, StepCheck::NotOpen),
-        (changed_sibling(fetch, 0), *operand, StepCheck::NotOpen),
-        (changed_sibling(fetch, 26), *operand, StepCheck::NotOpen),
-        (*fetch, *fetch, StepCheck::NotOpen),
-        (*operand, *operand, StepCheck::NotOpen),
-        (*fetch, changed_chunk(operand, 3), StepCheck::NotOpen),
-        (*fetch, changed_chunk(operand, 31), StepCheck::NotOpen),
-        (*fetch, changed_sibling(operand, 0), StepCheck::NotOpen),
-        (*fetch, changed_sibling(operand, 26), StepCheck::NotOpen),
-    ] {
+fn changed_chunks_are_refused(rt: HostRuntime) -> Result<(), Fail> {
+    let (root, plain, _) = plain_store(&rt, rt.alloc(), 1)?;
+    let proof = first_of(plain)?;
+    for (of_fetch, of_operand, want) in CHUNKS {
+        let fetch = changed_opening(proof.fetch, proof.operand, of_fetch);
+        let operand = changed_opening(proof.operand, proof.fetch, of_operand);
+        let other = with_chunks(&proof, fetch, operand);
         assert_eq!(rt;
-            checked(1, root, &with_chunks(&proof, fetch, operand)),
+            checked(1, root, &other),
             want,
-            "chunks"
-        );
-    }
-    for (part, want) in [
-        (0, StepCheck::NotOpen),
-        (1, StepCheck::NotOpen),
-        (2, StepCheck::NotOpen),
-        (3, StepCheck::WrongShape),
-        (4, StepCheck::WrongShape),
-        (5, StepCheck::NotOpen),
-        (6, StepCheck::NotOpen),
-    ] {
-        assert_eq!(rt;
-            checked(1, root, &with_changed_part(&proof, part)),
-            want,
-            "part {part}"
+            "{of_fetch:?}, {of_operand:?}"
         );
     }
     Ok(())
 }
 
-/// The plain proof of a stopped state has no chunk, and leads to the same root.
+/// A part of a proof of version 1 beside its chunks.
+#[derive(Clone, Copy, Debug)]
+enum Part {
+    Memory,
+    Register,
+    /// The address of the instruction, by 4.
+    NextWord,
+    /// The address of the instruction, by 1.
+    NextByte,
+    Status,
+    OutputLength,
+    Chain,
+}
+
+/// The proof with a bit of one part changed.
+fn with_changed(proof: &StepProof, part: Part) -> Proof {
+    let mut other = *proof;
+    match part {
+        Part::Memory => other.mem = changed(other.mem),
+        Part::Register => other.regs.set(31, 1),
+        Part::NextWord => other.ctl.pc ^= 4,
+        Part::NextByte => other.ctl.pc ^= 1,
+        Part::Status => other.ctl.status = Status::Exited(0),
+        Part::OutputLength => other.ctl.out_len ^= 1,
+        Part::Chain => other.ctl.chain = changed(other.ctl.chain),
+    }
+    Proof::V1(other)
+}
+
+/// A changed part, and what comes of it.
+const PARTS: [(Part, StepCheck); 7] = [
+    (Part::Memory, NOT_OPEN),
+    (Part::Register, NOT_OPEN),
+    (Part::NextWord, NOT_OPEN),
+    (Part::NextByte, WRONG_SHAPE),
+    (Part::Status, WRONG_SHAPE),
+    (Part::OutputLength, NOT_OPEN),
+    (Part::Chain, NOT_OPEN),
+];
+
+#[test]
+fn changed_parts_are_refused(rt: HostRuntime) -> Result<(), Fail> {
+    let (root, plain, _) = plain_store(&rt, rt.alloc(), 1)?;
+    let proof = first_of(plain)?;
+    for (part, want) in PARTS {
+        assert_eq!(rt;
+            checked(1, root, &with_changed(&proof, part)),
+            want,
+            "{part:?}"
+        );
+    }
+    Ok(())
+}
+
+/// The plain proof of a stopped state has no chunk, and leads to the same root. With a chunk it has a wrong shape; its root is tested first.
 #[test]
 fn stopped_states_stay(rt: HostRuntime) -> Result<(), Fail> {
     let alloc = rt.alloc();
-    let Proof::V1(started) = make_proof(&machine_after(&rt, alloc, 1, PUTS, b"", 0)?) else {
-        return Err(Fail::new("of version 1"));
-    };
-    let fetch = started.fetch;
+    let fetch = first_of(make_proof(&machine_after(&rt, alloc, 1, PUTS, b"", 0)?))?.fetch;
     let committed = machine_after(&rt, alloc, 1, PUTS, b"", 6)?;
     let root = committed.root();
-    let plain = make_proof(&committed);
+    let proof = first_of(make_proof(&committed))?;
+    assert!(rt; fetch.is_some() && proof.fetch.is_none() && proof.operand.is_none());
+    let plain = with_chunks(&proof, None, None);
     assert_eq!(rt; checked(1, root, &plain), StepCheck::Leads(root));
-    let Proof::V1(proof) = plain else {
-        return Err(Fail::new("of version 1"));
-    };
-    assert!(rt; proof.fetch.is_none() && proof.operand.is_none());
-    let added = with_chunks(&proof, fetch, None);
+    let fetched = with_chunks(&proof, fetch, None);
+    assert_eq!(rt; checked(1, root, &fetched), WRONG_SHAPE, "a fetched chunk");
+    let loaded = with_chunks(&proof, None, fetch);
+    assert_eq!(rt; checked(1, root, &loaded), WRONG_SHAPE, "a data chunk");
     assert_eq!(rt;
-        checked(1, root, &added),
-        StepCheck::WrongShape,
-        "a fetched chunk"
-    );
-    let added = with_chunks(&proof, None, fetch);
-    assert_eq!(rt;
-        checked(1, root, &added),
-        StepCheck::WrongShape,
-        "a data chunk"
-    );
-    assert_eq!(rt;
-        checked(1, Digest32::ZERO, &added),
-        StepCheck::NotOpen,
-        "the root is tested first"
+        checked(1, Digest32::ZERO, &loaded),
+        NOT_OPEN,
+        "another root"
     );
     Ok(())
 }
@@ -158,107 +243,50 @@ fn with_named(proof: &StepProof2, named: RegOpenings) -> Proof {
     Proof::V2(other)
 }
 
-/// The proof with another root of the registers.
-fn with_registers(proof: &StepProof2, regs: Digest32) -> Proof {
-    let mut other = proof.copy();
-    other.regs = regs;
-    Proof::V2(other)
-}
+/// Which registers are opened in place of the first and the second, and what comes of it.
+const NAMED: [(&[Shown], StepCheck); 9] = [
+    (&[Shown::FirstValue, Shown::Second], NOT_OPEN),
+    (&[Shown::First, Shown::SecondValue], NOT_OPEN),
+    (&[Shown::FirstSibling(0), Shown::Second], NOT_OPEN),
+    (&[Shown::First, Shown::SecondSibling(4)], NOT_OPEN),
+    (&[Shown::Second, Shown::First], NOT_OPEN),
+    (&[Shown::First, Shown::First], NOT_OPEN),
+    (&[], WRONG_SHAPE),
+    (&[Shown::First], WRONG_SHAPE),
+    (&[Shown::First, Shown::Second, Shown::Second], WRONG_SHAPE),
+];
 
-/// The proof without a chunk of data.
-fn without_data(proof: &StepProof2) -> Proof {
-    let mut other = proof.copy();
-    other.operand = None;
-    Proof::V2(other)
-}
-
-/// Changes of the opened registers of the same step in version 2, which names two.
+/// The store of version 2 names two registers.
 #[test]
 fn changed_registers_are_refused(rt: HostRuntime) -> Result<(), Fail> {
-    let committed = machine_after(&rt, rt.alloc(), 2, STORES, b"", 2)?;
-    let root = committed.root();
-    let plain = make_proof(&committed);
-    let next = committed.step()?.root();
-    assert_eq!(rt; checked(2, root, &plain), StepCheck::Leads(next));
-    assert_eq!(rt;
-        checked(2, next, &plain),
-        StepCheck::NotOpen,
-        "another root"
-    );
-    let Proof::V2(proof) = plain else {
-        return Err(Fail::new("of version 2"));
-    };
-    let [first, second] = proof.named.as_slice() else {
-        return Err(Fail::new("of two registers"));
-    };
-    let (first, second) = (*first, *second);
-    for (named, want) in [
-        (
-            registers(&[changed_value(first), second]),
-            StepCheck::NotOpen,
-        ),
-        (
-            registers(&[first, changed_value(second)]),
-            StepCheck::NotOpen,
-        ),
-        (
-            registers(&[changed_register_sibling(first, 0), second]),
-            StepCheck::NotOpen,
-        ),
-        (
-            registers(&[first, changed_register_sibling(second, 4)]),
-            StepCheck::NotOpen,
-        ),
-        (registers(&[second, first]), StepCheck::NotOpen),
-        (registers(&[first, first]), StepCheck::NotOpen),
-        (registers(&[]), StepCheck::WrongShape),
-        (registers(&[first]), StepCheck::WrongShape),
-        (registers(&[first, second, second]), StepCheck::WrongShape),
-    ] {
+    let (root, plain, _) = plain_store(&rt, rt.alloc(), 2)?;
+    let proof = second_of(plain)?;
+    assert_eq!(rt; proof.named.as_slice().len(), 2);
+    for (shown, want) in NAMED {
+        let named = changed_registers(proof.named.as_slice(), shown);
         assert_eq!(rt;
             checked(2, root, &with_named(&proof, named)),
             want,
-            "registers"
+            "{shown:?}"
         );
     }
-    let other = with_registers(&proof, changed(proof.regs));
-    assert_eq!(rt; checked(2, root, &other), StepCheck::NotOpen, "their root");
-    assert_eq!(rt;
-        checked(2, root, &without_data(&proof)),
-        StepCheck::WrongShape,
-        "data"
-    );
     Ok(())
 }
 
-/// That a proof is of the referee's version is tested first.
+/// The root of the registers is opened too, and the chunk of the data is called for.
 #[test]
-fn proofs_of_another_version_have_a_wrong_shape(rt: HostRuntime) -> Result<(), Fail> {
-    let alloc = rt.alloc();
-    let first = make_proof(&machine_after(&rt, alloc, 1, STORES, b"", 2)?);
-    let second = make_proof(&machine_after(&rt, alloc, 2, STORES, b"", 2)?);
-    let third = make_proof(&machine_after(&rt, alloc, 3, STORES, b"", 2)?);
-    for (version, proof) in [
-        (2, &first),
-        (3, &first),
-        (1, &second),
-        (3, &second),
-        (1, &third),
-        (2, &third),
-    ] {
-        assert_eq!(rt;
-            checked(version, Digest32::ZERO, proof),
-            StepCheck::WrongShape,
-            "version {version}"
-        );
-    }
-    for (version, proof) in [(1, &first), (2, &second), (3, &third)] {
-        assert_eq!(rt;
-            checked(version, Digest32::ZERO, proof),
-            StepCheck::NotOpen,
-            "version {version}"
-        );
-    }
+fn other_parts_beside_opened_registers_are_refused(rt: HostRuntime) -> Result<(), Fail> {
+    let (root, plain, _) = plain_store(&rt, rt.alloc(), 2)?;
+    let mut other = second_of(plain)?;
+    let mut without_data = other.copy();
+    without_data.operand = None;
+    assert_eq!(rt;
+        checked(2, root, &Proof::V2(without_data)),
+        WRONG_SHAPE,
+        "data"
+    );
+    other.regs = changed(other.regs);
+    assert_eq!(rt; checked(2, root, &Proof::V2(other)), NOT_OPEN, "their root");
     Ok(())
 }
 
@@ -269,6 +297,28 @@ fn with_input(proof: &StepProof3, input: Option<InOpening>) -> Proof {
     Proof::V3(other)
 }
 
+/// How the chunk of the input is changed, and what comes of it.
+const INPUTS: [(Change, StepCheck); 5] = [
+    (Change::LeftOut, WRONG_SHAPE),
+    (Change::Byte(0), NOT_OPEN),
+    (Change::Byte(31), NOT_OPEN),
+    (Change::Sibling(0), NOT_OPEN),
+    (Change::Sibling(14), NOT_OPEN),
+];
+
+/// The third step of `READS` reads the first byte of the input.
+#[test]
+fn changed_inputs_are_refused(rt: HostRuntime) -> Result<(), Fail> {
+    let (root, plain, next) = plain_reading(&rt, rt.alloc(), 2)?;
+    assert_eq!(rt; checked(3, root, &plain), StepCheck::Leads(next));
+    let proof = third_of(plain)?;
+    for (change, want) in INPUTS {
+        let other = with_input(&proof, changed_input(proof.input, change));
+        assert_eq!(rt; checked(3, root, &other), want, "{change:?}");
+    }
+    Ok(())
+}
+
 /// The proof with this length and root of the input.
 fn with_tree(proof: &StepProof3, len: u32, root: Digest32) -> Proof {
     let mut other = proof.copy();
@@ -277,40 +327,17 @@ fn with_tree(proof: &StepProof3, len: u32, root: Digest32) -> Proof {
     Proof::V3(other)
 }
 
-/// Changes of the chunk of the input where its first byte is read.
+/// The input has one byte.
 #[test]
-fn changed_inputs_are_refused(rt: HostRuntime) -> Result<(), Fail> {
-    let committed = machine_after(&rt, rt.alloc(), 3, READS, b"A", 2)?;
-    let root = committed.root();
-    let plain = make_proof(&committed);
-    let next = committed.step()?.root();
-    assert_eq!(rt; checked(3, root, &plain), StepCheck::Leads(next));
-    let Proof::V3(proof) = plain else {
-        return Err(Fail::new("of version 3"));
-    };
-    let input = &proof.input;
-    for (input, want) in [
-        (None, StepCheck::WrongShape),
-        (changed_input(input, 0), StepCheck::NotOpen),
-        (changed_input(input, 31), StepCheck::NotOpen),
-        (changed_input_sibling(input, 0), StepCheck::NotOpen),
-        (changed_input_sibling(input, 14), StepCheck::NotOpen),
-    ] {
-        assert_eq!(rt;
-            checked(3, root, &with_input(&proof, input)),
-            want,
-            "the chunk"
-        );
-    }
-    for (len, tree) in [
-        (0, proof.input_root),
-        (2, proof.input_root),
-        (1, changed(proof.input_root)),
-    ] {
+fn another_length_or_root_of_the_input_opens_no_root(rt: HostRuntime) -> Result<(), Fail> {
+    let (root, plain, _) = plain_reading(&rt, rt.alloc(), 2)?;
+    let proof = third_of(plain)?;
+    let tree = proof.input_root;
+    for (len, tree) in [(0, tree), (2, tree), (1, changed(tree))] {
         assert_eq!(rt;
             checked(3, root, &with_tree(&proof, len, tree)),
-            StepCheck::NotOpen,
-            "the tree"
+            NOT_OPEN,
+            "{len}"
         );
     }
     Ok(())
@@ -320,24 +347,17 @@ fn changed_inputs_are_refused(rt: HostRuntime) -> Result<(), Fail> {
 /// the end.
 #[test]
 fn inputs_that_are_not_read_are_refused(rt: HostRuntime) -> Result<(), Fail> {
-    let alloc = rt.alloc();
-    let Proof::V3(read) = make_proof(&machine_after(&rt, alloc, 3, READS, b"A", 2)?) else {
-        return Err(Fail::new("of version 3"));
-    };
+    let (_, read, _) = plain_reading(&rt, rt.alloc(), 2)?;
+    let input = third_of(read)?.input;
     for steps in [1, 7] {
-        let committed = machine_after(&rt, alloc, 3, READS, b"A", steps)?;
-        let root = committed.root();
-        let plain = make_proof(&committed);
-        let next = committed.step()?.root();
-        assert_eq!(rt; checked(3, root, &plain), StepCheck::Leads(next));
-        let Proof::V3(proof) = plain else {
-            return Err(Fail::new("of version 3"));
-        };
+        let (root, plain, next) = plain_reading(&rt, rt.alloc(), steps)?;
         assert_eq!(rt;
-            checked(3, root, &with_input(&proof, read.input)),
-            StepCheck::WrongShape,
+            checked(3, root, &plain),
+            StepCheck::Leads(next),
             "step {steps}"
         );
+        let other = with_input(&third_of(plain)?, input);
+        assert_eq!(rt; checked(3, root, &other), WRONG_SHAPE, "step {steps}");
     }
     Ok(())
 }

@@ -1,3 +1,4 @@
+//! Plain proofs and claims before the judge of their version, and proofs before that of another.
 ghost use Rattle.std.specs.Prelude.{◌≤◌, length};
 
 use crate::machines::{machine_after, machine_of};
@@ -57,26 +58,26 @@ fn proofs_lead<R: Threads + Sync>(
     Ok(true)
 }
 
-/// Whether the proofs of all programs lead in a version.
-fn all_lead<R: Threads + Sync>(rt: &R, alloc: Global, version: u8) -> Result<bool, Memory>
-    requires { (1 ≤ version) × (version ≤ 3) }
-{
-    Ok(
-        proofs_lead(rt, alloc, version, PUTS, b"", 7)?
-            && proofs_lead(rt, alloc, version, DIVIDES, b"", 12)?
-            && proofs_lead(rt, alloc, version, JUMPS, b"", 2)?
-            && proofs_lead(rt, alloc, version, STORES, b"", 9)?
-            && proofs_lead(rt, alloc, version, READS, b"A", 14)?
-            && proofs_lead(rt, alloc, version, ALL, b"", 50)?,
-    )
-}
+/// A program, its input, and how many of its steps are judged.
+const PROGRAMS: [(&[u8], &[u8], u32); 6] = [
+    (PUTS, b"", 7),
+    (DIVIDES, b"", 12),
+    (JUMPS, b"", 2),
+    (STORES, b"", 9),
+    (READS, b"A", 14),
+    (ALL, b"", 50),
+];
 
 #[test]
 fn proofs_of_each_step_lead_to_the_next_root(rt: HostRuntime) -> Result<(), Fail> {
-    let alloc = rt.alloc();
-    assert!(rt; all_lead(&rt, alloc, 1)?, "version 1");
-    assert!(rt; all_lead(&rt, alloc, 2)?, "version 2");
-    assert!(rt; all_lead(&rt, alloc, 3)?, "version 3");
+    for (image, input, steps) in PROGRAMS {
+        assert!(rt; image.len() <= 256 && input.len() <= 256);
+        for version in [1, 2, 3] {
+            assert!(rt; version >= 1 && version <= 3);
+            let lead = proofs_lead(&rt, rt.alloc(), version, image, input, steps)?;
+            assert!(rt; lead, "{image:?} in version {version}");
+        }
+    }
     Ok(())
 }
 
@@ -115,12 +116,10 @@ fn is_judged(alloc: Global, committed: &Committed<Sha256>) -> Option<bool> {
 
 #[test]
 fn claims_are_judged(rt: HostRuntime) -> Result<(), Fail> {
-    let alloc = rt.alloc();
-    let first = machine_after(&rt, alloc, 1, PUTS, b"", 6)?;
-    assert_eq!(rt; is_judged(alloc, &first), Some(true), "version 1");
-    let second = machine_after(&rt, alloc, 2, PUTS, b"", 6)?;
-    assert_eq!(rt; is_judged(alloc, &second), Some(true), "version 2");
-    let third = machine_after(&rt, alloc, 3, PUTS, b"A", 6)?;
-    assert_eq!(rt; is_judged(alloc, &third), Some(true), "version 3");
+    for version in [1, 2, 3] {
+        assert!(rt; version >= 1 && version <= 3);
+        let committed = machine_after(&rt, rt.alloc(), version, PUTS, b"A", 6)?;
+        assert_eq!(rt; is_judged(rt.alloc(), &committed), Some(true), "{version}");
+    }
     Ok(())
 }
