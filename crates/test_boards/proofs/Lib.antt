@@ -1,3 +1,1 @@
 pub mod ClaimLemmas
-pub mod CastLemmas
-pub mod TaskLemmas

@@ -1,6 +1,6 @@
+//! Posters: each number of them plays one match, and each ends.
 ghost use Rattle.std.specs.Prelude.{◌≡◌, ◌<◌};
 
-use crate::in_short::{Short, in_short};
 use bisect_game::{Answerer, Question};
 use board_book::Book;
 use posters::{Gate, OpenGate, play};
@@ -10,19 +10,18 @@ use std::sync::Wait;
 use std::sync::atomic::{AtomicBool, AtomicU32, Ordering};
 use std::test::Fail;
 use std::thread::Threads;
-use toy_game::in_short::{Ended, LATE, SILENT_LIAR};
+use toy_game::in_short::{Ended, LATE, LINES, SILENT_LIAR, how, lines};
 use toy_game::{Cast, HONEST, LIAR, Player, SILENT, Seated, ToyJudge, root};
 
-/// The match of a lying, a late and a silent prover, in short.
-const THE_MATCH: Short = (
-    23,
-    Ended::Accepted(2),
-    [
-        Some((1, 1, 1, 2, 3, true, false)),
-        Some((2, 2, 2, 3, 1, false, true)),
-        None,
-    ],
-);
+/// Whether a book has the match of a lying, a late and a silent prover: 23 entries, and the disputes of it alone.
+fn has_the_match(alloc: Global, book: &Book<ToyJudge, Cast>) -> Result<bool, Memory> {
+    let lines = lines(alloc, book.record())?;
+    Ok(
+        book.journal().len() == 23
+            && how(book.verdict()) == Ended::Accepted(2)
+            && lines.as_slice() == LINES.as_slice(),
+    )
+}
 
 /// An answerer that finds no memory at some of its calls.
 #[derive(Clone, Copy, Debug)]
@@ -134,10 +133,9 @@ fn all_numbers_of_posters_give_one_match(rt: HostRuntime) -> Result<(), Fail> {
     for posters in [1, 2, 3, 16] {
         let gate = no_posts();
         let book = played(&rt, rt.alloc(), posters, 0, 0, &gate)?;
-        let are_moves = are_moves(posts_of(&gate), [5, 14, 4], posters);
-        assert_eq!(rt;
-            (in_short(&book), are_moves),
-            (THE_MATCH, true),
+        assert!(rt; has_the_match(rt.alloc(), &book)?, "{posters}");
+        assert!(rt;
+            are_moves(posts_of(&gate), [5, 14, 4], posters),
             "{posters}"
         );
     }
@@ -149,7 +147,7 @@ fn all_numbers_of_posters_give_one_match(rt: HostRuntime) -> Result<(), Fail> {
 fn two_hundred_plays_give_one_record(rt: HostRuntime) -> Result<(), Fail> {
     for _ in 0..200 {
         let book = played(&rt, rt.alloc(), 16, 0, 0, &OpenGate)?;
-        assert_eq!(rt; in_short(&book), THE_MATCH);
+        assert!(rt; has_the_match(rt.alloc(), &book)?);
     }
     Ok(())
 }
@@ -161,7 +159,7 @@ fn an_answerer_without_memory_ends_its_poster(rt: HostRuntime) -> Result<(), Fai
     for posters in [1, 2, 16] {
         for call in 1..6 {
             let book = played(&rt, rt.alloc(), posters, call, call + 1, &OpenGate)?;
-            assert_eq!(rt; in_short(&book), THE_MATCH, "{posters}, {call}");
+            assert!(rt; has_the_match(rt.alloc(), &book)?, "{posters}, {call}");
             assert!(rt; played(&rt, rt.alloc(), posters, call, u32::MAX, &OpenGate).is_err());
         }
     }
@@ -246,14 +244,12 @@ fn played_by_two<G: Gate + Sync, R: Threads + Wait + Sync>(
 fn posters_side_by_side(rt: HostRuntime) -> Result<(), Fail> {
     let gate = empty_meeting();
     let book = played_by_two(&rt, rt.alloc(), &gate)?;
-    let want = (
-        10,
-        Ended::Accepted(1),
-        [Some((1, 1, 1, 2, 3, false, true)), None, None],
-    );
+    let lines = lines(rt.alloc(), book.record())?;
+    assert_eq!(rt; lines.as_slice(), [(1, 1, 1, 2, 3, false, true)].as_slice());
     assert_eq!(rt;
-        (in_short(&book), gate.met.load(Ordering::SeqCst)),
-        (want, 10)
+        (book.journal().len(), how(book.verdict())),
+        (10, Ended::Accepted(1))
     );
+    assert_eq!(rt; gate.met.load(Ordering::SeqCst), 10);
     Ok(())
 }

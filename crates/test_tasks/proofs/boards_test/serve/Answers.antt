@@ -3,9 +3,9 @@ use Rattle.rd_base.specs.declared.answer.Answer.{Answer}
 use Rattle.bisect_game.specs.declared.question.Question.{Question}
 use Rattle.tournament.specs.Posting.{answer_of}
 use Rattle.toy_game.specs.Toy.{says_of}
-use Rattle.test_boards.specs.Casts.{cast_at}
-use Rattle.test_boards.proofs.TaskLemmas.{there_of, may_of, still_there}
-use Rattle.test_boards.proofs.tasks_test.serve.Goals as goal
+use Rattle.test_tasks.specs.Casts.{cast_at}
+use Rattle.test_tasks.proofs.TaskLemmas.{there_of, may_of, still_there}
+use Rattle.test_tasks.proofs.boards_test.serve.Goals as goal
 
 pub ask-requires-clause-there : goal.ask-requires-clause-there
 ask-requires-clause-there g c = there_of c.args.board.now c.args.first c.args.second c.args.seat.now c.requires.seat c.args.t c.args.p c.requires.task.0 c.requires.task.1 c.requires.prover.0 c.requires.prover.1

@@ -12,7 +12,7 @@ use Rattle.board_book.specs.Playing.{sayings, sayings_from}
 use Rattle.toy_game.specs.declared.cast.Cast.{Cast}
 use Rattle.toy_game.specs.declared.player.Player.{Player}
 use Rattle.toy_game.specs.Toy.{nobody, answers, says_of}
-use Rattle.test_boards.specs.Casts.{opening_of, book_of, AreCounted}
+use Rattle.test_tasks.specs.Casts.{opening_of, book_of, AreCounted}
 
 -- one more of what a function makes of a list
 pub map_more : {A B : Type 0} (f : A → B) (zs : List A) (i : ℕ) (d : A) (xs ys : List B) (b : B) → i < length zs → xs ≡ map f (take i zs) → ys ≡ xs ++ b ∷ [] → b ≡ f (get_or zs i d) → ys ≡ map f (take (i + 1) zs)

@@ -1,6 +1,6 @@
 use Rattle.std.proofs.Common.{ap}
-use Rattle.test_boards.proofs.TaskLemmas.{fresh_seat}
-use Rattle.test_boards.proofs.tasks_test.board_of_two.Goals as goal
+use Rattle.test_tasks.proofs.TaskLemmas.{fresh_seat}
+use Rattle.test_tasks.proofs.boards_test.board_of_two.Goals as goal
 
 pub returns : goal.returns
 returns c =

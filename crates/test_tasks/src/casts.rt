@@ -4,7 +4,7 @@ ghost use Rattle.board_book.specs.Tasks.{openings};
 ghost use Rattle.board_book.specs.Playing.{sayings, sayings_from};
 ghost use Rattle.toy_game.specs.declared.cast.Seated.{Seated};
 ghost use Rattle.toy_game.specs.Toy.{answers, says_of};
-ghost use Rattle.test_boards.specs.Casts.{opening_of, book_of, AreCounted};
+ghost use Rattle.test_tasks.specs.Casts.{opening_of, book_of, AreCounted};
 
 use crate::in_short::{Short, in_short};
 use board_book::{Book, Books};

@@ -1,8 +1,8 @@
 use Rattle.std.proofs.Common.{◌<◌, ◌≤◌, ◌∙◌, ℕ, sym, ap, subst}
 use Rattle.board_book.specs.Tasks.{openings}
-use Rattle.test_boards.specs.Casts.{book_of}
-use Rattle.test_boards.proofs.CastLemmas.{count_at, map_more, long_as, empty_books, opened_books}
-use Rattle.test_boards.proofs.casts.books_of.Goals as goal
+use Rattle.test_tasks.specs.Casts.{book_of}
+use Rattle.test_tasks.proofs.CastLemmas.{count_at, map_more, long_as, empty_books, opened_books}
+use Rattle.test_tasks.proofs.casts.books_of.Goals as goal
 
 pub book_of-requires-clause-some : goal.book_of-requires-clause-some
 book_of-requires-clause-some c = (count_at c.args.casts.now c.loop-cast.cast-index _ c.requires.counts c.loop-cast-test.true).0

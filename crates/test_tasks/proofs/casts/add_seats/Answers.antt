@@ -1,7 +1,7 @@
 use Rattle.toy_game.specs.declared.cast.Seated.{Seated}
 use Rattle.toy_game.specs.Toy.{answers, says_of}
-use Rattle.test_boards.proofs.CastLemmas.{seats_more, player_said}
-use Rattle.test_boards.proofs.casts.add_seats.Goals as goal
+use Rattle.test_tasks.proofs.CastLemmas.{seats_more, player_said}
+use Rattle.test_tasks.proofs.casts.add_seats.Goals as goal
 
 pub loop-i-preserved : goal.loop-i-preserved
 loop-i-preserved c =

@@ -14,9 +14,9 @@ use Rattle.dispute_board.specs.Replies.{IsThere, MayPostFor, SaidMayBePosted}
 use Rattle.dispute_board.specs.OneHistory.{AsksOnBoard}
 use Rattle.toy_game.specs.declared.cast.Cast.{Cast}
 use Rattle.toy_game.specs.Toy.{toy_ruling, says_of}
-use Rattle.test_boards.specs.Casts.{opening_of, cast_at}
-use Rattle.test_boards.specs.Seats.{IsSeatOfTasks}
-use Rattle.test_boards.proofs.CastLemmas.{as_many_books}
+use Rattle.test_tasks.specs.Casts.{opening_of, cast_at}
+use Rattle.test_tasks.specs.Seats.{IsSeatOfTasks}
+use Rattle.test_tasks.proofs.CastLemmas.{as_many_books}
 
 abbrev says : Cast → ℕ → Question → ℕ → Option Answer
 says cast = says_of cast.players

@@ -3,8 +3,8 @@ use Rattle.board_book.specs.Playing.{sayings}
 use Rattle.toy_game.specs.declared.cast.Cast.{Cast}
 use Rattle.toy_game.specs.declared.cast.Seated.{Seated}
 use Rattle.toy_game.specs.Toy.{answers, says_of}
-use Rattle.test_boards.proofs.CastLemmas.{as_many_books}
-use Rattle.test_boards.proofs.casts.played.Goals as goal
+use Rattle.test_tasks.proofs.CastLemmas.{as_many_books}
+use Rattle.test_tasks.proofs.casts.played.Goals as goal
 
 pub play_tasks-requires-clause-says : goal.play_tasks-requires-clause-says
 play_tasks-requires-clause-says g c κs within =
