@@ -1,15 +1,9 @@
-//! Tests of cases and texts: the reader of cases, the drawn workload, the texts of a match.
+//! Tests of the reader of cases: of one case, and of many in one text. Which manners are taken is tested in `test_manners`.
 //!
-//! No layer of the product stands on this crate. Each module has the tests of the crate that it is named for.
+//! No layer of the product stands on this crate. Read `case_reader_test` first.
 #![tactic(auto)]
 
 #[cfg(test)]
 mod case_reader_test;
 #[cfg(test)]
-mod manners_test;
-#[cfg(test)]
 mod tasks_test;
-#[cfg(test)]
-mod transcript_text_test;
-#[cfg(test)]
-mod workload_test;

@@ -72,21 +72,23 @@ fn one_case_or_one_to_eight_tasks_are_read(rt: HostRuntime) -> Result<(), Fail> 
     Ok(())
 }
 
+const WHOLE_FAULTS: [(&str, CaseFault); 10] = [
+    ("", CaseFault::NotJson),
+    ("{\"tasks\":[}", CaseFault::NotJson),
+    ("[]", CaseFault::NotObject),
+    ("{}", CaseFault::Missing(Key::Format)),
+    ("{\"Tasks\":[]}", CaseFault::Missing(Key::Format)),
+    ("{\"tasks\":\"\"}", TASKS_TYPE),
+    ("{\"tasks\":{}}", TASKS_TYPE),
+    ("{\"tasks\":null,\"format\":\"raw\"}", TASKS_TYPE),
+    ("{\"tasks\":[]}", TASKS_RANGE),
+    ("{\"tasks\":[5,5,5,5,5,5,5,5,5]}", TASKS_RANGE),
+];
+
 /// The whole text is tested first, then `tasks`, whatever else stands beside it.
 #[test]
 fn the_key_tasks_is_an_array_of_one_to_eight(rt: HostRuntime) {
-    for (text, want) in [
-        ("", CaseFault::NotJson),
-        ("{\"tasks\":[}", CaseFault::NotJson),
-        ("[]", CaseFault::NotObject),
-        ("{}", CaseFault::Missing(Key::Format)),
-        ("{\"Tasks\":[]}", CaseFault::Missing(Key::Format)),
-        ("{\"tasks\":\"\"}", TASKS_TYPE),
-        ("{\"tasks\":{}}", TASKS_TYPE),
-        ("{\"tasks\":null,\"format\":\"raw\"}", TASKS_TYPE),
-        ("{\"tasks\":[]}", TASKS_RANGE),
-        ("{\"tasks\":[5,5,5,5,5,5,5,5,5]}", TASKS_RANGE),
-    ] {
+    for (text, want) in WHOLE_FAULTS {
         assert_eq!(rt;
             fault_of(rt.alloc(), text),
             Some(TaskFault::Whole(want)),
@@ -95,31 +97,34 @@ fn the_key_tasks_is_an_array_of_one_to_eight(rt: HostRuntime) {
     }
 }
 
+/// A part of the text of two tasks and what takes its place, the task that has a fault, and the fault.
+const TASK_FAULTS: [(&str, &str, u32, CaseFault); 8] = [
+    (":9", ":0", 2, CaseFault::OutOfRange(Key::Bound)),
+    (":8", ":0", 1, CaseFault::OutOfRange(Key::Bound)),
+    ("[{}]},", "[5]},5,", 1, CaseFault::BadProver(1)),
+    ("[{\"f", "[5,{\"f", 1, CaseFault::NotObject),
+    (",{\"f", ",[],{\"f", 2, CaseFault::NotObject),
+    ("[{\"f", "[{\"tasks\":[],\"f", 1, TASKS_RANGE),
+    (
+        ",{\"format\":\"flat",
+        ",{\"tasks\":0,\"format\":\"raw",
+        2,
+        TASKS_RANGE,
+    ),
+    (
+        "\"version\":2",
+        "\"version\":4",
+        2,
+        CaseFault::OutOfRange(Key::Version),
+    ),
+];
+
 /// The first fault of the first task that has one is that of all, and `tasks` in a task comes before its format.
 #[test]
 fn the_first_task_with_a_fault_names_it(rt: HostRuntime) -> Result<(), Fail> {
     let alloc = rt.alloc();
     let two = tasks_text(alloc, 1)?;
-    for (old, new, number, want) in [
-        (":9", ":0", 2, CaseFault::OutOfRange(Key::Bound)),
-        (":8", ":0", 1, CaseFault::OutOfRange(Key::Bound)),
-        ("[{}]},", "[5]},5,", 1, CaseFault::BadProver(1)),
-        ("[{\"f", "[5,{\"f", 1, CaseFault::NotObject),
-        (",{\"f", ",[],{\"f", 2, CaseFault::NotObject),
-        ("[{\"f", "[{\"tasks\":[],\"f", 1, TASKS_RANGE),
-        (
-            ",{\"format\":\"flat",
-            ",{\"tasks\":0,\"format\":\"raw",
-            2,
-            TASKS_RANGE,
-        ),
-        (
-            "\"version\":2",
-            "\"version\":4",
-            2,
-            CaseFault::OutOfRange(Key::Version),
-        ),
-    ] {
+    for (old, new, number, want) in TASK_FAULTS {
         let text = two.replace(alloc, old, new)?;
         assert_eq!(rt;
             fault_of(alloc, text.as_str()),

@@ -22,38 +22,43 @@ fn is_taken(alloc: Global, manner: &str) -> Result<bool, Fail> {
     }
 }
 
+/// The keys of a forger, and whether they are taken.
+const FORGES: [(&str, bool); 11] = [
+    ("\"step\":0,\"reg\":1,\"value\":0", true),
+    ("\"step\":4294967295,\"reg\":31,\"value\":4294967295", true),
+    ("\"step\":4294967296,\"reg\":1,\"value\":0", false),
+    ("\"step\":0,\"reg\":0,\"value\":0", false),
+    ("\"step\":0,\"reg\":32,\"value\":0", false),
+    ("\"step\":0,\"reg\":1,\"value\":4294967296", false),
+    ("\"step\":0,\"reg\":1,\"value\":-1", false),
+    ("\"step\":\"0\",\"reg\":1,\"value\":0", false),
+    ("\"reg\":1,\"value\":0", false),
+    ("\"step\":0,\"value\":0", false),
+    ("\"step\":0,\"reg\":1", false),
+];
+
 #[test]
 fn forge_has_a_step_a_register_and_a_value(rt: HostRuntime) -> Result<(), Fail> {
-    for (keys, want) in [
-        ("\"step\":0,\"reg\":1,\"value\":0", true),
-        ("\"step\":4294967295,\"reg\":31,\"value\":4294967295", true),
-        ("\"step\":4294967296,\"reg\":1,\"value\":0", false),
-        ("\"step\":0,\"reg\":0,\"value\":0", false),
-        ("\"step\":0,\"reg\":32,\"value\":0", false),
-        ("\"step\":0,\"reg\":1,\"value\":4294967296", false),
-        ("\"step\":0,\"reg\":1,\"value\":-1", false),
-        ("\"step\":\"0\",\"reg\":1,\"value\":0", false),
-        ("\"reg\":1,\"value\":0", false),
-        ("\"step\":0,\"value\":0", false),
-        ("\"step\":0,\"reg\":1", false),
-    ] {
+    for (keys, want) in FORGES {
         let manner = format!(in rt.alloc(); "{{\"kind\":\"forge\",{keys}}}")?;
         assert_eq!(rt; is_taken(rt.alloc(), manner.as_str())?, want, "{keys}");
     }
     Ok(())
 }
 
+const NOISES: [(&str, bool); 7] = [
+    ("{\"kind\":\"noise\",\"seed\":0}", true),
+    ("{\"kind\":\"noise\",\"seed\":4294967295}", true),
+    ("{\"kind\":\"noise\",\"seed\":4294967296}", false),
+    ("{\"kind\":\"noise\",\"seed\":1.5}", false),
+    ("{\"kind\":\"noise\",\"seed\":null}", false),
+    ("{\"kind\":\"noise\"}", false),
+    ("{\"kind\":\"Noise\",\"seed\":0}", false),
+];
+
 #[test]
 fn noise_has_a_seed(rt: HostRuntime) -> Result<(), Fail> {
-    for (manner, want) in [
-        ("{\"kind\":\"noise\",\"seed\":0}", true),
-        ("{\"kind\":\"noise\",\"seed\":4294967295}", true),
-        ("{\"kind\":\"noise\",\"seed\":4294967296}", false),
-        ("{\"kind\":\"noise\",\"seed\":1.5}", false),
-        ("{\"kind\":\"noise\",\"seed\":null}", false),
-        ("{\"kind\":\"noise\"}", false),
-        ("{\"kind\":\"Noise\",\"seed\":0}", false),
-    ] {
+    for (manner, want) in NOISES {
         assert_eq!(rt; is_taken(rt.alloc(), manner)?, want, "{manner}");
     }
     Ok(())
@@ -69,59 +74,67 @@ fn tape_of(alloc: Global, question: &str, tag: &str, end: &str) -> Result<String
     Ok(tape)
 }
 
+/// The keys of the question, and whether they are taken.
+const QUESTIONS: [(&str, bool); 7] = [
+    ("\"dispute\":0,\"round\":0", true),
+    ("\"dispute\":4294967295,\"round\":4294967295", true),
+    ("\"dispute\":4294967296,\"round\":0", false),
+    ("\"dispute\":0,\"round\":4294967296", false),
+    ("\"dispute\":\"0\",\"round\":0", false),
+    ("\"round\":0", false),
+    ("\"dispute\":0", false),
+];
+
+/// What stands before 31 bytes of zeros and behind them, and whether it is a wire form.
+const ANSWERS: [(&str, &str, bool); 10] = [
+    ("02", "00", true),
+    ("02", "aF", true),
+    ("0501", "00", true),
+    ("02", "", false),
+    ("02", "0000", false),
+    ("02", "0", false),
+    ("02", "0g", false),
+    ("0500", "00", false),
+    ("0502", "00", false),
+    ("07", "00", false),
+];
+
 #[test]
 fn an_answer_of_a_tape_has_a_question_and_a_wire_form(rt: HostRuntime) -> Result<(), Fail> {
     let alloc = rt.alloc();
-    for (question, want) in [
-        ("\"dispute\":0,\"round\":0", true),
-        ("\"dispute\":4294967295,\"round\":4294967295", true),
-        ("\"dispute\":4294967296,\"round\":0", false),
-        ("\"dispute\":0,\"round\":4294967296", false),
-        ("\"dispute\":\"0\",\"round\":0", false),
-        ("\"round\":0", false),
-        ("\"dispute\":0", false),
-    ] {
+    for (question, want) in QUESTIONS {
         let tape = tape_of(alloc, question, "02", "00")?;
         assert_eq!(rt; is_taken(alloc, tape.as_str())?, want, "{question}");
     }
-    for (tag, end, want) in [
-        ("02", "00", true),
-        ("02", "aF", true),
-        ("0501", "00", true),
-        ("02", "", false),
-        ("02", "0000", false),
-        ("02", "0", false),
-        ("02", "0g", false),
-        ("0500", "00", false),
-        ("0502", "00", false),
-        ("07", "00", false),
-    ] {
+    for (tag, end, want) in ANSWERS {
         let tape = tape_of(alloc, "\"dispute\":0,\"round\":0", tag, end)?;
         assert_eq!(rt; is_taken(alloc, tape.as_str())?, want, "{tag} {end}");
     }
     Ok(())
 }
 
+const TAPES: [(&str, bool); 7] = [
+    ("{\"kind\":\"tape\",\"answers\":[]}", true),
+    ("{\"kind\":\"tape\"}", false),
+    ("{\"kind\":\"tape\",\"answers\":{}}", false),
+    ("{\"kind\":\"tape\",\"answers\":[5]}", false),
+    (
+        "{\"kind\":\"tape\",\"answers\":[{\"dispute\":0,\"round\":0}]}",
+        false,
+    ),
+    (
+        "{\"kind\":\"tape\",\"answers\":[{\"dispute\":0,\"round\":0,\"answer\":\"07\"}]}",
+        false,
+    ),
+    (
+        "{\"kind\":\"tape\",\"answers\":[{\"dispute\":0,\"round\":0,\"answer\":\"\"}]}",
+        false,
+    ),
+];
+
 #[test]
 fn a_tape_is_an_array_of_objects(rt: HostRuntime) -> Result<(), Fail> {
-    for (manner, want) in [
-        ("{\"kind\":\"tape\",\"answers\":[]}", true),
-        ("{\"kind\":\"tape\"}", false),
-        ("{\"kind\":\"tape\",\"answers\":{}}", false),
-        ("{\"kind\":\"tape\",\"answers\":[5]}", false),
-        (
-            "{\"kind\":\"tape\",\"answers\":[{\"dispute\":0,\"round\":0}]}",
-            false,
-        ),
-        (
-            "{\"kind\":\"tape\",\"answers\":[{\"dispute\":0,\"round\":0,\"answer\":\"07\"}]}",
-            false,
-        ),
-        (
-            "{\"kind\":\"tape\",\"answers\":[{\"dispute\":0,\"round\":0,\"answer\":\"\"}]}",
-            false,
-        ),
-    ] {
+    for (manner, want) in TAPES {
         assert_eq!(rt; is_taken(rt.alloc(), manner)?, want, "{manner}");
     }
     Ok(())
