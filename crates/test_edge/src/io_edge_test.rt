@@ -1,6 +1,8 @@
+//! Sources and sinks over devices that follow a script of their calls, and over memory.
 ghost use Rattle.std.specs.Prelude.{◌≤◌, IfOk};
 
 use io_edge::*;
+use std::alloc::Global;
 use std::io;
 use std::io::{ErrorKind, Read, Write};
 use std::test::Fail;
@@ -80,11 +82,19 @@ impl Write for Scripted {
     }
 }
 
+const NOTHING: Turn = Turn::Moves(0);
+
+const FIVE: Turn = Turn::Moves(5);
+
+const ALL: Turn = Turn::Moves(12);
+
 const INTERRUPTED: Turn = Turn::Fails(ErrorKind::Interrupted);
 
 const WOULD_BLOCK: Turn = Turn::Fails(ErrorKind::WouldBlock);
 
 const BROKEN_PIPE: Turn = Turn::Fails(ErrorKind::BrokenPipe);
+
+const FULL: Turn = Turn::Fails(ErrorKind::StorageFull);
 
 #[test]
 fn reading_stops_at_the_end_and_once_the_limit_is_passed(rt: HostRuntime) -> Result<(), Fail> {
@@ -164,191 +174,141 @@ fn a_sink_holds_all_or_after_a_fault_a_prefix(rt: HostRuntime) -> Result<(), Fai
     Ok(())
 }
 
+/// What a read from such a reader answers, `None` for a fault; how many faults are counted; and how many calls are made.
+fn read_once(turns: &'static [Turn]) -> (Option<usize>, u64, usize) {
+    let mut reader = Scripted::new(turns, &[]);
+    let mut source = ReaderSource::new(&mut reader);
+    let mut buf = [0; 12];
+    let answer = source.read_some(&mut buf).ok();
+    let faults = source.faults();
+    (answer, faults, reader.calls)
+}
+
+/// What a reader does in its calls, what a read answers, and how many calls are made.
+const READS: [(&[Turn], Option<usize>, usize); 8] = [
+    (&[ALL], Some(12), 1),
+    (&[FIVE], Some(5), 1),
+    (&[NOTHING, FIVE], Some(0), 1),
+    (&[INTERRUPTED, INTERRUPTED, FIVE], Some(5), 3),
+    (&[INTERRUPTED, NOTHING], Some(0), 2),
+    (&[WOULD_BLOCK, FIVE], None, 1),
+    (&[BROKEN_PIPE, FIVE], None, 1),
+    (&[INTERRUPTED, WOULD_BLOCK, FIVE], None, 2),
+];
+
 #[test]
 fn a_read_is_short_or_interrupted_or_a_fault(rt: HostRuntime) {
-    // The reader's calls, the answer (`None` for a fault), and how many calls were made.
-    let rows: [(&'static [Turn], Option<usize>, usize); 8] = [
-        (&[Turn::Moves(12)], Some(12), 1),
-        (&[Turn::Moves(5)], Some(5), 1),
-        (&[Turn::Moves(0), Turn::Moves(5)], Some(0), 1),
-        (&[INTERRUPTED, INTERRUPTED, Turn::Moves(5)], Some(5), 3),
-        (&[INTERRUPTED, Turn::Moves(0)], Some(0), 2),
-        (&[WOULD_BLOCK, Turn::Moves(5)], None, 1),
-        (&[BROKEN_PIPE, Turn::Moves(5)], None, 1),
-        (&[INTERRUPTED, WOULD_BLOCK, Turn::Moves(5)], None, 2),
-    ];
-    for (turns, answer, calls) in rows {
-        let mut reader = Scripted::new(turns, &[]);
-        let mut source = ReaderSource::new(&mut reader);
-        let mut buf = [0; 12];
-        assert_eq!(rt; source.read_some(&mut buf).ok(), answer, "{turns:?}");
-        assert_eq!(rt; source.faults(), u64::from(answer.is_none()), "{turns:?}");
-        assert_eq!(rt; reader.calls, calls, "{turns:?}");
+    for (turns, answer, calls) in READS {
+        let faults = u64::from(answer.is_none());
+        assert_eq!(rt; read_once(turns), (answer, faults, calls), "{turns:?}");
     }
 }
+
+/// How many calls and how many flushes are made, and how many bytes move.
+type Counts = (usize, usize, usize);
+
+/// What a write to such a writer answers, `None` for a fault; how many faults are counted; and what the writer counts.
+fn written_once(turns: &'static [Turn], flushes: &'static [Turn]) -> (Option<usize>, u64, Counts) {
+    let mut writer = Scripted::new(turns, flushes);
+    let mut sink = WriterSink::new(&mut writer);
+    let answer = sink.write_some(TEXT).ok();
+    let faults = sink.faults();
+    (
+        answer,
+        faults,
+        (writer.calls, writer.flush_calls, writer.moved),
+    )
+}
+
+/// What a writer does in its calls and in its flushes, what a write answers, and what is counted.
+const WRITES: [(&[Turn], &[Turn], Option<usize>, Counts); 11] = [
+    (&[ALL], &[NOTHING], Some(12), (1, 1, 12)),
+    (&[FIVE], &[NOTHING], Some(5), (1, 1, 5)),
+    (
+        &[INTERRUPTED, INTERRUPTED, FIVE],
+        &[NOTHING],
+        Some(5),
+        (3, 1, 5),
+    ),
+    (&[FIVE], &[INTERRUPTED, NOTHING], Some(5), (1, 2, 5)),
+    (&[NOTHING, FIVE], &[NOTHING], None, (1, 0, 0)),
+    (&[WOULD_BLOCK, FIVE], &[NOTHING], None, (1, 0, 0)),
+    (&[BROKEN_PIPE, FIVE], &[NOTHING], None, (1, 0, 0)),
+    (
+        &[INTERRUPTED, WOULD_BLOCK, FIVE],
+        &[NOTHING],
+        None,
+        (2, 0, 0),
+    ),
+    (&[FIVE], &[WOULD_BLOCK, NOTHING], None, (1, 1, 5)),
+    (&[FIVE], &[BROKEN_PIPE, NOTHING], None, (1, 1, 5)),
+    (&[ALL], &[FULL], None, (1, 1, 12)),
+];
 
 #[test]
 fn a_write_is_short_or_interrupted_or_a_fault(rt: HostRuntime) {
-    // The writer's calls, the flushes, the answer (`None` for a fault), how many of each were made, the bytes moved.
-    let rows: [(
-        &'static [Turn],
-        &'static [Turn],
-        Option<usize>,
-        usize,
-        usize,
-        usize,
-    ); 11] = [
-        (&[Turn::Moves(12)], &[Turn::Moves(0)], Some(12), 1, 1, 12),
-        (&[Turn::Moves(5)], &[Turn::Moves(0)], Some(5), 1, 1, 5),
-        (
-            &[INTERRUPTED, INTERRUPTED, Turn::Moves(5)],
-            &[Turn::Moves(0)],
-            Some(5),
-            3,
-            1,
-            5,
-        ),
-        (
-            &[Turn::Moves(5)],
-            &[INTERRUPTED, Turn::Moves(0)],
-            Some(5),
-            1,
-            2,
-            5,
-        ),
-        (
-            &[Turn::Moves(0), Turn::Moves(5)],
-            &[Turn::Moves(0)],
-            None,
-            1,
-            0,
-            0,
-        ),
-        (
-            &[WOULD_BLOCK, Turn::Moves(5)],
-            &[Turn::Moves(0)],
-            None,
-            1,
-            0,
-            0,
-        ),
-        (
-            &[BROKEN_PIPE, Turn::Moves(5)],
-            &[Turn::Moves(0)],
-            None,
-            1,
-            0,
-            0,
-        ),
-        (
-            &[INTERRUPTED, WOULD_BLOCK, Turn::Moves(5)],
-            &[Turn::Moves(0)],
-            None,
-            2,
-            0,
-            0,
-        ),
-        (
-            &[Turn::Moves(5)],
-            &[WOULD_BLOCK, Turn::Moves(0)],
-            None,
-            1,
-            1,
-            5,
-        ),
-        (
-            &[Turn::Moves(5)],
-            &[BROKEN_PIPE, Turn::Moves(0)],
-            None,
-            1,
-            1,
-            5,
-        ),
-        (
-            &[Turn::Moves(12)],
-            &[Turn::Fails(ErrorKind::StorageFull)],
-            None,
-            1,
-            1,
-            12,
-        ),
-    ];
-    for (turns, flushes, answer, calls, flush_calls, moved) in rows {
-        let mut writer = Scripted::new(turns, flushes);
-        let mut sink = WriterSink::new(&mut writer);
-        assert_eq!(rt; sink.write_some(TEXT).ok(), answer, "{turns:?} {flushes:?}");
+    for (turns, flushes, answer, counts) in WRITES {
+        let faults = u64::from(answer.is_none());
         assert_eq!(rt;
-            sink.faults(),
-            u64::from(answer.is_none()),
+            written_once(turns, flushes),
+            (answer, faults, counts),
             "{turns:?} {flushes:?}"
         );
-        assert_eq!(rt;
-            (writer.calls, writer.flush_calls),
-            (calls, flush_calls),
-            "{turns:?} {flushes:?}"
-        );
-        assert_eq!(rt; writer.moved, moved, "{turns:?} {flushes:?}");
     }
 }
 
-#[test]
-fn pieces_are_moved_until_all_is_done_or_a_call_fails(rt: HostRuntime) -> Result<(), Fail> {
-    let flushes = &[Turn::Moves(0), Turn::Moves(0), Turn::Moves(0)];
-    // The calls, the answer of a write of all and of a read of at most 10 bytes, and how many calls each made.
-    let rows: [(
-        &'static [Turn],
-        bool,
-        usize,
-        Result<usize, &'static str>,
-        usize,
-    ); 4] = [
-        (
-            &[Turn::Moves(5), INTERRUPTED, Turn::Moves(5), Turn::Moves(0)],
-            false,
-            4,
-            Ok(10),
-            4,
-        ),
-        (
-            &[Turn::Moves(5), WOULD_BLOCK, Turn::Moves(5)],
-            false,
-            2,
-            Err("a read failed"),
-            2,
-        ),
-        (
-            &[Turn::Moves(5), Turn::Moves(4), Turn::Moves(3)],
-            true,
-            3,
-            Err("there are too many bytes"),
-            3,
-        ),
-        (
-            &[Turn::Moves(12), Turn::Moves(0)],
-            true,
-            1,
-            Err("there are too many bytes"),
-            1,
-        ),
-    ];
-    for (turns, is_written, writes, read, reads) in rows {
-        let mut device = Scripted::new(turns, flushes);
-        let mut sink = WriterSink::new(&mut device);
-        assert_eq!(rt; write_all(&mut sink, TEXT).is_ok(), is_written, "{turns:?}");
-        assert_eq!(rt; sink.faults(), u64::from(!is_written), "{turns:?}");
-        assert_eq!(rt; device.calls, writes, "{turns:?}");
+/// Whether a whole write to such a device succeeds, how many faults are counted, and how many calls are made.
+fn written_whole(turns: &'static [Turn]) -> (bool, u64, usize) {
+    let mut device = Scripted::new(turns, &[NOTHING, NOTHING, NOTHING]);
+    let mut sink = WriterSink::new(&mut device);
+    let is_written = write_all(&mut sink, TEXT).is_ok();
+    let faults = sink.faults();
+    (is_written, faults, device.calls)
+}
 
-        let mut device = Scripted::new(turns, flushes);
-        match read_all(rt.alloc(), &mut ReaderSource::new(&mut device), 10) {
-            Ok(bytes) => assert_eq!(rt; Ok(bytes.len()), read, "{turns:?}"),
-            Err(e) => {
-                let text = format!(in rt.alloc(); "{e}")?;
-                assert_eq!(rt; Err(text.as_str()), read, "{turns:?}");
-            }
-        }
-        assert_eq!(rt; device.calls, reads, "{turns:?}");
+const WHOLE_WRITES: [(&[Turn], bool, usize); 4] = [
+    (&[FIVE, INTERRUPTED, FIVE, NOTHING], false, 4),
+    (&[FIVE, WOULD_BLOCK, FIVE], false, 2),
+    (&[FIVE, Turn::Moves(4), Turn::Moves(3)], true, 3),
+    (&[ALL, NOTHING], true, 1),
+];
+
+#[test]
+fn pieces_are_written_until_all_is_done_or_a_call_fails(rt: HostRuntime) {
+    for (turns, is_written, calls) in WHOLE_WRITES {
+        let faults = u64::from(!is_written);
+        assert_eq!(rt;
+            written_whole(turns),
+            (is_written, faults, calls),
+            "{turns:?}"
+        );
     }
-    Ok(())
+}
+
+/// What a whole read of at most 10 bytes from such a device comes to, in short, and how many calls are made.
+fn read_whole(alloc: Global, turns: &'static [Turn]) -> (Result<usize, &'static str>, usize) {
+    let mut device = Scripted::new(turns, &[]);
+    let read = match read_all(alloc, &mut ReaderSource::new(&mut device), 10) {
+        Ok(bytes) => Ok(bytes.len()),
+        Err(ReadAll::Fault) => Err("fault"),
+        Err(ReadAll::TooLong) => Err("too long"),
+        Err(ReadAll::Memory) => Err("memory"),
+    };
+    (read, device.calls)
+}
+
+const WHOLE_READS: [(&[Turn], Result<usize, &str>, usize); 4] = [
+    (&[FIVE, INTERRUPTED, FIVE, NOTHING], Ok(10), 4),
+    (&[FIVE, WOULD_BLOCK, FIVE], Err("fault"), 2),
+    (&[FIVE, Turn::Moves(4), Turn::Moves(3)], Err("too long"), 3),
+    (&[ALL, NOTHING], Err("too long"), 1),
+];
+
+#[test]
+fn pieces_are_read_until_all_is_done_or_a_call_fails(rt: HostRuntime) {
+    for (turns, read, calls) in WHOLE_READS {
+        assert_eq!(rt; read_whole(rt.alloc(), turns), (read, calls), "{turns:?}");
+    }
 }
 
 #[test]

@@ -1,3 +1,4 @@
+//! The values that all crates share: registers, lists, statuses, scripts, and copies of answers.
 use rd_base::{
     Answer, Boxed, Bytes, Claim, ClaimOutput, Ctl, Digest32, FirstSilentRound, Listed,
     MAX_TEXT_BYTES, Manner, Memory, OpenText, Opening, PassCount, Path, Proof, RegisterNumber,
@@ -114,6 +115,48 @@ fn a_copied_script_holds_what_the_script_holds(rt: HostRuntime) -> Result<(), Fa
     Ok(())
 }
 
+/// Control fields of a machine that has exited after two bytes of output.
+fn exited() -> Ctl {
+    Ctl {
+        pc: 65540,
+        status: Status::Exited(7),
+        out_len: 2,
+        chain: Digest32([9; 32]),
+    }
+}
+
+#[test]
+fn a_copied_claim_holds_what_the_claim_holds(rt: HostRuntime) -> Result<(), Fail> {
+    let output = ClaimOutput::new(b"\x80\xff".to_vec(rt.alloc())?).ok_or("too long")?;
+    assert_eq!(rt; output.len(), 2);
+    let claim = Answer::Claim(Claim {
+        mem: Digest32([1; 32]),
+        regs: Digest32([2; 32]),
+        ctl: exited(),
+        output,
+    });
+    match claim.copy(rt.alloc()) {
+        Ok(Answer::Claim(copy)) => {
+            assert_eq!(rt; copy.output.as_slice(), b"\x80\xff".as_slice());
+            assert_eq!(rt; copy.ctl, exited());
+            assert_eq!(rt;
+                (copy.mem, copy.regs),
+                (Digest32([1; 32]), Digest32([2; 32]))
+            );
+        }
+        _other => assert!(rt; false, "a claim's copy is no claim"),
+    }
+    Ok(())
+}
+
+#[test]
+fn a_copied_root_is_the_root(rt: HostRuntime) {
+    match Answer::Root(Digest32([3; 32])).copy(rt.alloc()) {
+        Ok(Answer::Root(root)) => assert_eq!(rt; root, Digest32([3; 32])),
+        _other => assert!(rt; false, "a root's copy is no root"),
+    }
+}
+
 /// Whether a proof is of version 1, opens the fetched chunk alone, and has the digest of memory whose bytes are 4.
 fn is_fetching(proof: &Proof) -> bool {
     match proof {
@@ -125,35 +168,7 @@ fn is_fetching(proof: &Proof) -> bool {
 }
 
 #[test]
-fn copies_of_answers_hold_what_the_answers_hold(rt: HostRuntime) -> Result<(), Fail> {
-    let ctl = Ctl {
-        pc: 65540,
-        status: Status::Exited(7),
-        out_len: 2,
-        chain: Digest32([9; 32]),
-    };
-    let output = ClaimOutput::new(b"\x80\xff".to_vec(rt.alloc())?);
-    assert!(rt; output.is_some());
-    if let Some(output) = output {
-        assert_eq!(rt; output.len(), 2);
-        let claim = Answer::Claim(Claim {
-            mem: Digest32([1; 32]),
-            regs: Digest32([2; 32]),
-            ctl,
-            output,
-        });
-        match claim.copy(rt.alloc()) {
-            Ok(Answer::Claim(copy)) => {
-                assert_eq!(rt; copy.output.as_slice(), b"\x80\xff".as_slice());
-                assert!(rt; copy.ctl == ctl && copy.mem == Digest32([1; 32]));
-            }
-            _other => assert!(rt; false, "a claim's copy is no claim"),
-        }
-    }
-    match Answer::Root(Digest32([3; 32])).copy(rt.alloc()) {
-        Ok(Answer::Root(root)) => assert!(rt; root == Digest32([3; 32])),
-        _other => assert!(rt; false, "a root's copy is no root"),
-    }
+fn a_copied_proof_holds_what_the_proof_holds(rt: HostRuntime) -> Result<(), Fail> {
     let opening = Opening {
         chunk: [5; 32],
         path: Path([Digest32([6; 32]); 27]),
@@ -161,7 +176,7 @@ fn copies_of_answers_hold_what_the_answers_hold(rt: HostRuntime) -> Result<(), F
     let proof = StepProof {
         mem: Digest32([4; 32]),
         regs: Regs::new(),
-        ctl,
+        ctl: exited(),
         fetch: Some(opening),
         operand: None,
     };
