@@ -6,184 +6,201 @@ use crate::pieces::{Piece, joined};
 use crate::playing::full_of;
 use crate::telling::{Told, audit_of};
 use audit::Cause;
+use std::alloc::Global;
+use std::process::Abort;
 use std::test::Fail;
 use toy_game::{HONEST, LIAR};
 
 /// Where the digits of an answer begin in a line that says `given`.
 const DIGITS: usize = 18;
 
-/// Each change is refused at its first line that isn't the next legal entry.
-#[test]
-fn a_changed_line_is_refused_where_it_stands(rt: HostRuntime) -> Result<(), Fail> {
-    let alloc = rt.alloc();
-    let text = full_of(&rt, alloc, &[HONEST, LIAR], 0)?;
-    let rows: [(&[Piece], Told); 15] = [
-        (&[Lines(1, 12)], Told::Accepts(1)),
-        (
-            &[Lines(1, 11), New(b"none left\n")],
-            Told::Refused(12, Cause::OtherVerdict),
-        ),
-        (
-            &[Lines(1, 11), New(b"accept running output 00\n")],
-            Told::Refused(12, Cause::OtherVerdict),
-        ),
-        (
-            &[Lines(1, 11), New(b"accept exited 0 output\n")],
-            Told::Refused(12, Cause::OtherVerdict),
-        ),
-        (
-            &[Lines(1, 11), New(b"collision 01 02\n")],
-            Told::Refused(12, Cause::OtherVerdict),
-        ),
-        // a line is dropped, doubled or put elsewhere
-        (
-            &[Lines(1, 3), Lines(5, 12)],
-            Told::Refused(4, Cause::NotAsked),
-        ),
-        (
-            &[Lines(1, 10), Lines(12, 12)],
-            Told::Refused(11, Cause::MovesMissing),
-        ),
-        (
-            &[Lines(1, 11), Lines(11, 12)],
-            Told::Refused(12, Cause::MovesAfterEnd),
-        ),
-        (
-            &[Lines(1, 4), Lines(4, 12)],
-            Told::Refused(5, Cause::NotAsked),
-        ),
-        (
-            &[Lines(1, 1), Lines(3, 3), Lines(2, 2), Lines(4, 12)],
-            Told::Refused(2, Cause::NotAsked),
-        ),
-        (
-            &[Lines(1, 3), Lines(12, 12)],
-            Told::Refused(4, Cause::MovesMissing),
-        ),
-        // another dispute, and another round
-        (
-            &[Lines(1, 3), New(b"move 2 1 p1 spent\n"), Lines(5, 12)],
-            Told::Refused(4, Cause::NotAsked),
-        ),
-        (
-            &[Lines(1, 3), New(b"move 1 2 p1 spent\n"), Lines(5, 12)],
-            Told::Refused(4, Cause::NotAsked),
-        ),
-        (&[New(b"refereed provers 2 "), Lines(2, 12)], Told::Unread),
-        (&[Lines(1, 11)], Told::Unread),
-    ];
+/// Texts of these pieces, and what is told of them.
+type Row = (&'static [Piece], Told);
+
+/// Asserts of each row what is told of the text of its pieces.
+fn assert_told(rt: &impl Abort, alloc: Global, text: &[u8], rows: &[Row]) -> Result<(), Fail> {
     for (pieces, want) in rows {
-        let changed = joined(alloc, text.as_slice(), pieces)?;
-        assert_eq!(rt; audit_of(alloc, changed.as_slice())?, want);
+        let changed = joined(alloc, text, *pieces)?;
+        assert_eq!(rt; audit_of(alloc, changed.as_slice())?, *want, "{pieces:?}");
     }
     Ok(())
 }
 
-/// Answers are checked: `given` and `faulty` must be right, and a proof is followed to where it leads.
+const OTHER_VERDICT: Told = Told::Refused(12, Cause::OtherVerdict);
+
+/// Another verdict in place of that of prover 1.
+const VERDICTS: [Row; 5] = [
+    (&[Lines(1, 12)], Told::Accepts(1)),
+    (&[Lines(1, 11), New(b"none left\n")], OTHER_VERDICT),
+    (
+        &[Lines(1, 11), New(b"accept running output 00\n")],
+        OTHER_VERDICT,
+    ),
+    (
+        &[Lines(1, 11), New(b"accept exited 0 output\n")],
+        OTHER_VERDICT,
+    ),
+    (&[Lines(1, 11), New(b"collision 01 02\n")], OTHER_VERDICT),
+];
+
 #[test]
-fn a_changed_answer_is_refused_where_it_tells(rt: HostRuntime) -> Result<(), Fail> {
-    let alloc = rt.alloc();
-    let text = full_of(&rt, alloc, &[HONEST, LIAR], 0)?;
-    let rows: [(&[Piece], Told); 6] = [
-        (
-            &[
-                Lines(1, 2),
-                New(b"move 0 0 p2 faulty "),
-                From(3, DIGITS),
-                Lines(4, 12),
-            ],
-            Told::Refused(3, Cause::OtherReply),
-        ),
-        // a claim where a root is asked
-        (
-            &[
-                Lines(1, 3),
-                New(b"move 1 1 p1 given "),
-                From(2, DIGITS),
-                Lines(5, 12),
-            ],
-            Told::Refused(4, Cause::OtherReply),
-        ),
-        (
-            &[
-                Lines(1, 3),
-                New(b"move 1 1 p1 faulty "),
-                From(2, DIGITS),
-                Lines(5, 5),
-                Lines(12, 12),
-            ],
-            Told::Accepts(2),
-        ),
-        // a proof that opens another root is refuted, as the liar's is, and nobody is left
-        (
-            &[
-                Lines(1, 9),
-                New(b"move 1 4 p1 given 0302"),
-                From(10, DIGITS + 4),
-                Lines(11, 12),
-            ],
-            Told::Refused(12, Cause::OtherVerdict),
-        ),
-        (
-            &[
-                Lines(1, 9),
-                New(b"move 1 4 p1 given 0302"),
-                From(10, DIGITS + 4),
-                Lines(11, 11),
-                New(b"none left\n"),
-            ],
-            Told::NobodyLeft,
-        ),
-        // the liar's proof is the last answer: a true one of it proves nothing for its own root
-        (
-            &[
-                Lines(1, 10),
-                New(b"move 1 4 p2 given "),
-                From(10, DIGITS),
-                Lines(12, 12),
-            ],
-            Told::Accepts(1),
-        ),
-    ];
-    for (pieces, want) in rows {
-        let changed = joined(alloc, text.as_slice(), pieces)?;
-        assert_eq!(rt; audit_of(alloc, changed.as_slice())?, want);
-    }
-    Ok(())
+fn another_verdict_is_refused(rt: HostRuntime) -> Result<(), Fail> {
+    let text = full_of(&rt, rt.alloc(), &[HONEST, LIAR], 0)?;
+    assert_told(&rt, rt.alloc(), text.as_slice(), &VERDICTS)
 }
+
+/// A line is left out, doubled or put elsewhere, or is of another dispute or another round.
+const LINES: [Row; 10] = [
+    (
+        &[Lines(1, 3), Lines(5, 12)],
+        Told::Refused(4, Cause::NotAsked),
+    ),
+    (
+        &[Lines(1, 10), Lines(12, 12)],
+        Told::Refused(11, Cause::MovesMissing),
+    ),
+    (
+        &[Lines(1, 11), Lines(11, 12)],
+        Told::Refused(12, Cause::MovesAfterEnd),
+    ),
+    (
+        &[Lines(1, 4), Lines(4, 12)],
+        Told::Refused(5, Cause::NotAsked),
+    ),
+    (
+        &[Lines(1, 1), Lines(3, 3), Lines(2, 2), Lines(4, 12)],
+        Told::Refused(2, Cause::NotAsked),
+    ),
+    (
+        &[Lines(1, 3), Lines(12, 12)],
+        Told::Refused(4, Cause::MovesMissing),
+    ),
+    (
+        &[Lines(1, 3), New(b"move 2 1 p1 spent\n"), Lines(5, 12)],
+        Told::Refused(4, Cause::NotAsked),
+    ),
+    (
+        &[Lines(1, 3), New(b"move 1 2 p1 spent\n"), Lines(5, 12)],
+        Told::Refused(4, Cause::NotAsked),
+    ),
+    (&[New(b"refereed provers 2 "), Lines(2, 12)], Told::Unread),
+    (&[Lines(1, 11)], Told::Unread),
+];
+
+/// Each change is refused at its first line that isn't the next legal entry.
+#[test]
+fn a_changed_line_is_refused_where_it_stands(rt: HostRuntime) -> Result<(), Fail> {
+    let text = full_of(&rt, rt.alloc(), &[HONEST, LIAR], 0)?;
+    assert_told(&rt, rt.alloc(), text.as_slice(), &LINES)
+}
+
+/// The claim of prover 2 is called faulty; a claim stands where a root is asked, called given and called faulty.
+const REPLIES: [Row; 3] = [
+    (
+        &[
+            Lines(1, 2),
+            New(b"move 0 0 p2 faulty "),
+            From(3, DIGITS),
+            Lines(4, 12),
+        ],
+        Told::Refused(3, Cause::OtherReply),
+    ),
+    (
+        &[
+            Lines(1, 3),
+            New(b"move 1 1 p1 given "),
+            From(2, DIGITS),
+            Lines(5, 12),
+        ],
+        Told::Refused(4, Cause::OtherReply),
+    ),
+    (
+        &[
+            Lines(1, 3),
+            New(b"move 1 1 p1 faulty "),
+            From(2, DIGITS),
+            Lines(5, 5),
+            Lines(12, 12),
+        ],
+        Told::Accepts(2),
+    ),
+];
+
+/// Answers are checked: `given` and `faulty` must be right.
+#[test]
+fn a_wrong_reply_is_refused(rt: HostRuntime) -> Result<(), Fail> {
+    let text = full_of(&rt, rt.alloc(), &[HONEST, LIAR], 0)?;
+    assert_told(&rt, rt.alloc(), text.as_slice(), &REPLIES)
+}
+
+/// A proof of prover 1 that opens another root is refuted, as the liar's is, and nobody is left. The liar's proof is the last answer: a
+/// true one of it proves nothing for its own root.
+const PROOFS: [Row; 3] = [
+    (
+        &[
+            Lines(1, 9),
+            New(b"move 1 4 p1 given 0302"),
+            From(10, DIGITS + 4),
+            Lines(11, 12),
+        ],
+        Told::Refused(12, Cause::OtherVerdict),
+    ),
+    (
+        &[
+            Lines(1, 9),
+            New(b"move 1 4 p1 given 0302"),
+            From(10, DIGITS + 4),
+            Lines(11, 11),
+            New(b"none left\n"),
+        ],
+        Told::NobodyLeft,
+    ),
+    (
+        &[
+            Lines(1, 10),
+            New(b"move 1 4 p2 given "),
+            From(10, DIGITS),
+            Lines(12, 12),
+        ],
+        Told::Accepts(1),
+    ),
+];
+
+/// A proof is followed to where it leads.
+#[test]
+fn a_changed_proof_changes_the_verdict(rt: HostRuntime) -> Result<(), Fail> {
+    let text = full_of(&rt, rt.alloc(), &[HONEST, LIAR], 0)?;
+    assert_told(&rt, rt.alloc(), text.as_slice(), &PROOFS)
+}
+
+const SPENT: [Row; 3] = [
+    (
+        &[
+            Lines(1, 3),
+            New(b"move 1 1 p1 spent\n"),
+            Lines(5, 5),
+            Lines(12, 12),
+        ],
+        Told::Accepts(2),
+    ),
+    (
+        &[Lines(1, 3), New(b"move 1 1 p1 spent\n"), Lines(5, 12)],
+        Told::Refused(6, Cause::MovesAfterEnd),
+    ),
+    (
+        &[
+            Lines(1, 1),
+            New(b"move 0 0 p1 spent\nmove 0 0 p2 spent\nnone left\n"),
+        ],
+        Told::NobodyLeft,
+    ),
+];
 
 /// That a prover passed too often no text can show: `spent` is taken as stated, and settles its question.
 #[test]
 fn spent_is_taken_as_stated(rt: HostRuntime) -> Result<(), Fail> {
-    let alloc = rt.alloc();
-    let text = full_of(&rt, alloc, &[HONEST, LIAR], 0)?;
-    let rows: [(&[Piece], Told); 3] = [
-        (
-            &[
-                Lines(1, 3),
-                New(b"move 1 1 p1 spent\n"),
-                Lines(5, 5),
-                Lines(12, 12),
-            ],
-            Told::Accepts(2),
-        ),
-        (
-            &[Lines(1, 3), New(b"move 1 1 p1 spent\n"), Lines(5, 12)],
-            Told::Refused(6, Cause::MovesAfterEnd),
-        ),
-        (
-            &[
-                Lines(1, 1),
-                New(b"move 0 0 p1 spent\nmove 0 0 p2 spent\nnone left\n"),
-            ],
-            Told::NobodyLeft,
-        ),
-    ];
-    for (pieces, want) in rows {
-        let changed = joined(alloc, text.as_slice(), pieces)?;
-        assert_eq!(rt; audit_of(alloc, changed.as_slice())?, want);
-    }
-    Ok(())
+    let text = full_of(&rt, rt.alloc(), &[HONEST, LIAR], 0)?;
+    assert_told(&rt, rt.alloc(), text.as_slice(), &SPENT)
 }
 
 /// A match that is cut after any of its lines but the last answer has its verdict too early.
