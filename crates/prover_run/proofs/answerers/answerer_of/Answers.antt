@@ -8,5 +8,5 @@ use Rattle.prover_run.proofs.answerers.answerer_of.Goals as goal
 
 pub returns : goal.returns
 returns g c =
-    c.new-2.ensures
+    c.new.ensures
     ∙ ap₂ (λ (m : Manner) (p : Prover). let said : Question → ℕ → Option Answer = says g.D.Digester.digest_of m (prover_says g.D.Digester.digest_of p) in said) c.in_ok-manner.ensures c.in_ok-inner.ensures
