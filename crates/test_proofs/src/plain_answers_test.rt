@@ -8,7 +8,7 @@ use merkle_nodes::climb;
 use plain_answers::make_proof;
 use proof_facts::{Facts, HeldRegisters, facts_of};
 use proof_wire::encode;
-use rd_base::{Answer, Boxed, Digest32, Memory, Opening, Proof, RegOpening};
+use rd_base::{Answer, Boxed, Digest32, Memory, Opening, RegOpening};
 use state_commit::Committed;
 use std::alloc::Global;
 use std::test::Fail;
@@ -224,8 +224,20 @@ fn proofs_open_the_chunk_of_the_input_that_is_read(rt: HostRuntime) -> Result<()
     Ok(())
 }
 
-/// How many bytes the wire form of a proof has.
-fn length_of(alloc: Global, proof: Proof) -> Result<usize, Fail> {
+/// How many bytes the wire form of the plain proof has, of a machine of a version after so many steps of a program.
+fn length_after<R: Threads + Sync>(
+    rt: &R,
+    alloc: Global,
+    version: u8,
+    image: &[u8],
+    input: &[u8],
+    steps: u32,
+) -> Result<usize, Fail>
+    requires version { (1 ≤ version) × (version ≤ 3) }
+    requires image { length image.now ≤ 256 }
+    requires input { length input.now ≤ 256 }
+{
+    let proof = make_proof(&machine_after(rt, alloc, version, image, input, steps)?);
     let answer = Answer::Step(Boxed::new(Box::new(alloc, proof)?));
     Ok(encode(alloc, &answer)?.len())
 }
@@ -234,11 +246,8 @@ fn length_of(alloc: Global, proof: Proof) -> Result<usize, Fail> {
 #[test]
 fn proofs_have_the_lengths_of_what_they_open(rt: HostRuntime) -> Result<(), Fail> {
     let alloc = rt.alloc();
-    let stopped = make_proof(&machine_after(&rt, alloc, 2, PUTS, b"", 6)?);
-    assert_eq!(rt; length_of(alloc, stopped)?, 116);
-    let store = make_proof(&machine_after(&rt, alloc, 2, STORES, b"", 2)?);
-    assert_eq!(rt; length_of(alloc, store)?, 2236);
-    let read = make_proof(&machine_after(&rt, alloc, 3, READS, b"A", 2)?);
-    assert_eq!(rt; length_of(alloc, read)?, 1888);
+    assert_eq!(rt; length_after(&rt, alloc, 2, PUTS, b"", 6)?, 116);
+    assert_eq!(rt; length_after(&rt, alloc, 2, STORES, b"", 2)?, 2236);
+    assert_eq!(rt; length_after(&rt, alloc, 3, READS, b"A", 2)?, 1888);
     Ok(())
 }

@@ -213,16 +213,26 @@ fn changed_parts_are_refused(rt: HostRuntime) -> Result<(), Fail> {
     Ok(())
 }
 
-/// The plain proof of a stopped state has no chunk, and leads to the same root. With a chunk it has a wrong shape; its root is tested first.
+/// The fetched chunk of the first step of `PUTS`.
+fn first_fetch<R: Threads + Sync>(rt: &R, alloc: Global) -> Result<Option<Opening>, Fail> {
+    let committed = machine_after(rt, alloc, 1, PUTS, b"", 0)?;
+    Ok(first_of(make_proof(&committed))?.fetch)
+}
+
+/// The root of the machine that `PUTS` has stopped, and its plain proof.
+fn plain_stop<R: Threads + Sync>(rt: &R, alloc: Global) -> Result<(Digest32, StepProof), Fail> {
+    let committed = machine_after(rt, alloc, 1, PUTS, b"", 6)?;
+    Ok((committed.root(), first_of(make_proof(&committed))?))
+}
+
+/// The plain proof of a stopped state has no chunk, and leads to the same root. With a chunk it has a wrong shape; its root is tested
+/// first.
 #[test]
 fn stopped_states_stay(rt: HostRuntime) -> Result<(), Fail> {
-    let alloc = rt.alloc();
-    let fetch = first_of(make_proof(&machine_after(&rt, alloc, 1, PUTS, b"", 0)?))?.fetch;
-    let committed = machine_after(&rt, alloc, 1, PUTS, b"", 6)?;
-    let root = committed.root();
-    let proof = first_of(make_proof(&committed))?;
+    let fetch = first_fetch(&rt, rt.alloc())?;
+    let (root, proof) = plain_stop(&rt, rt.alloc())?;
     assert!(rt; fetch.is_some() && proof.fetch.is_none() && proof.operand.is_none());
-    let plain = with_chunks(&proof, None, None);
+    let plain = Proof::V1(proof);
     assert_eq!(rt; checked(1, root, &plain), StepCheck::Leads(root));
     let fetched = with_chunks(&proof, fetch, None);
     assert_eq!(rt; checked(1, root, &fetched), WRONG_SHAPE, "a fetched chunk");
