@@ -10,3 +10,4 @@ pub mod TextSpellLemmas
 pub mod LimitLemmas
 pub mod ExactLemmas
 pub mod RecordLemmas
+pub mod FaultLemmas

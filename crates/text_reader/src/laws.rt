@@ -1,6 +1,9 @@
 //! Laws of reading, each the contract of a function that does nothing.
+ghost use Rattle.std.specs.Prelude.{◌≡◌, ℕ, List, Err};
 ghost use Rattle.text_reader.specs.Laws.{ReadsExactly, AlikeIsEqual, ReadsRecordsBack, MatchesAreReadBack};
+ghost use Rattle.text_reader.specs.ReadText.{read_text};
 
+use crate::fault::TextFault;
 use proof_wire::{reading_is_spelling, spelled_in_bytes};
 use text_types::a_verdict_is_stated;
 use tournament::{a_match_has_few_disputes_and_rounds, a_record_is_of_its_provers};
@@ -28,3 +31,9 @@ pub fn a_full_text_is_read_back()
     a_record_is_of_its_provers();
     a_match_has_few_disputes_and_rounds();
 }
+
+/// No bytes have out of memory as their fault: it comes of reading them, and is no fault of a text.
+#[tactic(auto, using(crate::proofs::FaultLemmas::no_fault_is_memory))]
+pub fn no_fault_of_a_text_is_out_of_memory()
+    ensures { (bytes : List ℕ) → ¬ (read_text bytes ≡ Err TextFault.Memory) }
+{}
