@@ -2,3 +2,4 @@ pub mod EndingLemmas
 pub mod PlayLemmas
 pub mod SafetyLemmas
 pub mod HonestLemmas
+pub mod TaskLemmas

@@ -1,6 +1,7 @@
 -- To believe. The match of a case by a digest function: by what it is played, what its provers say, and what comes of it. The referee sees no state
 -- but the first, of which it makes the root, and decides about claims and proofs of single steps.
 use Rattle.std.specs.Prelude.{ℕ, List, length}
+use Rattle.rd_base.specs.declared.digest.Digest32.{Digest32}
 use Rattle.bisect_game.specs.Says.{Says}
 use Rattle.bisect_game.specs.Rules.{Rules}
 use Rattle.bisect_game.specs.Truth.{Truth}
@@ -17,10 +18,13 @@ use Rattle.step_referee.specs.MachineTruth.{machine_truth}
 use Rattle.prover_run.specs.CaseScripts.{case_says}
 use Rattle.case_reader.specs.Case.{CaseData}
 
--- the numbers of the match of a case whose run starts in this state: a round cuts its interval as the case says, and the root at step 0 is
--- that state's, in its version
+-- the root at step 0, in the version of the state in which the run starts
+abbrev pub start_root : (List ℕ → List ℕ) → State → Digest32
+start_root digest start = record { 0 = root_in digest start.version start }
+
+-- the numbers of the match of a case whose run starts in this state: a round cuts its interval as the case says
 abbrev pub setup_of : (List ℕ → List ℕ) → CaseData → State → Setup
-setup_of digest c start = record { provers = length c.provers; bound = c.bound; fan = c.fan; patience = c.patience; start = record { 0 = root_in digest start.version start } }
+setup_of digest c start = record { provers = length c.provers; bound = c.bound; fan = c.fan; patience = c.patience; start = start_root digest start }
 
 -- the judge of the machine in this version decides, and the match has these numbers
 abbrev pub rules_of_case : (List ℕ → List ℕ) → CaseData → State → Rules

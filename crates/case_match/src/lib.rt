@@ -1,18 +1,22 @@
-//! The match of a case: its provers' runs, the judge of the machine, and the bracket that they are played in.
+//! The match of a case: its provers' runs, the judge of the machine, and the bracket that they are played in; and those of many tasks.
 //!
 //! The layers above may rely on this: `verdict_of_case` gives the record of the case and its verdict, functions of the case, the
-//! state that its run starts in and the digester's function (`specs/Match.antt`), however many threads play it; and a prover that
+//! state that its run starts in and the digester's function (`specs/Match.antt`), however many threads play it. `verdict_of_tasks`
+//! plays many together, of which each ends as it ends alone (`specs/Endings.antt`). A prover that
 //! claims and answers as the machine's definition says is safe in that record, which a law says for any digester
 //! (`specs/TruthfulInCase.antt`). Which scripts make a prover one of these says `specs/HonestScripts.antt`. The crate reads no
 //! device and writes no text. Read `specs/Match.antt` first, then `verdict`.
 #![tactic(auto)]
 
 mod laws;
+mod opening;
 mod playing;
+mod tasks;
 mod verdict;
 
 pub use laws::{
     records_of_cases_are_settled_up, truthful_provers_of_cases_are_safe,
     untouched_provers_are_truthful,
 };
+pub use tasks::{start_roots, verdict_of_tasks, verdicts_from};
 pub use verdict::{verdict_from, verdict_of_case};

@@ -8,10 +8,11 @@ ghost use Rattle.case_match.specs.Match.{record_of_case, verdict_of_record};
 ghost use Rattle.command_line.specs.Words.{AreAtLeastOne};
 ghost use Rattle.deposits.specs.Balances.{IsSettledUp};
 
+use crate::laws::records_of_cases_are_settled_up;
+use crate::opening::open_match;
 use crate::playing::play_out;
 use case_reader::Case;
 use command_line::Options;
-use prover_run::{CaseProvers, answerers_of};
 use rd_base::{Digest32, Memory};
 use rv_step::Machine;
 use segment_replay::Replays;
@@ -19,8 +20,7 @@ use state_commit::state_root_in;
 use std::alloc::Global;
 use std::sync::Wait;
 use std::thread::Threads;
-use step_referee::MachineJudge;
-use tournament::{Record, Setup, Verdict};
+use tournament::{Record, Verdict};
 
 /// The match of a case whose run starts in this machine: what is settled in it, and how it ends. The machine has put out
 /// nothing, and its chain is that of no output by the digester `d`; each option is at least 1, and none changes the answer.
@@ -68,32 +68,7 @@ where
     ensures verdict { IfOk result (λ played. played.1 ≡ verdict_of_record D.digest_of (data_of case.now) (state_of start) played.0) }
     ensures settled_up { IfOk result (λ played. IsSettledUp (length case.now.provers) played.0) }
 {
-    let scripts = case.provers.as_slice();
-    let setup = Setup {
-        provers: scripts.len() as u32,
-        bound: case.bound,
-        fan: case.fan,
-        patience: case.patience,
-        start: root,
-    };
-    let provers = CaseProvers::new(alloc, d, scripts, &start, case.bound)?;
-    let mut answerers = answerers_of(
-        alloc,
-        d,
-        scripts,
-        &start,
-        case.bound,
-        options.every,
-        options.workers,
-    )?;
-    let judge = MachineJudge::new(d, start.version);
-    play_out(
-        rt,
-        alloc,
-        judge,
-        provers,
-        setup,
-        answerers.as_mut_slice(),
-        options.posters,
-    )
+    let (book, mut answerers) = open_match(alloc, d, case, &start, root, options)?;
+    records_of_cases_are_settled_up();
+    play_out(rt, alloc, book, answerers.as_mut_slice(), options.posters)
 }

@@ -1,0 +1,13 @@
+use Rattle.std.proofs.Common.{◌≡◌, ◌++◌, true, map, reverse, length, All}
+use Rattle.tournament.specs.Bracket.{is_complete}
+use Rattle.case_match.specs.Openings.{ending}
+use Rattle.case_match.proofs.playing.endings.Given as goal
+
+abbrev pub invariant-loop-book : goal.invariant-loop-book
+invariant-loop-book g l = record {
+  all : All (λ b. is_complete b.2.record_ ≡ true) l.books.items;
+  ended : map (λ b. ending g.J.Judge.ruling g.P.Provers.says b.0) l.books.items ++ reverse l.ends.items ≡ map (λ b. ending g.J.Judge.ruling g.P.Provers.says b.0) l.initial.books.items;
+}
+
+abbrev pub decreases-loop-book : goal.decreases-loop-book
+decreases-loop-book g l = length l.books.items

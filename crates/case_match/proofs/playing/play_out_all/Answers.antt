@@ -1,0 +1,11 @@
+use Rattle.std.proofs.Common.{◌∙◌, map, ap}
+use Rattle.std.proofs.lemmas.Result.{IfOk-weaker}
+use Rattle.board_book.specs.Tasks.{openings}
+use Rattle.case_match.specs.Openings.{ending}
+use Rattle.case_match.proofs.playing.play_out_all.Goals as goal
+
+pub returns : goal.returns
+returns g c =
+    IfOk-weaker c.endings.result _ _
+    (λ ends e. e ∙ ap (map (ending g.J.Judge.ruling g.P.Provers.says)) (ap openings c.into_list.ensures ∙ (c.in_ok-played.ensures.openings ∙ ap (λ bs. openings bs.0) c.in_ok-books.ensures)))
+    c.endings.ensures
