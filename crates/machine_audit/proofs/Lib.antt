@@ -1,1 +1,5 @@
 pub mod CaseLemmas
+pub mod StringLemmas
+pub mod OpenedLemmas
+pub mod MetLemmas
+pub mod VerdictLemmas

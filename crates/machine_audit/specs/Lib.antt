@@ -1,1 +1,2 @@
 pub mod MachineAudit
+pub mod WrittenCases

@@ -3,9 +3,13 @@
 //! The layers above may rely on this: of every case with the stated root at step 0, and with the numbers of the text's head, in which
 //! one prover's lines are all given and true, a text that is confirmed before the judge of the machine states the status and the
 //! output of the run, or two different strings of one digest that answers of the text open. The law says it of any digester, and of
-//! the bytes that were read, for each version of the commitment that a head may name. Read `specs/MachineAudit.antt`.
+//! the bytes that were read, for each version of the commitment that a head may name. And what is written of every case that this
+//! judge decides is read and confirmed: whatever collision it calls, a text can state its two strings. Read
+//! `specs/MachineAudit.antt` and `specs/WrittenCases.antt`.
 #![tactic(auto)]
 
 mod laws;
 
-pub use laws::confirmed_cases_are_right;
+pub use laws::{
+    collisions_of_the_machine_have_strings, confirmed_cases_are_right, written_cases_are_confirmed,
+};
