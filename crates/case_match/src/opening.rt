@@ -4,6 +4,7 @@ ghost use Rattle.std.specs.List.{All};
 ghost use Rattle.bisect_game.specs.Rules.{ArePlayable};
 ghost use Rattle.bisect_game.specs.Says.{AnswerAs};
 ghost use Rattle.rv_step.specs.State.{state_of, IsChained};
+ghost use Rattle.state_commit.specs.Committing.{HasInput};
 ghost use Rattle.board_book.specs.Tasks.{openings};
 ghost use Rattle.board_book.specs.Playing.{sayings};
 ghost use Rattle.prover_run.specs.CaseScripts.{case_says};
@@ -16,21 +17,24 @@ use bisect_game::{Answerer, Provers};
 use board_book::{Book, answerers_say_in_order};
 use case_reader::Case;
 use command_line::Options;
-use prover_run::{CaseProvers, RunAnswerer, answerers_of};
+use prover_run::{CaseProvers, RunAnswerer, answerers_with_input};
 use prover_script::Scripted;
 use rd_base::{Digest32, Memory};
 use rv_step::Machine;
 use segment_replay::Replays;
+use state_commit::SharedInput;
 use std::alloc::Global;
 use step_referee::MachineJudge;
 
 /// Opens the match of a case whose run starts in this machine: its book, and an answerer for each of its provers, which answers as its
-/// script says. The machine is as for `verdict_of_case`, and the root is its own, in its version. An `Err` is out of memory.
+/// script says. The machine is as for `verdict_of_case`; the tree of the input and the root are its own, in its version. An `Err` is out of
+/// memory.
 pub fn open_match<D: Replays>(
     alloc: Global,
     d: D,
     case: &Case,
     start: &Machine,
+    input: &SharedInput<D>,
     root: Digest32,
     options: Options,
 ) -> Result<
@@ -42,6 +46,7 @@ pub fn open_match<D: Replays>(
 >
     requires chained { IsChained D.digest_of start.now }
     requires silent { start.now.output.items ≡ [] }
+    requires input { HasInput D.digest_of (state_of start.now) input.now }
     requires root { root ≡ start_root D.digest_of (state_of start.now) }
     requires options { AreAtLeastOne options }
     ensures opening { IfOk result (λ opened. opened.0.0 ≡ opening_of_case D.digest_of (data_of case.now) (state_of start.now)) }
@@ -53,11 +58,12 @@ pub fn open_match<D: Replays>(
     let scripts = case.provers.as_slice();
     let judge = MachineJudge::new(d, start.version);
     let provers = CaseProvers::new(alloc, d, scripts, start, case.bound)?;
-    let answerers = answerers_of(
+    let answerers = answerers_with_input(
         alloc,
         d,
         scripts,
         start,
+        input,
         case.bound,
         options.every,
         options.workers,
@@ -106,7 +112,8 @@ pub fn open_matches<D: Replays>(
     let [root, later_roots @ ..] = roots else {
         return Ok(());
     };
-    let (book, mut own) = open_match(alloc, d, case, start, *root, options)?;
+    let input = SharedInput::of(alloc, d, start)?;
+    let (book, mut own) = open_match(alloc, d, case, start, &input, *root, options)?;
     answerers_say_in_order::<Scripted<RunAnswerer<D>, D>>();
     books.push(book)?;
     answerers.append(&mut own)?;
