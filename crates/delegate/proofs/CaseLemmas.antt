@@ -1,9 +1,11 @@
--- Arguments and bytes that are a case: what the program answers, and that the case is in range.
-use Rattle.std.proofs.Common.{◌≡◌, ℕ, List, length, nat_lt, Option, Some, None, Result, Ok, Err, Bool, true, false, cond, refl, sym, ap, subst, ◌∙◌}
+-- Arguments and bytes that are a case or tasks: what the program answers, and that each case is in range.
+use Rattle.std.proofs.Common.{◌≡◌, ℕ, ◌+◌, ◌-◌, List, length, nat_lt, Option, Some, None, Result, Ok, Err, Bool, true, false, cond, refl, sym, ap, subst, ◌∙◌, arith}
 use Rattle.std.specs.Option.{option_and_then}
 use Rattle.rd_base.specs.Results.{◌>>=◌}
 use Rattle.rv_step.specs.State.{State}
-use Rattle.case_reader.specs.Case.{CaseData}
+use Rattle.case_reader.specs.Case.{CaseData, case_at}
+use Rattle.case_reader.specs.Tasks.{TasksData, One, Many, CasesAreTasks}
+use Rattle.case_reader.specs.declared.fault.CaseFault.{CaseFault}
 use Rattle.workload.specs.Workload.{big_data}
 use Rattle.text_types.specs.declared.digest.DigestName.{DigestName}
 use Rattle.command_line.specs.Words.{chosen}
@@ -12,75 +14,121 @@ use Rattle.command_line.specs.declared.request.MatchText.TheVariants.{Report, Fu
 use Rattle.command_line.specs.declared.request.Command.{Command}
 use Rattle.command_line.specs.declared.request.Command.TheVariants.{Judge, Run, Roots, Audit, Listing, Big}
 use Rattle.case_match.specs.TruthfulInCase.{IsInRange}
-use Rattle.delegate.specs.Refusal.{too_long}
-use Rattle.delegate.specs.Loading.{within_limit, case_in, start_in}
-use Rattle.delegate.specs.Decided.{Deciding, written_as, summary, case_of, case_for, decided}
-use Rattle.delegate.specs.commands.Judge.{judging, judged}
+use Rattle.delegate.specs.Refusal.{too_long, case_refusal, task_refusal, or_refusal}
+use Rattle.delegate.specs.Loading.{within_limit, case_in, tasks_in, start_in, starts_in}
+use Rattle.delegate.specs.Decided.{Written, report, full, summary, Deciding, written_as, case_for, tasks_of, tasks_for, decided}
+use Rattle.delegate.specs.Together.{together, each_decided, StandsUnder}
+use Rattle.delegate.specs.commands.Judge.{judging, judged_of, judged}
 use Rattle.delegate.specs.commands.Big.{summing_up, summed_up}
 use Rattle.delegate.specs.Outcome.{bytes_for, carried_out, decides, response_to, outcome}
-use Rattle.delegate.specs.Headline.{IsCase, Headline, HeadlineOfCases, AnswersTheCase, KeepsTheTruthful}
-use Rattle.delegate.specs.Stages.{IsInRangeIfThere, DecidesInRange, CasesAreInRange}
+use Rattle.delegate.specs.Headline.{Headline, HeadlineOfCases, AnswersTheCase, KeepsTheTruthful, AnswersTheTasks, KeepsTheTruthfulOfTasks}
+use Rattle.delegate.specs.Stages.{AreAllInRange, AreInRange, AreInRangeIfThere, DecidesInRange, CasesAreInRange}
+use Rattle.delegate.specs.declared.subject.Subject.TheVariants.{Whole}
 use Rattle.delegate.specs.declared.response.Response.{Response}
 use Rattle.delegate.proofs.OutcomeLemmas.{goes_on, both_steps, of_command, outcome-of}
+use Rattle.delegate.proofs.TaskLemmas.{decided-stands, range-at}
 
--- a command that decides answers a case by its match
+-- a command that decides answers by what it reads
 
-judged-case : (text : MatchText) (name : DigestName) (c : CaseData) (start : State) (read : Result (List ℕ) Response) → (read >>= case_in) ≡ Ok c → start_in c ≡ Ok start
-    → (read >>= judged text name) ≡ Ok (decided (judging text name) c start)
+judged-tasks : (text : MatchText) (name : DigestName) (tasks : TasksData) (read : Result (List ℕ) Response) → (read >>= tasks_in) ≡ Ok tasks
+    → (read >>= judged text name) ≡ judged_of (judging text name) tasks
 unfolding judged
-judged-case text name c start (Ok given) reads loads = goes_on _ _ _ reads ∙ goes_on _ _ _ loads
-judged-case text name c start (Err e) reads loads = absurd (cc reads)
+judged-tasks text name tasks (Ok given) reads = goes_on _ _ _ reads
+judged-tasks text name tasks (Err e) reads = absurd (cc reads)
 
--- whichever text is asked for, the case is that of the bytes
-case-read : (text : MatchText) (bytes : List ℕ) → case_for (written_as text) bytes ≡ case_of bytes
-unfolding case_for
-case-read Report bytes = refl
-case-read Full bytes = refl
+-- whichever text is asked for, the tasks are those of the bytes
+tasks-read : (text : MatchText) (bytes : List ℕ) → tasks_for (written_as text) bytes ≡ tasks_of bytes
+unfolding tasks_for
+tasks-read Report bytes = refl
+tasks-read Full bytes = refl
 
-summed_up-case : (seed : ℕ) (start : State) → start_in (big_data seed) ≡ Ok start → summed_up seed ≡ Ok (decided (summing_up seed) (big_data seed) start)
-unfolding summed_up
-summed_up-case seed start loads = goes_on _ _ _ loads
+big-judged : (seed : ℕ) → summed_up seed ≡ judged_of (summing_up seed) (One (big_data seed))
+unfolding summed_up judged_of
+big-judged seed = refl
 
-abbrev Answered : Command → List ℕ → Deciding → CaseData → State → Type 0
-Answered command bytes m c start = (bytes_for command bytes >>= (λ given. carried_out command given)) ≡ Ok (decided m c start)
+abbrev Answered : Command → List ℕ → Deciding → TasksData → Type 0
+Answered command bytes m tasks = (bytes_for command bytes >>= (λ given. carried_out command given)) ≡ judged_of m tasks
 
-command-case : (command : Command) (bytes : List ℕ) (m : Deciding) (c : CaseData) (start : State) → decides command ≡ Some m → case_for m.written bytes ≡ Ok c → start_in c ≡ Ok start
-    → Answered command bytes m c start
-unfolding case_for
-command-case (Judge text name) bytes m c start is reads loads =
+command-tasks : (command : Command) (bytes : List ℕ) (m : Deciding) (tasks : TasksData) → decides command ≡ Some m → tasks_for m.written bytes ≡ Ok tasks → Answered command bytes m tasks
+unfolding tasks_for
+command-tasks (Judge text name) bytes m tasks is reads =
     let m_is : judging text name ≡ m = cc is in
-    let own : case_for (written_as text) bytes ≡ Ok c = subst (λ (x : Deciding). case_for x.written bytes ≡ Ok c) (sym m_is) reads in
-    subst (λ (x : Deciding). Answered (Judge text name) bytes x c start) m_is
-    (judged-case text name c start (within_limit bytes) (sym (case-read text bytes) ∙ own) loads)
-command-case (Big seed) bytes m c start is reads loads =
+    let own : tasks_for (written_as text) bytes ≡ Ok tasks = subst (λ (x : Deciding). tasks_for x.written bytes ≡ Ok tasks) (sym m_is) reads in
+    subst (λ (x : Deciding). Answered (Judge text name) bytes x tasks) m_is
+    (judged-tasks text name tasks (within_limit bytes) (sym (tasks-read text bytes) ∙ own))
+command-tasks (Big seed) bytes m tasks is reads =
     let m_is : summing_up seed ≡ m = cc is in
-    let own : case_for (summing_up seed).written bytes ≡ Ok c = subst (λ (x : Deciding). case_for x.written bytes ≡ Ok c) (sym m_is) reads in
-    let c_is : big_data seed ≡ c = cc own in
-    subst (λ (x : Deciding). Answered (Big seed) bytes x c start) m_is
-    (subst (λ (x : CaseData). Answered (Big seed) bytes (summing_up seed) x start) c_is
-    (summed_up-case seed start (subst (λ (x : CaseData). start_in x ≡ Ok start) (sym c_is) loads)))
-command-case Run bytes m c start is reads loads = absurd (cc is)
-command-case Roots bytes m c start is reads loads = absurd (cc is)
-command-case Audit bytes m c start is reads loads = absurd (cc is)
-command-case Listing bytes m c start is reads loads = absurd (cc is)
+    let own : tasks_for (summing_up seed).written bytes ≡ Ok tasks = subst (λ (x : Deciding). tasks_for x.written bytes ≡ Ok tasks) (sym m_is) reads in
+    let tasks_are : One (big_data seed) ≡ tasks = cc own in
+    subst (λ (x : Deciding). Answered (Big seed) bytes x tasks) m_is
+    (subst (λ (x : TasksData). Answered (Big seed) bytes (summing_up seed) x) tasks_are (big-judged seed))
+command-tasks Run bytes m tasks is reads = absurd (cc is)
+command-tasks Roots bytes m tasks is reads = absurd (cc is)
+command-tasks Audit bytes m tasks is reads = absurd (cc is)
+command-tasks Listing bytes m tasks is reads = absurd (cc is)
 
-case-steps : (words : List (List ℕ)) (bytes : List ℕ) (m : Deciding) (c : CaseData) (start : State) → IsCase words bytes m c start → response_to words bytes ≡ Ok (decided m c start)
-case-steps words bytes m c start is = by (chosen words) refl
+tasks-steps : (words : List (List ℕ)) (bytes : List ℕ) (m : Deciding) (tasks : TasksData) → option_and_then decides (chosen words) ≡ Some m → tasks_for m.written bytes ≡ Ok tasks
+    → response_to words bytes ≡ judged_of m tasks
+tasks-steps words bytes m tasks is reads = by (chosen words) refl
   where
-    by : (o : Option Command) → chosen words ≡ o → response_to words bytes ≡ Ok (decided m c start)
-    by None none = (let asked = sym (ap (option_and_then decides) none) ∙ is.asked in absurd (cc asked))
+    by : (o : Option Command) → chosen words ≡ o → response_to words bytes ≡ judged_of m tasks
+    by None none = (let asked = sym (ap (option_and_then decides) none) ∙ is in absurd (cc asked))
     by (Some command) some =
-        let asked : decides command ≡ Some m = sym (ap (option_and_then decides) some) ∙ is.asked in
-        of_command words bytes command some ∙ command-case command bytes m c start asked is.reads is.loads
+        let asked : decides command ≡ Some m = sym (ap (option_and_then decides) some) ∙ is in
+        of_command words bytes command some ∙ command-tasks command bytes m tasks asked reads
+
+one-judged : (m : Deciding) (c : CaseData) (start : State) → start_in Whole c ≡ Ok start → judged_of m (One c) ≡ Ok (decided m c start)
+unfolding judged_of
+one-judged m c start loads = goes_on _ _ _ loads
+
+many-judged : (m : Deciding) (cs : List CaseData) (starts : List State) → starts_in 1 cs ≡ Ok starts → judged_of m (Many cs) ≡ Ok (together (each_decided m cs starts))
+unfolding judged_of
+many-judged m cs starts loads = goes_on _ _ _ loads
+
+-- a case is read as one task
+
+case-ok : (r : Result CaseData CaseFault) (c : CaseData) → or_refusal (case_refusal Whole) r ≡ Ok c → r ≡ Ok c
+case-ok (Ok x) c is = ap Ok (cc is)
+case-ok (Err fault) c is = absurd (cc is)
+
+bytes-one : CasesAreTasks → (bytes : List ℕ) (c : CaseData) (many : Bool) → (cond many (Err too_long) (Ok bytes) >>= case_in) ≡ Ok c
+    → (cond many (Err too_long) (Ok bytes) >>= tasks_in) ≡ Ok (One c)
+bytes-one law bytes c true is = absurd (cc is)
+bytes-one law bytes c false is = ap (or_refusal task_refusal) ((law.same bytes c).1 (case-ok (case_at bytes) c is))
+
+one-case : CasesAreTasks → (written : Written) (bytes : List ℕ) (c : CaseData) → case_for written bytes ≡ Ok c → tasks_for written bytes ≡ Ok (One c)
+unfolding case_for tasks_for
+one-case law (summary seed) bytes c is = ap (λ (x : CaseData). Ok (One x)) (cc is)
+one-case law report bytes c is = bytes-one law bytes c (nat_lt 16777216 (length bytes)) is
+one-case law full bytes c is = bytes-one law bytes c (nat_lt 16777216 (length bytes)) is
 
 -- completeness
-pub outcome-case : (words : List (List ℕ)) (bytes : List ℕ) → AnswersTheCase words bytes (outcome words bytes)
-outcome-case words bytes m c start is = outcome-of words bytes _ (case-steps words bytes m c start is)
+
+pub outcome-case : CasesAreTasks → (words : List (List ℕ)) (bytes : List ℕ) → AnswersTheCase words bytes (outcome words bytes)
+outcome-case law words bytes m c start is =
+    outcome-of words bytes _ (tasks-steps words bytes m (One c) is.asked (one-case law m.written bytes c is.reads) ∙ one-judged m c start is.loads)
+
+pub outcome-tasks : (words : List (List ℕ)) (bytes : List ℕ) → AnswersTheTasks words bytes (outcome words bytes)
+outcome-tasks words bytes m cs starts is = outcome-of words bytes _ (tasks-steps words bytes m (Many cs) is.asked is.reads ∙ many-judged m cs starts is.loads)
 
 -- the headline, of cases that are in range
-pub outcome-headline : HeadlineOfCases → (words : List (List ℕ)) (bytes : List ℕ) → CasesAreInRange words bytes → KeepsTheTruthful words bytes (outcome words bytes)
-outcome-headline headline words bytes in_range m c start p is truthful =
-    subst (λ response. Headline m response c start p) (sym (outcome-case words bytes m c start is)) (headline m c start p (in_range m c start is) truthful)
+
+pub outcome-headline : CasesAreTasks → HeadlineOfCases → (words : List (List ℕ)) (bytes : List ℕ) → CasesAreInRange words bytes → KeepsTheTruthful words bytes (outcome words bytes)
+outcome-headline law headline words bytes in_range m c start p is truthful =
+    subst (λ response. Headline m response c start p) (sym (outcome-case law words bytes m c start is))
+    (headline m c start p (in_range m is.asked (One c) (one-case law m.written bytes c is.reads) start is.loads) truthful)
+
+pub outcome-task-headline : HeadlineOfCases → (words : List (List ℕ)) (bytes : List ℕ) → CasesAreInRange words bytes → KeepsTheTruthfulOfTasks words bytes (outcome words bytes)
+outcome-task-headline headline words bytes in_range m cs starts t c start p is some at from truthful =
+    let number : 1 + (t - 1) ≡ t = omega (arith, some) in
+    let whole = outcome-tasks words bytes m cs starts is in
+    let stands = decided-stands m cs starts (t - 1) c start at from in
+    record {
+      part = decided m c start;
+      stands = subst (λ (n : ℕ). StandsUnder n (decided m c start).text (outcome words bytes).text) number
+          (subst (λ (r : Response). StandsUnder (1 + (t - 1)) (decided m c start).text r.text) (sym whole) stands);
+      keeps = headline m c start p (range-at cs starts (t - 1) c start (in_range m is.asked (Many cs) is.reads starts is.loads) at from) truthful;
+    }
 
 -- what was read for a command is what is read of the bytes
 
@@ -91,28 +139,31 @@ limited bytes given is = by (nat_lt 16777216 (length bytes)) is
     by true e = absurd (cc e)
     by false e = cc e
 
-same-case : (command : Command) (bytes given : List ℕ) (m : Deciding) (c : CaseData) → decides command ≡ Some m → bytes_for command bytes ≡ Ok given → case_for m.written bytes ≡ Ok c
-    → case_for m.written given ≡ Ok c
-unfolding case_for
-same-case (Judge text name) bytes given m c is read reads = subst (λ bs. case_for m.written bs ≡ Ok c) (limited bytes given read) reads
-same-case (Big seed) bytes given m c is read reads =
+same-tasks : (command : Command) (bytes given : List ℕ) (m : Deciding) (tasks : TasksData) → decides command ≡ Some m → bytes_for command bytes ≡ Ok given → tasks_for m.written bytes ≡ Ok tasks
+    → tasks_for m.written given ≡ Ok tasks
+unfolding tasks_for
+same-tasks (Judge text name) bytes given m tasks is read reads = subst (λ bs. tasks_for m.written bs ≡ Ok tasks) (limited bytes given read) reads
+same-tasks (Big seed) bytes given m tasks is read reads =
     let m_is : summing_up seed ≡ m = cc is in
-    subst (λ (x : Deciding). case_for x.written given ≡ Ok c) m_is (subst (λ (x : Deciding). case_for x.written bytes ≡ Ok c) (sym m_is) reads)
-same-case Run bytes given m c is read reads = absurd (cc is)
-same-case Roots bytes given m c is read reads = absurd (cc is)
-same-case Audit bytes given m c is read reads = absurd (cc is)
-same-case Listing bytes given m c is read reads = absurd (cc is)
+    subst (λ (x : Deciding). tasks_for x.written given ≡ Ok tasks) m_is (subst (λ (x : Deciding). tasks_for x.written bytes ≡ Ok tasks) (sym m_is) reads)
+same-tasks Run bytes given m tasks is read reads = absurd (cc is)
+same-tasks Roots bytes given m tasks is read reads = absurd (cc is)
+same-tasks Audit bytes given m tasks is read reads = absurd (cc is)
+same-tasks Listing bytes given m tasks is read reads = absurd (cc is)
 
 in-range : (words : List (List ℕ)) (bytes given : List ℕ) (command : Command) → chosen words ≡ Some command → bytes_for command bytes ≡ Ok given → DecidesInRange command given
     → CasesAreInRange words bytes
-in-range words bytes given command taken read decided_in_range m c start is =
-    let asked : decides command ≡ Some m = sym (ap (option_and_then decides) taken) ∙ is.asked in
-    decided_in_range m asked c start (same-case command bytes given m c asked read is.reads) is.loads
+in-range words bytes given command taken read decided_in_range m is tasks reads =
+    let asked : decides command ≡ Some m = sym (ap (option_and_then decides) taken) ∙ is in
+    decided_in_range m asked tasks (same-tasks command bytes given m tasks asked read reads)
 
--- what is refused is no case
+-- what is refused isn't loaded
 refused-in-range : (words : List (List ℕ)) (bytes : List ℕ) (response : Response) → response_to words bytes ≡ Err response → CasesAreInRange words bytes
-refused-in-range words bytes response refused m c start is =
-    let both = sym refused ∙ case-steps words bytes m c start is in
+refused-in-range words bytes response refused m is (One c) reads = λ start loads.
+    let both = sym refused ∙ (tasks-steps words bytes m (One c) is reads ∙ one-judged m c start loads) in
+    absurd (cc both)
+refused-in-range words bytes response refused m is (Many cs) reads = λ starts loads.
+    let both = sym refused ∙ (tasks-steps words bytes m (Many cs) is reads ∙ many-judged m cs starts loads) in
     absurd (cc both)
 
 -- the response in each of its cases
@@ -128,43 +179,47 @@ pub carried-is-it : (words : List (List ℕ)) (bytes given : List ℕ) (command 
 carried-is-it words bytes given command response taken read is decided_in_range =
     (sym (outcome-of words bytes _ (both_steps words bytes given command taken read ∙ is)), in-range words bytes given command taken read decided_in_range)
 
--- a case that was read, whose machine was made, is in range wherever it is read
+-- what was read, whose machines were made, is in range wherever it is read
 
 same-ok : {X E : Type 0} (r : Result X E) (x y : X) → r ≡ Ok x → r ≡ Ok y → x ≡ y
 same-ok r x y one other = (let both = sym one ∙ other in cc both)
 
-same-in-range : (reading : Result CaseData Response) (c : CaseData) (start : State) → reading ≡ Ok c → start_in c ≡ Ok start → IsInRange c start → IsInRangeIfThere reading
-same-in-range reading c start reads loads range other started is starts =
-    let c_is : c ≡ other = same-ok reading c other reads is in
-    let start_is : start ≡ started = same-ok (start_in c) start started loads (subst (λ (x : CaseData). start_in x ≡ Ok started) (sym c_is) starts) in
-    subst (λ (x : CaseData). IsInRange x started) c_is (subst (λ (s : State). IsInRange c s) start_is range)
+pub one-in-range : (c : CaseData) (start : State) → start_in Whole c ≡ Ok start → IsInRange c start → AreInRange (One c)
+one-in-range c start loads range other is = subst (IsInRange c) (same-ok (start_in Whole c) start other loads is) range
 
-pub judged-in-range : (text : MatchText) (bytes : List ℕ) (c : CaseData) (start : State) → case_in bytes ≡ Ok c → start_in c ≡ Ok start → IsInRange c start → IsInRangeIfThere (case_for (written_as text) bytes)
-judged-in-range text bytes c start reads loads range other started is starts =
-    same-in-range (case_in bytes) c start reads loads range other started (by (nat_lt 16777216 (length bytes)) (sym (case-read text bytes) ∙ is)) starts
+pub many-in-range : (cs : List CaseData) (starts : List State) → starts_in 1 cs ≡ Ok starts → AreAllInRange cs starts → AreInRange (Many cs)
+many-in-range cs starts loads range others are = subst (AreAllInRange cs) (same-ok (starts_in 1 cs) starts others loads are) range
+
+pub judged-in-range : (text : MatchText) (bytes : List ℕ) (tasks : TasksData) → tasks_in bytes ≡ Ok tasks → AreInRange tasks → AreInRangeIfThere (tasks_for (written_as text) bytes)
+judged-in-range text bytes tasks reads range other is =
+    subst AreInRange (same-ok (tasks_in bytes) tasks other reads (by (nat_lt 16777216 (length bytes)) (sym (tasks-read text bytes) ∙ is))) range
   where
-    by : (many : Bool) → (cond many (Err too_long) (Ok bytes) >>= case_in) ≡ Ok other → case_in bytes ≡ Ok other
+    by : (many : Bool) → (cond many (Err too_long) (Ok bytes) >>= tasks_in) ≡ Ok other → tasks_in bytes ≡ Ok other
     by true e = absurd (cc e)
     by false e = e
 
-pub summary-in-range : (seed : ℕ) (bytes : List ℕ) (c : CaseData) (start : State) → c ≡ big_data seed → start_in c ≡ Ok start → IsInRange c start → IsInRangeIfThere (case_for (summary seed) bytes)
-unfolding case_for
-summary-in-range seed bytes c start same loads range = same-in-range (Ok (big_data seed)) c start (ap Ok (sym same)) loads range
+pub summary-in-range : (seed : ℕ) (bytes : List ℕ) (c : CaseData) (start : State) → c ≡ big_data seed → start_in Whole c ≡ Ok start → IsInRange c start → AreInRangeIfThere (tasks_for (summary seed) bytes)
+unfolding tasks_for
+summary-in-range seed bytes c start same loads range other is =
+    let both : Ok (One c) ≡ Ok other = ap (λ (x : CaseData). Ok (One x)) same ∙ is in
+    subst AreInRange (same-ok (Ok (One c)) (One c) other refl both) (one-in-range c start loads range)
 
-pub big-stands : (seed : ℕ) (c : CaseData) (start : State) (response : Response) → c ≡ big_data seed → start_in c ≡ Ok start → response ≡ decided (summing_up seed) c start → summed_up seed ≡ Ok response
+pub big-stands : (seed : ℕ) (c : CaseData) (start : State) (response : Response) → c ≡ big_data seed → start_in Whole c ≡ Ok start → response ≡ decided (summing_up seed) c start → summed_up seed ≡ Ok response
 big-stands seed c start response same loads is =
-    summed_up-case seed start (subst (λ (x : CaseData). start_in x ≡ Ok start) same loads) ∙ ap Ok (ap (λ (x : CaseData). decided (summing_up seed) x start) (sym same) ∙ sym is)
+    big-judged seed
+    ∙ (ap (λ (x : CaseData). judged_of (summing_up seed) (One x)) (sym same)
+    ∙ (one-judged (summing_up seed) c start loads ∙ ap Ok (sym is)))
 
 -- of a command
 
-pub judge-in-range : (command : Command) (text : MatchText) (name : DigestName) (bytes : List ℕ) → command ≡ Judge text name → IsInRangeIfThere (case_for (written_as text) bytes) → DecidesInRange command bytes
+pub judge-in-range : (command : Command) (text : MatchText) (name : DigestName) (bytes : List ℕ) → command ≡ Judge text name → AreInRangeIfThere (tasks_for (written_as text) bytes) → DecidesInRange command bytes
 judge-in-range command text name bytes is range m asked =
     let both : Some (judging text name) ≡ Some m = sym (ap decides is) ∙ asked in
     let m_is : judging text name ≡ m = cc both in
-    subst (λ (x : Deciding). IsInRangeIfThere (case_for x.written bytes)) m_is range
+    subst (λ (x : Deciding). AreInRangeIfThere (tasks_for x.written bytes)) m_is range
 
-pub big-in-range : (command : Command) (seed : ℕ) (bytes : List ℕ) → command ≡ Big seed → IsInRangeIfThere (case_for (summary seed) bytes) → DecidesInRange command bytes
+pub big-in-range : (command : Command) (seed : ℕ) (bytes : List ℕ) → command ≡ Big seed → AreInRangeIfThere (tasks_for (summary seed) bytes) → DecidesInRange command bytes
 big-in-range command seed bytes is range m asked =
     let both : Some (summing_up seed) ≡ Some m = sym (ap decides is) ∙ asked in
     let m_is : summing_up seed ≡ m = cc both in
-    subst (λ (x : Deciding). IsInRangeIfThere (case_for x.written bytes)) m_is range
+    subst (λ (x : Deciding). AreInRangeIfThere (tasks_for x.written bytes)) m_is range

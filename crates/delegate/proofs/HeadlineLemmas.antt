@@ -20,13 +20,13 @@ use Rattle.text_types.specs.declared.digest.DigestName.TheVariants.{Sha256, Weak
 use Rattle.transcript_text.specs.Lines.{accept_line, line_of_accepted, line_of_verdict}
 use Rattle.transcript_text.specs.Report.{text_if_there}
 use Rattle.transcript_text.specs.Laws.{NothingIsSaidAgainstTheTruthful}
-use Rattle.case_match.specs.Match.{rules_of_case, record_of_case, verdict_of_record, truth_of_case}
+use Rattle.case_match.specs.Match.{start_root, rules_of_case, record_of_case, verdict_of_record, truth_of_case}
 use Rattle.case_match.specs.TruthfulInCase.{IsSafeInCase, TruthfulProversOfCasesAreSafe}
 use Rattle.command_line.specs.declared.request.MatchText.{MatchText}
 use Rattle.command_line.specs.declared.request.MatchText.TheVariants.{Report, Full}
 use Rattle.delegate.specs.Digest.{digest_of}
 use Rattle.text_types.specs.declared.text.Head.{Head}
-use Rattle.delegate.specs.Decided.{Written, report, full, summary, written_as, Deciding, match_text, answered_by, head_of, start_root, balances_in, before_verdict, answered_for, decided}
+use Rattle.delegate.specs.Decided.{Written, report, full, summary, written_as, Deciding, match_text, answered_by, head_of, balances_in, before_verdict, answered_for, decided}
 use Rattle.delegate.specs.declared.answered.Answered.TheVariants.{Done}
 use Rattle.delegate.specs.Headline.{AcceptsTheRun, ShowsCollision, HeadlineOfCases}
 use Rattle.delegate.proofs.SparedLemmas.{no-moves-against}

@@ -3,6 +3,8 @@ use Rattle.std.proofs.Common.{◌≡◌, ℕ, List, Option, Some, None, Bool, tr
 use Rattle.std.proofs.lemmas.Bool.{false≢true}
 use Rattle.tournament.specs.declared.verdict.Verdict.{Verdict}
 use Rattle.tournament.specs.declared.verdict.Verdict.TheVariants.{Accept, NoneLeft, Collision as Collided}
+use Rattle.case_reader.specs.declared.fault.TaskFault.{TaskFault}
+use Rattle.case_reader.specs.declared.fault.TaskFault.TheVariants as faults
 use Rattle.text_types.specs.declared.text.Stated.{Stated}
 use Rattle.audit.specs.declared.finding.Audit.{Audit}
 use Rattle.audit.specs.declared.finding.Audit.TheVariants.{Confirmed, Refused}
@@ -13,9 +15,11 @@ use Rattle.command_line.specs.Words.{chosen}
 use Rattle.command_line.specs.declared.request.Command.{Command}
 use Rattle.command_line.specs.declared.request.Command.TheVariants.{Judge, Run, Roots, Listing, Big, Audit as AuditOf}
 use Rattle.delegate.specs.Answered.{is_outcome, is_of_case, is_of_match, is_of_text, is_done, is_answer_of, is_answer_to}
-use Rattle.delegate.specs.Refusal.{usage}
+use Rattle.delegate.specs.Refusal.{usage, task_refusal}
 use Rattle.delegate.specs.Digest.{digest_of}
 use Rattle.delegate.specs.Decided.{written_as, answered_for}
+use Rattle.delegate.specs.Together.{each_decided}
+use Rattle.delegate.specs.commands.Judge.{judging}
 use Rattle.delegate.specs.commands.Audit.{found}
 use Rattle.delegate.specs.Outcome.{outcome}
 use Rattle.delegate.specs.Answering.{EachCommandHasItsAnswers}
@@ -24,6 +28,7 @@ use Rattle.delegate.specs.declared.response.Response.{Response}
 use Rattle.delegate.specs.declared.answered.Answered.{Answered}
 use Rattle.delegate.specs.declared.answered.Answered.TheVariants.{Done, Usage, Case, Image, ReadFault, WriteFault, AuditRefused, Memory, NoneLeft as NobodyLeft, Collision, TooLong}
 use Rattle.delegate.proofs.OutcomeLemmas.{no_command, of_command, outcome-of}
+use Rattle.delegate.proofs.TaskLemmas.{gravest-is}
 use Rattle.delegate.proofs.ResponseLemmas.{OfCases, OfCommand, command-of}
 
 -- the answers of each command
@@ -36,9 +41,9 @@ case-kind is done unread unloaded long = record {
   long = long;
   unread = λ bytes fault e. unread;
   ranged = λ k. unread;
-  flat = λ file fault e. unloaded;
-  elf = λ file fault e. unloaded;
-  text = λ text fault e. unloaded;
+  flat = λ subject file fault e. unloaded;
+  elf = λ subject file fault e. unloaded;
+  text = λ subject text fault e. unloaded;
   line = λ fault. unloaded;
   done = λ text. done;
 }
@@ -51,15 +56,22 @@ verdict-kind Full (Accept number) = refl
 verdict-kind Full NoneLeft = refl
 verdict-kind Full (Collided x y) = refl
 
+task-kind : (fault : TaskFault) → Answers is_of_match (task_refusal fault)
+task-kind (faults.Whole fault) = refl
+task-kind (faults.Task t fault) = refl
+task-kind faults.Memory = refl
+
 found-kind : (stated : Stated) (finding : Audit) → Answers is_of_text (found stated finding)
 found-kind stated (Confirmed verdict) = refl
 found-kind stated (Refused line cause) = refl
 
 parts : (command : Command) → OfCommand (Answers (is_answer_of command)) command
-parts (Judge text name) = (
-  case-kind (is_answer_of (Judge text name)) refl refl refl refl,
-  λ c start. verdict-kind text (verdict_of_record (digest_of name) c start (record_of_case (digest_of name) c start)),
-)
+parts (Judge text name) = record {
+  of_cases = case-kind (is_answer_of (Judge text name)) refl refl refl refl;
+  untold = λ bytes fault e. task-kind fault;
+  one = λ c start. verdict-kind text (verdict_of_record (digest_of name) c start (record_of_case (digest_of name) c start));
+  many = λ cs starts. gravest-is is_of_match true refl refl refl (each_decided (judging text name) cs starts);
+}
 parts Run = case-kind (is_answer_of Run) refl refl refl refl
 parts Roots = case-kind (is_answer_of Roots) refl refl refl refl
 parts Listing = case-kind (is_answer_of Listing) refl refl refl refl

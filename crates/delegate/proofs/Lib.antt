@@ -1,4 +1,5 @@
 pub mod OutcomeLemmas
+pub mod TaskLemmas
 pub mod ResponseLemmas
 pub mod KindLemmas
 pub mod WhyLemmas

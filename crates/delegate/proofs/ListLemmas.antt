@@ -10,12 +10,13 @@ use Rattle.asm_image.specs.AsmImage.{words_at, asm_at}
 use Rattle.asm_image.specs.declared.image.AsmImageFault.TheVariants as asm
 use Rattle.delegate.specs.Refusal.{asm_refusal, or_refusal}
 use Rattle.delegate.specs.Loading.{image_by}
+use Rattle.delegate.specs.declared.subject.Subject.TheVariants.{Whole}
 
-pub short-text : (text : List ℕ) (image : Image) → image_by Asm text ≡ Ok image → length text ≤ 16777216
+pub short-text : (text : List ℕ) (image : Image) → image_by Whole Asm text ≡ Ok image → length text ≤ 16777216
 unfolding asm_at
 short-text text image loads = by (nat_lt 16777216 (length text)) refl loads
   where
     by : (many : Bool) → nat_lt 16777216 (length text) ≡ many
-        → or_refusal asm_refusal (cond many (Err (asm.Image ImageTooLarge)) (map_fault asm.Text (assembled text) >>= words_at)) ≡ Ok image → length text ≤ 16777216
+        → or_refusal (asm_refusal Whole) (cond many (Err (asm.Image ImageTooLarge)) (map_fault asm.Text (assembled text) >>= words_at)) ≡ Ok image → length text ≤ 16777216
     by true is e = absurd (cc e)
     by false is e = grind (arith, nat_tests)

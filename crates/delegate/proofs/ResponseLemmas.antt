@@ -1,9 +1,11 @@
 -- What holds of each response that a command can come to holds of every outcome.
-use Rattle.std.proofs.Common.{◌≡◌, ℕ, List, length, Result, Ok, Err, Bool, true, false, cond, nat_lt, refl}
+use Rattle.std.proofs.Common.{◌≡◌, ℕ, ◌+◌, List, [], ◌∷◌, length, Result, Ok, Err, Bool, true, false, cond, nat_lt, refl}
 use Rattle.rd_base.specs.Results.{◌>>=◌, map_fault}
 use Rattle.rv_step.specs.State.{State}
 use Rattle.rv_step.specs.Loaded.{started}
 use Rattle.case_reader.specs.Case.{CaseData, case_at}
+use Rattle.case_reader.specs.Tasks.{TasksData, One, Many, tasks_at}
+use Rattle.case_reader.specs.declared.fault.TaskFault.{TaskFault}
 use Rattle.case_reader.specs.declared.fault.CaseFault.{CaseFault}
 use Rattle.case_reader.specs.declared.fault.CaseFault.TheVariants.{OutOfRange}
 use Rattle.case_reader.specs.declared.fault.Key.{Key}
@@ -31,17 +33,20 @@ use Rattle.workload.specs.Workload.{big_data}
 use Rattle.command_line.specs.declared.request.MatchText.{MatchText}
 use Rattle.command_line.specs.declared.request.Command.{Command}
 use Rattle.command_line.specs.declared.request.Command.TheVariants.{Judge, Run, Roots, Listing, Big, Audit as AuditOf}
-use Rattle.delegate.specs.Refusal.{too_long, case_refusal, image_refusal, asm_refusal, or_refusal}
+use Rattle.delegate.specs.Refusal.{too_long, case_refusal, task_refusal, image_refusal, asm_refusal, or_refusal}
 use Rattle.delegate.specs.Digest.{digest_of}
-use Rattle.delegate.specs.Loading.{within_limit, case_in, image_by, start_in}
+use Rattle.delegate.specs.Loading.{within_limit, case_in, image_by, start_in, starts_in}
 use Rattle.delegate.specs.Decided.{Deciding, decided}
-use Rattle.delegate.specs.commands.Judge.{judging, judged}
+use Rattle.delegate.specs.Together.{together, each_decided}
+use Rattle.delegate.specs.commands.Judge.{judging, judged_of, judged}
 use Rattle.delegate.specs.commands.Run.{ran}
 use Rattle.delegate.specs.commands.Roots.{roots_of_run, rooted}
 use Rattle.delegate.specs.commands.Audit.{text_refusal, judge_of, found, checked}
 use Rattle.delegate.specs.commands.List.{words_of, words_by, listed}
 use Rattle.delegate.specs.commands.Big.{summing_up, summed_up}
 use Rattle.delegate.specs.Outcome.{bytes_for, carried_out, either_way}
+use Rattle.delegate.specs.declared.subject.Subject.{Subject}
+use Rattle.delegate.specs.declared.subject.Subject.TheVariants.{Whole, Task}
 use Rattle.delegate.specs.declared.response.Response.{Response}
 use Rattle.delegate.specs.declared.answered.Answered.TheVariants.{Done}
 
@@ -51,17 +56,24 @@ Of P r = P (either_way r)
 -- P of what is written of a case, and of what a case, its image or its key is refused for
 pub record OfCases (P : Response → Type 0) : Type 0 where
   pub long : P too_long
-  pub unread : (bytes : List ℕ) (fault : CaseFault) → case_at bytes ≡ Err fault → P (case_refusal fault)
-  pub ranged : (k : Key) → P (case_refusal (OutOfRange k))
-  pub flat : (file : List ℕ) (fault : ImageFault) → flat_at file ≡ Err fault → P (image_refusal fault)
-  pub elf : (file : List ℕ) (fault : ImageFault) → elf_at file ≡ Err fault → P (image_refusal fault)
-  pub text : (text : List ℕ) (fault : AsmImageFault) → asm_at text ≡ Err fault → P (asm_refusal fault)
-  pub line : (fault : AsmFault) → P (asm_refusal (asm.Text fault))
+  pub unread : (bytes : List ℕ) (fault : CaseFault) → case_at bytes ≡ Err fault → P (case_refusal Whole fault)
+  pub ranged : (k : Key) → P (case_refusal Whole (OutOfRange k))
+  pub flat : (subject : Subject) (file : List ℕ) (fault : ImageFault) → flat_at file ≡ Err fault → P (image_refusal subject fault)
+  pub elf : (subject : Subject) (file : List ℕ) (fault : ImageFault) → elf_at file ≡ Err fault → P (image_refusal subject fault)
+  pub text : (subject : Subject) (text : List ℕ) (fault : AsmImageFault) → asm_at text ≡ Err fault → P (asm_refusal subject fault)
+  pub line : (fault : AsmFault) → P (asm_refusal Whole (asm.Text fault))
   pub done : (text : List ℕ) → P (record { answered = Done; text = text })
 
 -- P of a match that is decided
 abbrev pub OfMatches : (Response → Type 0) → Deciding → Type 0
 OfMatches P m = (c : CaseData) (start : State) → P (decided m c start)
+
+-- P of what is written of one case or of tasks, and of what they are refused for
+pub record OfTasks (P : Response → Type 0) (m : Deciding) : Type 0 where
+  pub of_cases : OfCases P
+  pub untold : (bytes : List ℕ) (fault : TaskFault) → tasks_at bytes ≡ Err fault → P (task_refusal fault)
+  pub one : OfMatches P m
+  pub many : (cs : List CaseData) (starts : List State) → P (together (each_decided m cs starts))
 
 -- P of what is found of a text
 pub record OfTexts (P : Response → Type 0) : Type 0 where
@@ -71,7 +83,7 @@ pub record OfTexts (P : Response → Type 0) : Type 0 where
 
 -- P of what a command comes to
 abbrev pub OfCommand : (Response → Type 0) → Command → Type 0
-OfCommand P (Judge text name) = OfCases P × OfMatches P (judging text name)
+OfCommand P (Judge text name) = OfTasks P (judging text name)
 OfCommand P Run = OfCases P
 OfCommand P Roots = OfCases P
 OfCommand P AuditOf = OfTexts P
@@ -83,7 +95,7 @@ OfCommand P (Big seed) = OfMatches P (summing_up seed)
 case-then : (P : Response → Type 0) → OfCases P → (bytes : List ℕ) (next : CaseData → Result Response Response) → ((c : CaseData) → Of P (next c)) → Of P (case_in bytes >>= next)
 case-then P of bytes next further = by (case_at bytes) refl
   where
-    by : (r : Result CaseData CaseFault) → case_at bytes ≡ r → Of P (or_refusal case_refusal r >>= next)
+    by : (r : Result CaseData CaseFault) → case_at bytes ≡ r → Of P (or_refusal (case_refusal Whole) r >>= next)
     by (Ok c) is = further c
     by (Err fault) is = of.unread bytes fault is
 
@@ -103,48 +115,64 @@ fit-both : {A B : Type 0} (P : Response → Type 0) (r : Result A Response) (nex
 fit-both P (Ok x) next fit further = further x
 fit-both P (Err response) next fit further = fit
 
-image-fit : (P : Response → Type 0) → OfCases P → (format : Format) (file : List ℕ) → IsFit P (image_by format file)
-image-fit P of Flat file = by (flat_at file) refl
+image-fit : (P : Response → Type 0) → OfCases P → (subject : Subject) (format : Format) (file : List ℕ) → IsFit P (image_by subject format file)
+image-fit P of subject Flat file = by (flat_at file) refl
   where
-    by : (r : Result Image ImageFault) → flat_at file ≡ r → IsFit P (or_refusal image_refusal r)
+    by : (r : Result Image ImageFault) → flat_at file ≡ r → IsFit P (or_refusal (image_refusal subject) r)
     by (Ok image) is = tt
-    by (Err fault) is = of.flat file fault is
-image-fit P of Elf file = by (elf_at file) refl
+    by (Err fault) is = of.flat subject file fault is
+image-fit P of subject Elf file = by (elf_at file) refl
   where
-    by : (r : Result Image ImageFault) → elf_at file ≡ r → IsFit P (or_refusal image_refusal r)
+    by : (r : Result Image ImageFault) → elf_at file ≡ r → IsFit P (or_refusal (image_refusal subject) r)
     by (Ok image) is = tt
-    by (Err fault) is = of.elf file fault is
-image-fit P of Asm text = by (asm_at text) refl
+    by (Err fault) is = of.elf subject file fault is
+image-fit P of subject Asm text = by (asm_at text) refl
   where
-    by : (r : Result Image AsmImageFault) → asm_at text ≡ r → IsFit P (or_refusal asm_refusal r)
+    by : (r : Result Image AsmImageFault) → asm_at text ≡ r → IsFit P (or_refusal (asm_refusal subject) r)
     by (Ok image) is = tt
-    by (Err fault) is = of.text text fault is
+    by (Err fault) is = of.text subject text fault is
 
-start-fit : (P : Response → Type 0) → OfCases P → (c : CaseData) → IsFit P (start_in c)
+start-fit : (P : Response → Type 0) → OfCases P → (subject : Subject) (c : CaseData) → IsFit P (start_in subject c)
 unfolding start_in
-start-fit P of c =
-    fit-both P (image_by c.format c.image) (λ image. Ok (started c.version image.memory image.entry c.input)) (image-fit P of c.format c.image)
+start-fit P of subject c =
+    fit-both P (image_by subject c.format c.image) (λ image. Ok (started c.version image.memory image.entry c.input)) (image-fit P of subject c.format c.image)
     (λ image. ok-fit P (started c.version image.memory image.entry c.input))
 
+starts-fit : (P : Response → Type 0) → OfCases P → (t : ℕ) (cs : List CaseData) → IsFit P (starts_in t cs)
+unfolding starts_in
+starts-fit P of t [] = tt
+starts-fit P of t (c ∷ cs) =
+    fit-both P (start_in (Task t) c) (λ start. starts_in (t + 1) cs >>= (λ starts. Ok (start ∷ starts))) (start-fit P of (Task t) c)
+    (λ start. fit-both P (starts_in (t + 1) cs) (λ starts. Ok (start ∷ starts)) (starts-fit P of (t + 1) cs) (λ starts. ok-fit P (start ∷ starts)))
+
 words-fit : (P : Response → Type 0) → OfCases P → (format : Format) (file : List ℕ) → IsFit P (words_by format file)
-words-fit P of Flat file = fit-both P (image_by Flat file) (λ image. Ok (words_of file)) (image-fit P of Flat file) (λ image. ok-fit P (words_of file))
+words-fit P of Flat file = fit-both P (image_by Whole Flat file) (λ image. Ok (words_of file)) (image-fit P of Whole Flat file) (λ image. ok-fit P (words_of file))
 words-fit P of Elf file = of.ranged key.Format
 words-fit P of Asm text =
-    fit-both P (image_by Asm text) (λ image. or_refusal asm_refusal (map_fault asm.Text (assembled text))) (image-fit P of Asm text) (λ image. by (assembled text))
+    fit-both P (image_by Whole Asm text) (λ image. or_refusal (asm_refusal Whole) (map_fault asm.Text (assembled text))) (image-fit P of Whole Asm text) (λ image. by (assembled text))
   where
-    by : (r : Result (List ℕ) AsmFault) → IsFit P (or_refusal asm_refusal (map_fault asm.Text r))
+    by : (r : Result (List ℕ) AsmFault) → IsFit P (or_refusal (asm_refusal Whole) (map_fault asm.Text r))
     by (Ok words) = tt
     by (Err fault) = of.line fault
 
 -- the commands
 
-judged-of : (P : Response → Type 0) → OfCases P → (text : MatchText) (name : DigestName) → OfMatches P (judging text name) → (bytes : List ℕ) → Of P (judged text name bytes)
+judged-of : (P : Response → Type 0) (m : Deciding) → OfTasks P m → (tasks : TasksData) → Of P (judged_of m tasks)
+unfolding judged_of
+judged-of P m of (One c) = fit-then P (start_in Whole c) _ (start-fit P of.of_cases Whole c) (λ start. of.one c start)
+judged-of P m of (Many cs) = fit-then P (starts_in 1 cs) _ (starts-fit P of.of_cases 1 cs) (λ starts. of.many cs starts)
+
+judge-of : (P : Response → Type 0) (text : MatchText) (name : DigestName) → OfTasks P (judging text name) → (bytes : List ℕ) → Of P (judged text name bytes)
 unfolding judged
-judged-of P of text name matches bytes = case-then P of bytes _ (λ c. fit-then P (start_in c) _ (start-fit P of c) (λ start. matches c start))
+judge-of P text name of bytes = by (tasks_at bytes) refl
+  where
+    by : (r : Result TasksData TaskFault) → tasks_at bytes ≡ r → Of P (or_refusal task_refusal r >>= judged_of (judging text name))
+    by (Ok tasks) is = judged-of P (judging text name) of tasks
+    by (Err fault) is = of.untold bytes fault is
 
 ran-of : (P : Response → Type 0) → OfCases P → (bytes : List ℕ) → Of P (ran bytes)
 unfolding ran
-ran-of P of bytes = case-then P of bytes _ (λ c. fit-then P (start_in c) _ (start-fit P of c) (λ start. of.done _))
+ran-of P of bytes = case-then P of bytes _ (λ c. fit-then P (start_in Whole c) _ (start-fit P of Whole c) (λ start. of.done _))
 
 -- a limit as a test
 abbrev limit : Response → Bool → Result (Unit {0}) Response
@@ -154,9 +182,9 @@ rooted-of : (P : Response → Type 0) → OfCases P → (bytes : List ℕ) → O
 unfolding rooted
 rooted-of P of bytes = case-then P of bytes _ (λ c. by c (nat_lt 4096 c.bound))
   where
-    by : (c : CaseData) (many : Bool) → Of P (limit (case_refusal (OutOfRange key.Bound)) many >>= (λ few. start_in c >>= (λ start. Ok (roots_of_run (digest_of Sha256) c start))))
+    by : (c : CaseData) (many : Bool) → Of P (limit (case_refusal Whole (OutOfRange key.Bound)) many >>= (λ few. start_in Whole c >>= (λ start. Ok (roots_of_run (digest_of Sha256) c start))))
     by c true = of.ranged key.Bound
-    by c false = fit-then P (start_in c) _ (start-fit P of c) (λ start. of.done _)
+    by c false = fit-then P (start_in Whole c) _ (start-fit P of Whole c) (λ start. of.done _)
 
 listed-of : (P : Response → Type 0) → OfCases P → (bytes : List ℕ) → Of P (listed bytes)
 unfolding listed
@@ -171,13 +199,13 @@ checked-of P of bytes = by (read_text bytes) refl
     by (Err fault) is = of.unread bytes fault is
 
 -- the large workload loads
-big-fit : (P : Response → Type 0) (seed : ℕ) → IsFit P (start_in (big_data seed))
+big-fit : (P : Response → Type 0) (seed : ℕ) → IsFit P (start_in Whole (big_data seed))
 unfolding start_in big_data program flat_at
 big-fit P seed = tt
 
 summed_up-of : (P : Response → Type 0) (seed : ℕ) → OfMatches P (summing_up seed) → Of P (summed_up seed)
 unfolding summed_up
-summed_up-of P seed matches = fit-then P (start_in (big_data seed)) _ (big-fit P seed) (λ start. matches (big_data seed) start)
+summed_up-of P seed matches = fit-then P (start_in Whole (big_data seed)) _ (big-fit P seed) (λ start. matches (big_data seed) start)
 
 limit-then : (P : Response → Type 0) (bytes : List ℕ) (next : List ℕ → Result Response Response) → P too_long → ((given : List ℕ) → Of P (next given)) → Of P (within_limit bytes >>= next)
 limit-then P bytes next long further = by (nat_lt 16777216 (length bytes))
@@ -187,7 +215,7 @@ limit-then P bytes next long further = by (nat_lt 16777216 (length bytes))
     by false = further bytes
 
 pub command-of : (P : Response → Type 0) (command : Command) → OfCommand P command → (bytes : List ℕ) → Of P (bytes_for command bytes >>= (λ given. carried_out command given))
-command-of P (Judge text name) of bytes = limit-then P bytes _ of.0.long (judged-of P of.0 text name of.1)
+command-of P (Judge text name) of bytes = limit-then P bytes _ of.of_cases.long (judge-of P text name of)
 command-of P Run of bytes = limit-then P bytes _ of.long (ran-of P of)
 command-of P Roots of bytes = limit-then P bytes _ of.long (rooted-of P of)
 command-of P AuditOf of bytes = limit-then P bytes _ of.long (checked-of P of)

@@ -2,6 +2,9 @@
 use Rattle.std.proofs.Common.{◌≡◌, ◌≢◌, ℕ, List, [], length, nat_lt, Result, Ok, Err, Option, Some, None, Bool, true, false, cond, refl, sym, ap, subst, ◌∙◌}
 use Rattle.rd_base.specs.Results.{◌>>=◌, map_fault}
 use Rattle.case_reader.specs.Case.{case_at}
+use Rattle.case_reader.specs.Tasks.{tasks_at}
+use Rattle.case_reader.specs.declared.fault.TaskFault.{TaskFault}
+use Rattle.case_reader.specs.declared.fault.TaskFault.TheVariants as tasks
 use Rattle.case_reader.specs.declared.fault.CaseFault.{CaseFault}
 use Rattle.case_reader.specs.declared.fault.CaseFault.TheVariants as cases
 use Rattle.image_reader.specs.Image.{Image, too_large, flat_at}
@@ -25,34 +28,47 @@ use Rattle.command_line.specs.declared.request.Command.{Command}
 use Rattle.command_line.specs.declared.request.Command.TheVariants.{Judge, Run, Roots, Listing, Big, Audit as AuditOf}
 use Rattle.case_match.specs.Match.{record_of_case, verdict_of_record}
 use Rattle.delegate.specs.Answered.{is_refusal}
-use Rattle.delegate.specs.Refusal.{case_fault_text, rule_text, asm_fault_text}
+use Rattle.delegate.specs.Refusal.{case_fault_text, task_refusal, rule_text, asm_fault_text}
 use Rattle.delegate.specs.Digest.{digest_of}
 use Rattle.delegate.specs.Decided.{written_as, answered_for}
+use Rattle.delegate.specs.Together.{each_decided}
+use Rattle.delegate.specs.commands.Judge.{judging}
 use Rattle.delegate.specs.commands.Audit.{found}
 use Rattle.delegate.specs.Outcome.{outcome}
 use Rattle.delegate.specs.Answering.{EachRefusalSaysWhy}
+use Rattle.delegate.specs.declared.subject.Subject.{Subject}
+use Rattle.delegate.specs.declared.subject.Subject.TheVariants.{Whole, Task}
 use Rattle.delegate.specs.declared.response.Response.{Response}
 use Rattle.delegate.proofs.OutcomeLemmas.{of_command, outcome-of}
 use Rattle.delegate.proofs.KindLemmas.{untaken}
+use Rattle.delegate.proofs.TaskLemmas.{gravest-is}
 use Rattle.delegate.proofs.ResponseLemmas.{OfCases, OfTexts, OfCommand, command-of}
 use Rattle.image_reader.specs.Fault.{rule_of}
 
 abbrev SaysWhy : Response → Type 0
 SaysWhy r = is_refusal r.answered ≡ true → r.text ≢ []
 
--- no law of a case is that memory ran out
-abbrev pub NoneIsMemory : Type 0
-NoneIsMemory = (bytes : List ℕ) → ¬ (case_at bytes ≡ Err cases.Memory)
+-- no rule of a case or of tasks is that memory ran out
+pub record NoneIsMemory : Type 0 where
+  pub case_ : (bytes : List ℕ) → ¬ (case_at bytes ≡ Err cases.Memory)
+  pub none : (bytes : List ℕ) → ¬ (tasks_at bytes ≡ Err tasks.Memory)
+  pub whole : (bytes : List ℕ) → ¬ (tasks_at bytes ≡ Err (tasks.Whole cases.Memory))
+  pub task : (bytes : List ℕ) (number : ℕ) → ¬ (tasks_at bytes ≡ Err (tasks.Task number cases.Memory))
 
-case-why : (fault : CaseFault) → fault ≢ cases.Memory → case_fault_text fault ≢ []
-case-why cases.NotJson other = λ e. cc e
-case-why cases.NotObject other = λ e. cc e
-case-why (cases.Missing key) other = λ e. cc e
-case-why (cases.WrongType key) other = λ e. cc e
-case-why (cases.BadHex key) other = λ e. cc e
-case-why (cases.OutOfRange key) other = λ e. cc e
-case-why (cases.BadProver number) other = λ e. cc e
-case-why cases.Memory other = λ e. other refl
+case-why : (subject : Subject) (fault : CaseFault) → fault ≢ cases.Memory → case_fault_text subject fault ≢ []
+case-why subject cases.NotJson other = λ e. cc e
+case-why subject cases.NotObject other = λ e. cc e
+case-why subject (cases.Missing key) other = λ e. cc e
+case-why subject (cases.WrongType key) other = λ e. cc e
+case-why subject (cases.BadHex key) other = λ e. cc e
+case-why subject (cases.OutOfRange key) other = λ e. cc e
+case-why subject (cases.BadProver number) other = λ e. cc e
+case-why subject cases.Memory other = λ e. other refl
+
+task-why : NoneIsMemory → (bytes : List ℕ) (fault : TaskFault) → tasks_at bytes ≡ Err fault → (task_refusal fault).text ≢ []
+task-why law bytes (tasks.Whole fault) is = case-why Whole fault (λ e. law.whole bytes (is ∙ ap (λ (f : CaseFault). Err (tasks.Whole f)) e))
+task-why law bytes (tasks.Task t fault) is = case-why (Task t) fault (λ e. law.task bytes t (is ∙ ap (λ (f : CaseFault). Err (tasks.Task t f)) e))
+task-why law bytes tasks.Memory is = absurd (law.none bytes is)
 
 -- a reading whose fault isn't out of memory
 abbrev IsFree : {A : Type 0} → Result A ImageFault → Type 0
@@ -99,55 +115,55 @@ elf-free file =
     (test-free _ images.SegmentsOverlap _ (λ e. cc e) (ok-free tt)))))
     (λ checked. test-free _ images.EntryMisaligned _ (λ e. cc e) (ok-free _))))
 
-rule-why : (fault : ImageFault) → fault ≢ images.Memory → rule_text (rule_of fault) ≢ []
-rule-why images.Short other = λ e. cc e
-rule-why images.NotElf32Le other = λ e. cc e
-rule-why images.NotExecutable other = λ e. cc e
-rule-why images.NotRiscv other = λ e. cc e
-rule-why images.BadTable other = λ e. cc e
-rule-why images.SegmentOutsideFile other = λ e. cc e
-rule-why images.FileLargerThanMemory other = λ e. cc e
-rule-why images.SegmentPastEnd other = λ e. cc e
-rule-why images.SegmentsOverlap other = λ e. cc e
-rule-why images.EntryMisaligned other = λ e. cc e
-rule-why images.ImageTooLarge other = λ e. cc e
-rule-why images.Memory other = λ e. other refl
+rule-why : (subject : Subject) (fault : ImageFault) → fault ≢ images.Memory → rule_text subject (rule_of fault) ≢ []
+rule-why subject images.Short other = λ e. cc e
+rule-why subject images.NotElf32Le other = λ e. cc e
+rule-why subject images.NotExecutable other = λ e. cc e
+rule-why subject images.NotRiscv other = λ e. cc e
+rule-why subject images.BadTable other = λ e. cc e
+rule-why subject images.SegmentOutsideFile other = λ e. cc e
+rule-why subject images.FileLargerThanMemory other = λ e. cc e
+rule-why subject images.SegmentPastEnd other = λ e. cc e
+rule-why subject images.SegmentsOverlap other = λ e. cc e
+rule-why subject images.EntryMisaligned other = λ e. cc e
+rule-why subject images.ImageTooLarge other = λ e. cc e
+rule-why subject images.Memory other = λ e. other refl
 
 -- an assembly text
 
-abbrev AsmWhy : Result Image AsmImageFault → Type 0
-AsmWhy (Ok image) = Unit {0}
-AsmWhy (Err fault) = asm_fault_text fault ≢ []
+abbrev AsmWhy : Subject → Result Image AsmImageFault → Type 0
+AsmWhy subject (Ok image) = Unit {0}
+AsmWhy subject (Err fault) = asm_fault_text subject fault ≢ []
 
-words-why : (words : List ℕ) → AsmWhy (words_at words)
-words-why words = by (flat_at (bytes_of words)) (flat-free (bytes_of words))
+words-why : (subject : Subject) (words : List ℕ) → AsmWhy subject (words_at words)
+words-why subject words = by (flat_at (bytes_of words)) (flat-free (bytes_of words))
   where
-    by : (r : Result Image ImageFault) → IsFree r → AsmWhy (map_fault asm.Image r)
+    by : (r : Result Image ImageFault) → IsFree r → AsmWhy subject (map_fault asm.Image r)
     by (Ok image) free = tt
-    by (Err fault) free = rule-why fault (λ e. free (ap Err e))
+    by (Err fault) free = rule-why subject fault (λ e. free (ap Err e))
 
-text-why : (text : List ℕ) → AsmWhy (asm_at text)
+text-why : (subject : Subject) (text : List ℕ) → AsmWhy subject (asm_at text)
 unfolding asm_at
-text-why text = by (nat_lt 16777216 (length text))
+text-why subject text = by (nat_lt 16777216 (length text))
   where
-    of-words : (r : Result (List ℕ) AsmFault) → AsmWhy (map_fault asm.Text r >>= words_at)
-    of-words (Ok words) = words-why words
+    of-words : (r : Result (List ℕ) AsmFault) → AsmWhy subject (map_fault asm.Text r >>= words_at)
+    of-words (Ok words) = words-why subject words
     of-words (Err fault) = λ e. cc e
 
-    by : (many : Bool) → AsmWhy (cond many (Err (asm.Image images.ImageTooLarge)) (map_fault asm.Text (assembled text) >>= words_at))
+    by : (many : Bool) → AsmWhy subject (cond many (Err (asm.Image images.ImageTooLarge)) (map_fault asm.Text (assembled text) >>= words_at))
     by true = λ e. cc e
     by false = of-words (assembled text)
 
 -- the commands
 
 of-cases : NoneIsMemory → OfCases SaysWhy
-of-cases none = record {
+of-cases law = record {
   long = λ refused e. cc e;
-  unread = λ bytes fault is refused. case-why fault (λ e. none bytes (is ∙ ap Err e));
+  unread = λ bytes fault is refused. case-why Whole fault (λ e. law.case_ bytes (is ∙ ap Err e));
   ranged = λ k refused e. cc e;
-  flat = λ file fault is refused. rule-why fault (λ e. flat-free file (is ∙ ap Err e));
-  elf = λ file fault is refused. rule-why fault (λ e. elf-free file (is ∙ ap Err e));
-  text = λ text fault is refused. subst AsmWhy is (text-why text);
+  flat = λ subject file fault is refused. rule-why subject fault (λ e. flat-free file (is ∙ ap Err e));
+  elf = λ subject file fault is refused. rule-why subject fault (λ e. elf-free file (is ∙ ap Err e));
+  text = λ subject text fault is refused. subst (AsmWhy subject) is (text-why subject text);
   line = λ fault refused e. cc e;
   done = λ text refused. absurd (cc refused);
 }
@@ -172,11 +188,13 @@ no-verdict Full NoneLeft = refl
 no-verdict Full (Collision x y) = refl
 
 parts : NoneIsMemory → (command : Command) → OfCommand SaysWhy command
-parts none (Judge text name) = (
-  of-cases none,
-  λ c start refused.
-      (let both = sym refused ∙ no-verdict text (verdict_of_record (digest_of name) c start (record_of_case (digest_of name) c start)) in absurd (cc both)),
-)
+parts none (Judge text name) = record {
+  of_cases = of-cases none;
+  untold = λ bytes fault is refused. task-why none bytes fault is;
+  one = λ c start refused.
+      (let both = sym refused ∙ no-verdict text (verdict_of_record (digest_of name) c start (record_of_case (digest_of name) c start)) in absurd (cc both));
+  many = λ cs starts refused. (let both = sym refused ∙ gravest-is is_refusal false refl refl refl (each_decided (judging text name) cs starts) in absurd (cc both));
+}
 parts none Run = of-cases none
 parts none Roots = of-cases none
 parts none Listing = of-cases none

@@ -79,3 +79,10 @@ abbrev pub is_answer_to : Option Command → Answered → Bool
 is_answer_to (Some command) answered = is_answer_of command answered
 is_answer_to None Usage = true
 is_answer_to None _ = false
+
+-- the graver of two answers to tasks: a collision, else that nobody is left
+abbrev pub graver : Answered → Answered → Answered
+graver Collision other = Collision
+graver NoneLeft Collision = Collision
+graver NoneLeft other = NoneLeft
+graver answered other = other

@@ -3,13 +3,13 @@ use Rattle.std.specs.Prelude.{ℕ, List, ◌++◌, length, codes, Option, option
 use Rattle.rd_base.specs.Results.{◌>>=◌}
 use Rattle.rd_base.specs.declared.digest.Digest32.{Digest32}
 use Rattle.rv_step.specs.State.{State}
-use Rattle.state_commit.specs.StateRoot.{root_in}
 use Rattle.tournament.specs.declared.verdict.Verdict.{Verdict}
 use Rattle.tournament.specs.declared.verdict.Verdict.TheVariants.{Accept, NoneLeft, Collision}
 use Rattle.tournament.specs.Bracket.{Record}
 use Rattle.deposits.specs.declared.amounts.Balances.{Balances}
 use Rattle.deposits.specs.Balances.{balances_of}
 use Rattle.case_reader.specs.Case.{CaseData}
+use Rattle.case_reader.specs.Tasks.{TasksData, One}
 use Rattle.text_types.specs.declared.text.Head.{Head}
 use Rattle.text_types.specs.declared.digest.DigestName.{DigestName}
 use Rattle.text_types.specs.MoveLists.{moves_of}
@@ -20,9 +20,9 @@ use Rattle.transcript_text.specs.Summary.{summary_text, rounds_in, workload_text
 use Rattle.workload.specs.Workload.{big_data}
 use Rattle.command_line.specs.declared.request.MatchText.{MatchText}
 use Rattle.command_line.specs.declared.request.MatchText.TheVariants.{Report, Full}
-use Rattle.case_match.specs.Match.{record_of_case, verdict_of_record}
+use Rattle.case_match.specs.Match.{start_root, record_of_case, verdict_of_record}
 use Rattle.delegate.specs.Digest.{digest_of}
-use Rattle.delegate.specs.Loading.{within_limit, case_in}
+use Rattle.delegate.specs.Loading.{within_limit, case_in, tasks_in}
 use Rattle.delegate.specs.declared.response.Response.{Response}
 use Rattle.delegate.specs.declared.answered.Answered.{Answered}
 use Rattle.delegate.specs.declared.answered.Answered.TheVariants as answered
@@ -58,13 +58,21 @@ case_for (summary seed) bytes = Ok (big_data seed)
 case_for report bytes = case_of bytes
 case_for full bytes = case_of bytes
 
+-- what the bytes hold, one case or tasks, which are not too many
+abbrev pub tasks_of : List ℕ → Result TasksData Response
+tasks_of bytes = do
+  given ← within_limit bytes
+  tasks_in given
+
+-- that of the bytes, or the large workload of a seed
+unfoldable pub tasks_for : Written → List ℕ → Result TasksData Response
+tasks_for (summary seed) bytes = Ok (One (big_data seed))
+tasks_for report bytes = tasks_of bytes
+tasks_for full bytes = tasks_of bytes
+
 -- what the match is played over, from the root of the state in which the run starts
 abbrev pub head_of : DigestName → CaseData → Digest32 → Head
 head_of name c root = record { provers = length c.provers; bound = c.bound; patience = c.patience; version = c.version; fan = c.fan; digest = name; start = root }
-
--- that root, in the version of the state
-abbrev pub start_root : (List ℕ → List ℕ) → State → Digest32
-start_root digest start = record { 0 = root_in digest start.version start }
 
 abbrev pub answered_by : Verdict → Answered
 answered_by (Accept number) = answered.Done
@@ -94,12 +102,17 @@ before_verdict (summary seed) head settled balances verdict_text =
 before_verdict report head settled balances verdict_text = head_line head ++ (lines_text (lines_of_record settled) ++ (lines_text (lines_of_balances balances) ++ verdict_text))
 before_verdict full head settled balances verdict_text = refereed_text head ++ (codes "\n" ++ (moves_text (moves_of settled) ++ verdict_text))
 
+-- the response of this record and verdict, over a match from this root
+abbrev pub response_of : Deciding → CaseData → Digest32 → Record → Verdict → Response
+response_of m c root settled verdict =
+    record { answered = answered_for m.written verdict; text = match_text m.written (head_of m.digest c root) settled (balances_in c settled) verdict }
+
 -- the verdict of a case, by a digest function, and its text
 abbrev pub told : (List ℕ → List ℕ) → Deciding → CaseData → State → Response
 told digest m c start =
     let settled = record_of_case digest c start in
     let verdict = verdict_of_record digest c start settled in
-    record { answered = answered_for m.written verdict; text = match_text m.written (head_of m.digest c (start_root digest start)) settled (balances_in c settled) verdict }
+    response_of m c (start_root digest start) settled verdict
 
 -- by the digest function that is asked for: it depends on nothing but that, the case and the text that is asked for
 abbrev pub decided : Deciding → CaseData → State → Response

@@ -1,9 +1,10 @@
 -- To believe. The headline: a prover that claims and answers as the machine's definition says, within its patience, is not
 -- eliminated, keeps its stake where there are deposits, and the text accepts the sequential run's status and output or shows a collision.
-use Rattle.std.specs.Prelude.{◌≡◌, ℕ, ◌≤◌, ◌⊎◌, false, List, Contains, Some, Ok}
+use Rattle.std.specs.Prelude.{◌≡◌, ℕ, ◌-◌, ◌<◌, ◌≤◌, ◌⊎◌, false, List, Contains, Some, Ok, slice_get}
 use Rattle.std.specs.Option.{option_and_then}
 use Rattle.rv_step.specs.State.{State}
 use Rattle.case_reader.specs.Case.{CaseData}
+use Rattle.case_reader.specs.Tasks.{Many}
 use Rattle.tournament.specs.declared.verdict.Verdict.TheVariants.{Collision}
 use Rattle.tournament.specs.Bracket.{live}
 use Rattle.tournament.specs.Theorem.{AreTrue, Stays, IsCollisionIn}
@@ -13,13 +14,15 @@ use Rattle.text_types.specs.MoveLists.{moves_of}
 use Rattle.transcript_text.specs.Lines.{accept_line, collision_line, lines_of_record, are_against}
 use Rattle.transcript_text.specs.Report.{line_text}
 use Rattle.command_line.specs.Words.{chosen}
-use Rattle.case_match.specs.Match.{rules_of_case, record_of_case, truth_of_case, final_state}
+use Rattle.case_match.specs.Match.{start_root, rules_of_case, record_of_case, truth_of_case, final_state}
 use Rattle.case_match.specs.TruthfulInCase.{IsTruthfulInCase, IsInRange}
 use Rattle.delegate.specs.Digest.{digest_of}
-use Rattle.delegate.specs.Loading.{start_in}
-use Rattle.delegate.specs.Decided.{Deciding, case_for, answered_for, head_of, start_root, balances_in, before_verdict, decided}
+use Rattle.delegate.specs.Loading.{start_in, starts_in}
+use Rattle.delegate.specs.Decided.{Deciding, case_for, tasks_for, answered_for, head_of, balances_in, before_verdict, decided}
+use Rattle.delegate.specs.Together.{together, each_decided, StandsUnder}
 use Rattle.delegate.specs.Outcome.{decides}
 use Rattle.delegate.specs.Spared.{are_moves_against}
+use Rattle.delegate.specs.declared.subject.Subject.TheVariants.{Whole}
 use Rattle.delegate.specs.declared.response.Response.{Response}
 use Rattle.delegate.specs.declared.answered.Answered.TheVariants.{Done}
 
@@ -27,7 +30,14 @@ use Rattle.delegate.specs.declared.answered.Answered.TheVariants.{Done}
 pub record IsCase (words : List (List ℕ)) (bytes : List ℕ) (m : Deciding) (c : CaseData) (start : State) : Type 0 where
   pub asked : option_and_then decides (chosen words) ≡ Some m
   pub reads : case_for m.written bytes ≡ Ok c
-  pub loads : start_in c ≡ Ok start
+  pub loads : start_in Whole c ≡ Ok start
+
+-- the arguments ask for matches to be decided in this way, and for the bytes they are those of tasks with these cases, whose runs start
+-- in these states
+pub record AreTasks (words : List (List ℕ)) (bytes : List ℕ) (m : Deciding) (cs : List CaseData) (starts : List State) : Type 0 where
+  pub asked : option_and_then decides (chosen words) ≡ Some m
+  pub reads : tasks_for m.written bytes ≡ Ok (Many cs)
+  pub loads : starts_in 1 cs ≡ Ok starts
 
 -- IT IS NOT ELIMINATED: it is live at the end, with the true claim; its answers in each of its disputes are given and true;
 -- no line of the report or of the full text calls it faulty, spent or refuted; and where there are deposits it ends with at least its stake
@@ -72,3 +82,22 @@ abbrev pub KeepsTheTruthful : List (List ℕ) → List ℕ → Response → Type
 KeepsTheTruthful words bytes response =
     (m : Deciding) (c : CaseData) (start : State) (p : ℕ) → IsCase words bytes m c start → IsTruthfulInCase (digest_of m.digest) c start p →
     Headline m response c start p
+
+-- COMPLETENESS FOR TASKS: under the line of each task, in their order, stands its text, whole, as of the match of its case alone, and the
+-- answer is the gravest
+abbrev pub AnswersTheTasks : List (List ℕ) → List ℕ → Response → Type 0
+AnswersTheTasks words bytes response =
+    (m : Deciding) (cs : List CaseData) (starts : List State) → AreTasks words bytes m cs starts → response ≡ together (each_decided m cs starts)
+
+-- the headline holds of what stands under the line of task t
+pub record HeadlineOfTask (m : Deciding) (response : Response) (t : ℕ) (c : CaseData) (start : State) (p : ℕ) : Type 0 where
+  pub part : Response
+  pub stands : StandsUnder t part.text response.text
+  pub keeps : Headline m part c start p
+
+-- THE HEADLINE FOR TASKS: a truthful prover of one task is kept in its part of the text, whatever the provers of other tasks do
+abbrev pub KeepsTheTruthfulOfTasks : List (List ℕ) → List ℕ → Response → Type 0
+KeepsTheTruthfulOfTasks words bytes response =
+    (m : Deciding) (cs : List CaseData) (starts : List State) (t : ℕ) (c : CaseData) (start : State) (p : ℕ) → AreTasks words bytes m cs starts →
+    0 < t → slice_get cs (t - 1) ≡ Some c → slice_get starts (t - 1) ≡ Some start → IsTruthfulInCase (digest_of m.digest) c start p →
+    HeadlineOfTask m response t c start p

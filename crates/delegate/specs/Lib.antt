@@ -6,6 +6,7 @@ pub use Rattle.rv_step.specs.Valid
 pub use Rattle.state_commit.specs.StateRoot
 pub use Rattle.command_line.specs.Words
 pub use Rattle.case_reader.specs.Case
+pub use Rattle.case_reader.specs.Tasks
 pub use Rattle.image_reader.specs.Image
 pub use Rattle.image_reader.specs.Elf
 pub use Rattle.deposits.specs.Balances
@@ -16,12 +17,14 @@ pub use Rattle.text_reader.specs.ReadText
 pub use Rattle.audit.specs.LineByLine
 pub use Rattle.machine_audit.specs.MachineAudit
 pub use Rattle.case_match.specs.Match
+pub use Rattle.case_match.specs.Endings
 pub use Rattle.case_match.specs.TruthfulInCase
 pub mod Answered
 pub mod Refusal
 pub mod Digest
 pub mod Loading
 pub mod Decided
+pub mod Together
 pub mod commands
 pub mod Outcome
 pub mod Answering
@@ -31,4 +34,5 @@ pub mod Spared
 pub mod Headline
 pub mod Confirmed
 pub mod Stages
+pub mod Responses
 pub mod Process

@@ -1,15 +1,18 @@
--- To believe. How a case is read and loaded, by every command on a case.
-use Rattle.std.specs.Prelude.{ℕ, List, length, nat_lt, Result, Ok, Err, if◌then◌else◌}
+-- To believe. How a case is read and loaded, by every command on a case, and how tasks are.
+use Rattle.std.specs.Prelude.{ℕ, ◌+◌, List, [], ◌∷◌, length, nat_lt, Result, Ok, Err, if◌then◌else◌}
 use Rattle.rd_base.specs.Results.{◌>>=◌}
 use Rattle.rv_step.specs.State.{State}
 use Rattle.rv_step.specs.Loaded.{started}
 use Rattle.case_reader.specs.Case.{CaseData, case_at}
+use Rattle.case_reader.specs.Tasks.{TasksData, tasks_at}
 use Rattle.case_reader.specs.declared.case.Format.{Format}
 use Rattle.case_reader.specs.declared.case.Format.TheVariants.{Flat, Elf, Asm}
 use Rattle.image_reader.specs.Image.{Image, flat_at}
 use Rattle.image_reader.specs.Elf.{elf_at}
 use Rattle.asm_image.specs.AsmImage.{asm_at}
-use Rattle.delegate.specs.Refusal.{too_long, case_refusal, image_refusal, asm_refusal, or_refusal}
+use Rattle.delegate.specs.Refusal.{too_long, case_refusal, task_refusal, image_refusal, asm_refusal, or_refusal}
+use Rattle.delegate.specs.declared.subject.Subject.{Subject}
+use Rattle.delegate.specs.declared.subject.Subject.TheVariants.{Whole, Task}
 use Rattle.delegate.specs.declared.response.Response.{Response}
 
 -- bytes that are not more than the most that are read
@@ -18,20 +21,32 @@ within_limit bytes = if nat_lt 16777216 (length bytes) then Err too_long else Ok
 
 -- the case of bytes
 abbrev pub case_in : List ℕ → Result CaseData Response
-case_in bytes = or_refusal case_refusal (case_at bytes)
+case_in bytes = or_refusal (case_refusal Whole) (case_at bytes)
+
+-- the one case of bytes, or those of tasks
+abbrev pub tasks_in : List ℕ → Result TasksData Response
+tasks_in bytes = or_refusal task_refusal (tasks_at bytes)
 
 -- the image of a file by its format, or what is wrong with it
-abbrev pub image_by : Format → List ℕ → Result Image Response
-image_by Flat file = or_refusal image_refusal (flat_at file)
-image_by Elf file = or_refusal image_refusal (elf_at file)
-image_by Asm text = or_refusal asm_refusal (asm_at text)
+abbrev pub image_by : Subject → Format → List ℕ → Result Image Response
+image_by subject Flat file = or_refusal (image_refusal subject) (flat_at file)
+image_by subject Elf file = or_refusal (image_refusal subject) (elf_at file)
+image_by subject Asm text = or_refusal (asm_refusal subject) (asm_at text)
 
 -- the image of a case
-abbrev pub image_in : CaseData → Result Image Response
-image_in c = image_by c.format c.image
+abbrev pub image_in : Subject → CaseData → Result Image Response
+image_in subject c = image_by subject c.format c.image
 
 -- the state in which the run of a case starts, of its version
-unfoldable pub start_in : CaseData → Result State Response
-start_in c = do
-  image ← image_in c
+unfoldable pub start_in : Subject → CaseData → Result State Response
+start_in subject c = do
+  image ← image_in subject c
   Ok (started c.version image.memory image.entry c.input)
+
+-- the states in which the runs of tasks start, the first of which has this number
+unfoldable pub starts_in : ℕ → List CaseData → Result (List State) Response
+starts_in t [] = Ok []
+starts_in t (c ∷ cs) = do
+  start ← start_in (Task t) c
+  starts ← starts_in (t + 1) cs
+  Ok (start ∷ starts)

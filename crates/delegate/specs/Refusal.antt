@@ -5,11 +5,15 @@ use Rattle.case_reader.specs.Key.{key_text}
 use Rattle.case_reader.specs.declared.fault.Key.TheVariants.{Bound}
 use Rattle.case_reader.specs.declared.fault.CaseFault.{CaseFault}
 use Rattle.case_reader.specs.declared.fault.CaseFault.TheVariants.{NotJson, NotObject, Missing, WrongType, BadHex, OutOfRange, BadProver, Memory}
+use Rattle.case_reader.specs.declared.fault.TaskFault.{TaskFault}
+use Rattle.case_reader.specs.declared.fault.TaskFault.TheVariants as tasks
 use Rattle.image_reader.specs.Fault.{rule_of}
 use Rattle.image_reader.specs.declared.fault.ImageFault.{ImageFault}
 use Rattle.rv_text.specs.Faults.{number_of}
 use Rattle.asm_image.specs.declared.image.AsmImageFault.{AsmImageFault}
 use Rattle.asm_image.specs.declared.image.AsmImageFault.TheVariants as asm
+use Rattle.delegate.specs.declared.subject.Subject.{Subject}
+use Rattle.delegate.specs.declared.subject.Subject.TheVariants.{Whole, Task}
 use Rattle.delegate.specs.declared.response.Response.{Response}
 use Rattle.delegate.specs.declared.answered.Answered.TheVariants as answered
 
@@ -21,40 +25,51 @@ usage = record { answered = answered.Usage; text = codes "fault usage\n" }
 abbrev pub too_long : Response
 too_long = record { answered = answered.TooLong; text = codes "fault too long\n" }
 
--- the rule of a case that is broken, with its key, or the prover's number
-abbrev pub case_fault_text : CaseFault → List ℕ
-case_fault_text NotJson = codes "fault case 1\n"
-case_fault_text NotObject = codes "fault case 2\n"
-case_fault_text (Missing key) = codes "fault case 3 " ++ (key_text key ++ codes "\n")
-case_fault_text (WrongType key) = codes "fault case 4 " ++ (key_text key ++ codes "\n")
-case_fault_text (BadHex key) = codes "fault case 5 " ++ (key_text key ++ codes "\n")
-case_fault_text (OutOfRange key) = codes "fault case 6 " ++ (key_text key ++ codes "\n")
-case_fault_text (BadProver number) = codes "fault case 7 " ++ (decimal number ++ codes "\n")
-case_fault_text Memory = []
+-- what a refusal is of: of all that is read, of which nothing is said, or of a task, which is named
+abbrev pub subject_text : Subject → List ℕ
+subject_text Whole = []
+subject_text (Task t) = codes "task " ++ (decimal t ++ codes " ")
 
-abbrev pub case_refusal : CaseFault → Response
-case_refusal fault = record { answered = answered.Case; text = case_fault_text fault }
+-- the rule of a case that is broken, with its key, or the prover's number
+abbrev pub case_fault_text : Subject → CaseFault → List ℕ
+case_fault_text subject NotJson = codes "fault " ++ (subject_text subject ++ codes "case 1\n")
+case_fault_text subject NotObject = codes "fault " ++ (subject_text subject ++ codes "case 2\n")
+case_fault_text subject (Missing key) = codes "fault " ++ (subject_text subject ++ (codes "case 3 " ++ (key_text key ++ codes "\n")))
+case_fault_text subject (WrongType key) = codes "fault " ++ (subject_text subject ++ (codes "case 4 " ++ (key_text key ++ codes "\n")))
+case_fault_text subject (BadHex key) = codes "fault " ++ (subject_text subject ++ (codes "case 5 " ++ (key_text key ++ codes "\n")))
+case_fault_text subject (OutOfRange key) = codes "fault " ++ (subject_text subject ++ (codes "case 6 " ++ (key_text key ++ codes "\n")))
+case_fault_text subject (BadProver number) = codes "fault " ++ (subject_text subject ++ (codes "case 7 " ++ (decimal number ++ codes "\n")))
+case_fault_text subject Memory = []
+
+abbrev pub case_refusal : Subject → CaseFault → Response
+case_refusal subject fault = record { answered = answered.Case; text = case_fault_text subject fault }
+
+-- of one case or of tasks: the rule is one of the whole text, or of the case of a task
+abbrev pub task_refusal : TaskFault → Response
+task_refusal (tasks.Whole fault) = case_refusal Whole fault
+task_refusal (tasks.Task t fault) = case_refusal (Task t) fault
+task_refusal tasks.Memory = case_refusal Whole Memory
 
 -- a bound above the most steps whose roots are written
 abbrev pub bound_refusal : Response
-bound_refusal = case_refusal (OutOfRange Bound)
+bound_refusal = case_refusal Whole (OutOfRange Bound)
 
 -- the rule of an image that is broken
-abbrev pub rule_text : Option ℕ → List ℕ
-rule_text (Some rule) = codes "fault image " ++ (decimal rule ++ codes "\n")
-rule_text None = []
+abbrev pub rule_text : Subject → Option ℕ → List ℕ
+rule_text subject (Some rule) = codes "fault " ++ (subject_text subject ++ (codes "image " ++ (decimal rule ++ codes "\n")))
+rule_text subject None = []
 
-abbrev pub image_refusal : ImageFault → Response
-image_refusal fault = record { answered = answered.Image; text = rule_text (rule_of fault) }
+abbrev pub image_refusal : Subject → ImageFault → Response
+image_refusal subject fault = record { answered = answered.Image; text = rule_text subject (rule_of fault) }
 
 -- what is wrong with an assembly text: its fault, by kind and line, or the rule of images that its words break
-abbrev pub asm_fault_text : AsmImageFault → List ℕ
-asm_fault_text (asm.Text fault) = codes "fault image 12 " ++ (decimal (number_of fault.kind) ++ (codes " " ++ (decimal fault.line ++ codes "\n")))
-asm_fault_text (asm.Image fault) = rule_text (rule_of fault)
-asm_fault_text asm.Memory = []
+abbrev pub asm_fault_text : Subject → AsmImageFault → List ℕ
+asm_fault_text subject (asm.Text fault) = codes "fault " ++ (subject_text subject ++ (codes "image 12 " ++ (decimal (number_of fault.kind) ++ (codes " " ++ (decimal fault.line ++ codes "\n")))))
+asm_fault_text subject (asm.Image fault) = rule_text subject (rule_of fault)
+asm_fault_text subject asm.Memory = []
 
-abbrev pub asm_refusal : AsmImageFault → Response
-asm_refusal fault = record { answered = answered.Image; text = asm_fault_text fault }
+abbrev pub asm_refusal : Subject → AsmImageFault → Response
+asm_refusal subject fault = record { answered = answered.Image; text = asm_fault_text subject fault }
 
 -- what a reader gives, its fault as the response to it
 abbrev pub or_refusal : {A E : Type 0} → (E → Response) → Result A E → Result A Response

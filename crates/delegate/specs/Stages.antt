@@ -1,13 +1,18 @@
 -- Derived. What a step of the program gives of its definition, and what is known of a case that was read.
-use Rattle.std.specs.Prelude.{◌≡◌, ℕ, List, Some, Result, Ok, Err}
-use Rattle.rv_step.specs.State.{State}
+use Rattle.std.specs.Prelude.{◌≡◌, ℕ, List, [], ◌∷◌, ◌++◌, map, length, Some, Result, Ok, Err}
+use Rattle.std.specs.List.{All}
+use Rattle.std.specs.Option.{option_and_then}
+use Rattle.rv_step.specs.State.{State, state_of, IsChained}
+use Rattle.rv_step.specs.declared.machine.Machine.{Machine}
 use Rattle.case_reader.specs.Case.{CaseData}
+use Rattle.case_reader.specs.Tasks.{TasksData, One, Many}
+use Rattle.command_line.specs.Words.{chosen}
 use Rattle.command_line.specs.declared.request.Command.{Command}
 use Rattle.case_match.specs.TruthfulInCase.{IsInRange}
-use Rattle.delegate.specs.Loading.{start_in}
-use Rattle.delegate.specs.Decided.{Deciding, case_for}
-use Rattle.delegate.specs.Headline.{IsCase}
+use Rattle.delegate.specs.Loading.{start_in, starts_in}
+use Rattle.delegate.specs.Decided.{Deciding, tasks_for}
 use Rattle.delegate.specs.Outcome.{decides}
+use Rattle.delegate.specs.declared.subject.Subject.TheVariants.{Whole}
 use Rattle.delegate.specs.declared.response.Response.{Response}
 use Rattle.delegate.specs.declared.response.Stop.{Stop}
 use Rattle.delegate.specs.declared.response.Stop.TheVariants.{Refused}
@@ -17,14 +22,40 @@ abbrev pub Stands : {X Y : Type 0} → (X → Y) → Result X Stop → Result Y 
 Stands view (Ok x) defined = defined ≡ Ok (view x)
 Stands view (Err stop) defined = (response : Response) → stop ≡ Refused response → defined ≡ Err response
 
--- the case that is read here, if there is one and it is loaded, is in range
-abbrev pub IsInRangeIfThere : Result CaseData Response → Type 0
-IsInRangeIfThere reading = (c : CaseData) (start : State) → reading ≡ Ok c → start_in c ≡ Ok start → IsInRange c start
+-- each of these cases, whose runs start in these states, is in range
+abbrev pub AreAllInRange : List CaseData → List State → Type 0
+AreAllInRange [] starts = Unit {0}
+AreAllInRange (c ∷ cs) [] = Unit {0}
+AreAllInRange (c ∷ cs) (start ∷ starts) = IsInRange c start × AreAllInRange cs starts
 
--- so is that of a command that decides
+-- what was read is in range, if it is loaded
+abbrev pub AreInRange : TasksData → Type 0
+AreInRange (One c) = (start : State) → start_in Whole c ≡ Ok start → IsInRange c start
+AreInRange (Many cs) = (starts : List State) → starts_in 1 cs ≡ Ok starts → AreAllInRange cs starts
+
+-- what is read here, if there is anything, is in range
+abbrev pub AreInRangeIfThere : Result TasksData Response → Type 0
+AreInRangeIfThere reading = (tasks : TasksData) → reading ≡ Ok tasks → AreInRange tasks
+
+-- so is what a command reads that decides
 abbrev pub DecidesInRange : Command → List ℕ → Type 0
-DecidesInRange command bytes = (m : Deciding) → decides command ≡ Some m → IsInRangeIfThere (case_for m.written bytes)
+DecidesInRange command bytes = (m : Deciding) → decides command ≡ Some m → AreInRangeIfThere (tasks_for m.written bytes)
 
--- the case of these arguments and bytes, where it is one, is in range
+-- what these arguments ask for and these bytes hold, where they do, is in range
 abbrev pub CasesAreInRange : List (List ℕ) → List ℕ → Type 0
-CasesAreInRange words bytes = (m : Deciding) (c : CaseData) (start : State) → IsCase words bytes m c start → IsInRange c start
+CasesAreInRange words bytes = (m : Deciding) → option_and_then decides (chosen words) ≡ Some m → AreInRangeIfThere (tasks_for m.written bytes)
+
+-- the machines in which the runs of tasks start, the first of which has this number, stand behind those that were there
+pub record AreStarted (number : ℕ) (cs : List CaseData) (before now : List Machine) : Type 0 where
+  pub added : List Machine
+  pub are : now ≡ before ++ added
+  pub starts : starts_in number cs ≡ Ok (map state_of added)
+  pub count : length added ≡ length cs
+  pub chained : (digest : List ℕ → List ℕ) → All (IsChained digest) added
+  pub silent : All (λ (start : Machine). start.output.items ≡ []) added
+  pub in_range : AreAllInRange cs (map state_of added)
+
+-- they are added, or the refusal is that of the definition, unless memory ran out
+abbrev pub AddsStarts : ℕ → List CaseData → List Machine → List Machine → Result (Unit {0}) Stop → Type 0
+AddsStarts number cs before now (Ok done) = AreStarted number cs before now
+AddsStarts number cs before now (Err stop) = (response : Response) → stop ≡ Refused response → starts_in number cs ≡ Err response

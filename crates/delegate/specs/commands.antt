@@ -1,4 +1,4 @@
--- The commands, a file each.
+-- To believe. The commands, a file each.
 pub mod Judge
 pub mod Run
 pub mod Roots

@@ -1,5 +1,5 @@
 ghost use Rattle.std.specs.Prelude.{◌≡◌};
-ghost use Rattle.delegate.specs.Answered.{status_number};
+ghost use Rattle.delegate.specs.Answered.{status_number, graver};
 
 /// How the program ended.
 #[derive(Clone, Copy, Debug, PartialEq, Eq)]
@@ -45,6 +45,20 @@ impl Answered {
             Answered::NoneLeft => 10,
             Answered::Collision => 11,
             Answered::TooLong => 12,
+        }
+    }
+
+    /// The graver of two answers to tasks: a collision, else that nobody is left, else the other one.
+    pub fn or_graver(self, other: Answered) -> Answered
+        ensures { result ≡ graver self other }
+    {
+        match self {
+            Answered::Collision => Answered::Collision,
+            Answered::NoneLeft => match other {
+                Answered::Collision => Answered::Collision,
+                _ => Answered::NoneLeft,
+            },
+            _ => other,
         }
     }
 }

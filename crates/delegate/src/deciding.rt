@@ -1,17 +1,21 @@
 //! A match that is decided, and its text.
 ghost use denote.Param.Send.{IsSync};
-ghost use Rattle.std.specs.Prelude.{◌≡◌, ℕ, [], length, IfOk};
+ghost use Rattle.std.specs.Prelude.{◌≡◌, ℕ, ◌+◌, ◌<◌, ◌≤◌, ◌++◌, [], map, length, IfOk, OnOk};
+ghost use Rattle.std.specs.List.{All};
 ghost use Rattle.rv_step.specs.State.{state_of, IsChained};
 ghost use Rattle.case_reader.specs.Case.{data_of};
 ghost use Rattle.command_line.specs.Words.{AreAtLeastOne};
 ghost use Rattle.deposits.specs.Balances.{IsSettledUp};
 ghost use Rattle.transcript_text.specs.Report.{report_text};
-ghost use Rattle.delegate.specs.Decided.{written_as, summary, balances_in, match_text, told, head_of, answered_by};
+ghost use Rattle.case_match.specs.SettledUp.{AreSettledUp};
+ghost use Rattle.delegate.specs.Decided.{written_as, summary, balances_in, match_text, response_of, told, head_of, answered_by};
+ghost use Rattle.delegate.specs.Together.{task_line, task_texts, gravest, together, each_told};
+ghost use Rattle.delegate.specs.Responses.{responses};
 ghost use Rattle.delegate.specs.commands.Judge.{judging};
 
 use crate::answered::Answered;
 use crate::response::Response;
-use case_match::{verdict_from, verdict_of_case};
+use case_match::{start_roots, verdict_from, verdict_of_case, verdicts_from};
 use case_reader::Case;
 use command_line::{MatchText, Options};
 use deposits::balances;
@@ -114,6 +118,120 @@ where
     let bytes = text_of(alloc, text, case, &head, &match_record, &verdict)?;
     Ok(Response {
         answered: answered_by(&verdict),
+        text: Bytes::new(bytes),
+    })
+}
+
+/// Adds the texts of the matches of tasks that have ended, the first of which has this number, each under its line, and gives the
+/// gravest answer. There is one root and one ending for each case. An `Err` is out of memory, after some were added.
+fn add_texts(
+    out: &mut Vec<u8>,
+    alloc: Global,
+    name: DigestName,
+    text: MatchText,
+    number: u32,
+    cases: &[Case],
+    roots: &[Digest32],
+    ends: &[(Record, Verdict)],
+) -> Result<Answered, Memory>
+    requires few { number + length cases.now ≤ 9 }
+    requires settled_up { AreSettledUp (map data_of cases.now) ends.now }
+    ensures texts { OnOk result (out.new.items ≡ out.old.items ++ task_texts number (responses (judging text name) (map data_of cases.now) roots.now ends.now)) }
+    ensures answered { IfOk result (λ answered. answered ≡ gravest (responses (judging text name) (map data_of cases.now) roots.now ends.now)) }
+{
+    let [case, later_cases @ ..] = cases else {
+        return Ok(Answered::Done);
+    };
+    let [root, later_roots @ ..] = roots else {
+        return Ok(Answered::Done);
+    };
+    let [(match_record, verdict), later_ends @ ..] = ends else {
+        return Ok(Answered::Done);
+    };
+    add_text(
+        out,
+        alloc,
+        name,
+        text,
+        number,
+        case,
+        *root,
+        match_record,
+        verdict,
+    )?;
+    let later = add_texts(
+        out,
+        alloc,
+        name,
+        text,
+        number + 1,
+        later_cases,
+        later_roots,
+        later_ends,
+    )?;
+    Ok(answered_by(verdict).or_graver(later))
+}
+
+/// Adds the line of a task, and the text of its match, which has ended. An `Err` is out of memory, after some of it was added.
+fn add_text(
+    out: &mut Vec<u8>,
+    alloc: Global,
+    name: DigestName,
+    text: MatchText,
+    number: u32,
+    case: &Case,
+    root: Digest32,
+    match_record: &Record,
+    verdict: &Verdict,
+) -> Result<(), Memory>
+    requires { IsSettledUp (length case.now.provers) match_record.now }
+    ensures { OnOk result (out.new.items ≡ out.old.items ++ (task_line number ++ (response_of (judging text name) (data_of case.now) root match_record.now verdict.now).text)) }
+{
+    let line = format!(in alloc; "task {number}\n")?;
+    let head = head_of(name, case, root);
+    let bytes = text_of(alloc, text, case, &head, match_record, verdict)?;
+    out.extend_from_slice(line.as_bytes())?;
+    out.extend_from_slice(bytes.as_slice())?;
+    Ok(())
+}
+
+/// Plays the matches of the cases of tasks by the digester `d`, which has this name, and writes the text of each that is asked for under
+/// its line. The machines and the options are as for `verdict_of_tasks`. An `Err` is out of memory.
+pub fn judge_tasks<R: Threads + Wait + Sync, D: Replays>(
+    rt: &R,
+    alloc: Global,
+    d: D,
+    name: DigestName,
+    text: MatchText,
+    options: Options,
+    cases: &[Case],
+    starts: Vec<Machine>,
+) -> Result<Response, Memory>
+where
+    D: Send + Sync,
+    requires some { 0 < length cases.now }
+    requires few { length cases.now ≤ 8 }
+    requires count { length starts.items ≡ length cases.now }
+    requires chained { All (IsChained D.digest_of) starts.items }
+    requires silent { All (λ start. start.output.items ≡ []) starts.items }
+    requires options { AreAtLeastOne options }
+    ensures { IfOk result (λ response. response ≡ together (each_told D.digest_of (judging text name) (map data_of cases.now) (map state_of starts.items))) }
+{
+    let roots = start_roots(alloc, d, starts.as_slice())?;
+    let ends = verdicts_from(rt, alloc, d, cases, starts, roots.as_slice(), options)?;
+    let mut bytes = Vec::new(alloc);
+    let answered = add_texts(
+        &mut bytes,
+        alloc,
+        name,
+        text,
+        1,
+        cases,
+        roots.as_slice(),
+        ends.as_slice(),
+    )?;
+    Ok(Response {
+        answered,
         text: Bytes::new(bytes),
     })
 }

@@ -1,11 +1,12 @@
 ghost use Rattle.std.specs.Prelude.{◌≡◌, IfOk, string_bytes};
 ghost use Rattle.image_reader.specs.Fault.{rule_of};
-ghost use Rattle.delegate.specs.Refusal.{usage, too_long, case_refusal, image_refusal, asm_refusal, rule_text};
+ghost use Rattle.delegate.specs.Refusal.{usage, too_long, case_fault_text, case_refusal, task_refusal, image_refusal, asm_refusal, rule_text};
 
 use crate::answered::Answered;
 use crate::response::Response;
+use crate::subject::Subject;
 use asm_image::AsmImageFault;
-use case_reader::CaseFault;
+use case_reader::{CaseFault, TaskFault};
 use image_reader::ImageFault;
 use rd_base::Bytes;
 use std::alloc::{AllocError, Global};
@@ -26,51 +27,81 @@ pub fn too_long(alloc: Global) -> Result<Response, AllocError>
     Ok(response(Answered::TooLong, text))
 }
 
-/// The response to a fault of a case. The text is empty where memory ran out.
-pub fn case_refusal(alloc: Global, fault: CaseFault) -> Result<Response, AllocError>
-    ensures { IfOk result (λ response. response ≡ case_refusal fault) }
+/// The response to a fault of a case, of this subject. The text is empty where memory ran out.
+pub fn case_refusal(
+    alloc: Global,
+    subject: Subject,
+    fault: CaseFault,
+) -> Result<Response, AllocError>
+    ensures { IfOk result (λ response. response ≡ case_refusal subject fault) }
 {
-    let text = match fault {
-        CaseFault::NotJson => String::from_str(alloc, "fault case 1\n")?,
-        CaseFault::NotObject => String::from_str(alloc, "fault case 2\n")?,
-        CaseFault::Missing(key) => format!(in alloc; "fault case 3 {key}\n")?,
-        CaseFault::WrongType(key) => format!(in alloc; "fault case 4 {key}\n")?,
-        CaseFault::BadHex(key) => format!(in alloc; "fault case 5 {key}\n")?,
-        CaseFault::OutOfRange(key) => format!(in alloc; "fault case 6 {key}\n")?,
-        CaseFault::BadProver(number) => format!(in alloc; "fault case 7 {number}\n")?,
-        CaseFault::Memory => String::new(alloc),
-    };
+    let text = case_fault_text(alloc, subject, fault)?;
     Ok(response(Answered::Case, text))
 }
 
-/// The response to a fault of an image. The text is empty where memory ran out.
-pub fn image_refusal(alloc: Global, fault: ImageFault) -> Result<Response, AllocError>
-    ensures { IfOk result (λ response. response ≡ image_refusal fault) }
+/// The text about a rule of a case that is broken; it is empty where memory ran out.
+fn case_fault_text(alloc: Global, subject: Subject, fault: CaseFault) -> Result<String, AllocError>
+    ensures { IfOk result (λ text. string_bytes text ≡ case_fault_text subject fault) }
 {
-    let text = rule_text(alloc, fault)?;
+    match fault {
+        CaseFault::NotJson => Ok(format!(in alloc; "fault {subject}case 1\n")?),
+        CaseFault::NotObject => Ok(format!(in alloc; "fault {subject}case 2\n")?),
+        CaseFault::Missing(key) => Ok(format!(in alloc; "fault {subject}case 3 {key}\n")?),
+        CaseFault::WrongType(key) => Ok(format!(in alloc; "fault {subject}case 4 {key}\n")?),
+        CaseFault::BadHex(key) => Ok(format!(in alloc; "fault {subject}case 5 {key}\n")?),
+        CaseFault::OutOfRange(key) => Ok(format!(in alloc; "fault {subject}case 6 {key}\n")?),
+        CaseFault::BadProver(number) => Ok(format!(in alloc; "fault {subject}case 7 {number}\n")?),
+        CaseFault::Memory => Ok(String::new(alloc)),
+    }
+}
+
+/// The response to a fault of one case or of tasks. The text is empty where memory ran out.
+pub fn task_refusal(alloc: Global, fault: TaskFault) -> Result<Response, AllocError>
+    ensures { IfOk result (λ response. response ≡ task_refusal fault) }
+{
+    match fault {
+        TaskFault::Whole(fault) => case_refusal(alloc, Subject::Whole, fault),
+        TaskFault::Task(number, fault) => case_refusal(alloc, Subject::Task(number), fault),
+        TaskFault::Memory => case_refusal(alloc, Subject::Whole, CaseFault::Memory),
+    }
+}
+
+/// The response to a fault of an image, of this subject. The text is empty where memory ran out.
+pub fn image_refusal(
+    alloc: Global,
+    subject: Subject,
+    fault: ImageFault,
+) -> Result<Response, AllocError>
+    ensures { IfOk result (λ response. response ≡ image_refusal subject fault) }
+{
+    let text = rule_text(alloc, subject, fault)?;
     Ok(response(Answered::Image, text))
 }
 
 /// The text about a rule of images that is broken; it is empty where memory ran out.
-fn rule_text(alloc: Global, fault: ImageFault) -> Result<String, AllocError>
-    ensures { IfOk result (λ text. string_bytes text ≡ rule_text (rule_of fault)) }
+fn rule_text(alloc: Global, subject: Subject, fault: ImageFault) -> Result<String, AllocError>
+    ensures { IfOk result (λ text. string_bytes text ≡ rule_text subject (rule_of fault)) }
 {
     match fault.rule() {
-        Some(rule) => Ok(format!(in alloc; "fault image {rule}\n")?),
+        Some(rule) => Ok(format!(in alloc; "fault {subject}image {rule}\n")?),
         None => Ok(String::new(alloc)),
     }
 }
 
-/// The response to what is wrong with an assembly text. The text is empty where memory ran out.
-pub fn asm_refusal(alloc: Global, fault: AsmImageFault) -> Result<Response, AllocError>
-    ensures { IfOk result (λ response. response ≡ asm_refusal fault) }
+/// The response to what is wrong with an assembly text, of this subject. The text is empty where memory ran out.
+pub fn asm_refusal(
+    alloc: Global,
+    subject: Subject,
+    fault: AsmImageFault,
+) -> Result<Response, AllocError>
+    ensures { IfOk result (λ response. response ≡ asm_refusal subject fault) }
 {
     let text = match fault {
         AsmImageFault::Text(fault) => {
             let (kind, line) = (fault.kind.number(), fault.line);
-            format!(in alloc; "fault image 12 {kind} {line}\n")?
+            format!(in alloc; "fault {subject}image 12 {kind} {line}\n")?
         }
-        AsmImageFault::Image(fault) => rule_text(alloc, fault)?,
+        AsmImageFault::Image(fault) => rule_text(alloc, subject, fault)?,
         AsmImageFault::Memory => String::new(alloc),
     };
     Ok(response(Answered::Image, text))

@@ -3,7 +3,7 @@ ghost use Rattle.delegate.specs.Confirmed.{ConfirmedTextsAreRight};
 ghost use Rattle.delegate.specs.Headline.{HeadlineOfCases};
 
 use case_match::truthful_provers_of_cases_are_safe;
-use case_reader::no_fault_of_a_case_is_out_of_memory;
+use case_reader::{no_fault_of_a_case_is_out_of_memory, no_fault_of_tasks_is_out_of_memory};
 use deposits::truthful_provers_keep_their_stakes;
 use digest_core::{Sha256, Weak8};
 use machine_audit::confirmed_cases_are_right;
@@ -37,4 +37,5 @@ pub fn answers_are_those_of_the_command()
     ensures why { EachRefusalSaysWhy }
 {
     no_fault_of_a_case_is_out_of_memory();
+    no_fault_of_tasks_is_out_of_memory();
 }

@@ -1,16 +1,19 @@
-//! How every command on a case reads it and loads its image.
-ghost use Rattle.std.specs.Prelude.{◌≡◌, ℕ, List, [], IfOk, Ok};
+//! How every command on a case reads it and loads its image, and how tasks are read and loaded.
+ghost use Rattle.std.specs.Prelude.{◌≡◌, ◌+◌, ◌≤◌, ℕ, List, [], map, length, IfOk, Ok};
+ghost use Rattle.std.specs.List.{All};
 ghost use Rattle.rv_step.specs.State.{State, state_of, IsChained};
 ghost use Rattle.case_reader.specs.Case.{data_of};
+ghost use Rattle.case_reader.specs.Tasks.{tasks_data, AreFew};
 ghost use Rattle.image_reader.specs.Image.{loaded_of};
 ghost use Rattle.case_match.specs.TruthfulInCase.{IsInRange};
-ghost use Rattle.delegate.specs.Loading.{case_in, image_by, image_in, start_in};
-ghost use Rattle.delegate.specs.Stages.{Stands};
+ghost use Rattle.delegate.specs.Loading.{case_in, tasks_in, image_by, image_in, start_in, starts_in};
+ghost use Rattle.delegate.specs.Stages.{Stands, AreAllInRange, AddsStarts};
 
 use crate::faults;
 use crate::response::Stop;
+use crate::subject::Subject;
 use asm_image::{AsmImageFault, load_asm};
-use case_reader::{Case, CaseFault, Format, read_case};
+use case_reader::{Case, CaseFault, Format, TaskFault, Tasks, read_case, read_tasks};
 use image_reader::{ImageFault, Loaded, load_elf, load_flat};
 use rv_step::{Machine, machines_are_valid};
 use std::alloc::Global;
@@ -22,66 +25,116 @@ pub fn case_in(alloc: Global, bytes: Vec<u8>) -> Result<Case, Stop>
     match read_case(alloc, bytes.as_slice()) {
         Ok(case) => Ok(case),
         Err(CaseFault::Memory) => Err(Stop::Memory),
-        Err(fault) => Err(Stop::Refused(faults::case_refusal(alloc, fault)?)),
+        Err(fault) => Err(Stop::Refused(faults::case_refusal(alloc, Subject::Whole, fault)?)),
+    }
+}
+
+/// What the bytes hold: one case, or those of tasks.
+pub fn tasks_in(alloc: Global, bytes: Vec<u8>) -> Result<Tasks, Stop>
+    ensures stands { Stands tasks_data result (tasks_in bytes.items) }
+    ensures few { IfOk result AreFew }
+{
+    match read_tasks(alloc, bytes.as_slice()) {
+        Ok(tasks) => Ok(tasks),
+        Err(TaskFault::Memory) => Err(Stop::Memory),
+        Err(fault) => Err(Stop::Refused(faults::task_refusal(alloc, fault)?)),
     }
 }
 
 /// The image of a flat file.
-pub fn flat_image(alloc: Global, file: &[u8]) -> Result<Loaded, Stop>
-    ensures { Stands loaded_of result (image_by Format.Flat file.now) }
+pub fn flat_image(alloc: Global, subject: Subject, file: &[u8]) -> Result<Loaded, Stop>
+    ensures { Stands loaded_of result (image_by subject Format.Flat file.now) }
 {
     match load_flat(alloc, file) {
         Ok(loaded) => Ok(loaded),
         Err(ImageFault::Memory) => Err(Stop::Memory),
-        Err(fault) => Err(Stop::Refused(faults::image_refusal(alloc, fault)?)),
+        Err(fault) => Err(Stop::Refused(faults::image_refusal(alloc, subject, fault)?)),
     }
 }
 
 /// The image of an ELF file.
-fn elf_image(alloc: Global, file: &[u8]) -> Result<Loaded, Stop>
-    ensures { Stands loaded_of result (image_by Format.Elf file.now) }
+fn elf_image(alloc: Global, subject: Subject, file: &[u8]) -> Result<Loaded, Stop>
+    ensures { Stands loaded_of result (image_by subject Format.Elf file.now) }
 {
     match load_elf(alloc, file) {
         Ok(loaded) => Ok(loaded),
         Err(ImageFault::Memory) => Err(Stop::Memory),
-        Err(fault) => Err(Stop::Refused(faults::image_refusal(alloc, fault)?)),
+        Err(fault) => Err(Stop::Refused(faults::image_refusal(alloc, subject, fault)?)),
     }
 }
 
 /// The image of an assembly text.
-pub fn asm_image(alloc: Global, text: &[u8]) -> Result<Loaded, Stop>
-    ensures { Stands loaded_of result (image_by Format.Asm text.now) }
+pub fn asm_image(alloc: Global, subject: Subject, text: &[u8]) -> Result<Loaded, Stop>
+    ensures { Stands loaded_of result (image_by subject Format.Asm text.now) }
 {
     match load_asm(alloc, text) {
         Ok(loaded) => Ok(loaded),
         Err(AsmImageFault::Memory) => Err(Stop::Memory),
-        Err(fault) => Err(Stop::Refused(faults::asm_refusal(alloc, fault)?)),
+        Err(fault) => Err(Stop::Refused(faults::asm_refusal(alloc, subject, fault)?)),
     }
 }
 
 /// The image of the case, loaded.
-fn image_in(alloc: Global, case: &Case) -> Result<Loaded, Stop>
-    ensures { Stands loaded_of result (image_in (data_of case.now)) }
+fn image_in(alloc: Global, subject: Subject, case: &Case) -> Result<Loaded, Stop>
+    ensures { Stands loaded_of result (image_in subject (data_of case.now)) }
 {
     let file = case.image.as_slice();
     match case.format {
-        Format::Flat => flat_image(alloc, file),
-        Format::Elf => elf_image(alloc, file),
-        Format::Asm => asm_image(alloc, file),
+        Format::Flat => flat_image(alloc, subject, file),
+        Format::Elf => elf_image(alloc, subject, file),
+        Format::Asm => asm_image(alloc, subject, file),
     }
 }
 
-/// The machine in which the run of the case starts, of the case's version. It has put out nothing, and its chain is that of no output by every digester.
+/// The machine in which the run of the case starts, of the case's version. It has put out nothing, and its chain is that of no output by
+/// every digester. What is refused is refused of this subject.
 #[tactic(auto, unfolding(crate::specs::Loading::start_in))]
-pub fn start_in(alloc: Global, case: &Case) -> Result<Machine, Stop>
-    ensures stands { Stands state_of result (start_in (data_of case.now)) }
+pub fn start_in(alloc: Global, subject: Subject, case: &Case) -> Result<Machine, Stop>
+    ensures stands { Stands state_of result (start_in subject (data_of case.now)) }
     ensures chained { IfOk result (λ start. (digest : List ℕ → List ℕ) → IsChained digest start) }
     ensures silent { IfOk result (λ start. start.output.items ≡ []) }
     ensures in_range { IfOk result (λ start. IsInRange (data_of case.now) (state_of start)) }
 {
-    let loaded = image_in(alloc, case)?;
+    let loaded = image_in(alloc, subject, case)?;
     let input = case.input.as_slice();
     let start = Machine::new(alloc, case.version as u8, loaded.mem, loaded.entry, input)?;
     machines_are_valid(&start);
     Ok(start)
+}
+
+/// The machines in which the runs of the cases of tasks start, one for each, as of `start_in`. The first image that has a fault is
+/// refused, of its task.
+pub fn starts_in(alloc: Global, cases: &[Case]) -> Result<Vec<Machine>, Stop>
+    requires { length cases.now ≤ 8 }
+    ensures stands { Stands (λ starts. map state_of starts.items) result (starts_in 1 (map data_of cases.now)) }
+    ensures count { IfOk result (λ starts. length starts.items ≡ length cases.now) }
+    ensures chained { IfOk result (λ starts. (digest : List ℕ → List ℕ) → All (IsChained digest) starts.items) }
+    ensures silent { IfOk result (λ starts. All (λ start. start.output.items ≡ []) starts.items) }
+    ensures in_range { IfOk result (λ starts. AreAllInRange (map data_of cases.now) (map state_of starts.items)) }
+{
+    let mut starts = Vec::with_capacity(alloc, cases.len())?;
+    add_starts(alloc, 1, cases, &mut starts)?;
+    Ok(starts)
+}
+
+/// Puts the machines of tasks, the first of which has this number, behind others.
+fn add_starts(
+    alloc: Global,
+    number: u32,
+    cases: &[Case],
+    starts: &mut Vec<Machine>,
+) -> Result<(), Stop>
+    requires { number + length cases.now ≤ 9 }
+    ensures { AddsStarts number (map data_of cases.now) starts.old.items starts.new.items result }
+{
+    let [case, later @ ..] = cases else {
+        return Ok(());
+    };
+    match start_in(alloc, Subject::Task(number), case) {
+        Ok(start) => {
+            starts.push(start)?;
+            add_starts(alloc, number + 1, later, starts)
+        }
+        Err(stop) => Err(stop),
+    }
 }

@@ -4,7 +4,7 @@ ghost use Rattle.std.specs.Io.KnownBytes.{IsAtEnd};
 ghost use Rattle.std.specs.Process.{exit_status};
 ghost use Rattle.io_edge.specs.Device.{Rises, IsLaterIn, AppendsPart};
 ghost use Rattle.delegate.specs.Answered.{status_number};
-ghost use Rattle.delegate.specs.Headline.{AnswersTheCase, KeepsTheTruthful};
+ghost use Rattle.delegate.specs.Headline.{AnswersTheCase, KeepsTheTruthful, AnswersTheTasks, KeepsTheTruthfulOfTasks};
 ghost use Rattle.delegate.specs.Outcome.{outcome};
 ghost use Rattle.delegate.specs.Process.{given, is_whole, is_read_whole, IsWrittenBy};
 ghost use Rattle.delegate.specs.Visible.{ForItsBytes};
@@ -47,6 +47,10 @@ pub fn run_process<R: Threads + Wait + Sync, S: Source, K: Sink>(
         IsWrittenBy (outcome words bytes) (exit_status result) (K.held sink.old) (K.held sink.new) × AnswersTheCase words bytes (outcome words bytes)) }
     ensures headline { (words : List (List ℕ)) → given arguments ≡ Some words → is_whole (exit_status result) ≡ true → ForItsBytes (S.left source.old) (λ bytes.
         IsWrittenBy (outcome words bytes) (exit_status result) (K.held sink.old) (K.held sink.new) × KeepsTheTruthful words bytes (outcome words bytes)) }
+    ensures task_completeness { (words : List (List ℕ)) → given arguments ≡ Some words → is_whole (exit_status result) ≡ true → ForItsBytes (S.left source.old) (λ bytes.
+        IsWrittenBy (outcome words bytes) (exit_status result) (K.held sink.old) (K.held sink.new) × AnswersTheTasks words bytes (outcome words bytes)) }
+    ensures task_headline { (words : List (List ℕ)) → given arguments ≡ Some words → is_whole (exit_status result) ≡ true → ForItsBytes (S.left source.old) (λ bytes.
+        IsWrittenBy (outcome words bytes) (exit_status result) (K.held sink.old) (K.held sink.new) × KeepsTheTruthfulOfTasks words bytes (outcome words bytes)) }
 
     // Where the source stands.
     ensures unread { (words : List (List ℕ)) → given arguments ≡ Some words → reads (chosen words) ≡ false → S.left source.new ≡ S.left source.old }

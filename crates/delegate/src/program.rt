@@ -4,7 +4,7 @@ ghost use Rattle.std.specs.Io.KnownBytes.{Appends, IsAtEnd};
 ghost use Rattle.io_edge.specs.Device.{Rises, IsLaterIn, AppendsPart};
 ghost use Rattle.delegate.specs.Answered.{is_outcome, is_answer_to, reads_all};
 ghost use Rattle.delegate.specs.Outcome.{outcome};
-ghost use Rattle.delegate.specs.Headline.{AnswersTheCase, KeepsTheTruthful};
+ghost use Rattle.delegate.specs.Headline.{AnswersTheCase, KeepsTheTruthful, AnswersTheTasks, KeepsTheTruthfulOfTasks};
 ghost use Rattle.delegate.specs.Visible.{ForItsBytes};
 ghost use Rattle.delegate.specs.Writing.{IsWritten};
 ghost use Rattle.command_line.specs.Words.{texts, chosen, reads};
@@ -13,6 +13,7 @@ use crate::answered::Answered;
 use crate::laws::the_headline;
 use crate::responding::respond;
 use crate::response::Halt;
+use case_reader::cases_are_read_as_one_task;
 use io_edge::{Sink, Source, write_all};
 use std::alloc::Global;
 use std::sync::Wait;
@@ -66,8 +67,18 @@ pub fn run<R: Threads + Wait + Sync, S: Source, K: Sink>(
     ensures headline { is_outcome result ≡ true → ForItsBytes (S.left source.old) (λ bytes.
         IsWritten (outcome (texts words.now) bytes) result (K.held sink.old) (K.held sink.new)
         × KeepsTheTruthful (texts words.now) bytes (outcome (texts words.now) bytes)) }
+
+    // The same of tasks: each one's text stands under its line, whole, as of its case alone, and a truthful prover of one is kept there,
+    // whatever the provers of the others do.
+    ensures task_completeness { is_outcome result ≡ true → ForItsBytes (S.left source.old) (λ bytes.
+        IsWritten (outcome (texts words.now) bytes) result (K.held sink.old) (K.held sink.new)
+        × AnswersTheTasks (texts words.now) bytes (outcome (texts words.now) bytes)) }
+    ensures task_headline { is_outcome result ≡ true → ForItsBytes (S.left source.old) (λ bytes.
+        IsWritten (outcome (texts words.now) bytes) result (K.held sink.old) (K.held sink.new)
+        × KeepsTheTruthfulOfTasks (texts words.now) bytes (outcome (texts words.now) bytes)) }
 {
     the_headline();
+    cases_are_read_as_one_task();
     let response = match respond(rt, alloc, words, source) {
         Ok(response) => response,
         Err(Halt::ReadFault) => return Answered::ReadFault,

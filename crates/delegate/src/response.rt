@@ -4,7 +4,7 @@ ghost use Rattle.delegate.specs.declared.response.Stop.TheVariants.{Memory as st
 
 use crate::answered::Answered;
 use rd_base::{Bytes, Memory};
-use std::alloc::AllocError;
+use std::alloc::{AllocError, AllocFailed};
 
 /// What is to be written, whole, and the answer once it is.
 #[derive(Debug, Drop)]
@@ -34,6 +34,14 @@ impl From<AllocError> for Stop {
     ghost from_gives = { λ _ stop. stop ≡ stopped };
 
     fn from(_e: AllocError) -> Stop {
+        Stop::Memory
+    }
+}
+
+impl<T: Drop> From<AllocFailed<T>> for Stop {
+    ghost from_gives = { λ _ stop. stop ≡ stopped };
+
+    fn from(_e: AllocFailed<T>) -> Stop {
         Stop::Memory
     }
 }

@@ -5,6 +5,7 @@ use Rattle.text_types.specs.declared.digest.DigestName.TheVariants.{Sha256}
 use Rattle.workload.specs.Workload.{big_data}
 use Rattle.delegate.specs.Loading.{start_in}
 use Rattle.delegate.specs.Decided.{Deciding, summary, decided}
+use Rattle.delegate.specs.declared.subject.Subject.TheVariants.{Whole}
 use Rattle.delegate.specs.declared.response.Response.{Response}
 
 -- what it is asked for
@@ -13,5 +14,5 @@ summing_up seed = record { digest = Sha256; written = summary seed }
 
 unfoldable pub summed_up : ℕ → Result Response Response
 summed_up seed = do
-  start ← start_in (big_data seed)
+  start ← start_in Whole (big_data seed)
   Ok (decided (summing_up seed) (big_data seed) start)

@@ -1,18 +1,30 @@
--- To believe. `judge`: the match of the case that is read, decided by commitments of a digest, and its report or its full text.
+-- To believe. `judge`: the match of the case that is read, or those of its tasks, decided by commitments of a digest, and each one's report
+-- or full text.
 use Rattle.std.specs.Prelude.{ℕ, List, Result, Ok}
 use Rattle.rd_base.specs.Results.{◌>>=◌}
+use Rattle.case_reader.specs.Tasks.{TasksData, One, Many}
 use Rattle.text_types.specs.declared.digest.DigestName.{DigestName}
 use Rattle.command_line.specs.declared.request.MatchText.{MatchText}
-use Rattle.delegate.specs.Loading.{case_in, start_in}
+use Rattle.delegate.specs.Loading.{tasks_in, start_in, starts_in}
 use Rattle.delegate.specs.Decided.{Deciding, written_as, decided}
+use Rattle.delegate.specs.Together.{together, each_decided}
+use Rattle.delegate.specs.declared.subject.Subject.TheVariants.{Whole}
 use Rattle.delegate.specs.declared.response.Response.{Response}
 
 -- what it is asked for
 abbrev pub judging : MatchText → DigestName → Deciding
 judging text name = record { digest = name; written = written_as text }
 
+-- of what was read
+unfoldable pub judged_of : Deciding → TasksData → Result Response Response
+judged_of m (One c) = do
+  start ← start_in Whole c
+  Ok (decided m c start)
+judged_of m (Many cs) = do
+  starts ← starts_in 1 cs
+  Ok (together (each_decided m cs starts))
+
 unfoldable pub judged : MatchText → DigestName → List ℕ → Result Response Response
 judged text name bytes = do
-  c ← case_in bytes
-  start ← start_in c
-  Ok (decided (judging text name) c start)
+  tasks ← tasks_in bytes
+  judged_of (judging text name) tasks

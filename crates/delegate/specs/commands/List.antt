@@ -12,6 +12,7 @@ use Rattle.rv_text.specs.Listing.{listing}
 use Rattle.asm_image.specs.declared.image.AsmImageFault.TheVariants as asm
 use Rattle.delegate.specs.Loading.{case_in, image_by}
 use Rattle.delegate.specs.Refusal.{case_refusal, asm_refusal, or_refusal}
+use Rattle.delegate.specs.declared.subject.Subject.TheVariants.{Whole}
 use Rattle.delegate.specs.declared.response.Response.{Response}
 use Rattle.delegate.specs.declared.answered.Answered.TheVariants.{Done}
 
@@ -25,16 +26,16 @@ words_of bytes = map (λ k. word_at bytes (4 * k)) (range_with_len 0 (div_ceil (
 
 -- a format that has no listing
 abbrev pub format_refusal : Response
-format_refusal = case_refusal (OutOfRange key.Format)
+format_refusal = case_refusal Whole (OutOfRange key.Format)
 
 -- the words of an image, which breaks no rule: of a flat file its own, and of an assembly text those that it is assembled to
 abbrev pub words_by : Format → List ℕ → Result (List ℕ) Response
 words_by Flat file = do
-  image ← image_by Flat file
+  image ← image_by Whole Flat file
   Ok (words_of file)
 words_by Asm text = do
-  image ← image_by Asm text
-  or_refusal asm_refusal (map_fault asm.Text (assembled text))
+  image ← image_by Whole Asm text
+  or_refusal (asm_refusal Whole) (map_fault asm.Text (assembled text))
 words_by Elf file = Err format_refusal
 
 unfoldable pub listed : List ℕ → Result Response Response

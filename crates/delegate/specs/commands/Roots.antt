@@ -11,6 +11,7 @@ use Rattle.transcript_text.specs.Roots.{root_lines}
 use Rattle.delegate.specs.Digest.{digest_of}
 use Rattle.delegate.specs.Loading.{case_in, start_in}
 use Rattle.delegate.specs.Refusal.{bound_refusal}
+use Rattle.delegate.specs.declared.subject.Subject.TheVariants.{Whole}
 use Rattle.delegate.specs.declared.response.Response.{Response}
 use Rattle.delegate.specs.declared.answered.Answered.TheVariants.{Done}
 
@@ -26,5 +27,5 @@ unfoldable pub rooted : List ℕ → Result Response Response
 rooted bytes = do
   c ← case_in bytes
   few ← within_bound c
-  start ← start_in c
+  start ← start_in Whole c
   Ok (roots_of_run (digest_of Sha256) c start)

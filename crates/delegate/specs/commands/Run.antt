@@ -6,6 +6,7 @@ use Rattle.rv_step.specs.Step.{state_at}
 use Rattle.case_reader.specs.Case.{CaseData}
 use Rattle.transcript_text.specs.Report.{answer_line_text}
 use Rattle.delegate.specs.Loading.{case_in, start_in}
+use Rattle.delegate.specs.declared.subject.Subject.TheVariants.{Whole}
 use Rattle.delegate.specs.declared.response.Response.{Response}
 use Rattle.delegate.specs.declared.answered.Answered.TheVariants.{Done}
 
@@ -17,5 +18,5 @@ answer_of_run c start =
 unfoldable pub ran : List ℕ → Result Response Response
 ran bytes = do
   c ← case_in bytes
-  start ← start_in c
+  start ← start_in Whole c
   Ok (answer_of_run c start)

@@ -3,14 +3,15 @@ ghost use Rattle.std.specs.Prelude.{◌≡◌, ℕ, List, IfOk};
 ghost use Rattle.case_reader.specs.Case.{data_of};
 ghost use Rattle.workload.specs.Workload.{big_data};
 ghost use Rattle.command_line.specs.Words.{AreAtLeastOne};
-ghost use Rattle.delegate.specs.Decided.{summary, case_for};
+ghost use Rattle.delegate.specs.Decided.{summary, tasks_for};
 ghost use Rattle.delegate.specs.commands.Big.{summed_up};
-ghost use Rattle.delegate.specs.Stages.{Stands, IsInRangeIfThere};
+ghost use Rattle.delegate.specs.Stages.{Stands, AreInRangeIfThere};
 ghost use Rattle.delegate.specs.declared.response.Response.{Response};
 
 use crate::deciding::summary;
 use crate::loading::{case_in, start_in};
 use crate::response::{Response, Stop};
+use crate::subject::Subject;
 use case_reader::Case;
 use command_line::Options;
 use digest_core::Sha256;
@@ -38,9 +39,9 @@ pub fn big<R: Threads + Wait + Sync>(
 ) -> Result<Response, Stop>
     requires { AreAtLeastOne options }
     ensures stands { Stands (λ response. response) result (summed_up seed) }
-    ensures in_range { IfOk result (λ response. (bytes : List ℕ) → IsInRangeIfThere (case_for (summary seed) bytes)) }
+    ensures in_range { IfOk result (λ response. (bytes : List ℕ) → AreInRangeIfThere (tasks_for (summary seed) bytes)) }
 {
     let case = workload(alloc, seed)?;
-    let start = start_in(alloc, &case)?;
+    let start = start_in(alloc, Subject::Whole, &case)?;
     Ok(summary(rt, alloc, Sha256, seed, options, &case, start)?)
 }

@@ -1,16 +1,20 @@
-//! `judge`: to decide the match of a case, and to write its report or its full text.
-ghost use Rattle.std.specs.Prelude.{◌≡◌, ℕ, List, [], IfOk};
+//! `judge`: to decide the match of a case, or those of tasks, and to write each one's report or full text.
+ghost use Rattle.std.specs.Prelude.{◌≡◌, ◌<◌, ◌≤◌, ℕ, List, [], map, length, IfOk};
+ghost use Rattle.std.specs.List.{All};
 ghost use Rattle.rv_step.specs.State.{state_of, IsChained};
 ghost use Rattle.case_reader.specs.Case.{data_of};
+ghost use Rattle.case_reader.specs.Tasks.{tasks_data, AreFew};
 ghost use Rattle.command_line.specs.Words.{AreAtLeastOne};
-ghost use Rattle.delegate.specs.Decided.{written_as, case_for, decided};
-ghost use Rattle.delegate.specs.commands.Judge.{judging, judged};
-ghost use Rattle.delegate.specs.Stages.{Stands, IsInRangeIfThere};
+ghost use Rattle.delegate.specs.Decided.{written_as, tasks_for, decided};
+ghost use Rattle.delegate.specs.Together.{together, each_decided};
+ghost use Rattle.delegate.specs.commands.Judge.{judging, judged_of, judged};
+ghost use Rattle.delegate.specs.Stages.{Stands, AreInRange, AreInRangeIfThere};
 
 use crate::deciding;
-use crate::loading::{case_in, start_in};
+use crate::loading::{start_in, starts_in, tasks_in};
 use crate::response::{Response, Stop};
-use case_reader::Case;
+use crate::subject::Subject;
+use case_reader::{Case, Tasks};
 use command_line::{MatchText, Options};
 use digest_core::{Sha256, Weak8};
 use rd_base::Memory;
@@ -41,8 +45,64 @@ fn decided<R: Threads + Wait + Sync>(
     }
 }
 
-/// Decides the match of the case of the bytes by commitments of the digest with this name, and writes the text of it that is asked
-/// for.
+/// Decides the matches of the cases of tasks by the digester of a name. The chain of each machine is that of no output by every
+/// digester.
+fn tasks_decided<R: Threads + Wait + Sync>(
+    rt: &R,
+    alloc: Global,
+    name: DigestName,
+    text: MatchText,
+    options: Options,
+    cases: &[Case],
+    starts: Vec<Machine>,
+) -> Result<Response, Memory>
+    requires some { 0 < length cases.now }
+    requires few { length cases.now ≤ 8 }
+    requires count { length starts.items ≡ length cases.now }
+    requires chained { (digest : List ℕ → List ℕ) → All (IsChained digest) starts.items }
+    requires silent { All (λ start. start.output.items ≡ []) starts.items }
+    requires options { AreAtLeastOne options }
+    ensures { IfOk result (λ response. response ≡ together (each_decided (judging text name) (map data_of cases.now) (map state_of starts.items))) }
+{
+    match name {
+        DigestName::Sha256 => deciding::judge_tasks(
+            rt, alloc, Sha256, name, text, options, cases, starts,
+        ),
+        DigestName::Weak8 => deciding::judge_tasks(
+            rt, alloc, Weak8, name, text, options, cases, starts,
+        ),
+    }
+}
+
+/// Decides one case that was read, or those of tasks: all images are loaded before anything is played.
+#[tactic(auto, unfolding(crate::specs::commands::Judge::judged_of))]
+fn judged_of<R: Threads + Wait + Sync>(
+    rt: &R,
+    alloc: Global,
+    text: MatchText,
+    name: DigestName,
+    options: Options,
+    tasks: &Tasks,
+) -> Result<Response, Stop>
+    requires few { AreFew tasks.now }
+    requires options { AreAtLeastOne options }
+    ensures stands { Stands (λ response. response) result (judged_of (judging text name) (tasks_data tasks.now)) }
+    ensures in_range { IfOk result (λ response. AreInRange (tasks_data tasks.now)) }
+{
+    match tasks {
+        Tasks::One(case) => {
+            let start = start_in(alloc, Subject::Whole, case)?;
+            Ok(decided(rt, alloc, name, text, options, case, start)?)
+        }
+        Tasks::Many(cases) => {
+            let starts = starts_in(alloc, cases.as_slice())?;
+            Ok(tasks_decided(rt, alloc, name, text, options, cases.as_slice(), starts)?)
+        }
+    }
+}
+
+/// Decides the match of the case of the bytes, or those of its tasks, by commitments of the digest with this name, and writes the text
+/// of each that is asked for.
 #[tactic(auto, unfolding(crate::specs::commands::Judge::judged))]
 pub fn judge<R: Threads + Wait + Sync>(
     rt: &R,
@@ -54,9 +114,8 @@ pub fn judge<R: Threads + Wait + Sync>(
 ) -> Result<Response, Stop>
     requires { AreAtLeastOne options }
     ensures stands { Stands (λ response. response) result (judged text name bytes.items) }
-    ensures in_range { IfOk result (λ response. IsInRangeIfThere (case_for (written_as text) bytes.items)) }
+    ensures in_range { IfOk result (λ response. AreInRangeIfThere (tasks_for (written_as text) bytes.items)) }
 {
-    let case = case_in(alloc, bytes)?;
-    let start = start_in(alloc, &case)?;
-    Ok(decided(rt, alloc, name, text, options, &case, start)?)
+    let tasks = tasks_in(alloc, bytes)?;
+    judged_of(rt, alloc, text, name, options, &tasks)
 }

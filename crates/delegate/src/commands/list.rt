@@ -10,6 +10,7 @@ use crate::answered::Answered;
 use crate::faults;
 use crate::loading::{asm_image, case_in, flat_image};
 use crate::response::{Response, Stop};
+use crate::subject::Subject;
 use asm_image::AsmImageFault;
 use case_reader::{Case, CaseFault, Format, Key};
 use rd_base::{Bytes, Memory};
@@ -53,14 +54,14 @@ fn words_of(alloc: Global, bytes: &[u8]) -> Result<Vec<u32>, Memory>
 /// The words that an assembly text is assembled to.
 fn assembled(alloc: Global, text: &[u8]) -> Result<Vec<u32>, Stop>
     requires { length text.now ≤ 16777216 }
-    ensures { Stands (λ words. words.items) result (or_refusal asm_refusal (map_fault AsmImageFault.Text (assembled text.now))) }
+    ensures { Stands (λ words. words.items) result (or_refusal (asm_refusal Subject.Whole) (map_fault AsmImageFault.Text (assembled text.now))) }
 {
     match assemble(alloc, text) {
         Ok(words) => Ok(words),
         Err(AsmError::Memory) => Err(Stop::Memory),
         Err(AsmError::Fault(fault)) => {
             let fault = AsmImageFault::Text(fault);
-            Err(Stop::Refused(faults::asm_refusal(alloc, fault)?))
+            Err(Stop::Refused(faults::asm_refusal(alloc, Subject::Whole, fault)?))
         }
     }
 }
@@ -69,7 +70,7 @@ fn assembled(alloc: Global, text: &[u8]) -> Result<Vec<u32>, Stop>
 fn flat_words(alloc: Global, file: &[u8]) -> Result<Vec<u32>, Stop>
     ensures { Stands (λ words. words.items) result (words_by Format.Flat file.now) }
 {
-    flat_image(alloc, file)?;
+    flat_image(alloc, Subject::Whole, file)?;
     Ok(words_of(alloc, file)?)
 }
 
@@ -77,7 +78,7 @@ fn flat_words(alloc: Global, file: &[u8]) -> Result<Vec<u32>, Stop>
 fn asm_words(alloc: Global, text: &[u8]) -> Result<Vec<u32>, Stop>
     ensures { Stands (λ words. words.items) result (words_by Format.Asm text.now) }
 {
-    asm_image(alloc, text)?;
+    asm_image(alloc, Subject::Whole, text)?;
     assembled(alloc, text)
 }
 
@@ -85,7 +86,7 @@ fn asm_words(alloc: Global, text: &[u8]) -> Result<Vec<u32>, Stop>
 fn format_refusal(alloc: Global) -> Result<Response, AllocError>
     ensures { IfOk result (λ response. response ≡ format_refusal) }
 {
-    faults::case_refusal(alloc, CaseFault::OutOfRange(Key::Format))
+    faults::case_refusal(alloc, Subject::Whole, CaseFault::OutOfRange(Key::Format))
 }
 
 /// The words of the case's image.

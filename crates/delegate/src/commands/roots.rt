@@ -12,6 +12,7 @@ use crate::answered::Answered;
 use crate::faults;
 use crate::loading::{case_in, start_in};
 use crate::response::{Response, Stop};
+use crate::subject::Subject;
 use case_reader::{Case, CaseFault, Key};
 use digest_core::{Digester, Sha256};
 use rd_base::{Bytes, Memory};
@@ -30,7 +31,7 @@ fn bound_in(alloc: Global, case: &Case) -> Result<(), Stop>
 {
     if case.bound > MAX_ROOTS_BOUND {
         let fault = CaseFault::OutOfRange(Key::Bound);
-        return Err(Stop::Refused(faults::case_refusal(alloc, fault)?));
+        return Err(Stop::Refused(faults::case_refusal(alloc, Subject::Whole, fault)?));
     }
     Ok(())
 }
@@ -84,6 +85,6 @@ pub fn roots<R: Threads + Sync>(rt: &R, alloc: Global, bytes: Vec<u8>) -> Result
 {
     let case = case_in(alloc, bytes)?;
     bound_in(alloc, &case)?;
-    let start = start_in(alloc, &case)?;
+    let start = start_in(alloc, Subject::Whole, &case)?;
     Ok(roots_from(rt, alloc, Sha256, &case, start)?)
 }

@@ -5,6 +5,7 @@ ghost use Rattle.delegate.specs.Stages.{Stands};
 use crate::answered::Answered;
 use crate::loading::{case_in, start_in};
 use crate::response::{Response, Stop};
+use crate::subject::Subject;
 use digest_core::Sha256;
 use rd_base::Bytes;
 use rv_step::advance;
@@ -17,7 +18,7 @@ pub fn run(alloc: Global, bytes: Vec<u8>) -> Result<Response, Stop>
     ensures { Stands (λ response. response) result (ran bytes.items) }
 {
     let case = case_in(alloc, bytes)?;
-    let mut machine = start_in(alloc, &case)?;
+    let mut machine = start_in(alloc, Subject::Whole, &case)?;
     advance(&mut machine, &Sha256, case.bound)?;
     let text = answer_line(alloc, machine.ctl.status, machine.output.as_slice())?;
     Ok(Response {

@@ -1,7 +1,7 @@
 use Rattle.std.proofs.Common.{◌≡◌, subst, ap, ◌∙◌}
 use Rattle.std.specs.Process.{exit_status}
 use Rattle.command_line.specs.Words.{texts}
-use Rattle.delegate.specs.Headline.{AnswersTheCase, KeepsTheTruthful}
+use Rattle.delegate.specs.Headline.{AnswersTheCase, KeepsTheTruthful, AnswersTheTasks, KeepsTheTruthfulOfTasks}
 use Rattle.delegate.specs.Outcome.{outcome}
 use Rattle.delegate.specs.Process.{given, IsWrittenBy}
 use Rattle.delegate.specs.Visible.{ForItsBytes}
@@ -28,3 +28,23 @@ returns-in-Some-clause-headline g c = λ words is wholly.
     (for_its_bytes left _ _
     (λ bytes its. (by-status (outcome (texts c.as_slice.result.now) bytes) c.run.result (exit_status c.exit_code.result) _ _ c.exit_code.ensures its.0, its.1))
     (c.run.ensures.headline (whole-by c.run.result (exit_status c.exit_code.result) c.exit_code.ensures wholly)))
+
+pub returns-in-Some-clause-task_completeness : goal.returns-in-Some-clause-task_completeness
+returns-in-Some-clause-task_completeness g c = λ words is wholly.
+    let left = g.S.Source.left c.args.source.now in
+    let same : texts c.as_slice.result.now ≡ words =
+    ap texts c.as_slice.ensures.value ∙ same-words (given c.args.arguments) (texts c.in-Some.words.items) words c.in-Some.ensures is in
+    subst (λ ws. ForItsBytes left (λ bytes. IsWrittenBy (outcome ws bytes) (exit_status c.exit_code.result) (g.K.Sink.held c.args.sink.now) (g.K.Sink.held c.run.new.sink) × AnswersTheTasks ws bytes (outcome ws bytes))) same
+    (for_its_bytes left _ _
+    (λ bytes its. (by-status (outcome (texts c.as_slice.result.now) bytes) c.run.result (exit_status c.exit_code.result) _ _ c.exit_code.ensures its.0, its.1))
+    (c.run.ensures.task_completeness (whole-by c.run.result (exit_status c.exit_code.result) c.exit_code.ensures wholly)))
+
+pub returns-in-Some-clause-task_headline : goal.returns-in-Some-clause-task_headline
+returns-in-Some-clause-task_headline g c = λ words is wholly.
+    let left = g.S.Source.left c.args.source.now in
+    let same : texts c.as_slice.result.now ≡ words =
+    ap texts c.as_slice.ensures.value ∙ same-words (given c.args.arguments) (texts c.in-Some.words.items) words c.in-Some.ensures is in
+    subst (λ ws. ForItsBytes left (λ bytes. IsWrittenBy (outcome ws bytes) (exit_status c.exit_code.result) (g.K.Sink.held c.args.sink.now) (g.K.Sink.held c.run.new.sink) × KeepsTheTruthfulOfTasks ws bytes (outcome ws bytes))) same
+    (for_its_bytes left _ _
+    (λ bytes its. (by-status (outcome (texts c.as_slice.result.now) bytes) c.run.result (exit_status c.exit_code.result) _ _ c.exit_code.ensures its.0, its.1))
+    (c.run.ensures.task_headline (whole-by c.run.result (exit_status c.exit_code.result) c.exit_code.ensures wholly)))

@@ -3,7 +3,7 @@ use Rattle.std.specs.Io.KnownBytes.{Appends}
 use Rattle.command_line.specs.Words.{texts}
 use Rattle.delegate.specs.declared.answered.Answered.TheVariants.{ReadFault, WriteFault, Memory}
 use Rattle.delegate.proofs.OutcomeLemmas.{for_its_bytes}
-use Rattle.delegate.proofs.CaseLemmas.{outcome-case, outcome-headline}
+use Rattle.delegate.proofs.CaseLemmas.{outcome-case, outcome-headline, outcome-tasks, outcome-task-headline}
 use Rattle.delegate.proofs.KindLemmas.{response-kind, response-own, response-usage, response-usage_text, no-fault}
 use Rattle.delegate.proofs.program.run.Goals as goal
 
@@ -47,7 +47,7 @@ returns-in-Ok-write_all-clause-completeness g c = λ whole.
         answered = ap (λ r. r.answered) its.0;
         text = subst (λ text. Appends (g.K.Sink.held c.args.sink.now) (g.K.Sink.held c.write_all.new.sink) text) (c.as_slice.ensures ∙ ap (λ r. r.text) its.0) c.in-Ok-write_all.ensures.ok;
       },
-      outcome-case (texts c.args.words.now) bytes,
+      outcome-case c.cases_are_read_as_one_task.ensures (texts c.args.words.now) bytes,
     )) c.in-Ok.ensures.outcome
 
 pub returns-in-Ok-write_all-clause-headline : goal.returns-in-Ok-write_all-clause-headline
@@ -58,5 +58,27 @@ returns-in-Ok-write_all-clause-headline g c = λ whole.
         answered = ap (λ r. r.answered) its.0;
         text = subst (λ text. Appends (g.K.Sink.held c.args.sink.now) (g.K.Sink.held c.write_all.new.sink) text) (c.as_slice.ensures ∙ ap (λ r. r.text) its.0) c.in-Ok-write_all.ensures.ok;
       },
-      outcome-headline c.the_headline.ensures (texts c.args.words.now) bytes its.1,
+      outcome-headline c.cases_are_read_as_one_task.ensures c.the_headline.ensures (texts c.args.words.now) bytes its.1,
+    )) c.in-Ok.ensures.outcome
+
+pub returns-in-Ok-write_all-clause-task_completeness : goal.returns-in-Ok-write_all-clause-task_completeness
+returns-in-Ok-write_all-clause-task_completeness g c = λ whole.
+    for_its_bytes (g.S.Source.left c.args.source.now) _ _
+    (λ bytes its. (
+      record {
+        answered = ap (λ r. r.answered) its.0;
+        text = subst (λ text. Appends (g.K.Sink.held c.args.sink.now) (g.K.Sink.held c.write_all.new.sink) text) (c.as_slice.ensures ∙ ap (λ r. r.text) its.0) c.in-Ok-write_all.ensures.ok;
+      },
+      outcome-tasks (texts c.args.words.now) bytes,
+    )) c.in-Ok.ensures.outcome
+
+pub returns-in-Ok-write_all-clause-task_headline : goal.returns-in-Ok-write_all-clause-task_headline
+returns-in-Ok-write_all-clause-task_headline g c = λ whole.
+    for_its_bytes (g.S.Source.left c.args.source.now) _ _
+    (λ bytes its. (
+      record {
+        answered = ap (λ r. r.answered) its.0;
+        text = subst (λ text. Appends (g.K.Sink.held c.args.sink.now) (g.K.Sink.held c.write_all.new.sink) text) (c.as_slice.ensures ∙ ap (λ r. r.text) its.0) c.in-Ok-write_all.ensures.ok;
+      },
+      outcome-task-headline c.the_headline.ensures (texts c.args.words.now) bytes its.1,
     )) c.in-Ok.ensures.outcome
