@@ -1,4 +1,4 @@
--- Each refusal says why: no rule of a case or of an image is that memory ran out.
+-- Each refusal says why: no rule of a case, of an image or of a full text is that memory ran out.
 use Rattle.std.proofs.Common.{◌≡◌, ◌≢◌, ℕ, List, [], length, nat_lt, Result, Ok, Err, Option, Some, None, Bool, true, false, cond, refl, sym, ap, subst, ◌∙◌}
 use Rattle.rd_base.specs.Results.{◌>>=◌, map_fault}
 use Rattle.case_reader.specs.Case.{case_at}
@@ -19,6 +19,9 @@ use Rattle.asm_image.specs.declared.image.AsmImageFault.TheVariants as asm
 use Rattle.tournament.specs.declared.verdict.Verdict.{Verdict}
 use Rattle.tournament.specs.declared.verdict.Verdict.TheVariants.{Accept, NoneLeft, Collision}
 use Rattle.text_types.specs.declared.text.Stated.{Stated}
+use Rattle.text_reader.specs.declared.fault.TextFault.{TextFault}
+use Rattle.text_reader.specs.declared.fault.TextFault.TheVariants as texts
+use Rattle.text_reader.specs.ReadText.{read_text}
 use Rattle.audit.specs.declared.finding.Audit.{Audit}
 use Rattle.audit.specs.declared.finding.Audit.TheVariants.{Confirmed, Refused}
 use Rattle.command_line.specs.Words.{chosen}
@@ -33,7 +36,7 @@ use Rattle.delegate.specs.Digest.{digest_of}
 use Rattle.delegate.specs.Decided.{written_as, answered_for}
 use Rattle.delegate.specs.Together.{each_decided}
 use Rattle.delegate.specs.commands.Judge.{judging}
-use Rattle.delegate.specs.commands.Audit.{found}
+use Rattle.delegate.specs.commands.Audit.{text_fault_text, found}
 use Rattle.delegate.specs.Outcome.{outcome}
 use Rattle.delegate.specs.Answering.{EachRefusalSaysWhy}
 use Rattle.delegate.specs.declared.subject.Subject.{Subject}
@@ -48,12 +51,13 @@ use Rattle.image_reader.specs.Fault.{rule_of}
 abbrev SaysWhy : Response → Type 0
 SaysWhy r = is_refusal r.answered ≡ true → r.text ≢ []
 
--- no rule of a case or of tasks is that memory ran out
+-- no rule of a case, of tasks or of a full text is that memory ran out
 pub record NoneIsMemory : Type 0 where
   pub case_ : (bytes : List ℕ) → ¬ (case_at bytes ≡ Err cases.Memory)
   pub none : (bytes : List ℕ) → ¬ (tasks_at bytes ≡ Err tasks.Memory)
   pub whole : (bytes : List ℕ) → ¬ (tasks_at bytes ≡ Err (tasks.Whole cases.Memory))
   pub task : (bytes : List ℕ) (number : ℕ) → ¬ (tasks_at bytes ≡ Err (tasks.Task number cases.Memory))
+  pub text : (bytes : List ℕ) → ¬ (read_text bytes ≡ Err texts.Memory)
 
 case-why : (subject : Subject) (fault : CaseFault) → fault ≢ cases.Memory → case_fault_text subject fault ≢ []
 case-why subject cases.NotJson other = λ e. cc e
@@ -168,16 +172,23 @@ of-cases law = record {
   done = λ text refused. absurd (cc refused);
 }
 
-of-texts : OfTexts SaysWhy
-of-texts = record {
+fault-why : (fault : TextFault) → fault ≢ texts.Memory → text_fault_text fault ≢ []
+fault-why texts.BadHead other = λ e. cc e
+fault-why (texts.BadLine line) other = λ e. cc e
+fault-why texts.Truncated other = λ e. cc e
+fault-why (texts.OutOfRange line) other = λ e. cc e
+fault-why texts.Memory other = λ e. other refl
+
+of-texts : NoneIsMemory → OfTexts SaysWhy
+of-texts law = record {
   long = λ refused e. cc e;
-  unread = λ bytes fault is refused. absurd (cc refused);
+  unread = λ bytes fault is refused. fault-why fault (λ e. law.text bytes (is ∙ ap Err e));
   finding = by;
 }
   where
     by : (stated : Stated) (finding : Audit) → SaysWhy (found stated finding)
     by stated (Confirmed verdict) = λ refused. absurd (cc refused)
-    by stated (Refused line cause) = λ refused. absurd (cc refused)
+    by stated (Refused line cause) = λ refused e. cc e
 
 no-verdict : (text : MatchText) (verdict : Verdict) → is_refusal (answered_for (written_as text) verdict) ≡ false
 no-verdict Report (Accept number) = refl
@@ -198,7 +209,7 @@ parts none (Judge text name) = record {
 parts none Run = of-cases none
 parts none Roots = of-cases none
 parts none Listing = of-cases none
-parts none AuditOf = of-texts
+parts none AuditOf = of-texts none
 parts none (Big seed) = λ c start refused. absurd (cc refused)
 
 pub refusals-say-why : NoneIsMemory → EachRefusalSaysWhy

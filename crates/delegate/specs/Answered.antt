@@ -31,11 +31,12 @@ reads_all Usage = false
 reads_all TooLong = false
 reads_all answered = is_outcome answered
 
--- the arguments, a case or its image are refused, or there are too many bytes
+-- the arguments, a case, its image or a full text are refused, or there are too many bytes
 abbrev pub is_refusal : Answered → Bool
 is_refusal Usage = true
 is_refusal Case = true
 is_refusal Image = true
+is_refusal AuditRefused = true
 is_refusal TooLong = true
 is_refusal _ = false
 

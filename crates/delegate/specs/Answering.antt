@@ -8,6 +8,6 @@ use Rattle.delegate.specs.Outcome.{outcome}
 abbrev pub EachCommandHasItsAnswers : Type 0
 EachCommandHasItsAnswers = (words : List (List ℕ)) (bytes : List ℕ) → is_answer_to (chosen words) (outcome words bytes).answered ≡ true
 
--- what is refused is refused with a text: no rule of a case or of an image is that memory ran out
+-- what is refused is refused with a text: no rule of a case, of an image or of a full text is that memory ran out
 abbrev pub EachRefusalSaysWhy : Type 0
 EachRefusalSaysWhy = (words : List (List ℕ)) (bytes : List ℕ) → is_refusal (outcome words bytes).answered ≡ true → (outcome words bytes).text ≢ []

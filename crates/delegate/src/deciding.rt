@@ -22,7 +22,7 @@ use deposits::balances;
 use rd_base::{Bytes, Digest32, Memory};
 use rv_step::Machine;
 use segment_replay::Replays;
-use state_commit::state_root_in;
+use state_commit::{SharedInput, state_root_with};
 use std::alloc::Global;
 use std::sync::Wait;
 use std::thread::Threads;
@@ -112,8 +112,9 @@ where
     requires options { AreAtLeastOne options }
     ensures { IfOk result (λ response. response ≡ told D.digest_of (judging text name) (data_of case.now) (state_of start)) }
 {
-    let root = state_root_in(d, start.version, &start);
-    let (match_record, verdict) = verdict_from(rt, alloc, d, case, start, root, options)?;
+    let input = SharedInput::of(alloc, d, &start)?;
+    let root = state_root_with(d, &start, &input);
+    let (match_record, verdict) = verdict_from(rt, alloc, d, case, start, &input, root, options)?;
     let head = head_of(name, case, root);
     let bytes = text_of(alloc, text, case, &head, &match_record, &verdict)?;
     Ok(Response {

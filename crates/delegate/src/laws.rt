@@ -7,6 +7,7 @@ use case_reader::{no_fault_of_a_case_is_out_of_memory, no_fault_of_tasks_is_out_
 use deposits::truthful_provers_keep_their_stakes;
 use digest_core::{Sha256, Weak8};
 use machine_audit::confirmed_cases_are_right;
+use text_reader::no_fault_of_a_text_is_out_of_memory;
 use transcript_text::nothing_is_said_against_the_truthful;
 
 /// The headline, of what is written of each case whose numbers are in range and whose run starts in a valid state without output,
@@ -30,12 +31,13 @@ pub fn confirmed_texts_are_right()
     confirmed_cases_are_right::<Weak8>();
 }
 
-/// Each outcome has an answer of the command that the arguments name (`own`). Each refusal of arguments, of a case or of its image says
-/// why: no rule is that memory ran out, so that no text of a refusal is empty (`why`).
+/// Each outcome has an answer of the command that the arguments name (`own`). Each refusal of arguments, of a case, of its image or of
+/// a full text says why: no rule is that memory ran out, so that no text of a refusal is empty (`why`).
 pub fn answers_are_those_of_the_command()
     ensures own { EachCommandHasItsAnswers }
     ensures why { EachRefusalSaysWhy }
 {
     no_fault_of_a_case_is_out_of_memory();
     no_fault_of_tasks_is_out_of_memory();
+    no_fault_of_a_text_is_out_of_memory();
 }

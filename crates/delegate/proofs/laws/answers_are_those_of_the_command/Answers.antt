@@ -11,5 +11,6 @@ returns c = record {
         none = c.no_fault_of_tasks_is_out_of_memory.ensures.none;
         whole = c.no_fault_of_tasks_is_out_of_memory.ensures.whole;
         task = c.no_fault_of_tasks_is_out_of_memory.ensures.task;
+        text = c.no_fault_of_a_text_is_out_of_memory.ensures;
       });
 }
