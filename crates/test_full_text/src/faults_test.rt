@@ -1,6 +1,7 @@
 //! The rows of reading: each fault by itself, beside another on its line, and behind another line with one.
 
 use crate::pieces::{Told, read_pieces};
+use rd_base::Memory;
 use std::alloc::Global;
 use std::process::Abort;
 use std::test::Fail;
@@ -34,11 +35,19 @@ const SECOND_OUT_OF_RANGE: Told = Told::Fault(TextFault::OutOfRange(2));
 /// What stands behind a head, and what is read of the text.
 type Row = (&'static [u8], Told);
 
-/// Asserts of each row what is read, where this stands behind it.
+/// What is read of a text with a head, these lines, and this behind them.
+fn read_lines(alloc: Global, lines: &[u8], end: &[u8]) -> Result<Told, Memory> {
+    let mut bytes = Vec::from_slice(alloc, NUMBERS.as_bytes())?;
+    bytes.extend_from_slice(START)?;
+    bytes.extend_from_slice(lines)?;
+    bytes.extend_from_slice(end)?;
+    read_pieces(alloc, &[bytes.as_slice()])
+}
+
+/// Asserts of each row what is read if this stands behind it.
 fn assert_read(rt: &impl Abort, alloc: Global, rows: &[Row], end: &[u8]) -> Result<(), Fail> {
     for (lines, want) in rows {
-        let pieces: [&[u8]; 4] = [NUMBERS.as_bytes(), START, *lines, end];
-        assert_eq!(rt; read_pieces(alloc, &pieces)?, *want, "{lines:?}");
+        assert_eq!(rt; read_lines(alloc, lines, end)?, *want, "{lines:?}");
     }
     Ok(())
 }
