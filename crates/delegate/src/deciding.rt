@@ -92,9 +92,30 @@ fn text_of(
     }
 }
 
+/// The response to a case whose match, from this root, has ended. An `Err` is out of memory.
+#[tactic(auto, using(crate::proofs::HeadlineLemmas::answered_as))]
+fn response_of(
+    alloc: Global,
+    name: DigestName,
+    text: MatchText,
+    case: &Case,
+    root: Digest32,
+    match_record: &Record,
+    verdict: &Verdict,
+) -> Result<Response, Memory>
+    requires { IsSettledUp (length case.now.provers) match_record.now }
+    ensures { IfOk result (λ response. response ≡ response_of (judging text name) (data_of case.now) root match_record.now verdict.now) }
+{
+    let head = head_of(name, case, root);
+    let bytes = text_of(alloc, text, case, &head, match_record, verdict)?;
+    Ok(Response {
+        answered: answered_by(verdict),
+        text: Bytes::new(bytes),
+    })
+}
+
 /// Plays the match of a case by the digester `d`, which has this name, and writes the text of it that is asked for. The machine and
 /// the options are as for `verdict_of_case`. An `Err` is out of memory.
-#[tactic(auto, using(crate::proofs::HeadlineLemmas::answered_as))]
 pub fn judge<R: Threads + Wait + Sync, D: Replays>(
     rt: &R,
     alloc: Global,
@@ -115,12 +136,7 @@ where
     let input = SharedInput::of(alloc, d, &start)?;
     let root = state_root_with(d, &start, &input);
     let (match_record, verdict) = verdict_from(rt, alloc, d, case, start, &input, root, options)?;
-    let head = head_of(name, case, root);
-    let bytes = text_of(alloc, text, case, &head, &match_record, &verdict)?;
-    Ok(Response {
-        answered: answered_by(&verdict),
-        text: Bytes::new(bytes),
-    })
+    response_of(alloc, name, text, case, root, &match_record, &verdict)
 }
 
 /// Adds the texts of the matches of tasks that have ended, the first of which has this number, each under its line, and gives the
