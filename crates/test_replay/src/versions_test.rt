@@ -297,7 +297,9 @@ fn digests_without_and_with_the_tree<R: Threads + Sync>(
     let committed = made.swap(0, Ordering::SeqCst);
     state_root_with(counted, &machine, &tree);
     let root_with = made.swap(0, Ordering::SeqCst);
-    KeptRun::new(counted, run, tree).committed(rt, alloc, 8)?;
+    let kept = KeptRun::new(counted, run, tree);
+    made.store(0, Ordering::SeqCst);
+    kept.committed(rt, alloc, 8)?;
     Ok([root, committed, root_with, made.load(Ordering::SeqCst)])
 }
 
