@@ -3,7 +3,8 @@ ghost use Rattle.mem_plain.specs.Contents.{number_at};
 ghost use Rattle.rv_step.specs.Offer.{byte_or_ones};
 ghost use Rattle.rv_step.specs.State.{state_of, IsChained};
 ghost use Rattle.rv_step.specs.Step.{step as step_of, after_word, effect_at};
-ghost use Rattle.rv_step.specs.Parts.{after_finish, finished};
+ghost use Rattle.rv_step.specs.Parts.{after_finish, finished, IsAligned};
+ghost use Rattle.rv_step.specs.NumberRead.{read_for};
 ghost use Rattle.rv_step.specs.Touched.{stored_page, touched};
 ghost use Rattle.rv_step.specs.OutOfMemory.{Puts, NeedsMemory, StepNeedsMemory};
 
@@ -39,20 +40,32 @@ fn input_byte(input: &[u8], index: u32) -> u32
     }
 }
 
-/// Finishes an instruction for which memory or the input has been read, or memory written, with the number that was read. It
-/// gives back the page that is named, which is that of the store.
+/// The number that is read for what an instruction needs, of memory or of the input; 0 if it reads nothing.
+#[inline(always)]
+fn number_for(asked: &Need, mem: &PlainMem, input: &[u8]) -> u32
+    requires { IsAligned asked.now }
+    ensures { result ≡ read_for mem.now input.now asked.now }
+{
+    match asked {
+        Need::Load { addr, width } => number(mem, *addr, *width),
+        Need::Input { index } => input_byte(input, *index),
+        Need::Nothing | Need::Store { .. } | Need::Trap(_) => 0,
+    }
+}
+
+/// Finishes an instruction that stores nothing, with the number that was read for it. So it tells no page. An `Err` is out of
+/// memory, and changes nothing.
 #[inline(always)]
 fn finish_on<D: Digester>(
     machine: &mut Machine,
     d: &D,
     instr: &Instr,
     loaded: u32,
-    page: Option<u32>,
 ) -> Result<Option<u32>, Memory>
     requires { IsChained D.digest_of machine.old }
     ensures puts { OnErr result (Puts (finished machine.old.regs machine.old.ctl.pc loaded instr.now)) }
     ensures ok { OnOk result (state_of machine.new ≡ after_finish (state_of machine.old) (finished machine.old.regs machine.old.ctl.pc loaded instr.now)) }
-    ensures page { IfOk result (λ told. told ≡ page) }
+    ensures page { IfOk result (λ page. page ≡ None) }
     ensures err { OnErr result (state_of machine.new ≡ state_of machine.old) }
     ensures chained { IsChained D.digest_of machine.new }
 {
@@ -71,7 +84,7 @@ fn finish_on<D: Digester>(
         Outcome::Exit(code) => machine.ctl.status = Status::Exited(code),
         Outcome::Trap(code) => machine.ctl.status = Status::Trapped(code),
     }
-    Ok(page)
+    Ok(None)
 }
 
 /// Carries out an instruction that is at `pc`, and tells the page that it stores to. An `Err` is out of memory, and changes nothing.
@@ -91,24 +104,20 @@ fn carry_out<D: Digester>(
     ensures needs { OnErr result (NeedsMemory machine.old.mem (effect_at (state_of machine.old) instr.now)) }
     ensures chained { IsChained D.digest_of machine.new }
 {
-    match need(machine.version, &machine.regs, machine.ctl.pc, instr) {
-        Need::Nothing => finish_on(machine, d, instr, 0, None),
-        Need::Load { addr, width } => {
-            let loaded = number(&machine.mem, addr, width);
-            finish_on(machine, d, instr, loaded, None)
-        }
+    let asked = need(machine.version, &machine.regs, machine.ctl.pc, instr);
+    match asked {
         Need::Store { addr, width, value } => {
             machine.mem.store(addr, width, value)?;
             machine.ctl.pc = next(machine.ctl.pc);
             Ok(Some(addr / PAGE_BYTES))
         }
-        Need::Input { index } => {
-            let loaded = input_byte(&machine.input, index);
-            finish_on(machine, d, instr, loaded, None)
-        }
         Need::Trap(code) => {
             machine.ctl.status = Status::Trapped(code);
             Ok(None)
+        }
+        _ => {
+            let loaded = number_for(&asked, &machine.mem, &machine.input);
+            finish_on(machine, d, instr, loaded)
         }
     }
 }

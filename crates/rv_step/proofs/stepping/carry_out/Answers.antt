@@ -1,4 +1,4 @@
-use Rattle.std.proofs.Common.{◌≡◌, ℕ, Option, Result, Ok, Err, IfOk, OnErr, refl, subst, sym, ap, ◌∙◌}
+use Rattle.std.proofs.Common.{◌≡◌, ℕ, Option, None, Result, Ok, Err, IfOk, OnErr, refl, subst, sym, ap, ◌∙◌}
 use Rattle.std.proofs.lemmas.Result.{on_ok_weaker, on_err_weaker, IfOk-weaker}
 use Rattle.mem_plain.specs.Contents.{Contents, number_at}
 use Rattle.rv_step.specs.Offer.{byte_or_ones}
@@ -7,12 +7,13 @@ use Rattle.rv_step.specs.Step.{effect_at, following}
 use Rattle.rv_step.specs.Touched.{stored_page}
 use Rattle.rv_step.specs.OutOfMemory.{Puts, NeedsMemory}
 use Rattle.rv_step.specs.Parts.{Finishes, after_finish, finished, by_parts, needed_in}
+use Rattle.rv_step.specs.NumberRead.{read_for}
 use Rattle.rv_step.specs.declared.effect.Effect.{Effect}
 use Rattle.rv_step.specs.declared.effect.Effect.TheVariants.{Store}
 use Rattle.rv_step.specs.declared.asked.Need.{Need}
 use Rattle.rv_decode.specs.declared.instr.Instr.{Instr}
-use Rattle.rv_step.proofs.PartsLemmas.{at_finishes, parts_are_the_step, puts_need}
-use Rattle.rv_step.proofs.PageLemmas.{needed_page, page_needed}
+use Rattle.rv_step.proofs.PartsLemmas.{at_finishes, parts_are_the_step, puts_need, read_effect, read_parts}
+use Rattle.rv_step.proofs.PageLemmas.{needed_page, page_needed, not_stored}
 use Rattle.rv_step.proofs.stepping.carry_out.Goals as goal
 
 -- what is met, by the need that is at hand
@@ -30,27 +31,15 @@ stored : (s : State) (m n : Contents) (pc addr width value : ℕ) (e : Effect) �
     → (record s { memory = m; pc = pc }) ≡ after_finish (record s { memory = n }) e
 stored s m n pc addr width value e next is store = rw (next, is, store) refl
 
-pub returns-in-Nothing-clause-ok : goal.returns-in-Nothing-clause-ok
-returns-in-Nothing-clause-ok g c =
+pub returns-in_default-clause-ok : goal.returns-in_default-clause-ok
+returns-in_default-clause-ok g c =
     let s = state_of c.args.machine.now in
     let i = c.args.instr.now in
-    on_ok_weaker c.finish_on.result (λ done. done ∙ (ap (by_parts s i 0) c.in-Nothing.ensures.value ∙ parts_are_the_step s i 0)) c.finish_on.ensures.ok
-
-pub returns-in-Load-clause-ok : goal.returns-in-Load-clause-ok
-returns-in-Load-clause-ok g c =
-    let s = state_of c.args.machine.now in
-    let i = c.args.instr.now in
-    on_ok_weaker c.finish_on-in-Load.result
-    (λ done. done ∙ (ap (λ n. after_finish s (finished s.regs s.pc n i)) c.number-loaded.ensures ∙ (ap (by_parts s i 0) c.in-Load.ensures.value ∙ parts_are_the_step s i 0)))
-    c.finish_on-in-Load.ensures.ok
-
-pub returns-in-Input-clause-ok : goal.returns-in-Input-clause-ok
-returns-in-Input-clause-ok g c =
-    let s = state_of c.args.machine.now in
-    let i = c.args.instr.now in
-    on_ok_weaker c.finish_on-in-Input.result
-    (λ done. done ∙ (ap (λ n. after_finish s (finished s.regs s.pc n i)) (c.input_byte-loaded.ensures ∙ ap (λ bytes. byte_or_ones bytes c.in-Input.index) c.deref.ensures.value) ∙ (ap (by_parts s i 0) c.in-Input.ensures.value ∙ parts_are_the_step s i 0)))
-    c.finish_on-in-Input.ensures.ok
+    let n = c.need-asked.result in
+    on_ok_weaker c.finish_on.result
+    (λ done. done ∙ (ap (λ loaded. after_finish s (finished s.regs s.pc loaded i)) (c.number_for-loaded.ensures ∙ ap (λ bytes. read_for s.memory bytes n) c.deref.ensures.value)
+    ∙ (read_parts s i n c.in_default.not-Store c.in_default.not-Trap ∙ (ap (by_parts s i 0) c.need-asked.ensures.value ∙ parts_are_the_step s i 0))))
+    c.finish_on.ensures.ok
 
 pub returns-in_ok-store-in-Store-clause-ok : goal.returns-in_ok-store-in-Store-clause-ok
 returns-in_ok-store-in-Store-clause-ok g c =
@@ -65,15 +54,6 @@ returns-in-Trap-clause-ok g c =
     let i = c.args.instr.now in
     ap (by_parts s i 0) c.in-Trap.ensures.value ∙ parts_are_the_step s i 0
 
-pub returns-in-Nothing-clause-page : goal.returns-in-Nothing-clause-page
-returns-in-Nothing-clause-page g c = told c.finish_on.result (state_of c.args.machine.now) c.args.instr.now _ c.in-Nothing.ensures.value c.finish_on.ensures.page
-
-pub returns-in-Load-clause-page : goal.returns-in-Load-clause-page
-returns-in-Load-clause-page g c = told c.finish_on-in-Load.result (state_of c.args.machine.now) c.args.instr.now _ c.in-Load.ensures.value c.finish_on-in-Load.ensures.page
-
-pub returns-in-Input-clause-page : goal.returns-in-Input-clause-page
-returns-in-Input-clause-page g c = told c.finish_on-in-Input.result (state_of c.args.machine.now) c.args.instr.now _ c.in-Input.ensures.value c.finish_on-in-Input.ensures.page
-
 pub returns-in_ok-store-in-Store-clause-page : goal.returns-in_ok-store-in-Store-clause-page
 returns-in_ok-store-in-Store-clause-page g c =
     let s = state_of c.args.machine.now in
@@ -84,27 +64,6 @@ returns-in-Trap-clause-page g c =
     let s = state_of c.args.machine.now in
     ap needed_page c.in-Trap.ensures.value ∙ page_needed s.version (byte_or_ones s.input) s.regs s.pc (λ addr width. number_at s.memory addr width) c.args.instr.now
 
-pub returns-in-Nothing-clause-needs : goal.returns-in-Nothing-clause-needs
-returns-in-Nothing-clause-needs g c =
-    let s = state_of c.args.machine.now in
-    on_err_weaker c.finish_on.result (λ puts. puts_need s.memory _ (subst Puts (sym ((met s c.args.instr.now _ c.in-Nothing.ensures.value).0 0)) puts)) c.finish_on.ensures.puts
-
-pub returns-in-Load-clause-needs : goal.returns-in-Load-clause-needs
-returns-in-Load-clause-needs g c =
-    let s = state_of c.args.machine.now in
-    let i = c.args.instr.now in
-    on_err_weaker c.finish_on-in-Load.result
-    (λ puts. puts_need s.memory _ (subst Puts (ap (λ n. finished s.regs s.pc n i) c.number-loaded.ensures ∙ sym (met s i _ c.in-Load.ensures.value).0) puts))
-    c.finish_on-in-Load.ensures.puts
-
-pub returns-in-Input-clause-needs : goal.returns-in-Input-clause-needs
-returns-in-Input-clause-needs g c =
-    let s = state_of c.args.machine.now in
-    let i = c.args.instr.now in
-    on_err_weaker c.finish_on-in-Input.result
-    (λ puts. puts_need s.memory _ (subst Puts (ap (λ n. finished s.regs s.pc n i) (c.input_byte-loaded.ensures ∙ ap (λ bytes. byte_or_ones bytes c.in-Input.index) c.deref.ensures.value) ∙ sym (met s i _ c.in-Input.ensures.value).0) puts))
-    c.finish_on-in-Input.ensures.puts
-
 pub returns-in_err-store-in-Store-clause-needs : goal.returns-in_err-store-in-Store-clause-needs
 returns-in_err-store-in-Store-clause-needs g c =
     let s = state_of c.args.machine.now in
@@ -113,3 +72,19 @@ returns-in_err-store-in-Store-clause-needs g c =
       | Ok done ↦ tt
       | Err want ↦ subst (NeedsMemory s.memory) (sym (met s i _ c.in-Store.ensures.value).0) c.in_err-store-in-Store.ensures.unused
     ]
+
+pub returns-in_default-clause-page : goal.returns-in_default-clause-page
+returns-in_default-clause-page g c =
+    let n = c.need-asked.result in
+    told c.finish_on.result (state_of c.args.machine.now) c.args.instr.now n c.need-asked.ensures.value
+    (IfOk-weaker c.finish_on.result (λ page. page ≡ None) (λ page. page ≡ needed_page n) (λ page none. none ∙ not_stored n c.in_default.not-Store) c.finish_on.ensures.page)
+
+pub returns-in_default-clause-needs : goal.returns-in_default-clause-needs
+returns-in_default-clause-needs g c =
+    let s = state_of c.args.machine.now in
+    let i = c.args.instr.now in
+    let n = c.need-asked.result in
+    on_err_weaker c.finish_on.result
+    (λ puts. puts_need s.memory _ (subst Puts (ap (λ loaded. finished s.regs s.pc loaded i) (c.number_for-loaded.ensures ∙ ap (λ bytes. read_for s.memory bytes n) c.deref.ensures.value)
+    ∙ sym (read_effect s i n c.in_default.not-Store c.in_default.not-Trap (met s i n c.need-asked.ensures.value))) puts))
+    c.finish_on.ensures.puts
