@@ -1,9 +1,10 @@
 -- Derived: what holds of a run that is being recorded.
-use Rattle.std.specs.Prelude.{◌≡◌, ℕ, ◌+◌, ◌*◌, ◌/◌, ◌<◌, ◌≤◌, List, length, vec_len, slice_get, IfSome}
+use Rattle.std.specs.Prelude.{◌≡◌, ◌⊎◌, ℕ, ◌+◌, ◌*◌, ◌/◌, ◌<◌, ◌≤◌, true, false, List, length, vec_len, slice_get, IfSome}
 use Rattle.digest_core.specs.Chain.{chain_of}
 use Rattle.rd_base.specs.declared.tamper.Tamper.{Tamper}
 use Rattle.rv_step.specs.State.{State, state_of, IsChained}
 use Rattle.checkpoint_run.specs.TamperedRun.{run_from}
+use Rattle.checkpoint_run.specs.AtRest.{rests}
 use Rattle.checkpoint_run.specs.Versions.{AreBelow, IsShownBut}
 use Rattle.checkpoint_run.specs.WrittenPages.{writes}
 use Rattle.checkpoint_run.specs.NotedPages.{AreNoted}
@@ -30,3 +31,10 @@ pub record IsUnderWay (digest : List ℕ → List ℕ) (tamper : Tamper) (first 
   pub few : length r.versions.items + length r.changed.keys ≤ at_first r.checkpoints.items + writes tamper first r.at
   pub each : AllStand r.checkpoints.items r.versions.items r.machine.output.items (run_from tamper first) every
   pub chains : AllChained digest r.checkpoints.items (run_from tamper first) every
+
+-- the run from a state has been recorded up to a bound, or up to the step from which it stands still
+pub record IsAtEnd (digest : List ℕ → List ℕ) (tamper : Tamper) (first : State) (every bound : ℕ) (r : Recording) : Type 0 where
+  pub under_way : IsUnderWay digest tamper first every r
+  pub within : r.at ≤ bound
+  pub before : (k : ℕ) → k < r.at → rests tamper bound k (run_from tamper first k) ≡ false
+  pub ends : (rests tamper bound r.at (run_from tamper first r.at) ≡ true) ⊎ (r.at ≡ bound)

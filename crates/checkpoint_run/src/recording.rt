@@ -6,10 +6,10 @@ ghost use Rattle.checkpoint_run.specs.NamedPages.{IsNamed, ArePages};
 ghost use Rattle.checkpoint_run.specs.WrittenPages.{how_many};
 ghost use Rattle.checkpoint_run.specs.Versions.{AreBelow, IsShownBut, is_among};
 ghost use Rattle.checkpoint_run.specs.NotedPages.{AreNoted};
-ghost use Rattle.checkpoint_run.specs.UnderWay.{IsUnderWay};
+ghost use Rattle.checkpoint_run.specs.UnderWay.{IsUnderWay, IsAtEnd};
 
 use crate::checkpoint::{Checkpoint, add_checkpoint};
-use crate::tampering::{follow, tamper_at};
+use crate::tampering::{follow, is_at_rest, tamper_at};
 use crate::version::Version;
 use crate::versions::used_pages;
 use digest_core::Digester;
@@ -119,7 +119,8 @@ fn note(changed: &mut BTreeSet<u32>, lately: &mut Vec<u64>, page: Option<u32>) -
 }
 
 /// Takes the recording to the next step. An `Err` is out of memory.
-pub fn go_on<D: Digester>(
+#[inline(always)]
+fn go_on<D: Digester>(
     d: D,
     tamper: &Tamper,
     every: u32,
@@ -153,4 +154,49 @@ pub fn go_on<D: Digester>(
         &mut recording.checkpoints,
     )?;
     Ok(())
+}
+
+/// Takes a recording at step 0 to the bound, or to the step from which the run stands still if that comes first. An `Err` is out
+/// of memory.
+#[inline(always)]
+fn record_steps<D: Digester>(
+    d: D,
+    tamper: &Tamper,
+    bound: u64,
+    every: u32,
+    recording: &mut Recording,
+) -> Result<(), Memory>
+    requires every { 0 < every }
+    requires start { recording.old.at ≡ 0 }
+    requires under_way { IsUnderWay D.digest_of tamper.now (state_of recording.old.machine) every recording.old }
+    ensures { OnOk result (IsAtEnd D.digest_of tamper.now (state_of recording.old.machine) every bound recording.new) }
+{
+    'steps: while recording.at < bound
+        && !is_at_rest(tamper, bound, recording.at, &recording.machine)
+    {
+        go_on(d, tamper, every, recording)?;
+    }
+    Ok(())
+}
+
+/// Takes a recording at step 0 to the bound, or to the step from which the run stands still if that comes first. An `Err` is out
+/// of memory.
+///
+/// A run that nobody tampers with has a loop of its own, which takes no instruction to ask what a tamper does.
+pub fn record_to_end<D: Digester>(
+    d: D,
+    tamper: &Tamper,
+    bound: u64,
+    every: u32,
+    recording: &mut Recording,
+) -> Result<(), Memory>
+    requires every { 0 < every }
+    requires start { recording.old.at ≡ 0 }
+    requires under_way { IsUnderWay D.digest_of tamper.now (state_of recording.old.machine) every recording.old }
+    ensures { OnOk result (IsAtEnd D.digest_of tamper.now (state_of recording.old.machine) every bound recording.new) }
+{
+    match tamper {
+        Tamper::Untouched => record_steps(d, &Tamper::Untouched, bound, every, recording),
+        _ => record_steps(d, tamper, bound, every, recording),
+    }
 }

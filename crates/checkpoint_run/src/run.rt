@@ -7,8 +7,8 @@ ghost use Rattle.checkpoint_run.specs.WrittenPages.{written_by};
 ghost use Rattle.checkpoint_run.specs.Recorded.{AreChained, state_of_step, still_of};
 
 use crate::checkpoint::Checkpoint;
-use crate::recording::{Recording, begin, go_on};
-use crate::tampering::{follow, is_at_rest};
+use crate::recording::{Recording, begin, record_to_end};
+use crate::tampering::follow;
 use crate::version::Version;
 use crate::versions::restored;
 use digest_core::Digester;
@@ -112,11 +112,7 @@ pub fn record_run<D: Digester>(
     stopped_states_stay();
     runs_keep_the_input();
     let mut recording = begin(alloc, machine, &tamper, every)?;
-    'steps: while recording.at < bound
-        && !is_at_rest(&tamper, bound, recording.at, &recording.machine)
-    {
-        go_on(d, &tamper, every, &mut recording)?;
-    }
+    record_to_end(d, &tamper, bound, every, &mut recording)?;
     let Recording {
         machine: last,
         at,

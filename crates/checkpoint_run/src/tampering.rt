@@ -53,6 +53,7 @@ pub fn tamper_at(tamper: &Tamper, i: u64, machine: &mut Machine) -> Result<Optio
 
 /// The machine's step from step `i` on, which an early end leaves out, and the page that it stores to. An `Err` is out of
 /// memory.
+#[inline(always)]
 fn step_from<D: Digester>(
     d: D,
     tamper: &Tamper,
@@ -80,6 +81,7 @@ fn step_from<D: Digester>(
 
 /// Takes the machine of step `i` to the next one, and tells the pages that were written: that of the step's store, and then
 /// that of a byte that is flipped. An `Err` is out of memory.
+#[inline(always)]
 pub fn follow<D: Digester>(
     d: D,
     tamper: &Tamper,
