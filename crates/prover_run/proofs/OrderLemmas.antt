@@ -1,5 +1,5 @@
 -- Answerers that were made script by script answer in their order.
-use Rattle.std.proofs.Common.{◌≡◌, ℕ, suc, ◌+◌, ◌-◌, List, [], ◌∷◌, ◌++◌, length, map, Option, Some, refl, subst, sym, arith, ap, ◌∙◌, length-append}
+use Rattle.std.proofs.Common.{◌≡◌, ℕ, suc, ◌+◌, ◌-◌, List, [], ◌∷◌, ◌++◌, length, map, Option, Some, refl, subst, sym, arith, ap, ◌∙◌, length-append, Result, Ok, Err, OnOk}
 use Rattle.std.specs.Prelude.{slice_get, slice_index_or, take, drop, ◌≤◌}
 use Rattle.std.proofs.Math.Seq.{take-length}
 use Rattle.rd_base.specs.declared.answer.Answer.{Answer}
@@ -67,3 +67,8 @@ put_one f g old pushed all a (x ∷ xs) s some is same put rest =
     ∙ (ap (λ (ys : List _). map f pushed ++ map g ys) (take-length xs)
     ∙ (ap (λ (ys : List _). map f ys ++ map g xs) put
     ∙ behind_both f old a (g x) (map g xs) (same ∙ ap g is))))
+
+-- what follows of what holds of an answer
+pub on_made : {A E : Type 0} (P Q : Type 0) → (P → Q) → (r : Result A E) → OnOk r P → OnOk r Q
+on_made P Q more (Ok a) holds = more holds
+on_made P Q more (Err e) holds = holds

@@ -1,13 +1,12 @@
 //! The plain answers of a recorded run.
 ghost use denote.Param.Send.{IsSync};
-ghost use Rattle.std.specs.Prelude.{◌≡◌, ◌<◌, ◌≤◌, ℕ, IfOk, List, length, map, slice_index};
+ghost use Rattle.std.specs.Prelude.{◌≡◌, ◌<◌, ◌≤◌, ℕ, IfOk, List, length, map};
 ghost use Rattle.checkpoint_run.specs.Recorded.{state_of_step};
 ghost use Rattle.segment_replay.specs.Roots.{root_at, digests};
 ghost use Rattle.bisect_game.specs.Bisection.{steps_asked};
 ghost use Rattle.prover_run.specs.Plain as plain;
 ghost use Rattle.prover_run.specs.Prover.{Prover, IsRunOf, AreKept, run_of, root_of};
 
-use crate::middles::{Asked, asked_by};
 use bisect_game::{Kind, steps_asked};
 use plain_answers::{make_claim, make_proof};
 use rd_base::{Answer, Boxed, Digest32, Memory, RootList};
@@ -25,82 +24,33 @@ pub struct RunReader<D: Replays> {
     pub workers: u32,
 }
 
-/// Keeps roots by their steps. An `Err` is out of memory, after some were kept.
-fn keep(kept: &mut BTreeMap<u64, Digest32>, steps: &[u64], roots: &[Digest32]) -> Result<(), Memory>
-    requires { length steps.now ≡ length roots.now }
-    ensures { (root : ℕ → List ℕ) → digests roots.now ≡ map root steps.now → AreKept root kept.old.entries → AreKept root kept.new.entries }
+/// Keeps the root of a step. An `Err` is out of memory.
+fn keep(kept: &mut BTreeMap<u64, Digest32>, step: u64, root: Digest32) -> Result<(), Memory>
+    ensures { (roots : ℕ → List ℕ) → root.0 ≡ roots step → AreKept roots kept.old.entries → AreKept roots kept.new.entries }
 {
-    'roots: for k in 0..steps.len() {
-        kept.insert(steps[k], roots[k])?;
-    }
+    kept.insert(step, root)?;
     Ok(())
 }
 
-/// The roots of steps, in their order, each made from the one before. An `Err` is out of memory.
-fn roots_in_turn<D: Replays, R: Threads + Sync>(
-    rt: &R,
-    reader: &RunReader<D>,
-    run: &mut KeptRun<D>,
-    steps: &[u64],
-) -> Result<Vec<Digest32>, Memory>
-    requires { IsSync R.row }
-    ensures roots { IfOk result (λ v. digests v.items ≡ map (root_at D.digest_of run.old) steps.now) }
-    ensures run { run.new ≡ run.old }
-{
-    let mut roots = Vec::new(reader.alloc);
-    'steps: for step in steps {
-        let root = reader.d.root_of(rt, reader.alloc, run, *step)?;
-        roots.push(root)?;
-    }
-    Ok(roots)
-}
-
-/// The roots of steps, in their order: one worker makes each from the one before, several cut the steps into pieces. An `Err` is out
-/// of memory.
-fn roots_of_steps<D: Replays, R: Threads + Sync>(
-    rt: &R,
-    reader: &RunReader<D>,
-    run: &mut KeptRun<D>,
-    steps: &[u64],
-) -> Result<Vec<Digest32>, Memory>
-    requires sync { IsSync R.row }
-    requires workers { 0 < reader.now.workers }
-    ensures roots { IfOk result (λ v. digests v.items ≡ map (root_at D.digest_of run.old) steps.now) }
-    ensures run { run.new ≡ run.old }
-{
-    if reader.workers > 1 {
-        return reader
-            .d
-            .roots_of(rt, reader.alloc, run, steps, reader.workers);
-    }
-    roots_in_turn(rt, reader, run, steps)
-}
-
-/// The root of the one at a place of some steps, whose roots are computed together and kept. An `Err` is out of memory, after
-/// some were kept.
+/// The root of a step, made from the root that was made last. An `Err` is out of memory.
 #[tactic(auto, using(crate::proofs::RunLemmas::same_length, crate::proofs::RunLemmas::root_of_place))]
-fn computed<D: Replays, R: Threads + Sync>(
+fn made<D: Replays, R: Threads + Sync>(
     rt: &R,
     reader: &RunReader<D>,
     run: &mut KeptRun<D>,
-    kept: &mut BTreeMap<u64, Digest32>,
-    steps: &[u64],
-    place: usize,
+    step: u64,
 ) -> Result<Digest32, Memory>
     requires sync { IsSync R.row }
     requires workers { 0 < reader.now.workers }
-    requires inside { place < length steps.now }
-    ensures kept { (root : ℕ → List ℕ) → root ≡ root_at D.digest_of run.old → AreKept root kept.old.entries → AreKept root kept.new.entries }
-    ensures root { IfOk result (λ r. (root : ℕ → List ℕ) → root ≡ root_at D.digest_of run.old → r.0 ≡ root (slice_index steps.now place)) }
+    ensures root { IfOk result (λ r. r.0 ≡ root_at D.digest_of run.old step) }
     ensures run { run.new ≡ run.old }
 {
-    let roots = roots_of_steps(rt, reader, run, steps)?;
-    keep(kept, steps, &roots)?;
-    Ok(roots[place])
+    let RunReader { alloc, d, workers } = *reader;
+    let roots = d.roots_of(rt, alloc, run, &[step], workers)?;
+    Ok(roots[0])
 }
 
-/// The root of a step, which is kept, or else is computed, by several workers with those that the next rounds may ask for. An `Err`
-/// is out of memory, after some were kept.
+/// The root of a step, which is kept, or else is made and kept. An `Err` is out of memory.
 fn root<D: Replays, R: Threads + Sync>(
     rt: &R,
     reader: &RunReader<D>,
@@ -117,9 +67,9 @@ fn root<D: Replays, R: Threads + Sync>(
     if let Some(root) = kept.get(&step) {
         return Ok(*root);
     }
-    let bound = run.run().bound();
-    let Asked { steps, place } = asked_by(reader.alloc, reader.workers, bound, step)?;
-    computed(rt, reader, run, kept, &steps, place)
+    let root = made(rt, reader, run, step)?;
+    keep(kept, step, root)?;
+    Ok(root)
 }
 
 /// The roots at the cuts of an interval, computed in one go. An `Err` is out of memory.
@@ -137,8 +87,9 @@ fn roots_at_cuts<D: Replays, R: Threads + Sync>(
     ensures roots { IfOk result (λ l. digests l ≡ map (root_at D.digest_of run.old) (steps_asked lo hi parts)) }
     ensures run { run.new ≡ run.old }
 {
-    let steps = steps_asked(reader.alloc, lo, hi, parts)?;
-    let roots = roots_of_steps(rt, reader, run, &steps)?;
+    let RunReader { alloc, d, workers } = *reader;
+    let steps = steps_asked(alloc, lo, hi, parts)?;
+    let roots = d.roots_of(rt, alloc, run, &steps, workers)?;
     Ok(RootList::new(roots).unwrap())
 }
 

@@ -7,22 +7,19 @@
 //! tree of the input, which `answerers_with_input` takes from its caller. What an untouched
 //! script says in the words of the sequential run is in `laws`, and that each prover stays with its answer.
 //!
-//! Which roots are asked of a run in one go, and in which order, says `specs/Middles.antt`; no answer depends on it. One worker makes
-//! the root alone that is asked, from the one before, as the run is kept with its cursor (`KeptRun`). Several workers make those of
-//! the next rounds too, in ascending order. That a run is recorded once and each root is made once is read in `prover` and
-//! `answering`, and not proved; tests in `test_provers` count the digests. Read `specs/Plain.antt` first, then `prover`, then
-//! `provers`.
+//! A root is made from the root that was made last, as the run is kept with a cursor for each worker (`KeptRun`). If several roots are
+//! asked at once, as in rounds of more than two parts, the workers share them. That a run is recorded once and each root is made once is
+//! read in `prover` and `answering`, and not proved; tests in `test_provers` count the digests. Read `specs/Plain.antt` first, then
+//! `prover`, then `provers`.
 #![tactic(auto)]
 
 mod answerers;
 mod answering;
 mod laws;
-mod middles;
 mod prover;
 mod provers;
 
 pub use answerers::{answerers_of, answerers_with_input};
 pub use laws::{harmless_manners, outputs_grow_slowly, provers_are_steady, untouched_provers};
-pub use middles::{Asked, asked_with};
 pub use prover::RunAnswerer;
 pub use provers::{CaseNames, CaseProvers};

@@ -31,9 +31,9 @@ pub struct RunAnswerer<D: Replays> {
     every: u32,
     tamper: Tamper,
     workers: u32,
-    /// The run, with what its last root was made of.
+    /// The run, with what its last roots were made of.
     run: Option<KeptRun<D>>,
-    /// The roots that were asked for so far, and those that were asked with them, by their steps.
+    /// The roots that were asked for one at a time so far, by their steps.
     roots: BTreeMap<u64, Digest32>,
 }
 
@@ -132,7 +132,7 @@ fn recorded<D: Replays>(
             tampered_runs_keep_the_input();
             one_input_has_one_tree();
             let run = record_run(alloc, d, start, bound, every, tamper)?;
-            Ok(KeptRun::new(d, run, input.share()?))
+            Ok(KeptRun::new(alloc, d, run, input.share()?))
         }
     }
 }

@@ -3,12 +3,12 @@ ghost use Rattle.checkpoint_run.specs.Recorded.{AreChained, state_of_step};
 ghost use Rattle.state_commit.specs.Committing.{HasInput};
 ghost use Rattle.segment_replay.specs.Roots.{root_at, digests};
 
-use crate::cursor::{Cursor, machine_of_step, root_of_step};
-use crate::replaying::roots_with_input;
+use crate::cursor::machine_of_step;
+use crate::replaying::{Worker, roots_by};
 use checkpoint_run::{Run, tampered_runs_keep_the_input};
 use digest_core::Digester;
-use rd_base::{Digest32, Memory, Regs};
-use state_commit::{Committed, KeptRegisters, SharedInput, one_input_has_one_tree};
+use rd_base::{Digest32, Memory};
+use state_commit::{Committed, SharedInput, one_input_has_one_tree};
 use std::alloc::Global;
 use std::marker::Model;
 use std::thread::Threads;
@@ -32,21 +32,20 @@ fn committed_with_input<D: Digester + Send + Sync, R: Threads + Sync>(
     Committed::with_input(rt, alloc, d, machine, input)
 }
 
-/// A run that is kept with what its last root was made of, so that the next root takes the digests of what differs alone: a machine of
-/// it with the trees of its memory and of its registers, and the tree of its input, which all runs of a machine may share.
+/// A run that is kept with what each worker's last root was made of, so that its next root takes the digests of what differs alone: a
+/// machine of the run with the trees of its memory and of its registers; and with the tree of its input, which all runs of a machine may share.
 ///
 /// Contracts see it as the run.
 #[derive(Drop)]
 pub struct KeptRun<D: Digester> {
     d: D,
     run: Run,
-    cursor: Option<Cursor<D>>,
-    registers: KeptRegisters<D>,
+    workers: Vec<Worker<D>>,
     input: SharedInput<D>,
 }
 
 impl<D: Digester> Model for KeptRun<D> {
-    ghost use Rattle.std.specs.Prelude.{◌≡◌, IfSome};
+    ghost use Rattle.std.specs.Prelude.{◌≡◌, All, IfSome};
     ghost use Rattle.checkpoint_run.specs.Recorded.{Recorded, recorded_code, AreChained};
     ghost use Rattle.state_commit.specs.Committing.{HasInput};
     ghost use Rattle.segment_replay.specs.Cursor.{IsMachineOf, IsFresh};
@@ -57,24 +56,24 @@ impl<D: Digester> Model for KeptRun<D> {
 
     ghost view = { λ k. k.run };
 
-    ghost invariant = { λ k. AreChained D.digest_of k.run × (k.registers ≡ k.run.first.version) × HasInput D.digest_of k.run.first k.input
-        × IfSome k.cursor (λ c. IsMachineOf D.digest_of k.run c.at c.machine) × IfSome k.cursor (λ c. IsFresh D.digest_of c.tree c.machine.mem) };
+    ghost invariant = { λ k. AreChained D.digest_of k.run × HasInput D.digest_of k.run.first k.input
+        × All (λ w. w.registers ≡ k.run.first.version) k.workers.items
+        × All (λ w. IfSome w.cursor (λ c. IsMachineOf D.digest_of k.run c.at c.machine)) k.workers.items
+        × All (λ w. IfSome w.cursor (λ c. IsFresh D.digest_of c.tree c.machine.mem)) k.workers.items };
 }
 
 impl<D: Digester> KeptRun<D> {
     /// A run of which no root was made so far, with the tree of its input. The chain of each of its checkpoints is that of its output
     /// by this digester, as `record_run` makes it.
-    pub fn new(d: D, run: Run, input: SharedInput<D>) -> Self
+    pub fn new(alloc: Global, d: D, run: Run, input: SharedInput<D>) -> Self
         requires chained { AreChained D.digest_of run }
         requires input { HasInput D.digest_of run.first input }
         ensures { result ≡ run }
     {
-        let registers = KeptRegisters::new(d, run.version(), &Regs::new());
         KeptRun {
             d,
             run,
-            cursor: None,
-            registers,
+            workers: Vec::new(alloc),
             input,
         }
     }
@@ -87,37 +86,10 @@ impl<D: Digester> KeptRun<D> {
         &self.run
     }
 
-    /// The root of a step; above the bound the state of the bound stands for it. It is made from the root before, whether the step lies
-    /// ahead or behind. An `Err` is out of memory; the next root is made from a tree of its own then.
-    pub fn root<R: Threads + Sync>(
-        &mut self,
-        rt: &R,
-        alloc: Global,
-        step: u64,
-    ) -> Result<Digest32, Memory>
-    where
-        D: Send + Sync,
-        ensures root { IfOk result (λ r. r.0 ≡ root_at D.digest_of self.old step) }
-        ensures run { self.new ≡ self.old }
-    {
-        let at_hand = self.cursor.take();
-        let (moved, root) = root_of_step(
-            rt,
-            alloc,
-            self.d,
-            &self.run,
-            self.input.root(),
-            &mut self.registers,
-            at_hand,
-            step,
-        )?;
-        self.cursor = Some(moved);
-        Ok(root)
-    }
-
-    /// `roots` of the run, without the digests of its input.
+    /// `roots` of the run, without the digests of its input: each worker makes its first root from the one that it made last, whether the
+    /// step lies ahead or behind. An `Err` is out of memory; a worker that was stopped by it makes its next root from a tree of its own.
     pub fn roots<R: Threads + Sync>(
-        &self,
+        &mut self,
         rt: &R,
         alloc: Global,
         steps: &[u64],
@@ -126,10 +98,19 @@ impl<D: Digester> KeptRun<D> {
     where
         D: Send + Sync,
         requires { 0 < workers }
-        ensures { IfOk result (λ v. digests v.items ≡ map (root_at D.digest_of self.now) steps.now) }
+        ensures roots { IfOk result (λ v. digests v.items ≡ map (root_at D.digest_of self.old) steps.now) }
+        ensures run { self.new ≡ self.old }
     {
-        let input = self.input.root();
-        roots_with_input(rt, alloc, self.d, &self.run, input, steps, workers)
+        roots_by(
+            rt,
+            alloc,
+            self.d,
+            &self.run,
+            self.input.root(),
+            steps,
+            workers,
+            &mut self.workers,
+        )
     }
 
     /// The machine of a step with the trees of its version, that of its input shared with the run; above the bound the state of the

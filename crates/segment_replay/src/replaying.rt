@@ -1,6 +1,8 @@
-ghost use Rattle.std.specs.Prelude.{◌≡◌, ◌<◌, ◌≤◌, ◌+◌, ◌*◌, ◌/◌, ◌%◌, ℕ, IfOk, List, length, map, min};
+ghost use Rattle.std.specs.Prelude.{◌≡◌, ◌<◌, ◌≤◌, ◌+◌, ◌*◌, ◌/◌, ◌%◌, ℕ, All, IfOk, IfSome, OnOk, List, length, map, min, vec_len};
+ghost use Rattle.std.specs.Fork.{slice_chunk};
 ghost use Rattle.checkpoint_run.specs.Recorded.{AreChained, state_of_step};
 ghost use Rattle.segment_replay.specs.Roots.{IsInputRoot, root_at, digests};
+ghost use Rattle.segment_replay.specs.Cursor.{IsMachineOf, IsFresh};
 ghost use Rattle.segment_replay.specs.Pieces.{ArePieces};
 
 use crate::cursor::{Cursor, machine_of_step, root_of_step, run_input_root};
@@ -12,7 +14,17 @@ use std::alloc::Global;
 use std::thread;
 use std::thread::Threads;
 
-/// The roots of steps, in their order, by one worker, from the root of the run's input. An `Err` is out of memory.
+/// What a worker keeps of a run: its cursor, once it has made a root, the digests of the registers of that root, and the roots of the
+/// piece that it made last, or that memory ran out in it.
+#[derive(Drop)]
+pub struct Worker<D: Digester> {
+    pub cursor: Option<Cursor<D>>,
+    pub registers: KeptRegisters<D>,
+    pub made: Result<Vec<Digest32>, Memory>,
+}
+
+/// The roots of steps, in their order, by one worker, the first one made from the root that it made last. An `Err` is out of memory; the
+/// worker makes its next root from a tree of its own then.
 fn replayed<D: Digester + Send + Sync, R: Threads + Sync>(
     rt: &R,
     alloc: Global,
@@ -20,20 +32,64 @@ fn replayed<D: Digester + Send + Sync, R: Threads + Sync>(
     run: &Run,
     input: Digest32,
     steps: &[u64],
+    worker: &mut Worker<D>,
 ) -> Result<Vec<Digest32>, Memory>
     requires chained { AreChained D.digest_of run.now }
     requires input { IsInputRoot D.digest_of run.now input.0 }
-    ensures { IfOk result (λ v. digests v.items ≡ map (root_at D.digest_of run.now) steps.now) }
+    requires registers { worker.old.registers ≡ run.now.first.version }
+    requires machine { IfSome worker.old.cursor (λ c. IsMachineOf D.digest_of run.now c.at c.machine) }
+    requires tree { IfSome worker.old.cursor (λ c. IsFresh D.digest_of c.tree c.machine.mem) }
+    ensures registers { worker.new.registers ≡ run.now.first.version }
+    ensures machine { IfSome worker.new.cursor (λ c. IsMachineOf D.digest_of run.now c.at c.machine) }
+    ensures tree { IfSome worker.new.cursor (λ c. IsFresh D.digest_of c.tree c.machine.mem) }
+    ensures roots { IfOk result (λ v. digests v.items ≡ map (root_at D.digest_of run.now) steps.now) }
 {
     let mut roots = Vec::new(alloc);
-    let mut registers = KeptRegisters::new(d, run.version(), &Regs::new());
-    let mut cursor: Option<Cursor<D>> = None;
     'steps: for step in steps {
-        let (moved, root) = root_of_step(rt, alloc, d, run, input, &mut registers, cursor, *step)?;
+        let at_hand = worker.cursor.take();
+        let registers = &mut worker.registers;
+        let (moved, root) = root_of_step(rt, alloc, d, run, input, registers, at_hand, *step)?;
+        worker.cursor = Some(moved);
         roots.push(root)?;
-        cursor = Some(moved);
     }
     Ok(roots)
+}
+
+/// The piece with a place, from 0, where steps are cut into pieces of a size; none behind the last one.
+fn piece_at(steps: &[u64], size: usize, place: usize) -> &[u64]
+    ensures { result.now ≡ slice_chunk steps.now size place }
+{
+    let from = place.saturating_mul(size).min(steps.len());
+    let (_, rest) = steps.split_at(from);
+    let (piece, _) = rest.split_at(size.min(rest.len()));
+    piece
+}
+
+/// The roots of the piece with a worker's place, made by the worker.
+#[tactic(auto, using(crate::proofs::PieceLemmas::map_chunk))]
+fn replay_piece<D: Digester + Send + Sync, R: Threads + Sync>(
+    rt: &R,
+    alloc: Global,
+    d: D,
+    run: &Run,
+    input: Digest32,
+    steps: &[u64],
+    size: usize,
+    place: usize,
+    worker: &mut Worker<D>,
+)
+    requires chained { AreChained D.digest_of run.now }
+    requires input { IsInputRoot D.digest_of run.now input.0 }
+    requires registers { worker.old.registers ≡ run.now.first.version }
+    requires machine { IfSome worker.old.cursor (λ c. IsMachineOf D.digest_of run.now c.at c.machine) }
+    requires tree { IfSome worker.old.cursor (λ c. IsFresh D.digest_of c.tree c.machine.mem) }
+    ensures registers { worker.new.registers ≡ run.now.first.version }
+    ensures machine { IfSome worker.new.cursor (λ c. IsMachineOf D.digest_of run.now c.at c.machine) }
+    ensures tree { IfSome worker.new.cursor (λ c. IsFresh D.digest_of c.tree c.machine.mem) }
+    ensures made { IfOk worker.new.made (λ v. digests v.items ≡ slice_chunk (map (root_at D.digest_of run.now) steps.now) size place) }
+{
+    let piece = piece_at(steps, size, place);
+    worker.made = replayed(rt, alloc, d, run, input, piece, worker);
 }
 
 /// How long a piece is where so many steps are cut into at most `workers` pieces of this length, of which the last one may be
@@ -48,18 +104,126 @@ fn piece_size(steps: usize, workers: u32) -> usize
     steps.div_ceil(workers as usize)
 }
 
+/// At least so many workers of a run. An `Err` is out of memory, after some were added.
+fn add_workers<D: Digester>(
+    d: D,
+    run: &Run,
+    count: usize,
+    workers: &mut Vec<Worker<D>>,
+) -> Result<(), Memory>
+    requires registers { All (λ w. w.registers ≡ run.now.first.version) workers.old.items }
+    requires machines { All (λ w. IfSome w.cursor (λ c. IsMachineOf D.digest_of run.now c.at c.machine)) workers.old.items }
+    requires trees { All (λ w. IfSome w.cursor (λ c. IsFresh D.digest_of c.tree c.machine.mem)) workers.old.items }
+    ensures registers { All (λ w. w.registers ≡ run.now.first.version) workers.new.items }
+    ensures machines { All (λ w. IfSome w.cursor (λ c. IsMachineOf D.digest_of run.now c.at c.machine)) workers.new.items }
+    ensures trees { All (λ w. IfSome w.cursor (λ c. IsFresh D.digest_of c.tree c.machine.mem)) workers.new.items }
+    ensures count { OnOk result (count ≤ vec_len workers.new) }
+{
+    'workers: while workers.len() < count {
+        let registers = KeptRegisters::new(d, run.version(), &Regs::new());
+        workers.push(Worker {
+            cursor: None,
+            registers,
+            made: Err(Memory),
+        })?;
+    }
+    Ok(())
+}
+
+/// The roots of each worker's piece, made by the workers side by side, in at most `threads` threads.
+fn replay_pieces<D: Digester + Send + Sync, R: Threads + Sync>(
+    rt: &R,
+    alloc: Global,
+    d: D,
+    run: &Run,
+    input: Digest32,
+    steps: &[u64],
+    size: usize,
+    threads: usize,
+    workers: &mut [Worker<D>],
+)
+    requires threads { 0 < threads }
+    requires chained { AreChained D.digest_of run.now }
+    requires input { IsInputRoot D.digest_of run.now input.0 }
+    requires registers { All (λ w. w.registers ≡ run.now.first.version) workers.old }
+    requires machines { All (λ w. IfSome w.cursor (λ c. IsMachineOf D.digest_of run.now c.at c.machine)) workers.old }
+    requires trees { All (λ w. IfSome w.cursor (λ c. IsFresh D.digest_of c.tree c.machine.mem)) workers.old }
+    ensures registers { All (λ w. w.registers ≡ run.now.first.version) workers.new }
+    ensures machines { All (λ w. IfSome w.cursor (λ c. IsMachineOf D.digest_of run.now c.at c.machine)) workers.new }
+    ensures trees { All (λ w. IfSome w.cursor (λ c. IsFresh D.digest_of c.tree c.machine.mem)) workers.new }
+    ensures count { length workers.new ≡ length workers.old }
+    ensures made { ArePieces (map (root_at D.digest_of run.now) steps.now) size (map (λ w. w.made) workers.new) }
+{
+    let work = |place: usize, worker: &mut Worker<D>|
+        requires chained { AreChained D.digest_of run.now }
+        requires input { IsInputRoot D.digest_of run.now input.0 }
+        requires registers { worker.now.registers ≡ run.now.first.version }
+        requires machine { IfSome worker.now.cursor (λ c. IsMachineOf D.digest_of run.now c.at c.machine) }
+        requires tree { IfSome worker.now.cursor (λ c. IsFresh D.digest_of c.tree c.machine.mem) }
+        ensures registers { worker.exit.now.registers ≡ run.entry.now.first.version }
+        ensures machine { IfSome worker.exit.now.cursor (λ c. IsMachineOf D.digest_of run.entry.now c.at c.machine) }
+        ensures tree { IfSome worker.exit.now.cursor (λ c. IsFresh D.digest_of c.tree c.machine.mem) }
+        ensures made { IfOk worker.exit.now.made (λ v. digests v.items ≡ slice_chunk (map (root_at D.digest_of run.entry.now) steps.entry.now) size place) }
+    { replay_piece(rt, alloc, d, run, input, steps, size, place, worker) };
+    thread::for_each_mut(rt, workers, threads, &work);
+}
+
+/// Into how many pieces of a size so many steps are cut, of which the last one may be shorter.
+#[tactic(auto, using(crate::proofs::PieceLemmas::some_pieces))]
+fn piece_count(steps: usize, size: usize) -> usize
+    requires steps { 0 < steps }
+    requires size { 0 < size }
+    ensures value { result ≡ steps / size + min 1 (steps % size) }
+    ensures some { 0 < result }
+{
+    steps.div_ceil(size)
+}
+
 /// What the workers made, one behind the other. An `Err` is out of memory, here or in one of the pieces.
-fn joined(alloc: Global, pieces: &[Result<Vec<Digest32>, Memory>]) -> Result<Vec<Digest32>, Memory>
-    ensures { (wanted : List (List ℕ)) (size : ℕ) → ArePieces wanted size pieces.now → length wanted ≤ length pieces.now * size → IfOk result (λ v. digests v.items ≡ wanted) }
+fn joined<D: Digester>(alloc: Global, workers: &[Worker<D>]) -> Result<Vec<Digest32>, Memory>
+    ensures { (wanted : List (List ℕ)) (size : ℕ) → ArePieces wanted size (map (λ w. w.made) workers.now) → length wanted ≤ length workers.now * size → IfOk result (λ v. digests v.items ≡ wanted) }
 {
     let mut all = Vec::new(alloc);
-    'pieces: for piece in pieces {
-        match piece {
+    'pieces: for worker in workers {
+        match &worker.made {
             Ok(roots) => all.extend_from_slice(roots)?,
             Err(memory) => return Err(*memory),
         }
     }
     Ok(all)
+}
+
+/// The roots of steps, by the workers that a run keeps, from the root of the run's input. The steps are cut into at most `count` (at
+/// least 1) pieces of consecutive entries, one for each worker, whose cursor stands where it made its last root. An `Err` is out of memory.
+pub fn roots_by<D: Digester + Send + Sync, R: Threads + Sync>(
+    rt: &R,
+    alloc: Global,
+    d: D,
+    run: &Run,
+    input: Digest32,
+    steps: &[u64],
+    count: u32,
+    workers: &mut Vec<Worker<D>>,
+) -> Result<Vec<Digest32>, Memory>
+    requires count { 0 < count }
+    requires chained { AreChained D.digest_of run.now }
+    requires input { IsInputRoot D.digest_of run.now input.0 }
+    requires registers { All (λ w. w.registers ≡ run.now.first.version) workers.old.items }
+    requires machines { All (λ w. IfSome w.cursor (λ c. IsMachineOf D.digest_of run.now c.at c.machine)) workers.old.items }
+    requires trees { All (λ w. IfSome w.cursor (λ c. IsFresh D.digest_of c.tree c.machine.mem)) workers.old.items }
+    ensures registers { All (λ w. w.registers ≡ run.now.first.version) workers.new.items }
+    ensures machines { All (λ w. IfSome w.cursor (λ c. IsMachineOf D.digest_of run.now c.at c.machine)) workers.new.items }
+    ensures trees { All (λ w. IfSome w.cursor (λ c. IsFresh D.digest_of c.tree c.machine.mem)) workers.new.items }
+    ensures roots { IfOk result (λ v. digests v.items ≡ map (root_at D.digest_of run.now) steps.now) }
+{
+    if steps.is_empty() {
+        return Ok(Vec::new(alloc));
+    }
+    let size = piece_size(steps.len(), count);
+    let pieces = piece_count(steps.len(), size);
+    add_workers(d, run, pieces, workers)?;
+    replay_pieces(rt, alloc, d, run, input, steps, size, pieces, workers);
+    joined(alloc, workers)
 }
 
 /// `roots`, from the root of the run's input, which `run_input_root` gives. So it is made once, however often roots are asked of a
@@ -78,17 +242,8 @@ pub fn roots_with_input<D: Digester + Send + Sync, R: Threads + Sync>(
     requires input { IsInputRoot D.digest_of run.now input.0 }
     ensures { IfOk result (λ v. digests v.items ≡ map (root_at D.digest_of run.now) steps.now) }
 {
-    if steps.is_empty() {
-        return Ok(Vec::new(alloc));
-    }
-    let size = piece_size(steps.len(), workers);
-    let worker = |_start: usize, piece: &[u64]| -> Result<Vec<Digest32>, Memory>
-        requires chained { AreChained D.digest_of run.now }
-        requires input { IsInputRoot D.digest_of run.now input.0 }
-        ensures { IfOk result (λ v. digests v.items ≡ map (root_at D.digest_of run.entry.now) piece.now) }
-    { replayed(rt, alloc, d, run, input, piece) };
-    let pieces = thread::map_chunks(rt, alloc, steps, size, &worker)?;
-    joined(alloc, &pieces)
+    let mut made = Vec::new(alloc);
+    roots_by(rt, alloc, d, run, input, steps, workers, &mut made)
 }
 
 /// The roots of the run's states of some steps, each in the version of the run, in the order asked; a step may be asked more than

@@ -13,30 +13,19 @@ use std::thread::Threads;
 /// A digester by which runs can be replayed in threads. A method of a trait can't hand a digester of a type parameter to
 /// threads, so each digester says by itself that it can: its methods are those of `KeptRun`.
 pub trait Replays: Digester {
-    /// `KeptRun::root` by this digester.
-    fn root_of<R: Threads + Sync>(
-        self,
-        rt: &R,
-        alloc: Global,
-        run: &mut KeptRun<Self>,
-        step: u64,
-    ) -> Result<Digest32, Memory>
-        requires { IsSync R.row }
-        ensures root { IfOk result (λ r. r.0 ≡ root_at Self.digest_of run.old step) }
-        ensures run { run.new ≡ run.old };
-
     /// `KeptRun::roots` by this digester.
     fn roots_of<R: Threads + Sync>(
         self,
         rt: &R,
         alloc: Global,
-        run: &KeptRun<Self>,
+        run: &mut KeptRun<Self>,
         steps: &[u64],
         workers: u32,
     ) -> Result<Vec<Digest32>, Memory>
         requires sync { IsSync R.row }
         requires workers { 0 < workers }
-        ensures { IfOk result (λ v. digests v.items ≡ map (root_at Self.digest_of run.now) steps.now) };
+        ensures roots { IfOk result (λ v. digests v.items ≡ map (root_at Self.digest_of run.old) steps.now) }
+        ensures run { run.new ≡ run.old };
 
     /// `KeptRun::committed` by this digester.
     fn committed_of<R: Threads + Sync>(
@@ -51,21 +40,11 @@ pub trait Replays: Digester {
 }
 
 impl Replays for Sha256 {
-    fn root_of<R: Threads + Sync>(
-        self,
-        rt: &R,
-        alloc: Global,
-        run: &mut KeptRun<Self>,
-        step: u64,
-    ) -> Result<Digest32, Memory> {
-        run.root(rt, alloc, step)
-    }
-
     fn roots_of<R: Threads + Sync>(
         self,
         rt: &R,
         alloc: Global,
-        run: &KeptRun<Self>,
+        run: &mut KeptRun<Self>,
         steps: &[u64],
         workers: u32,
     ) -> Result<Vec<Digest32>, Memory> {
@@ -84,21 +63,11 @@ impl Replays for Sha256 {
 }
 
 impl Replays for Weak8 {
-    fn root_of<R: Threads + Sync>(
-        self,
-        rt: &R,
-        alloc: Global,
-        run: &mut KeptRun<Self>,
-        step: u64,
-    ) -> Result<Digest32, Memory> {
-        run.root(rt, alloc, step)
-    }
-
     fn roots_of<R: Threads + Sync>(
         self,
         rt: &R,
         alloc: Global,
-        run: &KeptRun<Self>,
+        run: &mut KeptRun<Self>,
         steps: &[u64],
         workers: u32,
     ) -> Result<Vec<Digest32>, Memory> {

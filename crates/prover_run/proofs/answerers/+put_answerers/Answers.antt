@@ -1,7 +1,6 @@
 use Rattle.rv_step.specs.State.{state_of}
 use Rattle.prover_run.specs.CaseScripts.{script_says}
-use Rattle.prover_run.proofs.MiddleLemmas.{on_made}
-use Rattle.prover_run.proofs.OrderLemmas.{put_one}
+use Rattle.prover_run.proofs.OrderLemmas.{on_made, put_one}
 use Rattle.prover_run.proofs.answerers.+put_answerers.Goals as goal
 
 pub returns : goal.returns

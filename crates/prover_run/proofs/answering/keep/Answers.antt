@@ -1,19 +1,12 @@
-use Rattle.std.proofs.Common.{◌≡◌, ℕ, zero, suc, ◌<◌, List, [], ◌∷◌, length, get_or, map, cond, eqb, Option, Some, IfSome, refl, sym, ap, subst, ◌∙◌, ⊎_elim, arith}
+use Rattle.std.proofs.Common.{◌≡◌, ℕ, List, cond, eqb, Option, Some, IfSome, sym, ap, subst, ◌∙◌, ⊎_elim, arith}
 use Rattle.std.specs.Ordering.{nat_cmp}
 use Rattle.std.specs.Map.{lookup}
 use Rattle.std.specs.BTreeMap.{is_at}
 use Rattle.std.proofs.lemmas.Bool.{cases_eq, eq-eqb, ne_eqb}
 use Rattle.std.proofs.lemmas.Bool.Decides.{nat_tests}
 use Rattle.rd_base.specs.declared.digest.Digest32.{Digest32}
-use Rattle.segment_replay.specs.Roots.{digests}
 use Rattle.prover_run.specs.Prover.{AreKept}
 use Rattle.prover_run.proofs.answering.keep.Goals as goal
-
-at_place : (root : ℕ → List ℕ) (steps : List ℕ) (roots : List Digest32) (k : ℕ) (value d : Digest32) → digests roots ≡ map root steps → k < length steps → value ≡ get_or roots k d → value.0 ≡ root (get_or steps k 0)
-at_place root [] roots k value d same below is = absurd (omega arith)
-at_place root (x ∷ xs) [] k value d same below is = absurd (cc)
-at_place root (x ∷ xs) (r ∷ rs) zero value d same below is = ap (λ (v : Digest32). v.0) is ∙ cc
-at_place root (x ∷ xs) (r ∷ rs) (suc k) value d same below is = at_place root xs rs k value d (cc) (omega arith) is
 
 is_at-eqb : (key x : ℕ) → is_at (nat_cmp key) x ≡ eqb x key
 is_at-eqb key x = grind (arith, nat_tests)
@@ -28,7 +21,6 @@ put root key value old new updates is were i =
     (λ other. subst P (sym (ap (λ b. cond b (Some value) (lookup (is_at (nat_cmp i)) old)) (ne_eqb i key other))) (were i))
     (cases_eq i key))
 
-pub roots-preserved : goal.roots-preserved
-roots-preserved c root same were =
-    put root _ _ c.roots.kept.entries c.insert.new.self.entries c.in_ok-insert.ensures.updates.0
-    (at_place root c.args.steps.now c.args.roots.now c.roots.k _ (record { 0 = [] }) same c.roots-test.true refl) (c.roots.invariant root same were)
+pub returns : goal.returns
+returns c roots same were =
+    put roots c.args.step c.args.root c.args.kept.now.entries c.insert.new.self.entries c.in_ok-insert.ensures.updates.0 same were

@@ -1,4 +1,4 @@
-use Rattle.std.proofs.Common.{◌≡◌, List, ℕ, min, ap, ◌∙◌}
+use Rattle.std.proofs.Common.{min, ap, ◌∙◌}
 use Rattle.rv_step.specs.State.{State, state_of}
 use Rattle.segment_replay.proofs.kept_run.committed_with_input.Goals as goal
 
