@@ -10,11 +10,10 @@ use Rattle.tournament.specs.Moves.{MatchState}
 use Rattle.tournament.specs.Journals.{turns}
 use Rattle.tournament.specs.Posting.{reply_to}
 use Rattle.board_book.specs.declared.entry.Entry.{Entry}
-use Rattle.board_book.specs.Entries.{IsEntry, IsJournal, who}
-use Rattle.board_book.specs.Asking.{ask_on}
+use Rattle.board_book.specs.Entries.{IsEntry, IsJournal, who, ask_on}
 use Rattle.board_book.specs.Tasks.{Task, numbered, Game, Games, begun_game, games_of, turned, after_entry, IsTaskEntry, IsTaskJournal, games_after, entries_of, of_task}
 use Rattle.board_book.specs.Alone.{played, TasksAreAlone, OwnEntriesDecide}
-use Rattle.board_book.specs.Numbers.{AreToldApart}
+use Rattle.board_book.specs.Keeping.{AreToldApart}
 
 -- an entry of the task, and one of another
 

@@ -22,7 +22,7 @@ use Rattle.bisect_game.specs.Truth.{Truth, IsRun}
 use Rattle.bisect_game.specs.Ruling.{Ruling, IsFair}
 use Rattle.board_book.specs.declared.entry.Entry.{Entry}
 use Rattle.board_book.specs.Entries.{IsEntry, IsJournal, who, state_after, is_stale}
-use Rattle.board_book.specs.Booking.{IsBook}
+use Rattle.board_book.specs.Keeping.{IsBook}
 
 either : (b : Bool) → (b ≡ true) ⊎ (b ≡ false)
 either true = inl refl

@@ -7,7 +7,7 @@ use Rattle.rd_base.specs.declared.answer.Answer.{Answer}
 use Rattle.bisect_game.specs.declared.question.Question.{Question}
 use Rattle.bisect_game.specs.Says.{Says, AnswerAs}
 use Rattle.tournament.specs.declared.setup.Setup.{Setup}
-use Rattle.board_book.specs.Playing.{sayings_from, sayings}
+use Rattle.board_book.specs.Tasks.{sayings_from, sayings}
 
 abbrev Saying : Type 0
 Saying = Question → ℕ → Option Answer

@@ -17,11 +17,9 @@ use Rattle.tournament.specs.Length.{IsMost}
 use Rattle.tournament.specs.Posting.{rules_of}
 use Rattle.board_book.specs.declared.entry.Entry.{Entry}
 use Rattle.board_book.specs.Entries.{IsJournal, who, is_stale, noted}
-use Rattle.board_book.specs.Tasks.{Task, task_of, numbered, Games, begun_game, games_of, IsTaskJournal, games_after, entries_of, BookOf, of_task, tasks_of, openings}
+use Rattle.board_book.specs.Tasks.{Task, task_of, numbered, Games, begun_game, games_of, IsTaskJournal, games_after, entries_of, BookOf, of_task, tasks_of, openings, noted_for}
 use Rattle.board_book.specs.Alone.{played}
-use Rattle.board_book.specs.Playing.{noted_for}
-use Rattle.board_book.specs.Keeping.{most_of, all_entries, HasRoom, AreKept, Grows}
-use Rattle.board_book.specs.Numbers.{AreNumbered}
+use Rattle.board_book.specs.Keeping.{most_of, all_entries, HasRoom, AreKept, Grows, AreNumbered}
 use Rattle.board_book.proofs.AloneLemmas.{alone, journals_join, block_is_legal, entries_join, entries_of_block, entries_of_others, journal_rest}
 
 -- numbers and places
@@ -222,45 +220,28 @@ noted_by_post t b c e xs is =
     let added : drop (length b) c ≡ (if is_stale e.reply then [] else e ∷ []) = ap (drop (length b)) (is ∙ noted_if (is_stale e.reply) b e) ∙ drop_at b (if is_stale e.reply then [] else e ∷ []) (length b) refl in
     ap (λ (l : List Entry). xs ++ of_task t l) added ∙ tagged_if (is_stale e.reply) t e xs
 
--- a book that was read, and one that was put back
+-- a book that was read
 
 pub book_read : {A : Type 0} (xs : List A) (t : ℕ) (b : A) → 0 < t → t ≤ length xs → b ≡ get_or xs (t - 1) b → numbered xs t ≡ Some b
 book_read xs t b some few e = numbered_at xs t b some (slice_get_read xs (length xs) (t - 1) b refl (omega (arith, some, few)) e)
 
-same_read : {A : Type 0} (xs : List A) (i : ℕ) (a b : A) → i < length xs → a ≡ get_or xs i a → b ≡ get_or xs i b → a ≡ b
-same_read xs i a b within ea eb = ea ∙ (get_or_default xs i a b within ∙ sym eb)
-
-put_back : {A : Type 0} (xs : List A) (i : ℕ) (c y : A) → i < length xs → y ≡ get_or (set xs i c) i y → y ≡ c
-put_back xs i c y within e = e ∙ get_or-set_same xs i c y within
-
--- what was read before and after a book grew
-pub record GrewAt {N M : Type 0} (ruling : N → Ruling) (says : M → Says) (bs : List (BookOf N M)) (t : ℕ) (b c x y : BookOf N M) (before after : List Entry) : Type 0 where
+-- what was read before and after the book of task t grew
+pub record GrewAt {N M : Type 0} (ruling : N → Ruling) (says : M → Says) (bs : List (BookOf N M)) (t : ℕ) (b c : BookOf N M) (before after : List Entry) : Type 0 where
   pub some : 0 < t
   pub few : t ≤ length bs
   pub lent : b ≡ get_or bs (t - 1) b
-  pub seen : x ≡ get_or bs (t - 1) x
-  pub put : y ≡ get_or (set bs (t - 1) c) (t - 1) y
-  pub old : before ≡ x.1
-  pub new : after ≡ y.1
+  pub old : before ≡ b.1
+  pub new : after ≡ c.1
   pub grows : Grows ruling says b c
 
-module _ {N M : Type 0} (ruling : N → Ruling) (says : M → Says) (bs : List (BookOf N M)) (t : ℕ) (b c x y : BookOf N M) (before after : List Entry) (g : GrewAt ruling says bs t b c x y before after) where
+module _ {N M : Type 0} (ruling : N → Ruling) (says : M → Says) (bs : List (BookOf N M)) (t : ℕ) (b c : BookOf N M) (before after : List Entry) (g : GrewAt ruling says bs t b c before after) where
   pub grew_there : numbered bs t ≡ Some b
   grew_there = book_read bs t b g.some g.few g.lent
-
-  within : t - 1 < length bs
-  within = let some = g.some in let few = g.few in omega (arith, some, few)
-
-  pub grew_old : before ≡ b.1
-  grew_old = g.old ∙ ap (λ (z : BookOf N M). z.1) (same_read bs (t - 1) x b within g.seen g.lent)
-
-  pub grew_new : after ≡ c.1
-  grew_new = g.new ∙ ap (λ (z : BookOf N M). z.1) (put_back bs (t - 1) c y within g.put)
 
   pub grew_kept : (journal journal_after : List (ℕ × Entry)) (capacity capacity_after : ℕ) → AreKept ruling says bs journal capacity → journal_after ≡ journal ++ of_task t (drop (length before) after) → capacity_after ≡ capacity →
       AreKept ruling says (set bs (t - 1) c) journal_after capacity_after
   grew_kept journal journal_after capacity capacity_after kept items cap =
-      let now : journal_after ≡ journal ++ of_task t (drop (length b.1) c.1) = items ∙ ap₂ (λ (u v : List Entry). journal ++ of_task t (drop (length u) v)) grew_old grew_new in
+      let now : journal_after ≡ journal ++ of_task t (drop (length b.1) c.1) = items ∙ ap₂ (λ (u v : List Entry). journal ++ of_task t (drop (length u) v)) g.old g.new in
       subst (λ (j : List (ℕ × Entry)). AreKept ruling says (set bs (t - 1) c) j capacity_after) (sym now)
       (subst (λ (n : ℕ). AreKept ruling says (set bs (t - 1) c) (journal ++ of_task t (drop (length b.1) c.1)) n) (sym cap) (kept_grown ruling says bs journal capacity t b c kept grew_there g.grows))
 
@@ -275,7 +256,7 @@ module _ {N M : Type 0} (ruling : N → Ruling) (says : M → Says) (bs : List (
       omega (arith, all, sum, parts, rest)
 
   pub grew_noted : (journal journal_after : List (ℕ × Entry)) (e : Entry) → journal_after ≡ journal ++ of_task t (drop (length before) after) → c.1 ≡ noted b.1 e → journal_after ≡ noted_for t journal e
-  grew_noted journal journal_after e items is = items ∙ (ap₂ (λ (u v : List Entry). journal ++ of_task t (drop (length u) v)) grew_old grew_new ∙ noted_by_post t b.1 c.1 e journal is)
+  grew_noted journal journal_after e items is = items ∙ (ap₂ (λ (u v : List Entry). journal ++ of_task t (drop (length u) v)) g.old g.new ∙ noted_by_post t b.1 c.1 e journal is)
 
 pub book_is : {N M : Type 0} (c b : BookOf N M) (es : List Entry) (st : MatchState) → c.0 ≡ b.0 → c.1 ≡ es → c.2 ≡ st → c ≡ (b.0, es, st)
 book_is c b es st e0 e1 e2 = ap₂ (λ (o : _) (j : List Entry). (o, j, c.2)) e0 e1 ∙ ap (λ (s : MatchState). (b.0, es, s)) e2

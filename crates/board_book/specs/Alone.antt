@@ -7,8 +7,7 @@ use Rattle.tournament.specs.Moves.{MatchState}
 use Rattle.tournament.specs.Journals.{turns}
 use Rattle.tournament.specs.Posting.{reply_to}
 use Rattle.board_book.specs.declared.entry.Entry.{Entry}
-use Rattle.board_book.specs.Entries.{IsJournal, who}
-use Rattle.board_book.specs.Asking.{ask_on}
+use Rattle.board_book.specs.Entries.{IsJournal, who, ask_on}
 use Rattle.board_book.specs.Tasks.{Task, numbered, Game, Games, games_of, IsTaskJournal, games_after, entries_of}
 
 -- a game after entries of its own

@@ -1,15 +1,18 @@
--- To believe: a journal. Each entry is a move of its prover on its open question, as that prover says, with the reply to it.
-use Rattle.std.specs.Prelude.{◌≡◌, ℕ, ◌<◌, Bool, true, false, List, [], ◌∷◌, ◌++◌, Some, is_none, if◌then◌else◌}
+-- To believe: a journal, and what a prover is asked. Each entry is a move of its prover on its open question, as that prover says, with
+-- the reply to it.
+use Rattle.std.specs.Prelude.{◌≡◌, ℕ, ◌<◌, Bool, true, false, List, [], ◌∷◌, ◌++◌, Some, is_none, if◌then◌else◌, Option, None}
 use Rattle.bisect_game.specs.declared.question.Question.{Question}
 use Rattle.bisect_game.specs.Says.{Says}
 use Rattle.bisect_game.specs.Rules.{Rules}
 use Rattle.tournament.specs.declared.posting.Reply.{Reply}
 use Rattle.tournament.specs.declared.posting.Reply.TheVariants.{Stale}
-use Rattle.tournament.specs.Bracket.{open_question}
+use Rattle.tournament.specs.Bracket.{open_question, is_complete}
 use Rattle.tournament.specs.Moves.{MatchState, begun, passes_of, settled_by}
 use Rattle.tournament.specs.Journals.{turn_on, turns}
 use Rattle.tournament.specs.Posting.{reply_by}
 use Rattle.board_book.specs.declared.entry.Entry.{Entry}
+use Rattle.board_book.specs.declared.entry.Ask.{Ask}
+use Rattle.board_book.specs.declared.entry.Ask.TheVariants as ask
 
 -- an entry replays: its question is its prover's open one, and its reply is the game's. It is scripted: its move is what the
 -- prover says to that question after so many passes.
@@ -42,3 +45,13 @@ is_stale _ = false
 -- the journal with this entry, unless it is stale
 abbrev pub noted : List Entry → Entry → List Entry
 noted es e = if is_stale e.reply then es else es ++ e ∷ []
+
+-- what a prover is asked: the open question with its passes; without one, nothing while the match goes on, and over once it has ended
+abbrev pub ask_on : MatchState → ℕ → Option Question → Ask
+ask_on st p (Some q) = ask.Question q (passes_of st p)
+ask_on st p None = if is_complete st.record_ then ask.Over else ask.Nothing
+
+-- a prover has an open question, on which it passes now
+abbrev pub waits_on : Says → MatchState → ℕ → Option Question → Bool
+waits_on says st p (Some q) = is_none (says p q (passes_of st p))
+waits_on says st p None = false

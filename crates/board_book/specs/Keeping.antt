@@ -1,14 +1,28 @@
--- Derived: books as they are kept, and what a move, or the end of a match, does to one of them.
-use Rattle.std.specs.Prelude.{◌≡◌, ℕ, ◌+◌, ◌-◌, ◌*◌, ◌<◌, ◌≤◌, List, [], ◌∷◌, ◌++◌, length, drop, Some}
-use Rattle.bisect_game.specs.Says.{Says}
+-- Derived: one book and many as they are kept, what a move, or the end of a match, does to one of them, and what stands at a number.
+use Rattle.std.specs.Prelude.{◌≡◌, ℕ, ◌+◌, ◌-◌, ◌*◌, ◌<◌, ◌≤◌, List, [], ◌∷◌, ◌++◌, length, drop, Some, ◌^◌, map, Option}
+use Rattle.bisect_game.specs.Says.{Says, AnswerAs}
 use Rattle.bisect_game.specs.Ruling.{Ruling}
 use Rattle.tournament.specs.declared.setup.Setup.{Setup}
-use Rattle.tournament.specs.Moves.{begun}
-use Rattle.tournament.specs.Length.{IsMost}
+use Rattle.tournament.specs.Moves.{begun, MatchState}
+use Rattle.tournament.specs.Length.{IsMost, most_entries}
 use Rattle.tournament.specs.Posting.{rules_of}
 use Rattle.board_book.specs.declared.entry.Entry.{Entry}
-use Rattle.board_book.specs.Entries.{IsJournal}
-use Rattle.board_book.specs.Tasks.{BookOf, openings, tasks_of, numbered, games_of, IsTaskJournal, entries_of}
+use Rattle.board_book.specs.Entries.{IsJournal, state_after}
+use Rattle.board_book.specs.Tasks.{BookOf, openings, tasks_of, numbered, games_of, IsTaskJournal, entries_of, Task, task_of, of_task, sayings_from}
+use Rattle.bisect_game.specs.Rules.{Rules, ArePlayable}
+use Rattle.rd_base.specs.declared.answer.Answer.{Answer}
+use Rattle.bisect_game.specs.declared.question.Question.{Question}
+
+-- a book as it is kept: its journal is legal, the match is its state, and there is room for each entry that can come
+pub record IsBook (rules : Rules) (says : Says) (count : ℕ) (es : List Entry) (st : MatchState) (room capacity : ℕ) : Type 0 where
+  pub playable : ArePlayable rules
+  pub counted : rules.provers ≡ count
+  pub few : count ≤ 16
+  pub legal : IsJournal rules says es (begun rules)
+  pub state : state_after rules says es ≡ st
+  pub most : (k : ℕ) × IsMost rules.fan rules.bound k × (room ≡ most_entries rules k)
+  pub small : room < 2 ^ 32
+  pub capacity_ : room ≤ capacity
 
 -- the most entries of a match in which a dispute has at most k bisection rounds
 abbrev pub most_of : Setup → ℕ → ℕ
@@ -39,3 +53,18 @@ module _ {N M : Type 0} where
     pub journal : after.1 ≡ before.1 ++ drop (length before.1) after.1
     pub legal : IsJournal (rules_of (ruling after.0.0) after.0.2) (says after.0.1) after.1 (begun (rules_of (ruling after.0.0) after.0.2))
     pub few : (k : ℕ) × IsMost after.0.2.fan after.0.2.bound k × (length after.1 ≤ most_of after.0.2 k)
+
+-- an opening has the number of its book, and a task the number of its opening, from 1 to their count
+pub record AreNumbered {N M : Type 0} (ruling : N → Ruling) (says : M → Says) : Type 0 where
+  pub book : (books : List (BookOf N M)) (t : ℕ) (b : BookOf N M) → numbered books t ≡ Some b → numbered (openings books) t ≡ Some b.0
+  pub opening : (heads : List (N × M × Setup)) (t : ℕ) (h : N × M × Setup) → numbered heads t ≡ Some h → numbered (tasks_of ruling says heads) t ≡ Some (task_of ruling says h)
+  pub task : (heads : List (N × M × Setup)) (t : ℕ) (k : Task) → numbered (tasks_of ruling says heads) t ≡ Some k → (0 < t) × (t ≤ length heads)
+
+-- the entries of a task are told from those of others, block by block
+pub record AreToldApart : Type 0 where
+  pub joined : (t : ℕ) (xs ys : List (ℕ × Entry)) → entries_of t (xs ++ ys) ≡ entries_of t xs ++ entries_of t ys
+  pub own : (t : ℕ) (es : List Entry) → entries_of t (of_task t es) ≡ es
+
+-- answerers that answer as the provers from this one on say, one after another, what these say
+abbrev pub SayInOrder : {A : Type 0} → (A → Question → ℕ → Option Answer) → Type 0
+SayInOrder {A} answers = (says : Says) (p : ℕ) (xs : List A) → AnswerAs answers says p xs → map answers xs ≡ sayings_from says p (length xs)

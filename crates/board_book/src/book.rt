@@ -13,8 +13,7 @@ ghost use Rattle.tournament.specs.Theorem.{AreTrue, Stays, IsRightVerdict, AllSh
 ghost use Rattle.tournament.specs.Truthful.{IsTruthfulProver, IsSafe};
 ghost use Rattle.tournament.specs.Length.{IsMost, most_entries};
 ghost use Rattle.board_book.specs.declared.entry.Entry.{Entry};
-ghost use Rattle.board_book.specs.Entries.{IsJournal, state_after, noted, is_stale};
-ghost use Rattle.board_book.specs.Asking.{ask_on, waits_on};
+ghost use Rattle.board_book.specs.Entries.{IsJournal, state_after, noted, is_stale, ask_on, waits_on};
 
 use crate::entry::{Ask, Entry};
 use crate::room::most_entries;
@@ -70,7 +69,7 @@ impl<J: Judge + Drop, P: Provers + Drop> Model for Book<J, P> {
     ghost use Rattle.tournament.specs.Moves.{MatchState};
     ghost use Rattle.tournament.specs.Posting.{rules_of};
     ghost use Rattle.board_book.specs.declared.entry.Entry.{Entry};
-    ghost use Rattle.board_book.specs.Booking.{IsBook};
+    ghost use Rattle.board_book.specs.Keeping.{IsBook};
 
     ghost Value = { (J.Names × P.Names × Setup) × (List Entry) × MatchState };
 

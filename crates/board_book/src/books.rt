@@ -1,6 +1,6 @@
 //! The books of many tasks.
 ghost use denote.Param.Send.{IsSync};
-ghost use Rattle.std.specs.Prelude.{◌≡◌, ℕ, ◌+◌, ◌-◌, ◌<◌, ◌≤◌, ◌++◌, [], ◌∷◌, true, set, take, map, List, Some, IfOk, length};
+ghost use Rattle.std.specs.Prelude.{◌≡◌, ℕ, ◌+◌, ◌-◌, ◌<◌, ◌≤◌, ◌++◌, [], ◌∷◌, true, set, take, drop, map, List, Some, IfOk, length};
 ghost use Rattle.std.specs.List.{All};
 ghost use Rattle.bisect_game.specs.declared.question.Question.{Question};
 ghost use Rattle.bisect_game.specs.Says.{AnswerAs};
@@ -8,14 +8,12 @@ ghost use Rattle.tournament.specs.Bracket.{open_question, is_complete};
 ghost use Rattle.tournament.specs.Moves.{passes_of};
 ghost use Rattle.tournament.specs.Posting.{rules_of, answer_of, same_qid};
 ghost use Rattle.board_book.specs.declared.entry.Entry.{Entry};
-ghost use Rattle.board_book.specs.Asking.{ask_on};
-ghost use Rattle.board_book.specs.Tasks.{numbered, games_of, IsTaskJournal, entries_of, BookOf, of_task, openings, tasks_of};
+ghost use Rattle.board_book.specs.Entries.{ask_on};
+ghost use Rattle.board_book.specs.Tasks.{numbered, games_of, IsTaskJournal, entries_of, BookOf, of_task, openings, tasks_of, sayings, PostedTo};
 ghost use Rattle.board_book.specs.Keeping.{HasRoom};
-ghost use Rattle.board_book.specs.Playing.{sayings, PostedTo};
 
 use crate::book::Book;
 use crate::entry::{Ask, Entry};
-use crate::growing::{finish_book, note_from, post_to};
 use bisect_game::{Answerer, Judge, Provers};
 use rd_base::{Memory, Qid};
 use std::alloc::Global;
@@ -55,6 +53,18 @@ fn room_of<J: Judge + Drop, P: Provers + Drop>(books: &[Book<J, P>]) -> u64
         total += book.room();
     }
     total
+}
+
+// Notes the entries from this place on as those of task t.
+fn note_from(journal: &mut Vec<(u32, Entry)>, t: u32, entries: &[Entry], from: usize)
+    requires within { from ≤ length entries.now }
+    requires room { length journal.old.items + (length entries.now - from) ≤ journal.old.cap }
+    ensures items { journal.new.items ≡ journal.old.items ++ of_task t (drop from entries.now) }
+    ensures room { journal.new.cap ≡ journal.old.cap }
+{
+    for i in from..entries.len() {
+        journal.push_reserved((t, entries[i]));
+    }
 }
 
 impl<J: Judge + Drop, P: Provers + Drop> Books<J, P> {
@@ -160,10 +170,12 @@ impl<J: Judge + Drop, P: Provers + Drop> Books<J, P> {
         ensures openings { openings self.new.0 ≡ openings self.old.0 }
         ensures posts { PostedTo J.ruling self.old.0 self.old.1 t p qid (answer_of turn) result self.new.0 self.new.1 }
     {
-        let place = t as usize - 1;
-        let before = self.books[place].journal().len();
-        let reply = post_to(&mut self.books[place], p, qid, turn);
-        note_from(&mut self.journal, t, self.books[place].journal(), before);
+        let book = &mut self.books[t as usize - 1];
+        let before = book.journal().len();
+        let reply = book.post(p, qid, turn);
+        book.is_legal();
+        book.room();
+        note_from(&mut self.journal, t, book.journal(), before);
         reply
     }
 
@@ -183,10 +195,12 @@ impl<J: Judge + Drop, P: Provers + Drop> Books<J, P> {
         ensures books { (b : BookOf J.Names P.Names) × (numbered self.old.0 t ≡ Some b) × ((c : BookOf J.Names P.Names) × (c.0 ≡ b.0) × (self.new.0 ≡ set self.old.0 (t - 1) c) × IfOk result (λ _. is_complete c.2.record_ ≡ true)) }
         ensures prefix { (xs : List (ℕ × Entry)) × (self.new.1 ≡ self.old.1 ++ xs) }
     {
-        let place = t as usize - 1;
-        let before = self.books[place].journal().len();
-        let ended = finish_book(rt, &mut self.books[place], answerers);
-        note_from(&mut self.journal, t, self.books[place].journal(), before);
+        let book = &mut self.books[t as usize - 1];
+        let before = book.journal().len();
+        let ended = book.finish_alone(rt, answerers);
+        book.is_legal();
+        book.room();
+        note_from(&mut self.journal, t, book.journal(), before);
         ended
     }
 

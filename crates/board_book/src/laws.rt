@@ -1,6 +1,6 @@
 //! Laws: each function has an empty body, and its clauses hold of all journals, openings and answerers.
 ghost use Rattle.board_book.specs.Alone.{TasksAreAlone, OwnEntriesDecide};
-ghost use Rattle.board_book.specs.Numbers.{AreNumbered, AreToldApart, SayInOrder};
+ghost use Rattle.board_book.specs.Keeping.{AreNumbered, AreToldApart, SayInOrder};
 
 use bisect_game::{Answerer, Judge, Provers};
 

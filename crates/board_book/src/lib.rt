@@ -16,7 +16,6 @@
 mod book;
 mod books;
 mod entry;
-mod growing;
 mod laws;
 mod room;
 

@@ -3,7 +3,7 @@ use Rattle.std.proofs.Common.{◌≡◌, ℕ, ◌==◌, if◌then◌else◌, Boo
 use Rattle.tournament.specs.declared.posting.Reply.{Reply}
 use Rattle.tournament.specs.declared.posting.Reply.TheVariants.{Taken, Faulty, Spent, Stale}
 use Rattle.board_book.specs.declared.entry.Entry.{Entry}
-use Rattle.dispute_board.specs.Logs.{number_of_pass, numbers_of_reply, numbers_of, log_of_journal, LogsTellJournals, StartsTellJournals}
+use Rattle.dispute_board.specs.OneHistory.{number_of_pass, numbers_of_reply, numbers_of, log_of_journal, LogsTellJournals, StartsTellJournals}
 
 -- the reply that was written
 abbrev open_of : List ℕ → Reply

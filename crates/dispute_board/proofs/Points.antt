@@ -20,17 +20,13 @@ use Rattle.tournament.specs.Posting.{same_qid, reply_by, reply_on, reply_to}
 use Rattle.board_book.specs.declared.entry.Entry.{Entry}
 use Rattle.board_book.specs.declared.entry.Ask.{Ask}
 use Rattle.board_book.specs.declared.entry.Ask.TheVariants as ask
-use Rattle.board_book.specs.Entries.{is_stale}
-use Rattle.board_book.specs.Tasks.{Task, games_of, IsTaskJournal}
-use Rattle.board_book.specs.Playing.{noted_for}
-use Rattle.board_book.specs.Asking.{ask_on}
+use Rattle.board_book.specs.Entries.{is_stale, ask_on}
+use Rattle.board_book.specs.Tasks.{Task, games_of, IsTaskJournal, noted_for}
 use Rattle.seat_lock.specs.History.{Turn, Begins, log_of, with_receipt}
 use Rattle.seat_lock.specs.Seats.{Known}
 use Rattle.seat_lock.specs.Turned.{Turned}
 use Rattle.dispute_board.specs.declared.turns.Posted.{Posted}
-use Rattle.dispute_board.specs.Logs.{numbers_of, log_of_journal, with_entry, turn_of}
-use Rattle.dispute_board.specs.Replies.{MayPost, MayPostFor, IsOfTheCase, IsReply, SaidMayBePosted}
-use Rattle.dispute_board.specs.OneHistory.{Stands, AsksOnBoard, PostsOnBoard, entry_unless_stale, own_state}
+use Rattle.dispute_board.specs.OneHistory.{numbers_of, log_of_journal, with_entry, turn_of, MayPost, MayPostFor, IsOfTheCase, IsReply, SaidMayBePosted, Stands, AsksOnBoard, PostsOnBoard, entry_unless_stale, own_state}
 use Rattle.dispute_board.specs.Turns.{is_due, reply_on_board, reply_in, AsksTheCase, Asks, Posts}
 
 -- what an answer of the board tells of the open question

@@ -14,8 +14,7 @@ use Rattle.board_book.specs.Tasks.{Task, task_of, tasks_of}
 use Rattle.seat_lock.specs.Seats.{Known}
 use Rattle.seat_lock.specs.Turned.{SameSeat}
 use Rattle.dispute_board.specs.declared.turns.Posted.{Posted}
-use Rattle.dispute_board.specs.Replies.{MayPost, MayPostFor, IsThere}
-use Rattle.dispute_board.specs.OneHistory.{Stands, AsksOnBoard, PostsOnBoard}
+use Rattle.dispute_board.specs.OneHistory.{MayPost, MayPostFor, IsThere, Stands, AsksOnBoard, PostsOnBoard}
 use Rattle.dispute_board.specs.OneTask.{only_of, of_one, HasOneTask}
 
 module _ {H : Type 0} where

@@ -5,7 +5,7 @@ use Rattle.std.proofs.lemmas.List.{length-map}
 use Rattle.bisect_game.specs.Ruling.{Ruling}
 use Rattle.bisect_game.specs.Says.{Says, GiveOneAnswer}
 use Rattle.board_book.specs.declared.entry.Entry.{Entry}
-use Rattle.board_book.specs.Tasks.{Task, task_of, numbered, games_of, IsTaskJournal, entries_of, BookOf, tasks_of, openings}
+use Rattle.board_book.specs.Tasks.{Task, task_of, numbered, games_of, IsTaskJournal, entries_of, BookOf, tasks_of, openings, noted_for}
 use Rattle.rd_base.specs.declared.answer.Answer.{Answer}
 use Rattle.rd_base.specs.declared.answer.Qid.{Qid}
 use Rattle.bisect_game.specs.declared.question.Question.{Question}
@@ -17,11 +17,9 @@ use Rattle.tournament.specs.Posting.{rules_of, same_qid, reply_on, reply_to}
 use Rattle.board_book.specs.declared.entry.Ask.{Ask}
 use Rattle.board_book.specs.Entries.{state_after}
 use Rattle.dispute_board.specs.declared.turns.Posted.{Posted}
-use Rattle.dispute_board.specs.Replies.{ask_in, IsThere, MayPostFor}
-use Rattle.dispute_board.specs.OneHistory.{receipt_of, own_state}
+use Rattle.dispute_board.specs.OneHistory.{ask_in, IsThere, MayPostFor, receipt_of, own_state}
 use Rattle.dispute_board.specs.Turns.{is_due, reply_in, reply_on_board, undue, AsksTheCase, Asks, Posts}
-use Rattle.board_book.specs.Playing.{noted_for}
-use Rattle.board_book.specs.Numbers.{AreNumbered}
+use Rattle.board_book.specs.Keeping.{AreNumbered}
 use Rattle.dispute_board.proofs.Points.{due_says, same_qid-is}
 
 module _ {N M : Type 0} (ruling : N → Ruling) (says : M → Says) (law : AreNumbered ruling says) where

@@ -12,11 +12,9 @@ use Rattle.tournament.specs.Moves.{MatchState, passes_of}
 use Rattle.tournament.specs.Posting.{reply_to}
 use Rattle.board_book.specs.declared.entry.Entry.{Entry}
 use Rattle.board_book.specs.declared.entry.Ask.{Ask}
-use Rattle.board_book.specs.Tasks.{Task, numbered, games_of, IsTaskJournal}
-use Rattle.board_book.specs.Playing.{noted_for}
+use Rattle.board_book.specs.Tasks.{Task, numbered, games_of, IsTaskJournal, noted_for}
 use Rattle.dispute_board.specs.declared.turns.Posted.{Posted}
-use Rattle.dispute_board.specs.Replies.{ask_in, IsOfTheCase}
-use Rattle.dispute_board.specs.OneHistory.{receipt_of, own_state}
+use Rattle.dispute_board.specs.OneHistory.{ask_in, IsOfTheCase, receipt_of, own_state}
 
 -- the move is due on the open question: the prover passes there now exactly as the move does
 abbrev pub is_due : Says → MatchState → ℕ → Option Answer → Question → Bool

@@ -6,9 +6,7 @@ ghost use Rattle.seat_lock.specs.Seats.{first_seat, after_split, split_off, afte
 ghost use Rattle.tournament.specs.declared.setup.Setup.{Setup};
 ghost use Rattle.tournament.specs.Posting.{rules_of, answer_of};
 ghost use Rattle.board_book.specs.Tasks.{task_of, of_task};
-ghost use Rattle.dispute_board.specs.Logs.{log_of_journal};
-ghost use Rattle.dispute_board.specs.Replies.{MayPost};
-ghost use Rattle.dispute_board.specs.OneHistory.{AsksOnBoard, PostsOnBoard};
+ghost use Rattle.dispute_board.specs.OneHistory.{log_of_journal, MayPost, AsksOnBoard, PostsOnBoard};
 
 use crate::task_board::{TaskBoard, TaskSeat};
 use crate::turns::Posted;

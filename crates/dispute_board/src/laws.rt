@@ -1,6 +1,5 @@
 //! Laws: each function has an empty body, and its clauses hold of all journals and tasks.
-ghost use Rattle.dispute_board.specs.Replies.{SaidMayBePosted};
-ghost use Rattle.dispute_board.specs.Logs.{LogsTellJournals, StartsTellJournals};
+ghost use Rattle.dispute_board.specs.OneHistory.{SaidMayBePosted, LogsTellJournals, StartsTellJournals};
 
 /// Different journals have different logs, so a log says all that its journal says. Where a log begins with another, so does its
 /// journal.

@@ -6,9 +6,7 @@ ghost use Rattle.seat_lock.specs.Seats.{first_seat, after_split, split_off, afte
 ghost use Rattle.tournament.specs.declared.setup.Setup.{Setup};
 ghost use Rattle.tournament.specs.Posting.{answer_of};
 ghost use Rattle.board_book.specs.Tasks.{openings, tasks_of};
-ghost use Rattle.dispute_board.specs.Logs.{log_of_journal};
-ghost use Rattle.dispute_board.specs.Replies.{MayPostFor, IsThere};
-ghost use Rattle.dispute_board.specs.OneHistory.{AsksOnBoard, PostsOnBoard};
+ghost use Rattle.dispute_board.specs.OneHistory.{log_of_journal, MayPostFor, IsThere, AsksOnBoard, PostsOnBoard};
 
 use crate::turns::{Asking, Locked, Posted, Posting};
 use bisect_game::{Judge, Provers};

@@ -4,8 +4,7 @@ ghost use Rattle.tournament.specs.Bracket.{open_question};
 ghost use Rattle.tournament.specs.Posting.{rules_of, answer_of};
 ghost use Rattle.bisect_game.specs.declared.question.Question.{Question};
 ghost use Rattle.board_book.specs.Tasks.{openings, tasks_of};
-ghost use Rattle.dispute_board.specs.Replies.{MayPostFor, IsThere};
-ghost use Rattle.dispute_board.specs.OneHistory.{receipt_of};
+ghost use Rattle.dispute_board.specs.OneHistory.{MayPostFor, IsThere, receipt_of};
 ghost use Rattle.dispute_board.specs.Turns.{Asks, Posts, is_due, undue};
 
 use bisect_game::{Judge, Provers};
@@ -23,7 +22,7 @@ pub struct Locked<J: Judge + Drop, P: Provers + Drop> {
 
 impl<J: Judge + Drop, P: Provers + Drop> Logged for Locked<J, P> {
     ghost use Rattle.board_book.specs.Tasks.{openings};
-    ghost use Rattle.dispute_board.specs.Logs.{log_of_journal};
+    ghost use Rattle.dispute_board.specs.OneHistory.{log_of_journal};
 
     // Contracts alone see a head: this type names the list of the openings.
     type Head = LinkedList<(J::Names, P::Names, Setup)>;
@@ -41,7 +40,7 @@ pub struct Posted {
     pub receipt: Option<u64>,
 }
 
-/// Asks what prover `p` of task `t` is asked.
+/// Asks what the book of task `t` asks prover `p`.
 #[derive(Drop)]
 pub struct Asking {
     pub t: u32,
@@ -51,7 +50,7 @@ pub struct Asking {
 impl<J: Judge + Drop, P: Provers + Drop> Job<Locked<J, P>> for Asking {
     ghost use Rattle.std.specs.Prelude.{◌≡◌};
     ghost use Rattle.board_book.specs.Tasks.{openings, tasks_of};
-    ghost use Rattle.dispute_board.specs.Replies.{IsThere};
+    ghost use Rattle.dispute_board.specs.OneHistory.{IsThere};
     ghost use Rattle.dispute_board.specs.Turns.{Asks};
 
     type Out = Ask;
@@ -61,48 +60,23 @@ impl<J: Judge + Drop, P: Provers + Drop> Job<Locked<J, P>> for Asking {
     ghost does = { λ job found left ask. (left ≡ found) × Asks (tasks_of J.ruling P.says (openings found.books.0)) found.books.1 job.t job.p ask };
 
     fn act(self, locked: &mut Locked<J, P>) -> Ask {
-        ask_in_turn(&locked.books, self.t, self.p)
+        let books = &locked.books;
+        books.is_legal();
+        tasks_are_numbered::<J, P>();
+        let book = books.book(self.t);
+        book.is_legal();
+        book.asks_what_the_case_asks();
+        book.ask(self.p)
     }
 }
 
-/// Posts a move of prover `p` of task `t`.
+/// Posts a move of prover `p` to the book of task `t`, if it is due there.
 #[derive(Drop)]
 pub struct Posting {
     pub t: u32,
     pub p: u32,
     pub qid: Qid,
     pub turn: Move,
-}
-
-impl<J: Judge + Drop, P: Provers + Drop> Job<Locked<J, P>> for Posting {
-    ghost use Rattle.std.specs.Prelude.{◌≡◌};
-    ghost use Rattle.tournament.specs.Posting.{answer_of};
-    ghost use Rattle.board_book.specs.Tasks.{openings, tasks_of};
-    ghost use Rattle.dispute_board.specs.Replies.{MayPostFor, IsThere};
-    ghost use Rattle.dispute_board.specs.Turns.{Posts};
-
-    type Out = Posted;
-
-    ghost fits = { λ job heads. IsThere (tasks_of J.ruling P.says heads) job.t job.p × MayPostFor (tasks_of J.ruling P.says heads) job.t job.p job.qid (answer_of job.turn) };
-
-    ghost does = { λ job found left posted. (openings left.books.0 ≡ openings found.books.0) × Posts (tasks_of J.ruling P.says (openings found.books.0)) found.books.1 job.t job.p job.qid (answer_of job.turn) posted left.books.1 };
-
-    fn act(self, locked: &mut Locked<J, P>) -> Posted {
-        post_in_turn(&mut locked.books, self)
-    }
-}
-
-// What the task's book asks, at a legal journal.
-fn ask_in_turn<J: Judge + Drop, P: Provers + Drop>(books: &Books<J, P>, t: u32, p: u32) -> Ask
-    requires { IsThere (tasks_of J.ruling P.says (openings books.now.0)) t p }
-    ensures { Asks (tasks_of J.ruling P.says (openings books.now.0)) books.now.1 t p result }
-{
-    books.is_legal();
-    tasks_are_numbered::<J, P>();
-    let book = books.book(t);
-    book.is_legal();
-    book.asks_what_the_case_asks();
-    book.ask(p)
 }
 
 // Whether a move is a pass.
@@ -150,33 +124,39 @@ fn undue_on<J: Judge + Drop, P: Provers + Drop>(book: &Book<J, P>, post: &Postin
     }
 }
 
-// Posts to the task's book what is due, at a legal journal.
-fn post_in_turn<J: Judge + Drop, P: Provers + Drop>(
-    books: &mut Books<J, P>,
-    post: Posting,
-) -> Posted
-    requires there { IsThere (tasks_of J.ruling P.says (openings books.old.0)) post.t post.p }
-    requires may { MayPostFor (tasks_of J.ruling P.says (openings books.old.0)) post.t post.p post.qid (answer_of post.turn) }
-    ensures openings { openings books.new.0 ≡ openings books.old.0 }
-    ensures posts { Posts (tasks_of J.ruling P.says (openings books.old.0)) books.old.1 post.t post.p post.qid (answer_of post.turn) result books.new.1 }
-{
-    books.is_legal();
-    tasks_are_numbered::<J, P>();
-    let book = books.book(post.t);
-    book.is_legal();
-    book.asks_what_the_case_asks();
-    let place = books.journal().len() as u64;
-    match undue_on(book, &post) {
-        Some(number) => Posted {
-            reply: Reply::Stale(Some(number)),
-            receipt: None,
-        },
-        None => {
-            let reply = books.post(post.t, post.p, post.qid, post.turn);
-            books.is_legal();
-            Posted {
-                reply,
-                receipt: receipt_for(reply, place),
+impl<J: Judge + Drop, P: Provers + Drop> Job<Locked<J, P>> for Posting {
+    ghost use Rattle.std.specs.Prelude.{◌≡◌};
+    ghost use Rattle.tournament.specs.Posting.{answer_of};
+    ghost use Rattle.board_book.specs.Tasks.{openings, tasks_of};
+    ghost use Rattle.dispute_board.specs.OneHistory.{MayPostFor, IsThere};
+    ghost use Rattle.dispute_board.specs.Turns.{Posts};
+
+    type Out = Posted;
+
+    ghost fits = { λ job heads. IsThere (tasks_of J.ruling P.says heads) job.t job.p × MayPostFor (tasks_of J.ruling P.says heads) job.t job.p job.qid (answer_of job.turn) };
+
+    ghost does = { λ job found left posted. (openings left.books.0 ≡ openings found.books.0) × Posts (tasks_of J.ruling P.says (openings found.books.0)) found.books.1 job.t job.p job.qid (answer_of job.turn) posted left.books.1 };
+
+    fn act(self, locked: &mut Locked<J, P>) -> Posted {
+        let books = &mut locked.books;
+        books.is_legal();
+        tasks_are_numbered::<J, P>();
+        let book = books.book(self.t);
+        book.is_legal();
+        book.asks_what_the_case_asks();
+        let place = books.journal().len() as u64;
+        match undue_on(book, &self) {
+            Some(number) => Posted {
+                reply: Reply::Stale(Some(number)),
+                receipt: None,
+            },
+            None => {
+                let reply = books.post(self.t, self.p, self.qid, self.turn);
+                books.is_legal();
+                Posted {
+                    reply,
+                    receipt: receipt_for(reply, place),
+                }
             }
         }
     }

@@ -11,13 +11,11 @@ use Rattle.bisect_game.specs.Ruling.{Ruling}
 use Rattle.bisect_game.specs.Says.{Says, AnswerAs}
 use Rattle.tournament.specs.declared.setup.Setup.{Setup}
 use Rattle.board_book.specs.declared.entry.Entry.{Entry}
-use Rattle.board_book.specs.Tasks.{Task, task_of, BookOf, openings, tasks_of, numbered, entries_of, of_task}
-use Rattle.board_book.specs.Playing.{sayings_from, sayings}
-use Rattle.board_book.specs.Numbers.{AreNumbered, AreToldApart, SayInOrder}
-use Rattle.dispute_board.specs.Replies.{IsThere}
-use Rattle.posters.specs.declared.place.Place.{Place}
-use Rattle.posters.specs.Places.{provers_from, places_from}
-use Rattle.posters.specs.Serving.{silent, said_by, IsProver}
+use Rattle.board_book.specs.Tasks.{Task, task_of, BookOf, openings, tasks_of, numbered, entries_of, of_task, sayings_from, sayings}
+use Rattle.board_book.specs.Keeping.{AreNumbered, AreToldApart, SayInOrder}
+use Rattle.dispute_board.specs.OneHistory.{IsThere}
+use Rattle.posters.specs.declared.playing.Place.{Place}
+use Rattle.posters.specs.Serving.{provers_from, places_from, silent, said_by, IsProver}
 
 abbrev Saying : Type 0
 Saying = Question → ℕ → Option Answer

@@ -8,12 +8,12 @@ use Rattle.bisect_game.specs.Says.{Says}
 use Rattle.seat_lock.specs.History.{LogEntry, History, log_of, turns_of, Begins}
 use Rattle.seat_lock.specs.Seats.{LockId, Known, after_join}
 use Rattle.seat_lock.specs.Turned.{SameSeat}
-use Rattle.board_book.specs.Numbers.{AreNumbered}
-use Rattle.dispute_board.specs.Replies.{IsOfTheCase, MayPostFor, SaidMayBePosted}
+use Rattle.board_book.specs.Keeping.{AreNumbered}
+use Rattle.dispute_board.specs.OneHistory.{IsOfTheCase, MayPostFor, SaidMayBePosted}
 use Rattle.bisect_game.specs.Ruling.{Ruling}
 use Rattle.tournament.specs.declared.setup.Setup.{Setup}
 use Rattle.board_book.specs.Tasks.{Task, task_of, numbered, tasks_of}
-use Rattle.posters.specs.declared.place.Place.{Place}
+use Rattle.posters.specs.declared.playing.Place.{Place}
 use Rattle.posters.specs.Serving.{kept_of, IsSeatOf, KnowsStart, IsProver}
 use Rattle.posters.proofs.Numbering.{task_same}
 

@@ -1,5 +1,6 @@
--- Derived: what stays of a poster while it serves, and what a seat must be for it. `play_tasks` says what comes of it.
-use Rattle.std.specs.Prelude.{◌≡◌, ℕ, ◌<◌, ◌≤◌, [], List, Option, Some, None, get_or}
+-- Derived: how the provers of all tasks are numbered, what stays of a poster while it serves, and what a seat must be for it. `play_tasks`
+-- says what comes of it.
+use Rattle.std.specs.Prelude.{◌≡◌, ℕ, ◌<◌, ◌≤◌, [], List, Option, Some, None, get_or, zero, suc, ◌+◌, ◌∷◌, ◌++◌}
 use Rattle.std.specs.List.{All}
 use Rattle.rd_base.specs.declared.answer.Answer.{Answer}
 use Rattle.bisect_game.specs.declared.question.Question.{Question}
@@ -7,9 +8,18 @@ use Rattle.bisect_game.specs.Says.{Says}
 use Rattle.tournament.specs.declared.setup.Setup.{Setup}
 use Rattle.seat_lock.specs.History.{LogEntry, log_of, Begins}
 use Rattle.seat_lock.specs.Seats.{LockId, Known}
-use Rattle.board_book.specs.Tasks.{numbered}
-use Rattle.board_book.specs.Playing.{sayings}
-use Rattle.posters.specs.declared.place.Place.{Place}
+use Rattle.board_book.specs.Tasks.{numbered, sayings}
+use Rattle.posters.specs.declared.playing.Place.{Place}
+
+-- the provers of all tasks are numbered from 0, through all tasks in order: so many provers of a task, from this one on
+abbrev pub provers_from : ℕ → ℕ → ℕ → List Place
+provers_from t p zero = []
+provers_from t p (suc n) = record { task = t; prover = p } ∷ provers_from t (p + 1) n
+
+-- the provers of all tasks, the first of which has this number
+abbrev pub places_from : {N M : Type 0} → ℕ → List (N × M × Setup) → List Place
+places_from t [] = []
+places_from t (h ∷ hs) = provers_from t 1 h.2.provers ++ places_from (t + 1) hs
 
 -- a prover that only passes
 abbrev pub silent : Question → ℕ → Option Answer

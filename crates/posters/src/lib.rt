@@ -4,17 +4,13 @@
 //! there were and whatever their threads did; so the record of each task is that of its case alone (`Book::has_the_record_of_the_case`),
 //! and no schedule shows in it. `play` does the same for one task. Each poster serves the provers of its class alone, in turns of its own
 //! seat at the board; answers are made between two turns, while others post. No clause says that two posters ran at once, or how long a
-//! poster takes. Read `gate`, `place` and `specs/Places.antt`, then `playing`; `serving` is what one poster does. The tests stand in
-//! `test_boards`.
+//! poster takes. Read `playing`, then `serving`, which is what one poster does. The tests stand in
+//! `test_boards` and `test_tasks`.
 #![tactic(auto)]
 
-mod gate;
 mod one_task;
-mod place;
 mod playing;
 mod serving;
 
-pub use gate::{Gate, OpenGate, TaskGate};
-pub use one_task::play;
-pub use place::Place;
-pub use playing::play_tasks;
+pub use one_task::{Gate, play};
+pub use playing::{OpenGate, Place, TaskGate, play_tasks};

@@ -4,14 +4,35 @@ ghost use Rattle.bisect_game.specs.Says.{AnswerAs};
 ghost use Rattle.tournament.specs.Bracket.{is_complete};
 ghost use Rattle.board_book.specs.declared.entry.Entry.{Entry};
 
-use crate::gate::{Gate, OneGate};
-use crate::playing::play_tasks;
+use crate::playing::{OpenGate, TaskGate, play_tasks};
 use bisect_game::{Answerer, Judge, Provers};
 use board_book::{Book, Books, answerers_say_in_order, entries_are_told_apart};
-use rd_base::Memory;
+use rd_base::{Memory, Qid};
 use std::alloc::Global;
 use std::sync::Wait;
 use std::thread::Threads;
+
+/// What comes before each post of one task. A test can wait here for another poster; a program takes `OpenGate`.
+pub trait Gate {
+    /// Comes before a post of prover `p` on the question of this number, outside the board's turns.
+    fn before_post(&self, p: u32, qid: Qid);
+}
+
+impl Gate for OpenGate {
+    fn before_post(&self, _p: u32, _qid: Qid) {}
+}
+
+/// A gate of one task, as a gate of many.
+#[derive(Drop)]
+struct OneGate<'g, G: Gate> {
+    gate: &'g G,
+}
+
+impl<'g, G: Gate> TaskGate for OneGate<'g, G> {
+    fn before_post(&self, _t: u32, p: u32, qid: Qid) {
+        self.gate.before_post(p, qid);
+    }
+}
 
 /// Plays the match out with so many posters: poster t of them, from 0, serves the provers p with `(p - 1) mod posters = t`, each
 /// poster in a thread of its own where one can be made. With one poster no thread is started. There is one answerer for each

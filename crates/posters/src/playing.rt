@@ -5,23 +5,40 @@ ghost use Rattle.tournament.specs.Bracket.{is_complete};
 ghost use Rattle.round_robin.specs.Classes.{HaveClasses};
 ghost use Rattle.board_book.specs.declared.entry.Entry.{Entry};
 ghost use Rattle.seat_lock.specs.History.{log_of};
-ghost use Rattle.board_book.specs.Tasks.{openings};
-ghost use Rattle.board_book.specs.Playing.{sayings};
-ghost use Rattle.posters.specs.Places.{provers_from, places_from};
-ghost use Rattle.posters.specs.Serving.{IsSeatOf, KnowsStart};
+ghost use Rattle.board_book.specs.Tasks.{openings, sayings};
+ghost use Rattle.posters.specs.Serving.{provers_from, places_from, IsSeatOf, KnowsStart};
 
-use crate::gate::TaskGate;
-use crate::place::Place;
 use crate::serving::{Hall, Poster};
 use bisect_game::{Answerer, Judge, Provers};
 use board_book::{Books, tasks_are_numbered};
 use dispute_board::{TaskBoard, TaskSeat, logs_tell_journals};
-use rd_base::Memory;
+use rd_base::{Memory, Qid};
 use round_robin::serve_all;
 use std::alloc::Global;
 use std::sync::Wait;
 use std::sync::atomic::{AtomicBool, AtomicU64};
 use std::thread::Threads;
+
+/// What comes before each post of many tasks. A test can wait here for another poster; a program takes `OpenGate`.
+pub trait TaskGate {
+    /// Comes before a post of prover `p` of task `t` on the question of this number, outside the board's turns.
+    fn before_post(&self, t: u32, p: u32, qid: Qid);
+}
+
+/// A gate that does nothing.
+#[derive(Clone, Copy, Debug)]
+pub struct OpenGate;
+
+impl TaskGate for OpenGate {
+    fn before_post(&self, _t: u32, _p: u32, _qid: Qid) {}
+}
+
+/// A prover among those of all tasks: the number of its task, and its own there, each from 1.
+#[derive(Clone, Copy, Debug)]
+pub struct Place {
+    pub task: u32,
+    pub prover: u32,
+}
 
 // Notes so many provers of task t, from 1 on.
 fn add_provers(places: &mut Vec<Place>, t: u32, count: u32) -> Result<(), Memory>

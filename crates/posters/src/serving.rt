@@ -4,11 +4,9 @@ ghost use Rattle.std.specs.Thread.{IsSync};
 ghost use Rattle.tournament.specs.declared.setup.Setup.{Setup};
 ghost use Rattle.tournament.specs.Posting.{answer_of};
 ghost use Rattle.posters.specs.declared.serving.Round.TheVariants.{GoesOn};
-ghost use Rattle.posters.specs.Places.{places_from};
-ghost use Rattle.posters.specs.Serving.{kept_of, IsSeatOf, IsProver, said_by};
+ghost use Rattle.posters.specs.Serving.{places_from, kept_of, IsSeatOf, IsProver, said_by};
 
-use crate::gate::TaskGate;
-use crate::place::Place;
+use crate::playing::{Place, TaskGate};
 use bisect_game::{Answerer, Judge, Provers};
 use board_book::{Ask, tasks_are_numbered};
 use dispute_board::{TaskBoard, TaskSeat, what_is_said_may_be_posted};
@@ -256,8 +254,7 @@ impl<'g, J: Judge + Drop, P: Provers + Drop, A: Answerer, G: TaskGate> Worker<Ha
     ghost use Rattle.bisect_game.specs.declared.question.Question.{Question};
     ghost use Rattle.tournament.specs.declared.setup.Setup.{Setup};
     ghost use Rattle.seat_lock.specs.Seats.{Known};
-    ghost use Rattle.posters.specs.Places.{places_from};
-    ghost use Rattle.posters.specs.Serving.{kept_of, IsSeatOf, said_by};
+    ghost use Rattle.posters.specs.Serving.{places_from, kept_of, IsSeatOf, said_by};
 
     ghost Kept = { Known (List (J.Names × P.Names × Setup)) × ℕ };
 

@@ -10,7 +10,7 @@ use Rattle.bisect_game.specs.Rules.{Rules}
 use Rattle.tournament.specs.Bracket.{claim_question, bracket}
 use Rattle.tournament.specs.Journals.{answers_of}
 use Rattle.tournament.specs.Asked.{asked}
-use Rattle.dispute_board.specs.Replies.{MayPost}
+use Rattle.dispute_board.specs.OneHistory.{MayPost}
 use Rattle.toy_game.specs.Toy.{answers}
 use Rattle.toy_game.specs.declared.player.Player.{Player}
 use Rattle.toy_game.specs.declared.cast.Cast.{Cast}

@@ -7,8 +7,7 @@ use Rattle.rd_base.specs.declared.answer.Answer.{Answer}
 use Rattle.bisect_game.specs.declared.question.Question.{Question}
 use Rattle.bisect_game.specs.Says.{Says}
 use Rattle.tournament.specs.declared.setup.Setup.{Setup}
-use Rattle.board_book.specs.Tasks.{BookOf, openings}
-use Rattle.board_book.specs.Playing.{sayings, sayings_from}
+use Rattle.board_book.specs.Tasks.{BookOf, openings, sayings, sayings_from}
 use Rattle.toy_game.specs.declared.cast.Cast.{Cast}
 use Rattle.toy_game.specs.declared.player.Player.{Player}
 use Rattle.toy_game.specs.Toy.{nobody, answers, says_of}

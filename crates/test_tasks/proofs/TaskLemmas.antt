@@ -10,8 +10,7 @@ use Rattle.seat_lock.specs.Turned.{SameSeat}
 use Rattle.board_book.specs.declared.entry.Ask.{Ask}
 use Rattle.board_book.specs.declared.entry.Ask.TheVariants as variant
 use Rattle.board_book.specs.Tasks.{Task, task_of, BookOf, openings, tasks_of, numbered}
-use Rattle.dispute_board.specs.Replies.{IsThere, MayPostFor, SaidMayBePosted}
-use Rattle.dispute_board.specs.OneHistory.{AsksOnBoard}
+use Rattle.dispute_board.specs.OneHistory.{IsThere, MayPostFor, SaidMayBePosted, AsksOnBoard}
 use Rattle.toy_game.specs.declared.cast.Cast.{Cast}
 use Rattle.toy_game.specs.Toy.{toy_ruling, says_of}
 use Rattle.test_tasks.specs.Casts.{opening_of, cast_at}

@@ -5,7 +5,7 @@ use Rattle.bisect_game.specs.declared.question.Question.{Question}
 use Rattle.bisect_game.specs.Says.{Says}
 use Rattle.tournament.specs.Moves.{MatchState, passes_of}
 use Rattle.board_book.specs.declared.entry.Ask.TheVariants as ask
-use Rattle.board_book.specs.Asking.{ask_on, waits_on}
+use Rattle.board_book.specs.Entries.{ask_on, waits_on}
 
 none-is : (o : Option Answer) → true ≡ is_none o → None ≡ o
 none-is None e = refl

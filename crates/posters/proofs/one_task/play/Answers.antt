@@ -2,8 +2,7 @@ use Rattle.std.proofs.Common.{◌≡◌, ◌∙◌, ◌<◌, ℕ, List, [], ◌�
 use Rattle.std.proofs.lemmas.List.{length-map}
 use Rattle.tournament.specs.Bracket.{is_complete}
 use Rattle.board_book.specs.declared.entry.Entry.{Entry}
-use Rattle.board_book.specs.Tasks.{entries_of, openings, BookOf}
-use Rattle.board_book.specs.Playing.{sayings}
+use Rattle.board_book.specs.Tasks.{entries_of, openings, BookOf, sayings}
 use Rattle.posters.proofs.Answering.{answer_again}
 use Rattle.posters.proofs.Numbering.{single_said, entries_more}
 use Rattle.posters.proofs.one_task.play.Goals as goal

@@ -1,5 +1,5 @@
 use Rattle.std.proofs.Common.{◌≡◌, ◌++◌}
-use Rattle.posters.specs.Places.{provers_from}
+use Rattle.posters.specs.Serving.{provers_from}
 use Rattle.posters.proofs.playing.add_provers.Given as goal
 
 abbrev pub invariant-loop-p : goal.invariant-loop-p

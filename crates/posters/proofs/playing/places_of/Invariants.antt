@@ -1,6 +1,6 @@
 use Rattle.std.proofs.Common.{◌≡◌, ◌≤◌, ◌*◌, take, length}
 use Rattle.board_book.specs.Tasks.{openings}
-use Rattle.posters.specs.Places.{places_from}
+use Rattle.posters.specs.Serving.{places_from}
 use Rattle.posters.proofs.playing.places_of.Given as goal
 
 abbrev pub invariant-loop-i : goal.invariant-loop-i

@@ -1,13 +1,11 @@
 use Rattle.std.proofs.Common.{rules, ◌≡◌, ℕ, ◌+◌, ◌<◌, ◌≤◌, arith, List, ◌++◌, append_assoc, length, map, get_or, refl, sym, ap, ◌∙◌, subst}
 use Rattle.tournament.specs.declared.setup.Setup.{Setup}
 use Rattle.seat_lock.specs.History.{log_of, Begins}
-use Rattle.board_book.specs.Tasks.{openings}
-use Rattle.board_book.specs.Playing.{sayings}
-use Rattle.dispute_board.specs.Logs.{log_of_journal}
+use Rattle.board_book.specs.Tasks.{openings, sayings}
+use Rattle.dispute_board.specs.OneHistory.{log_of_journal}
 use Rattle.posters.specs.declared.serving.Poster.{Poster}
 use Rattle.std.proofs.lemmas.List.{length-map}
-use Rattle.posters.specs.Places.{places_from}
-use Rattle.posters.specs.Serving.{kept_of, said_by}
+use Rattle.posters.specs.Serving.{places_from, kept_of, said_by}
 use Rattle.posters.proofs.Numbering.{all_by_number, as_many}
 use Rattle.std.proofs.lemmas.Option.{same_Some}
 use Rattle.posters.proofs.Seats.{log_of-turns_of}

@@ -2,7 +2,7 @@ use Rattle.std.proofs.Common.{◌≡◌, ℕ, List, Some, sym, ◌∙◌, subst}
 use Rattle.tournament.specs.declared.setup.Setup.{Setup}
 use Rattle.tournament.specs.Posting.{answer_of}
 use Rattle.board_book.specs.Tasks.{tasks_of}
-use Rattle.dispute_board.specs.Replies.{MayPostFor, IsThere}
+use Rattle.dispute_board.specs.OneHistory.{MayPostFor, IsThere}
 use Rattle.posters.proofs.Numbering.{is_there}
 use Rattle.std.proofs.lemmas.Option.{same_Some}
 use Rattle.posters.proofs.Seats.{may_post_for}

@@ -1,6 +1,6 @@
 use Rattle.std.proofs.Common.{rules, ℕ, List, slice_index_or, map, sym, ap, ◌∙◌}
 use Rattle.std.specs.Prelude.{slice_get}
-use Rattle.posters.specs.declared.place.Place.{Place}
+use Rattle.posters.specs.declared.playing.Place.{Place}
 use Rattle.posters.specs.Serving.{kept_of, said_by}
 use Rattle.posters.proofs.Answering.{said_at, said_again}
 use Rattle.posters.proofs.Numbering.{prover_at}

@@ -1,5 +1,5 @@
 use Rattle.std.proofs.Common.{◌≡◌, ◌++◌, map}
-use Rattle.board_book.specs.Playing.{sayings_from}
+use Rattle.board_book.specs.Tasks.{sayings_from}
 use Rattle.toy_game.specs.declared.cast.Seated.{Seated}
 use Rattle.toy_game.specs.Toy.{answers, says_of}
 use Rattle.test_tasks.proofs.casts.add_seats.Given as goal

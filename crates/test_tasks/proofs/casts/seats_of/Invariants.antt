@@ -1,5 +1,5 @@
 use Rattle.std.proofs.Common.{◌≡◌, map, take}
-use Rattle.board_book.specs.Playing.{sayings}
+use Rattle.board_book.specs.Tasks.{sayings}
 use Rattle.toy_game.specs.declared.cast.Cast.{Cast}
 use Rattle.toy_game.specs.declared.cast.Seated.{Seated}
 use Rattle.toy_game.specs.Toy.{answers, says_of}

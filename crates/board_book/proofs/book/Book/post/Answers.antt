@@ -1,7 +1,7 @@
 use Rattle.std.proofs.Common.{◌∙◌, sym, refl, arith, [], ◌∷◌, ◌++◌, length, ◌≤◌, length-append}
 use Rattle.tournament.specs.Posting.{rules_of, answer_of}
 use Rattle.board_book.specs.declared.entry.Entry.{Entry}
-use Rattle.board_book.specs.Booking.{IsBook}
+use Rattle.board_book.specs.Keeping.{IsBook}
 use Rattle.board_book.proofs.BookLemmas.{book-few, book-posted}
 use Rattle.board_book.proofs.book.Book.post.Goals as goal
 

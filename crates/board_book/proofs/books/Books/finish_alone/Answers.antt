@@ -3,8 +3,7 @@ use Rattle.std.specs.Prelude.{slice_get}
 use Rattle.std.proofs.lemmas.List.{length-map}
 use Rattle.tournament.specs.Bracket.{is_complete}
 use Rattle.board_book.specs.declared.entry.Entry.{Entry}
-use Rattle.board_book.specs.Tasks.{openings, BookOf}
-use Rattle.board_book.specs.Playing.{sayings}
+use Rattle.board_book.specs.Tasks.{openings, BookOf, sayings}
 use Rattle.board_book.proofs.KeepingLemmas.{heads_same, at_place, done_more, done_all}
 use Rattle.board_book.proofs.books.Books.finish_alone.Goals as goal
 

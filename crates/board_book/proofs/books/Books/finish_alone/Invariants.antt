@@ -2,8 +2,7 @@ use Rattle.std.proofs.Common.{◌≡◌, ◌<◌, ℕ, List, ◌++◌, map, leng
 use Rattle.std.specs.Prelude.{slice_get}
 use Rattle.tournament.specs.Bracket.{is_complete}
 use Rattle.board_book.specs.declared.entry.Entry.{Entry}
-use Rattle.board_book.specs.Tasks.{BookOf, openings}
-use Rattle.board_book.specs.Playing.{sayings}
+use Rattle.board_book.specs.Tasks.{BookOf, openings, sayings}
 use Rattle.board_book.proofs.books.Books.finish_alone.Given as goal
 
 abbrev pub invariant-loop-i : goal.invariant-loop-i

@@ -1,7 +1,7 @@
 use Rattle.std.proofs.Common.{ℕ, List, All, ap, subst}
 use Rattle.board_book.specs.declared.entry.Entry.{Entry}
 use Rattle.seat_lock.specs.History.{History, log_of, Begins}
-use Rattle.dispute_board.specs.Logs.{log_of_journal}
+use Rattle.dispute_board.specs.OneHistory.{log_of_journal}
 use Rattle.dispute_board.proofs.board.Board.into_book.Goals as goal
 
 pub returns-clause-joined : goal.returns-clause-joined

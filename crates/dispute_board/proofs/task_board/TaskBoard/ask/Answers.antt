@@ -1,6 +1,6 @@
 use Rattle.std.proofs.Common.{refl}
 use Rattle.board_book.specs.Tasks.{openings, tasks_of}
-use Rattle.dispute_board.specs.Logs.{log_of_journal}
+use Rattle.dispute_board.specs.OneHistory.{log_of_journal}
 use Rattle.dispute_board.proofs.Points.{asks_on_board}
 use Rattle.dispute_board.proofs.task_board.TaskBoard.ask.Goals as goal
 

@@ -1,6 +1,6 @@
 use Rattle.std.proofs.Common.{ℕ, ◌<◌, All, subst}
 use Rattle.std.proofs.lemmas.List.{length-map}
-use Rattle.dispute_board.specs.Logs.{numbers_of}
+use Rattle.dispute_board.specs.OneHistory.{numbers_of}
 use Rattle.dispute_board.proofs.task_board.TaskBoard.into_books.Goals as goal
 
 pub returns-clause-receipts : goal.returns-clause-receipts

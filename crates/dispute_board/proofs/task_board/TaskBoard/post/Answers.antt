@@ -1,7 +1,7 @@
 use Rattle.std.proofs.Common.{refl}
 use Rattle.tournament.specs.Posting.{answer_of}
 use Rattle.board_book.specs.Tasks.{openings, tasks_of}
-use Rattle.dispute_board.specs.Logs.{log_of_journal}
+use Rattle.dispute_board.specs.OneHistory.{log_of_journal}
 use Rattle.dispute_board.proofs.Points.{posts_on_board}
 use Rattle.dispute_board.proofs.task_board.TaskBoard.post.Goals as goal
 

@@ -1,6 +1,6 @@
 use Rattle.std.proofs.Common.{◌≡◌, ◌+◌, ◌-◌, ◌≤◌, ◌++◌, length, drop}
 use Rattle.board_book.specs.Tasks.{of_task}
-use Rattle.board_book.proofs.growing.note_from.Given as goal
+use Rattle.board_book.proofs.books.note_from.Given as goal
 
 abbrev pub invariant-loop-i : goal.invariant-loop-i
 invariant-loop-i l = record {
