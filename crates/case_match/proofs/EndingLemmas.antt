@@ -18,7 +18,7 @@ use Rattle.tournament.specs.Length.{IsMost, most_entries, SpareIsEnough}
 use Rattle.tournament.specs.Truthful.{IsTruthfulProver, IsSafe, TruthfulProversAreSafe}
 use Rattle.deposits.specs.Balances.{IsSettledUp}
 use Rattle.deposits.specs.Theorem.{EndedIsSettledUp}
-use Rattle.case_match.specs.SettledUp.{RecordsOfCasesAreSettledUp}
+use Rattle.case_match.specs.Match.{RecordsOfCasesAreSettledUp}
 
 -- one more move
 

@@ -2,7 +2,7 @@
 use Rattle.std.proofs.Common.{◌≡◌, ℕ, suc, ◌-◌, ◌≤◌, List, [], ◌∷◌, ◌++◌, All, map, length, reverse, take, drop, Option, refl, sym, ap, ap₂, subst, ◌∙◌, arith, append_assoc}
 use Rattle.std.specs.Prelude.{slice_index_or}
 use Rattle.std.proofs.Math.Seq.{take-length}
-use Rattle.std.proofs.lemmas.List.{map-append, reverse-append, length-map}
+use Rattle.std.proofs.lemmas.List.{map-append, reverse-append, length-map, append-nil}
 use Rattle.std.proofs.lemmas.List.Elements.{All-nil, All-cons, All-head, All-tail}
 use Rattle.rd_base.specs.declared.answer.Answer.{Answer}
 use Rattle.rd_base.specs.declared.digest.Digest32.{Digest32}
@@ -17,17 +17,14 @@ use Rattle.tournament.specs.declared.verdict.Verdict.{Verdict}
 use Rattle.tournament.specs.Bracket.{Record}
 use Rattle.step_referee.specs.declared.judge.MachineNames.{MachineNames}
 use Rattle.step_referee.specs.MachineRuling.{machine_ruling}
-use Rattle.board_book.specs.Tasks.{BookOf, openings}
-use Rattle.board_book.specs.Playing.{sayings_from, sayings}
-use Rattle.board_book.specs.Numbers.{SayInOrder}
+use Rattle.board_book.specs.Tasks.{BookOf, openings, sayings_from, sayings}
+use Rattle.board_book.specs.Keeping.{SayInOrder}
 use Rattle.deposits.specs.Balances.{IsSettledUp}
 use Rattle.prover_run.specs.CaseScripts.{CaseScripts, case_says}
 use Rattle.case_reader.specs.declared.case.Case.{Case}
 use Rattle.case_reader.specs.Case.{CaseData, data_of}
-use Rattle.case_match.specs.Match.{start_root, rules_of_case, says_of_case, verdict_of_record}
-use Rattle.case_match.specs.Endings.{ending_of_case, endings_of_cases}
+use Rattle.case_match.specs.Match.{start_root, rules_of_case, says_of_case, verdict_of_record, ending_of_case, endings_of_cases, AreSettledUp, RecordsOfCasesAreSettledUp}
 use Rattle.case_match.specs.Openings.{ending, opening_of_case, openings_of_cases, AreAllPlayable}
-use Rattle.case_match.specs.SettledUp.{AreSettledUp, RecordsOfCasesAreSettledUp}
 
 -- endings, the last first
 
@@ -190,3 +187,8 @@ all-ended digest cs starts hs ends opened are =
     are
     ∙ (ap (map (ending (λ (n : MachineNames). machine_ruling digest n.version) (λ (n : CaseScripts). case_says digest n.start n.bound n.scripts))) opened
     ∙ ended-as-cases digest cs starts)
+
+-- what the answerers of one task say
+
+pub single_said : {A : Type 0} (answers : A → Question → ℕ → Option Answer) → SayInOrder answers → (says : Says) (m : ℕ) (xs : List A) → length xs ≡ m → AnswerAs answers says 1 xs → map answers xs ≡ sayings_from says 1 m ++ []
+single_said answers law says m xs long a = law says 1 xs a ∙ (ap (sayings_from says 1) long ∙ sym (append-nil (sayings_from says 1 m)))

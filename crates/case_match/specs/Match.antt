@@ -1,9 +1,9 @@
 -- To believe. The match of a case by a digest function: by what it is played, what its provers say, and what comes of it. The referee sees no state
 -- but the first, of which it makes the root, and decides about claims and proofs of single steps.
-use Rattle.std.specs.Prelude.{ℕ, List, length}
+use Rattle.std.specs.Prelude.{ℕ, List, length, [], ◌∷◌}
 use Rattle.rd_base.specs.declared.digest.Digest32.{Digest32}
 use Rattle.bisect_game.specs.Says.{Says}
-use Rattle.bisect_game.specs.Rules.{Rules}
+use Rattle.bisect_game.specs.Rules.{Rules, ArePlayable}
 use Rattle.bisect_game.specs.Truth.{Truth}
 use Rattle.rv_step.specs.State.{State}
 use Rattle.rv_step.specs.Step.{state_at}
@@ -17,6 +17,7 @@ use Rattle.step_referee.specs.MachineRuling.{machine_ruling}
 use Rattle.step_referee.specs.MachineTruth.{machine_truth}
 use Rattle.prover_run.specs.CaseScripts.{case_says}
 use Rattle.case_reader.specs.Case.{CaseData}
+use Rattle.deposits.specs.Balances.{IsSettledUp}
 
 -- the root at step 0, in the version of the state in which the run starts
 abbrev pub start_root : (List ℕ → List ℕ) → State → Digest32
@@ -49,3 +50,28 @@ truth_of_case digest c start = machine_truth digest start c.bound
 -- the state at the bound, in which the sequential run ends
 abbrev pub final_state : CaseData → State → State
 final_state c start = state_at start c.bound
+
+-- HOW CASES END that are played together: each as it ends alone. Nothing of the others is in it, nor of any schedule
+
+-- how a case ends whose run starts in this state: its record, and the verdict of that record
+abbrev pub ending_of_case : (List ℕ → List ℕ) → CaseData → State → Record × Verdict
+ending_of_case digest c start = (record_of_case digest c start, verdict_of_record digest c start (record_of_case digest c start))
+
+-- how cases end whose runs start in these states, one for each case
+abbrev pub endings_of_cases : (List ℕ → List ℕ) → List CaseData → List State → List (Record × Verdict)
+endings_of_cases digest [] starts = []
+endings_of_cases digest (c ∷ cs) [] = []
+endings_of_cases digest (c ∷ cs) (start ∷ starts) = ending_of_case digest c start ∷ endings_of_cases digest cs starts
+
+-- DEPOSITS may be paid by the record of a case, which is one of a match that has ended
+
+-- whatever the provers of a match say, the record of its case has one settled claim per prover and disputes between two of them, and puts
+-- nobody out twice
+abbrev pub RecordsOfCasesAreSettledUp : Type 0
+RecordsOfCasesAreSettledUp = (rules : Rules) (says : Says) → ArePlayable rules → IsSettledUp rules.provers (bracket rules (answers_of rules says))
+
+-- so is the record of each of these cases
+abbrev pub AreSettledUp : List CaseData → List (Record × Verdict) → Type 0
+AreSettledUp [] ends = Unit {0}
+AreSettledUp (c ∷ cs) [] = Unit {0}
+AreSettledUp (c ∷ cs) (end ∷ ends) = IsSettledUp (length c.provers) end.0 × AreSettledUp cs ends

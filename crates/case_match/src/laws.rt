@@ -1,7 +1,7 @@
 //! Laws of the match of a case, each the contract of a function that does nothing.
 ghost use Rattle.std.specs.Prelude.{ℕ, List};
 ghost use Rattle.case_match.specs.TruthfulInCase.{TruthfulProversOfCasesAreSafe};
-ghost use Rattle.case_match.specs.SettledUp.{RecordsOfCasesAreSettledUp};
+ghost use Rattle.case_match.specs.Match.{RecordsOfCasesAreSettledUp};
 ghost use Rattle.case_match.specs.HonestScripts.{UntouchedProversAreTruthful, TrueTapesAreTruthful};
 
 use bisect_game::cuts_divide;

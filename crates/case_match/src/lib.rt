@@ -2,7 +2,7 @@
 //!
 //! The layers above may rely on this: `verdict_of_case` gives the record of the case and its verdict, functions of the case, the
 //! state that its run starts in and the digester's function (`specs/Match.antt`), however many threads play it. `verdict_of_tasks`
-//! plays many together, of which each ends as it ends alone (`specs/Endings.antt`). A prover that
+//! plays many together, of which each ends as it ends alone (`endings_of_cases`). A prover that
 //! claims and answers as the machine's definition says is safe in that record, which a law says for any digester
 //! (`specs/TruthfulInCase.antt`). Which scripts make a prover one of these says `specs/HonestScripts.antt`. The crate reads no
 //! device and writes no text. Read `specs/Match.antt` first, then `verdict`.
@@ -10,7 +10,6 @@
 
 mod laws;
 mod opening;
-mod playing;
 mod tasks;
 mod verdict;
 

@@ -5,13 +5,11 @@ ghost use Rattle.std.specs.List.{All};
 ghost use Rattle.rv_step.specs.State.{state_of, IsChained};
 ghost use Rattle.case_reader.specs.Case.{data_of};
 ghost use Rattle.command_line.specs.Words.{AreAtLeastOne};
-ghost use Rattle.case_match.specs.Match.{start_root};
-ghost use Rattle.case_match.specs.Endings.{endings_of_cases};
-ghost use Rattle.case_match.specs.SettledUp.{AreSettledUp};
+ghost use Rattle.case_match.specs.Match.{start_root, endings_of_cases, AreSettledUp};
 
 use crate::laws::records_of_cases_are_settled_up;
 use crate::opening::open_matches;
-use crate::playing::play_out_all;
+use crate::verdict::play_out_all;
 use case_reader::Case;
 use command_line::Options;
 use rd_base::{Digest32, Memory};

@@ -6,7 +6,7 @@ use Rattle.rv_step.specs.declared.machine.Machine.{Machine}
 use Rattle.rv_step.specs.State.{state_of}
 use Rattle.case_reader.specs.Case.{data_of}
 use Rattle.case_match.specs.Openings.{openings_of_cases, AreAllPlayable}
-use Rattle.case_match.specs.SettledUp.{AreSettledUp}
+use Rattle.case_match.specs.Match.{AreSettledUp}
 use Rattle.case_match.proofs.TaskLemmas.{opened-first, said-first, as-many-books, all-ended, all-settled-up}
 use Rattle.case_match.proofs.tasks.verdicts_from.Goals as goal
 

@@ -4,7 +4,7 @@ use Rattle.tournament.specs.Bracket.{is_complete}
 use Rattle.board_book.specs.Tasks.{BookOf}
 use Rattle.case_match.specs.Openings.{ending}
 use Rattle.case_match.proofs.TaskLemmas.{ended_more, map_twice, all_first}
-use Rattle.case_match.proofs.playing.endings.Goals as goal
+use Rattle.case_match.proofs.verdict.endings.Goals as goal
 
 pub loop-book-preserved : goal.loop-book-preserved
 loop-book-preserved g c =

@@ -2,7 +2,7 @@ use Rattle.std.proofs.Common.{◌∙◌, map, ap}
 use Rattle.std.proofs.lemmas.Result.{IfOk-weaker}
 use Rattle.board_book.specs.Tasks.{openings}
 use Rattle.case_match.specs.Openings.{ending}
-use Rattle.case_match.proofs.playing.play_out_all.Goals as goal
+use Rattle.case_match.proofs.verdict.play_out_all.Goals as goal
 
 pub returns : goal.returns
 returns g c =

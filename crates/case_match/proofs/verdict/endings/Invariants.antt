@@ -1,7 +1,7 @@
 use Rattle.std.proofs.Common.{◌≡◌, ◌++◌, true, map, reverse, length, All}
 use Rattle.tournament.specs.Bracket.{is_complete}
 use Rattle.case_match.specs.Openings.{ending}
-use Rattle.case_match.proofs.playing.endings.Given as goal
+use Rattle.case_match.proofs.verdict.endings.Given as goal
 
 abbrev pub invariant-loop-book : goal.invariant-loop-book
 invariant-loop-book g l = record {
