@@ -18,7 +18,7 @@ pub fn plain_words()
     ensures list { (program : List ℕ) → chosen (program ∷ codes "list" ∷ []) ≡ Some Command.Listing }
 {}
 
-/// `--full` and `--digest` are options of `judge` alone, and the first takes no value.
+/// `--full=true` is refused, as the option takes no value; and so is `--full` alone, or `--digest sha256` alone, behind each command but `judge`.
 #[tactic(auto, using(crate::proofs::WordsLemmas::valued_full_is_refused, crate::proofs::WordsLemmas::full_of_big_is_refused, crate::proofs::WordsLemmas::full_of_run_is_refused, crate::proofs::WordsLemmas::full_of_roots_is_refused, crate::proofs::WordsLemmas::full_of_audit_is_refused, crate::proofs::WordsLemmas::full_of_list_is_refused, crate::proofs::WordsLemmas::digest_of_big_is_refused, crate::proofs::WordsLemmas::digest_of_run_is_refused, crate::proofs::WordsLemmas::digest_of_roots_is_refused, crate::proofs::WordsLemmas::digest_of_audit_is_refused, crate::proofs::WordsLemmas::digest_of_list_is_refused))]
 pub fn own_options()
     ensures valued { (program : List ℕ) → chosen (program ∷ codes "judge" ∷ codes "--full=true" ∷ []) ≡ None }
