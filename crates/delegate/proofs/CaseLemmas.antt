@@ -16,14 +16,13 @@ use Rattle.command_line.specs.declared.request.Command.TheVariants.{Judge, Run, 
 use Rattle.case_match.specs.TruthfulInCase.{IsInRange}
 use Rattle.delegate.specs.Refusal.{too_long, case_refusal, task_refusal, or_refusal}
 use Rattle.delegate.specs.Loading.{within_limit, case_in, tasks_in, start_in, starts_in}
-use Rattle.delegate.specs.Decided.{Written, report, full, summary, Deciding, written_as, case_for, tasks_of, tasks_for, decided}
-use Rattle.delegate.specs.Together.{together, each_decided, StandsUnder}
+use Rattle.delegate.specs.Decided.{Written, report, full, summary, Deciding, written_as, case_for, tasks_of, tasks_for, decided, together, each_decided, StandsUnder}
 use Rattle.delegate.specs.commands.Judge.{judging, judged_of, judged}
 use Rattle.delegate.specs.commands.Big.{summing_up, summed_up}
 use Rattle.delegate.specs.Outcome.{bytes_for, carried_out, decides, response_to, outcome}
 use Rattle.delegate.specs.Headline.{Headline, HeadlineOfCases, AnswersTheCase, KeepsTheTruthful, AnswersTheTasks, KeepsTheTruthfulOfTasks}
-use Rattle.delegate.specs.Stages.{AreAllInRange, AreInRange, AreInRangeIfThere, DecidesInRange, CasesAreInRange}
-use Rattle.delegate.specs.declared.subject.Subject.TheVariants.{Whole}
+use Rattle.delegate.specs.Standing.{AreAllInRange, AreInRange, AreInRangeIfThere, DecidesInRange, CasesAreInRange}
+use Rattle.delegate.specs.declared.response.Subject.TheVariants.{Whole}
 use Rattle.delegate.specs.declared.response.Response.{Response}
 use Rattle.delegate.proofs.OutcomeLemmas.{goes_on, both_steps, of_command, outcome-of}
 use Rattle.delegate.proofs.TaskLemmas.{decided-stands, range-at}

@@ -12,13 +12,13 @@ use Rattle.audit.specs.declared.finding.Audit.TheVariants.{Confirmed, Refused}
 use Rattle.audit.specs.LineByLine.{audited}
 use Rattle.machine_audit.specs.MachineAudit.{ConfirmedCasesAreRight}
 use Rattle.command_line.specs.declared.request.Command.TheVariants.{Audit as AuditOf}
-use Rattle.delegate.specs.Digest.{digest_of}
+use Rattle.delegate.specs.Decided.{digest_of}
 use Rattle.delegate.specs.Refusal.{too_long, or_refusal}
 use Rattle.delegate.specs.Outcome.{either_way}
 use Rattle.delegate.specs.commands.Audit.{text_refusal, judge_of, found, checked}
 use Rattle.delegate.specs.Confirmed.{IsConfirmed, ConfirmedTextsAreRight}
 use Rattle.delegate.specs.declared.response.Response.{Response}
-use Rattle.delegate.specs.declared.answered.Answered.TheVariants.{Done}
+use Rattle.delegate.specs.declared.response.Answered.TheVariants.{Done}
 use Rattle.delegate.proofs.OutcomeLemmas.{of_command, outcome-of}
 
 -- the head of a text that was read names a version up to 3

@@ -24,10 +24,9 @@ use Rattle.case_match.specs.Match.{start_root, rules_of_case, record_of_case, ve
 use Rattle.case_match.specs.TruthfulInCase.{IsSafeInCase, TruthfulProversOfCasesAreSafe}
 use Rattle.command_line.specs.declared.request.MatchText.{MatchText}
 use Rattle.command_line.specs.declared.request.MatchText.TheVariants.{Report, Full}
-use Rattle.delegate.specs.Digest.{digest_of}
+use Rattle.delegate.specs.Decided.{digest_of, Written, report, full, summary, written_as, Deciding, match_text, answered_by, head_of, balances_in, before_verdict, answered_for, decided}
 use Rattle.text_types.specs.declared.text.Head.{Head}
-use Rattle.delegate.specs.Decided.{Written, report, full, summary, written_as, Deciding, match_text, answered_by, head_of, balances_in, before_verdict, answered_for, decided}
-use Rattle.delegate.specs.declared.answered.Answered.TheVariants.{Done}
+use Rattle.delegate.specs.declared.response.Answered.TheVariants.{Done}
 use Rattle.delegate.specs.Headline.{AcceptsTheRun, ShowsCollision, HeadlineOfCases}
 use Rattle.delegate.proofs.SparedLemmas.{no-moves-against}
 

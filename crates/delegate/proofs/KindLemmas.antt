@@ -16,17 +16,15 @@ use Rattle.command_line.specs.declared.request.Command.{Command}
 use Rattle.command_line.specs.declared.request.Command.TheVariants.{Judge, Run, Roots, Listing, Big, Audit as AuditOf}
 use Rattle.delegate.specs.Answered.{is_outcome, is_of_case, is_of_match, is_of_text, is_done, is_answer_of, is_answer_to}
 use Rattle.delegate.specs.Refusal.{usage, task_refusal}
-use Rattle.delegate.specs.Digest.{digest_of}
-use Rattle.delegate.specs.Decided.{written_as, answered_for}
-use Rattle.delegate.specs.Together.{each_decided}
+use Rattle.delegate.specs.Decided.{digest_of, written_as, answered_for, each_decided}
 use Rattle.delegate.specs.commands.Judge.{judging}
 use Rattle.delegate.specs.commands.Audit.{found}
 use Rattle.delegate.specs.Outcome.{outcome}
 use Rattle.delegate.specs.Answering.{EachCommandHasItsAnswers}
-use Rattle.delegate.specs.Visible.{ForItsBytes}
+use Rattle.delegate.specs.Writing.{ForItsBytes}
 use Rattle.delegate.specs.declared.response.Response.{Response}
-use Rattle.delegate.specs.declared.answered.Answered.{Answered}
-use Rattle.delegate.specs.declared.answered.Answered.TheVariants.{Done, Usage, Case, Image, ReadFault, WriteFault, AuditRefused, Memory, NoneLeft as NobodyLeft, Collision, TooLong}
+use Rattle.delegate.specs.declared.response.Answered.{Answered}
+use Rattle.delegate.specs.declared.response.Answered.TheVariants.{Done, Usage, Case, Image, ReadFault, WriteFault, AuditRefused, Memory, NoneLeft as NobodyLeft, Collision, TooLong}
 use Rattle.delegate.proofs.OutcomeLemmas.{no_command, of_command, outcome-of}
 use Rattle.delegate.proofs.TaskLemmas.{gravest-is}
 use Rattle.delegate.proofs.ResponseLemmas.{OfCases, OfCommand, command-of}

@@ -10,7 +10,7 @@ use Rattle.asm_image.specs.AsmImage.{words_at, asm_at}
 use Rattle.asm_image.specs.declared.image.AsmImageFault.TheVariants as asm
 use Rattle.delegate.specs.Refusal.{asm_refusal, or_refusal}
 use Rattle.delegate.specs.Loading.{image_by}
-use Rattle.delegate.specs.declared.subject.Subject.TheVariants.{Whole}
+use Rattle.delegate.specs.declared.response.Subject.TheVariants.{Whole}
 
 pub short-text : (text : List ℕ) (image : Image) → image_by Whole Asm text ≡ Ok image → length text ≤ 16777216
 unfolding asm_at

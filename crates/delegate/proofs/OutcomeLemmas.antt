@@ -1,14 +1,17 @@
 -- The steps of the program, and the bytes of a source that may not be visible.
-use Rattle.std.proofs.Common.{◌≡◌, ℕ, suc, ◌<◌, List, [], length, Result, Ok, Err, Option, Some, None, IfSome, replicate, lt-ltb, refl, sym, ap, ◌∙◌, arith}
+use Rattle.std.proofs.Common.{◌≡◌, ℕ, suc, ◌<◌, ◌≤◌, ◌++◌, List, [], Bool, true, false, length, Result, Ok, Err, Option, Some, None, IfSome, IfOk, replicate, lt-ltb, refl, sym, ap, ◌∙◌, arith}
 use Rattle.std.specs.Option.{ok_or}
-use Rattle.std.proofs.lemmas.List.{length-replicate}
+use Rattle.std.specs.Prelude.{nat_lt, if◌then◌else◌}
+use Rattle.std.specs.Io.KnownBytes.{Consumes, IsAtEnd}
+use Rattle.std.proofs.lemmas.Bool.Decides.{nat_tests}
+use Rattle.std.proofs.lemmas.List.{length-replicate, append-nil}
 use Rattle.rd_base.specs.Results.{◌>>=◌}
 use Rattle.delegate.specs.Outcome.{bytes_for, carried_out, response_to, either_way, outcome}
 use Rattle.delegate.specs.Loading.{within_limit}
 use Rattle.delegate.specs.Refusal.{usage, too_long}
-use Rattle.delegate.specs.Visible.{ForItsBytes}
+use Rattle.delegate.specs.Writing.{ForItsBytes}
 use Rattle.delegate.specs.declared.response.Response.{Response}
-use Rattle.command_line.specs.Words.{chosen}
+use Rattle.command_line.specs.Words.{chosen, reads}
 use Rattle.command_line.specs.declared.request.Command.{Command}
 use Rattle.command_line.specs.declared.request.Command.TheVariants.{Big}
 
@@ -60,7 +63,7 @@ many_bytes (Some all) n long = (all, refl, long)
 many_bytes None n long = (replicate (suc n) 0, tt, long_list n)
 
 pub for_its_bytes : (left : Option (List ℕ)) (P Q : List ℕ → Type 0) → ((bytes : List ℕ) → P bytes → Q bytes) → ForItsBytes left P → ForItsBytes left Q
-for_its_bytes left P Q then its = (its.0, its.1, then its.0 its.2)
+for_its_bytes left P Q more its = (its.0, its.1, more its.0 its.2)
 
 over_limit : (bytes : List ℕ) → 16777216 < length bytes → within_limit bytes ≡ Err too_long
 over_limit bytes long = rw (lt-ltb 16777216 (length bytes) long) refl
@@ -71,3 +74,31 @@ too_many left long = for_its_bytes left _ _ over_limit (many_bytes left 16777216
 -- for a command that reads nothing
 pub nothing_read : (left : Option (List ℕ)) (command : Command) (seed : ℕ) (given : List ℕ) → command ≡ Big seed → given ≡ [] → ForItsBytes left (λ bytes. bytes_for command bytes ≡ Ok given)
 nothing_read left command seed given is none = some_bytes left (λ bytes. bytes_for command bytes ≡ Ok given) (λ bytes. ap (λ x. bytes_for x bytes) is ∙ ap Ok (sym none))
+
+-- for one that reads, too many bytes, or all that there are
+
+pub too_many_for : (left : Option (List ℕ)) (command : Command) → reads (Some command) ≡ true → IfSome left (λ bytes. 16777216 < length bytes) → ForItsBytes left (λ bytes. bytes_for command bytes ≡ Err too_long)
+too_many_for left command reading long =
+    for_its_bytes left (λ bytes. within_limit bytes ≡ Err too_long) (λ bytes. bytes_for command bytes ≡ Err too_long) (λ bytes is. ap (λ (b : Bool). if b then within_limit bytes else Ok []) reading ∙ is) (too_many left long)
+
+few_enough : (n : ℕ) → n ≤ 16777216 → nat_lt 16777216 n ≡ false
+few_enough n few = grind (arith, nat_tests)
+
+under_limit : (bytes : List ℕ) → length bytes ≤ 16777216 → within_limit bytes ≡ Ok bytes
+under_limit bytes few = rw (few_enough (length bytes) few) refl
+
+all_read : (left after : Option (List ℕ)) (given : List ℕ) → Consumes left after given × IsAtEnd after → length given ≤ 16777216 → ForItsBytes left (λ bytes. within_limit bytes ≡ Ok given)
+all_read None after given read few = (given, tt, under_limit given few)
+all_read (Some xs) None given read few = absurd read.0
+all_read (Some xs) (Some ys) given read few =
+    let all : xs ≡ given = read.0 ∙ (ap (λ zs. given ++ zs) read.1 ∙ append-nil given) in
+    (xs, refl, ap within_limit all ∙ under_limit given few)
+
+pub all_read_for : (left after : Option (List ℕ)) (command : Command) (given : List ℕ) → reads (Some command) ≡ true → Consumes left after given × IsAtEnd after → length given ≤ 16777216 → ForItsBytes left (λ bytes. bytes_for command bytes ≡ Ok given)
+all_read_for left after command given reading read few =
+    for_its_bytes left (λ bytes. within_limit bytes ≡ Ok given) (λ bytes. bytes_for command bytes ≡ Ok given) (λ bytes is. ap (λ (b : Bool). if b then within_limit bytes else Ok []) reading ∙ is) (all_read left after given read few)
+
+-- what two conditions on a value give together
+pub both_ok : {A E : Type 0} (r : Result A E) (P Q R : A → Type 0) → ((a : A) → P a → Q a → R a) → IfOk r P → IfOk r Q → IfOk r R
+both_ok (Ok a) P Q R give p q = give a p q
+both_ok (Err e) P Q R give p q = p

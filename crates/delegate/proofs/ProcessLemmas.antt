@@ -1,11 +1,10 @@
 -- What an exit status says of the answer.
 use Rattle.std.proofs.Common.{◌≡◌, true, ℕ, List, Option, Some, ap, sym, ◌∙◌}
 use Rattle.delegate.specs.Answered.{status_number, is_outcome, reads_all}
-use Rattle.delegate.specs.Process.{is_whole, is_read_whole, IsWrittenBy}
-use Rattle.delegate.specs.Writing.{IsWritten}
+use Rattle.delegate.specs.Writing.{is_whole, is_read_whole, IsWrittenBy, IsWritten}
 use Rattle.delegate.specs.declared.response.Response.{Response}
-use Rattle.delegate.specs.declared.answered.Answered.{Answered}
-use Rattle.delegate.specs.declared.answered.Answered.TheVariants.{Done, Usage, Case, Image, ReadFault, WriteFault, AuditRefused, Memory, NoneLeft, Collision, TooLong}
+use Rattle.delegate.specs.declared.response.Answered.{Answered}
+use Rattle.delegate.specs.declared.response.Answered.TheVariants.{Done, Usage, Case, Image, ReadFault, WriteFault, AuditRefused, Memory, NoneLeft, Collision, TooLong}
 
 pub whole : (answered : Answered) → is_whole (status_number answered) ≡ true → is_outcome answered ≡ true
 whole Done is = is

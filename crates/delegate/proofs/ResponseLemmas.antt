@@ -34,10 +34,8 @@ use Rattle.command_line.specs.declared.request.MatchText.{MatchText}
 use Rattle.command_line.specs.declared.request.Command.{Command}
 use Rattle.command_line.specs.declared.request.Command.TheVariants.{Judge, Run, Roots, Listing, Big, Audit as AuditOf}
 use Rattle.delegate.specs.Refusal.{too_long, case_refusal, task_refusal, image_refusal, asm_refusal, or_refusal}
-use Rattle.delegate.specs.Digest.{digest_of}
+use Rattle.delegate.specs.Decided.{digest_of, Deciding, decided, together, each_decided}
 use Rattle.delegate.specs.Loading.{within_limit, case_in, image_by, start_in, starts_in}
-use Rattle.delegate.specs.Decided.{Deciding, decided}
-use Rattle.delegate.specs.Together.{together, each_decided}
 use Rattle.delegate.specs.commands.Judge.{judging, judged_of, judged}
 use Rattle.delegate.specs.commands.Run.{ran}
 use Rattle.delegate.specs.commands.Roots.{roots_of_run, rooted}
@@ -45,10 +43,10 @@ use Rattle.delegate.specs.commands.Audit.{text_refusal, judge_of, found, checked
 use Rattle.delegate.specs.commands.List.{words_of, words_by, listed}
 use Rattle.delegate.specs.commands.Big.{summing_up, summed_up}
 use Rattle.delegate.specs.Outcome.{bytes_for, carried_out, either_way}
-use Rattle.delegate.specs.declared.subject.Subject.{Subject}
-use Rattle.delegate.specs.declared.subject.Subject.TheVariants.{Whole, Task}
+use Rattle.delegate.specs.declared.response.Subject.{Subject}
+use Rattle.delegate.specs.declared.response.Subject.TheVariants.{Whole, Task}
 use Rattle.delegate.specs.declared.response.Response.{Response}
-use Rattle.delegate.specs.declared.answered.Answered.TheVariants.{Done}
+use Rattle.delegate.specs.declared.response.Answered.TheVariants.{Done}
 
 abbrev pub Of : (Response → Type 0) → Result Response Response → Type 0
 Of P r = P (either_way r)

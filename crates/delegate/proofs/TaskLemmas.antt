@@ -13,20 +13,16 @@ use Rattle.rv_step.specs.State.{State, state_of, IsChained}
 use Rattle.case_reader.specs.declared.case.Case.{Case as CaseOf}
 use Rattle.case_reader.specs.Case.{CaseData, data_of}
 use Rattle.case_match.specs.TruthfulInCase.{IsInRange}
-use Rattle.case_match.specs.Match.{start_root}
-use Rattle.case_match.specs.Endings.{endings_of_cases}
+use Rattle.case_match.specs.Match.{start_root, endings_of_cases}
 use Rattle.delegate.specs.Answered.{graver}
-use Rattle.delegate.specs.Digest.{digest_of}
-use Rattle.delegate.specs.Decided.{Deciding, decided, told}
-use Rattle.delegate.specs.Together.{task_line, task_texts, gravest, together, each_told, each_decided, StandsUnder}
-use Rattle.delegate.specs.Responses.{responses}
+use Rattle.delegate.specs.Decided.{digest_of, Deciding, decided, told, task_line, task_texts, gravest, together, each_told, each_decided, StandsUnder}
+use Rattle.delegate.specs.Standing.{responses, AreAllInRange, AreStarted, AddsStarts}
 use Rattle.delegate.specs.Loading.{start_in, starts_in}
-use Rattle.delegate.specs.Stages.{AreAllInRange, AreStarted, AddsStarts}
-use Rattle.delegate.specs.declared.subject.Subject.TheVariants.{Task}
+use Rattle.delegate.specs.declared.response.Subject.TheVariants.{Task}
 use Rattle.delegate.specs.declared.response.Response.{Response}
 use Rattle.delegate.specs.declared.response.Stop.{Stop}
-use Rattle.delegate.specs.declared.answered.Answered.{Answered}
-use Rattle.delegate.specs.declared.answered.Answered.TheVariants.{Done, Usage, Case, Image, ReadFault, WriteFault, AuditRefused, Memory, NoneLeft, Collision, TooLong}
+use Rattle.delegate.specs.declared.response.Answered.{Answered}
+use Rattle.delegate.specs.declared.response.Answered.TheVariants.{Done, Usage, Case, Image, ReadFault, WriteFault, AuditRefused, Memory, NoneLeft, Collision, TooLong}
 use Rattle.delegate.proofs.OutcomeLemmas.{goes_on, stops}
 
 -- a test by which a collision, that nobody is left and that all is done come out alike comes out so for the gravest answer

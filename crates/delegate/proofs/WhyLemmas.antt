@@ -32,15 +32,13 @@ use Rattle.command_line.specs.declared.request.Command.TheVariants.{Judge, Run, 
 use Rattle.case_match.specs.Match.{record_of_case, verdict_of_record}
 use Rattle.delegate.specs.Answered.{is_refusal}
 use Rattle.delegate.specs.Refusal.{case_fault_text, task_refusal, rule_text, asm_fault_text}
-use Rattle.delegate.specs.Digest.{digest_of}
-use Rattle.delegate.specs.Decided.{written_as, answered_for}
-use Rattle.delegate.specs.Together.{each_decided}
+use Rattle.delegate.specs.Decided.{digest_of, written_as, answered_for, each_decided}
 use Rattle.delegate.specs.commands.Judge.{judging}
 use Rattle.delegate.specs.commands.Audit.{text_fault_text, found}
 use Rattle.delegate.specs.Outcome.{outcome}
 use Rattle.delegate.specs.Answering.{EachRefusalSaysWhy}
-use Rattle.delegate.specs.declared.subject.Subject.{Subject}
-use Rattle.delegate.specs.declared.subject.Subject.TheVariants.{Whole, Task}
+use Rattle.delegate.specs.declared.response.Subject.{Subject}
+use Rattle.delegate.specs.declared.response.Subject.TheVariants.{Whole, Task}
 use Rattle.delegate.specs.declared.response.Response.{Response}
 use Rattle.delegate.proofs.OutcomeLemmas.{of_command, outcome-of}
 use Rattle.delegate.proofs.KindLemmas.{untaken}

@@ -2,8 +2,8 @@
 use Rattle.std.specs.Prelude.{ℕ, Bool, true, false, Option, Some, None}
 use Rattle.command_line.specs.declared.request.Command.{Command}
 use Rattle.command_line.specs.declared.request.Command.TheVariants.{Judge, Run, Roots, Audit, Listing, Big}
-use Rattle.delegate.specs.declared.answered.Answered.{Answered}
-use Rattle.delegate.specs.declared.answered.Answered.TheVariants.{Done, Usage, Case, Image, ReadFault, WriteFault, AuditRefused, Memory, NoneLeft, Collision, TooLong}
+use Rattle.delegate.specs.declared.response.Answered.{Answered}
+use Rattle.delegate.specs.declared.response.Answered.TheVariants.{Done, Usage, Case, Image, ReadFault, WriteFault, AuditRefused, Memory, NoneLeft, Collision, TooLong}
 
 abbrev pub status_number : Answered → ℕ
 status_number Done = 0

@@ -8,10 +8,10 @@ use Rattle.text_reader.specs.ReadText.{read_text}
 use Rattle.machine_audit.specs.MachineAudit.{IsStatedStart, AreTrueOfRun, IsAnswerOrCollision}
 use Rattle.command_line.specs.Words.{chosen}
 use Rattle.command_line.specs.declared.request.Command.TheVariants.{Audit}
-use Rattle.delegate.specs.Digest.{digest_of}
+use Rattle.delegate.specs.Decided.{digest_of}
 use Rattle.delegate.specs.Outcome.{outcome}
 use Rattle.delegate.specs.declared.response.Response.{Response}
-use Rattle.delegate.specs.declared.answered.Answered.TheVariants.{Done}
+use Rattle.delegate.specs.declared.response.Answered.TheVariants.{Done}
 
 -- the bytes are a full text, and its verdict's line is written. Of every run from a state with the stated root at step 0 over the
 -- stated bound, of which one prover's lines are all given and true, it states the answer, or a collision that the text opens.

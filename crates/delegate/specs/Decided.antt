@@ -1,5 +1,6 @@
--- To believe. What is written of a match that is decided: by `judge` its report or its full text, and by `big` a summary in one line.
-use Rattle.std.specs.Prelude.{ℕ, List, ◌++◌, length, codes, Option, option_map, Result, Ok}
+-- To believe. What is written of a match that is decided: by `judge` its report or its full text, and by `big` a summary in one line; and
+-- of many tasks: under the line of each its text, as it has it alone.
+use Rattle.std.specs.Prelude.{ℕ, List, ◌++◌, length, codes, Option, option_map, Result, Ok, ◌≡◌, ◌+◌, [], ◌∷◌, decimal}
 use Rattle.rd_base.specs.Results.{◌>>=◌}
 use Rattle.rd_base.specs.declared.digest.Digest32.{Digest32}
 use Rattle.rv_step.specs.State.{State}
@@ -21,11 +22,19 @@ use Rattle.workload.specs.Workload.{big_data}
 use Rattle.command_line.specs.declared.request.MatchText.{MatchText}
 use Rattle.command_line.specs.declared.request.MatchText.TheVariants.{Report, Full}
 use Rattle.case_match.specs.Match.{start_root, record_of_case, verdict_of_record}
-use Rattle.delegate.specs.Digest.{digest_of}
 use Rattle.delegate.specs.Loading.{within_limit, case_in, tasks_in}
 use Rattle.delegate.specs.declared.response.Response.{Response}
-use Rattle.delegate.specs.declared.answered.Answered.{Answered}
-use Rattle.delegate.specs.declared.answered.Answered.TheVariants as answered
+use Rattle.delegate.specs.declared.response.Answered.{Answered}
+use Rattle.delegate.specs.declared.response.Answered.TheVariants as answered
+use Rattle.sha2.specs.Sha256.{sha256}
+use Rattle.digest_core.specs.Weak8.{weak8}
+use Rattle.text_types.specs.declared.digest.DigestName.TheVariants.{Sha256, Weak8}
+use Rattle.delegate.specs.Answered.{graver}
+
+-- the digest functions, each by its name. Everything that is said of a match speaks of the function of a name.
+abbrev pub digest_of : DigestName → List ℕ → List ℕ
+digest_of Sha256 = sha256
+digest_of Weak8 = weak8
 
 -- which text is written
 pub data Written : Type 0 where
@@ -117,3 +126,38 @@ told digest m c start =
 -- by the digest function that is asked for: it depends on nothing but that, the case and the text that is asked for
 abbrev pub decided : Deciding → CaseData → State → Response
 decided m c start = told (digest_of m.digest) m c start
+
+-- TASKS
+
+abbrev pub task_line : ℕ → List ℕ
+task_line t = codes "task " ++ (decimal t ++ codes "\n")
+
+-- the texts of tasks, the first of which has this number
+abbrev pub task_texts : ℕ → List Response → List ℕ
+task_texts t [] = []
+task_texts t (r ∷ rs) = task_line t ++ (r.text ++ task_texts (t + 1) rs)
+
+-- a collision where one of these answers is that, else that nobody is left where one is that, else that all is done
+abbrev pub gravest : List Response → Answered
+gravest [] = answered.Done
+gravest (r ∷ rs) = graver r.answered (gravest rs)
+
+-- the response to tasks, of those to each
+abbrev pub together : List Response → Response
+together rs = record { answered = gravest rs; text = task_texts 1 rs }
+
+-- the responses to tasks whose runs start in these states, by a digest function, each as to its case alone
+abbrev pub each_told : (List ℕ → List ℕ) → Deciding → List CaseData → List State → List Response
+each_told digest m [] starts = []
+each_told digest m (c ∷ cs) [] = []
+each_told digest m (c ∷ cs) (start ∷ starts) = told digest m c start ∷ each_told digest m cs starts
+
+-- by the digest function that is asked for
+abbrev pub each_decided : Deciding → List CaseData → List State → List Response
+each_decided m cs starts = each_told (digest_of m.digest) m cs starts
+
+-- in this text another one stands under the line of task t
+pub record StandsUnder (t : ℕ) (part text : List ℕ) : Type 0 where
+  pub before : List ℕ
+  pub after : List ℕ
+  pub whole : text ≡ before ++ (task_line t ++ (part ++ after))

@@ -1,6 +1,6 @@
 -- To believe. The headline: a prover that claims and answers as the machine's definition says, within its patience, is not
 -- eliminated, keeps its stake where there are deposits, and the text accepts the sequential run's status and output or shows a collision.
-use Rattle.std.specs.Prelude.{◌≡◌, ℕ, ◌-◌, ◌<◌, ◌≤◌, ◌⊎◌, false, List, Contains, Some, Ok, slice_get}
+use Rattle.std.specs.Prelude.{◌≡◌, ℕ, ◌-◌, ◌<◌, ◌≤◌, ◌⊎◌, false, List, Contains, Some, Ok, slice_get, Bool, true, ◌&&◌, ◌||◌, ◌==◌, [], ◌∷◌}
 use Rattle.std.specs.Option.{option_and_then}
 use Rattle.rv_step.specs.State.{State}
 use Rattle.case_reader.specs.Case.{CaseData}
@@ -16,15 +16,30 @@ use Rattle.transcript_text.specs.Report.{line_text}
 use Rattle.command_line.specs.Words.{chosen}
 use Rattle.case_match.specs.Match.{start_root, rules_of_case, record_of_case, truth_of_case, final_state}
 use Rattle.case_match.specs.TruthfulInCase.{IsTruthfulInCase, IsInRange}
-use Rattle.delegate.specs.Digest.{digest_of}
+use Rattle.delegate.specs.Decided.{digest_of, Deciding, case_for, tasks_for, answered_for, head_of, balances_in, before_verdict, decided, together, each_decided, StandsUnder}
 use Rattle.delegate.specs.Loading.{start_in, starts_in}
-use Rattle.delegate.specs.Decided.{Deciding, case_for, tasks_for, answered_for, head_of, balances_in, before_verdict, decided}
-use Rattle.delegate.specs.Together.{together, each_decided, StandsUnder}
 use Rattle.delegate.specs.Outcome.{decides}
-use Rattle.delegate.specs.Spared.{are_moves_against}
-use Rattle.delegate.specs.declared.subject.Subject.TheVariants.{Whole}
+use Rattle.delegate.specs.declared.response.Subject.TheVariants.{Whole}
 use Rattle.delegate.specs.declared.response.Response.{Response}
-use Rattle.delegate.specs.declared.answered.Answered.TheVariants.{Done}
+use Rattle.delegate.specs.declared.response.Answered.TheVariants.{Done}
+use Rattle.bisect_game.specs.declared.settled.Settled.{Settled}
+use Rattle.bisect_game.specs.declared.settled.Settled.TheVariants.{Given, Faulty, Spent}
+use Rattle.text_types.specs.declared.text.TextMove.{TextMove}
+
+-- WHICH LINES OF A FULL TEXT speak against a prover
+
+-- an answer that is called faulty, or a question that is called spent
+abbrev pub is_settled_against : Settled → Bool
+is_settled_against (Given a) = false
+is_settled_against (Faulty a) = true
+is_settled_against Spent = true
+
+-- one of the lines is this prover's, and calls its answer so
+abbrev pub are_moves_against : ℕ → List TextMove → Bool
+are_moves_against p [] = false
+are_moves_against p (m ∷ ms) = ((m.prover == p) && is_settled_against m.settled) || are_moves_against p ms
+
+-- WHAT IS ASKED FOR
 
 -- the arguments ask for a match to be decided in this way, and for the bytes it is that of this case, whose run starts in this state
 pub record IsCase (words : List (List ℕ)) (bytes : List ℕ) (m : Deciding) (c : CaseData) (start : State) : Type 0 where

@@ -12,10 +12,10 @@ use Rattle.image_reader.specs.declared.fault.ImageFault.{ImageFault}
 use Rattle.rv_text.specs.Faults.{number_of}
 use Rattle.asm_image.specs.declared.image.AsmImageFault.{AsmImageFault}
 use Rattle.asm_image.specs.declared.image.AsmImageFault.TheVariants as asm
-use Rattle.delegate.specs.declared.subject.Subject.{Subject}
-use Rattle.delegate.specs.declared.subject.Subject.TheVariants.{Whole, Task}
+use Rattle.delegate.specs.declared.response.Subject.{Subject}
+use Rattle.delegate.specs.declared.response.Subject.TheVariants.{Whole, Task}
 use Rattle.delegate.specs.declared.response.Response.{Response}
-use Rattle.delegate.specs.declared.answered.Answered.TheVariants as answered
+use Rattle.delegate.specs.declared.response.Answered.TheVariants as answered
 
 -- arguments that name no command
 abbrev pub usage : Response

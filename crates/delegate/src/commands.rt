@@ -2,7 +2,7 @@
 ghost use Rattle.std.specs.Prelude.{IfOk};
 ghost use Rattle.command_line.specs.Words.{AreAtLeastOne};
 ghost use Rattle.delegate.specs.Outcome.{carried_out};
-ghost use Rattle.delegate.specs.Stages.{Stands, DecidesInRange};
+ghost use Rattle.delegate.specs.Standing.{Stands, DecidesInRange};
 
 mod auditing;
 mod big;

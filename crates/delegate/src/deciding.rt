@@ -7,14 +7,12 @@ ghost use Rattle.case_reader.specs.Case.{data_of};
 ghost use Rattle.command_line.specs.Words.{AreAtLeastOne};
 ghost use Rattle.deposits.specs.Balances.{IsSettledUp};
 ghost use Rattle.transcript_text.specs.Report.{report_text};
-ghost use Rattle.case_match.specs.SettledUp.{AreSettledUp};
-ghost use Rattle.delegate.specs.Decided.{written_as, summary, balances_in, match_text, response_of, told, head_of, answered_by};
-ghost use Rattle.delegate.specs.Together.{task_line, task_texts, gravest, together, each_told};
-ghost use Rattle.delegate.specs.Responses.{responses};
+ghost use Rattle.case_match.specs.Match.{AreSettledUp};
+ghost use Rattle.delegate.specs.Decided.{written_as, summary, balances_in, match_text, response_of, told, head_of, answered_by, task_line, task_texts, gravest, together, each_told};
+ghost use Rattle.delegate.specs.Standing.{responses};
 ghost use Rattle.delegate.specs.commands.Judge.{judging};
 
-use crate::answered::Answered;
-use crate::response::Response;
+use crate::response::{Answered, Response};
 use case_match::{start_roots, verdict_from, verdict_of_case, verdicts_from};
 use case_reader::Case;
 use command_line::{MatchText, Options};

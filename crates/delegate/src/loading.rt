@@ -7,11 +7,10 @@ ghost use Rattle.case_reader.specs.Tasks.{tasks_data, AreFew};
 ghost use Rattle.image_reader.specs.Image.{loaded_of};
 ghost use Rattle.case_match.specs.TruthfulInCase.{IsInRange};
 ghost use Rattle.delegate.specs.Loading.{case_in, tasks_in, image_by, image_in, start_in, starts_in};
-ghost use Rattle.delegate.specs.Stages.{Stands, AreAllInRange, AddsStarts};
+ghost use Rattle.delegate.specs.Standing.{Stands, AreAllInRange, AddsStarts};
 
 use crate::faults;
-use crate::response::Stop;
-use crate::subject::Subject;
+use crate::response::{Stop, Subject};
 use asm_image::{AsmImageFault, load_asm};
 use case_reader::{Case, CaseFault, Format, TaskFault, Tasks, read_case, read_tasks};
 use image_reader::{ImageFault, Loaded, load_elf, load_flat};

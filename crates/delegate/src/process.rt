@@ -6,12 +6,11 @@ ghost use Rattle.io_edge.specs.Device.{Rises, IsLaterIn, AppendsPart};
 ghost use Rattle.delegate.specs.Answered.{status_number};
 ghost use Rattle.delegate.specs.Headline.{AnswersTheCase, KeepsTheTruthful, AnswersTheTasks, KeepsTheTruthfulOfTasks};
 ghost use Rattle.delegate.specs.Outcome.{outcome};
-ghost use Rattle.delegate.specs.Process.{given, is_whole, is_read_whole, IsWrittenBy};
-ghost use Rattle.delegate.specs.Visible.{ForItsBytes};
+ghost use Rattle.delegate.specs.Writing.{given, is_whole, is_read_whole, IsWrittenBy, ForItsBytes};
 ghost use Rattle.command_line.specs.Words.{texts, chosen, reads};
 
-use crate::answered::Answered;
 use crate::program::run;
+use crate::response::Answered;
 use io_edge::{Sink, Source};
 use std::alloc::{AllocGlobal, Global};
 use std::env::Env;

@@ -1,10 +1,96 @@
-ghost use Rattle.std.specs.Prelude.{◌≡◌};
+//! What the program answers: how it ended, what is written, and why a command isn't carried out.
+ghost use Rattle.std.specs.Prelude.{◌≡◌, Some};
 ghost use Rattle.delegate.specs.declared.response.Halt.TheVariants.{Memory as halted};
 ghost use Rattle.delegate.specs.declared.response.Stop.TheVariants.{Memory as stopped};
+ghost use Rattle.delegate.specs.Answered.{status_number, graver};
+ghost use Rattle.delegate.specs.Refusal.{subject_text};
 
-use crate::answered::Answered;
 use rd_base::{Bytes, Memory};
 use std::alloc::{AllocError, AllocFailed};
+use std::fmt;
+
+/// How the program ended.
+#[derive(Clone, Copy, Debug, PartialEq, Eq)]
+pub enum Answered {
+    /// A claim was accepted, or the command's text was written.
+    Done,
+    /// The arguments name no command. Nothing was read.
+    Usage,
+    /// The bytes are no case.
+    Case,
+    /// The image can't be loaded.
+    Image,
+    /// The source failed. Nothing was written.
+    ReadFault,
+    /// The sink failed. It may have taken a prefix of the text.
+    WriteFault,
+    /// The text is no full text of a legal match.
+    AuditRefused,
+    /// Memory ran out. Nothing was written.
+    Memory,
+    /// Every prover is out.
+    NoneLeft,
+    /// Two different strings with one digest were found.
+    Collision,
+    /// The source has too many bytes.
+    TooLong,
+}
+
+impl Answered {
+    /// The exit status of the program.
+    pub fn status(self) -> u8
+        ensures { result ≡ status_number self }
+    {
+        match self {
+            Answered::Done => 0,
+            Answered::Usage => 2,
+            Answered::Case => 3,
+            Answered::Image => 4,
+            Answered::ReadFault => 5,
+            Answered::WriteFault => 6,
+            Answered::AuditRefused => 8,
+            Answered::Memory => 9,
+            Answered::NoneLeft => 10,
+            Answered::Collision => 11,
+            Answered::TooLong => 12,
+        }
+    }
+
+    /// The graver of two answers to tasks: a collision, else that nobody is left, else the other one.
+    pub fn or_graver(self, other: Answered) -> Answered
+        ensures { result ≡ graver self other }
+    {
+        match self {
+            Answered::Collision => Answered::Collision,
+            Answered::NoneLeft => match other {
+                Answered::Collision => Answered::Collision,
+                _ => Answered::NoneLeft,
+            },
+            _ => other,
+        }
+    }
+}
+
+/// What a refusal is of.
+#[derive(Clone, Copy, Debug, PartialEq, Eq)]
+pub enum Subject {
+    /// All that is read.
+    Whole,
+    /// The task of this number, counted from 1.
+    Task(u32),
+}
+
+/// As it stands in a refusal: nothing, or `task T` and a space.
+impl fmt::Display for Subject {
+    ghost output = { λ subject. Some (subject_text subject) };
+
+    fn fmt<W: fmt::Write>(&self, f: &mut fmt::Formatter<W>) -> fmt::Result {
+        match self {
+            Subject::Whole => f.write_str(""),
+            Subject::Task(number) => write!(f, "task {number} "),
+        }
+    }
+}
 
 /// What is to be written, whole, and the answer once it is.
 #[derive(Debug, Drop)]

@@ -15,10 +15,10 @@ use Rattle.audit.specs.declared.finding.Cause.TheVariants.{NotAsked, OtherReply,
 use Rattle.audit.specs.declared.finding.Audit.{Audit}
 use Rattle.audit.specs.declared.finding.Audit.TheVariants.{Confirmed, Refused}
 use Rattle.audit.specs.LineByLine.{audited}
-use Rattle.delegate.specs.Digest.{digest_of}
+use Rattle.delegate.specs.Decided.{digest_of}
 use Rattle.delegate.specs.Refusal.{or_refusal}
 use Rattle.delegate.specs.declared.response.Response.{Response}
-use Rattle.delegate.specs.declared.answered.Answered.TheVariants.{Done, AuditRefused}
+use Rattle.delegate.specs.declared.response.Answered.TheVariants.{Done, AuditRefused}
 
 -- the first fault of a text, with its line where it says one
 abbrev pub text_fault_text : TextFault → List ℕ

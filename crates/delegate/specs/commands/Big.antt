@@ -5,7 +5,7 @@ use Rattle.text_types.specs.declared.digest.DigestName.TheVariants.{Sha256}
 use Rattle.workload.specs.Workload.{big_data}
 use Rattle.delegate.specs.Loading.{start_in}
 use Rattle.delegate.specs.Decided.{Deciding, summary, decided}
-use Rattle.delegate.specs.declared.subject.Subject.TheVariants.{Whole}
+use Rattle.delegate.specs.declared.response.Subject.TheVariants.{Whole}
 use Rattle.delegate.specs.declared.response.Response.{Response}
 
 -- what it is asked for

@@ -6,9 +6,8 @@ use Rattle.case_reader.specs.Tasks.{TasksData, One, Many}
 use Rattle.text_types.specs.declared.digest.DigestName.{DigestName}
 use Rattle.command_line.specs.declared.request.MatchText.{MatchText}
 use Rattle.delegate.specs.Loading.{tasks_in, start_in, starts_in}
-use Rattle.delegate.specs.Decided.{Deciding, written_as, decided}
-use Rattle.delegate.specs.Together.{together, each_decided}
-use Rattle.delegate.specs.declared.subject.Subject.TheVariants.{Whole}
+use Rattle.delegate.specs.Decided.{Deciding, written_as, decided, together, each_decided}
+use Rattle.delegate.specs.declared.response.Subject.TheVariants.{Whole}
 use Rattle.delegate.specs.declared.response.Response.{Response}
 
 -- what it is asked for

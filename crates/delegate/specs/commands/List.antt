@@ -12,9 +12,9 @@ use Rattle.rv_text.specs.Listing.{listing}
 use Rattle.asm_image.specs.declared.image.AsmImageFault.TheVariants as asm
 use Rattle.delegate.specs.Loading.{case_in, image_by}
 use Rattle.delegate.specs.Refusal.{case_refusal, asm_refusal, or_refusal}
-use Rattle.delegate.specs.declared.subject.Subject.TheVariants.{Whole}
+use Rattle.delegate.specs.declared.response.Subject.TheVariants.{Whole}
 use Rattle.delegate.specs.declared.response.Response.{Response}
-use Rattle.delegate.specs.declared.answered.Answered.TheVariants.{Done}
+use Rattle.delegate.specs.declared.response.Answered.TheVariants.{Done}
 
 -- the word whose first byte, the least, stands at this place. Bytes behind the end are 0.
 abbrev pub word_at : List ℕ → ℕ → ℕ

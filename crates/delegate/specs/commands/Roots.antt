@@ -8,12 +8,12 @@ use Rattle.segment_replay.specs.Roots.{own_root}
 use Rattle.case_reader.specs.Case.{CaseData}
 use Rattle.text_types.specs.declared.digest.DigestName.TheVariants.{Sha256}
 use Rattle.transcript_text.specs.Roots.{root_lines}
-use Rattle.delegate.specs.Digest.{digest_of}
+use Rattle.delegate.specs.Decided.{digest_of}
 use Rattle.delegate.specs.Loading.{case_in, start_in}
 use Rattle.delegate.specs.Refusal.{bound_refusal}
-use Rattle.delegate.specs.declared.subject.Subject.TheVariants.{Whole}
+use Rattle.delegate.specs.declared.response.Subject.TheVariants.{Whole}
 use Rattle.delegate.specs.declared.response.Response.{Response}
-use Rattle.delegate.specs.declared.answered.Answered.TheVariants.{Done}
+use Rattle.delegate.specs.declared.response.Answered.TheVariants.{Done}
 
 -- not more than the most steps whose roots are written
 abbrev pub within_bound : CaseData → Result (Unit {0}) Response

@@ -6,9 +6,9 @@ use Rattle.rv_step.specs.Step.{state_at}
 use Rattle.case_reader.specs.Case.{CaseData}
 use Rattle.transcript_text.specs.Report.{answer_line_text}
 use Rattle.delegate.specs.Loading.{case_in, start_in}
-use Rattle.delegate.specs.declared.subject.Subject.TheVariants.{Whole}
+use Rattle.delegate.specs.declared.response.Subject.TheVariants.{Whole}
 use Rattle.delegate.specs.declared.response.Response.{Response}
-use Rattle.delegate.specs.declared.answered.Answered.TheVariants.{Done}
+use Rattle.delegate.specs.declared.response.Answered.TheVariants.{Done}
 
 abbrev pub answer_of_run : CaseData → State → Response
 answer_of_run c start =

@@ -5,10 +5,9 @@ ghost use Rattle.transcript_text.specs.Report.{output_text, line_text};
 ghost use Rattle.text_reader.specs.ReadText.{read_text};
 ghost use Rattle.audit.specs.LineByLine.{audited};
 ghost use Rattle.delegate.specs.commands.Audit.{text_refusal, full_text_in, cause_number, found, judge_of, checked};
-ghost use Rattle.delegate.specs.Stages.{Stands};
+ghost use Rattle.delegate.specs.Standing.{Stands};
 
-use crate::answered::Answered;
-use crate::response::{Response, Stop};
+use crate::response::{Answered, Response, Stop};
 use audit::{Audit, Cause, a_read_text_may_be_audited, audit};
 use digest_core::{Sha256, Weak8};
 use rd_base::{Bytes, Memory, Status};

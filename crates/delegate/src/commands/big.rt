@@ -5,13 +5,12 @@ ghost use Rattle.workload.specs.Workload.{big_data};
 ghost use Rattle.command_line.specs.Words.{AreAtLeastOne};
 ghost use Rattle.delegate.specs.Decided.{summary, tasks_for};
 ghost use Rattle.delegate.specs.commands.Big.{summed_up};
-ghost use Rattle.delegate.specs.Stages.{Stands, AreInRangeIfThere};
+ghost use Rattle.delegate.specs.Standing.{Stands, AreInRangeIfThere};
 ghost use Rattle.delegate.specs.declared.response.Response.{Response};
 
 use crate::deciding::summary;
 use crate::loading::{case_in, start_in};
-use crate::response::{Response, Stop};
-use crate::subject::Subject;
+use crate::response::{Response, Stop, Subject};
 use case_reader::Case;
 use command_line::Options;
 use digest_core::Sha256;

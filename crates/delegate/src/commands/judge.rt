@@ -5,15 +5,13 @@ ghost use Rattle.rv_step.specs.State.{state_of, IsChained};
 ghost use Rattle.case_reader.specs.Case.{data_of};
 ghost use Rattle.case_reader.specs.Tasks.{tasks_data, AreFew};
 ghost use Rattle.command_line.specs.Words.{AreAtLeastOne};
-ghost use Rattle.delegate.specs.Decided.{written_as, tasks_for, decided};
-ghost use Rattle.delegate.specs.Together.{together, each_decided};
+ghost use Rattle.delegate.specs.Decided.{written_as, tasks_for, decided, together, each_decided};
 ghost use Rattle.delegate.specs.commands.Judge.{judging, judged_of, judged};
-ghost use Rattle.delegate.specs.Stages.{Stands, AreInRange, AreInRangeIfThere};
+ghost use Rattle.delegate.specs.Standing.{Stands, AreInRange, AreInRangeIfThere};
 
 use crate::deciding;
 use crate::loading::{start_in, starts_in, tasks_in};
-use crate::response::{Response, Stop};
-use crate::subject::Subject;
+use crate::response::{Response, Stop, Subject};
 use case_reader::{Case, Tasks};
 use command_line::{MatchText, Options};
 use digest_core::{Sha256, Weak8};

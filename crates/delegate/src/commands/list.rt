@@ -4,13 +4,11 @@ ghost use Rattle.rd_base.specs.Results.{map_fault};
 ghost use Rattle.rv_text.specs.Assembly.{assembled};
 ghost use Rattle.delegate.specs.Refusal.{asm_refusal, or_refusal};
 ghost use Rattle.delegate.specs.commands.List.{word_at, words_of, format_refusal, words_by, listed};
-ghost use Rattle.delegate.specs.Stages.{Stands};
+ghost use Rattle.delegate.specs.Standing.{Stands};
 
-use crate::answered::Answered;
 use crate::faults;
 use crate::loading::{asm_image, case_in, flat_image};
-use crate::response::{Response, Stop};
-use crate::subject::Subject;
+use crate::response::{Answered, Response, Stop, Subject};
 use asm_image::AsmImageFault;
 use case_reader::{Case, CaseFault, Format, Key};
 use rd_base::{Bytes, Memory};

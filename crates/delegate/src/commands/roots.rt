@@ -6,13 +6,11 @@ ghost use Rattle.case_reader.specs.Case.{data_of};
 ghost use Rattle.transcript_text.specs.Roots.{root_lines};
 ghost use Rattle.segment_replay.specs.Roots.{own_root};
 ghost use Rattle.delegate.specs.commands.Roots.{within_bound, roots_of_run, rooted};
-ghost use Rattle.delegate.specs.Stages.{Stands};
+ghost use Rattle.delegate.specs.Standing.{Stands};
 
-use crate::answered::Answered;
 use crate::faults;
 use crate::loading::{case_in, start_in};
-use crate::response::{Response, Stop};
-use crate::subject::Subject;
+use crate::response::{Answered, Response, Stop, Subject};
 use case_reader::{Case, CaseFault, Key};
 use digest_core::{Digester, Sha256};
 use rd_base::{Bytes, Memory};

@@ -1,11 +1,9 @@
 //! `run`: to run the program of a case, and to write what its run answers.
 ghost use Rattle.delegate.specs.commands.Run.{ran};
-ghost use Rattle.delegate.specs.Stages.{Stands};
+ghost use Rattle.delegate.specs.Standing.{Stands};
 
-use crate::answered::Answered;
 use crate::loading::{case_in, start_in};
-use crate::response::{Response, Stop};
-use crate::subject::Subject;
+use crate::response::{Answered, Response, Stop, Subject};
 use digest_core::Sha256;
 use rd_base::Bytes;
 use rv_step::advance;

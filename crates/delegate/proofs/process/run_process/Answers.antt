@@ -3,8 +3,7 @@ use Rattle.std.specs.Process.{exit_status}
 use Rattle.command_line.specs.Words.{texts}
 use Rattle.delegate.specs.Headline.{AnswersTheCase, KeepsTheTruthful, AnswersTheTasks, KeepsTheTruthfulOfTasks}
 use Rattle.delegate.specs.Outcome.{outcome}
-use Rattle.delegate.specs.Process.{given, IsWrittenBy}
-use Rattle.delegate.specs.Visible.{ForItsBytes}
+use Rattle.delegate.specs.Writing.{given, IsWrittenBy, ForItsBytes}
 use Rattle.delegate.proofs.OutcomeLemmas.{for_its_bytes}
 use Rattle.delegate.proofs.ProcessLemmas.{by-status, whole-by, same-words}
 use Rattle.delegate.proofs.process.run_process.Goals as goal

@@ -1,7 +1,7 @@
 use Rattle.std.proofs.Common.{refl, subst, ap, ◌∙◌}
 use Rattle.std.specs.Io.KnownBytes.{Appends}
 use Rattle.command_line.specs.Words.{texts}
-use Rattle.delegate.specs.declared.answered.Answered.TheVariants.{ReadFault, WriteFault, Memory}
+use Rattle.delegate.specs.declared.response.Answered.TheVariants.{ReadFault, WriteFault, Memory}
 use Rattle.delegate.proofs.OutcomeLemmas.{for_its_bytes}
 use Rattle.delegate.proofs.CaseLemmas.{outcome-case, outcome-headline, outcome-tasks, outcome-task-headline}
 use Rattle.delegate.proofs.KindLemmas.{response-kind, response-own, response-usage, response-usage_text, no-fault}

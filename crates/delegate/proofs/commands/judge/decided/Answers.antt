@@ -2,8 +2,7 @@ use Rattle.std.proofs.Common.{◌∙◌, ap, sym}
 use Rattle.std.proofs.lemmas.Result.{IfOk-weaker}
 use Rattle.rv_step.specs.State.{state_of}
 use Rattle.case_reader.specs.Case.{data_of}
-use Rattle.delegate.specs.Digest.{digest_of}
-use Rattle.delegate.specs.Decided.{told}
+use Rattle.delegate.specs.Decided.{digest_of, told}
 use Rattle.delegate.specs.commands.Judge.{judging}
 use Rattle.delegate.proofs.commands.judge.decided.Goals as goal
 

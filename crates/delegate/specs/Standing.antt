@@ -1,4 +1,4 @@
--- Derived. What a step of the program gives of its definition, and what is known of a case that was read.
+-- Derived. What a call gives of its definition, and what is known of cases that were read, loaded or played.
 use Rattle.std.specs.Prelude.{◌≡◌, ℕ, List, [], ◌∷◌, ◌++◌, map, length, Some, Result, Ok, Err}
 use Rattle.std.specs.List.{All}
 use Rattle.std.specs.Option.{option_and_then}
@@ -10,14 +10,17 @@ use Rattle.command_line.specs.Words.{chosen}
 use Rattle.command_line.specs.declared.request.Command.{Command}
 use Rattle.case_match.specs.TruthfulInCase.{IsInRange}
 use Rattle.delegate.specs.Loading.{start_in, starts_in}
-use Rattle.delegate.specs.Decided.{Deciding, tasks_for}
+use Rattle.delegate.specs.Decided.{Deciding, tasks_for, response_of}
 use Rattle.delegate.specs.Outcome.{decides}
-use Rattle.delegate.specs.declared.subject.Subject.TheVariants.{Whole}
+use Rattle.delegate.specs.declared.response.Subject.TheVariants.{Whole}
 use Rattle.delegate.specs.declared.response.Response.{Response}
 use Rattle.delegate.specs.declared.response.Stop.{Stop}
 use Rattle.delegate.specs.declared.response.Stop.TheVariants.{Refused}
+use Rattle.rd_base.specs.declared.digest.Digest32.{Digest32}
+use Rattle.tournament.specs.declared.verdict.Verdict.{Verdict}
+use Rattle.tournament.specs.Bracket.{Record}
 
--- a step's value, seen by view, or its refusal is that of the definition, unless memory ran out
+-- a call's value, seen by view, or its refusal is that of the definition, unless memory ran out
 abbrev pub Stands : {X Y : Type 0} → (X → Y) → Result X Stop → Result Y Response → Type 0
 Stands view (Ok x) defined = defined ≡ Ok (view x)
 Stands view (Err stop) defined = (response : Response) → stop ≡ Refused response → defined ≡ Err response
@@ -59,3 +62,10 @@ pub record AreStarted (number : ℕ) (cs : List CaseData) (before now : List Mac
 abbrev pub AddsStarts : ℕ → List CaseData → List Machine → List Machine → Result (Unit {0}) Stop → Type 0
 AddsStarts number cs before now (Ok done) = AreStarted number cs before now
 AddsStarts number cs before now (Err stop) = (response : Response) → stop ≡ Refused response → starts_in number cs ≡ Err response
+
+-- the responses to tasks whose matches have ended, from their cases, roots and endings
+abbrev pub responses : Deciding → List CaseData → List Digest32 → List (Record × Verdict) → List Response
+responses m [] roots ends = []
+responses m (c ∷ cs) [] ends = []
+responses m (c ∷ cs) (root ∷ roots) [] = []
+responses m (c ∷ cs) (root ∷ roots) (end ∷ ends) = response_of m c root end.0 end.1 ∷ responses m cs roots ends

@@ -5,7 +5,7 @@ use Rattle.delegate.specs.Outcome.{bytes_for}
 use Rattle.delegate.specs.Refusal.{usage, too_long}
 use Rattle.delegate.proofs.OutcomeLemmas.{no_command, no_bytes, both_steps, some_bytes, for_its_bytes}
 use Rattle.delegate.proofs.CaseLemmas.{IsIt, refused-is-it, carried-is-it}
-use Rattle.delegate.proofs.responding.respond.Goals as goal
+use Rattle.delegate.proofs.program.respond.Goals as goal
 
 pub returns-in-Ok-None-clause-outcome : goal.returns-in-Ok-None-clause-outcome
 returns-in-Ok-None-clause-outcome g c =
