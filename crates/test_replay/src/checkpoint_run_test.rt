@@ -124,12 +124,17 @@ fn a_run_that_ends_early_stands_still_there(rt: HostRuntime) -> Result<(), Fail>
 fn has_bytes_of(mem: &PlainMem, step: u64, flipped: u32, addr: u32) -> bool {
     for page in 0..100u32 {
         let stored = step > u64::from(3 * page + 3);
-        if mem.byte(0x2_0000 + 4096 * page) != if stored { 7 } else { 0 } {
+        if mem.byte(0x2_0000 + 4096 * page) != byte_if(stored, 7) {
             return false;
         }
     }
     let changed = step >= u64::from(flipped);
-    mem.byte(addr) == if changed { 0x81 } else { 0 } && mem.byte(0x1_0000) == 0xb7
+    mem.byte(addr) == byte_if(changed, 0x81) && mem.byte(0x1_0000) == 0xb7
+}
+
+/// The byte if a condition holds, and else 0.
+fn byte_if(holds: bool, byte: u8) -> u8 {
+    if holds { byte } else { 0 }
 }
 
 /// The step from which a run of A_STORE_IN_EACH_PAGE stands still, in which a byte is flipped and whose bound is 305, and how

@@ -6,6 +6,8 @@
 #[cfg(test)]
 mod checkpoint_run_test;
 #[cfg(test)]
+mod kept;
+#[cfg(test)]
 mod programs;
 #[cfg(test)]
 mod segment_replay_test;

@@ -1,22 +1,51 @@
-ghost use Rattle.std.specs.Prelude.{ℕ, ◌<◌, List, IfOk};
+ghost use Rattle.std.specs.Prelude.{ℕ, ◌≤◌, List, length, IfOk};
 ghost use Rattle.rv_step.specs.State.{IsChained};
 ghost use Rattle.checkpoint_run.specs.Recorded.{AreChained};
 ghost use Rattle.sha2.specs.Sha256.{sha256};
 
+use crate::kept::kept_run;
 use crate::programs::{A_STORE_IN_EACH_PAGE, SIX_STEPS};
 use crate::tampers::{early, flip, register};
 use checkpoint_run::{Run, record_run};
-use digest_core::Sha256;
+use digest_core::{Digester, Sha256};
 use mem_plain::PlainMem;
-use rd_base::{Memory, Tamper};
+use rd_base::{Digest32, Memory, Tamper};
 use rv_step::Machine;
 use segment_replay::{KeptRun, committed_at, roots};
-use state_commit::SharedInput;
 use std::alloc::Global;
 use std::sync::atomic::{AtomicU64, Ordering};
 use std::test::Fail;
 use std::thread::Threads;
 use toy_machine::{Counted, first_eight, machine_of};
+
+/// The run of an image of at most 64 bytes, which lies at 0x10000, up to a bound and with a spacing of at least 1. An `Err` is out of
+/// memory.
+fn run_of(
+    alloc: Global,
+    image: &[u8],
+    bound: u64,
+    every: u32,
+    tamper: Tamper,
+) -> Result<Run, Memory>
+    requires { length image.now ≤ 64 }
+    ensures { IfOk result (λ r. AreChained sha256 r) }
+{
+    let machine = machine_of(alloc, image)?;
+    record_run(alloc, Sha256, &machine, bound, every.max(1), tamper)
+}
+
+/// The roots of some steps, by at least one worker. An `Err` is out of memory.
+fn roots_of<R: Threads + Sync>(
+    rt: &R,
+    alloc: Global,
+    run: &Run,
+    workers: u32,
+    steps: &[u64],
+) -> Result<Vec<Digest32>, Memory>
+    requires { AreChained sha256 run.now }
+{
+    roots(rt, alloc, Sha256, run, steps, workers.max(1))
+}
 
 /// Whether the roots of some steps begin with these eight bytes each.
 fn are_roots<R: Threads + Sync>(
@@ -24,44 +53,61 @@ fn are_roots<R: Threads + Sync>(
     alloc: Global,
     run: &Run,
     workers: u32,
-    wanted: &[(u64, u64)],
+    steps: &[u64],
+    wanted: &[u64],
 ) -> Result<bool, Memory>
-    requires workers { 0 < workers }
-    requires chained { AreChained sha256 run.now }
+    requires { AreChained sha256 run.now }
 {
-    let steps: Vec<u64> = wanted.iter().map(|row| row.0).collect(alloc)?;
-    let found = roots(rt, alloc, Sha256, run, &steps, workers)?;
-    if found.len() != wanted.len() {
-        return Ok(false);
+    let found = roots_of(rt, alloc, run, workers, steps)?;
+    let mut begins = Vec::new(alloc);
+    for root in found.iter() {
+        begins.push(first_eight(*root))?;
     }
-    for (root, row) in found.iter().zip(wanted.iter()) {
-        if first_eight(*root) != row.1 {
-            return Ok(false);
-        }
-    }
-    Ok(true)
+    Ok(begins.as_slice() == wanted)
 }
 
-/// The expected roots were computed by `checks/roots.py SIX_STEPS 8`.
+/// How the root of the committed machine of a step begins. An `Err` is out of memory.
+fn committed_root<R: Threads + Sync>(
+    rt: &R,
+    alloc: Global,
+    run: &Run,
+    step: u64,
+) -> Result<u64, Memory>
+    requires { AreChained sha256 run.now }
+{
+    let committed = committed_at(rt, alloc, Sha256, run, step)?;
+    Ok(first_eight(committed.root()))
+}
+
+/// How the roots of the steps 8, 0, 3 and 3 of SIX_STEPS begin, computed by `checks/roots.py SIX_STEPS 8`.
+const SIX_ROOTS: [u64; 4] = [
+    0x078a_dd20_bc2c_812f,
+    0x1839_59fe_9e22_9320,
+    0xac20_116a_59ff_9b02,
+    0xac20_116a_59ff_9b02,
+];
+
 #[test]
 fn spacing_and_workers_change_no_root(rt: HostRuntime) -> Result<(), Fail> {
-    let wanted = [
-        (8, 0x078a_dd20_bc2c_812f),
-        (0, 0x1839_59fe_9e22_9320),
-        (3, 0xac20_116a_59ff_9b02),
-        (3, 0xac20_116a_59ff_9b02),
-    ];
-    let machine = machine_of(rt.alloc(), &SIX_STEPS)?;
     for every in [1, 3, 1024] {
-        let run = record_run(rt.alloc(), Sha256, &machine, 8, every, Tamper::Untouched)?;
+        let run = run_of(rt.alloc(), &SIX_STEPS, 8, every, Tamper::Untouched)?;
         for workers in [1, 2, 7] {
-            assert!(rt; are_roots(&rt, rt.alloc(), &run, workers, &wanted)?);
+            let steps = [8, 0, 3, 3];
+            assert!(rt; are_roots(&rt, rt.alloc(), &run, workers, &steps, &SIX_ROOTS)?);
         }
-        for (step, root) in [wanted[1], wanted[2], wanted[0], (9, wanted[0].1)] {
-            let committed = committed_at(&rt, rt.alloc(), Sha256, &run, step)?;
-            assert_eq!(rt; first_eight(committed.root()), root);
+        assert!(rt; are_roots(&rt, rt.alloc(), &run, 2, &[], &[])?);
+    }
+    Ok(())
+}
+
+#[test]
+fn spacing_changes_no_root_of_a_committed_machine(rt: HostRuntime) -> Result<(), Fail> {
+    let [last, start, third, _] = SIX_ROOTS;
+    for every in [1, 3, 1024] {
+        let run = run_of(rt.alloc(), &SIX_STEPS, 8, every, Tamper::Untouched)?;
+        for (step, root) in [(0, start), (3, third), (8, last), (9, last)] {
+            assert_eq!(rt; committed_root(&rt, rt.alloc(), &run, step)?, root);
         }
-        assert!(rt; are_roots(&rt, rt.alloc(), &run, 2, &[])?);
     }
     Ok(())
 }
@@ -102,10 +148,9 @@ type Row = (Tamper, u32, [u64; 4]);
 /// Whether the roots of the run of EIGHT_STEPS with a tamper are those of a row.
 fn has_roots<R: Threads + Sync>(rt: &R, alloc: Global, row: Row) -> Result<bool, Memory> {
     let (tamper, every, [start, third, fourth, last]) = row;
-    let machine = machine_of(alloc, &EIGHT_STEPS)?;
-    let run = record_run(alloc, Sha256, &machine, 8, every.max(1), tamper)?;
-    let wanted = [(8, last), (3, third), (4, fourth), (0, start)];
-    are_roots(rt, alloc, &run, 2, &wanted)
+    let run = run_of(alloc, &EIGHT_STEPS, 8, every, tamper)?;
+    let wanted = [last, third, fourth, start];
+    are_roots(rt, alloc, &run, 2, &[8, 3, 4, 0], &wanted)
 }
 
 #[test]
@@ -197,15 +242,15 @@ fn a_run_that_ends_early_keeps_the_root_of_its_end(rt: HostRuntime) -> Result<()
 #[test]
 fn a_hundred_pages_have_the_roots_of_their_steps(rt: HostRuntime) -> Result<(), Fail> {
     let wanted = [
-        (64, 0x9769_9149_a202_ab01),
-        (127, 0xb134_ac6e_99f9_000e),
-        (305, 0x197a_76f1_2654_4735),
+        0x9769_9149_a202_ab01,
+        0xb134_ac6e_99f9_000e,
+        0x197a_76f1_2654_4735,
     ];
-    let machine = machine_of(rt.alloc(), &A_STORE_IN_EACH_PAGE)?;
-    let tamper = flip(65, 0x7000_0000, 0x81);
+    let steps = [64, 127, 305];
     for (every, workers) in [(64, 3), (1024, 1)] {
-        let run = record_run(rt.alloc(), Sha256, &machine, 305, every, tamper)?;
-        assert!(rt; are_roots(&rt, rt.alloc(), &run, workers, &wanted)?);
+        let tamper = flip(65, 0x7000_0000, 0x81);
+        let run = run_of(rt.alloc(), &A_STORE_IN_EACH_PAGE, 305, every, tamper)?;
+        assert!(rt; are_roots(&rt, rt.alloc(), &run, workers, &steps, &wanted)?);
     }
     Ok(())
 }
@@ -223,6 +268,21 @@ fn staying(alloc: Global, pages: u32) -> Result<Machine, Memory>
     }
     mem.store(0, 1, 0)?;
     Machine::new(alloc, 1, mem, 0x1_0000, &[])
+}
+
+/// The run from a machine at the start, up to step 20,000 and with a spacing of at least 1. An `Err` is out of memory.
+fn run_staying(alloc: Global, pages: u32, every: u32) -> Result<Run, Memory>
+    ensures { IfOk result (λ r. AreChained sha256 r) }
+{
+    let machine = staying(alloc, pages)?;
+    record_run(
+        alloc,
+        Sha256,
+        &machine,
+        20_000,
+        every.max(1),
+        Tamper::Untouched,
+    )
 }
 
 /// How many digests the roots of two steps take.
@@ -266,9 +326,7 @@ fn moves_the_tree<R: Threads + Sync>(
     every: u32,
     steps: [u64; 2],
 ) -> Result<bool, Memory> {
-    let machine = staying(alloc, pages)?;
-    let tamper = Tamper::Untouched;
-    let run = record_run(alloc, Sha256, &machine, 20_000, every.max(1), tamper)?;
+    let run = run_staying(alloc, pages, every)?;
     Ok(digests_between(rt, alloc, &run, steps[0], steps[1])? == 0)
 }
 
@@ -298,8 +356,8 @@ fn a_tree_goes_to_every_step_without_digests_of_what_stays(rt: HostRuntime) -> R
 /// at most 28 digests; the pages that hold nothing take those of the 20 levels above them at least.
 #[test]
 fn a_tree_goes_to_a_step_by_the_chunks_that_differ(rt: HostRuntime) -> Result<(), Fail> {
-    let machine = machine_of(rt.alloc(), &A_STORE_IN_EACH_PAGE)?;
-    let run = record_run(rt.alloc(), Sha256, &machine, 305, 16, Tamper::Untouched)?;
+    let image = &A_STORE_IN_EACH_PAGE;
+    let run = run_of(rt.alloc(), image, 305, 16, Tamper::Untouched)?;
     for (from, to) in [(64, 305), (305, 64)] {
         let digests = digests_between(&rt, rt.alloc(), &run, from, to)?;
         assert!(rt;
@@ -310,52 +368,69 @@ fn a_tree_goes_to_a_step_by_the_chunks_that_differ(rt: HostRuntime) -> Result<()
     Ok(())
 }
 
-/// The expected roots were computed by `checks/roots.py A_STORE_IN_EACH_PAGE 305`.
+/// How the roots of the steps 305, 64, 100, 10, 200, 200, 0 and 305 of A_STORE_IN_EACH_PAGE begin, computed by
+/// `checks/roots.py A_STORE_IN_EACH_PAGE 305`.
+const PAGE_ROOTS: [u64; 8] = [
+    0xeb35_95e4_f86a_5143,
+    0x9769_9149_a202_ab01,
+    0xa02b_39a7_4eda_f4c7,
+    0x7dd4_b059_386a_5608,
+    0xdc18_fc32_3b17_f08a,
+    0xdc18_fc32_3b17_f08a,
+    0x0e68_4df4_bf36_e8d8,
+    0xeb35_95e4_f86a_5143,
+];
+
 #[test]
 fn roots_are_those_of_their_steps_in_any_order(rt: HostRuntime) -> Result<(), Fail> {
-    let wanted = [
-        (305, 0xeb35_95e4_f86a_5143),
-        (64, 0x9769_9149_a202_ab01),
-        (100, 0xa02b_39a7_4eda_f4c7),
-        (10, 0x7dd4_b059_386a_5608),
-        (200, 0xdc18_fc32_3b17_f08a),
-        (200, 0xdc18_fc32_3b17_f08a),
-        (0, 0x0e68_4df4_bf36_e8d8),
-        (305, 0xeb35_95e4_f86a_5143),
-    ];
-    let machine = machine_of(rt.alloc(), &A_STORE_IN_EACH_PAGE)?;
+    let steps = [305, 64, 100, 10, 200, 200, 0, 305];
     for (every, workers) in [(16, 1), (16, 3), (1024, 1)] {
-        let run = record_run(rt.alloc(), Sha256, &machine, 305, every, Tamper::Untouched)?;
-        assert!(rt; are_roots(&rt, rt.alloc(), &run, workers, &wanted)?);
+        let image = &A_STORE_IN_EACH_PAGE;
+        let run = run_of(rt.alloc(), image, 305, every, Tamper::Untouched)?;
+        assert!(rt; are_roots(&rt, rt.alloc(), &run, workers, &steps, &PAGE_ROOTS)?);
     }
     Ok(())
+}
+
+/// The run of A_STORE_IN_EACH_PAGE up to step 305, from which no root was made so far. An `Err` is out of memory.
+fn kept_pages<D: Digester>(alloc: Global, d: D) -> Result<KeptRun<D>, Memory> {
+    let machine = machine_of(alloc, &A_STORE_IN_EACH_PAGE)?;
+    kept_run(alloc, d, &machine, 305, 16)
+}
+
+/// How the root of a step begins.
+fn kept_root<D: Digester + Copy + Send + Sync, R: Threads + Sync>(
+    rt: &R,
+    alloc: Global,
+    kept: &mut KeptRun<D>,
+    step: u64,
+) -> Result<u64, Memory> {
+    Ok(first_eight(kept.root(rt, alloc, step)?))
 }
 
 /// The roots are those of the test above. A root of the same state once more takes the digests of its registers, its control string and
 /// its state string.
 #[test]
 fn a_kept_run_goes_from_root_to_root_in_any_order(rt: HostRuntime) -> Result<(), Fail> {
-    let machine = machine_of(rt.alloc(), &A_STORE_IN_EACH_PAGE)?;
-    let run = record_run(rt.alloc(), Sha256, &machine, 305, 16, Tamper::Untouched)?;
     let made = AtomicU64::new(0);
     let counted = Counted {
         of: Sha256,
         made: &made,
     };
-    let input = SharedInput::of(rt.alloc(), counted, &machine)?;
-    let mut kept = KeptRun::new(counted, run, input);
+    let mut kept = kept_pages(rt.alloc(), counted)?;
+    let [last, of_64, of_100, of_10, ..] = PAGE_ROOTS;
     for (step, root) in [
-        (305, 0xeb35_95e4_f86a_5143),
-        (64, 0x9769_9149_a202_ab01),
-        (100, 0xa02b_39a7_4eda_f4c7),
-        (10, 0x7dd4_b059_386a_5608),
-        (306, 0xeb35_95e4_f86a_5143),
+        (305, last),
+        (64, of_64),
+        (100, of_100),
+        (10, of_10),
+        (306, last),
     ] {
-        let found = kept.root(&rt, rt.alloc(), step)?;
-        assert_eq!(rt; first_eight(found), root, "step {step}");
+        let found = kept_root(&rt, rt.alloc(), &mut kept, step)?;
+        assert_eq!(rt; found, root, "step {step}");
     }
     let before = made.load(Ordering::SeqCst);
-    kept.root(&rt, rt.alloc(), 305)?;
+    kept_root(&rt, rt.alloc(), &mut kept, 305)?;
     assert_eq!(rt; made.load(Ordering::SeqCst).wrapping_sub(before), 3);
     Ok(())
 }

@@ -1,12 +1,14 @@
 //! Tests of roots and of committed machines in each version of the commitment.
-ghost use Rattle.std.specs.Prelude.{◌≤◌, ◌<◌, length, IfOk};
+ghost use Rattle.std.specs.Prelude.{ℕ, ◌≤◌, ◌<◌, List, length, IfOk};
+ghost use Rattle.rv_step.specs.State.{IsChained};
 ghost use Rattle.checkpoint_run.specs.Recorded.{AreChained};
 ghost use Rattle.sha2.specs.Sha256.{sha256};
 
+use crate::kept::kept_run;
 use crate::programs::SIX_STEPS;
 use crate::tampers::register;
 use checkpoint_run::{Run, record_run};
-use digest_core::Sha256;
+use digest_core::{Digester, Sha256};
 use mem_plain::PlainMem;
 use rd_base::{Digest32, Memory, Tamper};
 use rv_step::Machine;
@@ -20,6 +22,18 @@ use toy_machine::{Counted, first_eight};
 
 /// xori x5, x5, 1; jal x0, -4: its register changes in each even step, and every fourth state is the same
 const TOGGLES: [u8; 8] = [0x93, 0xc2, 0x12, 0x00, 0x6f, 0xf0, 0xdf, 0xff];
+
+/// A machine at the start of an image of at most 64 bytes, which lies at 0x10000, with an input of at most 64 bytes, in a version. An
+/// `Err` is out of memory.
+fn machine_in(alloc: Global, version: u8, image: &[u8], input: &[u8]) -> Result<Machine, Memory>
+    requires version { (1 ≤ version) × (version ≤ 3) }
+    requires image { length image.now ≤ 64 }
+    requires input { length input.now ≤ 64 }
+    ensures { IfOk result (λ m. (digest : List ℕ → List ℕ) → IsChained digest m) }
+{
+    let mem = PlainMem::new(alloc).lay(0x1_0000, image)?;
+    Machine::new(alloc, version, mem, 0x1_0000, input)
+}
 
 /// The run of an image of at most 64 bytes, which lies at 0x10000, with an input of at most 64 bytes, in a version, up to step 8. An
 /// `Err` is out of memory.
@@ -37,8 +51,7 @@ fn run_in(
     requires every { 0 < every }
     ensures { IfOk result (λ r. AreChained sha256 r) }
 {
-    let mem = PlainMem::new(alloc).lay(0x1_0000, image)?;
-    let machine = Machine::new(alloc, version, mem, 0x1_0000, input)?;
+    let machine = machine_in(alloc, version, image, input)?;
     record_run(alloc, Sha256, &machine, 8, every, tamper)
 }
 
@@ -49,8 +62,25 @@ fn nine_roots<R: Threads + Sync>(rt: &R, alloc: Global, run: &Run) -> Result<Vec
     roots(rt, alloc, Sha256, run, &[0, 1, 2, 3, 4, 5, 6, 7, 8], 2)
 }
 
+/// Whether the root of the committed machine of a step is this one, and that of the machine's state from scratch too. An `Err` is out
+/// of memory.
+fn is_root_of<R: Threads + Sync>(
+    rt: &R,
+    alloc: Global,
+    run: &Run,
+    step: u64,
+    root: Digest32,
+) -> Result<bool, Memory>
+    requires { AreChained sha256 run.now }
+{
+    let committed = committed_at(rt, alloc, Sha256, run, step)?;
+    let machine = committed.machine();
+    let scratch = state_root_in(Sha256, machine.version, machine);
+    Ok(committed.root() == root && scratch == root)
+}
+
 /// Whether the roots of a run begin with these eight bytes each, and each is that of the committed machine of its step and that of
-/// the machine's state from scratch.
+/// the machine's state from scratch. An `Err` is out of memory.
 fn are_roots<R: Threads + Sync>(
     rt: &R,
     alloc: Global,
@@ -60,21 +90,14 @@ fn are_roots<R: Threads + Sync>(
     requires { AreChained sha256 run.now }
 {
     let found = nine_roots(rt, alloc, run)?;
-    if found.len() != 9 {
-        return Ok(false);
-    }
+    let mut begins = Vec::new(alloc);
     for (step, root) in found.iter().enumerate() {
-        let committed = committed_at(rt, alloc, Sha256, run, step as u64)?;
-        let machine = committed.machine();
-        let scratch = state_root_in(Sha256, machine.version, machine);
-        if committed.root() != *root
-            || scratch != *root
-            || first_eight(*root) != wanted[step.min(8)]
-        {
+        if !is_root_of(rt, alloc, run, step as u64, *root)? {
             return Ok(false);
         }
+        begins.push(first_eight(*root))?;
     }
-    Ok(true)
+    Ok(begins.as_slice() == wanted.as_slice())
 }
 
 /// The roots of SIX_STEPS in versions 2 and 3, by a program in Python: the machine and the roots of `checks/`, with the digest of
@@ -187,29 +210,40 @@ fn are_alike(some: &[Digest32], others: &[Digest32]) -> bool {
     true
 }
 
+/// The roots of the steps 0 to 8 of an image of at most 64 bytes, in a version. An `Err` is out of memory.
+fn roots_in<R: Threads + Sync>(
+    rt: &R,
+    alloc: Global,
+    version: u8,
+    image: &[u8],
+) -> Result<Vec<Digest32>, Memory>
+    requires version { (1 ≤ version) × (version ≤ 3) }
+    requires image { length image.now ≤ 64 }
+{
+    let run = run_in(alloc, version, image, b"", 3, Tamper::Untouched)?;
+    nine_roots(rt, alloc, &run)
+}
+
 #[test]
 fn roots_of_versions_are_equal_for_the_same_steps_and_never_to_each_other(
     rt: HostRuntime,
 ) -> Result<(), Fail> {
     for image in [&SIX_STEPS[..], &TOGGLES[..]] {
-        let first = run_in(rt.alloc(), 1, image, b"", 3, Tamper::Untouched)?;
-        let second = run_in(rt.alloc(), 2, image, b"", 3, Tamper::Untouched)?;
-        let third = run_in(rt.alloc(), 3, image, b"", 3, Tamper::Untouched)?;
-        let one = nine_roots(&rt, rt.alloc(), &first)?;
-        let two = nine_roots(&rt, rt.alloc(), &second)?;
-        let three = nine_roots(&rt, rt.alloc(), &third)?;
+        let one = roots_in(&rt, rt.alloc(), 1, image)?;
+        let two = roots_in(&rt, rt.alloc(), 2, image)?;
+        let three = roots_in(&rt, rt.alloc(), 3, image)?;
         assert!(rt; are_alike(&one, &two) && are_alike(&one, &three) && are_alike(&two, &three));
     }
     Ok(())
 }
 
-/// How many digests the roots of some steps take, by one worker, and how many of them where the root of the input is given.
+/// How many digests the roots of some steps take, by one worker. An `Err` is out of memory.
 fn digests_of<R: Threads + Sync>(
     rt: &R,
     alloc: Global,
     run: &Run,
     steps: &[u64],
-) -> Result<(u64, u64), Memory>
+) -> Result<u64, Memory>
     requires { AreChained sha256 run.now }
 {
     let made = AtomicU64::new(0);
@@ -218,10 +252,26 @@ fn digests_of<R: Threads + Sync>(
         made: &made,
     };
     roots(rt, alloc, counted, run, steps, 1)?;
-    let whole = made.load(Ordering::SeqCst);
+    Ok(made.load(Ordering::SeqCst))
+}
+
+/// How many digests they take if the root of the input is given. An `Err` is out of memory.
+fn digests_with_input<R: Threads + Sync>(
+    rt: &R,
+    alloc: Global,
+    run: &Run,
+    steps: &[u64],
+) -> Result<u64, Memory>
+    requires { AreChained sha256 run.now }
+{
+    let made = AtomicU64::new(0);
+    let counted = Counted {
+        of: Sha256,
+        made: &made,
+    };
     let input = run_input_root(Sha256, run);
     roots_with_input(rt, alloc, counted, run, input, steps, 1)?;
-    Ok((whole, made.load(Ordering::SeqCst).wrapping_sub(whole)))
+    Ok(made.load(Ordering::SeqCst))
 }
 
 /// How many digests more the root of a step of TOGGLES takes after that of another one.
@@ -234,8 +284,8 @@ fn digests_between<R: Threads + Sync>(
     requires { (1 ≤ version) × (version ≤ 3) }
 {
     let run = run_in(alloc, version, &TOGGLES, b"", 3, Tamper::Untouched)?;
-    let (first, _) = digests_of(rt, alloc, &run, &steps[..1])?;
-    let (both, _) = digests_of(rt, alloc, &run, &steps)?;
+    let first = digests_of(rt, alloc, &run, &steps[..1])?;
+    let both = digests_of(rt, alloc, &run, &steps)?;
     Ok(both.wrapping_sub(first))
 }
 
@@ -263,7 +313,8 @@ fn the_root_of_the_input_is_made_once_for_all_roots(rt: HostRuntime) -> Result<(
     for (version, wanted) in [(2u8, 0), (3, 33)] {
         let run = run_in(rt.alloc(), version, &TOGGLES, &input, 3, Tamper::Untouched)?;
         for steps in [&[0u64][..], &[0, 1, 2, 3, 4, 5, 6, 7, 8, 8][..]] {
-            let (whole, rest) = digests_of(&rt, rt.alloc(), &run, steps)?;
+            let whole = digests_of(&rt, rt.alloc(), &run, steps)?;
+            let rest = digests_with_input(&rt, rt.alloc(), &run, steps)?;
             assert_eq!(rt; whole.wrapping_sub(rest), wanted, "version {version}");
         }
     }
@@ -271,13 +322,13 @@ fn the_root_of_the_input_is_made_once_for_all_roots(rt: HostRuntime) -> Result<(
 }
 
 /// How many digests a machine at the start of TOGGLES takes, with an input of at most 64 bytes: the root of its state, then the machine
-/// of step 8 of its run with its trees, both without the tree of the input at hand, and then the same two with it. An `Err` is out of memory.
-fn digests_without_and_with_the_tree<R: Threads + Sync>(
+/// of step 8 of its run with its trees, both without the tree of the input at hand. An `Err` is out of memory.
+fn digests_without_the_tree<R: Threads + Sync>(
     rt: &R,
     alloc: Global,
     version: u8,
     input: &[u8],
-) -> Result<[u64; 4], Memory>
+) -> Result<[u64; 2], Memory>
     requires version { (1 ≤ version) × (version ≤ 3) }
     requires input { length input.now ≤ 64 }
 {
@@ -286,39 +337,77 @@ fn digests_without_and_with_the_tree<R: Threads + Sync>(
         of: Sha256,
         made: &made,
     };
-    let mem = PlainMem::new(alloc).lay(0x1_0000, &TOGGLES)?;
-    let machine = Machine::new(alloc, version, mem, 0x1_0000, input)?;
-    let run = record_run(alloc, Sha256, &machine, 8, 3, Tamper::Untouched)?;
-    let tree = SharedInput::of(alloc, counted, &machine)?;
-    made.store(0, Ordering::SeqCst);
+    let machine = machine_in(alloc, version, &TOGGLES, input)?;
     state_root_in(counted, version, &machine);
     let root = made.swap(0, Ordering::SeqCst);
+    let run = run_in(alloc, version, &TOGGLES, input, 3, Tamper::Untouched)?;
     committed_at(rt, alloc, counted, &run, 8)?;
-    let committed = made.swap(0, Ordering::SeqCst);
+    Ok([root, made.load(Ordering::SeqCst)])
+}
+
+/// The run of TOGGLES up to step 8, from which no root was made so far. An `Err` is out of memory.
+fn kept_toggles<D: Digester>(
+    alloc: Global,
+    d: D,
+    version: u8,
+    input: &[u8],
+) -> Result<KeptRun<D>, Memory>
+    requires version { (1 ≤ version) × (version ≤ 3) }
+    requires input { length input.now ≤ 64 }
+{
+    let machine = machine_in(alloc, version, &TOGGLES, input)?;
+    kept_run(alloc, d, &machine, 8, 3)
+}
+
+/// How many digests the root of the state takes with the tree of the input at hand. An `Err` is out of memory.
+fn digests_of_root_with_the_tree(alloc: Global, version: u8, input: &[u8]) -> Result<u64, Memory>
+    requires version { (1 ≤ version) × (version ≤ 3) }
+    requires input { length input.now ≤ 64 }
+{
+    let made = AtomicU64::new(0);
+    let counted = Counted {
+        of: Sha256,
+        made: &made,
+    };
+    let machine = machine_in(alloc, version, &TOGGLES, input)?;
+    let tree = SharedInput::of(alloc, counted, &machine)?;
+    made.store(0, Ordering::SeqCst);
     state_root_with(counted, &machine, &tree);
-    let root_with = made.swap(0, Ordering::SeqCst);
-    let kept = KeptRun::new(counted, run, tree);
+    Ok(made.load(Ordering::SeqCst))
+}
+
+/// How many digests the machine of step 8 takes with its trees, with the tree of the input at hand. An `Err` is out of memory.
+fn digests_of_machine_with_the_tree<R: Threads + Sync>(
+    rt: &R,
+    alloc: Global,
+    version: u8,
+    input: &[u8],
+) -> Result<u64, Memory>
+    requires version { (1 ≤ version) × (version ≤ 3) }
+    requires input { length input.now ≤ 64 }
+{
+    let made = AtomicU64::new(0);
+    let counted = Counted {
+        of: Sha256,
+        made: &made,
+    };
+    let kept = kept_toggles(alloc, counted, version, input)?;
     made.store(0, Ordering::SeqCst);
     kept.committed(rt, alloc, 8)?;
-    Ok([root, committed, root_with, made.load(Ordering::SeqCst)])
+    Ok(made.load(Ordering::SeqCst))
 }
 
 /// The 33 digests of the tree of an input of 33 bytes aren't made again where the tree is at hand.
 #[test]
 fn the_tree_of_the_input_is_made_once_for_all_states(rt: HostRuntime) -> Result<(), Fail> {
+    let input = &[7; 33];
     for (version, wanted) in [(2u8, 0), (3, 33)] {
-        let [root, committed, root_with, committed_with] = digests_without_and_with_the_tree(
-            &rt,
-            rt.alloc(),
-            version,
-            &[7; 33],
-        )?;
+        let [root, committed] = digests_without_the_tree(&rt, rt.alloc(), version, input)?;
+        let root_with = digests_of_root_with_the_tree(rt.alloc(), version, input)?;
+        let committed_with = digests_of_machine_with_the_tree(&rt, rt.alloc(), version, input)?;
         assert_eq!(rt; root.wrapping_sub(root_with), wanted, "version {version}");
-        assert_eq!(rt;
-            committed.wrapping_sub(committed_with),
-            wanted,
-            "version {version}"
-        );
+        let saved = committed.wrapping_sub(committed_with);
+        assert_eq!(rt; saved, wanted, "version {version}");
     }
     Ok(())
 }
