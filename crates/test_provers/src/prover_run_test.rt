@@ -7,7 +7,7 @@ use digest_core::{Digester, Sha256, leaf_text, register_text, registers_text, st
 use mem_plain::PlainMem;
 use merkle_nodes::climb;
 use out_chain::{ClaimCheck, check_claim, parts_root, root_of_claim};
-use prover_run::{Asked, CaseProvers, RunAnswerer, answerers_of, asked_with};
+use prover_run::{CaseProvers, RunAnswerer, answerers_of};
 use prover_script::Scripted;
 use rd_base::{
     Answer, ClaimOutput, Digest32, FirstSilentRound, Manner, Memory, Opening, PassCount, Proof,
@@ -21,44 +21,6 @@ use std::sync::atomic::{AtomicU64, Ordering};
 use std::test::Fail;
 use std::thread::Threads;
 use toy_machine::{Counted, first_eight};
-
-/// A bound, a step, the steps that are asked with it, and where it stands among them.
-type AskedRow = (u64, u64, &'static [u64], usize);
-
-/// They were worked out by hand: the halves of the interval whose middle the step is, and twice more the halves of those, in
-/// ascending order.
-const ASKED: [AskedRow; 8] = [
-    (8, 4, &[1, 2, 3, 4, 5, 6, 7], 3),
-    (8, 2, &[1, 2, 3], 1),
-    (8, 6, &[5, 6, 7], 1),
-    (8, 7, &[7], 0),
-    (8, 0, &[0], 0),
-    (8, 9, &[9], 0),
-    (7, 3, &[1, 2, 3, 4, 5, 6], 2),
-    (
-        1024,
-        256,
-        &[
-            32, 64, 96, 128, 160, 192, 224, 256, 288, 320, 352, 384, 416, 448, 480,
-        ],
-        7,
-    ),
-];
-
-/// Whether these steps are asked with a step, and it stands there among them.
-fn are_asked(alloc: Global, row: AskedRow) -> Result<bool, Memory> {
-    let (bound, step, wanted, stands) = row;
-    let Asked { steps, place } = asked_with(alloc, bound, step)?;
-    Ok(steps.as_slice() == wanted && place == stands)
-}
-
-#[test]
-fn a_round_asks_the_middles_of_the_next_three(rt: HostRuntime) -> Result<(), Fail> {
-    for row in ASKED {
-        assert!(rt; are_asked(rt.alloc(), row)?, "step {} of {}", row.1, row.0);
-    }
-    Ok(())
-}
 
 /// lui x5, 0x20; addi x6, x0, 122; sb x6, 3(x5); lw x10, 0(x5); srli x10, x10, 24; addi x17, x0, 1; ecall; lw x10, 1(x5): it
 /// stores in step 2, and traps in step 7
@@ -509,21 +471,11 @@ impl<D: Digester> Digester for Counting<'_, D> {
 }
 
 impl Replays for Counting<'_, Sha256> {
-    fn root_of<R: Threads + Sync>(
-        self,
-        rt: &R,
-        alloc: Global,
-        run: &mut KeptRun<Self>,
-        step: u64,
-    ) -> Result<Digest32, Memory> {
-        run.root(rt, alloc, step)
-    }
-
     fn roots_of<R: Threads + Sync>(
         self,
         rt: &R,
         alloc: Global,
-        run: &KeptRun<Self>,
+        run: &mut KeptRun<Self>,
         steps: &[u64],
         workers: u32,
     ) -> Result<Vec<Digest32>, Memory> {
@@ -614,8 +566,53 @@ fn a_root_takes_the_digests_of_what_changed(rt: HostRuntime) -> Result<(), Fail>
 }
 
 #[test]
-fn several_workers_make_the_roots_of_the_next_rounds(rt: HostRuntime) -> Result<(), Fail> {
-    assert!(rt; takes(&rt, rt.alloc(), 1, 2, &[(6, 0), (9, 0), (10, 0)])?);
+fn several_workers_make_no_root_that_is_not_asked(rt: HostRuntime) -> Result<(), Fail> {
+    let wanted = [(6, 31), (9, 31), (10, 3), (11, 3), (10, 0)];
+    assert!(rt; takes(&rt, rt.alloc(), 1, 2, &wanted)?);
+    Ok(())
+}
+
+/// How many digests so many workers take for the roots of steps 14 and 16, once those of steps 6, 12 and 18 are made.
+fn digests_of_thirds<R: Threads + Sync>(rt: &R, alloc: Global, workers: u32) -> Result<u64, Memory>
+    requires { IsSync R.row }
+{
+    let made = AtomicU64::new(0);
+    let of = Counted {
+        of: Sha256,
+        made: &made,
+    };
+    let machine = storing(alloc, 1, &[7; 40])?;
+    let mut prover = RunAnswerer::new(
+        alloc,
+        Counting { of },
+        &machine,
+        24,
+        4,
+        Tamper::Untouched,
+        workers.max(1),
+    )?;
+    let fourths = Kind::Roots {
+        lo: 0,
+        hi: 24,
+        parts: 4,
+    };
+    prover.answer(rt, &asked(1, fourths), 0)?;
+    let before = made.load(Ordering::SeqCst);
+    let thirds = Kind::Roots {
+        lo: 12,
+        hi: 18,
+        parts: 3,
+    };
+    prover.answer(rt, &asked(2, thirds), 0)?;
+    Ok(made.load(Ordering::SeqCst).wrapping_sub(before))
+}
+
+/// One worker goes from step 18 to 14 and from there to 16, and each of these states has another chunk than the one before. Of two
+/// workers one goes from step 12 to 14, between which nothing is stored, and the other from 18 to 16.
+#[test]
+fn each_worker_goes_on_from_its_own_last_root(rt: HostRuntime) -> Result<(), Fail> {
+    assert_eq!(rt; digests_of_thirds(&rt, rt.alloc(), 1)?, 62);
+    assert_eq!(rt; digests_of_thirds(&rt, rt.alloc(), 2)?, 34);
     Ok(())
 }
 

@@ -27,12 +27,18 @@ fn untouched_run<D: Digester>(
 }
 
 /// A run from a machine, with the tree of the machine's input.
-fn with_input<D: Digester>(d: D, _machine: &Machine, run: Run, input: SharedInput<D>) -> KeptRun<D>
+fn with_input<D: Digester>(
+    alloc: Global,
+    d: D,
+    _machine: &Machine,
+    run: Run,
+    input: SharedInput<D>,
+) -> KeptRun<D>
     requires chained { AreChained D.digest_of run }
     requires first { run.first ≡ state_of _machine.now }
     requires input { HasInput D.digest_of (state_of _machine.now) input }
 {
-    KeptRun::new(d, run, input)
+    KeptRun::new(alloc, d, run, input)
 }
 
 /// A run as of `untouched_run`, from which no root was made so far. An `Err` is out of memory.
@@ -47,7 +53,7 @@ fn kept_from<D: Digester>(
 {
     let run = untouched_run(alloc, d, machine, bound, every)?;
     let input = SharedInput::of(alloc, d, machine)?;
-    Ok(with_input(d, machine, run, input))
+    Ok(with_input(alloc, d, machine, run, input))
 }
 
 /// The same from a machine whose chain is that of its output by each digester, as at the start.

@@ -405,7 +405,8 @@ fn kept_root<D: Digester + Copy + Send + Sync, R: Threads + Sync>(
     kept: &mut KeptRun<D>,
     step: u64,
 ) -> Result<u64, Memory> {
-    Ok(first_eight(kept.root(rt, alloc, step)?))
+    let roots = kept.roots(rt, alloc, &[step], 1)?;
+    Ok(roots.first().map_or(0, |root| first_eight(*root)))
 }
 
 /// The roots are those of the test above. A root of the same state once more takes the digests of its registers, its control string and
