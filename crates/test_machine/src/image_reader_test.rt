@@ -116,96 +116,92 @@ fn each_edit_breaks_its_rule_and_of_two_the_earlier(rt: HostRuntime) -> Result<(
     Ok(())
 }
 
-#[test]
-fn loads_share_no_address_and_stay_below_the_end(rt: HostRuntime) -> Result<(), Fail> {
-    let rows: [(&str, &[[u32; 5]], Option<ImageFault>); 14] = [
-        (
-            "one twice",
-            &[[1, 0, 0x1000, 16, 16], [1, 0, 0x1000, 16, 16]],
-            Some(ImageFault::SegmentsOverlap),
-        ),
-        (
-            "by a byte",
-            &[[1, 0, 0x100f, 16, 16], [1, 0, 0x1000, 16, 16]],
-            Some(ImageFault::SegmentsOverlap),
-        ),
-        (
-            "touching",
-            &[[1, 0, 0x1010, 16, 16], [1, 0, 0x1000, 16, 16]],
-            None,
-        ),
-        (
-            "empty inside",
-            &[[1, 0, 0x1000, 16, 16], [1, 0, 0x1008, 0, 0]],
-            None,
-        ),
-        (
-            "another kind inside",
-            &[[1, 0, 0x1000, 16, 16], [2, 0, 0x1008, 8, 8]],
-            None,
-        ),
-        (
-            "first and last",
-            &[
-                [1, 0, 0x1000, 16, 16],
-                [1, 0, 0x2000, 8, 8],
-                [1, 0, 0x1008, 8, 8],
-            ],
-            Some(ImageFault::SegmentsOverlap),
-        ),
-        (
-            "last pair",
-            &[
-                [1, 0, 0x1000, 8, 8],
-                [1, 0, 0x2000, 16, 16],
-                [1, 0, 0x2008, 8, 8],
-            ],
-            Some(ImageFault::SegmentsOverlap),
-        ),
-        (
-            "empty between",
-            &[
-                [1, 0, 0x1000, 8, 16],
-                [1, 0, 0x1008, 0, 0],
-                [1, 0, 0x100c, 4, 4],
-            ],
-            Some(ImageFault::SegmentsOverlap),
-        ),
-        ("to the end", &[[1, 0, 0xffff_fff0, 16, 16]], None),
-        (
-            "past the end",
-            &[[1, 0, 0xffff_fff0, 16, 17]],
-            Some(ImageFault::SegmentPastEnd),
-        ),
-        (
-            "no bytes of the file",
-            &[[1, 0xffff_ffff, 0x1000, 0, 16]],
-            None,
-        ),
-        (
-            "far outside the file",
-            &[[1, 0xffff_fff0, 0x1000, 32, 32]],
-            Some(ImageFault::SegmentOutsideFile),
-        ),
-        (
-            "outside behind larger",
-            &[[1, 0, 0x1000, 16, 8], [1, 200, 0x2000, 16, 16]],
-            Some(ImageFault::SegmentOutsideFile),
-        ),
-        (
-            "past the end behind overlap",
-            &[
-                [1, 0, 0x1000, 4, 4],
-                [1, 0, 0x1000, 4, 4],
-                [1, 0, 0xffff_ffff, 2, 2],
-            ],
-            Some(ImageFault::SegmentPastEnd),
-        ),
-    ];
-    for (name, headers, fault) in rows {
-        let file = file_with(rt.alloc(), headers)?;
-        assert_eq!(rt; load_elf(rt.alloc(), &file).err(), fault, "{name}");
+/// The program headers of a file.
+type Headers = &'static [[u32; 5]];
+
+/// How many files come before the first one that isn't answered by this fault, or that isn't loaded if there is none: all of them,
+/// where each is. An `Err` is out of memory.
+fn answered(
+    alloc: Global,
+    files: &[Headers],
+    fault: Option<ImageFault>,
+) -> Result<usize, AllocError> {
+    for (place, headers) in files.iter().enumerate() {
+        let file = file_with(alloc, headers)?;
+        if load_elf(alloc, &file).err() != fault {
+            return Ok(place);
+        }
     }
+    Ok(files.len())
+}
+
+/// One twice; by a byte; the first and the last; the last pair; an empty one between.
+const OVERLAPPING: [Headers; 5] = [
+    &[[1, 0, 0x1000, 16, 16], [1, 0, 0x1000, 16, 16]],
+    &[[1, 0, 0x100f, 16, 16], [1, 0, 0x1000, 16, 16]],
+    &[
+        [1, 0, 0x1000, 16, 16],
+        [1, 0, 0x2000, 8, 8],
+        [1, 0, 0x1008, 8, 8],
+    ],
+    &[
+        [1, 0, 0x1000, 8, 8],
+        [1, 0, 0x2000, 16, 16],
+        [1, 0, 0x2008, 8, 8],
+    ],
+    &[
+        [1, 0, 0x1000, 8, 16],
+        [1, 0, 0x1008, 0, 0],
+        [1, 0, 0x100c, 4, 4],
+    ],
+];
+
+/// Touching; an empty one inside; one of another kind inside.
+const APART: [Headers; 3] = [
+    &[[1, 0, 0x1010, 16, 16], [1, 0, 0x1000, 16, 16]],
+    &[[1, 0, 0x1000, 16, 16], [1, 0, 0x1008, 0, 0]],
+    &[[1, 0, 0x1000, 16, 16], [2, 0, 0x1008, 8, 8]],
+];
+
+#[test]
+fn loads_share_no_address(rt: HostRuntime) -> Result<(), Fail> {
+    let overlap = Some(ImageFault::SegmentsOverlap);
+    assert_eq!(rt; answered(rt.alloc(), &OVERLAPPING, overlap)?, 5);
+    assert_eq!(rt; answered(rt.alloc(), &APART, None)?, 3);
+    Ok(())
+}
+
+/// Past the end; and past it behind two that overlap.
+const PAST_THE_END: [Headers; 2] = [
+    &[[1, 0, 0xffff_fff0, 16, 17]],
+    &[
+        [1, 0, 0x1000, 4, 4],
+        [1, 0, 0x1000, 4, 4],
+        [1, 0, 0xffff_ffff, 2, 2],
+    ],
+];
+
+#[test]
+fn loads_stay_below_the_end(rt: HostRuntime) -> Result<(), Fail> {
+    let past = Some(ImageFault::SegmentPastEnd);
+    let to_the_end: Headers = &[[1, 0, 0xffff_fff0, 16, 16]];
+    assert_eq!(rt; answered(rt.alloc(), &[to_the_end], None)?, 1);
+    assert_eq!(rt; answered(rt.alloc(), &PAST_THE_END, past)?, 2);
+    Ok(())
+}
+
+/// Far outside; and outside behind one that is larger than its memory.
+const OUTSIDE_THE_FILE: [Headers; 2] = [
+    &[[1, 0xffff_fff0, 0x1000, 32, 32]],
+    &[[1, 0, 0x1000, 16, 8], [1, 200, 0x2000, 16, 16]],
+];
+
+#[test]
+fn loads_lie_in_the_file(rt: HostRuntime) -> Result<(), Fail> {
+    let outside = Some(ImageFault::SegmentOutsideFile);
+    let no_byte_of_it: Headers = &[[1, 0xffff_ffff, 0x1000, 0, 16]];
+    assert_eq!(rt; answered(rt.alloc(), &[no_byte_of_it], None)?, 1);
+    assert_eq!(rt; answered(rt.alloc(), &OUTSIDE_THE_FILE, outside)?, 2);
     Ok(())
 }
 

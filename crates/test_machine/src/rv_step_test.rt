@@ -37,433 +37,307 @@ const OPERANDS: [(u32, u32); 12] = [
     (0x7fff_ffff, 0x8000_0000),
 ];
 
-/// Each word and what it writes to x3, computed in Python: `s(a)` is `a - 2^32 if a >= 2^31 else a`, and `q` divides
+/// A word and what it writes to x3 of each of the operands, computed in Python: `s(a)` is `a - 2^32 if a >= 2^31 else a`, and `q` divides
 /// towards zero.
-#[test]
-fn arithmetic_of_two_registers(rt: HostRuntime) {
-    let rows: [(u32, [u32; 12]); 18] = [
-        // add x3, x1, x2: (a + b) % 2^32
-        (
-            0x002081b3,
-            [
-                0,
-                1,
-                7,
-                9,
-                0xffff_fffb,
-                5,
-                0,
-                0x8000_0000,
-                0x7fff_ffff,
-                0x8000_0021,
-                0xffff_fffe,
-                0xffff_ffff,
-            ],
-        ),
-        // sub x3, x1, x2: (a - b) % 2^32
-        (
-            0x402081b3,
-            [
-                0,
-                0xffff_ffff,
-                7,
-                5,
-                0xffff_fff7,
-                9,
-                2,
-                0x7fff_fffe,
-                0x8000_0001,
-                0x7fff_ffdf,
-                0,
-                0xffff_ffff,
-            ],
-        ),
-        // sll x3, x1, x2: (a << (b & 31)) % 2^32
-        (
-            0x002091b3,
-            [
-                0,
-                0,
-                7,
-                0x1c,
-                0xffff_ffe4,
-                0xc000_0000,
-                0x8000_0000,
-                0xffff_fffe,
-                0,
-                0,
-                0x8000_0000,
-                0x7fff_ffff,
-            ],
-        ),
-        // slt x3, x1, x2: s(a) < s(b)
-        (0x0020a1b3, [0, 1, 0, 0, 1, 0, 0, 0, 1, 1, 0, 0]),
-        // sltu x3, x1, x2: a < b
-        (0x0020b1b3, [0, 1, 0, 0, 0, 1, 1, 0, 1, 0, 0, 1]),
-        // xor x3, x1, x2: a ^ b
-        (
-            0x0020c1b3,
-            [
-                0,
-                1,
-                7,
-                5,
-                0xffff_fffb,
-                0xffff_fff9,
-                0xffff_fffe,
-                0x7fff_fffe,
-                0x7fff_ffff,
-                0x8000_0021,
-                0,
-                0xffff_ffff,
-            ],
-        ),
-        // srl x3, x1, x2: a >> (b & 31)
-        (
-            0x0020d1b3,
-            [
-                0,
-                0,
-                7,
-                1,
-                0x3fff_fffe,
-                0,
-                0,
-                0x3fff_ffff,
-                1,
-                0x4000_0000,
-                1,
-                0x7fff_ffff,
-            ],
-        ),
-        // sra x3, x1, x2: (s(a) >> (b & 31)) % 2^32
-        (
-            0x4020d1b3,
-            [
-                0,
-                0,
-                7,
-                1,
-                0xffff_fffe,
-                0,
-                0,
-                0x3fff_ffff,
-                0xffff_ffff,
-                0xc000_0000,
-                0xffff_ffff,
-                0x7fff_ffff,
-            ],
-        ),
-        // or x3, x1, x2: a | b
-        (
-            0x0020e1b3,
-            [
-                0,
-                1,
-                7,
-                7,
-                0xffff_fffb,
-                0xffff_ffff,
-                0xffff_ffff,
-                0x7fff_ffff,
-                0xffff_ffff,
-                0x8000_0021,
-                0xffff_ffff,
-                0xffff_ffff,
-            ],
-        ),
-        // and x3, x1, x2: a & b
-        (
-            0x0020f1b3,
-            [0, 0, 0, 2, 0, 6, 1, 1, 0x8000_0000, 0, 0xffff_ffff, 0],
-        ),
-        // mul x3, x1, x2: (a * b) % 2^32
-        (
-            0x022081b3,
-            [
-                0,
-                0,
-                0,
-                0xe,
-                0xffff_fff2,
-                0xffff_fff2,
-                0xffff_ffff,
-                0x7fff_ffff,
-                0x8000_0000,
-                0x8000_0000,
-                1,
-                0x8000_0000,
-            ],
-        ),
-        // mulh x3, x1, x2: ((s(a) * s(b)) >> 32) % 2^32
-        (
-            0x022091b3,
-            [
-                0,
-                0,
-                0,
-                0,
-                0xffff_ffff,
-                0xffff_ffff,
-                0xffff_ffff,
-                0,
-                0,
-                0xffff_ffef,
-                0,
-                0xc000_0000,
-            ],
-        ),
-        // mulhsu x3, x1, x2: ((s(a) * b) >> 32) % 2^32
-        (
-            0x0220a1b3,
-            [
-                0,
-                0,
-                0,
-                0,
-                0xffff_ffff,
-                6,
-                0,
-                0,
-                0x8000_0000,
-                0xffff_ffef,
-                0xffff_ffff,
-                0x3fff_ffff,
-            ],
-        ),
-        // mulhu x3, x1, x2: (a * b) >> 32
-        (
-            0x0220b1b3,
-            [
-                0,
-                0,
-                0,
-                0,
-                1,
-                6,
-                0,
-                0,
-                0x7fff_ffff,
-                0x10,
-                0xffff_fffe,
-                0x3fff_ffff,
-            ],
-        ),
-        // div x3, x1, x2: q(s(a), s(b)) % 2^32, and 2^32 - 1 by 0
-        (
-            0x0220c1b3,
-            [
-                0xffff_ffff,
-                0,
-                0xffff_ffff,
-                3,
-                0xffff_fffd,
-                0xffff_fffd,
-                0xffff_ffff,
-                0x7fff_ffff,
-                0x8000_0000,
-                0xfc1f_07c2,
-                1,
-                0,
-            ],
-        ),
-        // divu x3, x1, x2: a // b, and 2^32 - 1 by 0
-        (
-            0x0220d1b3,
-            [
-                0xffff_ffff,
-                0,
-                0xffff_ffff,
-                3,
-                0x7fff_fffc,
-                0,
-                0,
-                0x7fff_ffff,
-                0,
-                0x03e0_f83e,
-                1,
-                0,
-            ],
-        ),
-        // rem x3, x1, x2: (s(a) - s(b) * q(s(a), s(b))) % 2^32, and a by 0
-        (
-            0x0220e1b3,
-            [
-                0,
-                0,
-                7,
-                1,
-                0xffff_ffff,
-                1,
-                0,
-                0,
-                0,
-                0xffff_fffe,
-                0,
-                0x7fff_ffff,
-            ],
-        ),
-        // remu x3, x1, x2: a % b, and a by 0
-        (
-            0x0220f1b3,
-            [0, 0, 7, 1, 1, 7, 1, 0, 0x8000_0000, 2, 0, 0x7fff_ffff],
-        ),
-    ];
+type OfTwo = (u32, [u32; 12]);
+
+/// Sums, differences and comparisons.
+const SUMS_AND_COMPARISONS: [OfTwo; 4] = [
+    // add x3, x1, x2: (a + b) % 2^32
+    (
+        0x002081b3,
+        [
+            0, 1, 7, 9, 0xfffffffb, 5, 0, 0x80000000, 0x7fffffff, 0x80000021, 0xfffffffe,
+            0xffffffff,
+        ],
+    ),
+    // sub x3, x1, x2: (a - b) % 2^32
+    (
+        0x402081b3,
+        [
+            0, 0xffffffff, 7, 5, 0xfffffff7, 9, 2, 0x7ffffffe, 0x80000001, 0x7fffffdf, 0,
+            0xffffffff,
+        ],
+    ),
+    // slt x3, x1, x2: s(a) < s(b)
+    (0x0020a1b3, [0, 1, 0, 0, 1, 0, 0, 0, 1, 1, 0, 0]),
+    // sltu x3, x1, x2: a < b
+    (0x0020b1b3, [0, 1, 0, 0, 0, 1, 1, 0, 1, 0, 0, 1]),
+];
+
+/// Shifts, and operations on each bit.
+const BITS: [OfTwo; 6] = [
+    // sll x3, x1, x2: (a << (b & 31)) % 2^32
+    (
+        0x002091b3,
+        [
+            0, 0, 7, 0x1c, 0xffffffe4, 0xc0000000, 0x80000000, 0xfffffffe, 0, 0, 0x80000000,
+            0x7fffffff,
+        ],
+    ),
+    // srl x3, x1, x2: a >> (b & 31)
+    (
+        0x0020d1b3,
+        [
+            0, 0, 7, 1, 0x3ffffffe, 0, 0, 0x3fffffff, 1, 0x40000000, 1, 0x7fffffff,
+        ],
+    ),
+    // sra x3, x1, x2: (s(a) >> (b & 31)) % 2^32
+    (
+        0x4020d1b3,
+        [
+            0, 0, 7, 1, 0xfffffffe, 0, 0, 0x3fffffff, 0xffffffff, 0xc0000000, 0xffffffff,
+            0x7fffffff,
+        ],
+    ),
+    // xor x3, x1, x2: a ^ b
+    (
+        0x0020c1b3,
+        [
+            0, 1, 7, 5, 0xfffffffb, 0xfffffff9, 0xfffffffe, 0x7ffffffe, 0x7fffffff, 0x80000021, 0,
+            0xffffffff,
+        ],
+    ),
+    // or x3, x1, x2: a | b
+    (
+        0x0020e1b3,
+        [
+            0, 1, 7, 7, 0xfffffffb, 0xffffffff, 0xffffffff, 0x7fffffff, 0xffffffff, 0x80000021,
+            0xffffffff, 0xffffffff,
+        ],
+    ),
+    // and x3, x1, x2: a & b
+    (
+        0x0020f1b3,
+        [0, 0, 0, 2, 0, 6, 1, 1, 0x80000000, 0, 0xffffffff, 0],
+    ),
+];
+
+/// Products.
+const PRODUCTS: [OfTwo; 4] = [
+    // mul x3, x1, x2: (a * b) % 2^32
+    (
+        0x022081b3,
+        [
+            0, 0, 0, 0xe, 0xfffffff2, 0xfffffff2, 0xffffffff, 0x7fffffff, 0x80000000, 0x80000000,
+            1, 0x80000000,
+        ],
+    ),
+    // mulh x3, x1, x2: ((s(a) * s(b)) >> 32) % 2^32
+    (
+        0x022091b3,
+        [
+            0, 0, 0, 0, 0xffffffff, 0xffffffff, 0xffffffff, 0, 0, 0xffffffef, 0, 0xc0000000,
+        ],
+    ),
+    // mulhsu x3, x1, x2: ((s(a) * b) >> 32) % 2^32
+    (
+        0x0220a1b3,
+        [
+            0, 0, 0, 0, 0xffffffff, 6, 0, 0, 0x80000000, 0xffffffef, 0xffffffff, 0x3fffffff,
+        ],
+    ),
+    // mulhu x3, x1, x2: (a * b) >> 32
+    (
+        0x0220b1b3,
+        [
+            0, 0, 0, 0, 1, 6, 0, 0, 0x7fffffff, 0x10, 0xfffffffe, 0x3fffffff,
+        ],
+    ),
+];
+
+/// Quotients and remainders.
+const QUOTIENTS: [OfTwo; 4] = [
+    // div x3, x1, x2: q(s(a), s(b)) % 2^32, and 2^32 - 1 by 0
+    (
+        0x0220c1b3,
+        [
+            0xffffffff, 0, 0xffffffff, 3, 0xfffffffd, 0xfffffffd, 0xffffffff, 0x7fffffff,
+            0x80000000, 0xfc1f07c2, 1, 0,
+        ],
+    ),
+    // divu x3, x1, x2: a // b, and 2^32 - 1 by 0
+    (
+        0x0220d1b3,
+        [
+            0xffffffff, 0, 0xffffffff, 3, 0x7ffffffc, 0, 0, 0x7fffffff, 0, 0x03e0f83e, 1, 0,
+        ],
+    ),
+    // rem x3, x1, x2: (s(a) - s(b) * q(s(a), s(b))) % 2^32, and a by 0
+    (
+        0x0220e1b3,
+        [
+            0, 0, 7, 1, 0xffffffff, 1, 0, 0, 0, 0xfffffffe, 0, 0x7fffffff,
+        ],
+    ),
+    // remu x3, x1, x2: a % b, and a by 0
+    (
+        0x0220f1b3,
+        [0, 0, 7, 1, 1, 7, 1, 0, 0x80000000, 2, 0, 0x7fffffff],
+    ),
+];
+
+/// The first word that writes another number than its row has, and its operands.
+fn first_wrong(rows: &[OfTwo]) -> Option<(u32, u32, u32)> {
     for (word, results) in rows {
-        for ((a, b), wanted) in OPERANDS.iter().zip(&results) {
-            assert_eq!(rt;
-                written(word, *a, *b, 0),
-                Some(*wanted),
-                "{word} of {a} and {b}"
-            );
+        for ((a, b), wanted) in OPERANDS.iter().zip(results) {
+            if written(*word, *a, *b, 0) != Some(*wanted) {
+                return Some((*word, *a, *b));
+            }
         }
     }
+    None
+}
+
+#[test]
+fn arithmetic_of_two_registers(rt: HostRuntime) {
+    assert_eq!(rt; first_wrong(&SUMS_AND_COMPARISONS), None);
+    assert_eq!(rt; first_wrong(&BITS), None);
+    assert_eq!(rt; first_wrong(&PRODUCTS), None);
+    assert_eq!(rt; first_wrong(&QUOTIENTS), None);
 }
 
 /// The operand `a` in x1.
 const FIRST_OPERANDS: [u32; 6] = [0, 1, 5, 0x7fff_ffff, 0x8000_0000, 0xffff_ffff];
 
-/// Each word and what it writes to x3, computed in Python, with `s(a)` as above.
-#[test]
-fn arithmetic_with_a_number(rt: HostRuntime) {
-    let rows: [(u32, [u32; 6]); 33] = [
-        // addi x3, x1, 1: (a + i) % 2^32, with i the number
-        (0x00108193, [1, 2, 6, 0x8000_0000, 0x8000_0001, 0]),
-        // addi x3, x1, -1
-        (
-            0xfff08193,
-            [0xffff_ffff, 0, 4, 0x7fff_fffe, 0x7fff_ffff, 0xffff_fffe],
-        ),
-        // addi x3, x1, 2047
-        (
-            0x7ff08193,
-            [0x7ff, 0x800, 0x804, 0x8000_07fe, 0x8000_07ff, 0x7fe],
-        ),
-        // addi x3, x1, -2048
-        (
-            0x80008193,
-            [
-                0xffff_f800,
-                0xffff_f801,
-                0xffff_f805,
-                0x7fff_f7ff,
-                0x7fff_f800,
-                0xffff_f7ff,
-            ],
-        ),
-        // slti x3, x1, 1: s(a) < i, with i the number
-        (0x0010a193, [1, 0, 0, 0, 1, 1]),
-        // slti x3, x1, -1
-        (0xfff0a193, [0, 0, 0, 0, 1, 0]),
-        // slti x3, x1, 2047
-        (0x7ff0a193, [1, 1, 1, 0, 1, 1]),
-        // slti x3, x1, -2048
-        (0x8000a193, [0, 0, 0, 0, 1, 0]),
-        // sltiu x3, x1, 1: a < i % 2^32, with i the number
-        (0x0010b193, [1, 0, 0, 0, 0, 0]),
-        // sltiu x3, x1, -1
-        (0xfff0b193, [1, 1, 1, 1, 1, 0]),
-        // sltiu x3, x1, 2047
-        (0x7ff0b193, [1, 1, 1, 0, 0, 0]),
-        // sltiu x3, x1, -2048
-        (0x8000b193, [1, 1, 1, 1, 1, 0]),
-        // xori x3, x1, 1: a ^ i % 2^32, with i the number
-        (0x0010c193, [1, 0, 4, 0x7fff_fffe, 0x8000_0001, 0xffff_fffe]),
-        // xori x3, x1, -1
-        (
-            0xfff0c193,
-            [
-                0xffff_ffff,
-                0xffff_fffe,
-                0xffff_fffa,
-                0x8000_0000,
-                0x7fff_ffff,
-                0,
-            ],
-        ),
-        // xori x3, x1, 2047
-        (
-            0x7ff0c193,
-            [0x7ff, 0x7fe, 0x7fa, 0x7fff_f800, 0x8000_07ff, 0xffff_f800],
-        ),
-        // xori x3, x1, -2048
-        (
-            0x8000c193,
-            [
-                0xffff_f800,
-                0xffff_f801,
-                0xffff_f805,
-                0x8000_07ff,
-                0x7fff_f800,
-                0x7ff,
-            ],
-        ),
-        // ori x3, x1, 1: a | i % 2^32, with i the number
-        (0x0010e193, [1, 1, 5, 0x7fff_ffff, 0x8000_0001, 0xffff_ffff]),
-        // ori x3, x1, -1
-        (
-            0xfff0e193,
-            [
-                0xffff_ffff,
-                0xffff_ffff,
-                0xffff_ffff,
-                0xffff_ffff,
-                0xffff_ffff,
-                0xffff_ffff,
-            ],
-        ),
-        // ori x3, x1, 2047
-        (
-            0x7ff0e193,
-            [0x7ff, 0x7ff, 0x7ff, 0x7fff_ffff, 0x8000_07ff, 0xffff_ffff],
-        ),
-        // ori x3, x1, -2048
-        (
-            0x8000e193,
-            [
-                0xffff_f800,
-                0xffff_f801,
-                0xffff_f805,
-                0xffff_ffff,
-                0xffff_f800,
-                0xffff_ffff,
-            ],
-        ),
-        // andi x3, x1, 1: a & i % 2^32, with i the number
-        (0x0010f193, [0, 1, 1, 1, 0, 1]),
-        // andi x3, x1, -1
-        (0xfff0f193, [0, 1, 5, 0x7fff_ffff, 0x8000_0000, 0xffff_ffff]),
-        // andi x3, x1, 2047
-        (0x7ff0f193, [0, 1, 5, 0x7ff, 0, 0x7ff]),
-        // andi x3, x1, -2048
-        (0x8000f193, [0, 0, 0, 0x7fff_f800, 0x8000_0000, 0xffff_f800]),
-        // slli x3, x1, 0: (a << i) % 2^32, with i the places
-        (0x00009193, [0, 1, 5, 0x7fff_ffff, 0x8000_0000, 0xffff_ffff]),
-        // slli x3, x1, 1
-        (0x00109193, [0, 2, 0xa, 0xffff_fffe, 0, 0xffff_fffe]),
-        // slli x3, x1, 31
-        (
-            0x01f09193,
-            [0, 0x8000_0000, 0x8000_0000, 0x8000_0000, 0, 0x8000_0000],
-        ),
-        // srli x3, x1, 0: a >> i, with i the places
-        (0x0000d193, [0, 1, 5, 0x7fff_ffff, 0x8000_0000, 0xffff_ffff]),
-        // srli x3, x1, 1
-        (0x0010d193, [0, 0, 2, 0x3fff_ffff, 0x4000_0000, 0x7fff_ffff]),
-        // srli x3, x1, 31
-        (0x01f0d193, [0, 0, 0, 0, 1, 1]),
-        // srai x3, x1, 0: (s(a) >> i) % 2^32, with i the places
-        (0x4000d193, [0, 1, 5, 0x7fff_ffff, 0x8000_0000, 0xffff_ffff]),
-        // srai x3, x1, 1
-        (0x4010d193, [0, 0, 2, 0x3fff_ffff, 0xc000_0000, 0xffff_ffff]),
-        // srai x3, x1, 31
-        (0x41f0d193, [0, 0, 0, 0, 0xffff_ffff, 0xffff_ffff]),
-    ];
+/// A word and what it writes to x3 of each of the operands, computed in Python, with `s(a)` as above.
+type OfOne = (u32, [u32; 6]);
+
+/// Sums and comparisons.
+const SUMS_WITH_A_NUMBER: [OfOne; 12] = [
+    // addi x3, x1, 1: (a + i) % 2^32, with i the number
+    (0x00108193, [1, 2, 6, 0x80000000, 0x80000001, 0]),
+    // addi x3, x1, -1
+    (
+        0xfff08193,
+        [0xffffffff, 0, 4, 0x7ffffffe, 0x7fffffff, 0xfffffffe],
+    ),
+    // addi x3, x1, 2047
+    (
+        0x7ff08193,
+        [0x7ff, 0x800, 0x804, 0x800007fe, 0x800007ff, 0x7fe],
+    ),
+    // addi x3, x1, -2048
+    (
+        0x80008193,
+        [
+            0xfffff800, 0xfffff801, 0xfffff805, 0x7ffff7ff, 0x7ffff800, 0xfffff7ff,
+        ],
+    ),
+    // slti x3, x1, 1: s(a) < i, with i the number
+    (0x0010a193, [1, 0, 0, 0, 1, 1]),
+    // slti x3, x1, -1
+    (0xfff0a193, [0, 0, 0, 0, 1, 0]),
+    // slti x3, x1, 2047
+    (0x7ff0a193, [1, 1, 1, 0, 1, 1]),
+    // slti x3, x1, -2048
+    (0x8000a193, [0, 0, 0, 0, 1, 0]),
+    // sltiu x3, x1, 1: a < i % 2^32, with i the number
+    (0x0010b193, [1, 0, 0, 0, 0, 0]),
+    // sltiu x3, x1, -1
+    (0xfff0b193, [1, 1, 1, 1, 1, 0]),
+    // sltiu x3, x1, 2047
+    (0x7ff0b193, [1, 1, 1, 0, 0, 0]),
+    // sltiu x3, x1, -2048
+    (0x8000b193, [1, 1, 1, 1, 1, 0]),
+];
+
+/// Operations on each bit.
+const BITS_WITH_A_NUMBER: [OfOne; 12] = [
+    // xori x3, x1, 1: a ^ i % 2^32, with i the number
+    (0x0010c193, [1, 0, 4, 0x7ffffffe, 0x80000001, 0xfffffffe]),
+    // xori x3, x1, -1
+    (
+        0xfff0c193,
+        [
+            0xffffffff, 0xfffffffe, 0xfffffffa, 0x80000000, 0x7fffffff, 0,
+        ],
+    ),
+    // xori x3, x1, 2047
+    (
+        0x7ff0c193,
+        [0x7ff, 0x7fe, 0x7fa, 0x7ffff800, 0x800007ff, 0xfffff800],
+    ),
+    // xori x3, x1, -2048
+    (
+        0x8000c193,
+        [
+            0xfffff800, 0xfffff801, 0xfffff805, 0x800007ff, 0x7ffff800, 0x7ff,
+        ],
+    ),
+    // ori x3, x1, 1: a | i % 2^32, with i the number
+    (0x0010e193, [1, 1, 5, 0x7fffffff, 0x80000001, 0xffffffff]),
+    // ori x3, x1, -1
+    (
+        0xfff0e193,
+        [
+            0xffffffff, 0xffffffff, 0xffffffff, 0xffffffff, 0xffffffff, 0xffffffff,
+        ],
+    ),
+    // ori x3, x1, 2047
+    (
+        0x7ff0e193,
+        [0x7ff, 0x7ff, 0x7ff, 0x7fffffff, 0x800007ff, 0xffffffff],
+    ),
+    // ori x3, x1, -2048
+    (
+        0x8000e193,
+        [
+            0xfffff800, 0xfffff801, 0xfffff805, 0xffffffff, 0xfffff800, 0xffffffff,
+        ],
+    ),
+    // andi x3, x1, 1: a & i % 2^32, with i the number
+    (0x0010f193, [0, 1, 1, 1, 0, 1]),
+    // andi x3, x1, -1
+    (0xfff0f193, [0, 1, 5, 0x7fffffff, 0x80000000, 0xffffffff]),
+    // andi x3, x1, 2047
+    (0x7ff0f193, [0, 1, 5, 0x7ff, 0, 0x7ff]),
+    // andi x3, x1, -2048
+    (0x8000f193, [0, 0, 0, 0x7ffff800, 0x80000000, 0xfffff800]),
+];
+
+/// Shifts.
+const SHIFTS_BY_A_NUMBER: [OfOne; 9] = [
+    // slli x3, x1, 0: (a << i) % 2^32, with i the places
+    (0x00009193, [0, 1, 5, 0x7fffffff, 0x80000000, 0xffffffff]),
+    // slli x3, x1, 1
+    (0x00109193, [0, 2, 0xa, 0xfffffffe, 0, 0xfffffffe]),
+    // slli x3, x1, 31
+    (
+        0x01f09193,
+        [0, 0x80000000, 0x80000000, 0x80000000, 0, 0x80000000],
+    ),
+    // srli x3, x1, 0: a >> i, with i the places
+    (0x0000d193, [0, 1, 5, 0x7fffffff, 0x80000000, 0xffffffff]),
+    // srli x3, x1, 1
+    (0x0010d193, [0, 0, 2, 0x3fffffff, 0x40000000, 0x7fffffff]),
+    // srli x3, x1, 31
+    (0x01f0d193, [0, 0, 0, 0, 1, 1]),
+    // srai x3, x1, 0: (s(a) >> i) % 2^32, with i the places
+    (0x4000d193, [0, 1, 5, 0x7fffffff, 0x80000000, 0xffffffff]),
+    // srai x3, x1, 1
+    (0x4010d193, [0, 0, 2, 0x3fffffff, 0xc0000000, 0xffffffff]),
+    // srai x3, x1, 31
+    (0x41f0d193, [0, 0, 0, 0, 0xffffffff, 0xffffffff]),
+];
+
+/// The first word that writes another number than its row has, and its operand.
+fn first_wrong_of_one(rows: &[OfOne]) -> Option<(u32, u32)> {
     for (word, results) in rows {
-        for (a, wanted) in FIRST_OPERANDS.iter().zip(&results) {
-            assert_eq!(rt; written(word, *a, 0, 0), Some(*wanted), "{word} of {a}");
+        for (a, wanted) in FIRST_OPERANDS.iter().zip(results) {
+            if written(*word, *a, 0, 0) != Some(*wanted) {
+                return Some((*word, *a));
+            }
         }
     }
+    None
+}
+
+#[test]
+fn arithmetic_with_a_number(rt: HostRuntime) {
+    assert_eq!(rt; first_wrong_of_one(&SUMS_WITH_A_NUMBER), None);
+    assert_eq!(rt; first_wrong_of_one(&BITS_WITH_A_NUMBER), None);
+    assert_eq!(rt; first_wrong_of_one(&SHIFTS_BY_A_NUMBER), None);
 }
 
 #[test]
