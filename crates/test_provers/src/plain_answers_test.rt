@@ -73,7 +73,7 @@ fn after<R: Threads + Sync>(
 }
 
 /// A program of these tests.
-#[derive(Clone, Copy, Debug)]
+#[derive(Clone, Copy)]
 enum Program {
     SixSteps,
     EightSteps,
@@ -108,31 +108,52 @@ fn proof_bytes<R: Threads + Sync>(
     encode(alloc, &Answer::Step(Boxed::new(proof)))
 }
 
-/// A version, a program and its step; of the wire form of the true proof the first byte and the length; where its flags stand, and
-/// what they and the byte behind them are.
-type WireRow = (u8, Program, u32, u8, usize, usize, [u8; 2]);
+/// The byte at a place; 0 behind the end.
+fn byte_at(bytes: &[u8], place: usize) -> u8 {
+    match bytes.get(place) {
+        Some(byte) => *byte,
+        None => 0,
+    }
+}
+
+/// Of the wire form of the true proof of a program's step the first byte, the length, and the two bytes at a place up to 150. An `Err`
+/// is out of memory.
+fn form_of<R: Threads + Sync>(
+    rt: &R,
+    alloc: Global,
+    version: u8,
+    program: Program,
+    step: u32,
+    flags: usize,
+) -> Result<Form, Memory> {
+    let wire = proof_bytes(rt, alloc, version, program, step)?;
+    let flags = flags.min(150);
+    let bytes = [byte_at(&wire, flags), byte_at(&wire, flags + 1)];
+    Ok((byte_at(&wire, 0), wire.len(), bytes))
+}
+
+/// The first byte, the length, and the flags and the byte behind them.
+type Form = (u8, usize, [u8; 2]);
+
+/// A version, a program and its step; where the flags stand in the wire form of the true proof; and what is read of it.
+type WireRow = (u8, Program, u32, usize, Form);
 
 /// With a chunk of memory a proof has 896 bytes more, with a register 164, and with a chunk of the input 512.
 const WIRE_ROWS: [WireRow; 5] = [
-    (2, Program::SixSteps, 6, 4, 116, 114, [0, 0]),
-    (2, Program::EightSteps, 2, 4, 2236, 114, [3, 2]),
-    (3, Program::AsksForInput, 2, 6, 1888, 150, [5, 2]),
-    (3, Program::SixSteps, 6, 6, 152, 150, [0, 0]),
-    (3, Program::EightSteps, 2, 6, 2272, 150, [3, 2]),
+    (2, Program::SixSteps, 6, 114, (4, 116, [0, 0])),
+    (2, Program::EightSteps, 2, 114, (4, 2236, [3, 2])),
+    (3, Program::AsksForInput, 2, 150, (6, 1888, [5, 2])),
+    (3, Program::SixSteps, 6, 150, (6, 152, [0, 0])),
+    (3, Program::EightSteps, 2, 150, (6, 2272, [3, 2])),
 ];
 
 #[test]
 fn true_proofs_have_the_lengths_of_what_they_open(rt: HostRuntime) -> Result<(), Fail> {
-    for (version, program, step, tag, len, flags, bytes) in WIRE_ROWS {
-        let wire = proof_bytes(&rt, rt.alloc(), version, program, step)?;
-        assert_eq!(rt; wire.len(), len, "{version} {program:?}");
-        assert_eq!(rt; wire.first(), Some(&tag));
-        assert_eq!(rt; wire.get(flags), Some(&bytes[0]), "{version} {program:?}");
-        assert_eq!(rt;
-            wire.get(flags.min(150) + 1),
-            Some(&bytes[1]),
-            "{version} {program:?}"
-        );
+    for (version, program, step, flags, (tag, len, bytes)) in WIRE_ROWS {
+        let (first, length, read) = form_of(&rt, rt.alloc(), version, program, step, flags)?;
+        assert_eq!(rt; first, tag);
+        assert_eq!(rt; length, len);
+        assert_eq!(rt; read, bytes);
     }
     Ok(())
 }

@@ -1,5 +1,5 @@
 ghost use denote.Param.Send.{IsSync};
-ghost use Rattle.std.specs.Prelude.{◌≡◌, ◌≤◌, ℕ, [], List, length, IfOk};
+ghost use Rattle.std.specs.Prelude.{◌≡◌, ◌<◌, ◌≤◌, ℕ, [], List, length, IfOk};
 ghost use Rattle.rv_step.specs.State.{IsChained};
 
 use bisect_game::{Answerer, Kind, Provers, Question};
@@ -87,11 +87,26 @@ fn root_in(answer: &Answer) -> u64 {
     }
 }
 
-/// A version and a tamper; how the roots of the steps 0, 3, 4 and 8 begin; the byte at 0x20003 in step 3, and the last output.
-type Row = (u8, Tamper, [u64; 4], u8, &'static [u8]);
+/// How the root begins that an answer stands for, as `root_in` has it; none of a pass.
+fn root_said(answer: &Option<Answer>) -> Option<u64> {
+    match answer {
+        Some(answer) => Some(root_in(answer)),
+        None => None,
+    }
+}
+
+/// A version and a tamper; how the roots of the steps 0, 3, 4 and 8 begin; the byte at 0x20003 in step 3, and the byte of its output.
+type Row = (u8, Tamper, [u64; 4], u8, Option<u8>);
+
+/// The byte that is flipped.
+const FLIPPED: Tamper = Tamper::Flip {
+    step: 3,
+    addr: 0x2_0003,
+    mask: 0xff,
+};
 
 /// The rows of a run without a tamper, with a flipped byte, and with an early end.
-const ROWS: [Row; 7] = [
+const ROWS_OF_VERSION_1: [Row; 3] = [
     (
         1,
         Tamper::Untouched,
@@ -102,15 +117,11 @@ const ROWS: [Row; 7] = [
             0x82f8_4640_36cd_320e,
         ],
         0x7a,
-        &[0x7a],
+        Some(0x7a),
     ),
     (
         1,
-        Tamper::Flip {
-            step: 3,
-            addr: 0x2_0003,
-            mask: 0xff,
-        },
+        FLIPPED,
         [
             0x8d82_837f_5857_b213,
             0x671f_7f70_f948_9e91,
@@ -118,7 +129,7 @@ const ROWS: [Row; 7] = [
             0x6f4b_45ac_af74_9e01,
         ],
         0x85,
-        &[0x85],
+        Some(0x85),
     ),
     (
         1,
@@ -130,8 +141,12 @@ const ROWS: [Row; 7] = [
             0x65f2_d6f4_da5c_f31b,
         ],
         0x7a,
-        &[],
+        None,
     ),
+];
+
+/// The rows of a run without a tamper, and with a flipped byte.
+const ROWS_OF_VERSION_2: [Row; 2] = [
     (
         2,
         Tamper::Untouched,
@@ -142,15 +157,11 @@ const ROWS: [Row; 7] = [
             0x7a26_ece6_2c7e_e261,
         ],
         0x7a,
-        &[0x7a],
+        Some(0x7a),
     ),
     (
         2,
-        Tamper::Flip {
-            step: 3,
-            addr: 0x2_0003,
-            mask: 0xff,
-        },
+        FLIPPED,
         [
             0x1d36_7f5e_0f28_dc79,
             0x2bd4_44ac_b1ac_51df,
@@ -158,8 +169,12 @@ const ROWS: [Row; 7] = [
             0xfa82_a2ef_1f5f_7791,
         ],
         0x85,
-        &[0x85],
+        Some(0x85),
     ),
+];
+
+/// The same.
+const ROWS_OF_VERSION_3: [Row; 2] = [
     (
         3,
         Tamper::Untouched,
@@ -170,15 +185,11 @@ const ROWS: [Row; 7] = [
             0xc82f_3d3f_1476_3045,
         ],
         0x7a,
-        &[0x7a],
+        Some(0x7a),
     ),
     (
         3,
-        Tamper::Flip {
-            step: 3,
-            addr: 0x2_0003,
-            mask: 0xff,
-        },
+        FLIPPED,
         [
             0x653f_c057_0c36_9493,
             0xef77_5d55_bfee_62ff,
@@ -186,7 +197,7 @@ const ROWS: [Row; 7] = [
             0x6cfa_a138_2512_dd22,
         ],
         0x85,
-        &[0x85],
+        Some(0x85),
     ),
 ];
 
@@ -241,6 +252,18 @@ fn prover_with(alloc: Global, version: u8, tamper: Tamper) -> Result<RunAnswerer
     RunAnswerer::new(alloc, Sha256, &machine, 8, 3, tamper, 2)
 }
 
+/// What an answerer answers. No clause says what, so that the proofs of the tests don't carry it. An `Err` is out of memory.
+fn answer_of<R: Threads + Sync, A: Answerer>(
+    rt: &R,
+    answerer: &mut A,
+    question: &Question,
+    passes: u32,
+) -> Result<Option<Answer>, Memory>
+    requires { IsSync R.row }
+{
+    answerer.answer(rt, question, passes)
+}
+
 /// Whether a prover answers a question of this kind by the state with this root, with this output in a claim, and with this
 /// byte in the chunk that a proof of step 3 opens.
 fn is_answered<R: Threads + Sync>(
@@ -249,20 +272,40 @@ fn is_answered<R: Threads + Sync>(
     kind: Kind,
     root: u64,
     byte: u8,
-    output: &[u8],
+    output: Option<u8>,
 ) -> Result<bool, Memory>
     requires { IsSync R.row }
 {
-    let answer = prover.answer(rt, &asked(1, kind), 0)?;
-    if answer.as_ref().map(root_in) != Some(root) {
+    let Some(answer) = answer_of(rt, prover, &asked(1, kind), 0)? else {
         return Ok(false);
+    };
+    Ok(root_in(&answer) == root && is_of_kind(kind, &answer, byte, output))
+}
+
+/// Whether an output has this byte alone, or none.
+fn is_output(output: &[u8], byte: Option<u8>) -> bool {
+    match byte {
+        Some(byte) => output == [byte].as_slice(),
+        None => output.is_empty(),
     }
-    match (kind, &answer) {
-        (Kind::Claim, Some(Answer::Claim(claim))) => Ok(claim.output.as_slice() == output),
-        (Kind::Proof(3), Some(Answer::Step(proof))) => Ok(opens_all(proof.get(), byte)),
-        (Kind::Root(_), Some(Answer::Root(_))) => Ok(true),
-        (Kind::Proof(_), Some(Answer::Step(_))) => Ok(true),
-        _ => Ok(false),
+}
+
+/// Whether an answer is one of this kind, with this output in a claim, and with this byte in the chunk that a proof of step 3 opens.
+fn is_of_kind(kind: Kind, answer: &Answer, byte: u8, output: Option<u8>) -> bool {
+    match answer {
+        Answer::Claim(claim) => match kind {
+            Kind::Claim => is_output(claim.output.as_slice(), output),
+            _ => false,
+        },
+        Answer::Root(_) => match kind {
+            Kind::Root(_) => true,
+            _ => false,
+        },
+        Answer::Step(proof) => match kind {
+            Kind::Proof(step) => step != 3 || opens_all(proof.get(), byte),
+            _ => false,
+        },
+        Answer::Roots(_) => false,
     }
 }
 
@@ -277,14 +320,31 @@ const QUESTIONS: [(Kind, usize); 7] = [
     (Kind::Proof(9), 3),
 ];
 
+/// Whether a prover gives the answers of a row.
+fn has_answers<R: Threads + Sync>(rt: &R, alloc: Global, row: Row) -> Result<bool, Memory>
+    requires { IsSync R.row }
+{
+    let (version, tamper, roots, byte, output) = row;
+    let mut prover = prover_with(alloc, version, tamper)?;
+    for (kind, place) in QUESTIONS {
+        let root = roots[place.min(3)];
+        if !is_answered(rt, &mut prover, kind, root, byte, output)? {
+            return Ok(false);
+        }
+    }
+    Ok(true)
+}
+
 #[test]
 fn an_answerer_gives_the_answers_of_its_run(rt: HostRuntime) -> Result<(), Fail> {
-    for (version, tamper, roots, byte, output) in ROWS {
-        let mut prover = prover_with(rt.alloc(), version, tamper)?;
-        for (kind, place) in QUESTIONS {
-            let root = roots[place.min(3)];
-            assert!(rt; is_answered(&rt, &mut prover, kind, root, byte, output)?);
-        }
+    for row in ROWS_OF_VERSION_1 {
+        assert!(rt; has_answers(&rt, rt.alloc(), row)?);
+    }
+    for row in ROWS_OF_VERSION_2 {
+        assert!(rt; has_answers(&rt, rt.alloc(), row)?);
+    }
+    for row in ROWS_OF_VERSION_3 {
+        assert!(rt; has_answers(&rt, rt.alloc(), row)?);
     }
     Ok(())
 }
@@ -307,25 +367,53 @@ fn tape_of_round_1(alloc: Global) -> Result<Option<Tape>, Memory> {
     Ok(Tape::new(vec![in alloc; TapeAnswer { qid, answer }]?))
 }
 
+/// The manner of one that passes twice.
+fn late() -> Manner {
+    match PassCount::new(2) {
+        Some(passes) => Manner::Late(passes),
+        None => Manner::Plain,
+    }
+}
+
+/// The manner of one that is silent from round 2 on.
+fn silent() -> Manner {
+    match FirstSilentRound::new(2) {
+        Some(round) => Manner::Silent(round),
+        None => Manner::Plain,
+    }
+}
+
+/// The manner of one that claims the output `2b`. An `Err` is out of memory.
+fn other_output(alloc: Global) -> Result<Manner, Memory> {
+    match ClaimOutput::new(vec![in alloc; 0x2b]?) {
+        Some(output) => Ok(Manner::Output(output)),
+        None => Ok(Manner::Plain),
+    }
+}
+
+/// The manner of one with a tape. An `Err` is out of memory.
+fn with_tape(alloc: Global) -> Result<Manner, Memory> {
+    match tape_of_round_1(alloc)? {
+        Some(tape) => Ok(Manner::Tape(tape)),
+        None => Ok(Manner::Plain),
+    }
+}
+
 /// Scripts of an honest prover, of one that passes twice, of one that is silent from round 2 on, of one that claims the output
 /// `2b`, of one with a flipped byte, of one that makes noise, and of one with a tape.
 fn seven_scripts(alloc: Global) -> Result<Vec<Script>, Memory>
     ensures { IfOk result (λ v. length v.items ≤ 7) }
 {
-    let output = ClaimOutput::new(vec![in alloc; 0x2b]?).map_or(Manner::Plain, Manner::Output);
+    let output = other_output(alloc)?;
+    let tape = with_tape(alloc)?;
     let flipped = Script {
-        tamper: Tamper::Flip {
-            step: 3,
-            addr: 0x2_0003,
-            mask: 0xff,
-        },
+        tamper: FLIPPED,
         manner: Manner::Plain,
     };
-    let tape = tape_of_round_1(alloc)?.map_or(Manner::Plain, Manner::Tape);
     Ok(vec![in alloc;
         untouched(Manner::Plain),
-        untouched(PassCount::new(2).map_or(Manner::Plain, Manner::Late)),
-        untouched(FirstSilentRound::new(2).map_or(Manner::Plain, Manner::Silent)),
+        untouched(late()),
+        untouched(silent()),
         untouched(output),
         flipped,
         untouched(Manner::Noise { seed: 7 }),
@@ -398,6 +486,26 @@ const SAID: [Said; 4] = [
     ),
 ];
 
+/// Whether an answerer answers so, and its prover waits where it passes.
+fn is_said_by<R: Threads + Sync>(
+    rt: &R,
+    provers: &CaseProvers<Sha256>,
+    answerer: &mut Scripted<RunAnswerer<Sha256>, Sha256>,
+    p: u32,
+    question: &Question,
+    passes: u32,
+    wanted: Option<u64>,
+) -> Result<bool, Memory>
+    requires sync { IsSync R.row }
+    requires some { 0 < p }
+{
+    let answer = answer_of(rt, answerer, question, passes)?;
+    if p > provers.count() || provers.waits(p, question, passes) != wanted.is_none() {
+        return Ok(false);
+    }
+    Ok(root_said(&answer) == wanted)
+}
+
 /// Whether the answerers answer so, and the provers wait where they pass.
 fn is_said<R: Threads + Sync>(
     rt: &R,
@@ -412,11 +520,7 @@ fn is_said<R: Threads + Sync>(
     for (k, answerer) in answerers.iter_mut().enumerate() {
         let k = k.min(6);
         let p = k as u32 + 1;
-        let answer = answerer.answer(rt, &question, passes)?;
-        if answer.as_ref().map(root_in) != wanted[k] {
-            return Ok(false);
-        }
-        if p > provers.count() || provers.waits(p, &question, passes) != wanted[k].is_none() {
+        if !is_said_by(rt, provers, answerer, p, &question, passes, wanted[k])? {
             return Ok(false);
         }
     }
@@ -509,6 +613,31 @@ fn storing(alloc: Global, version: u8, input: &[u8]) -> Result<Machine, Memory>
     Machine::new(alloc, version.clamp(1, 3), mem, 0x1_0000, input)
 }
 
+/// A prover of them in a version of the commitment, with an input of 40 bytes. An `Err` is out of memory.
+fn storing_prover<D: Replays>(
+    alloc: Global,
+    d: D,
+    version: u8,
+    workers: u32,
+) -> Result<RunAnswerer<D>, Memory> {
+    let machine = storing(alloc, version, &[7; 40])?;
+    prover_of(alloc, d, &machine, workers)
+}
+
+/// A prover of a run from a machine whose chain is that of its output by each digester. An `Err` is out of memory.
+fn prover_of<D: Replays>(
+    alloc: Global,
+    d: D,
+    machine: &Machine,
+    workers: u32,
+) -> Result<RunAnswerer<D>, Memory>
+    requires chained { (digest : List ℕ → List ℕ) → IsChained digest machine.now }
+    requires silent { machine.now.output.items ≡ [] }
+{
+    let tamper = Tamper::Untouched;
+    RunAnswerer::new(alloc, d, machine, 24, 4, tamper, workers.max(1))
+}
+
 /// Whether the roots of these steps, asked one after the other once that of step 12 is made, take so many digests each.
 fn takes<R: Threads + Sync>(
     rt: &R,
@@ -524,21 +653,11 @@ fn takes<R: Threads + Sync>(
         of: Sha256,
         made: &made,
     };
-    let machine = storing(alloc, version, &[7; 40])?;
-    let tamper = Tamper::Untouched;
-    let mut prover = RunAnswerer::new(
-        alloc,
-        Counting { of },
-        &machine,
-        24,
-        4,
-        tamper,
-        workers.max(1),
-    )?;
-    prover.answer(rt, &asked(1, Kind::Root(12)), 0)?;
+    let mut prover = storing_prover(alloc, Counting { of }, version, workers)?;
+    answer_of(rt, &mut prover, &asked(1, Kind::Root(12)), 0)?;
     for (step, digests) in wanted {
         let before = made.load(Ordering::SeqCst);
-        prover.answer(rt, &asked(1, Kind::Root(*step)), 0)?;
+        answer_of(rt, &mut prover, &asked(1, Kind::Root(*step)), 0)?;
         if made.load(Ordering::SeqCst).wrapping_sub(before) != *digests {
             return Ok(false);
         }
@@ -581,29 +700,12 @@ fn digests_of_thirds<R: Threads + Sync>(rt: &R, alloc: Global, workers: u32) -> 
         of: Sha256,
         made: &made,
     };
-    let machine = storing(alloc, 1, &[7; 40])?;
-    let mut prover = RunAnswerer::new(
-        alloc,
-        Counting { of },
-        &machine,
-        24,
-        4,
-        Tamper::Untouched,
-        workers.max(1),
-    )?;
-    let fourths = Kind::Roots {
-        lo: 0,
-        hi: 24,
-        parts: 4,
-    };
-    prover.answer(rt, &asked(1, fourths), 0)?;
+    let mut prover = storing_prover(alloc, Counting { of }, 1, workers)?;
+    let (lo, hi, parts) = (0, 24, 4);
+    answer_of(rt, &mut prover, &asked(1, Kind::Roots { lo, hi, parts }), 0)?;
     let before = made.load(Ordering::SeqCst);
-    let thirds = Kind::Roots {
-        lo: 12,
-        hi: 18,
-        parts: 3,
-    };
-    prover.answer(rt, &asked(2, thirds), 0)?;
+    let (lo, hi, parts) = (12, 18, 3);
+    answer_of(rt, &mut prover, &asked(2, Kind::Roots { lo, hi, parts }), 0)?;
     Ok(made.load(Ordering::SeqCst).wrapping_sub(before))
 }
 
@@ -631,6 +733,48 @@ fn sixteen_scripts(alloc: Global) -> Result<Vec<Script>, Memory> {
     Ok(scripts)
 }
 
+/// Sixteen answerers of a match of version 3 with an input of at most 4,096 bytes. An `Err` is out of memory.
+fn storing_answerers<D: Replays>(
+    alloc: Global,
+    d: D,
+    workers: u32,
+    input: &[u8],
+) -> Result<Vec<Scripted<RunAnswerer<D>, D>>, Memory>
+    requires { length input.now ≤ 4096 }
+{
+    let machine = storing(alloc, 3, input)?;
+    sixteen_answerers(alloc, d, &machine, workers)
+}
+
+/// Sixteen answerers of a run from a machine whose chain is that of its output by each digester. An `Err` is out of memory.
+fn sixteen_answerers<D: Replays>(
+    alloc: Global,
+    d: D,
+    machine: &Machine,
+    workers: u32,
+) -> Result<Vec<Scripted<RunAnswerer<D>, D>>, Memory>
+    requires chained { (digest : List ℕ → List ℕ) → IsChained digest machine.now }
+    requires silent { machine.now.output.items ≡ [] }
+{
+    let scripts = sixteen_scripts(alloc)?;
+    answerers_of(alloc, d, &scripts, machine, 24, 4, workers.max(1))
+}
+
+/// Asks an answerer for its claim, for roots and for a proof. An `Err` is out of memory.
+fn ask_all<R: Threads + Sync, A: Answerer>(rt: &R, answerer: &mut A) -> Result<(), Memory>
+    requires { IsSync R.row }
+{
+    let parted = Kind::Roots {
+        lo: 0,
+        hi: 24,
+        parts: 4,
+    };
+    for kind in [Kind::Claim, Kind::Root(12), parted, Kind::Proof(12)] {
+        answer_of(rt, answerer, &asked(1, kind), 0)?;
+    }
+    Ok(())
+}
+
 /// How many digests the provers of a match of version 3 with an input of at most 4,096 bytes take, where each is asked for its claim,
 /// for roots and for a proof.
 fn digests_of_provers<R: Threads + Sync>(
@@ -647,26 +791,9 @@ fn digests_of_provers<R: Threads + Sync>(
         of: Sha256,
         made: &made,
     };
-    let machine = storing(alloc, 3, input)?;
-    let scripts = sixteen_scripts(alloc)?;
-    let mut answerers = answerers_of(
-        alloc,
-        Counting { of },
-        &scripts,
-        &machine,
-        24,
-        4,
-        workers.max(1),
-    )?;
-    let parted = Kind::Roots {
-        lo: 0,
-        hi: 24,
-        parts: 4,
-    };
+    let mut answerers = storing_answerers(alloc, Counting { of }, workers, input)?;
     for answerer in answerers.iter_mut() {
-        for kind in [Kind::Claim, Kind::Root(12), parted, Kind::Proof(12)] {
-            answerer.answer(rt, &asked(1, kind), 0)?;
-        }
+        ask_all(rt, answerer)?;
     }
     Ok(made.load(Ordering::SeqCst))
 }

@@ -42,7 +42,7 @@ fn output_of(alloc: Global, byte: u8) -> Result<Option<ClaimOutput>, AllocError>
 }
 
 /// A manner, by its numbers.
-#[derive(Clone, Copy, Debug)]
+#[derive(Clone, Copy)]
 enum Named {
     Plain,
     Late(u32),
@@ -78,25 +78,59 @@ fn tape_of(alloc: Global) -> Result<Option<Tape>, Memory> {
 }
 
 fn manner_of(alloc: Global, named: Named) -> Result<Manner, Memory> {
-    let manner = match named {
-        Named::Plain => None,
-        Named::Late(passes) => PassCount::new(passes).map(Manner::Late),
-        Named::Silent(from) => FirstSilentRound::new(from).map(Manner::Silent),
-        Named::Output => output_of(alloc, 0x2b)?.map(Manner::Output),
-        Named::Forge => RegisterNumber::new(5).map(|reg| Manner::Forge {
+    match named {
+        Named::Plain => Ok(Manner::Plain),
+        Named::Late(passes) => Ok(late(passes)),
+        Named::Silent(from) => Ok(silent(from)),
+        Named::Output => with_output(alloc),
+        Named::Forge => Ok(forging()),
+        Named::Noise(seed) => Ok(Manner::Noise { seed }),
+        Named::Tape => with_tape(alloc),
+    }
+}
+
+fn late(passes: u32) -> Manner {
+    match PassCount::new(passes) {
+        Some(passes) => Manner::Late(passes),
+        None => Manner::Plain,
+    }
+}
+
+fn silent(from: u32) -> Manner {
+    match FirstSilentRound::new(from) {
+        Some(from) => Manner::Silent(from),
+        None => Manner::Plain,
+    }
+}
+
+fn with_output(alloc: Global) -> Result<Manner, Memory> {
+    match output_of(alloc, 0x2b)? {
+        Some(output) => Ok(Manner::Output(output)),
+        None => Ok(Manner::Plain),
+    }
+}
+
+fn forging() -> Manner {
+    match RegisterNumber::new(5) {
+        Some(reg) => Manner::Forge {
             step: 2,
             reg,
             value: 77,
-        }),
-        Named::Noise(seed) => Some(Manner::Noise { seed }),
-        Named::Tape => tape_of(alloc)?.map(Manner::Tape),
-    };
-    Ok(manner.unwrap_or(Manner::Plain))
+        },
+        None => Manner::Plain,
+    }
+}
+
+fn with_tape(alloc: Global) -> Result<Manner, Memory> {
+    match tape_of(alloc)? {
+        Some(tape) => Ok(Manner::Tape(tape)),
+        None => Ok(Manner::Plain),
+    }
 }
 
 /// What an answerer without a manner gives: a claim of the output `2a`, a root of sevens, three roots of sevens, a proof in which
 /// x5 holds 5 and x6 holds 6, a proof of version 2 or 3 that opens some registers, or a pass.
-#[derive(Clone, Copy, Debug, PartialEq, Eq)]
+#[derive(Clone, Copy)]
 enum Gives {
     Claim,
     Root,
@@ -109,7 +143,7 @@ enum Gives {
 
 /// What a proof opens: three registers, which hold 1, 2 and 3, of the instruction `add x6, x5, x7`, `add x6, x7, x5`, or
 /// `add x6, x7, x8`; of the first one no register; or three registers without an instruction.
-#[derive(Clone, Copy, Debug, PartialEq, Eq)]
+#[derive(Clone, Copy)]
 enum Opens {
     X5First,
     X5Second,
@@ -158,13 +192,19 @@ fn chunk_opened(opens: Opens) -> Option<Opening> {
 
 /// Three opened registers, or none.
 fn registers_opened(opens: Opens) -> RegOpenings {
-    let mut named = RegOpenings::new();
-    if opens != Opens::NoRegister {
-        let path = RegPath([Digest32([5; 32]); 5]);
-        named.push(RegOpening { value: 1, path });
-        named.push(RegOpening { value: 2, path });
-        named.push(RegOpening { value: 3, path });
+    match opens {
+        Opens::NoRegister => RegOpenings::new(),
+        _ => three_registers(),
     }
+}
+
+/// They hold 1, 2 and 3.
+fn three_registers() -> RegOpenings {
+    let path = RegPath([Digest32([5; 32]); 5]);
+    let mut named = RegOpenings::new();
+    named.push(RegOpening { value: 1, path });
+    named.push(RegOpening { value: 2, path });
+    named.push(RegOpening { value: 3, path });
     named
 }
 
@@ -199,15 +239,29 @@ fn step_of(alloc: Global, proof: Proof) -> Result<Answer, AllocError> {
 
 fn inner_of(alloc: Global, gives: Gives) -> Result<Fixed, AllocError> {
     let answer = match gives {
-        Gives::Claim => output_of(alloc, 0x2a)?.map(claim_of),
+        Gives::Claim => true_claim(alloc)?,
         Gives::Root => Some(Answer::Root(Digest32([7; 32]))),
-        Gives::Roots => { RootList::new(vec![in alloc; Digest32([7; 32]); 3]?).map(Answer::Roots) }
+        Gives::Roots => three_roots(alloc)?,
         Gives::Step => Some(step_of(alloc, proof_of_version_1())?),
         Gives::Step2(opens) => Some(step_of(alloc, proof_of_version_2(opens))?),
         Gives::Step3(opens) => Some(step_of(alloc, proof_of_version_3(opens))?),
         Gives::Pass => None,
     };
     Ok(Fixed { alloc, answer })
+}
+
+fn true_claim(alloc: Global) -> Result<Option<Answer>, AllocError> {
+    match output_of(alloc, 0x2a)? {
+        Some(output) => Ok(Some(claim_of(output))),
+        None => Ok(None),
+    }
+}
+
+fn three_roots(alloc: Global) -> Result<Option<Answer>, AllocError> {
+    match RootList::new(vec![in alloc; Digest32([7; 32]); 3]?) {
+        Some(roots) => Ok(Some(Answer::Roots(roots))),
+        None => Ok(None),
+    }
 }
 
 fn claim_of(output: ClaimOutput) -> Answer {
@@ -222,7 +276,7 @@ fn claim_of(output: ClaimOutput) -> Answer {
 /// What was answered: of a root how it begins, of several how many there are and how the first and the last begin, of a proof of
 /// version 1 what x5 and x6 hold in it, of one of version 2 or 3 what the opened registers hold, and 0 where there is none, of a
 /// claim the first byte of its output.
-#[derive(Clone, Copy, Debug, PartialEq, Eq)]
+#[derive(Clone, Copy, PartialEq, Eq)]
 enum Heard {
     Pass,
     Root(u64),
@@ -233,14 +287,27 @@ enum Heard {
 }
 
 fn begins(root: Option<&Digest32>) -> u64 {
-    root.map_or(0, |root| first_eight(*root))
+    match root {
+        Some(root) => first_eight(*root),
+        None => 0,
+    }
+}
+
+fn value_of(opened: Option<&RegOpening>) -> u32 {
+    match opened {
+        Some(opened) => opened.value,
+        None => 0,
+    }
 }
 
 /// What the opened registers hold, and 0 where there is none.
 fn values_of(named: &RegOpenings) -> [u32; 3] {
     let named = named.as_slice();
-    let value = |place: usize| named.get(place).map_or(0, |opened| opened.value);
-    [value(0), value(1), value(2)]
+    [
+        value_of(named.first()),
+        value_of(named.get(1)),
+        value_of(named.get(2)),
+    ]
 }
 
 fn what_was_heard(answer: &Option<Answer>) -> Heard {
@@ -263,26 +330,32 @@ fn what_was_heard(answer: &Option<Answer>) -> Heard {
 /// What an answerer without a manner gives.
 const TRUE_CLAIM: Heard = Heard::Claim(Some(0x2a));
 
-const TRUE_ROOT: Heard = Heard::Root(SEVENS);
+const TRUE_ROOT: Heard = Heard::Root(0x0707_0707_0707_0707);
 
-const TRUE_ROOTS: Heard = Heard::Roots(3, SEVENS, SEVENS);
+const TRUE_ROOTS: Heard = Heard::Roots(3, 0x0707_0707_0707_0707, 0x0707_0707_0707_0707);
 
 const TRUE_STEP: Heard = Heard::Step(5, 6);
-
-const SEVENS: u64 = 0x0707_0707_0707_0707;
 
 /// The claim with another output.
 const OTHER_CLAIM: Heard = Heard::Claim(Some(0x2b));
 
-/// How SHA-256 of `06 07000000 01000000 01000000` begins, of the same with `02000000` in place of the last number and in place of
-/// the middle one, and of the same with `08000000` in place of the first.
-const NOISE: u64 = 0x522e_c3e0_9cd4_1b97;
+/// What a forgery makes of the proof.
+const FORGED_STEP: Heard = Heard::Step(77, 6);
 
-const NOISE_OF_ROUND_2: u64 = 0xb8b9_1e2a_b845_8929;
+/// How SHA-256 of `06 07000000 01000000 01000000` begins, three of it, of the same with `02000000` in place of the last number and in
+/// place of the middle one, and of the same with `08000000` in place of the first.
+const NOISE: Heard = Heard::Root(0x522e_c3e0_9cd4_1b97);
 
-const NOISE_OF_DISPUTE_2: u64 = 0xaeac_062c_1f55_3a55;
+const NOISES: Heard = Heard::Roots(3, 0x522e_c3e0_9cd4_1b97, 0x522e_c3e0_9cd4_1b97);
 
-const NOISE_OF_SEED_8: u64 = 0x4710_6791_e650_b4c2;
+const NOISE_OF_ROUND_2: Heard = Heard::Root(0xb8b9_1e2a_b845_8929);
+
+const NOISE_OF_DISPUTE_2: Heard = Heard::Root(0xaeac_062c_1f55_3a55);
+
+const NOISE_OF_SEED_8: Heard = Heard::Root(0x4710_6791_e650_b4c2);
+
+/// The root on the tape.
+const ONES: Heard = Heard::Root(0x0101_0101_0101_0101);
 
 /// The roots at the cuts of an interval of eight steps in four parts.
 const ROOTS: Kind = Kind::Roots {
@@ -291,15 +364,32 @@ const ROOTS: Kind = Kind::Roots {
     parts: 4,
 };
 
-/// A manner, what the answerer without it gives, the question's dispute and round and what is asked, the passes so far, and what is
+/// What the answerer without the manner gives, the question's dispute and round and what is asked, the passes so far, and what is
 /// answered.
-type Row = (Named, Gives, (u32, u32), Kind, u32, Heard);
+type Row = (Gives, (u32, u32), Kind, u32, Heard);
 
-/// Whether the answer is the wanted one, and `waits` tells where it is a pass of the manner.
-fn answers_so<R: Threads + Sync>(rt: &R, alloc: Global, row: Row) -> Result<bool, Memory>
+/// What an answerer answers. No clause says what, so that the proofs of the tests don't carry it. An `Err` is out of memory.
+fn answer_of<R: Threads + Sync, A: Answerer>(
+    rt: &R,
+    answerer: &mut A,
+    question: &Question,
+    passes: u32,
+) -> Result<Option<Answer>, Memory>
     requires { IsSync R.row }
 {
-    let (named, gives, (dispute, round), kind, passes, want) = row;
+    answerer.answer(rt, question, passes)
+}
+
+/// Whether the answer is the wanted one, and `waits` tells where it is a pass of the manner.
+fn answers_so<R: Threads + Sync>(
+    rt: &R,
+    alloc: Global,
+    named: Named,
+    row: Row,
+) -> Result<bool, Memory>
+    requires { IsSync R.row }
+{
+    let (gives, (dispute, round), kind, passes, want) = row;
     let question = Question {
         qid: Qid { dispute, round },
         kind,
@@ -307,371 +397,213 @@ fn answers_so<R: Threads + Sync>(rt: &R, alloc: Global, row: Row) -> Result<bool
     let manner = manner_of(alloc, named)?;
     let passed = waits(&manner, &question, passes);
     let mut scripted = Scripted::new(alloc, Sha256, inner_of(alloc, gives)?, manner);
-    let answer = what_was_heard(&scripted.answer(rt, &question, passes)?);
-    Ok(answer == want && passed == (want == Heard::Pass && gives != Gives::Pass))
+    let answer = what_was_heard(&answer_of(rt, &mut scripted, &question, passes)?);
+    Ok(answer == want && passed == is_pass_of_the_manner(want, gives))
 }
+
+fn is_pass_of_the_manner(want: Heard, gives: Gives) -> bool {
+    match want {
+        Heard::Pass => match gives {
+            Gives::Pass => false,
+            _ => true,
+        },
+        _ => false,
+    }
+}
+
+/// How many rows come before the first one that isn't answered so: all of them, where each is.
+fn answered<R: Threads + Sync>(
+    rt: &R,
+    alloc: Global,
+    named: Named,
+    rows: &[Row],
+) -> Result<usize, Memory>
+    requires { IsSync R.row }
+{
+    for (place, row) in rows.iter().enumerate() {
+        if !answers_so(rt, alloc, named, *row)? {
+            return Ok(place);
+        }
+    }
+    Ok(rows.len())
+}
+
+const UNCHANGED: [Row; 2] = [
+    (Gives::Claim, (0, 0), Kind::Claim, 0, TRUE_CLAIM),
+    (Gives::Pass, (0, 0), Kind::Claim, 0, Heard::Pass),
+];
+
+const AT_ONCE: [Row; 1] = [(Gives::Root, (1, 1), Kind::Root(4), 0, TRUE_ROOT)];
+
+/// So many passes on each question, whatever its round, and then the answer.
+const AFTER_THREE: [Row; 5] = [
+    (Gives::Root, (1, 1), Kind::Root(4), 0, Heard::Pass),
+    (Gives::Root, (1, 1), Kind::Root(4), 2, Heard::Pass),
+    (Gives::Root, (1, 1), Kind::Root(4), 3, TRUE_ROOT),
+    (Gives::Root, (1, 2), Kind::Root(4), 0, Heard::Pass),
+    (Gives::Claim, (0, 0), Kind::Claim, 3, TRUE_CLAIM),
+];
+
+const AFTER_A_THOUSAND: [Row; 2] = [
+    (Gives::Root, (1, 1), Kind::Root(4), 999, Heard::Pass),
+    (Gives::Root, (1, 1), Kind::Root(4), 1000, TRUE_ROOT),
+];
 
 #[test]
 fn a_late_prover_passes_so_many_times_on_each_question(rt: HostRuntime) -> Result<(), Fail> {
-    let claim = Kind::Claim;
-    let root = Kind::Root(4);
-    let (asked_claim, asked_1, asked_2) = ((0, 0), (1, 1), (1, 2));
-    for row in [
-        (
-            Named::Plain,
-            Gives::Claim,
-            asked_claim,
-            claim,
-            0,
-            TRUE_CLAIM,
-        ),
-        (
-            Named::Plain,
-            Gives::Pass,
-            asked_claim,
-            claim,
-            0,
-            Heard::Pass,
-        ),
-        // so many passes on each question, whatever its round, and then the answer
-        (Named::Late(0), Gives::Root, asked_1, root, 0, TRUE_ROOT),
-        (Named::Late(3), Gives::Root, asked_1, root, 0, Heard::Pass),
-        (Named::Late(3), Gives::Root, asked_1, root, 2, Heard::Pass),
-        (Named::Late(3), Gives::Root, asked_1, root, 3, TRUE_ROOT),
-        (Named::Late(3), Gives::Root, asked_2, root, 0, Heard::Pass),
-        (
-            Named::Late(3),
-            Gives::Claim,
-            asked_claim,
-            claim,
-            3,
-            TRUE_CLAIM,
-        ),
-        (
-            Named::Late(1000),
-            Gives::Root,
-            asked_1,
-            root,
-            999,
-            Heard::Pass,
-        ),
-        (
-            Named::Late(1000),
-            Gives::Root,
-            asked_1,
-            root,
-            1000,
-            TRUE_ROOT,
-        ),
-    ] {
-        let (named, gives, number, kind, passes, want) = row;
-        assert!(rt;
-            answers_so(&rt, rt.alloc(), row)?,
-            "{named:?} {gives:?} {number:?} {kind:?} {passes} {want:?}"
-        );
-    }
+    assert_eq!(rt; answered(&rt, rt.alloc(), Named::Plain, &UNCHANGED)?, 2);
+    assert_eq!(rt; answered(&rt, rt.alloc(), Named::Late(0), &AT_ONCE)?, 1);
+    assert_eq!(rt; answered(&rt, rt.alloc(), Named::Late(3), &AFTER_THREE)?, 5);
+    let late = Named::Late(1000);
+    assert_eq!(rt; answered(&rt, rt.alloc(), late, &AFTER_A_THOUSAND)?, 2);
     Ok(())
 }
+
+/// The claim has round 0.
+const SILENT_AT_ONCE: [Row; 1] = [(Gives::Claim, (0, 0), Kind::Claim, 0, Heard::Pass)];
+
+const SILENT_FROM_ROUND_2: [Row; 4] = [
+    (Gives::Claim, (0, 0), Kind::Claim, 0, TRUE_CLAIM),
+    (Gives::Root, (1, 1), Kind::Root(4), 0, TRUE_ROOT),
+    (Gives::Root, (1, 2), Kind::Root(4), 0, Heard::Pass),
+    (Gives::Root, (1, 3), Kind::Root(4), 4294967295, Heard::Pass),
+];
 
 #[test]
 fn a_silent_prover_passes_from_a_round_on(rt: HostRuntime) -> Result<(), Fail> {
-    let claim = Kind::Claim;
-    let root = Kind::Root(4);
-    let (asked_claim, asked_1, asked_2, asked_3) = ((0, 0), (1, 1), (1, 2), (1, 3));
-    for row in [
-        // the claim has round 0
-        (
-            Named::Silent(0),
-            Gives::Claim,
-            asked_claim,
-            claim,
-            0,
-            Heard::Pass,
-        ),
-        (
-            Named::Silent(2),
-            Gives::Claim,
-            asked_claim,
-            claim,
-            0,
-            TRUE_CLAIM,
-        ),
-        (Named::Silent(2), Gives::Root, asked_1, root, 0, TRUE_ROOT),
-        (Named::Silent(2), Gives::Root, asked_2, root, 0, Heard::Pass),
-        (
-            Named::Silent(2),
-            Gives::Root,
-            asked_3,
-            root,
-            4294967295,
-            Heard::Pass,
-        ),
-    ] {
-        let (named, gives, number, kind, passes, want) = row;
-        assert!(rt;
-            answers_so(&rt, rt.alloc(), row)?,
-            "{named:?} {gives:?} {number:?} {kind:?} {passes} {want:?}"
-        );
-    }
+    let (first, second) = (Named::Silent(0), Named::Silent(2));
+    assert_eq!(rt; answered(&rt, rt.alloc(), first, &SILENT_AT_ONCE)?, 1);
+    assert_eq!(rt; answered(&rt, rt.alloc(), second, &SILENT_FROM_ROUND_2)?, 4);
     Ok(())
 }
+
+const WITH_ANOTHER_OUTPUT: [Row; 5] = [
+    (Gives::Claim, (0, 0), Kind::Claim, 0, OTHER_CLAIM),
+    (Gives::Root, (0, 0), Kind::Claim, 0, TRUE_ROOT),
+    (Gives::Root, (1, 1), Kind::Root(4), 0, TRUE_ROOT),
+    (Gives::Claim, (1, 1), Kind::Root(4), 0, TRUE_CLAIM),
+    (Gives::Pass, (0, 0), Kind::Claim, 0, Heard::Pass),
+];
 
 #[test]
 fn another_output_stands_in_the_claim_alone(rt: HostRuntime) -> Result<(), Fail> {
-    let claim = Kind::Claim;
-    let root = Kind::Root(4);
-    let (asked_claim, asked_1) = ((0, 0), (1, 1));
-    for row in [
-        (
-            Named::Output,
-            Gives::Claim,
-            asked_claim,
-            claim,
-            0,
-            OTHER_CLAIM,
-        ),
-        (Named::Output, Gives::Root, asked_claim, claim, 0, TRUE_ROOT),
-        (Named::Output, Gives::Root, asked_1, root, 0, TRUE_ROOT),
-        (Named::Output, Gives::Claim, asked_1, root, 0, TRUE_CLAIM),
-        (
-            Named::Output,
-            Gives::Pass,
-            asked_claim,
-            claim,
-            0,
-            Heard::Pass,
-        ),
-    ] {
-        let (named, gives, number, kind, passes, want) = row;
-        assert!(rt;
-            answers_so(&rt, rt.alloc(), row)?,
-            "{named:?} {gives:?} {number:?} {kind:?} {passes} {want:?}"
-        );
-    }
+    let right = answered(&rt, rt.alloc(), Named::Output, &WITH_ANOTHER_OUTPUT)?;
+    assert_eq!(rt; right, 5);
     Ok(())
 }
 
+/// The step's own proof, then those of other steps, and of a number whose last 32 bits are the step's.
+const FORGED_BY_STEP: [Row; 5] = [
+    (Gives::Step, (1, 4), Kind::Proof(2), 0, FORGED_STEP),
+    (Gives::Step, (1, 4), Kind::Proof(2), 5, FORGED_STEP),
+    (Gives::Step, (1, 4), Kind::Proof(0), 0, TRUE_STEP),
+    (Gives::Step, (1, 4), Kind::Proof(3), 0, TRUE_STEP),
+    (Gives::Step, (1, 4), Kind::Proof(4294967298), 0, TRUE_STEP),
+];
+
 #[test]
 fn a_forgery_shows_another_value_in_the_proof_of_its_step(rt: HostRuntime) -> Result<(), Fail> {
-    let (asked_claim, asked) = ((0, 0), (1, 4));
-    let proof = Kind::Proof(2);
-    for row in [
-        (
-            Named::Forge,
-            Gives::Step,
-            asked,
-            proof,
-            0,
-            Heard::Step(77, 6),
-        ),
-        (
-            Named::Forge,
-            Gives::Step,
-            asked,
-            proof,
-            5,
-            Heard::Step(77, 6),
-        ),
-        // of other steps, and of numbers whose last 32 bits are the step's
-        (
-            Named::Forge,
-            Gives::Step,
-            asked,
-            Kind::Proof(0),
-            0,
-            TRUE_STEP,
-        ),
-        (
-            Named::Forge,
-            Gives::Step,
-            asked,
-            Kind::Proof(3),
-            0,
-            TRUE_STEP,
-        ),
-        (
-            Named::Forge,
-            Gives::Step,
-            asked,
-            Kind::Proof(4294967298),
-            0,
-            TRUE_STEP,
-        ),
-        // a proof that answers another question, another answer, and a pass
-        (
-            Named::Forge,
-            Gives::Step,
-            asked,
-            Kind::Root(2),
-            0,
-            TRUE_STEP,
-        ),
-        (
-            Named::Forge,
-            Gives::Root,
-            asked,
-            Kind::Root(2),
-            0,
-            TRUE_ROOT,
-        ),
-        (Named::Forge, Gives::Root, asked, proof, 0, TRUE_ROOT),
-        (
-            Named::Forge,
-            Gives::Claim,
-            asked_claim,
-            Kind::Claim,
-            0,
-            TRUE_CLAIM,
-        ),
-        (Named::Forge, Gives::Pass, asked, proof, 0, Heard::Pass),
-    ] {
-        let (named, gives, number, kind, passes, want) = row;
-        assert!(rt;
-            answers_so(&rt, rt.alloc(), row)?,
-            "{named:?} {gives:?} {number:?} {kind:?} {passes} {want:?}"
-        );
-    }
+    let right = answered(&rt, rt.alloc(), Named::Forge, &FORGED_BY_STEP)?;
+    assert_eq!(rt; right, 5);
     Ok(())
 }
+
+/// A proof that answers another question, another answer, and a pass.
+const NOT_FORGED: [Row; 5] = [
+    (Gives::Step, (1, 4), Kind::Root(2), 0, TRUE_STEP),
+    (Gives::Root, (1, 4), Kind::Root(2), 0, TRUE_ROOT),
+    (Gives::Root, (1, 4), Kind::Proof(2), 0, TRUE_ROOT),
+    (Gives::Claim, (0, 0), Kind::Claim, 0, TRUE_CLAIM),
+    (Gives::Pass, (1, 4), Kind::Proof(2), 0, Heard::Pass),
+];
+
+#[test]
+fn a_forgery_changes_no_other_answer(rt: HostRuntime) -> Result<(), Fail> {
+    assert_eq!(rt; answered(&rt, rt.alloc(), Named::Forge, &NOT_FORGED)?, 5);
+    Ok(())
+}
+
+/// What a proof opens, the step that is asked for, and what the opened registers then hold.
+const FORGED_REGISTERS: [(Opens, u64, [u32; 3]); 6] = [
+    (Opens::X5First, 2, [77, 2, 3]),
+    (Opens::X5Second, 2, [1, 77, 3]),
+    (Opens::NotX5, 2, [1, 2, 3]),
+    (Opens::NoRegister, 2, [0, 0, 0]),
+    (Opens::NoWord, 2, [1, 2, 3]),
+    (Opens::X5First, 3, [1, 2, 3]),
+];
 
 /// Each opening is that of the register that is named at its place.
 #[test]
 fn a_forgery_replaces_a_register_where_it_is_opened(rt: HostRuntime) -> Result<(), Fail> {
-    let proof = Kind::Proof(2);
-    for (opens, kind, want) in [
-        (Opens::X5First, proof, [77, 2, 3]),
-        (Opens::X5Second, proof, [1, 77, 3]),
-        (Opens::NotX5, proof, [1, 2, 3]),
-        (Opens::NoRegister, proof, [0, 0, 0]),
-        (Opens::NoWord, proof, [1, 2, 3]),
-        (Opens::X5First, Kind::Proof(3), [1, 2, 3]),
-    ] {
-        for gives in [Gives::Step2(opens), Gives::Step3(opens)] {
-            let row = (Named::Forge, gives, (1, 4), kind, 0, Heard::Opened(want));
-            assert!(rt; answers_so(&rt, rt.alloc(), row)?, "{gives:?} {kind:?}");
-        }
+    for (opens, step, want) in FORGED_REGISTERS {
+        let (kind, want) = (Kind::Proof(step), Heard::Opened(want));
+        let rows = [
+            (Gives::Step2(opens), (1, 4), kind, 0, want),
+            (Gives::Step3(opens), (1, 4), kind, 0, want),
+        ];
+        assert_eq!(rt; answered(&rt, rt.alloc(), Named::Forge, &rows)?, 2);
     }
     Ok(())
 }
+
+/// Of another round and another dispute it is another, but not of another step; and it stands for each of several.
+const NOISE_OF_SEED_7: [Row; 6] = [
+    (Gives::Root, (1, 1), Kind::Root(4), 0, NOISE),
+    (Gives::Root, (1, 1), Kind::Root(4), 9, NOISE),
+    (Gives::Root, (1, 2), Kind::Root(4), 0, NOISE_OF_ROUND_2),
+    (Gives::Root, (2, 1), Kind::Root(4), 0, NOISE_OF_DISPUTE_2),
+    (Gives::Root, (1, 1), Kind::Root(5), 0, NOISE),
+    (Gives::Roots, (1, 1), ROOTS, 0, NOISES),
+];
+
+const OTHER_SEED: [Row; 1] = [(Gives::Root, (1, 1), Kind::Root(4), 0, NOISE_OF_SEED_8)];
 
 #[test]
 fn noise_stands_in_place_of_roots(rt: HostRuntime) -> Result<(), Fail> {
-    let asked = (1, 1);
-    let noise = Named::Noise(7);
-    let root = Kind::Root(4);
-    for row in [
-        (noise, Gives::Root, asked, root, 0, Heard::Root(NOISE)),
-        (noise, Gives::Root, asked, root, 9, Heard::Root(NOISE)),
-        // another round, another dispute, another seed; but not another step
-        (
-            noise,
-            Gives::Root,
-            (1, 2),
-            root,
-            0,
-            Heard::Root(NOISE_OF_ROUND_2),
-        ),
-        (
-            noise,
-            Gives::Root,
-            (2, 1),
-            root,
-            0,
-            Heard::Root(NOISE_OF_DISPUTE_2),
-        ),
-        (
-            Named::Noise(8),
-            Gives::Root,
-            asked,
-            root,
-            0,
-            Heard::Root(NOISE_OF_SEED_8),
-        ),
-        (
-            noise,
-            Gives::Root,
-            asked,
-            Kind::Root(5),
-            0,
-            Heard::Root(NOISE),
-        ),
-        // each of several
-        (
-            noise,
-            Gives::Roots,
-            asked,
-            ROOTS,
-            0,
-            Heard::Roots(3, NOISE, NOISE),
-        ),
-    ] {
-        let (named, gives, number, kind, passes, want) = row;
-        assert!(rt;
-            answers_so(&rt, rt.alloc(), row)?,
-            "{named:?} {gives:?} {number:?} {kind:?} {passes} {want:?}"
-        );
-    }
+    let (seven, eight) = (Named::Noise(7), Named::Noise(8));
+    assert_eq!(rt; answered(&rt, rt.alloc(), seven, &NOISE_OF_SEED_7)?, 6);
+    assert_eq!(rt; answered(&rt, rt.alloc(), eight, &OTHER_SEED)?, 1);
     Ok(())
 }
+
+const WITHOUT_NOISE: [Row; 5] = [
+    (Gives::Roots, (1, 1), Kind::Root(4), 0, TRUE_ROOTS),
+    (Gives::Root, (1, 1), ROOTS, 0, TRUE_ROOT),
+    (Gives::Claim, (0, 0), Kind::Claim, 0, TRUE_CLAIM),
+    (Gives::Step, (1, 1), Kind::Proof(2), 0, TRUE_STEP),
+    (Gives::Pass, (1, 1), Kind::Root(4), 0, Heard::Pass),
+];
 
 #[test]
 fn noise_changes_no_other_answer(rt: HostRuntime) -> Result<(), Fail> {
-    let (asked_claim, asked) = ((0, 0), (1, 1));
-    let noise = Named::Noise(7);
-    let root = Kind::Root(4);
-    for row in [
-        (noise, Gives::Roots, asked, root, 0, TRUE_ROOTS),
-        (noise, Gives::Root, asked, ROOTS, 0, TRUE_ROOT),
-        (noise, Gives::Claim, asked_claim, Kind::Claim, 0, TRUE_CLAIM),
-        (noise, Gives::Step, asked, Kind::Proof(2), 0, TRUE_STEP),
-        (noise, Gives::Pass, asked, root, 0, Heard::Pass),
-    ] {
-        let (named, gives, number, kind, passes, want) = row;
-        assert!(rt;
-            answers_so(&rt, rt.alloc(), row)?,
-            "{named:?} {gives:?} {number:?} {kind:?} {passes} {want:?}"
-        );
-    }
+    let right = answered(&rt, rt.alloc(), Named::Noise(7), &WITHOUT_NOISE)?;
+    assert_eq!(rt; right, 5);
     Ok(())
 }
 
+/// Whatever is asked under that number, and whatever it would be answered without the tape.
+const ON_THE_TAPE: [Row; 6] = [
+    (Gives::Claim, (0, 0), Kind::Claim, 0, OTHER_CLAIM),
+    (Gives::Root, (1, 1), Kind::Root(4), 0, ONES),
+    (Gives::Root, (1, 1), Kind::Root(4), 7, ONES),
+    (Gives::Step, (1, 1), Kind::Proof(2), 0, ONES),
+    (Gives::Pass, (1, 1), Kind::Root(4), 0, ONES),
+    (Gives::Root, (1, 2), Kind::Root(4), 0, OTHER_CLAIM),
+];
+
+/// Nothing is written down for these.
+const NOT_ON_THE_TAPE: [Row; 4] = [
+    (Gives::Root, (1, 3), Kind::Root(4), 0, Heard::Pass),
+    (Gives::Root, (2, 1), Kind::Root(4), 0, Heard::Pass),
+    (Gives::Root, (3, 2), Kind::Root(4), 0, Heard::Pass),
+    (Gives::Claim, (0, 1), Kind::Claim, 1000, Heard::Pass),
+];
+
 #[test]
 fn a_tape_answers_its_first_entry_for_a_question_or_passes(rt: HostRuntime) -> Result<(), Fail> {
-    let ones = Heard::Root(0x0101_0101_0101_0101);
-    let root = Kind::Root(4);
-    for row in [
-        (
-            Named::Tape,
-            Gives::Claim,
-            (0, 0),
-            Kind::Claim,
-            0,
-            OTHER_CLAIM,
-        ),
-        (Named::Tape, Gives::Root, (1, 1), root, 0, ones),
-        (Named::Tape, Gives::Root, (1, 1), root, 7, ones),
-        // whatever is asked under that number, and whatever it would be answered without the tape
-        (Named::Tape, Gives::Step, (1, 1), Kind::Proof(2), 0, ones),
-        (Named::Tape, Gives::Pass, (1, 1), root, 0, ones),
-        (Named::Tape, Gives::Root, (1, 2), root, 0, OTHER_CLAIM),
-        // nothing is written down for these
-        (Named::Tape, Gives::Root, (1, 3), root, 0, Heard::Pass),
-        (Named::Tape, Gives::Root, (2, 1), root, 0, Heard::Pass),
-        (Named::Tape, Gives::Root, (3, 2), root, 0, Heard::Pass),
-        (
-            Named::Tape,
-            Gives::Claim,
-            (0, 1),
-            Kind::Claim,
-            1000,
-            Heard::Pass,
-        ),
-    ] {
-        let (named, gives, number, kind, passes, want) = row;
-        assert!(rt;
-            answers_so(&rt, rt.alloc(), row)?,
-            "{named:?} {gives:?} {number:?} {kind:?} {passes} {want:?}"
-        );
-    }
+    let tape = Named::Tape;
+    assert_eq!(rt; answered(&rt, rt.alloc(), tape, &ON_THE_TAPE)?, 6);
+    assert_eq!(rt; answered(&rt, rt.alloc(), tape, &NOT_ON_THE_TAPE)?, 4);
     Ok(())
 }
