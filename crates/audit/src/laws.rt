@@ -13,7 +13,7 @@ use tournament::{
     the_verdict_is_right, there_is_a_most_number_of_rounds, true_moves_are_true_answers,
 };
 
-/// A text is confirmed exactly where it is the full text of the match whose provers say what the text says, and the stated verdict is
+/// A text is confirmed if and only if it is the full text of the match whose provers say what the text says, and the stated verdict is
 /// that match's.
 pub fn confirmed_exactly()
     ensures { ConfirmedExactly }

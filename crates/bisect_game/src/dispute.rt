@@ -179,7 +179,7 @@ impl Dispute {
         }
     }
 
-    /// How it closed; `None` exactly where a side has an open question.
+    /// How it closed; `None` if and only if a side has an open question.
     pub fn closed(&self) -> Option<Close>
         ensures is { result ≡ self.now.close }
         ensures open_ { is_none result ≡ (asks First self.now || asks Second self.now) }
@@ -187,7 +187,7 @@ impl Dispute {
         self.close.as_ref().map(Close::copy)
     }
 
-    /// The open question of a side; `None` exactly where the side has settled this round or the dispute is closed.
+    /// The open question of a side; `None` if and only if the side has settled this round or the dispute is closed.
     pub fn question(&self, side: Side) -> Option<Question>
         ensures { result ≡ (if asks side self.now then Some (question_of self.now) else None) }
     {

@@ -131,7 +131,7 @@ impl<J: Judge + Drop, P: Provers + Drop> Book<J, P> {
         self.journal.as_slice()
     }
 
-    /// The verdict; `None` exactly where a question is open.
+    /// The verdict; `None` if and only if a question is open.
     pub fn verdict(&self) -> Option<Verdict>
         ensures { result ≡ (if is_complete self.now.2.record_ then Some (verdict_of (rules_of (J.ruling self.now.0.0) self.now.0.2) self.now.2.record_) else None) }
     {
@@ -153,8 +153,8 @@ impl<J: Judge + Drop, P: Provers + Drop> Book<J, P> {
         game.into_record()
     }
 
-    /// What prover `p`, from 1 to their count, is asked: `Nothing` exactly where it has no open question and the match goes
-    /// on, `Over` exactly where it has none and the match has ended.
+    /// What prover `p`, from 1 to their count, is asked: `Nothing` if and only if it has no open question and the match goes
+    /// on, `Over` if and only if it has none and the match has ended.
     pub fn ask(&self, p: u32) -> Ask
         requires some { 0 < p }
         requires few { p ≤ self.now.0.2.provers }
@@ -345,7 +345,7 @@ impl<J: Judge + Drop, P: Provers + Drop> Book<J, P> {
         self.game.has_few_disputes_and_rounds();
     }
 
-    /// Nobody is asked exactly where the match is over.
+    /// Nobody is asked if and only if the match is over.
     pub fn asks_nobody_once_over(&self)
         ensures { let rules = rules_of (J.ruling self.now.0.0) self.now.0.2 in ((p : ℕ) → 0 < p → p ≤ rules.provers → open_question rules self.now.2.record_ p ≡ None) ↔ (is_complete self.now.2.record_ ≡ true) }
     {

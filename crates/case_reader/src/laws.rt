@@ -18,7 +18,7 @@ pub fn no_fault_of_tasks_is_out_of_memory()
     ensures task { (bytes : List ℕ) (number : ℕ) → ¬ (tasks_at bytes ≡ Err (TaskFault.Task number CaseFault.Memory)) }
 {}
 
-/// Bytes are read as one task exactly where they are read as a case.
+/// Bytes are read as one task if and only if they are read as a case.
 pub fn cases_are_read_as_one_task()
     ensures { CasesAreTasks }
 {}

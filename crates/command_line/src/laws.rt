@@ -44,7 +44,7 @@ pub fn plain_seeds()
     ensures two { (program : List ℕ) → chosen (program ∷ codes "big" ∷ codes "0" ∷ codes "0" ∷ []) ≡ None }
 {}
 
-/// A seed that begins with a decimal digit is taken exactly where the whole word is a number below 2^32, and is that number.
+/// A seed that begins with a decimal digit is taken if and only if the whole word is a number below 2^32, and is that number.
 #[tactic(auto, using(crate::proofs::NumberLemmas::seeds_are_numbers))]
 pub fn seeds_are_numbers()
     ensures { (program : List ℕ) (digit : ℕ) (rest : List ℕ) → 48 ≤ digit → digit ≤ 57 →
@@ -61,7 +61,7 @@ pub fn digests_by_name()
     ensures no_name { (program : List ℕ) → chosen (program ∷ codes "judge" ∷ codes "--digest" ∷ []) ≡ None }
 {}
 
-/// Options of `judge` and of `big`, however many and in whatever order, are taken exactly where each is given once and its number's
+/// Options of `judge` and of `big`, however many and in whatever order, are taken if and only if each is given once and its number's
 /// word is a number in its option's range: so no option disturbs another. Each number's word, and the seed's, begins with a decimal
 /// digit.
 #[tactic(auto, using(crate::proofs::TakenLemmas::judge_options_are_taken, crate::proofs::BigLemmas::big_options_are_taken))]

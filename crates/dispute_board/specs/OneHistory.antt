@@ -122,7 +122,7 @@ pub record Stands {H : Type 0} (tasks : List Task) (before : Known H) (journal :
 abbrev pub entry_unless_stale : ℕ → Entry → Option (ℕ × Entry)
 entry_unless_stale t e = if is_stale e.reply then None else Some (t, e)
 
--- the receipt of a post at this place, there exactly where the reply is not stale
+-- the receipt of a post at this place, there if and only if the reply is not stale
 abbrev pub receipt_of : Reply → ℕ → Option ℕ
 receipt_of r place = if is_stale r then None else Some place
 
@@ -141,7 +141,7 @@ pub record AsksOnBoard {H : Type 0} (tasks : List Task) (before : Known H) (t p 
   pub asked : (q : Question) (n : ℕ) → ask ≡ variant.Question q n → IsOfTheCase task.rules task.says p q
 
 -- a post of a seat for a prover of task t, where it stands: its reply is the board's there, and it leaves its entry, as one of task t,
--- exactly where the reply is not stale
+-- if and only if the reply is not stale
 pub record PostsOnBoard {H : Type 0} (tasks : List Task) (before : Known H) (t p : ℕ) (qid : Qid) (m : Option Answer) (posted : Posted) (after : Known H) : Type 0 where
   pub task : Task
   pub there : numbered tasks t ≡ Some task

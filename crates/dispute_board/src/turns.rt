@@ -36,7 +36,7 @@ impl<J: Judge + Drop, P: Provers + Drop> Logged for Locked<J, P> {
 #[derive(Clone, Copy, Debug)]
 pub struct Posted {
     pub reply: Reply,
-    /// The place of the entry in the journal of all tasks, from 0; there exactly where the reply isn't `Stale`.
+    /// The place of the entry in the journal of all tasks, from 0; there if and only if the reply isn't `Stale`.
     pub receipt: Option<u64>,
 }
 

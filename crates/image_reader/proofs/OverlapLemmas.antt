@@ -139,7 +139,7 @@ next_alone loads k d rising within before =
         let there : k + 1 + j < length loads = omega (arith, length-drop (k + 1) loads) in
         rw get_or-drop (apart (get_or loads k d) (get_or loads (k + 1) d) (get_or loads (k + 1 + j) d) (before (omega arith)) (rising k (k + 1) d (omega arith) (omega arith)) (rising (k + 1) (k + 1 + j) d (omega arith) there))
 
--- no two share an address exactly where none is in two
+-- no two share an address if and only if none is in two
 pub apart-alone : (loads : List ProgramHeader) → (some_share loads ≡ false) ↔ ((a : ℕ) → count_by (λ load. occupies load a) loads ≤ 1)
 apart-alone loads = (
   λ apart a. (let n = alone_from_apart loads apart a in let same = count_by-count a loads in omega arith),

@@ -15,7 +15,7 @@ pub fn flat_memory()
     laying_bytes();
 }
 
-/// No two loads share an address exactly where each address is in at most one of them.
+/// No two loads share an address if and only if each address is in at most one of them.
 pub fn sharing_loads()
     ensures { (loads : List ProgramHeader) → (some_share loads ≡ false) ↔ ((a : ℕ) → count_by (λ load. occupies load a) loads ≤ 1) }
 {}

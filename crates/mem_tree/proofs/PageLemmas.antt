@@ -79,7 +79,7 @@ page-moved o m n page same is = record {
   used = (λ is'. used-same m n page same (is.used.0 is'), λ used. is.used.1 (used-same n m page (λ a at. sym (same a at)) used));
 }
 
--- a page is filled exactly where it is used
+-- a page is filled if and only if it is used
 module _ (root : RootLaw) (some : SomeLaw) (m : Contents) (page : ℕ) where
   pub unused-filled : ¬ IsUsed m page → is_filled m page ≡ false
   unused-filled unused = none-changed some (differs None m page) (λ j low. different-same (chunk_in zero_chunks j) (page_chunk m page j) (zero-at j low ∙ sym (unused-chunk m page j low unused)))

@@ -56,7 +56,7 @@ abbrev pub kept_or : Option Digest32 → List ℕ → List ℕ
 kept_or (Some digest) empty = digest.0
 kept_or None empty = empty
 
--- the chunks that are kept of a page are the memory's, and it is kept exactly where it holds a byte other than 0
+-- the chunks that are kept of a page are the memory's, and it is kept if and only if it holds a byte other than 0
 pub record IsPageOf (tree : Option PageTree) (m : Contents) (page : ℕ) : Type 0 where
   pub chunks : (j : ℕ) → j < 128 → kept_chunk tree j ≡ page_chunk m page j
   pub used : (is_some tree ≡ true) ↔ IsUsed m page

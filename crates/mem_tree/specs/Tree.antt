@@ -53,7 +53,7 @@ upper_at t n k = lookup (is_at (by_place (n, k))) t.upper
 abbrev pub upper_node : Kept → ℕ → ℕ → List ℕ
 upper_node t n k = kept_or (upper_at t n k) (digest_at t.empties (7 + n))
 
--- a node is the digest of two, and is kept exactly where one of them is; the empty nodes of their level and of its own are given
+-- a node is the digest of two, and is kept if and only if one of them is; the empty nodes of their level and of its own are given
 pub record IsOfTwo (digest : List ℕ → List ℕ) (node left right : Option Digest32) (below empty : List ℕ) : Type 0 where
   pub digest_is : kept_or node empty ≡ digest (node_text (kept_or left below) (kept_or right below))
   pub kept : is_some node ≡ (is_some left || is_some right)
@@ -62,7 +62,7 @@ pub record IsOfTwo (digest : List ℕ → List ℕ) (node left right : Option Di
 abbrev pub IsJoinedAbove : (List ℕ → List ℕ) → Kept → ℕ → ℕ → Type 0
 IsJoinedAbove digest t n k = IsOfTwo digest (upper_at t (n + 1) k) (upper_at t n (2 * k)) (upper_at t n (2 * k + 1)) (digest_at t.empties (7 + n)) (digest_at t.empties (7 + (n + 1)))
 
--- a node is the root of a page's heap, and is kept exactly where the heap is
+-- a node is the root of a page's heap, and is kept if and only if the heap is
 pub record IsRoot (node : Option Digest32) (tree : Option PageTree) : Type 0 where
   pub digest_is : (empty : List ℕ) → kept_or node empty ≡ heap_node tree 1 empty
   pub kept : is_some node ≡ is_some tree
@@ -84,7 +84,7 @@ pub record IsJoinedBut (digest : List ℕ → List ℕ) (t : Kept) (stale : List
 abbrev pub AllMade : (List ℕ → List ℕ) → Kept → Type 0
 AllMade digest t = (p : ℕ) → IsMadeTree digest (page_at t p)
 
--- each page that isn't stale is the memory's: it is kept exactly where it holds a byte other than 0; and the nodes above are joined. So
+-- each page that isn't stale is the memory's: it is kept if and only if it holds a byte other than 0; and the nodes above are joined. So
 -- above pages nothing is kept but over used or stale pages (`only_what_is_needed_is_kept`)
 pub record IsOver (digest : List ℕ → List ℕ) (t : Kept) (stale : List ℕ) (m : Contents) : Type 0 where
   pub pages : (p : ℕ) → is_among stale p ≡ false → IsPageOf (page_at t p) m p

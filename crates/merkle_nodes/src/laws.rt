@@ -39,7 +39,7 @@ pub fn opened_equations()
         ≡ joined (k / 2 ^ l % 2) (digest (opened digest leaf siblings l k)) (siblings l) }
 {}
 
-/// A digest opens to a leaf's string exactly where it is the digest to which the path climbs.
+/// A digest opens to a leaf's string if and only if it is the digest to which the path climbs.
 pub fn climbing_is_opening()
     ensures climbs { (digest : List ℕ → List ℕ) (leaf : List ℕ) (siblings : ℕ → List ℕ) (n k : ℕ) (d : List ℕ) →
         Opens digest leaf siblings n k d ↔ (d ≡ digest (opened digest leaf siblings n k)) }
@@ -85,8 +85,8 @@ pub fn heaps_are_trees()
         (l m k : ℕ) → m + l ≡ n → k < 2 ^ m → digest_at nodes (2 ^ m + k) ≡ node digest leaf l k }
 {}
 
-/// Where the leaves of a heap are marked that have changed, and a node above them exactly where one of the two below it is, as
-/// many nodes are marked as have to be made anew, and the root is marked exactly where some leaf is.
+/// Where the leaves of a heap are marked that have changed, and a node above them if and only if one of the two below it is, as
+/// many nodes are marked as have to be made anew, and the root is marked if and only if some leaf is.
 pub fn renewals_are_marked()
     ensures many { (marked changed : ℕ → Bool) (n : ℕ) → ((k : ℕ) → k < 2 ^ n → marked (2 ^ n + k) ≡ changed k) →
         ((i : ℕ) → 1 ≤ i → i < 2 ^ n → marked i ≡ (marked (2 * i) || marked (2 * i + 1))) →

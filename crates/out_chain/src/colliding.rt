@@ -62,7 +62,7 @@ fn collision_below<D: Digester>(d: D, first: &Claim, second: &Claim) -> Option<(
 /// Two different strings with one digest, the first opened by the first claim, the second by the second, of two claims of
 /// one root: the first such pair in the order state string, control string, link strings from the output's first byte on.
 ///
-/// `None` where the roots differ. Of two sound claims of one root it comes exactly where the claims are equal
+/// `None` where the roots differ. Of two sound claims of one root it comes if and only if the claims are equal
 /// (`claims_of_one_root`).
 #[tactic(auto, unfolding(crate::specs::Collision::claim_collision, crate::specs::Collision::first_collision))]
 pub fn claim_collision<D: Digester>(

@@ -5,7 +5,7 @@ ghost use Rattle.out_chain.specs.Root.{root_of_claim};
 ghost use Rattle.out_chain.specs.Soundness.{is_sound};
 ghost use Rattle.out_chain.specs.Collision.{claim_collision, IsClaimCollision};
 
-/// Two sound claims have no collision exactly where their roots differ (`two_roots`) or they are equal (`equal`,
+/// Two sound claims have no collision if and only if their roots differ (`two_roots`) or they are equal (`equal`,
 /// `without`). What is called their collision is one (`collision`).
 #[tactic(auto, using(crate::specs::ClaimLaws::no_collision_of_two_roots, crate::specs::ClaimLaws::no_collision_of_equal, crate::specs::ClaimLaws::claims_without_collision, crate::specs::ClaimLaws::claims_collide))]
 pub fn claims_of_one_root()

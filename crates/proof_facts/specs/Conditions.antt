@@ -28,8 +28,8 @@ FirstFails refusal [] = ⊥
 FirstFails refusal (c ∷ cs) = ((c.refusal ≡ refusal) × (¬ c.holds)) ⊎ (c.holds × FirstFails refusal cs)
 
 -- the conditions of a proof from the root a, for a referee of a version, in their order: it is of this version; it has the fetched
--- chunk exactly where its parts call for one; they open the root, and the chunk the root of memory; as many registers are opened as
--- are named, and they open their root; the chunk of data is there exactly where it is called for, and opens the root of memory; and
+-- chunk if and only if its parts call for one; they open the root, and the chunk the root of memory; as many registers are opened as
+-- are named, and they open their root; the chunk of data is there if and only if it is called for, and opens the root of memory; and
 -- so does the chunk of the input open its root
 abbrev pub conditions : (List ℕ → List ℕ) → ℕ → Digest32 → Facts → List Condition
 conditions digest version a facts =

@@ -71,7 +71,7 @@ pub fn read_digest(bytes: &[u8]) -> (Digest32, &[u8])
     (Digest32(digest), rest)
 }
 
-/// The status with this byte and this code. `BadStatus` comes exactly where there is none.
+/// The status with this byte and this code. `BadStatus` comes if and only if there is none.
 fn status_with(byte: u8, code: u32) -> Result<Status, WireFault>
     ensures { result ≡ status_of byte code }
 {
@@ -232,7 +232,7 @@ pub fn read_named(count: u8, bytes: &[u8]) -> Result<(RegOpenings, &[u8]), WireF
     Ok((named, rest))
 }
 
-/// The number itself where it isn't above the largest. `BadTag` comes exactly where it is.
+/// The number itself where it isn't above the largest. `BadTag` comes if and only if it is.
 pub fn within(largest: u8, number: u8) -> Result<u8, WireFault>
     ensures { result ≡ at_most largest number }
 {

@@ -72,7 +72,7 @@ fn read_root(bytes: &[u8]) -> Result<(Digest32, &[u8]), WireFault>
     Ok(read_digest(bytes))
 }
 
-/// How many roots there are: 1 to 15. `BadTag` comes exactly where it is another number.
+/// How many roots there are: 1 to 15. `BadTag` comes if and only if it is another number.
 fn count_of_roots(number: u8) -> Result<u8, WireFault>
     ensures read { result ≡ root_count number }
     ensures range { IfOk result (λ count. (1 ≤ count) × (count ≤ 15)) }
@@ -274,7 +274,7 @@ pub fn decode(alloc: Global, bytes: &[u8]) -> Result<Answer, WireFault>
     ensures found { IfOk result (λ answer. Spells answer bytes.now) }
     // What has these bytes is read, unless memory runs out.
     ensures only { (answer : Answer) → Spells answer bytes.now → Gives Memory (λ read. read) result (Ok answer) }
-    // A fault comes exactly where it is the first, unless memory runs out.
+    // A fault comes if and only if it is the first, unless memory runs out.
     ensures exact { Gives Memory (λ answer. answer) result (answer_in bytes.now) }
 {
     read_whole(alloc, bytes)

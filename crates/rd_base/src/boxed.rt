@@ -2,7 +2,7 @@ ghost use Rattle.std.specs.Prelude.{◌≡◌};
 
 use std::marker::Model;
 
-/// A value on the heap, which contracts see as the value itself: two of them are equal in contracts exactly where
+/// A value on the heap, which contracts see as the value itself: two of them are equal in contracts if and only if
 /// their values are.
 #[derive(Debug, Drop)]
 pub struct Boxed<T> {

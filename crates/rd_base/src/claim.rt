@@ -29,7 +29,7 @@ impl Model for ClaimOutput {
 }
 
 impl ClaimOutput {
-    /// The bytes as an output. `None` comes exactly where there are more than 4,294,967,295. It takes no memory.
+    /// The bytes as an output. `None` comes if and only if there are more than 4,294,967,295. It takes no memory.
     pub fn new(bytes: Vec<u8>) -> Option<ClaimOutput>
         ensures there { IsSome result ↔ (length bytes.items ≤ 4294967295) }
         ensures value { IfSome result (λ o. o ≡ bytes.items) }

@@ -29,7 +29,7 @@ impl Model for RootList {
 }
 
 impl RootList {
-    /// The roots as a list. `None` comes exactly where there is none or there are more than 15. It takes no memory.
+    /// The roots as a list. `None` comes if and only if there is none or there are more than 15. It takes no memory.
     pub fn new(roots: Vec<Digest32>) -> Option<RootList>
         ensures there { IsSome result ↔ ((1 ≤ length roots.items) × (length roots.items ≤ 15)) }
         ensures value { IfSome result (λ l. l ≡ roots.items) }

@@ -23,7 +23,7 @@ impl Model for RegisterNumber {
 }
 
 impl RegisterNumber {
-    /// The register of a number. `None` comes exactly where it isn't from 1 to 31.
+    /// The register of a number. `None` comes if and only if it isn't from 1 to 31.
     pub fn new(number: u8) -> Option<RegisterNumber>
         ensures there { IsSome result ↔ ((1 ≤ number) × (number ≤ 31)) }
         ensures value { IfSome result (λ r. r ≡ number) }

@@ -50,7 +50,7 @@ impl Model for Tape {
 }
 
 impl Tape {
-    /// A tape of these answers. `None` comes exactly where there are more than 4,096. It takes no memory.
+    /// A tape of these answers. `None` comes if and only if there are more than 4,096. It takes no memory.
     pub fn new(answers: Vec<TapeAnswer>) -> Option<Tape>
         ensures there { IsSome result ↔ (length answers.items ≤ 4096) }
         ensures value { IfSome result (λ t. t ≡ answers.items) }

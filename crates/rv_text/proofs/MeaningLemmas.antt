@@ -1,4 +1,4 @@
--- A text says a word exactly where it has the word.
+-- A text says a word if and only if it has the word.
 use Rattle.std.proofs.Common.{◌≡◌, ℕ, ◌+◌, ◌^◌, ◌<◌, ◌||◌, Bool, true, false, List, [], ◌∷◌, refl, ap, ◌∙◌, sym, subst, arith, ℤ, pos, Option, Some, None, option_map, Result, Ok, Err, ◌↔◌}
 use Rattle.std.proofs.lemmas.Bool.{false≢true, and_from}
 use Rattle.std.proofs.lemmas.Bool.Decides.{nat_tests}

@@ -27,7 +27,7 @@ pub run-no_blank : (xs ys : List ℕ) → begins is_of_operand xs ≡ true → b
 run-no_blank [] ys h = elim (false≢true h) [ ]
 run-no_blank (x ∷ xs) ys h = operand-no_blank x h
 
--- every character is such exactly where nothing is behind the run
+-- every character is such if and only if nothing is behind the run
 pub every-behind : (p : ℕ → Bool) (xs : List ℕ) → every p xs ≡ is_empty (behind p xs)
 every-behind p [] = refl
 every-behind p (x ∷ xs) = let rest = every-behind p xs in grind arith

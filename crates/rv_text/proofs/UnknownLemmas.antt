@@ -1,4 +1,4 @@
--- A mnemonic is unknown exactly where no row has it: no operand has this fault.
+-- A mnemonic is unknown if and only if no row has it: no operand has this fault.
 use Rattle.std.proofs.Common.{◌≡◌, ℕ, Bool, true, false, List, [], ◌∷◌, refl, ap, ℤ, Option, Some, None, option_map, Result, Ok, Err}
 use Rattle.std.specs.Prelude.{◌↔◌, if◌then◌else◌, ◌&&◌, ◌||◌, nat_lt}
 use Rattle.rd_base.specs.Results.{◌>>=◌}

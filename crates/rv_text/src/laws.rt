@@ -25,7 +25,7 @@ pub fn listing_is_read_back()
     one_reading();
 }
 
-/// A statement has a word exactly where it is how an instruction with that word is written, or a word as such. So each written
+/// A statement has a word if and only if it is how an instruction with that word is written, or a word as such. So each written
 /// instruction is assembled to its word, which reads as that instruction.
 pub fn each_word_is_said()
     ensures word { (distances : Distances) (text : List ℕ) (w : ℕ) → (word_of_statement distances text ≡ Ok w) ↔ StandsForWord distances text w }
@@ -49,7 +49,7 @@ pub fn labels_stand_for_places()
     ensures { (lines : List (List ℕ)) (p : Pass) (name : List ℕ) (place : ℕ) → first_pass 1 (pass no_names 0) lines ≡ Ok p → (p.names name ≡ Some place) ↔ IsPlace lines name place }
 {}
 
-/// A statement has an unknown mnemonic exactly where it begins with a run of letters, digits, `.` and `_` that is no mnemonic, whatever
+/// A statement has an unknown mnemonic if and only if it begins with a run of letters, digits, `.` and `_` that is no mnemonic, whatever
 /// follows.
 pub fn unknown_mnemonics_have_no_row()
     ensures { (distances : Distances) (text : List ℕ) → (word_in distances text ≡ Err FaultKind.UnknownMnemonic) ↔ HasUnknownMnemonic text }

@@ -24,7 +24,7 @@ fn registers_of<D: Digester>(d: D, machine: &Machine) -> Option<RegTree<D>>
     }
 }
 
-/// The tree of registers made that of a machine's, whose version has one exactly where there is one.
+/// The tree of registers made that of a machine's, whose version has one if and only if there is one.
 fn registers_after<D: Digester>(tree: Option<RegTree<D>>, machine: &Machine) -> Option<RegTree<D>>
     requires { HasTreeFor machine.now.version tree }
     ensures { HasRegisters (state_of machine.now) result }

@@ -23,7 +23,7 @@ abbrev pub answer : List (Refusal × Bool) → Digest32 → StepCheck
 answer [] root = check.Leads root
 answer (t ∷ ts) root = if t.1 then answer ts root else refused t.0
 
--- something is there exactly where it is called for
+-- something is there if and only if it is called for
 abbrev pub is_called : {A : Type 0} → Option A → Option ℕ → Bool
 is_called (Some o) (Some place) = true
 is_called None None = true

@@ -8,7 +8,7 @@ ghost use Rattle.step_check.specs.Tests.{checked};
 use crate::check::StepCheck;
 
 /// Whether what a proof holds leads from a root, and to which, is decided by the tests of `check_step`: they answer that it leads to a
-/// root exactly where its conditions hold and this is the root that is made of its parts after the step.
+/// root if and only if its conditions hold and this is the root that is made of its parts after the step.
 pub fn leading_is_decided()
     ensures { (digest : List ℕ → List ℕ) (version : ℕ) (a b : Digest32) (facts : Facts) →
         (checked digest version a facts ≡ StepCheck.Leads b) ↔ LeadsFrom digest version a facts b }

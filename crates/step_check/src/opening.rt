@@ -27,7 +27,7 @@ pub(crate) fn same_digest(first: &Digest32, second: &Digest32) -> bool
     first.0 == second.0
 }
 
-/// Whether something is there exactly where it is called for.
+/// Whether something is there if and only if it is called for.
 pub(crate) fn is_called<T>(there: &Option<T>, place: Option<u32>) -> bool
     ensures { result ≡ tests.is_called there.now place }
 {

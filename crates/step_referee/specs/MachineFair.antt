@@ -22,7 +22,7 @@ led (check.Leads root) b some = cc
 led check.NotOpen b none = absurd cc
 led check.WrongShape b none = absurd cc
 
--- a proof leads by the judge exactly where it is in range and its conditions hold
+-- a proof leads by the judge if and only if it is in range and its conditions hold
 pub leads-exactly : (digest : List ℕ → List ℕ) (version : ℕ) (a b : Digest32) (proof : Proof)
     → (leads_in digest version a proof ≡ Some b) ↔ ((is_in_range proof ≡ true) × LeadsFrom digest version a (facts_of proof) b)
 unfolding leads_in

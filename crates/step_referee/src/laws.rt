@@ -17,7 +17,7 @@ use digest_core::{Digester, chain_grows};
 use proof_facts::plain_proofs_lead;
 use rv_step::{runs_keep_the_input, steps_keep_valid_states};
 
-/// By the judge of a version a proof leads from a root to another exactly where it is in the ranges of its types, as each proof that a
+/// By the judge of a version a proof leads from a root to another if and only if it is in the ranges of its types, as each proof that a
 /// program holds, and its conditions for this version hold.
 pub fn judged_leading_is_exact()
     ensures { (digest : List ℕ → List ℕ) (version : ℕ) (a b : Digest32) (proof : Proof) →

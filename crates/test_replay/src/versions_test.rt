@@ -195,7 +195,7 @@ fn a_run_that_reads_its_input_has_the_roots_of_its_states(rt: HostRuntime) -> Re
     Ok(())
 }
 
-/// Whether two of some roots are equal exactly where those of the same places are of others, and none is among the others.
+/// Whether two of some roots are equal if and only if those of the same places are of others, and none is among the others.
 fn are_alike(some: &[Digest32], others: &[Digest32]) -> bool {
     if some.len() != others.len() {
         return false;

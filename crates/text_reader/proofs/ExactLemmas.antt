@@ -1,4 +1,4 @@
--- Bytes are read as a text exactly where it is within the limits and they are its bytes.
+-- Bytes are read as a text if and only if it is within the limits and they are its bytes.
 use Rattle.std.proofs.Common.{◌≡◌, ℕ, List, Ok, refl, ◌∙◌, ap, sym}
 use Rattle.text_types.specs.declared.text.FullText.{FullText}
 use Rattle.transcript_text.specs.FullLines.{full_text, text_of}

@@ -15,7 +15,7 @@ use Rattle.transcript_text.specs.Laws.{parts_of}
 use Rattle.text_reader.specs.InLimits.{IsString, IsHeadInLimits, IsInLimits}
 use Rattle.text_reader.specs.ReadText.{read_text}
 
--- bytes are read as a text exactly where it is within the limits and they are its bytes
+-- bytes are read as a text if and only if it is within the limits and they are its bytes
 abbrev pub ReadsExactly : Type 0
 ReadsExactly = (bytes : List ℕ) (x : FullText) → (read_text bytes ≡ Ok x) ↔ (IsInLimits x × (bytes ≡ text_of x))
 

@@ -9,7 +9,7 @@ use text_types::a_verdict_is_stated;
 use tournament::{a_match_has_few_disputes_and_rounds, a_record_is_of_its_provers};
 use transcript_text::a_full_text_is_that_of_its_parts;
 
-/// Bytes are read as a text exactly where it is within the limits and they are its bytes (`exactly`), so that two texts that
+/// Bytes are read as a text if and only if it is within the limits and they are its bytes (`exactly`), so that two texts that
 /// read alike are equal (`alike`).
 pub fn reading_is_the_inverse_of_writing()
     ensures exactly { ReadsExactly }

@@ -1,7 +1,7 @@
 //! The reader of full texts.
 //!
 //! The layers above may rely on this: `read_full` gives what `read_text` (`specs/ReadText.antt`) gives of the bytes, the first
-//! fault of its lines included. Bytes are read as a text exactly where it is within the limits (`specs/InLimits.antt`) and they
+//! fault of its lines included. Bytes are read as a text if and only if it is within the limits (`specs/InLimits.antt`) and they
 //! are its bytes, and the full text of each match is read back (`laws`). It is one pass over the lines, and keeps one move a
 //! line. Read `specs/ReadText.antt` first, then `specs/Entries.antt`, `specs/Fields.antt` and `reading`.
 #![tactic(auto)]

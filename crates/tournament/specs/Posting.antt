@@ -71,7 +71,7 @@ after_posts rules (x ∷ xs) st = after_posts rules xs (posted rules st x.prover
 abbrev pub record_after : Rules → List Post → Record
 record_after rules xs = (after_posts rules xs (begun rules)).record_
 
--- nobody has an open question exactly where the match is over
+-- nobody has an open question if and only if the match is over
 abbrev pub NobodyAskedIsOver : Type 0
 NobodyAskedIsOver =
     (rules : Rules) (xs : List Post) → ArePlayable rules →

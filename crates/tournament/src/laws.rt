@@ -155,7 +155,7 @@ pub fn open_questions_stay()
     bisection_laws();
 }
 
-/// Nobody has an open question exactly where the match is over, whatever was posted.
+/// Nobody has an open question if and only if the match is over, whatever was posted.
 pub fn nobody_asked_means_over()
     ensures { NobodyAskedIsOver }
 {

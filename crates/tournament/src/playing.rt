@@ -107,14 +107,14 @@ impl<J: Judge + Drop> Match<J> {
         self.sheet.is_over()
     }
 
-    /// The verdict; `None` exactly where a question is open.
+    /// The verdict; `None` if and only if a question is open.
     pub fn verdict(&self) -> Option<Verdict>
         ensures { result ≡ (if is_complete self.now.2.record_ then Some (verdict_of (rules_of (J.ruling self.now.0) self.now.1) self.now.2.record_) else None) }
     {
         self.sheet.verdict(&self.judge)
     }
 
-    /// The open question of a prover, from 1 to their count; `None` exactly where it has none.
+    /// The open question of a prover, from 1 to their count; `None` if and only if it has none.
     pub fn question(&self, p: u32) -> Option<Question>
         requires some { 0 < p }
         requires few { p ≤ self.now.1.provers }
@@ -200,7 +200,7 @@ impl<J: Judge + Drop> Match<J> {
 
     /// A post of a prover, from 1 to their count, on the question with this number. It takes no memory.
     ///
-    /// `Stale` comes exactly where that isn't the prover's open question; it carries the open one, and nothing changes.
+    /// `Stale` comes if and only if that isn't the prover's open question; it carries the open one, and nothing changes.
     /// Else `Spent` comes exactly at the pass after the patience, and `Faulty` exactly at an answer of another kind than
     /// asked, a list of another length than the cuts, or an unsound claim.
     pub fn post(&mut self, p: u32, qid: Qid, turn: Move) -> Reply
@@ -248,7 +248,7 @@ impl<J: Judge + Drop> Match<J> {
         let _ = &self.live;
     }
 
-    /// Nobody is asked exactly where it is over.
+    /// Nobody is asked if and only if it is over.
     pub fn asks_nobody_once_over(&self)
         ensures { let rules = rules_of (J.ruling self.now.0) self.now.1 in ((p : ℕ) → 0 < p → p ≤ rules.provers → open_question rules self.now.2.record_ p ≡ None) ↔ (is_complete self.now.2.record_ ≡ true) }
     {

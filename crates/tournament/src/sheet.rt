@@ -226,7 +226,7 @@ impl Sheet {
         lowest(self.record_.disputes(), 1, self.record_.claims())
     }
 
-    /// The verdict; `None` exactly where a question is open.
+    /// The verdict; `None` if and only if a question is open.
     pub(crate) fn verdict<J: Judge>(&self, judge: &J) -> Option<Verdict>
         ensures { result ≡ (if is_complete self.now.record_ then Some (verdict_of (rules_of (J.ruling (J.names judge.now)) self.now.table) self.now.record_) else None) }
     {
