@@ -14,8 +14,8 @@ use Rattle.merkle_nodes.specs.Node.{digest_at}
 use Rattle.merkle_nodes.specs.Opening.{joined, opened}
 use Rattle.out_chain.specs.Collision.{links_after, links_of, opened_by_claim}
 use Rattle.out_chain.specs.Root.{control_text_of, claim_text}
-use Rattle.open_proof.specs.Called.{fetch_address}
-use Rattle.open_proof.specs.Opened.{texts_from}
+use Rattle.proof_facts.specs.Called.{fetch_address}
+use Rattle.proof_facts.specs.Opened.{texts_from}
 use Rattle.proof_facts.specs.Facts.{facts_of, named_called, operand_called, input_called}
 use Rattle.proof_facts.specs.Next.{storage_texts, storage_held, registers_held, text_before}
 use Rattle.proof_facts.specs.Openings.{chunk_way, chunk_ways, register_way, each_way, register_ways, input_way, input_ways, fetch_ways, named_ways, operand_ways, read_ways}

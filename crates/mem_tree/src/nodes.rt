@@ -199,19 +199,6 @@ impl Nodes {
         Ok(())
     }
 
-    /// Puts a page's subtree back, none of whose chunks has changed. An `Err` is out of memory.
-    fn put_back(&mut self, page: u32, tree: Option<PageTree>) -> Result<(), Memory>
-        ensures kept { (digest : List ℕ → List ℕ) (stale : List ℕ) → IsJoinedBut digest (kept_of self.old) stale →
-            is_among stale page ≡ true → IsJoinedBut digest (kept_of self.new) stale }
-        ensures here { OnOk result (page_at (kept_of self.new) page ≡ tree) }
-        ensures elsewhere { (p : ℕ) → p ≢ page → page_at (kept_of self.new) p ≡ page_at (kept_of self.old) p }
-        ensures made { (digest : List ℕ → List ℕ) → AllMade digest (kept_of self.old) → IsMadeTree digest tree → AllMade digest (kept_of self.new) }
-        ensures upper { self.new.upper ≡ self.old.upper }
-        ensures empties { self.new.empties ≡ self.old.empties }
-    {
-        self.put_page(page, tree)
-    }
-
     /// Makes a page and the nodes above it those of a memory, with a step for each digest; a page that hasn't changed takes none,
     /// unless an earlier refresh failed. An `Err` is out of memory, and leaves all nodes that stand neither in nor above the page.
     fn renew_page<D: Digester, L: Ledger>(
@@ -248,7 +235,7 @@ impl Nodes {
             self.place(d, page, tree, steps)?;
             return Ok(());
         }
-        self.put_back(page, tree)?;
+        self.put_page(page, tree)?;
         Ok(())
     }
 

@@ -13,7 +13,7 @@ use Rattle.merkle_nodes.specs.Opening.{IsPath}
 use Rattle.mem_tree.specs.Memory.{memory_leaf}
 use Rattle.state_trees.specs.RegisterTree.{register_leaf}
 use Rattle.state_trees.specs.InputTree.{input_chunk, input_leaf}
-use Rattle.open_proof.specs.OpenedChunk.{siblings_of, opening_of}
+use Rattle.proof_facts.specs.OpenedChunk.{siblings_of, opening_of}
 use Rattle.proof_facts.specs.PlainProof.{register_siblings, register_opening, input_siblings, input_opening_of}
 
 same-digest : (x y : Digest32) → x.0 ≡ y.0 → x ≡ y

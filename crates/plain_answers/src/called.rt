@@ -2,25 +2,19 @@
 ghost use Rattle.std.specs.Prelude.{◌≡◌, ◌<◌, ◌≤◌, ◌%◌, IfSome};
 ghost use Rattle.rv_step.specs.Alike.{named_at};
 ghost use Rattle.rv_step.specs.Named.{AreRegisters};
-ghost use Rattle.open_proof.specs.OpenedChunk as openings;
+ghost use Rattle.proof_facts.specs.OpenedChunk as openings;
 ghost use Rattle.proof_facts.specs.Facts as facts;
 ghost use Rattle.proof_facts.specs.Shown as shown;
 
 use digest_core::Digester;
 use mem_plain::PlainMem;
-use open_proof::fetch_address;
 use proof_facts::{
-    HeldInput, Names, address_needed, byte_needed, named_by, needed_by, states_name_registers,
+    HeldInput, Names, address_needed, byte_needed, fetch_address, named_by, needed_by,
+    states_name_registers,
 };
 use rv_decode::{Instr, decode};
 use rv_step::Need;
-use state_commit::Committed;
-
-/// The version of the commitment in which the registers are digested as one string.
-pub(crate) const WHOLE_REGISTERS: u8 = 1;
-
-/// The version of the commitment in which the input is a tree.
-pub(crate) const INPUT_TREE: u8 = 3;
+use state_commit::{Committed, INPUT_TREE};
 
 /// The instruction at an address that is a multiple of 4, in memory.
 fn fetched_at(mem: &PlainMem, address: Option<u32>) -> Option<Instr>

@@ -7,9 +7,7 @@
 #![tactic(auto)]
 
 mod called;
-mod claiming;
 mod opening;
 mod proving;
 
-pub use claiming::make_claim;
-pub use proving::make_proof;
+pub use proving::{make_claim, make_proof};

@@ -1,7 +1,7 @@
 //! The openings of a state.
 ghost use Rattle.std.specs.Prelude.{◌≡◌, ◌≢◌, ◌+◌, ◌<◌, ◌≤◌, ◌++◌, length, map, IfSome};
 ghost use Rattle.rv_step.specs.Named.{AreRegisters};
-ghost use Rattle.open_proof.specs.OpenedChunk as memory;
+ghost use Rattle.proof_facts.specs.OpenedChunk as memory;
 ghost use Rattle.proof_facts.specs.PlainProof as parts;
 
 use digest_core::Digester;

@@ -7,8 +7,7 @@ use Rattle.rd_base.specs.declared.opened.RegOpening.{RegOpening}
 use Rattle.merkle_nodes.specs.Node.{digest_at}
 use Rattle.merkle_nodes.specs.Opening.{joined, opened}
 use Rattle.out_chain.specs.Collision.{collides, first_collision}
-use Rattle.open_proof.specs.Opened.{first_there}
-use Rattle.open_proof.specs.Opened.{texts_from}
+use Rattle.proof_facts.specs.Opened.{first_there, texts_from}
 use Rattle.proof_facts.specs.Openings.{register_way, each_way}
 use Rattle.proof_facts.specs.Ways.{Way, way_text, way_texts}
 use Rattle.proof_collision.specs.Collision.{ways_collision}

@@ -3,7 +3,7 @@ use Rattle.std.specs.Prelude.{◌≡◌, ◌≢◌, ℕ, ◌==◌, ◌&&◌, Lis
 use Rattle.rd_base.specs.declared.digest.Digest32.{Digest32}
 use Rattle.out_chain.specs.Root.{control_text_of}
 use Rattle.out_chain.specs.Collision.{first_collision}
-use Rattle.open_proof.specs.Opened.{first_there}
+use Rattle.proof_facts.specs.Opened.{first_there}
 use Rattle.proof_facts.specs.Next.{storage_texts, text_before, root_before}
 use Rattle.proof_facts.specs.Openings.{fetch_ways, named_ways, operand_ways, read_ways}
 use Rattle.proof_facts.specs.Strings.{registers_texts, opened_by_facts}

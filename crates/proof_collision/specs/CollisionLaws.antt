@@ -23,9 +23,8 @@ use Rattle.merkle_nodes.specs.PathLaws.{opens-climbs, one_opening}
 use Rattle.out_chain.specs.Root.{control_text_of}
 use Rattle.out_chain.specs.Collision.{first_collision}
 use Rattle.out_chain.specs.ClaimLaws.{collision-none, collision_of_same, first-collides, contains-head, contains-tail}
-use Rattle.open_proof.specs.Opened.{first_there}
-use Rattle.open_proof.specs.Called.{fetch_address, fetched_in}
-use Rattle.open_proof.specs.Opened.{texts_from}
+use Rattle.proof_facts.specs.Opened.{first_there, texts_from}
+use Rattle.proof_facts.specs.Called.{fetch_address, fetched_in}
 use Rattle.proof_facts.specs.Conditions.{LeadsFrom}
 use Rattle.proof_facts.specs.Facts.{facts_of, fetched, named_called, file_of_facts, needed_of, operand_called, byte_needed, input_called}
 use Rattle.proof_facts.specs.InRange.{is_in_range}

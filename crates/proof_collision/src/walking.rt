@@ -3,7 +3,7 @@ ghost use Rattle.std.specs.Prelude.{◌≡◌, ◌&&◌, ◌+◌, ℕ, List, [],
 ghost use Rattle.merkle_nodes.specs.Node.{digest_at};
 ghost use Rattle.merkle_nodes.specs.Opening.{opened};
 ghost use Rattle.out_chain.specs.Collision.{first_collision};
-ghost use Rattle.open_proof.specs.Opened.{texts_from};
+ghost use Rattle.proof_facts.specs.Opened.{texts_from};
 ghost use Rattle.proof_facts.specs.Openings as openings;
 ghost use Rattle.proof_facts.specs.Ways.{way_texts};
 ghost use Rattle.proof_facts.specs.declared.facts.HeldInput.{HeldInput};

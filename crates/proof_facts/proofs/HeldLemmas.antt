@@ -25,9 +25,9 @@ use Rattle.rv_step.specs.declared.asked.Need.{Need}
 use Rattle.rv_step.specs.declared.asked.Need.TheVariants as need
 use Rattle.state_commit.specs.StateRoot.{ctl_of}
 use Rattle.state_trees.specs.InputTree.{input_root}
-use Rattle.open_proof.specs.Held.{held_of, held_after, number_shown, path_text, chunk_with}
-use Rattle.open_proof.specs.Called.{address_needed, fetch_address, fetched_in}
-use Rattle.open_proof.specs.OpenedChunk.{IsShown, IsShownAt, fetched_at, fetch_of_state}
+use Rattle.proof_facts.specs.Held.{held_of, held_after, number_shown, path_text, chunk_with}
+use Rattle.proof_facts.specs.Called.{address_needed, fetch_address, fetched_in}
+use Rattle.proof_facts.specs.OpenedChunk.{IsShown, IsShownAt, fetched_at, fetch_of_state}
 use Rattle.proof_facts.specs.Facts.{needed_by, byte_needed, byte_in, byte_shown, offering, offer_shown}
 use Rattle.proof_facts.specs.Next.{after_word, step_held}
 use Rattle.proof_facts.specs.Shown.{tree_of, ShowsInput}

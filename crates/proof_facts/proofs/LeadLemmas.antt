@@ -22,9 +22,9 @@ use Rattle.rv_step.specs.declared.asked.Need.{Need}
 use Rattle.state_commit.specs.StateRoot.{ctl_of, memory_digest, registers_digest, storage_digest, root_in}
 use Rattle.state_trees.specs.InputTree.{input_root}
 use Rattle.state_trees.specs.RegisterTree.{registers_root}
-use Rattle.open_proof.specs.Held.{Held, held_of}
-use Rattle.open_proof.specs.Called.{fetch_address, fetched_in, address_needed}
-use Rattle.open_proof.specs.OpenedChunk.{IsShownAt, fetched_at, fetch_of_state}
+use Rattle.proof_facts.specs.Held.{Held, held_of}
+use Rattle.proof_facts.specs.Called.{fetch_address, fetched_in, address_needed}
+use Rattle.proof_facts.specs.OpenedChunk.{IsShownAt, fetched_at, fetch_of_state}
 use Rattle.proof_facts.specs.Facts.{fetched, named_called, file_of, values_of, file_shown, file_of_facts, needed_by, byte_needed, offer_shown}
 use Rattle.proof_facts.specs.Next.{step_held, storage_held, registers_changed, root_changed, held_shown, held_next, root_of_next, root_next}
 use Rattle.proof_facts.specs.Shown.{tree_of, word_of_state, needed_of_state, operand_of_state, input_of_state, AreShown, ShowsRegisters, ShowsInput, ShowsState}

@@ -36,8 +36,8 @@ use Rattle.state_commit.specs.Strings.{IsStringIn}
 use Rattle.state_commit.specs.Strings.IsStringIn.{is_state, is_control, is_memory, is_registers, is_register, is_storage, is_input}
 use Rattle.state_trees.specs.RegisterTree.{register_leaf, register_node, registers_root}
 use Rattle.state_trees.specs.InputTree.{input_chunk, input_leaf, input_node, input_root}
-use Rattle.open_proof.specs.Called.{fetch_address, fetched_in, address_needed}
-use Rattle.open_proof.specs.OpenedChunk.{IsShownAt, opening_at, siblings_of, fetched_at, fetch_of_state}
+use Rattle.proof_facts.specs.Called.{fetch_address, fetched_in, address_needed}
+use Rattle.proof_facts.specs.OpenedChunk.{IsShownAt, opening_at, siblings_of, fetched_at, fetch_of_state}
 use Rattle.proof_facts.specs.Conditions.{AllHold, LeadsFrom, conditions}
 use Rattle.proof_facts.specs.Facts.{facts_of, fetched, named_called, values_of, file_of, file_shown, file_of_facts, needed_by, needed_of, operand_called, byte_needed, input_called, offering}
 use Rattle.proof_facts.specs.InRange.{is_in_range}

@@ -21,8 +21,8 @@ use Rattle.mem_tree.specs.Memory.{memory_leaf, memory_node}
 use Rattle.rv_step.specs.Named.{AreRegisters}
 use Rattle.state_trees.specs.RegisterTree.{register_leaf, registers_root}
 use Rattle.state_trees.specs.InputTree.{input_leaf, input_root}
-use Rattle.open_proof.specs.Opened.{texts_from}
-use Rattle.open_proof.specs.OpenedChunk.{IsShownAt}
+use Rattle.proof_facts.specs.Opened.{texts_from}
+use Rattle.proof_facts.specs.OpenedChunk.{IsShownAt}
 use Rattle.proof_facts.specs.LawsBelow.{TreeLaws}
 use Rattle.proof_facts.specs.Openings.{chunk_way, chunk_ways, register_way, each_way, input_way, input_ways}
 use Rattle.proof_facts.specs.RangeLaws.{IsPathOf, ChunkRange, InputRange, EachRange}

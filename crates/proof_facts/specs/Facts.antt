@@ -12,7 +12,7 @@ use Rattle.rv_step.specs.Offer.{offered}
 use Rattle.rv_step.specs.Parts.{needed_in}
 use Rattle.rv_step.specs.declared.asked.Need.{Need}
 use Rattle.rv_step.specs.declared.asked.Need.TheVariants as need
-use Rattle.open_proof.specs.Called.{fetch_address, fetched_in, address_needed}
+use Rattle.proof_facts.specs.Called.{fetch_address, fetched_in, address_needed}
 use Rattle.proof_facts.specs.declared.facts.Facts.{Facts}
 use Rattle.proof_facts.specs.declared.facts.HeldInput.{HeldInput}
 use Rattle.proof_facts.specs.declared.facts.HeldRegisters.{HeldRegisters}

@@ -1,3 +1,7 @@
+pub mod Held
+pub mod Called
+pub mod Opened
+pub mod OpenedChunk
 pub mod Ways
 pub mod Facts
 pub mod Openings

@@ -15,7 +15,7 @@ use Rattle.out_chain.specs.Root.{parts_text}
 use Rattle.rv_step.specs.Effect.{effect_with}
 use Rattle.rv_step.specs.Codes.{misaligned_jump, illegal_instruction}
 use Rattle.rv_step.specs.declared.effect.Effect.TheVariants.{Trap}
-use Rattle.open_proof.specs.Held.{Held, held_after, number_shown}
+use Rattle.proof_facts.specs.Held.{Held, held_after, number_shown}
 use Rattle.proof_facts.specs.Facts.{named_called, file_of_facts, offer_shown}
 use Rattle.proof_facts.specs.declared.facts.Facts.{Facts}
 use Rattle.proof_facts.specs.declared.facts.HeldInput.{HeldInput}

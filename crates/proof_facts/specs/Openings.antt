@@ -4,7 +4,7 @@ use Rattle.rd_base.specs.declared.opened.InOpening.{InOpening}
 use Rattle.rd_base.specs.declared.opened.Opening.{Opening}
 use Rattle.rd_base.specs.declared.opened.RegOpening.{RegOpening}
 use Rattle.digest_core.specs.Text.{leaf_text, register_text}
-use Rattle.open_proof.specs.Called.{fetch_address}
+use Rattle.proof_facts.specs.Called.{fetch_address}
 use Rattle.proof_facts.specs.Facts.{named_called, operand_called, input_called}
 use Rattle.proof_facts.specs.Ways.{Way}
 use Rattle.proof_facts.specs.declared.facts.Facts.{Facts}

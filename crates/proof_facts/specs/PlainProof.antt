@@ -15,7 +15,7 @@ use Rattle.rv_step.specs.State.{State}
 use Rattle.state_commit.specs.StateRoot.{ctl_of, memory_digest}
 use Rattle.state_trees.specs.RegisterTree.{register_node, registers_root}
 use Rattle.state_trees.specs.InputTree.{input_chunk, input_node, input_root}
-use Rattle.open_proof.specs.OpenedChunk.{opening_at, fetch_of_state}
+use Rattle.proof_facts.specs.OpenedChunk.{opening_at, fetch_of_state}
 use Rattle.proof_facts.specs.Shown.{operand_of_state, input_of_state}
 
 -- the path of a register: the node beside it at each of the levels 0 to 4

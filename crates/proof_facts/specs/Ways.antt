@@ -3,7 +3,7 @@ use Rattle.std.specs.Prelude.{ℕ, ◌+◌, ◌&&◌, List, [], ◌∷◌, ◌++
 use Rattle.rd_base.specs.declared.digest.Digest32.{Digest32}
 use Rattle.merkle_nodes.specs.Node.{digest_at}
 use Rattle.merkle_nodes.specs.Opening.{Opens, opened}
-use Rattle.open_proof.specs.Opened.{texts_from}
+use Rattle.proof_facts.specs.Opened.{texts_from}
 
 -- the string of a leaf, its index, the siblings of its path, how many levels the tree has, and the root that it is to open
 pub record Way : Type 0 where

@@ -3,9 +3,9 @@
 //! The three versions have one set of definitions here: `Facts` is made of any proof, and everything above speaks of it alone. A
 //! proof's conditions are a list in their order, each with the refusal that it is (`specs/Conditions.antt`); what it opens are ways up
 //! to the roots of trees (`specs/Openings.antt`), of which one walk of any number of levels serves memory, registers and input. The
-//! layers above may rely on this: the step on what is held depends on the opened parts alone and is the step of the machine
-//! (`shown_states_lead`); each proof that a program holds is in the ranges of its types (`proofs_are_in_range`). No call takes memory.
-//! Read `specs/Facts.antt`, `specs/Next.antt` and `specs/Conditions.antt`, then `laws`.
+//! layers above may rely on this: a state that is seen from what a proof holds of it (`specs/Held.antt`) takes a step that depends on the
+//! opened parts alone and is the step of the machine (`shown_states_lead`); each proof that a program holds is in the ranges of its types (`proofs_are_in_range`). No call takes memory.
+//! Read `specs/Held.antt`, `specs/Facts.antt`, `specs/Next.antt` and `specs/Conditions.antt`, then `laws`.
 #![tactic(auto)]
 
 mod called;
@@ -14,7 +14,10 @@ mod laws;
 mod names;
 mod ranges;
 
-pub use called::{Called, address_needed, byte_needed, called_by, file_shown, needed_by, offering};
+pub use called::{
+    Called, address_needed, byte_needed, called_by, fetch_address, fetched_in, file_shown, needed_by,
+    number_shown, offering,
+};
 pub use facts::{Facts, HeldInput, HeldRegisters, facts_of};
 pub use laws::{
     plain_proofs_lead, proofs_lead_to_the_next_state, shown_states_lead, states_name_registers,

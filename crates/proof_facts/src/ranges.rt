@@ -1,7 +1,6 @@
 //! What the fields of a proof are by their types.
 ghost use Rattle.std.specs.Prelude.{◌≡◌, true, length};
-ghost use Rattle.open_proof.specs.InRange.{are_digests, are_words, is_ctl_in_range, is_opening_in_range};
-ghost use Rattle.proof_facts.specs.InRange.{are_facts_in_range, are_openings_in_range, are_registers_in_range, is_in_range, is_input_in_range, is_tree_in_range};
+ghost use Rattle.proof_facts.specs.InRange.{are_digests, are_facts_in_range, are_openings_in_range, are_registers_in_range, are_words, is_ctl_in_range, is_in_range, is_input_in_range, is_opening_in_range, is_tree_in_range};
 
 use crate::facts::{Facts, HeldInput, HeldRegisters, facts_of};
 use digest_core::{codes_fit, digests_are_32_bytes};
@@ -18,7 +17,7 @@ fn ctls_are_in_range(ctl: &Ctl)
 }
 
 /// Registers hold words.
-#[tactic(auto, using(open_proof::specs::RangeLaws::words_are))]
+#[tactic(auto, using(crate::specs::RangeLaws::words_are))]
 fn files_are_in_range(regs: &Regs)
     ensures count { length regs.now ≡ 32 }
     ensures words { are_words regs.now ≡ true }

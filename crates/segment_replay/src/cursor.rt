@@ -16,7 +16,7 @@ use mem_plain::PlainMem;
 use mem_tree::MemTree;
 use rd_base::{Digest32, Memory};
 use rv_step::Machine;
-use state_commit::{KeptRegisters, root_of_parts};
+use state_commit::{INPUT_TREE, KeptRegisters, root_of_parts};
 use state_trees::input_root;
 use std::alloc::Global;
 use std::thread::Threads;
@@ -29,9 +29,6 @@ const STEPS_WORTH_A_CHECKPOINT: u64 = 16_384;
 /// pages are in use. A machine that is put together from a checkpoint copies each page in use, and its tree compares the page's 128
 /// chunks with those that it keeps. What has changed is digested either way.
 const STEPS_WORTH_A_PAGE: u64 = 1_024;
-
-/// The version of the commitment in which the input is a tree.
-const INPUT_TREE: u8 = 3;
 
 /// A machine of a run, at which step it is, and the tree of its memory.
 #[derive(Drop)]

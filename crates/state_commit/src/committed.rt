@@ -1,17 +1,45 @@
-ghost use Rattle.std.specs.Prelude.{◌≡◌, ◌≢◌, ◌<◌, ◌==◌, ◌^◌, IfOk, true, false};
+ghost use Rattle.std.specs.Prelude.{◌≡◌, ◌≢◌, ℕ, ◌<◌, ◌==◌, ◌/◌, ◌^◌, [], Some, IfOk, OnOk, IfSome, true, false};
+ghost use Rattle.mem_plain.specs.Contents.{Contents, byte_at};
+ghost use Rattle.mem_tree.specs.Tree.{IsTreeOf};
 ghost use Rattle.rv_step.specs.State.{state_of};
 ghost use Rattle.state_commit.specs.Committing.{HasTreeFor, HasRegisters, HasInput};
 
-use crate::kept_memory::KeptMemory;
 use crate::root::{WHOLE_REGISTERS, root_of_parts};
 use crate::shared_input::SharedInput;
 use digest_core::{Digester, registers_text};
+use mem_plain::PlainMem;
+use mem_tree::MemTree;
 use rd_base::{Digest32, InPath, Memory, Path, RegPath};
-use rv_step::{Machine, runs_keep_the_input};
+use rv_step::{Machine, one_page_changes, runs_keep_the_input, step, touches};
 use state_trees::RegTree;
 use std::alloc::Global;
 use std::marker::Model;
 use std::thread::Threads;
+
+/// Brings a tree up to a memory that differs from the tree's in one page at most. An `Err` is out of memory.
+fn follow<D: Digester>(
+    tree: &mut MemTree<D>,
+    page: Option<u32>,
+    mem: &PlainMem,
+) -> Result<(), Memory>
+    requires untouched { tree.old.touched ≡ [] }
+    requires page { IfSome page (λ p. p < 2 ^ 20) }
+    ensures untouched { OnOk result (tree.new.touched ≡ []) }
+    ensures tree { OnOk result ((m : Contents) → IsTreeOf D.digest_of tree.old m →
+        ((a : ℕ) → page ≢ Some (a / 4096) → byte_at m a ≡ byte_at mem.now a) → IsTreeOf D.digest_of tree.new mem.now) }
+{
+    match page {
+        Some(page) => {
+            tree.touch(page)?;
+            tree.refresh(mem)?;
+            Ok(())
+        }
+        None => {
+            tree.refresh(mem)?;
+            Ok(())
+        }
+    }
+}
 
 /// The tree of a machine's registers, where its version has one.
 fn registers_of<D: Digester>(d: D, machine: &Machine) -> Option<RegTree<D>>
@@ -45,23 +73,24 @@ fn registers_after<D: Digester>(tree: Option<RegTree<D>>, machine: &Machine) -> 
 #[derive(Drop)]
 pub struct Committed<D: Digester> {
     d: D,
-    kept: KeptMemory<D>,
+    machine: Machine,
+    memory: MemTree<D>,
     regs: Option<RegTree<D>>,
     input: SharedInput<D>,
 }
 
 impl<D: Digester> Model for Committed<D> {
-    ghost use Rattle.rv_step.specs.State.{State};
+    ghost use Rattle.rv_step.specs.State.{State, state_of};
     ghost use Rattle.rv_step.specs.StateCode.{state_code};
-    ghost use Rattle.state_commit.specs.Committing.{HasRegisters, HasInput};
+    ghost use Rattle.state_commit.specs.Committing.{IsCommitted, HasRegisters, HasInput};
 
     ghost Value = { State };
 
     ghost coded = { state_code };
 
-    ghost view = { λ c. c.kept };
+    ghost view = { λ c. state_of c.machine };
 
-    ghost invariant = { λ c. HasRegisters c.kept c.regs × HasInput D.digest_of c.kept c.input };
+    ghost invariant = { λ c. IsCommitted D.digest_of c.machine c.memory × HasRegisters (state_of c.machine) c.regs × HasInput D.digest_of (state_of c.machine) c.input };
 }
 
 impl<D: Digester> Committed<D> {
@@ -106,10 +135,11 @@ impl<D: Digester> Committed<D> {
         ensures { IfOk result (λ c. c ≡ state_of machine) }
     {
         let regs = registers_of(d, &machine);
-        let kept = KeptMemory::new(rt, alloc, d, machine)?;
+        let memory = MemTree::build(rt, alloc, d, &machine.mem)?;
         Ok(Committed {
             d,
-            kept,
+            machine,
+            memory,
             regs,
             input,
         })
@@ -122,16 +152,23 @@ impl<D: Digester> Committed<D> {
     {
         let Committed {
             d,
-            kept,
+            machine,
+            memory,
             regs,
             input,
         } = self;
+        let mut machine = machine;
+        let mut memory = memory;
         runs_keep_the_input();
-        let kept = kept.step()?;
-        let regs = registers_after(regs, kept.machine());
+        one_page_changes();
+        let page = touches(&machine);
+        step(&mut machine, &d)?;
+        follow(&mut memory, page, &machine.mem)?;
+        let regs = registers_after(regs, &machine);
         Ok(Committed {
             d,
-            kept,
+            machine,
+            memory,
             regs,
             input,
         })
@@ -142,14 +179,14 @@ impl<D: Digester> Committed<D> {
         ensures state { state_of result.now ≡ self.now }
         ensures chained { IsChained D.digest_of result.now }
     {
-        self.kept.machine()
+        &self.machine
     }
 
     /// The root of the machine's memory.
     pub fn memory_root(&self) -> Digest32
         ensures { result.0 ≡ memory_digest D.digest_of self.now }
     {
-        self.kept.memory_digest()
+        self.memory.root()
     }
 
     /// The digest of the machine's registers in its version.
@@ -160,7 +197,7 @@ impl<D: Digester> Committed<D> {
             Some(tree) => tree.root(),
             None => self
                 .d
-                .digest(registers_text(&self.kept.machine().regs).as_slice()),
+                .digest(registers_text(&self.machine.regs).as_slice()),
         }
     }
 
@@ -175,14 +212,13 @@ impl<D: Digester> Committed<D> {
     pub fn root(&self) -> Digest32
         ensures { result.0 ≡ root_in D.digest_of self.now.version self.now }
     {
-        let machine = self.kept.machine();
         root_of_parts(
             self.d,
-            machine.version,
+            self.machine.version,
             self.memory_root(),
             self.registers_digest(),
             self.input_root(),
-            machine,
+            &self.machine,
         )
     }
 
@@ -191,7 +227,7 @@ impl<D: Digester> Committed<D> {
         requires { chunk < 2 ^ 27 }
         ensures { IsPath D.digest_of (memory_leaf self.now.memory) 27 chunk result.0 }
     {
-        self.kept.path(chunk)
+        self.memory.path(chunk)
     }
 
     /// The path of a register, from `x0` to `x31`, where the version is above 1.

@@ -10,7 +10,6 @@
 #![tactic(auto)]
 
 mod committed;
-mod kept_memory;
 mod kept_registers;
 mod root;
 mod scratch;
@@ -18,5 +17,7 @@ mod shared_input;
 
 pub use committed::Committed;
 pub use kept_registers::KeptRegisters;
-pub use root::{registers_digest, root_of_parts, state_root_in, state_root_with};
+pub use root::{
+    INPUT_TREE, WHOLE_REGISTERS, registers_digest, root_of_parts, state_root_in, state_root_with,
+};
 pub use shared_input::{SharedInput, one_input_has_one_tree};

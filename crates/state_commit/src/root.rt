@@ -15,10 +15,10 @@ use rv_step::Machine;
 use state_trees::{RegTree, input_root};
 
 /// The version of the commitment in which the registers are digested as one string.
-pub(crate) const WHOLE_REGISTERS: u8 = 1;
+pub const WHOLE_REGISTERS: u8 = 1;
 
 /// The version of the commitment in which the input is a tree.
-pub(crate) const INPUT_TREE: u8 = 3;
+pub const INPUT_TREE: u8 = 3;
 
 /// The digest of registers in a version of the commitment, from scratch: that of their string in version 1, and from version 2 on
 /// the root of their tree.

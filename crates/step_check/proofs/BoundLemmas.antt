@@ -18,8 +18,8 @@ use Rattle.rv_step.specs.Step.{regs_after}
 use Rattle.rv_step.specs.declared.asked.Need.TheVariants as need
 use Rattle.rv_step.specs.declared.effect.Effect.{Effect}
 use Rattle.rv_step.specs.declared.effect.Effect.TheVariants.{Write, Jump, Branch, Next, Store, Put, Exit, Trap}
-use Rattle.open_proof.specs.Held.{Held, held_after, number_shown}
-use Rattle.open_proof.specs.Called.{address_needed, fetch_address}
+use Rattle.proof_facts.specs.Held.{Held, held_after, number_shown}
+use Rattle.proof_facts.specs.Called.{address_needed, fetch_address}
 use Rattle.proof_facts.specs.Facts.{facts_of, fetched, named_called, file_of_facts, needed_by, operand_called, byte_needed, input_called, offering, offer_shown}
 use Rattle.proof_facts.specs.Next.{after_word, step_held, held_shown}
 use Rattle.proof_facts.specs.Openings.{chunk_ways, each_way, input_ways}

@@ -2,7 +2,7 @@
 use Rattle.std.specs.Prelude.{ℕ}
 use Rattle.rv_step.specs.declared.effect.Effect.{Effect}
 use Rattle.rv_step.specs.declared.effect.Effect.TheVariants.{Put}
-use Rattle.open_proof.specs.Held.{Held}
+use Rattle.proof_facts.specs.Held.{Held}
 use Rattle.step_check.specs.declared.carrying.Parts.{Parts}
 
 abbrev pub held_in : Parts → Held

@@ -1,20 +1,20 @@
 //! The step on the parts that a proof opens.
 ghost use Rattle.std.specs.Prelude.{◌≡◌, ◌+◌, ◌*◌, ◌%◌, ◌≤◌, ℕ, List, Option, None};
 ghost use Rattle.rd_base.specs.declared.opened.Opening.{Opening};
+ghost use Rattle.mem_plain.specs.Page.{with_number_in};
 ghost use Rattle.rv_step.specs.Effect.{effect_with};
 ghost use Rattle.rv_step.specs.Parts.{finished};
 ghost use Rattle.rv_step.specs.declared.effect.Effect.TheVariants as effects;
-ghost use Rattle.open_proof.specs.Held.{held_after, mem_after, number_shown as shown};
+ghost use Rattle.proof_facts.specs.Held.{held_after, mem_after, number_shown as shown};
 ghost use Rattle.proof_facts.specs.Facts as facts;
 ghost use Rattle.proof_facts.specs.Next.{step_held};
 ghost use Rattle.step_check.specs.HeldParts.{held_in, links_of_effect};
 ghost use Rattle.step_check.specs.Ticks.{chunk_count, digests_of_effect, digests_on};
 
-use crate::chunk::{number_shown, with_number};
 use crate::opening::climb_chunk;
 use digest_core::{Digester, link_text};
 use merkle_nodes::digest_counted;
-use proof_facts::{HeldInput, offering};
+use proof_facts::{HeldInput, number_shown, offering};
 use rd_base::{Ctl, Digest32, InOpening, Opening, Regs, Status, Steps};
 use rv_decode::{Instr, decode};
 use rv_step::{Need, Outcome, finish, need, two_parts_are_the_step};
@@ -77,6 +77,20 @@ fn finish_on<D: Digester, L: Ledger>(
         regs,
         ctl,
     }
+}
+
+/// The chunk with the low `width` bytes of a value from a place on, the least byte first.
+fn with_number(chunk: [u8; 32], at: usize, width: u8, value: u32) -> [u8; 32]
+    requires { at + width ≤ 32 }
+    ensures { result ≡ with_number_in chunk at width value }
+{
+    let mut bytes = chunk;
+    let mut rest = value;
+    'bytes: for k in 0..width {
+        bytes[at + k as usize] = (rest % 256) as u8;
+        rest /= 256;
+    }
+    bytes
 }
 
 /// The root of memory after a number was stored: its chunk, changed, climbed with the same siblings, by 28 digests. It

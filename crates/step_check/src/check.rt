@@ -14,8 +14,10 @@ use crate::opening::{
     registers_held, root_of, same_digest, storage_held,
 };
 use digest_core::Digester;
-use open_proof::{fetch_address, fetched_in};
-use proof_facts::{Facts, address_needed, byte_needed, facts_of, file_shown, named_by, needed_by};
+use proof_facts::{
+    Facts, address_needed, byte_needed, facts_of, fetch_address, fetched_in, file_shown, named_by,
+    needed_by,
+};
 use rd_base::{Digest32, Proof, Regs, Steps};
 use std::sync::ledger::Ledger;
 

@@ -8,7 +8,6 @@
 
 mod carrying;
 mod check;
-mod chunk;
 mod laws;
 mod opening;
 

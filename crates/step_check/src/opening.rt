@@ -5,7 +5,7 @@ ghost use Rattle.merkle_nodes.specs.Node.{digest_at};
 ghost use Rattle.merkle_nodes.specs.Opening.{opened};
 ghost use Rattle.out_chain.specs.Root as roots;
 ghost use Rattle.rv_step.specs.Named.{AreRegisters};
-ghost use Rattle.open_proof.specs.Held.{path_text};
+ghost use Rattle.proof_facts.specs.Held.{path_text};
 ghost use Rattle.proof_facts.specs.Next as next;
 ghost use Rattle.proof_facts.specs.Openings as openings;
 ghost use Rattle.proof_facts.specs.Ways as ways;

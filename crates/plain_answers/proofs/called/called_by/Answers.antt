@@ -1,6 +1,6 @@
 use Rattle.std.proofs.Common.{◌<◌, ℕ, Option, IfSome, ap, ◌∙◌, sym, subst}
 use Rattle.rv_step.specs.Named.{named_by}
-use Rattle.open_proof.specs.Called.{address_needed}
+use Rattle.proof_facts.specs.Called.{address_needed}
 use Rattle.proof_facts.specs.Facts.{byte_needed}
 use Rattle.proof_facts.specs.Shown.{tree_of}
 use Rattle.proof_facts.specs.declared.facts.HeldInput.{HeldInput}

@@ -1,6 +1,6 @@
 use Rattle.std.proofs.Common.{ap, ◌∙◌}
 use Rattle.rv_step.specs.State.{State}
-use Rattle.open_proof.specs.OpenedChunk.{fetched_at}
+use Rattle.proof_facts.specs.OpenedChunk.{fetched_at}
 use Rattle.plain_answers.proofs.called.word_of.Goals as goal
 
 pub returns : goal.returns

@@ -1,7 +1,7 @@
 use Rattle.std.proofs.Common.{ap, ◌∙◌}
 use Rattle.rd_base.specs.declared.proof.StepProof.{StepProof}
 use Rattle.rv_step.specs.State.{State}
-use Rattle.open_proof.specs.OpenedChunk.{opening_at}
+use Rattle.proof_facts.specs.OpenedChunk.{opening_at}
 use Rattle.plain_answers.proofs.WholeLemmas.{whole-1}
 use Rattle.plain_answers.proofs.proving.proof_1.Goals as goal
 

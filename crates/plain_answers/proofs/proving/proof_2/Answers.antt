@@ -1,6 +1,6 @@
 use Rattle.std.proofs.Common.{◌≢◌, ℕ, List, map, ap, ◌∙◌, arith}
 use Rattle.rd_base.specs.declared.proof.StepProof2.{StepProof2}
-use Rattle.open_proof.specs.OpenedChunk.{opening_at}
+use Rattle.proof_facts.specs.OpenedChunk.{opening_at}
 use Rattle.proof_facts.specs.PlainProof.{register_opening}
 use Rattle.plain_answers.proofs.WholeLemmas.{tree-digest, whole-2}
 use Rattle.plain_answers.proofs.proving.proof_2.Goals as goal

@@ -1,5 +1,5 @@
 use Rattle.std.proofs.Common.{◌≡◌, ◌∙◌}
-use Rattle.open_proof.specs.Called.{fetch_address}
+use Rattle.proof_facts.specs.Called.{fetch_address}
 use Rattle.proof_facts.specs.Facts.{named_called, operand_called, input_called}
 use Rattle.proof_facts.specs.Openings.{chunk_ways, register_ways, input_ways, fetch_ways, named_ways, operand_ways, read_ways}
 use Rattle.proof_collision.specs.Collision.{ways_collision}

@@ -2,7 +2,7 @@ use Rattle.std.proofs.Common.{◌≡◌, ℕ, List, ◌+◌, ◌-◌, ◌/◌, [
 use Rattle.merkle_nodes.specs.Node.{digest_at}
 use Rattle.merkle_nodes.specs.Opening.{opened}
 use Rattle.out_chain.specs.Collision.{collides, first_collision}
-use Rattle.open_proof.specs.Opened.{texts_from}
+use Rattle.proof_facts.specs.Opened.{texts_from}
 use Rattle.proof_collision.proofs.CodeLemmas.{collides-code, collision-first, collision-later, collision-from, collision-last, text-first, text-next, place-first, place-next}
 use Rattle.proof_collision.proofs.walking.path_collision.Goals as goal
 

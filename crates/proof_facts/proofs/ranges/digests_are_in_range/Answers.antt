@@ -1,5 +1,5 @@
 use Rattle.std.proofs.Common.{arith}
-use Rattle.open_proof.specs.RangeLaws.{digests_are}
+use Rattle.proof_facts.specs.RangeLaws.{digests_are}
 use Rattle.proof_facts.proofs.ranges.digests_are_in_range.Goals as goal
 
 pub returns : goal.returns

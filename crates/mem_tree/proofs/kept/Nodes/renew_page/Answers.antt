@@ -82,36 +82,46 @@ pub returns-clause-whole : goal.returns-clause-whole
 returns-clause-whole g c = λ before.
     let page = c.args.page in
     let old = kept_of c.args.self.now in
-    let new = kept_of c.put_back.new.self in
-    let here = c.in_ok-put_back.ensures.here in
+    let new = kept_of c.put_page.new.self in
+    let here = c.in_ok-put_page.ensures.here in
     let was = c.take_page-before.ensures.taken in
-    back-joined g.D.Digester.digest_of old new page (c.put_back.ensures.empties ∙ c.take_page-before.ensures.empties)
-    (λ n k. upper-same c.put_back.new.self c.take_page-before.new.self c.put_back.ensures.upper n k ∙ upper-same c.take_page-before.new.self c.args.self.now c.take_page-before.ensures.upper n k)
-    (λ p apart. c.put_back.ensures.elsewhere p apart ∙ c.take_page-before.ensures.elsewhere p apart)
+    back-joined g.D.Digester.digest_of old new page (c.put_page.ensures.empties ∙ c.take_page-before.ensures.empties)
+    (λ n k. upper-same c.put_page.new.self c.take_page-before.new.self c.put_page.ensures.upper n k ∙ upper-same c.take_page-before.new.self c.args.self.now c.take_page-before.ensures.upper n k)
+    (λ p apart. c.put_page.ensures.elsewhere p apart ∙ c.take_page-before.ensures.elsewhere p apart)
     (λ empty. ap (λ (o : Option PageTree). heap_node o 1 empty) here ∙ (c.in_ok-tree.ensures.same c.if-changed.false empty ∙ ap (λ (o : Option PageTree). heap_node o 1 empty) was))
     (ap (λ (o : Option PageTree). is_some o) here ∙ (c.in_ok-tree.ensures.there c.if-changed.false ∙ ap (λ (o : Option PageTree). is_some o) was))
     before
 
-pub returns-in_err-put_back-clause-made : goal.returns-in_err-put_back-clause-made
-returns-in_err-put_back-clause-made g c =
+pub returns-in_err-put_page-clause-made : goal.returns-in_err-put_page-clause-made
+returns-in_err-put_page-clause-made g c =
     let digest = g.D.Digester.digest_of in
-    c.put_back.ensures.made digest (made-put digest (kept_of c.args.self.now) (kept_of c.take_page-before.new.self) c.args.page c.take_page-before.ensures.empties c.take_page-before.ensures.elsewhere
-    (λ n k apart. upper-same c.take_page-before.new.self c.args.self.now c.take_page-before.ensures.upper n k) (subst (IsMadeTree digest) (sym c.take_page-before.ensures.here) tt) c.requires.made) c.in_ok-tree.ensures.tree.made
+    made-put digest (kept_of c.take_page-before.new.self) (kept_of c.put_page.new.self) c.args.page c.put_page.ensures.empties c.put_page.ensures.elsewhere
+    (λ n k apart. upper-same c.put_page.new.self c.take_page-before.new.self c.put_page.ensures.upper n k) (subst (IsMadeTree digest) (sym (c.in_err-put_page.ensures.err ∙ c.take_page-before.ensures.here)) tt)
+    (made-put digest (kept_of c.args.self.now) (kept_of c.take_page-before.new.self) c.args.page c.take_page-before.ensures.empties c.take_page-before.ensures.elsewhere
+    (λ n k apart. upper-same c.take_page-before.new.self c.args.self.now c.take_page-before.ensures.upper n k) (subst (IsMadeTree digest) (sym c.take_page-before.ensures.here) tt) c.requires.made)
 
-pub returns-in_err-put_back-clause-kept : goal.returns-in_err-put_back-clause-kept
-returns-in_err-put_back-clause-kept g c = λ stale before is.
-    c.put_back.ensures.kept g.D.Digester.digest_of stale (stays-joined g.D.Digester.digest_of (kept_of c.args.self.now) (kept_of c.take_page-before.new.self) c.args.page c.take_page-before.ensures.empties c.take_page-before.ensures.elsewhere
+pub returns-in_err-put_page-clause-kept : goal.returns-in_err-put_page-clause-kept
+returns-in_err-put_page-clause-kept g c = λ stale before is.
+    let digest = g.D.Digester.digest_of in
+    stays-joined digest (kept_of c.take_page-before.new.self) (kept_of c.put_page.new.self) c.args.page c.put_page.ensures.empties c.put_page.ensures.elsewhere
+    (λ n k apart. upper-same c.put_page.new.self c.take_page-before.new.self c.put_page.ensures.upper n k) stale
+    (stays-joined digest (kept_of c.args.self.now) (kept_of c.take_page-before.new.self) c.args.page c.take_page-before.ensures.empties c.take_page-before.ensures.elsewhere
     (λ n k apart. upper-same c.take_page-before.new.self c.args.self.now c.take_page-before.ensures.upper n k) stale before is) is
 
 pub returns-clause-made : goal.returns-clause-made
 returns-clause-made g c =
     let digest = g.D.Digester.digest_of in
-    c.put_back.ensures.made digest (made-put digest (kept_of c.args.self.now) (kept_of c.take_page-before.new.self) c.args.page c.take_page-before.ensures.empties c.take_page-before.ensures.elsewhere
-    (λ n k apart. upper-same c.take_page-before.new.self c.args.self.now c.take_page-before.ensures.upper n k) (subst (IsMadeTree digest) (sym c.take_page-before.ensures.here) tt) c.requires.made) c.in_ok-tree.ensures.tree.made
+    made-put digest (kept_of c.take_page-before.new.self) (kept_of c.put_page.new.self) c.args.page c.put_page.ensures.empties c.put_page.ensures.elsewhere
+    (λ n k apart. upper-same c.put_page.new.self c.take_page-before.new.self c.put_page.ensures.upper n k) (subst (IsMadeTree digest) (sym c.in_ok-put_page.ensures.here) c.in_ok-tree.ensures.tree.made)
+    (made-put digest (kept_of c.args.self.now) (kept_of c.take_page-before.new.self) c.args.page c.take_page-before.ensures.empties c.take_page-before.ensures.elsewhere
+    (λ n k apart. upper-same c.take_page-before.new.self c.args.self.now c.take_page-before.ensures.upper n k) (subst (IsMadeTree digest) (sym c.take_page-before.ensures.here) tt) c.requires.made)
 
 pub returns-clause-kept : goal.returns-clause-kept
 returns-clause-kept g c = λ stale before is.
-    c.put_back.ensures.kept g.D.Digester.digest_of stale (stays-joined g.D.Digester.digest_of (kept_of c.args.self.now) (kept_of c.take_page-before.new.self) c.args.page c.take_page-before.ensures.empties c.take_page-before.ensures.elsewhere
+    let digest = g.D.Digester.digest_of in
+    stays-joined digest (kept_of c.take_page-before.new.self) (kept_of c.put_page.new.self) c.args.page c.put_page.ensures.empties c.put_page.ensures.elsewhere
+    (λ n k apart. upper-same c.put_page.new.self c.take_page-before.new.self c.put_page.ensures.upper n k) stale
+    (stays-joined digest (kept_of c.args.self.now) (kept_of c.take_page-before.new.self) c.args.page c.take_page-before.ensures.empties c.take_page-before.ensures.elsewhere
     (λ n k apart. upper-same c.take_page-before.new.self c.args.self.now c.take_page-before.ensures.upper n k) stale before is) is
 
 pub returns-clause-least : goal.returns-clause-least

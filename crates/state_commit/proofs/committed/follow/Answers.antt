@@ -1,7 +1,7 @@
 use Rattle.std.proofs.Common.{◌/◌, true≢false, sym, ap, ◌∙◌}
 use Rattle.mem_tree.specs.Tree.{is_among}
 use Rattle.state_commit.proofs.StateLemmas.{none-named, same-named}
-use Rattle.state_commit.proofs.kept_memory.follow.Goals as goal
+use Rattle.state_commit.proofs.committed.follow.Goals as goal
 
 pub returns-in_ok-refresh-in-Some-clause-tree : goal.returns-in_ok-refresh-in-Some-clause-tree
 returns-in_ok-refresh-in-Some-clause-tree g c = λ m tree same.

@@ -7,7 +7,7 @@ use Rattle.rv_decode.specs.Reading.{reading_of}
 use Rattle.rv_decode.specs.declared.instr.Instr.{Instr}
 use Rattle.rv_step.specs.declared.asked.Need.{Need}
 use Rattle.rv_step.specs.declared.asked.Need.TheVariants as need
-use Rattle.open_proof.specs.Held.{number_shown}
+use Rattle.proof_facts.specs.Held.{number_shown}
 
 -- the address of the word that is fetched: pc, where the machine is running and pc is a multiple of 4
 abbrev pub fetch_address : Ctl → Option ℕ

@@ -1,6 +1,6 @@
 use Rattle.std.proofs.Common.{◌≡◌, ◌+◌, ◌-◌, suc, ◌%◌, ◌/◌, set, arith, add_assoc, sym, ap, ◌∙◌}
 use Rattle.mem_plain.specs.Page.{with_number_in}
-use Rattle.step_check.proofs.chunk.with_number.Goals as goal
+use Rattle.step_check.proofs.carrying.with_number.Goals as goal
 
 pub bytes-preserved : goal.bytes-preserved
 bytes-preserved c =

@@ -1,6 +1,6 @@
 use Rattle.std.proofs.Common.{◌≡◌, ◌+◌, ◌-◌}
 use Rattle.mem_plain.specs.Page.{with_number_in}
-use Rattle.step_check.proofs.chunk.with_number.Given as goal
+use Rattle.step_check.proofs.carrying.with_number.Given as goal
 
 -- the bytes that are left, written over those so far, give the whole
 abbrev pub invariant-bytes : goal.invariant-bytes
