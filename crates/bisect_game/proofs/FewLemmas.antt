@@ -3,13 +3,13 @@ use Rattle.std.proofs.Common.{◌≡◌, ℕ, zero, suc, ◌+◌, ◌-◌, ◌*�
 use Rattle.std.proofs.lemmas.Bool.Decides.{nat_tests}
 use Rattle.std.proofs.Math.Nat.{mul-le-mul_left, pow-succ', pow-le-pow_left}
 use Rattle.std.proofs.Math.Pow.{pow_mono}
-use Rattle.bisect_game.specs.declared.interval.Interval.{Interval}
-use Rattle.bisect_game.specs.declared.interval.Round.{Round}
+use Rattle.bisect_game.specs.declared.settled.Interval.{Interval}
+use Rattle.bisect_game.specs.declared.settled.Round.{Round}
 use Rattle.bisect_game.specs.declared.settled.Settled.{Settled}
 use Rattle.bisect_game.specs.declared.settled.Close.{Close}
 use Rattle.rd_base.specs.declared.digest.Digest32.{Digest32}
-use Rattle.bisect_game.specs.declared.side.Side.{Side}
-use Rattle.bisect_game.specs.declared.side.Side.TheVariants.{First, Second}
+use Rattle.bisect_game.specs.declared.settled.Side.{Side}
+use Rattle.bisect_game.specs.declared.settled.Side.TheVariants.{First, Second}
 use Rattle.bisect_game.proofs.CutLemmas.{either, tight}
 use Rattle.bisect_game.proofs.RoundLemmas.{close_of-none}
 use Rattle.bisect_game.specs.Bisection.{Bisection, rounds_of, proof_rounds_in, cut, kept_part, kept, parts_of, went_on, closed_or, decided, advanced, roots_of, settle_first, settle_second, settle_side}

@@ -3,7 +3,7 @@ use Rattle.std.proofs.Common.{◌≡◌, ℕ, ◌-◌, ◌*◌, ◌<◌, ◌≤�
 use Rattle.std.proofs.lemmas.Bool.Decides.{nat_tests}
 use Rattle.rd_base.specs.declared.digest.Digest32.{Digest32}
 use Rattle.rd_base.specs.declared.answer.Answer.TheVariants as answer
-use Rattle.bisect_game.specs.declared.interval.Interval.{Interval}
+use Rattle.bisect_game.specs.declared.settled.Interval.{Interval}
 use Rattle.bisect_game.specs.declared.question.Kind.{Kind}
 use Rattle.bisect_game.specs.declared.question.Kind.TheVariants as kind
 use Rattle.bisect_game.specs.declared.settled.Close.{Close}

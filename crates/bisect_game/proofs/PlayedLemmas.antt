@@ -5,8 +5,8 @@ use Rattle.std.specs.Fn.{iterate}
 use Rattle.bisect_game.specs.declared.question.Question.{Question}
 use Rattle.bisect_game.specs.declared.settled.Close.{Close}
 use Rattle.bisect_game.specs.declared.settled.Settled.{Settled}
-use Rattle.bisect_game.specs.declared.side.Side.{Side}
-use Rattle.bisect_game.specs.declared.side.Side.TheVariants.{First, Second}
+use Rattle.bisect_game.specs.declared.settled.Side.{Side}
+use Rattle.bisect_game.specs.declared.settled.Side.TheVariants.{First, Second}
 use Rattle.bisect_game.specs.Bisection.{Bisection, prover_of, asks, closed_or, went_on, decided, advanced, advance, is_closed, question_of, settle_first, settle_second, settle_side}
 use Rattle.bisect_game.specs.Closing.{close_of}
 use Rattle.bisect_game.specs.Disputes.{Answers, dispute_of, or_else, filled, round_over, played}

@@ -4,14 +4,14 @@ use Rattle.std.proofs.lemmas.Bool.Decides.{nat_tests}
 use Rattle.std.proofs.lemmas.List.{length-map}
 use Rattle.std.proofs.lemmas.Slice.Eq.{bytes_eq-Decides}
 use Rattle.rd_base.specs.declared.digest.Digest32.{Digest32}
-use Rattle.bisect_game.specs.declared.interval.Interval.{Interval}
+use Rattle.bisect_game.specs.declared.settled.Interval.{Interval}
 use Rattle.bisect_game.specs.declared.question.Kind.TheVariants as kind
 use Rattle.rd_base.specs.declared.answer.Answer.{Answer}
 use Rattle.rd_base.specs.declared.answer.Answer.TheVariants as answer
 use Rattle.bisect_game.specs.declared.settled.Settled.{Settled}
 use Rattle.bisect_game.specs.declared.settled.Settled.TheVariants.{Given, Faulty, Spent}
-use Rattle.bisect_game.specs.declared.side.Side.{Side}
-use Rattle.bisect_game.specs.declared.side.Side.TheVariants.{First, Second}
+use Rattle.bisect_game.specs.declared.settled.Side.{Side}
+use Rattle.bisect_game.specs.declared.settled.Side.TheVariants.{First, Second}
 use Rattle.bisect_game.proofs.CutLemmas.{either, cut-first, cut-last}
 use Rattle.bisect_game.specs.Bisection.{cut, cuts_from, cuts, kept, kind_over, parts_of, roots_of, roots_in, agreeing}
 use Rattle.bisect_game.specs.Closing.{is_step, is_out, is_proved}

@@ -6,10 +6,10 @@ use Rattle.rd_base.specs.declared.answer.Answer.{Answer}
 use Rattle.rd_base.specs.declared.answer.Answer.TheVariants as answer
 use Rattle.bisect_game.specs.declared.question.Kind.{Kind}
 use Rattle.bisect_game.specs.declared.question.Kind.TheVariants as kind
-use Rattle.bisect_game.specs.declared.interval.Interval.{Interval}
+use Rattle.bisect_game.specs.declared.settled.Interval.{Interval}
 use Rattle.bisect_game.specs.declared.settled.Settled.{Settled}
 use Rattle.bisect_game.specs.declared.settled.Settled.TheVariants.{Given}
-use Rattle.bisect_game.specs.declared.side.Side.{Side}
+use Rattle.bisect_game.specs.declared.settled.Side.{Side}
 use Rattle.bisect_game.specs.Ruling.{Ruling, IsFair, same_digest}
 use Rattle.bisect_game.specs.Rules.{Rules, is_fit}
 use Rattle.bisect_game.specs.Closing.{is_step}

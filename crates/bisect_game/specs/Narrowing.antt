@@ -1,6 +1,6 @@
 -- Derived: what a dispute in memory keeps. Its interval narrows, so that no round needs memory, and an open one waits for a side.
 use Rattle.std.specs.Prelude.{◌≡◌, ℕ, ◌-◌, ◌*◌, ◌^◌, ◌<◌, ◌≤◌, Option, is_some, is_none, false, ◌&&◌}
-use Rattle.bisect_game.specs.declared.interval.Interval.{Interval}
+use Rattle.bisect_game.specs.declared.settled.Interval.{Interval}
 use Rattle.bisect_game.specs.declared.settled.Settled.{Settled}
 use Rattle.bisect_game.specs.declared.settled.Close.{Close}
 

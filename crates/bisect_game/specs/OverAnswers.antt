@@ -1,10 +1,10 @@
 -- Derived: what one dispute keeps over answers, step by step. The law `bisection_laws` shows it, and matches rest on it.
 use Rattle.std.specs.Prelude.{◌≡◌, ℕ, ◌-◌, ◌<◌, ◌≤◌, true, List, length, Option, Some, None}
 use Rattle.std.specs.Fn.{iterate}
-use Rattle.bisect_game.specs.declared.interval.Round.{Round}
+use Rattle.bisect_game.specs.declared.settled.Round.{Round}
 use Rattle.bisect_game.specs.declared.settled.Settled.{Settled}
 use Rattle.bisect_game.specs.declared.settled.Close.{Close}
-use Rattle.bisect_game.specs.declared.side.Side.{Side}
+use Rattle.bisect_game.specs.declared.settled.Side.{Side}
 use Rattle.bisect_game.specs.Ruling.{Ruling}
 use Rattle.bisect_game.specs.Rules.{Rules}
 use Rattle.bisect_game.specs.Bisection.{Bisection, prover_of, question_of, is_closed, asks, settle_side}

@@ -1,15 +1,13 @@
 ghost use Rattle.std.specs.Prelude.{◌≡◌, ◌+◌, ◌<◌, ◌≤◌, ◌^◌, [], true, false, ◌||◌, Option, Some, None, is_none, option_copied, IfOk, if◌then◌else◌};
-ghost use Rattle.bisect_game.specs.declared.side.Side.TheVariants.{First, Second};
+ghost use Rattle.bisect_game.specs.declared.settled.Side.TheVariants.{First, Second};
 ghost use Rattle.bisect_game.specs.Bisection.{prover_of, asks, settle_side, question_of, decided, went_on};
 ghost use Rattle.bisect_game.specs.Closing.{is_step};
 ghost use Rattle.bisect_game.specs.Truth.{own_open};
 
-use crate::interval::{Interval, Round};
 use crate::judge::Judge;
 use crate::question::Question;
 use crate::rounds::{close_of, kept, kind_over, parts_of};
-use crate::settled::{Close, Settled};
-use crate::side::Side;
+use crate::settled::{Close, Interval, Round, Settled, Side};
 use rd_base::{Digest32, Memory, Qid};
 use std::alloc::Global;
 use std::marker::Model;

@@ -11,25 +11,21 @@
 
 mod answerer;
 mod dispute;
-mod interval;
 mod judge;
 mod laws;
 mod question;
 mod rounds;
 mod settled;
-mod side;
 mod steps;
 
 pub use answerer::{Answerer, Provers};
 pub use dispute::{Dispute, Room};
-pub use interval::{Interval, Round};
 pub use judge::Judge;
 pub use laws::{
     bisection_laws, cuts_divide, disputes_are_played_over_their_answers, halves_are_bisection,
     one_cut_fewer_than_parts, sides_settle_in_any_order, the_fan_stays,
 };
 pub use question::{Kind, Question};
-pub use rounds::{cut, kept_part, parts_of, same_digest};
-pub use settled::{Close, Settled};
-pub use side::Side;
+pub use rounds::{cut, kept_part, parts_of};
+pub use settled::{Close, Interval, Round, Settled, Side};
 pub use steps::steps_asked;

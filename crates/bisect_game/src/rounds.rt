@@ -1,21 +1,12 @@
 ghost use Rattle.std.specs.Prelude.{◌≡◌, ◌+◌, ◌-◌, ◌<◌, ◌≤◌, ◌^◌, ◌∷◌, ◌++◌, [], length, min, slice_index_or};
-ghost use Rattle.bisect_game.specs.Ruling.{same_digest};
 ghost use Rattle.bisect_game.specs.Bisection.{cut, kept_part, kept, kind_over, roots_of, agreeing};
 ghost use Rattle.bisect_game.specs.Closing.{is_out, is_proved, both_proved, close_of};
 
-use crate::interval::Interval;
 use crate::judge::Judge;
 use crate::question::Kind;
-use crate::settled::{Close, Settled};
-use rd_base::{Answer, Digest32};
+use crate::settled::{Close, Interval, Settled};
+use rd_base::{Answer, Digest32, same_digest};
 use std::slice;
-
-/// Whether two digests have the same bytes.
-pub fn same_digest(first: &Digest32, second: &Digest32) -> bool
-    ensures { result ≡ same_digest first.now second.now }
-{
-    first.0 == second.0
-}
 
 /// The `j`-th cut of an interval in so many parts (2 to 16, at most its steps): `lo + j * (hi - lo) / parts`, rounded down. Cut 0 is
 /// its beginning, the last its end, and of two parts cut 1 the middle.

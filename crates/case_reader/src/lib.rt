@@ -3,7 +3,7 @@
 //! The layers above may rely on this: what `read_case` reads is the case of the bytes, by the definition `case_at`, which
 //! tests keys in one order, and a refusal other than out of memory is that definition's, whose own faults are never out of
 //! memory. What `read_tasks` reads is, by the definition `tasks_at`, one such case or those of 1 to 8 tasks, of which the first
-//! that is refused is named. Read `case` first, then `parsing` and `tasks`; `prover` reads a prover's script, by `tamper`, `manner`
+//! that is refused is named. Read `case` first, then `parsing` and `tasks`; `prover` reads a prover's script, by `manner`
 //! and `tape`.
 #![tactic(auto)]
 
@@ -12,10 +12,8 @@ mod fault;
 mod field;
 mod laws;
 mod manner;
-mod member;
 mod parsing;
 mod prover;
-mod tamper;
 mod tape;
 mod tasks;
 

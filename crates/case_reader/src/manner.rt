@@ -6,8 +6,7 @@ ghost use Rattle.rd_base.specs.declared.script.Manner.TheVariants.{Late, Silent,
 ghost use Rattle.case_reader.specs.Scripts.{number_at, word_at, output_in, forge_in, tape_in, manner_in};
 
 use crate::fault::CaseFault;
-use crate::field::hex_bytes;
-use crate::member::{number_at, text_at, word_at};
+use crate::field::{hex_bytes, number_at, text_at, word_at};
 use crate::tape::tape_of;
 use rd_base::{ClaimOutput, FirstSilentRound, Manner, PassCount, RegisterNumber};
 use serde_json::Value;

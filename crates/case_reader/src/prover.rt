@@ -2,15 +2,62 @@ ghost use Rattle.std.specs.Prelude.{◌≡◌, ◌≤◌, length, map, IfOk, Ok,
 ghost use Rattle.serde_json.specs.Find.{get};
 ghost use Rattle.serde_json.specs.View.{view};
 ghost use Rattle.rd_base.specs.Results.{Gives};
-ghost use Rattle.case_reader.specs.Scripts.{tamper_or_untouched, manner_or_plain, script_in};
+ghost use Rattle.case_reader.specs.Scripts.{tamper_or_untouched, manner_or_plain, script_in, flip_in, register_in, early_in, tamper_in};
 ghost use Rattle.case_reader.specs.Provers.{scripts_in};
 
 use crate::fault::CaseFault;
+use crate::field::{number_at, text_at, word_at};
 use crate::manner::manner_of;
-use crate::tamper::tamper_of;
-use rd_base::{Listed, Manner, Script, Tamper};
+use rd_base::{Listed, Manner, RegisterNumber, Script, Tamper};
 use serde_json::Value;
 use std::alloc::Global;
+
+/// The keys of the kind `flip`.
+#[tactic(auto, unfolding(crate::specs::Scripts::flip_in))]
+fn flip_of(tamper: &Value) -> Option<Tamper>
+    ensures { result ≡ flip_in (view tamper.now) }
+{
+    Some(Tamper::Flip {
+        step: word_at(tamper, "step")?,
+        addr: word_at(tamper, "addr")?,
+        mask: number_at(tamper, "mask", 0, 255)? as u8,
+    })
+}
+
+/// The keys of the kind `reg`.
+#[tactic(auto, unfolding(crate::specs::Scripts::register_in))]
+fn register_of(tamper: &Value) -> Option<Tamper>
+    ensures { result ≡ register_in (view tamper.now) }
+{
+    Some(Tamper::Register {
+        step: word_at(tamper, "step")?,
+        reg: RegisterNumber::new(number_at(tamper, "reg", 1, 31)? as u8)?,
+        value: word_at(tamper, "value")?,
+    })
+}
+
+/// The keys of the kind `early`.
+#[tactic(auto, unfolding(crate::specs::Scripts::early_in))]
+fn early_of(tamper: &Value) -> Option<Tamper>
+    ensures { result ≡ early_in (view tamper.now) }
+{
+    Some(Tamper::Early {
+        steps: word_at(tamper, "steps")?,
+    })
+}
+
+/// The tamper of a value, where it is one that is known.
+#[tactic(auto, unfolding(crate::specs::Scripts::tamper_in))]
+pub fn tamper_of(tamper: &Value) -> Option<Tamper>
+    ensures { result ≡ tamper_in (view tamper.now) }
+{
+    match text_at(tamper, "kind")? {
+        "flip" => flip_of(tamper),
+        "reg" => register_of(tamper),
+        "early" => early_of(tamper),
+        _ => None,
+    }
+}
 
 /// The tamper of a prover, where it is known or there is none.
 fn tamper_in(prover: &Value) -> Option<Tamper>

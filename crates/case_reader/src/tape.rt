@@ -7,8 +7,7 @@ ghost use Rattle.case_reader.specs.Fields.{listed};
 ghost use Rattle.case_reader.specs.Scripts.{answer_at, tape_answer_in, tape_answers_in, tape_in};
 
 use crate::fault::CaseFault;
-use crate::field::hex_bytes;
-use crate::member::{text_at, word_at};
+use crate::field::{hex_bytes, text_at, word_at};
 use proof_wire::{WireFault, decode};
 use rd_base::{Answer, Qid, Tape, TapeAnswer};
 use serde_json::Value;

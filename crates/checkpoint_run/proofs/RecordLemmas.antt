@@ -6,7 +6,7 @@ use Rattle.std.proofs.Math.Numerals.{add-one}
 use Rattle.std.proofs.lemmas.Option.{slice_get_past}
 use Rattle.digest_core.specs.Chain.{chain_of}
 use Rattle.mem_plain.specs.Contents.{Contents, byte_at}
-use Rattle.rd_base.specs.declared.ctl.Ctl.{Ctl}
+use Rattle.rd_base.specs.declared.status.Ctl.{Ctl}
 use Rattle.rd_base.specs.declared.tamper.Tamper.{Tamper}
 use Rattle.rv_step.specs.State.{State}
 use Rattle.checkpoint_run.specs.TamperedRun.{run_from}

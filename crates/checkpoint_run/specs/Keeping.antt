@@ -1,7 +1,7 @@
 -- Derived: what the checkpoints of a run stand for, and what holds of every recorded run.
 use Rattle.std.specs.Prelude.{◌≡◌, ℕ, ◌+◌, ◌*◌, ◌/◌, ◌<◌, ◌≤◌, List, [], ◌∷◌, ◌++◌, map, take, length, slice_get, IfSome}
 use Rattle.rd_base.specs.declared.status.Status.TheVariants.{Running}
-use Rattle.rd_base.specs.declared.ctl.Ctl.{Ctl}
+use Rattle.rd_base.specs.declared.status.Ctl.{Ctl}
 use Rattle.rd_base.specs.declared.tamper.Tamper.{Tamper}
 use Rattle.mem_plain.specs.Contents.{Contents, no_bytes}
 use Rattle.rv_step.specs.State.{State}

@@ -1,14 +1,68 @@
-ghost use Rattle.std.specs.Prelude.{◌≡◌, ◌++◌, [], List, OnOk};
-ghost use Rattle.checkpoint_run.specs.Versions.{pages_of, AreBelow, IsShownBut};
-ghost use Rattle.checkpoint_run.specs.Keeping.{IsAdded};
+//! Checkpoints, and the versions of pages below them, one behind the other: the last version of a page is the page.
+ghost use Rattle.std.specs.Prelude.{◌≡◌, ℕ, ◌++◌, [], List, true, IfOk, OnOk};
+ghost use Rattle.mem_plain.specs.Contents.{IsUsed};
+ghost use Rattle.checkpoint_run.specs.Versions.{pictured, pages_of, is_among, AreBelow, IsShownBut};
 ghost use Rattle.checkpoint_run.specs.declared.version.Version.{Version};
+ghost use Rattle.checkpoint_run.specs.Keeping.{IsAdded};
 
 use crate::version::Version;
-use crate::versions::add_versions;
-use mem_plain::contents_of_a_function;
+use mem_plain::{PlainMem, contents_of_a_function, laying_bytes};
 use rd_base::{Ctl, Memory, Regs};
 use rv_step::Machine;
+use std::alloc::Global;
 use std::collections::BTreeSet;
+
+/// The pages of a memory that have a byte other than 0, and no others. An `Err` is out of memory.
+pub fn used_pages(alloc: Global, mem: &PlainMem) -> Result<BTreeSet<u32>, Memory>
+    ensures pages { IfOk result (λ s. AreBelow s.keys) }
+    ensures shown { IfOk result (λ s. IsShownBut [] s.keys mem.now) }
+    ensures only { IfOk result (λ s. (p : ℕ) → is_among s.keys p ≡ true → IsUsed mem.now p) }
+{
+    let mut pages = BTreeSet::new(alloc);
+    let mut from = 0;
+    'pages: while let Some(page) = mem.next_page(from) {
+        pages.insert(page)?;
+        from = page + 1;
+    }
+    Ok(pages)
+}
+
+/// Adds one version of each page that changed, and no other. An `Err` is out of memory, after some were added.
+pub fn add_versions(
+    versions: &mut Vec<Version>,
+    changed: &BTreeSet<u32>,
+    mem: &PlainMem,
+) -> Result<(), Memory>
+    requires pages { AreBelow changed.now.keys }
+    requires shown { IsShownBut versions.old.items changed.now.keys mem.now }
+    ensures shown { OnOk result (IsShownBut versions.new.items [] mem.now) }
+    ensures more { OnOk result ((added : List Version) × (versions.new.items ≡ versions.old.items ++ added)) }
+    ensures one { OnOk result (pages_of versions.new.items ≡ pages_of versions.old.items ++ changed.now.keys) }
+{
+    'pages: for page in changed.iter() {
+        let bytes = mem.page(*page)?;
+        versions.push(Version { page: *page, bytes })?;
+    }
+    Ok(())
+}
+
+/// The memory that versions stand for. It copies the last version of each page. An `Err` is out of memory.
+pub fn restored(alloc: Global, versions: &[Version]) -> Result<PlainMem, Memory>
+    ensures { IfOk result (λ m. m ≡ pictured versions.now) }
+{
+    contents_of_a_function();
+    laying_bytes();
+    let mut mem = PlainMem::new(alloc);
+    let mut put = BTreeSet::new(alloc);
+    'versions: for k in (0..versions.len()).rev() {
+        let version = &versions[k];
+        if put.insert(version.page)? {
+            mem.put_page(version.page, version.bytes.clone()?)?;
+        }
+    }
+    mem.is_memory();
+    Ok(mem)
+}
 
 /// A state of a run: its registers and control fields, and how many versions of pages stand before it. Its output is the
 /// front of the run's output.

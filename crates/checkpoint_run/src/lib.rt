@@ -21,7 +21,6 @@ mod recording;
 mod run;
 mod tampering;
 mod version;
-mod versions;
 
 pub use laws::{
     pages_of_two_places, stops_come_first, tampered_runs, tampered_runs_keep_the_input,

@@ -4,8 +4,8 @@ use Rattle.std.specs.Str.{bytes_eq}
 use Rattle.clap.specs.ValueTests.{is_unsigned_in}
 use Rattle.clap.specs.Walk.{Text}
 use Rattle.text_types.specs.Digest.{digest_text}
-use Rattle.text_types.specs.declared.digest.DigestName.{DigestName}
-use Rattle.text_types.specs.declared.digest.DigestName.TheVariants.{Sha256}
+use Rattle.text_types.specs.declared.text.DigestName.{DigestName}
+use Rattle.text_types.specs.declared.text.DigestName.TheVariants.{Sha256}
 use Rattle.command_line.specs.declared.request.MatchText.{MatchText}
 use Rattle.command_line.specs.declared.request.MatchText.TheVariants.{Report, Full}
 use Rattle.command_line.specs.declared.request.Command.{Command}

@@ -1,7 +1,7 @@
 -- All is done for `audit` only where the bytes are confirmed, and then the machine's law holds of the text.
 use Rattle.std.proofs.Common.{◌≡◌, ℕ, ◌≤◌, List, length, nat_lt, Result, Ok, Err, Bool, true, false, cond, refl, sym, subst, arith}
 use Rattle.rd_base.specs.Results.{◌>>=◌}
-use Rattle.text_types.specs.declared.digest.DigestName.{DigestName}
+use Rattle.text_types.specs.declared.text.DigestName.{DigestName}
 use Rattle.text_types.specs.declared.text.FullText.{FullText}
 use Rattle.text_reader.specs.declared.fault.TextFault.{TextFault}
 use Rattle.text_reader.specs.ReadText.{read_text}

@@ -15,8 +15,8 @@ use Rattle.deposits.specs.declared.amounts.Balances.{Balances}
 use Rattle.deposits.specs.Theorem.{WhoStaysKeepsStake}
 use Rattle.rv_step.specs.State.{State}
 use Rattle.case_reader.specs.Case.{CaseData}
-use Rattle.text_types.specs.declared.digest.DigestName.{DigestName}
-use Rattle.text_types.specs.declared.digest.DigestName.TheVariants.{Sha256, Weak8}
+use Rattle.text_types.specs.declared.text.DigestName.{DigestName}
+use Rattle.text_types.specs.declared.text.DigestName.TheVariants.{Sha256, Weak8}
 use Rattle.transcript_text.specs.Lines.{accept_line, line_of_accepted, line_of_verdict}
 use Rattle.transcript_text.specs.Report.{text_if_there}
 use Rattle.transcript_text.specs.Laws.{NothingIsSaidAgainstTheTruthful}

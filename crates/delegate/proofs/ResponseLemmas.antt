@@ -20,8 +20,8 @@ use Rattle.rv_text.specs.Assembly.{assembled}
 use Rattle.asm_image.specs.AsmImage.{asm_at}
 use Rattle.asm_image.specs.declared.image.AsmImageFault.{AsmImageFault}
 use Rattle.asm_image.specs.declared.image.AsmImageFault.TheVariants as asm
-use Rattle.text_types.specs.declared.digest.DigestName.{DigestName}
-use Rattle.text_types.specs.declared.digest.DigestName.TheVariants.{Sha256}
+use Rattle.text_types.specs.declared.text.DigestName.{DigestName}
+use Rattle.text_types.specs.declared.text.DigestName.TheVariants.{Sha256}
 use Rattle.text_types.specs.declared.text.FullText.{FullText}
 use Rattle.text_types.specs.declared.text.Stated.{Stated}
 use Rattle.text_reader.specs.declared.fault.TextFault.{TextFault}

@@ -9,7 +9,7 @@ use Rattle.tournament.specs.declared.verdict.Verdict.TheVariants.{Collision}
 use Rattle.tournament.specs.Bracket.{live}
 use Rattle.tournament.specs.Theorem.{AreTrue, Stays, IsCollisionIn}
 use Rattle.deposits.specs.Balances.{balance}
-use Rattle.text_types.specs.declared.digest.DigestName.{DigestName}
+use Rattle.text_types.specs.declared.text.DigestName.{DigestName}
 use Rattle.text_types.specs.MoveLists.{moves_of}
 use Rattle.transcript_text.specs.Lines.{accept_line, collision_line, lines_of_record, are_against}
 use Rattle.transcript_text.specs.Report.{line_text}

@@ -1,8 +1,10 @@
-ghost use Rattle.std.specs.Prelude.{◌≡◌, ℕ, ◌<◌, ◌≤◌, List, Option, length, take, IfOk, OnErr};
+ghost use Rattle.std.specs.Prelude.{◌≡◌, ℕ, ◌<◌, ◌≤◌, List, Option, length, take, IfOk, OnErr, ◌+◌, vec_len, IfSome, IsErrOf};
 ghost use Rattle.std.specs.Io.KnownBytes.{Consumes, IsAtEnd, Keeps};
-ghost use Rattle.io_edge.specs.Device.{Counts};
+ghost use Rattle.io_edge.specs.Device.{Counts, Rises, IsLaterIn, ReadsUpTo};
 
 use crate::fault::Failed;
+use std::alloc::Global;
+use thiserror::Error;
 
 /// Where bytes come from.
 pub trait Source {
@@ -22,4 +24,57 @@ pub trait Source {
         ensures end { IfOk result (λ n. n ≡ 0 → IsAtEnd (left self.new)) }
         ensures failed { OnErr result (Keeps (left self.old) (left self.new)) }
         ensures count { Counts (faults self.old) (faults self.new) result };
+}
+
+/// How many bytes one call asks for.
+const PIECE: usize = 4096;
+
+/// Why not everything was read.
+#[derive(Debug, Drop, Error)]
+pub enum ReadAll {
+    /// A read failed.
+    #[error("a read failed")]
+    Fault,
+    /// The source has more bytes than were allowed.
+    #[error("there are too many bytes")]
+    TooLong,
+    /// An allocation was refused.
+    #[error("out of memory")]
+    Memory,
+}
+
+/// Reads all that the source has, at most `limit` bytes.
+///
+/// `Fault` comes only where the source's count of faults rose, and every other answer leaves that count as it
+/// was. `TooLong` comes if and only if the source had more than `limit` bytes, and `Memory` where an allocation was
+/// refused, which an empty source never needs. After an error the source stands after the bytes that were read:
+/// at most `limit`, and with `TooLong` at most 4,096 more. Nothing is read after the end, nor once more than `limit`
+/// bytes were seen.
+pub fn read_all<S: Source>(alloc: Global, source: &mut S, limit: usize) -> Result<Vec<u8>, ReadAll>
+    ensures all { IfOk result (λ v. Consumes (S.left source.old) (S.left source.new) v.items × IsAtEnd (S.left source.new)) }
+    ensures within { IfOk result (λ v. vec_len v ≤ limit) }
+    ensures too_long { IsErrOf result ReadAll.TooLong → IfSome (S.left source.old) (λ bytes. limit < length bytes) }
+    ensures memory { IsErrOf result ReadAll.Memory → IfSome (S.left source.old) (λ bytes. 0 < length bytes) }
+    ensures fault { IsErrOf result ReadAll.Fault → Rises (S.faults source.old) (S.faults source.new) }
+    ensures count { ¬ (IsErrOf result ReadAll.Fault) → S.faults source.new ≡ S.faults source.old }
+    ensures rest { IfSome (S.left source.old) (IsLaterIn (S.left source.new)) }
+    ensures most { ReadsUpTo (S.left source.old) (S.left source.new) (limit + 4096) }
+    ensures allowed { ¬ (IsErrOf result ReadAll.TooLong) → ReadsUpTo (S.left source.old) (S.left source.new) limit }
+{
+    let mut bytes = Vec::new(alloc);
+    let mut buf = [0u8; PIECE];
+    'pieces: loop {
+        let Ok(n) = source.read_some(&mut buf) else {
+            return Err(ReadAll::Fault);
+        };
+        if n == 0 {
+            return Ok(bytes);
+        }
+        if limit - bytes.len() < n {
+            return Err(ReadAll::TooLong);
+        }
+        if bytes.extend_from_slice(&buf[..n]).is_err() {
+            return Err(ReadAll::Memory);
+        }
+    }
 }

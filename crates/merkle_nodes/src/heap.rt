@@ -1,13 +1,38 @@
 //! Trees that are kept as heaps.
 ghost use Rattle.std.specs.Prelude.{◌≡◌, ◌+◌, ◌-◌, ◌*◌, ◌^◌, ◌<◌, ◌≤◌, ◌||◌, ℕ, List, false, length};
-ghost use Rattle.merkle_nodes.specs.Node.{digest_at, empty_node};
+ghost use Rattle.merkle_nodes.specs.Node.{digest_at, empty_node, beside as place_beside};
 ghost use Rattle.merkle_nodes.specs.Heap.{AreJoined, IsHeap, IsJoinedAt, is_marked};
 ghost use Rattle.merkle_nodes.specs.Renewals.{how_many};
+ghost use Rattle.merkle_nodes.specs.Opening.{IsPath};
 
 use crate::climbing::digest_counted;
 use digest_core::{Digester, node_text};
-use rd_base::{Digest32, Steps};
+use rd_base::{Digest32, OpenText, Steps};
 use std::sync::ledger::Ledger;
+
+/// The node of a level over leaves that all have one string, by those below it, which stand at the places of their levels.
+fn empty_at<D: Digester>(d: D, leaf: &OpenText, nodes: &[Digest32], level: usize) -> Digest32
+    requires within { level ≤ length nodes.now }
+    requires below { (l : ℕ) → l < level → digest_at nodes.now l ≡ empty_node D.digest_of leaf.now l }
+    ensures { result.0 ≡ empty_node D.digest_of leaf.now level }
+{
+    if level == 0 {
+        return d.digest(leaf.as_slice());
+    }
+    let below = nodes[level - 1];
+    d.digest(node_text(&below, &below).as_slice())
+}
+
+/// Writes the nodes over leaves that all have one string, the node of level l at place l.
+pub fn fill_empty_nodes<D: Digester>(d: D, leaf: &OpenText, nodes: &mut [Digest32])
+    ensures len { length nodes.new ≡ length nodes.old }
+    ensures nodes { (l : ℕ) → l < length nodes.old →
+        digest_at nodes.new l ≡ empty_node D.digest_of leaf.now l }
+{
+    'levels: for level in 0..nodes.len() {
+        nodes[level] = empty_at(d, leaf, nodes, level);
+    }
+}
 
 /// Digests the nodes of a heap anew that stand above marked places, and marks them, with a step for each. Every other node
 /// above the leaves is the digest of the two below it, so that each is in the end.
@@ -54,5 +79,31 @@ pub fn fill_empty_heap(empties: &[Digest32], nodes: &mut [Digest32], levels: u32
     'places: for place in 1..nodes.len() {
         let above = place.ilog2();
         nodes[place] = empties[(levels - above) as usize];
+    }
+}
+
+/// The place of the other node below the same parent.
+fn beside(place: usize) -> usize
+    requires { place < 4294967296 }
+    ensures { result ≡ place_beside place }
+{
+    if place % 2 == 0 { place + 1 } else { place - 1 }
+}
+
+/// Writes the path of a leaf of a heap, one sibling for each level below the root, the leaf's own first. The heap has as many levels as
+/// there are siblings to write, and the leaf's index is below their power of 2. It makes no digest.
+pub fn fill_heap_path(nodes: &[Digest32], siblings: &mut [Digest32], index: u32)
+    requires whole { length nodes.now ≡ 2 ^ (length siblings.old + 1) }
+    requires index { index < 2 ^ length siblings.old }
+    ensures len { length siblings.new ≡ length siblings.old }
+    ensures path { (digest : List ℕ → List ℕ) (leaf : ℕ → List ℕ) → IsHeap digest nodes.now (length siblings.old) leaf →
+        IsPath digest leaf (length siblings.old) index siblings.new }
+{
+    let mut width = nodes.len() / 2;
+    let mut k = index as usize;
+    'levels: for level in 0..siblings.len() {
+        siblings[level] = nodes[width + beside(k)];
+        width /= 2;
+        k /= 2;
     }
 }

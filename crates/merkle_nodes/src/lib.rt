@@ -9,16 +9,12 @@
 #![tactic(auto)]
 
 mod climbing;
-mod empty;
 mod heap;
-mod heap_path;
 mod laws;
 mod strings;
 
 pub use climbing::{climb, climb_counted, digest_counted, joined_text};
-pub use empty::fill_empty_nodes;
-pub use heap::{fill_empty_heap, renew_nodes};
-pub use heap_path::fill_heap_path;
+pub use heap::{fill_empty_heap, fill_empty_nodes, fill_heap_path, renew_nodes};
 pub use laws::{
     changed_leaves_climb_with_old_siblings, climbing_is_opening, heaps_are_trees, node_equations,
     nodes_depend_on_leaves_below, nodes_over_one_string_are_empty, opened_equations,

@@ -1,6 +1,6 @@
 -- To believe: the root of a state, from the digests of its memory and of its registers and from its control fields.
 use Rattle.std.specs.Prelude.{ℕ, List}
-use Rattle.rd_base.specs.declared.ctl.Ctl.{Ctl}
+use Rattle.rd_base.specs.declared.status.Ctl.{Ctl}
 use Rattle.rd_base.specs.declared.claim.Claim.{Claim}
 use Rattle.digest_core.specs.Text.{control_text, state_text}
 

@@ -1,10 +1,22 @@
 ghost use Rattle.std.specs.Prelude.{◌≡◌, true};
 ghost use Rattle.out_chain.specs.Soundness.{claim_check, says_sound, is_claim_in_range, is_sound};
+ghost use Rattle.digest_core.specs.Chain as chain;
 
-use crate::chain::chain_of;
-use crate::colliding::same_digest;
-use digest_core::{Digester, codes_fit, digests_are_32_bytes};
-use rd_base::Claim;
+use digest_core::{Digester, chain_grows, codes_fit, digests_are_32_bytes, link};
+use rd_base::{Claim, Digest32, same_digest};
+
+/// The chain of an output: 32 zero bytes for no byte, else the digest of the link string of the chain before and the
+/// last byte.
+pub fn chain_of<D: Digester>(d: D, output: &[u8]) -> Digest32
+    ensures { result.0 ≡ chain.chain_of D.digest_of output.now }
+{
+    chain_grows();
+    let mut chain = Digest32::ZERO;
+    'bytes: for i in 0..output.len() {
+        chain = link(d, chain, output[i]);
+    }
+    chain
+}
 
 /// Whether a claim agrees with itself.
 #[derive(Clone, Copy, Debug, PartialEq, Eq)]

@@ -4,14 +4,7 @@ ghost use Rattle.out_chain.specs.Collision as collision;
 
 use crate::root::claim_text;
 use digest_core::{Digester, control_text, link_text};
-use rd_base::{Claim, Digest32, OpenText};
-
-/// Whether two digests have the same bytes.
-pub(crate) fn same_digest(first: &Digest32, second: &Digest32) -> bool
-    ensures { result ≡ bytes_eq first.now.0 second.now.0 }
-{
-    first.0 == second.0
-}
+use rd_base::{Claim, Digest32, OpenText, same_digest};
 
 /// Whether two strings differ and their digests, which are given beside them, are one.
 fn collides(x: &OpenText, of_x: &Digest32, y: &OpenText, of_y: &Digest32) -> bool

@@ -7,14 +7,12 @@
 //! (`laws`). None of these calls takes memory. Read `specs/Root.antt` and `specs/Collision.antt` first, then `checking`.
 #![tactic(auto)]
 
-mod chain;
 mod checking;
 mod colliding;
 mod laws;
 mod root;
 
-pub use chain::chain_of;
-pub use checking::{ClaimCheck, check_claim};
+pub use checking::{ClaimCheck, chain_of, check_claim};
 pub use colliding::claim_collision;
 pub use laws::claims_of_one_root;
 pub use root::{parts_root, root_of_claim};

@@ -5,7 +5,7 @@ use Rattle.std.specs.List.{range_with_len}
 use Rattle.std.proofs.lemmas.Bool.{cases_eq, eq-eqb, ne_eqb, eqb-true, eqb-false, ltb-true}
 use Rattle.std.proofs.lemmas.List.Elements.{Contains-append_left, Contains-append_right}
 use Rattle.std.proofs.lemmas.List.FromFn.{get_or-map-range_with_len}
-use Rattle.rd_base.specs.declared.ctl.Ctl.{Ctl}
+use Rattle.rd_base.specs.declared.status.Ctl.{Ctl}
 use Rattle.rd_base.specs.declared.digest.Digest32.{Digest32}
 use Rattle.rd_base.specs.declared.opened.InOpening.{InOpening}
 use Rattle.rd_base.specs.declared.opened.RegOpening.{RegOpening}

@@ -1,7 +1,7 @@
 -- To believe: for which chunks of memory the parts of a state call.
 use Rattle.std.specs.Prelude.{ℕ, ◌%◌, ◌==◌, ◌&&◌, Option, Some, None, if◌then◌else◌}
 use Rattle.rd_base.specs.Status.{is_running}
-use Rattle.rd_base.specs.declared.ctl.Ctl.{Ctl}
+use Rattle.rd_base.specs.declared.status.Ctl.{Ctl}
 use Rattle.rd_base.specs.declared.opened.Opening.{Opening}
 use Rattle.rv_decode.specs.Reading.{reading_of}
 use Rattle.rv_decode.specs.declared.instr.Instr.{Instr}

@@ -1,7 +1,7 @@
 -- To believe, where a law speaks of proofs that no program holds: digests, chunks and paths have their lengths, and numbers
 -- are within the ranges of their types.
 use Rattle.std.specs.Prelude.{ℕ, ◌^◌, ◌==◌, nat_lt, List, [], ◌∷◌, length, Bool, true, ◌&&◌, Option, Some, None}
-use Rattle.rd_base.specs.declared.ctl.Ctl.{Ctl}
+use Rattle.rd_base.specs.declared.status.Ctl.{Ctl}
 use Rattle.rd_base.specs.declared.digest.Digest32.{Digest32}
 use Rattle.rd_base.specs.declared.opened.Opening.{Opening}
 use Rattle.digest_core.specs.Text.{status_code}

@@ -13,13 +13,11 @@
 //! `prover`, then `provers`.
 #![tactic(auto)]
 
-mod answerers;
 mod answering;
 mod laws;
 mod prover;
 mod provers;
 
-pub use answerers::{answerers_of, answerers_with_input};
 pub use laws::{harmless_manners, outputs_grow_slowly, provers_are_steady, untouched_provers};
 pub use prover::RunAnswerer;
-pub use provers::{CaseNames, CaseProvers};
+pub use provers::{CaseNames, CaseProvers, answerers_of, answerers_with_input};

@@ -1,8 +1,8 @@
 ghost use Rattle.std.specs.Prelude.{◌≡◌, IfOk};
 
-use crate::boxed::Boxed;
 use crate::claim::Claim;
 use crate::digest::Digest32;
+use crate::listed::Boxed;
 use crate::memory::Memory;
 use crate::proof::Proof;
 use crate::root_list::RootList;

@@ -1,9 +1,9 @@
 ghost use Rattle.std.specs.Prelude.{◌≡◌, ◌≤◌, ◌↔◌, length, IfOk, IfSome, IsSome};
 
-use crate::ctl::Ctl;
 use crate::digest::Digest32;
 use crate::listed::Bytes;
 use crate::memory::Memory;
+use crate::status::Ctl;
 use std::alloc::Global;
 use std::marker::Model;
 

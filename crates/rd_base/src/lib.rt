@@ -8,9 +8,7 @@
 #![tactic(auto)]
 
 mod answer;
-mod boxed;
 mod claim;
-mod ctl;
 mod digest;
 mod laws;
 mod limits;
@@ -28,13 +26,11 @@ mod tamper;
 mod tape;
 
 pub use answer::{Answer, Qid};
-pub use boxed::Boxed;
 pub use claim::{Claim, ClaimOutput, MAX_OUTPUT_BYTES};
-pub use ctl::Ctl;
-pub use digest::Digest32;
+pub use digest::{Digest32, same_digest};
 pub use laws::registers_are_32;
 pub use limits::MAX_INPUT_BYTES;
-pub use listed::{Bytes, Listed};
+pub use listed::{Boxed, Bytes, Listed};
 pub use memory::Memory;
 pub use open_text::{MAX_TEXT_BYTES, OpenText};
 pub use opened::{InOpening, InPath, Opening, Path, RegOpening, RegOpenings, RegPath};
@@ -42,7 +38,7 @@ pub use proof::{Proof, StepProof, StepProof2, StepProof3};
 pub use regs::Regs;
 pub use root_list::{MAX_ROOTS, RootList};
 pub use script::{FirstSilentRound, Manner, PassCount, Script};
-pub use status::Status;
+pub use status::{Ctl, Status};
 pub use steps::Steps;
 pub use tamper::{RegisterNumber, Tamper};
 pub use tape::{MAX_TAPE_ANSWERS, Tape, TapeAnswer};

@@ -1,9 +1,9 @@
 ghost use Rattle.std.specs.Prelude.{◌≡◌};
 
-use crate::ctl::Ctl;
 use crate::digest::Digest32;
 use crate::opened::{InOpening, Opening, RegOpenings};
 use crate::regs::Regs;
+use crate::status::Ctl;
 
 /// What a prover opens of one state, so that one step can be made from it, where the registers are digested as one
 /// string (commitment version 1).

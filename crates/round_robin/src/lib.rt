@@ -6,12 +6,10 @@
 //! worker serves anything, that a second thread ran, or that the workers come to an end; that each item itself stands at its
 //! place again, and that no thread is started where there is one worker, is read in `serving`. The crate knows nothing of what
 //! is served, or where.
-//! Read `specs/Classes.antt` first, then `worker` and `serving`.
+//! Read `specs/Classes.antt` first, then `serving`.
 #![tactic(auto)]
 
 mod order;
 mod serving;
-mod worker;
 
-pub use serving::serve_all;
-pub use worker::Worker;
+pub use serving::{Worker, serve_all};

@@ -2,7 +2,7 @@
 -- as one string; from version 2 on they are a tree; and in version 3 the input is a tree, too, whose root and length stand beside the
 -- root of memory.
 use Rattle.std.specs.Prelude.{ℕ, ◌%◌, ◌^◌, ◌==◌, List, length, if◌then◌else◌}
-use Rattle.rd_base.specs.declared.ctl.Ctl.{Ctl}
+use Rattle.rd_base.specs.declared.status.Ctl.{Ctl}
 use Rattle.digest_core.specs.Text.{registers_text, storage_text}
 use Rattle.digest_core.specs.Chain.{chain_of}
 use Rattle.mem_tree.specs.Memory.{memory_node}

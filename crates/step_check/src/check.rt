@@ -11,14 +11,14 @@ ghost use Rattle.step_check.specs.Ticks.{TicksUntil, condition_digests, step_tic
 use crate::carrying::{Parts, step_on};
 use crate::opening::{
     chunk_climbs, input_climbs, is_called, is_counted, registers_changed, registers_climb,
-    registers_held, root_of, same_digest, storage_held,
+    registers_held, root_of, storage_held,
 };
 use digest_core::Digester;
 use proof_facts::{
     Facts, address_needed, byte_needed, facts_of, fetch_address, fetched_in, file_shown, named_by,
     needed_by,
 };
-use rd_base::{Digest32, Proof, Regs, Steps};
+use rd_base::{Digest32, Proof, Regs, Steps, same_digest};
 use std::sync::ledger::Ledger;
 
 /// What a proof of one step comes to.

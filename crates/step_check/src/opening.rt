@@ -1,5 +1,5 @@
 //! Roots and ways, with each digest counted: one walk for every tree.
-ghost use Rattle.std.specs.Prelude.{◌≡◌, ◌+◌, true, length, bytes_eq};
+ghost use Rattle.std.specs.Prelude.{◌≡◌, ◌+◌, true, length};
 ghost use Rattle.digest_core.specs.Text.{register_text as text_of_register};
 ghost use Rattle.merkle_nodes.specs.Node.{digest_at};
 ghost use Rattle.merkle_nodes.specs.Opening.{opened};
@@ -17,15 +17,10 @@ use digest_core::{
 };
 use merkle_nodes::{climb_counted, digest_counted};
 use proof_facts::{HeldInput, HeldRegisters};
-use rd_base::{Ctl, Digest32, InOpening, Opening, RegOpening, Regs, Steps};
+use rd_base::{
+    Ctl, Digest32, InOpening, Opening, RegOpening, Regs, Steps, same_digest,
+};
 use std::sync::ledger::Ledger;
-
-/// Whether two digests have the same bytes.
-pub(crate) fn same_digest(first: &Digest32, second: &Digest32) -> bool
-    ensures { result ≡ bytes_eq first.now.0 second.now.0 }
-{
-    first.0 == second.0
-}
 
 /// Whether something is there if and only if it is called for.
 pub(crate) fn is_called<T>(there: &Option<T>, place: Option<u32>) -> bool

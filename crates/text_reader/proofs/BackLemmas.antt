@@ -12,8 +12,8 @@ use Rattle.bisect_game.specs.declared.settled.Settled.TheVariants.{Given, Faulty
 use Rattle.proof_wire.specs.Wire.{wire_form, Spells}
 use Rattle.proof_wire.specs.Reading.{answer_in}
 use Rattle.text_types.specs.Digest.{digest_text}
-use Rattle.text_types.specs.declared.digest.DigestName.{DigestName}
-use Rattle.text_types.specs.declared.digest.DigestName.TheVariants.{Sha256, Weak8}
+use Rattle.text_types.specs.declared.text.DigestName.{DigestName}
+use Rattle.text_types.specs.declared.text.DigestName.TheVariants.{Sha256, Weak8}
 use Rattle.transcript_text.specs.Report.{played_text, patience_text, committed_text, output_text, answer_text as status_and_output, line_text}
 use Rattle.text_types.specs.declared.text.Head.{Head}
 use Rattle.text_types.specs.declared.text.TextMove.{TextMove}

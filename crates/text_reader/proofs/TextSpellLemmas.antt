@@ -7,7 +7,7 @@ use Rattle.std.proofs.lemmas.Slice.Eq.{bytes_eq-Decides}
 use Rattle.hex.specs.Hex.{encode_lower}
 use Rattle.rd_base.specs.Status.{status_text}
 use Rattle.text_types.specs.Digest.{digest_text, digests}
-use Rattle.text_types.specs.declared.digest.DigestName.{DigestName}
+use Rattle.text_types.specs.declared.text.DigestName.{DigestName}
 use Rattle.transcript_text.specs.Report.{output_text}
 use Rattle.text_reader.specs.declared.fault.LineFault.{LineFault}
 use Rattle.text_reader.specs.declared.fault.LineFault.TheVariants.{NoForm}

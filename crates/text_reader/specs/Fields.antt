@@ -6,7 +6,7 @@ use Rattle.rd_base.specs.declared.answer.Answer.{Answer}
 use Rattle.rd_base.specs.declared.digest.Digest32.{Digest32}
 use Rattle.rd_base.specs.Results.{◌>>=◌}
 use Rattle.proof_wire.specs.Reading.{answer_in}
-use Rattle.text_types.specs.declared.digest.DigestName.{DigestName}
+use Rattle.text_types.specs.declared.text.DigestName.{DigestName}
 use Rattle.text_types.specs.Digest.{digest_text, digests}
 use Rattle.text_reader.specs.declared.fault.LineFault.{LineFault}
 use Rattle.text_reader.specs.declared.fault.LineFault.TheVariants.{NoForm}

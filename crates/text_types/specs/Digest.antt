@@ -1,7 +1,7 @@
 -- To believe. The names of digests, as a table.
 use Rattle.std.specs.Prelude.{ℕ, List, [], ◌∷◌, codes}
-use Rattle.text_types.specs.declared.digest.DigestName.{DigestName}
-use Rattle.text_types.specs.declared.digest.DigestName.TheVariants.{Sha256, Weak8}
+use Rattle.text_types.specs.declared.text.DigestName.{DigestName}
+use Rattle.text_types.specs.declared.text.DigestName.TheVariants.{Sha256, Weak8}
 
 abbrev pub digest_text : DigestName → List ℕ
 digest_text Sha256 = codes "sha256"

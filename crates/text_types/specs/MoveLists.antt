@@ -1,7 +1,7 @@
 -- To believe. The settled answers of a record, in the order of a full text: the claims by prover, then by dispute, round and side.
 use Rattle.std.specs.Prelude.{ℕ, ◌+◌, List, [], ◌∷◌, ◌++◌, length, Option, Some, None}
 use Rattle.rd_base.specs.declared.answer.Qid.{Qid}
-use Rattle.bisect_game.specs.declared.interval.Round.{Round}
+use Rattle.bisect_game.specs.declared.settled.Round.{Round}
 use Rattle.bisect_game.specs.declared.settled.Settled.{Settled}
 use Rattle.bisect_game.specs.Bisection.{Bisection}
 use Rattle.tournament.specs.Bracket.{Record}

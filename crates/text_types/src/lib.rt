@@ -6,12 +6,10 @@
 //! order of a full text. Read `text` first, then `specs/MoveLists.antt`.
 #![tactic(auto)]
 
-mod digest;
 mod laws;
 pub mod limits;
 mod text;
 
-pub use digest::DigestName;
 pub use laws::a_verdict_is_stated;
 pub use limits::Limit;
-pub use text::{FullText, Head, Stated, TextMove};
+pub use text::{DigestName, FullText, Head, Stated, TextMove};

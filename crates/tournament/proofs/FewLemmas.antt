@@ -1,8 +1,8 @@
 -- Each dispute of a match has few rounds.
 use Rattle.std.proofs.Common.{◌≡◌, ◌∙◌, ℕ, ◌+◌, ◌-◌, ◌*◌, ◌^◌, ◌<◌, ◌≤◌, Bool, true, false, List, [], ◌∷◌, ◌++◌, length, inl, inr, Some, refl, arith, slice_get, slice_set, if◌then◌else◌}
 use Rattle.std.proofs.Math.Nat.{mul-le-mul_left, pow-zero}
-use Rattle.bisect_game.specs.declared.side.Side.{Side}
-use Rattle.bisect_game.specs.declared.side.Side.TheVariants.{First, Second}
+use Rattle.bisect_game.specs.declared.settled.Side.{Side}
+use Rattle.bisect_game.specs.declared.settled.Side.TheVariants.{First, Second}
 use Rattle.bisect_game.specs.declared.settled.Settled.{Settled}
 use Rattle.rd_base.specs.declared.claim.Claim.{Claim}
 use Rattle.bisect_game.specs.Closing.{is_step}

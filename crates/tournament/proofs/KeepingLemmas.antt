@@ -5,8 +5,8 @@ use Rattle.rd_base.specs.declared.digest.Digest32.{Digest32}
 use Rattle.tournament.specs.declared.setup.Setup.{Setup}
 use Rattle.rd_base.specs.declared.claim.Claim.{Claim}
 use Rattle.bisect_game.specs.declared.settled.Settled.{Settled}
-use Rattle.bisect_game.specs.declared.side.Side.{Side}
-use Rattle.bisect_game.specs.declared.side.Side.TheVariants.{First, Second}
+use Rattle.bisect_game.specs.declared.settled.Side.{Side}
+use Rattle.bisect_game.specs.declared.settled.Side.TheVariants.{First, Second}
 use Rattle.bisect_game.specs.Bisection.{Bisection, asks, settle_side, settle_first, settle_second}
 use Rattle.bisect_game.specs.Rules.{Rules}
 use Rattle.bisect_game.specs.Ruling.{Ruling, same_digest}

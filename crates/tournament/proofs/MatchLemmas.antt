@@ -8,7 +8,7 @@ use Rattle.bisect_game.specs.declared.question.Question.{Question}
 use Rattle.rd_base.specs.declared.answer.Answer.TheVariants as answer
 use Rattle.bisect_game.specs.declared.settled.Settled.{Settled}
 use Rattle.bisect_game.specs.declared.settled.Settled.TheVariants.{Given, Faulty, Spent}
-use Rattle.bisect_game.specs.declared.side.Side.TheVariants.{First, Second}
+use Rattle.bisect_game.specs.declared.settled.Side.TheVariants.{First, Second}
 use Rattle.bisect_game.specs.declared.settled.Close.{Close}
 use Rattle.bisect_game.specs.declared.settled.Close.TheVariants.{Out, Collision}
 use Rattle.bisect_game.specs.Bisection.{Bisection, question_of, kind_over, settle_first, settle_second}

@@ -13,7 +13,7 @@ use Rattle.tournament.proofs.ReachLemmas.{either}
 use Rattle.tournament.specs.Bracket.{Record, claim_question, pairs, last_stage, disputes_of, is_stage_due, stage_opened, nothing_settled, asks_first, asks_second, question_in, claim_missing, open_question, settled_in, put, settle, all_there, all_closed, is_complete}
 use Rattle.tournament.specs.Settling.{after}
 use Rattle.bisect_game.specs.OverAnswers.{Waits, IsWaiting}
-use Rattle.bisect_game.specs.declared.side.Side.TheVariants.{First, Second}
+use Rattle.bisect_game.specs.declared.settled.Side.TheVariants.{First, Second}
 use Rattle.bisect_game.specs.Laws.{BisectionLaws}
 
 -- an open dispute waits for one of its sides

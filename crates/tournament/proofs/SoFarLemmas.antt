@@ -7,7 +7,7 @@ use Rattle.rd_base.specs.declared.claim.Claim.{Claim}
 use Rattle.bisect_game.specs.declared.question.Question.{Question}
 use Rattle.bisect_game.specs.declared.settled.Settled.{Settled}
 use Rattle.bisect_game.specs.declared.settled.Settled.TheVariants.{Given}
-use Rattle.bisect_game.specs.declared.side.Side.TheVariants.{First, Second}
+use Rattle.bisect_game.specs.declared.settled.Side.TheVariants.{First, Second}
 use Rattle.bisect_game.specs.Bisection.{Bisection, question_of, settle_first, settle_second}
 use Rattle.bisect_game.specs.Disputes.{Answers, or_else, played}
 use Rattle.bisect_game.specs.Held.{settled_after_rounds, settled_in_round}

@@ -4,15 +4,15 @@ use Rattle.std.proofs.lemmas.Bool.Decides.{nat_tests}
 use Rattle.rd_base.specs.declared.answer.Answer.{Answer}
 use Rattle.rd_base.specs.declared.answer.Answer.TheVariants as answer
 use Rattle.rd_base.specs.declared.claim.Claim.{Claim}
-use Rattle.bisect_game.specs.declared.interval.Round.{Round}
+use Rattle.bisect_game.specs.declared.settled.Round.{Round}
 use Rattle.bisect_game.specs.declared.question.Kind.{Kind}
 use Rattle.bisect_game.specs.declared.question.Kind.TheVariants as kind
 use Rattle.bisect_game.specs.declared.question.Question.{Question}
 use Rattle.bisect_game.specs.declared.settled.Close.{Close}
 use Rattle.bisect_game.specs.declared.settled.Settled.{Settled}
 use Rattle.bisect_game.specs.declared.settled.Settled.TheVariants.{Given, Faulty, Spent}
-use Rattle.bisect_game.specs.declared.side.Side.{Side}
-use Rattle.bisect_game.specs.declared.side.Side.TheVariants.{First, Second}
+use Rattle.bisect_game.specs.declared.settled.Side.{Side}
+use Rattle.bisect_game.specs.declared.settled.Side.TheVariants.{First, Second}
 use Rattle.bisect_game.specs.Says.{Says}
 use Rattle.bisect_game.specs.Ruling.{Ruling}
 use Rattle.bisect_game.specs.Rules.{Rules, is_fit, judged}

@@ -2,8 +2,8 @@
 use Rattle.std.proofs.Common.{◌≡◌, ℕ, zero, suc, ◌-◌, ◌<◌, ◌≤◌, min, nat_le, Bool, true, false, ◌||◌, ◌==◌, if◌then◌else◌, List, [], ◌∷◌, slice_get, Some, None, refl, arith}
 use Rattle.std.proofs.lemmas.Bool.Decides.{nat_tests}
 use Rattle.rd_base.specs.declared.answer.Qid.{Qid}
-use Rattle.bisect_game.specs.declared.interval.Interval.{Interval}
-use Rattle.bisect_game.specs.declared.interval.Round.{Round}
+use Rattle.bisect_game.specs.declared.settled.Interval.{Interval}
+use Rattle.bisect_game.specs.declared.settled.Round.{Round}
 use Rattle.bisect_game.specs.declared.question.Kind.{Kind}
 use Rattle.bisect_game.specs.declared.question.Kind.TheVariants as kind
 use Rattle.bisect_game.specs.declared.question.Question.{Question}

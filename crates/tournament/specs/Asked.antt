@@ -1,8 +1,8 @@
 -- To believe: what a match asks under a number. It is one question at most, and none is beyond the bound.
 use Rattle.std.specs.Prelude.{◌≡◌, ◌≢◌, ℕ, zero, suc, ◌-◌, ◌<◌, ◌≤◌, ◌||◌, ◌==◌, List, [], ◌∷◌, Option, Some, None, if◌then◌else◌}
 use Rattle.rd_base.specs.declared.answer.Qid.{Qid}
-use Rattle.bisect_game.specs.declared.interval.Interval.{Interval}
-use Rattle.bisect_game.specs.declared.interval.Round.{Round}
+use Rattle.bisect_game.specs.declared.settled.Interval.{Interval}
+use Rattle.bisect_game.specs.declared.settled.Round.{Round}
 use Rattle.bisect_game.specs.declared.question.Kind.{Kind}
 use Rattle.bisect_game.specs.declared.question.Kind.TheVariants as kind
 use Rattle.bisect_game.specs.declared.question.Question.{Question}

@@ -9,8 +9,8 @@ use crate::reading::{
 use crate::record::Record;
 use crate::setup::Setup;
 use crate::verdict::Verdict;
-use bisect_game::{Dispute, Judge, Question, Room, Settled, same_digest};
-use rd_base::{Digest32, Memory};
+use bisect_game::{Dispute, Judge, Question, Room, Settled};
+use rd_base::{Digest32, Memory, same_digest};
 use std::alloc::Global;
 use std::marker::Model;
 

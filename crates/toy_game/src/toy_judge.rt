@@ -2,8 +2,8 @@ ghost use Rattle.std.specs.Prelude.{◌≡◌, ◌∷◌, []};
 ghost use Rattle.toy_game.specs.Toy.{root, number, next, is_plain, opened_root, mark_of, leads_to, toy_ruling};
 ghost use Rattle.toy_game.specs.Fair.{toy_is_fair};
 
-use bisect_game::{Judge, same_digest};
-use rd_base::{Claim, Digest32, OpenText, Proof};
+use bisect_game::Judge;
+use rd_base::{Claim, Digest32, OpenText, Proof, same_digest};
 
 /// The root with this number.
 pub fn root(number: u8) -> Digest32

@@ -3,12 +3,12 @@ use Rattle.std.proofs.Common.{◌≡◌, ℕ, suc, ◌+◌, ◌-◌, Bool, true,
 use Rattle.std.specs.Prelude.{min}
 use Rattle.std.proofs.lemmas.Bool.Decides.{nat_tests}
 use Rattle.rd_base.specs.declared.answer.Answer.TheVariants as answer
-use Rattle.bisect_game.specs.declared.interval.Round.{Round}
+use Rattle.bisect_game.specs.declared.settled.Round.{Round}
 use Rattle.bisect_game.specs.declared.question.Kind.{Kind}
 use Rattle.bisect_game.specs.declared.settled.Settled.{Settled}
 use Rattle.bisect_game.specs.declared.settled.Settled.TheVariants.{Given, Faulty, Spent}
 use Rattle.bisect_game.specs.declared.settled.Close.{Close}
-use Rattle.bisect_game.specs.declared.side.Side.TheVariants.{First, Second}
+use Rattle.bisect_game.specs.declared.settled.Side.TheVariants.{First, Second}
 use Rattle.bisect_game.specs.Rules.{Rules}
 use Rattle.bisect_game.specs.Closing.{is_step}
 use Rattle.bisect_game.specs.Bisection.{Bisection, middle}

@@ -5,8 +5,8 @@ ghost use Rattle.transcript_text.specs.Lines.{dispute_line, lines_of_all_rounds,
 ghost use Rattle.transcript_text.specs.Report.{said_text, parted_text, kept_text, line_text, text_if_there, lines_text};
 
 use crate::word::{Word, said_word, said_word_of_proof};
-use bisect_game::{Close, Dispute, Interval, Settled, Side, kept_part, parts_of, same_digest};
-use rd_base::{Answer, Digest32};
+use bisect_game::{Close, Dispute, Interval, Settled, Side, kept_part, parts_of};
+use rd_base::{Answer, Digest32, same_digest};
 use std::alloc::AllocError;
 use std::fmt::Write;
 use std::slice;

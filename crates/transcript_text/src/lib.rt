@@ -9,7 +9,6 @@
 #![tactic(auto)]
 
 mod answer;
-mod balances;
 mod claims;
 mod disputes;
 mod laws;

@@ -1,11 +1,10 @@
-ghost use Rattle.std.specs.Prelude.{◌≡◌, ◌++◌, string_bytes, IfOk, OnOk};
+ghost use Rattle.std.specs.Prelude.{◌≡◌, ◌++◌, string_bytes, IfOk, OnOk, Some};
 ghost use Rattle.std.specs.Option.{option_copied};
 ghost use Rattle.text_types.specs.StatedVerdict.{settled_at};
-ghost use Rattle.transcript_text.specs.Lines.{line_of_accepted, line_of_verdict, collision_line, lines_of_record};
+ghost use Rattle.transcript_text.specs.Lines.{line_of_accepted, line_of_verdict, collision_line, lines_of_record, balance_line, pool_line, lines_of_provers, lines_of_balances};
 ghost use Rattle.transcript_text.specs.Report.{played_text, patience_text, committed_text, numbers_text, head_line, line_text, text_if_there, lines_text, report_text};
 
 use crate::answer::add_answer;
-use crate::balances::add_balances;
 use crate::claims::add_claims;
 use crate::disputes::add_disputes;
 use bisect_game::Settled;
@@ -15,6 +14,49 @@ use std::alloc::{AllocError, Global};
 use std::fmt::Write;
 use text_types::Head;
 use tournament::{Record, Verdict};
+
+/// Adds what a prover has.
+fn add_balance(text: &mut String, prover: usize, has: u64) -> Result<(), AllocError>
+    ensures { OnOk result (string_bytes text.new ≡ string_bytes text.old ++ line_text (balance_line prover has)) }
+{
+    write!(text, "balance p{prover} {has}\n")
+}
+
+/// Adds what each prover has, of whom the first has the number 1.
+fn add_each(text: &mut String, balances: &[u64]) -> Result<(), AllocError>
+    ensures { OnOk result (string_bytes text.new ≡ string_bytes text.old ++ lines_text (lines_of_provers 1 balances.now)) }
+{
+    'provers: for (i, has) in balances.iter().enumerate() {
+        add_balance(text, i + 1, *has)?;
+    }
+    Ok(())
+}
+
+/// Adds what is in the pool.
+fn add_pool(text: &mut String, pool: u64) -> Result<(), AllocError>
+    ensures { OnOk result (string_bytes text.new ≡ string_bytes text.old ++ line_text (pool_line pool)) }
+{
+    write!(text, "pool {pool}\n")
+}
+
+/// Adds what each prover has and what is in the pool.
+#[tactic(auto, using(crate::proofs::LineLemmas::added_line))]
+fn add_all(text: &mut String, balances: &Balances) -> Result<(), AllocError>
+    ensures { OnOk result (string_bytes text.new ≡ string_bytes text.old ++ lines_text (lines_of_balances (Some balances.now))) }
+{
+    add_each(text, balances.of.as_slice())?;
+    add_pool(text, balances.pool)
+}
+
+/// Adds what each prover has and what is in the pool, in a match with deposits.
+pub(crate) fn add_balances(text: &mut String, balances: Option<&Balances>) -> Result<(), AllocError>
+    ensures { OnOk result (string_bytes text.new ≡ string_bytes text.old ++ lines_text (lines_of_balances (option_copied balances.entry))) }
+{
+    match balances {
+        Some(balances) => add_all(text, balances),
+        None => Ok(()),
+    }
+}
 
 #[tactic(auto, unfolding(crate::specs::Report::played_text))]
 fn add_played(text: &mut String, word: &str, head: &Head) -> Result<(), AllocError>
