@@ -18,13 +18,13 @@ ghost use Rattle.board_book.specs.Entries.{IsJournal, state_after, noted, is_sta
 use crate::entry::{Ask, Entry};
 use crate::room::most_entries;
 use bisect_game::{Answerer, Judge, Provers, Question};
-use rd_base::{Answer, Digest32, Memory, Qid};
+use rd_base::{Digest32, Memory, Qid};
 use std::alloc::Global;
 use std::marker::Model;
 use std::thread::Threads;
 use tournament::{
-    Match, Move, Record, Reply, Setup, Verdict, a_number_names_one_question, one_record_of_a_case,
-    spare_is_enough, truthful_provers_are_safe,
+    Match, Move, Record, Reply, Setup, Verdict, a_number_names_one_question, is_pass, move_of,
+    one_record_of_a_case, spare_is_enough, truthful_provers_are_safe,
 };
 
 /// Whether a reply says that nothing changed.
@@ -32,23 +32,6 @@ fn is_stale(reply: Reply) -> bool
     ensures { result ≡ is_stale reply }
 {
     matches!(reply, Reply::Stale(_))
-}
-
-/// Whether a move is a pass.
-fn is_pass(turn: &Move) -> bool
-    ensures { result ≡ is_none (answer_of turn.now) }
-{
-    matches!(turn, Move::Pass)
-}
-
-/// The move that gives this answer; a pass for none.
-fn move_of(answer: Option<Answer>) -> Move
-    ensures { answer_of result ≡ answer }
-{
-    match answer {
-        Some(answer) => Move::Give(answer),
-        None => Move::Pass,
-    }
 }
 
 /// A match with its journal and its provers.

@@ -1,9 +1,8 @@
 -- Every match can be played out, whatever its provers say, so what holds of each legal complete list of moves holds of the
 -- record of the case.
-use Rattle.std.proofs.Common.{◌≡◌, ℕ, zero, suc, ◌+◌, ◌*◌, ◌^◌, ◌<◌, ◌≤◌, nat_lt, true, false, List, [], ◌∷◌, ◌++◌, length, ◌⊎◌, inl, inr, Option, Some, None, refl, sym, subst, arith, length-append, ap, ◌∙◌, cond}
+use Rattle.std.proofs.Common.{◌≡◌, ℕ, zero, suc, ◌+◌, ◌<◌, ◌≤◌, nat_lt, true, List, [], ◌∷◌, ◌++◌, length, ◌⊎◌, inl, inr, Option, Some, None, refl, sym, subst, arith, length-append, ap, ◌∙◌, cond}
 use Rattle.std.proofs.lemmas.Bool.Decides.{nat_tests}
 use Rattle.std.proofs.lemmas.Bool.{cases_Bool}
-use Rattle.std.proofs.Math.Nat.{pow-zero, pow-succ', pow-le-pow_right, mul-le-mul_right}
 use Rattle.rd_base.specs.declared.answer.Qid.{Qid}
 use Rattle.bisect_game.specs.declared.question.Question.{Question}
 use Rattle.bisect_game.specs.Says.{Says}
@@ -14,7 +13,7 @@ use Rattle.tournament.specs.Bracket.{Record, open_question, is_complete, bracket
 use Rattle.tournament.specs.Moves.{MatchState, begun, passes_of}
 use Rattle.tournament.specs.Journals.{turn, turn_on, turns, IsAskedOf, Legal, answers_of, RecordOfCase}
 use Rattle.tournament.specs.Posting.{same_qid, posted, posted_on, Post, after_posts, record_after, NobodyAskedIsOver}
-use Rattle.tournament.specs.Length.{IsMost, most_entries, SpareIsEnough}
+use Rattle.tournament.specs.Length.{IsMost, most_entries, SpareIsEnough, ThereIsAMost}
 use Rattle.tournament.specs.Truthful.{IsTruthfulProver, IsSafe, TruthfulProversAreSafe}
 use Rattle.deposits.specs.Balances.{IsSettledUp}
 use Rattle.deposits.specs.Theorem.{EndedIsSettledUp}
@@ -92,50 +91,18 @@ ends-from enough over rules says k playable most (suc fuel) ps legal spare =
     by further (inl asked) = further asked.0 asked.1
     by further (inr nobody) = (ps, record { legal = legal; complete = over-after over rules says ps playable legal nobody })
 
--- there is a greatest k with b^k < m, where 1 < b and 1 < m
-
-greatest-below : (b m : ℕ) → 1 < b → 1 < m → (n : ℕ) → ((j : ℕ) → b ^ j < m → j ≤ n) → (k : ℕ) × (b ^ k < m) × ((j : ℕ) → b ^ j < m → j ≤ k)
-greatest-below b m more some zero above = (0, rw pow-zero some, above)
-greatest-below b m more some (suc n) above = elim (cases_Bool (nat_lt (b ^ suc n) m)) [
-  | inl less ↦ (suc n, grind (arith, nat_tests), above)
-  | inr most ↦ greatest-below b m more some n (λ j lt. below j lt most)
-]
-  where
-    below : (j : ℕ) → b ^ j < m → nat_lt (b ^ suc n) m ≡ false → j ≤ n
-    below j lt most = elim (cases_Bool (nat_lt j (suc n))) [
-      | inl less ↦ grind (arith, nat_tests)
-      | inr high ↦ (let base : 0 < b = omega arith in let le : suc n ≤ j = grind (arith, nat_tests) in let up : b ^ suc n ≤ b ^ j = pow-le-pow_right base le in absurd (grind (arith, nat_tests)))
-    ]
-
-above-self : (b j : ℕ) → 1 < b → j < b ^ j
-above-self b zero more = rw pow-zero (omega arith)
-above-self b (suc j) more =
-    let e : b ^ suc j ≡ b * b ^ j = pow-succ' b j in
-    let two : 2 ≤ b = omega arith in
-    let twice : 2 * b ^ j ≤ b * b ^ j = mul-le-mul_right (b ^ j) two in
-    omega (arith, e, twice, above-self b j more)
-
-small : (b j m : ℕ) → 1 < b → b ^ j < m → j ≤ m
-small b j m more lt = omega (arith, above-self b j more, lt)
-
-most-rounds : (fan bound : ℕ) → 1 < fan → 0 < bound → (k : ℕ) × IsMost fan bound k
-most-rounds fan bound more steps =
-    let two : 2 ≤ fan = omega arith in
-    let twice : 2 * bound ≤ fan * bound = mul-le-mul_right bound two in
-    let most = greatest-below fan (fan * bound) more (omega (arith, steps, twice)) (fan * bound) (λ j lt. small fan j (fan * bound) more lt) in
-    (most.0, record { few = most.1; most = most.2 })
-
 -- what the laws of a match say together
 pub record AreLaws : Type 0 where
   pub spare : SpareIsEnough
   pub over : NobodyAskedIsOver
+  pub most : ThereIsAMost
   pub of_case : RecordOfCase
   pub safe : TruthfulProversAreSafe
 
 -- each case has a legal list of moves after which nothing is open
-pub case-ends : SpareIsEnough → NobodyAskedIsOver → (rules : Rules) (says : Says) → ArePlayable rules → (ps : List ℕ) × IsEnding rules says ps
-case-ends enough over rules says playable =
-    let k = most-rounds rules.fan rules.bound playable.parted playable.steps in
+pub case-ends : SpareIsEnough → NobodyAskedIsOver → ThereIsAMost → (rules : Rules) (says : Says) → ArePlayable rules → (ps : List ℕ) × IsEnding rules says ps
+case-ends enough over most rules says playable =
+    let k = most rules.fan rules.bound playable.parted playable.steps in
     ends-from enough over rules says k.0 playable k.1 (suc (most_entries rules k.0)) [] tt (omega arith)
 
 -- in the record of a case nothing is open, and a truthful prover is safe
@@ -146,7 +113,7 @@ pub record IsSafeCase (rules : Rules) (t : Truth) (p : ℕ) (r : Record) : Type 
 pub case-is-safe : AreLaws → (rules : Rules) (says : Says) (t : Truth) (p : ℕ) → ArePlayable rules → IsFair rules.ruling → IsRun rules t → 0 < p → p ≤ rules.provers → IsTruthfulProver rules says t p
     → IsSafeCase rules t p (bracket rules (answers_of rules says))
 case-is-safe laws rules says t p playable fair run some few truthful =
-    let ending = case-ends laws.spare laws.over rules says playable in
+    let ending = case-ends laws.spare laws.over laws.most rules says playable in
     let e = laws.of_case rules says ending.0 playable ending.1.legal ending.1.complete in
     record {
       complete = subst (λ r. is_complete r ≡ true) e ending.1.complete;
@@ -154,9 +121,9 @@ case-is-safe laws rules says t p playable fair run some few truthful =
     }
 
 -- the record of a case is that of posts after which nothing is open, and may be paid
-pub case-is-settled-up : SpareIsEnough → NobodyAskedIsOver → RecordOfCase → EndedIsSettledUp → RecordsOfCasesAreSettledUp
-case-is-settled-up enough over of_case ended rules says playable =
-    let ending = case-ends enough over rules says playable in
+pub case-is-settled-up : SpareIsEnough → NobodyAskedIsOver → ThereIsAMost → RecordOfCase → EndedIsSettledUp → RecordsOfCasesAreSettledUp
+case-is-settled-up enough over most of_case ended rules says playable =
+    let ending = case-ends enough over most rules says playable in
     let posts = posts-of rules says ending.0 (begun rules) ending.1.legal in
     let closed : is_complete (record_after rules posts.0) ≡ true = subst (λ (st : MatchState). is_complete st.record_ ≡ true) (sym posts.1) ending.1.complete in
     let comes : record_after rules posts.0 ≡ bracket rules (answers_of rules says) =

@@ -11,7 +11,7 @@ use prover_run::{harmless_manners, untouched_provers};
 use step_referee::machine_runs_are_true;
 use tournament::{
     nobody_asked_means_over, one_record_of_a_case, questions_are_within_the_bound, spare_is_enough,
-    truthful_provers_are_safe,
+    there_is_a_most_number_of_rounds, truthful_provers_are_safe,
 };
 
 /// In the record of each case whose numbers are in range, and whose run starts in a valid state without output, nothing is open,
@@ -22,6 +22,7 @@ pub fn truthful_provers_of_cases_are_safe<D: Digester>()
 {
     spare_is_enough();
     nobody_asked_means_over();
+    there_is_a_most_number_of_rounds();
     one_record_of_a_case();
     truthful_provers_are_safe();
     machine_runs_are_true::<D>();
@@ -33,6 +34,7 @@ pub fn records_of_cases_are_settled_up()
 {
     spare_is_enough();
     nobody_asked_means_over();
+    there_is_a_most_number_of_rounds();
     one_record_of_a_case();
     a_match_that_has_ended_is_settled_up();
 }

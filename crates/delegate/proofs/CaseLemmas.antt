@@ -1,6 +1,7 @@
 -- Arguments and bytes that are a case or tasks: what the program answers, and that each case is in range.
 use Rattle.std.proofs.Common.{◌≡◌, ℕ, ◌+◌, ◌-◌, List, length, nat_lt, Option, Some, None, Result, Ok, Err, Bool, true, false, cond, refl, sym, ap, subst, ◌∙◌, arith}
 use Rattle.std.specs.Option.{option_and_then}
+use Rattle.std.specs.Io.KnownBytes.{Appends}
 use Rattle.rd_base.specs.Results.{◌>>=◌}
 use Rattle.rv_step.specs.State.{State}
 use Rattle.case_reader.specs.Case.{CaseData, case_at}
@@ -22,9 +23,10 @@ use Rattle.delegate.specs.commands.Big.{summing_up, summed_up}
 use Rattle.delegate.specs.Outcome.{bytes_for, carried_out, decides, response_to, outcome}
 use Rattle.delegate.specs.Headline.{Headline, HeadlineOfCases, AnswersTheCase, KeepsTheTruthful, AnswersTheTasks, KeepsTheTruthfulOfTasks}
 use Rattle.delegate.specs.Standing.{AreAllInRange, AreInRange, AreInRangeIfThere, DecidesInRange, CasesAreInRange}
+use Rattle.delegate.specs.Writing.{ForItsBytes, IsWritten}
 use Rattle.delegate.specs.declared.response.Subject.TheVariants.{Whole}
 use Rattle.delegate.specs.declared.response.Response.{Response}
-use Rattle.delegate.proofs.OutcomeLemmas.{goes_on, both_steps, of_command, outcome-of}
+use Rattle.delegate.proofs.OutcomeLemmas.{goes_on, both_steps, of_command, outcome-of, for_its_bytes}
 use Rattle.delegate.proofs.TaskLemmas.{decided-stands, range-at}
 
 -- a command that decides answers by what it reads
@@ -222,3 +224,18 @@ big-in-range command seed bytes is range m asked =
     let both : Some (summing_up seed) ≡ Some m = sym (ap decides is) ∙ asked in
     let m_is : summing_up seed ≡ m = cc both in
     subst (λ (x : Deciding). AreInRangeIfThere (tasks_for x.written bytes)) m_is range
+
+-- a text that was written whole is promised together with what holds of the same bytes
+pub written-with : (left : Option (List ℕ)) (words : List (List ℕ)) (response : Response) (before now : Option (List ℕ)) (P : List ℕ → Type 0)
+    → Appends before now response.text → ((bytes : List ℕ) → CasesAreInRange words bytes → P bytes)
+    → ForItsBytes left (λ bytes. (response ≡ outcome words bytes) × CasesAreInRange words bytes)
+    → ForItsBytes left (λ bytes. IsWritten (outcome words bytes) response.answered before now × P bytes)
+written-with left words response before now P appended holds read =
+    for_its_bytes left _ _
+    (λ bytes its. (
+      record {
+        answered = ap (λ (r : Response). r.answered) its.0;
+        text = subst (λ text. Appends before now text) (ap (λ (r : Response). r.text) its.0) appended;
+      },
+      holds bytes its.1,
+    )) read

@@ -1,10 +1,12 @@
 -- What an exit status says of the answer.
-use Rattle.std.proofs.Common.{◌≡◌, true, ℕ, List, Option, Some, ap, sym, ◌∙◌}
+use Rattle.std.proofs.Common.{◌≡◌, true, ℕ, List, Option, Some, ap, sym, subst, ◌∙◌}
 use Rattle.delegate.specs.Answered.{status_number, is_outcome, reads_all}
-use Rattle.delegate.specs.Writing.{is_whole, is_read_whole, IsWrittenBy, IsWritten}
+use Rattle.delegate.specs.Outcome.{outcome}
+use Rattle.delegate.specs.Writing.{is_whole, is_read_whole, ForItsBytes, IsWrittenBy, IsWritten}
 use Rattle.delegate.specs.declared.response.Response.{Response}
 use Rattle.delegate.specs.declared.response.Answered.{Answered}
 use Rattle.delegate.specs.declared.response.Answered.TheVariants.{Done, Usage, Case, Image, ReadFault, WriteFault, AuditRefused, Memory, NoneLeft, Collision, TooLong}
+use Rattle.delegate.proofs.OutcomeLemmas.{for_its_bytes}
 
 pub whole : (answered : Answered) → is_whole (status_number answered) ≡ true → is_outcome answered ≡ true
 whole Done is = is
@@ -83,6 +85,15 @@ by-status response answered status before now is written = record { status_is = 
 
 pub whole-by : (answered : Answered) (status : ℕ) → status ≡ status_number answered → is_whole status ≡ true → is_outcome answered ≡ true
 whole-by answered status is wholly = whole answered (sym (ap is_whole is) ∙ wholly)
+
+-- what is promised of an answer and the words is promised of its status and of the words as they were given
+pub promised-by : (left : Option (List ℕ)) (P : List (List ℕ) → List ℕ → Type 0) (words other : List (List ℕ)) (answered : Answered) (status : ℕ) (before now : Option (List ℕ))
+    → words ≡ other → status ≡ status_number answered
+    → ForItsBytes left (λ bytes. IsWritten (outcome words bytes) answered before now × P words bytes)
+    → ForItsBytes left (λ bytes. IsWrittenBy (outcome other bytes) status before now × P other bytes)
+promised-by left P words other answered status before now same is promised =
+    subst (λ (ws : List (List ℕ)). ForItsBytes left (λ bytes. IsWrittenBy (outcome ws bytes) status before now × P ws bytes)) same
+    (for_its_bytes left _ _ (λ bytes its. (by-status (outcome words bytes) answered status before now is its.0, its.1)) promised)
 
 -- the arguments are those that were given
 pub same-words : (given_words : Option (List (List ℕ))) (words other : List (List ℕ)) → Some words ≡ given_words → given_words ≡ Some other → words ≡ other

@@ -1,5 +1,5 @@
 //! What is done to the books in a turn: a question, or a post.
-ghost use Rattle.std.specs.Prelude.{◌≡◌, ◌<◌, ◌≤◌, Option, Some, None, is_none};
+ghost use Rattle.std.specs.Prelude.{◌≡◌, ◌<◌, ◌≤◌, Option, Some, None};
 ghost use Rattle.tournament.specs.Bracket.{open_question};
 ghost use Rattle.tournament.specs.Posting.{rules_of, answer_of};
 ghost use Rattle.bisect_game.specs.declared.question.Question.{Question};
@@ -12,7 +12,7 @@ use board_book::{Ask, Book, Books, tasks_are_numbered};
 use rd_base::Qid;
 use seat_lock::{Job, Logged};
 use std::collections::LinkedList;
-use tournament::{Move, Reply, Setup};
+use tournament::{Move, Reply, Setup, is_pass};
 
 /// The books of all tasks under a lock. Their head is the list of their openings, and their log is the journal of all.
 #[derive(Drop)]
@@ -77,13 +77,6 @@ pub struct Posting {
     pub p: u32,
     pub qid: Qid,
     pub turn: Move,
-}
-
-// Whether a move is a pass.
-fn is_pass(turn: &Move) -> bool
-    ensures { result ≡ is_none (answer_of turn.now) }
-{
-    matches!(turn, Move::Pass)
 }
 
 // The receipt of a post at this place.

@@ -1,13 +1,13 @@
 ghost use Rattle.std.specs.Prelude.{◌≡◌, ◌<◌, ◌≤◌, Option, IfErr, IfOk};
 ghost use Rattle.std.specs.Result.{result_ok};
 ghost use Rattle.proof_wire.specs.Reading.{answer_in};
-ghost use Rattle.tournament.specs.Posting.{rules_of, answer_of, posted, reply_to};
+ghost use Rattle.tournament.specs.Posting.{rules_of, posted, reply_to};
 
 use bisect_game::Judge;
 use proof_wire::{WireFault, decode};
 use rd_base::{Answer, Memory, Qid};
 use std::alloc::Global;
-use tournament::{Match, Move, Reply};
+use tournament::{Match, Reply, move_of};
 
 /// The answer with these bytes, if there is one.
 fn answer_with(alloc: Global, bytes: &[u8]) -> Result<Option<Answer>, Memory>
@@ -21,16 +21,6 @@ fn answer_with(alloc: Global, bytes: &[u8]) -> Result<Option<Answer>, Memory>
         Err(WireFault::BadStatus) => Ok(None),
         Err(WireFault::TrailingBytes) => Ok(None),
         Err(WireFault::BadLength) => Ok(None),
-    }
-}
-
-/// The move that gives this answer; a pass for none.
-fn move_of(answer: Option<Answer>) -> Move
-    ensures { answer_of result ≡ answer }
-{
-    match answer {
-        Some(answer) => Move::Give(answer),
-        None => Move::Pass,
     }
 }
 

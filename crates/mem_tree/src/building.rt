@@ -111,7 +111,8 @@ fn no_nodes<D: Digester>(alloc: Global, d: D) -> Nodes
     }
 }
 
-fn nodes_in<R: Threads + Sync, D: Digester + Send + Sync, L: Ledger>(
+/// The nodes of a memory, whose pages' subtrees are computed side by side, with a counter of this name. An `Err` is out of memory.
+pub(crate) fn nodes_in<R: Threads + Sync, D: Digester + Send + Sync, L: Ledger>(
     rt: &R,
     alloc: Global,
     d: D,
@@ -137,19 +138,4 @@ fn nodes_in<R: Threads + Sync, D: Digester + Send + Sync, L: Ledger>(
         nodes.place(d, page, tree?, &mut steps)?;
     }
     Ok(nodes)
-}
-
-/// The nodes of a memory, whose pages' subtrees are computed side by side. An `Err` is out of memory.
-pub(crate) fn nodes_of<R: Threads + Sync, D: Digester + Send + Sync>(
-    rt: &R,
-    alloc: Global,
-    d: D,
-    mem: &PlainMem,
-) -> Result<Nodes, Memory>
-    ensures pages { IfOk result (λ nodes. (p : ℕ) → IsPageOf (page_at (kept_of nodes) p) mem.now p) }
-    ensures made { IfOk result (λ nodes. AllMade D.digest_of (kept_of nodes)) }
-    ensures joined { IfOk result (λ nodes. IsJoinedBut D.digest_of (kept_of nodes) []) }
-    ensures empty { IfOk result (λ nodes. AreEmpty D.digest_of nodes.empties) }
-{
-    nodes_in::<R, D, Brand>(rt, alloc, d, mem, Blank::new(1))
 }

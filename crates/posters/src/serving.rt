@@ -1,8 +1,7 @@
 //! What one poster does.
-ghost use Rattle.std.specs.Prelude.{◌≡◌, ℕ, ◌+◌, ◌<◌, ◌≤◌, Option, Some, List, map, length, slice_get};
+ghost use Rattle.std.specs.Prelude.{◌≡◌, ℕ, ◌+◌, ◌<◌, ◌≤◌, Some, List, map, length, slice_get};
 ghost use Rattle.std.specs.Thread.{IsSync};
 ghost use Rattle.tournament.specs.declared.setup.Setup.{Setup};
-ghost use Rattle.tournament.specs.Posting.{answer_of};
 ghost use Rattle.posters.specs.declared.serving.Round.TheVariants.{GoesOn};
 ghost use Rattle.posters.specs.Serving.{places_from, kept_of, IsSeatOf, IsProver, said_by};
 
@@ -10,13 +9,12 @@ use crate::playing::{Place, TaskGate};
 use bisect_game::{Answerer, Judge, Provers};
 use board_book::{Ask, tasks_are_numbered};
 use dispute_board::{TaskBoard, TaskSeat, what_is_said_may_be_posted};
-use rd_base::Answer;
 use round_robin::Worker;
 use std::sync::Wait;
 use std::sync::atomic::{AtomicBool, AtomicU64, Ordering};
 use std::thread;
 use std::thread::Threads;
-use tournament::Move;
+use tournament::move_of;
 
 /// After so many turns in a row with nothing to do a poster ends.
 const MOST_IDLE_TURNS: u32 = 1_000_000;
@@ -69,16 +67,6 @@ enum Round {
     GoesOn(u32),
     /// The answerer found no memory, or another poster ended early, or too many turns in a row had nothing to do.
     EndsEarly,
-}
-
-// The move that gives this answer; a pass for none.
-fn move_of(answer: Option<Answer>) -> Move
-    ensures { answer_of result ≡ answer }
-{
-    match answer {
-        Some(answer) => Move::Give(answer),
-        None => Move::Pass,
-    }
 }
 
 // Wakes the posters that wait for news.

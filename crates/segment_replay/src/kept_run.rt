@@ -2,11 +2,12 @@ ghost use Rattle.std.specs.Prelude.{◌≡◌, ◌<◌, IfOk, map, min};
 ghost use Rattle.checkpoint_run.specs.Recorded.{AreChained, state_of_step};
 ghost use Rattle.state_commit.specs.Committing.{HasInput};
 ghost use Rattle.segment_replay.specs.Roots.{root_at, digests};
+ghost use denote.Param.Send.{IsSync};
 
 use crate::cursor::machine_of_step;
 use crate::replaying::{Worker, roots_by};
 use checkpoint_run::{Run, tampered_runs_keep_the_input};
-use digest_core::Digester;
+use digest_core::{Digester, Sha256, Weak8};
 use rd_base::{Digest32, Memory};
 use state_commit::{Committed, SharedInput, one_input_has_one_tree};
 use std::alloc::Global;
@@ -127,5 +128,80 @@ impl<D: Digester> KeptRun<D> {
     {
         let input = self.input.share()?;
         committed_with_input(rt, alloc, self.d, &self.run, input, step)
+    }
+}
+
+/// A digester by which runs can be replayed in threads. A method of a trait can't hand a digester of a type parameter to
+/// threads, so each digester says by itself that it can: its methods are those of `KeptRun`.
+pub trait Replays: Digester {
+    /// `KeptRun::roots` by this digester.
+    fn roots_of<R: Threads + Sync>(
+        self,
+        rt: &R,
+        alloc: Global,
+        run: &mut KeptRun<Self>,
+        steps: &[u64],
+        workers: u32,
+    ) -> Result<Vec<Digest32>, Memory>
+        requires sync { IsSync R.row }
+        requires workers { 0 < workers }
+        ensures roots { IfOk result (λ v. digests v.items ≡ map (root_at Self.digest_of run.old) steps.now) }
+        ensures run { run.new ≡ run.old };
+
+    /// `KeptRun::committed` by this digester.
+    fn committed_of<R: Threads + Sync>(
+        self,
+        rt: &R,
+        alloc: Global,
+        run: &KeptRun<Self>,
+        step: u64,
+    ) -> Result<Committed<Self>, Memory>
+        requires { IsSync R.row }
+        ensures { IfOk result (λ c. c ≡ state_of_step run.now (min step run.now.bound)) };
+}
+
+impl Replays for Sha256 {
+    fn roots_of<R: Threads + Sync>(
+        self,
+        rt: &R,
+        alloc: Global,
+        run: &mut KeptRun<Self>,
+        steps: &[u64],
+        workers: u32,
+    ) -> Result<Vec<Digest32>, Memory> {
+        run.roots(rt, alloc, steps, workers)
+    }
+
+    fn committed_of<R: Threads + Sync>(
+        self,
+        rt: &R,
+        alloc: Global,
+        run: &KeptRun<Self>,
+        step: u64,
+    ) -> Result<Committed<Self>, Memory> {
+        run.committed(rt, alloc, step)
+    }
+}
+
+impl Replays for Weak8 {
+    fn roots_of<R: Threads + Sync>(
+        self,
+        rt: &R,
+        alloc: Global,
+        run: &mut KeptRun<Self>,
+        steps: &[u64],
+        workers: u32,
+    ) -> Result<Vec<Digest32>, Memory> {
+        run.roots(rt, alloc, steps, workers)
+    }
+
+    fn committed_of<R: Threads + Sync>(
+        self,
+        rt: &R,
+        alloc: Global,
+        run: &KeptRun<Self>,
+        step: u64,
+    ) -> Result<Committed<Self>, Memory> {
+        run.committed(rt, alloc, step)
     }
 }

@@ -17,9 +17,7 @@
 mod cursor;
 mod kept_run;
 mod replaying;
-mod replays;
 
 pub use cursor::run_input_root;
-pub use kept_run::KeptRun;
+pub use kept_run::{KeptRun, Replays};
 pub use replaying::{committed_at, roots, roots_with_input};
-pub use replays::Replays;

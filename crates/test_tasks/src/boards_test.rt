@@ -1,6 +1,5 @@
 //! Boards of two tasks whose moves come in every order.
 ghost use Rattle.std.specs.Prelude.{◌≡◌, ◌<◌, ◌≤◌, IfOk, length};
-ghost use Rattle.tournament.specs.Posting.{answer_of};
 ghost use Rattle.toy_game.specs.Toy.{answers, says_of};
 ghost use Rattle.test_tasks.specs.Casts.{cast_at};
 ghost use Rattle.posters.specs.Serving.{kept_of};
@@ -12,28 +11,18 @@ use bisect_game::Answerer;
 use board_book::{Ask, Book, Entry};
 use dispute_board::{TaskBoard, TaskSeat, what_is_said_may_be_posted};
 use posters::OpenGate;
-use rd_base::{Answer, Memory, Qid};
+use rd_base::{Memory, Qid};
 use std::alloc::Global;
 use std::sync::Wait;
 use std::test::Fail;
 use std::thread::Threads;
-use tournament::Move;
+use tournament::move_of;
 use toy_game::in_short::{Ended, LATE, Replied, reply_in_short};
 use toy_game::{Cast, HONEST, LIAR, Player, SILENT, Seated, ToyJudge};
 
 type ToyTasks = TaskBoard<ToyJudge, Cast>;
 
 type ToySeat = TaskSeat<ToyJudge, Cast>;
-
-// The move that gives this answer; a pass for none.
-fn move_of(answer: Option<Answer>) -> Move
-    ensures { answer_of result ≡ answer }
-{
-    match answer {
-        Some(answer) => Move::Give(answer),
-        None => Move::Pass,
-    }
-}
 
 // The player that is prover `p` of task `t`.
 fn player_at(first: &Cast, second: &Cast, t: u32, p: u32) -> Player

@@ -104,7 +104,7 @@ impl<J: Judge + Drop> Match<J> {
     pub fn is_over(&self) -> bool
         ensures { result ≡ is_complete self.now.2.record_ }
     {
-        self.sheet.is_over()
+        self.sheet.record().is_over()
     }
 
     /// The verdict; `None` if and only if a question is open.
@@ -120,7 +120,7 @@ impl<J: Judge + Drop> Match<J> {
         requires few { p ≤ self.now.1.provers }
         ensures { result ≡ open_question (rules_of (J.ruling self.now.0) self.now.1) self.now.2.record_ p }
     {
-        self.sheet.question(&self.judge, p)
+        self.sheet.record().question(p)
     }
 
     /// How often a prover has passed on its open question; 0 without one.

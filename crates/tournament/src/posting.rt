@@ -1,6 +1,6 @@
-ghost use Rattle.std.specs.Prelude.{◌≡◌, Some};
+ghost use Rattle.std.specs.Prelude.{◌≡◌, Some, is_none};
 ghost use Rattle.bisect_game.specs.Rules.{is_fit, judged};
-ghost use Rattle.tournament.specs.Posting.{same_qid, reply_by};
+ghost use Rattle.tournament.specs.Posting.{answer_of, same_qid, reply_by};
 
 use bisect_game::{Judge, Kind, Settled};
 use rd_base::{Answer, Qid};
@@ -12,6 +12,23 @@ pub enum Move {
     Pass,
     /// It answers.
     Give(Answer),
+}
+
+/// The move that gives this answer; a pass for none.
+pub fn move_of(answer: Option<Answer>) -> Move
+    ensures { answer_of result ≡ answer }
+{
+    match answer {
+        Some(answer) => Move::Give(answer),
+        None => Move::Pass,
+    }
+}
+
+/// Whether a move is a pass.
+pub fn is_pass(turn: &Move) -> bool
+    ensures { result ≡ is_none (answer_of turn.now) }
+{
+    matches!(turn, Move::Pass)
 }
 
 /// The reply to a post.

@@ -1,5 +1,5 @@
 ghost use Rattle.std.specs.Prelude.{◌≡◌, ◌+◌, ◌-◌, ◌<◌, ◌≤◌, ◌^◌, ◌∷◌, ◌++◌, [], length, vec_len, vec_capacity, Some, None, IfSome, IfOk, replicate, if◌then◌else◌};
-ghost use Rattle.tournament.specs.Bracket.{Record, open_question, put, is_stage_due, last_stage, stage_opened, is_complete, verdict_of, nothing_settled};
+ghost use Rattle.tournament.specs.Bracket.{Record, put, is_stage_due, last_stage, stage_opened, is_complete, verdict_of, nothing_settled};
 ghost use Rattle.tournament.specs.Keeping.{Sheet, other_from, side_pairs, dispute_at, disputes_over, and_also, AllRooms};
 ghost use Rattle.tournament.specs.Posting.{rules_of};
 
@@ -9,7 +9,7 @@ use crate::reading::{
 use crate::record::Record;
 use crate::setup::Setup;
 use crate::verdict::Verdict;
-use bisect_game::{Dispute, Judge, Question, Room, Settled};
+use bisect_game::{Dispute, Judge, Room, Settled};
 use rd_base::{Digest32, Memory, same_digest};
 use std::alloc::Global;
 use std::marker::Model;
@@ -95,9 +95,10 @@ impl Sheet {
         self.table
     }
 
-    /// What is settled.
+    /// What is settled: a claim of each prover, or none yet.
     pub(crate) fn record(&self) -> &Record
-        ensures { result.now ≡ self.now.record_ }
+        ensures value { result.now ≡ self.now.record_ }
+        ensures claims { length result.now.claims ≡ self.now.table.provers }
     {
         &self.record_
     }
@@ -108,15 +109,6 @@ impl Sheet {
     {
         let Sheet { record_, .. } = self;
         record_
-    }
-
-    /// The open question of a prover.
-    pub(crate) fn question<J: Judge>(&self, judge: &J, p: u32) -> Option<Question>
-        requires some { 0 < p }
-        requires few { p ≤ self.now.table.provers }
-        ensures { result ≡ open_question (rules_of (J.ruling (J.names judge.now)) self.now.table) self.now.record_ p }
-    {
-        self.record_.question(p)
     }
 
     /// Opens one dispute.
@@ -206,13 +198,6 @@ impl Sheet {
         self.open_pairs(stage, provers, live);
     }
 
-    /// Whether nothing is open.
-    pub(crate) fn is_over(&self) -> bool
-        ensures { result ≡ is_complete self.now.record_ }
-    {
-        self.record_.is_over()
-    }
-
     /// The verdict of a match in which nothing is open.
     fn verdict_now<J: Judge>(&self, judge: &J) -> Verdict
         ensures { result ≡ verdict_of (rules_of (J.ruling (J.names judge.now)) self.now.table) self.now.record_ }
@@ -230,7 +215,7 @@ impl Sheet {
     pub(crate) fn verdict<J: Judge>(&self, judge: &J) -> Option<Verdict>
         ensures { result ≡ (if is_complete self.now.record_ then Some (verdict_of (rules_of (J.ruling (J.names judge.now)) self.now.table) self.now.record_) else None) }
     {
-        if self.is_over() {
+        if self.record_.is_over() {
             Some(self.verdict_now(judge))
         } else {
             None

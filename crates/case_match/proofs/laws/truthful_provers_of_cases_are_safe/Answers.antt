@@ -8,6 +8,7 @@ returns g c =
     (record {
       spare = c.spare_is_enough.ensures;
       over = c.nobody_asked_means_over.ensures;
+      most = c.there_is_a_most_number_of_rounds.ensures;
       of_case = c.one_record_of_a_case.ensures;
       safe = c.truthful_provers_are_safe.ensures;
     })

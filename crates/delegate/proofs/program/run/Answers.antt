@@ -1,9 +1,10 @@
-use Rattle.std.proofs.Common.{refl, subst, ap, ◌∙◌}
+use Rattle.std.proofs.Common.{refl, subst, ◌∙◌}
 use Rattle.std.specs.Io.KnownBytes.{Appends}
 use Rattle.command_line.specs.Words.{texts}
+use Rattle.delegate.specs.Headline.{AnswersTheCase, KeepsTheTruthful, AnswersTheTasks, KeepsTheTruthfulOfTasks}
+use Rattle.delegate.specs.Outcome.{outcome}
 use Rattle.delegate.specs.declared.response.Answered.TheVariants.{ReadFault, WriteFault, Memory}
-use Rattle.delegate.proofs.OutcomeLemmas.{for_its_bytes}
-use Rattle.delegate.proofs.CaseLemmas.{outcome-case, outcome-headline, outcome-tasks, outcome-task-headline}
+use Rattle.delegate.proofs.CaseLemmas.{outcome-case, outcome-headline, outcome-tasks, outcome-task-headline, written-with}
 use Rattle.delegate.proofs.KindLemmas.{response-kind, response-own, response-usage, response-usage_text, no-fault}
 use Rattle.delegate.proofs.program.run.Goals as goal
 
@@ -41,44 +42,28 @@ returns-in-Ok-write_all-clause-nothing_memory g c = λ is.
 
 pub returns-in-Ok-write_all-clause-completeness : goal.returns-in-Ok-write_all-clause-completeness
 returns-in-Ok-write_all-clause-completeness g c = λ whole.
-    for_its_bytes (g.S.Source.left c.args.source.now) _ _
-    (λ bytes its. (
-      record {
-        answered = ap (λ r. r.answered) its.0;
-        text = subst (λ text. Appends (g.K.Sink.held c.args.sink.now) (g.K.Sink.held c.write_all.new.sink) text) (c.as_slice.ensures ∙ ap (λ r. r.text) its.0) c.in-Ok-write_all.ensures.ok;
-      },
-      outcome-case c.cases_are_read_as_one_task.ensures (texts c.args.words.now) bytes,
-    )) c.in-Ok.ensures.outcome
+    written-with (g.S.Source.left c.args.source.now) (texts c.args.words.now) c.in-Ok.response (g.K.Sink.held c.args.sink.now) (g.K.Sink.held c.write_all.new.sink)
+    (λ bytes. AnswersTheCase (texts c.args.words.now) bytes (outcome (texts c.args.words.now) bytes))
+    (subst (λ text. Appends (g.K.Sink.held c.args.sink.now) (g.K.Sink.held c.write_all.new.sink) text) c.as_slice.ensures c.in-Ok-write_all.ensures.ok)
+    (λ bytes ranged. outcome-case c.cases_are_read_as_one_task.ensures (texts c.args.words.now) bytes) c.in-Ok.ensures.outcome
 
 pub returns-in-Ok-write_all-clause-headline : goal.returns-in-Ok-write_all-clause-headline
 returns-in-Ok-write_all-clause-headline g c = λ whole.
-    for_its_bytes (g.S.Source.left c.args.source.now) _ _
-    (λ bytes its. (
-      record {
-        answered = ap (λ r. r.answered) its.0;
-        text = subst (λ text. Appends (g.K.Sink.held c.args.sink.now) (g.K.Sink.held c.write_all.new.sink) text) (c.as_slice.ensures ∙ ap (λ r. r.text) its.0) c.in-Ok-write_all.ensures.ok;
-      },
-      outcome-headline c.cases_are_read_as_one_task.ensures c.the_headline.ensures (texts c.args.words.now) bytes its.1,
-    )) c.in-Ok.ensures.outcome
+    written-with (g.S.Source.left c.args.source.now) (texts c.args.words.now) c.in-Ok.response (g.K.Sink.held c.args.sink.now) (g.K.Sink.held c.write_all.new.sink)
+    (λ bytes. KeepsTheTruthful (texts c.args.words.now) bytes (outcome (texts c.args.words.now) bytes))
+    (subst (λ text. Appends (g.K.Sink.held c.args.sink.now) (g.K.Sink.held c.write_all.new.sink) text) c.as_slice.ensures c.in-Ok-write_all.ensures.ok)
+    (outcome-headline c.cases_are_read_as_one_task.ensures c.the_headline.ensures (texts c.args.words.now)) c.in-Ok.ensures.outcome
 
 pub returns-in-Ok-write_all-clause-task_completeness : goal.returns-in-Ok-write_all-clause-task_completeness
 returns-in-Ok-write_all-clause-task_completeness g c = λ whole.
-    for_its_bytes (g.S.Source.left c.args.source.now) _ _
-    (λ bytes its. (
-      record {
-        answered = ap (λ r. r.answered) its.0;
-        text = subst (λ text. Appends (g.K.Sink.held c.args.sink.now) (g.K.Sink.held c.write_all.new.sink) text) (c.as_slice.ensures ∙ ap (λ r. r.text) its.0) c.in-Ok-write_all.ensures.ok;
-      },
-      outcome-tasks (texts c.args.words.now) bytes,
-    )) c.in-Ok.ensures.outcome
+    written-with (g.S.Source.left c.args.source.now) (texts c.args.words.now) c.in-Ok.response (g.K.Sink.held c.args.sink.now) (g.K.Sink.held c.write_all.new.sink)
+    (λ bytes. AnswersTheTasks (texts c.args.words.now) bytes (outcome (texts c.args.words.now) bytes))
+    (subst (λ text. Appends (g.K.Sink.held c.args.sink.now) (g.K.Sink.held c.write_all.new.sink) text) c.as_slice.ensures c.in-Ok-write_all.ensures.ok)
+    (λ bytes ranged. outcome-tasks (texts c.args.words.now) bytes) c.in-Ok.ensures.outcome
 
 pub returns-in-Ok-write_all-clause-task_headline : goal.returns-in-Ok-write_all-clause-task_headline
 returns-in-Ok-write_all-clause-task_headline g c = λ whole.
-    for_its_bytes (g.S.Source.left c.args.source.now) _ _
-    (λ bytes its. (
-      record {
-        answered = ap (λ r. r.answered) its.0;
-        text = subst (λ text. Appends (g.K.Sink.held c.args.sink.now) (g.K.Sink.held c.write_all.new.sink) text) (c.as_slice.ensures ∙ ap (λ r. r.text) its.0) c.in-Ok-write_all.ensures.ok;
-      },
-      outcome-task-headline c.the_headline.ensures (texts c.args.words.now) bytes its.1,
-    )) c.in-Ok.ensures.outcome
+    written-with (g.S.Source.left c.args.source.now) (texts c.args.words.now) c.in-Ok.response (g.K.Sink.held c.args.sink.now) (g.K.Sink.held c.write_all.new.sink)
+    (λ bytes. KeepsTheTruthfulOfTasks (texts c.args.words.now) bytes (outcome (texts c.args.words.now) bytes))
+    (subst (λ text. Appends (g.K.Sink.held c.args.sink.now) (g.K.Sink.held c.write_all.new.sink) text) c.as_slice.ensures c.in-Ok-write_all.ensures.ok)
+    (outcome-task-headline c.the_headline.ensures (texts c.args.words.now)) c.in-Ok.ensures.outcome
