@@ -8,9 +8,9 @@ ghost use Rattle.checkpoint_run.specs.Versions.{AreBelow, IsShownBut, is_among};
 ghost use Rattle.checkpoint_run.specs.NotedPages.{AreNoted};
 ghost use Rattle.checkpoint_run.specs.UnderWay.{IsUnderWay, IsAtEnd};
 
+use crate::checkpoint::{Checkpoint, add_checkpoint, used_pages};
 use crate::tampering::{follow, is_at_rest, tamper_at};
 use crate::version::Version;
-use crate::checkpoint::{Checkpoint, add_checkpoint, used_pages};
 use digest_core::Digester;
 use rd_base::{Memory, Tamper};
 use rv_step::Machine;

@@ -6,10 +6,10 @@ ghost use Rattle.checkpoint_run.specs.NamedPages.{IsNamed, ArePages};
 ghost use Rattle.checkpoint_run.specs.WrittenPages.{written_by};
 ghost use Rattle.checkpoint_run.specs.Recorded.{AreChained, state_of_step, still_of};
 
+use crate::checkpoint::{Checkpoint, restored};
 use crate::recording::{Recording, begin, record_to_end};
 use crate::tampering::follow;
 use crate::version::Version;
-use crate::checkpoint::{Checkpoint, restored};
 use digest_core::Digester;
 use rd_base::{Memory, Tamper};
 use rv_step::{Machine, runs_keep_the_input, stopped_states_stay};

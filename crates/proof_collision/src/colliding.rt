@@ -9,9 +9,7 @@ ghost use Rattle.proof_collision.specs.Collision as collision;
 
 use crate::walking::{chunk_collision, each_collision, input_collision, text_collision};
 use digest_core::{Digester, control_text, registers_text, state_text, storage_text};
-use proof_facts::{
-    Called, Facts, HeldInput, HeldRegisters, called_by, facts_of, fetch_address,
-};
+use proof_facts::{Called, Facts, HeldInput, HeldRegisters, called_by, facts_of, fetch_address};
 use rd_base::{Ctl, Digest32, InOpening, OpenText, Proof};
 
 /// The digest of what is stored: the root of memory, or the digest of the storage string.

@@ -15,8 +15,8 @@ mod names;
 mod ranges;
 
 pub use called::{
-    Called, address_needed, byte_needed, called_by, fetch_address, fetched_in, file_shown, needed_by,
-    number_shown, offering,
+    Called, address_needed, byte_needed, called_by, fetch_address, fetched_in, file_shown,
+    needed_by, number_shown, offering,
 };
 pub use facts::{Facts, HeldInput, HeldRegisters, facts_of};
 pub use laws::{

@@ -195,9 +195,7 @@ impl<D: Digester> Committed<D> {
     {
         match &self.regs {
             Some(tree) => tree.root(),
-            None => self
-                .d
-                .digest(registers_text(&self.machine.regs).as_slice()),
+            None => self.d.digest(registers_text(&self.machine.regs).as_slice()),
         }
     }
 

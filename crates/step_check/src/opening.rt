@@ -17,9 +17,7 @@ use digest_core::{
 };
 use merkle_nodes::{climb_counted, digest_counted};
 use proof_facts::{HeldInput, HeldRegisters};
-use rd_base::{
-    Ctl, Digest32, InOpening, Opening, RegOpening, Regs, Steps, same_digest,
-};
+use rd_base::{Ctl, Digest32, InOpening, Opening, RegOpening, Regs, Steps, same_digest};
 use std::sync::ledger::Ledger;
 
 /// Whether something is there if and only if it is called for.

@@ -1,8 +1,15 @@
-//! Tests of provers: their plain answers, and those of the provers of a case.
+//! Tests of provers: their plain answers (`plain_answers_test`), those of a prover by its run (`prover_run_test`) and of the provers of a
+//! case by their scripts (`case_provers_test`), and how many digests they take (`digests_test`).
 //!
-//! No layer of the product stands on this crate. Each module has the tests of the crate that it is named for.
+//! No layer of the product stands on this crate.
 #![tactic(auto)]
 
+#[cfg(test)]
+mod asking;
+#[cfg(test)]
+mod case_provers_test;
+#[cfg(test)]
+mod digests_test;
 #[cfg(test)]
 mod plain_answers_test;
 #[cfg(test)]
