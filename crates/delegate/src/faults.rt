@@ -2,11 +2,10 @@ ghost use Rattle.std.specs.Prelude.{◌≡◌, IfOk, string_bytes};
 ghost use Rattle.image_reader.specs.Fault.{rule_of};
 ghost use Rattle.delegate.specs.Refusal.{usage, too_long, case_fault_text, case_refusal, task_refusal, image_refusal, asm_refusal, rule_text};
 
-use crate::response::{Answered, Response, Subject};
+use crate::response::{Answered, Response, Subject, text_response};
 use asm_image::AsmImageFault;
 use case_reader::{CaseFault, TaskFault};
 use image_reader::ImageFault;
-use rd_base::Bytes;
 use std::alloc::{AllocError, Global};
 
 /// The response to arguments that name no command.
@@ -14,7 +13,7 @@ pub fn usage(alloc: Global) -> Result<Response, AllocError>
     ensures { IfOk result (λ response. response ≡ usage) }
 {
     let text = String::from_str(alloc, "fault usage\n")?;
-    Ok(response(Answered::Usage, text))
+    Ok(text_response(Answered::Usage, text))
 }
 
 /// The response to more bytes than are read.
@@ -22,7 +21,7 @@ pub fn too_long(alloc: Global) -> Result<Response, AllocError>
     ensures { IfOk result (λ response. response ≡ too_long) }
 {
     let text = String::from_str(alloc, "fault too long\n")?;
-    Ok(response(Answered::TooLong, text))
+    Ok(text_response(Answered::TooLong, text))
 }
 
 /// The response to a fault of a case, of this subject. The text is empty where memory ran out.
@@ -34,7 +33,7 @@ pub fn case_refusal(
     ensures { IfOk result (λ response. response ≡ case_refusal subject fault) }
 {
     let text = case_fault_text(alloc, subject, fault)?;
-    Ok(response(Answered::Case, text))
+    Ok(text_response(Answered::Case, text))
 }
 
 /// The text about a rule of a case that is broken; it is empty where memory ran out.
@@ -73,7 +72,7 @@ pub fn image_refusal(
     ensures { IfOk result (λ response. response ≡ image_refusal subject fault) }
 {
     let text = rule_text(alloc, subject, fault)?;
-    Ok(response(Answered::Image, text))
+    Ok(text_response(Answered::Image, text))
 }
 
 /// The text about a rule of images that is broken; it is empty where memory ran out.
@@ -102,14 +101,5 @@ pub fn asm_refusal(
         AsmImageFault::Image(fault) => rule_text(alloc, subject, fault)?,
         AsmImageFault::Memory => String::new(alloc),
     };
-    Ok(response(Answered::Image, text))
-}
-
-fn response(answered: Answered, text: String) -> Response
-    ensures { result ≡ record { answered = answered; text = string_bytes text } }
-{
-    Response {
-        answered,
-        text: Bytes::new(text.into_bytes()),
-    }
+    Ok(text_response(Answered::Image, text))
 }

@@ -1,5 +1,5 @@
 //! What the program answers: how it ended, what is written, and why a command isn't carried out.
-ghost use Rattle.std.specs.Prelude.{◌≡◌, Some};
+ghost use Rattle.std.specs.Prelude.{◌≡◌, Some, string_bytes};
 ghost use Rattle.delegate.specs.declared.response.Halt.TheVariants.{Memory as halted};
 ghost use Rattle.delegate.specs.declared.response.Stop.TheVariants.{Memory as stopped};
 ghost use Rattle.delegate.specs.Answered.{status_number, graver};
@@ -97,6 +97,16 @@ impl fmt::Display for Subject {
 pub struct Response {
     pub answered: Answered,
     pub text: Bytes,
+}
+
+/// A response with this text.
+pub fn text_response(answered: Answered, text: String) -> Response
+    ensures { result ≡ record { answered = answered; text = string_bytes text } }
+{
+    Response {
+        answered,
+        text: Bytes::new(text.into_bytes()),
+    }
 }
 
 /// Why a command isn't carried out.

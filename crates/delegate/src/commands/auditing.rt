@@ -7,24 +7,15 @@ ghost use Rattle.audit.specs.LineByLine.{audited};
 ghost use Rattle.delegate.specs.commands.Audit.{text_refusal, full_text_in, cause_number, found, judge_of, checked};
 ghost use Rattle.delegate.specs.Standing.{Stands};
 
-use crate::response::{Answered, Response, Stop};
+use crate::response::{Answered, Response, Stop, text_response};
 use audit::{Audit, Cause, a_read_text_may_be_audited, audit};
 use digest_core::{Sha256, Weak8};
-use rd_base::{Bytes, Memory, Status};
+use rd_base::{Memory, Status};
 use std::alloc::{AllocError, Global};
 use std::fmt::Write;
 use step_referee::MachineJudge;
 use text_reader::{TextFault, read_full, reading_is_the_inverse_of_writing};
 use text_types::{DigestName, FullText, Stated};
-
-fn response(answered: Answered, text: String) -> Response
-    ensures { result ≡ record { answered = answered; text = string_bytes text } }
-{
-    Response {
-        answered,
-        text: Bytes::new(text.into_bytes()),
-    }
-}
 
 /// The response to a fault of a text. The text is empty where memory ran out.
 fn text_refusal(alloc: Global, fault: TextFault) -> Result<Response, AllocError>
@@ -37,7 +28,7 @@ fn text_refusal(alloc: Global, fault: TextFault) -> Result<Response, AllocError>
         TextFault::OutOfRange(line) => format!(in alloc; "fault text 4 {line}\n")?,
         TextFault::Memory => String::new(alloc),
     };
-    Ok(response(Answered::AuditRefused, text))
+    Ok(text_response(Answered::AuditRefused, text))
 }
 
 /// The full text of the bytes.
@@ -141,7 +132,7 @@ fn confirmed(alloc: Global, stated: &Stated) -> Result<Response, AllocError>
 {
     let mut text = String::from_str(alloc, "confirmed ")?;
     add_stated(&mut text, alloc, stated)?;
-    Ok(response(Answered::Done, text))
+    Ok(text_response(Answered::Done, text))
 }
 
 /// The response to what an audit finds of a text with this stated verdict.
@@ -153,7 +144,7 @@ fn found(alloc: Global, stated: &Stated, audit: &Audit) -> Result<Response, Allo
         Audit::Refused { line, cause } => {
             let number = number_of(*cause);
             let text = format!(in alloc; "refused {line} {number}\n")?;
-            Ok(response(Answered::AuditRefused, text))
+            Ok(text_response(Answered::AuditRefused, text))
         }
     }
 }
