@@ -49,7 +49,7 @@ pub record IsTextOf (rules : Rules) (text : FullText) (v : Verdict) : Type 0 whe
   pub verdict : verdict_of rules (own_record rules text.moves) ≡ v
   pub stated : stated_of (own_record rules text.moves).claims v ≡ Some text.stated
 
--- a text is confirmed if and only if it is
+-- a text is confirmed if and only if it is that of its own match
 abbrev pub ConfirmedExactly : Type 0
 ConfirmedExactly =
     (ruling : Ruling) (text : FullText) (v : Verdict) →

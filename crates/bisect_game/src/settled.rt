@@ -1,3 +1,4 @@
+//! What a dispute is made of: where it stands, its sides, what their answers were settled as, its rounds, and how it closed.
 ghost use Rattle.std.specs.Prelude.{◌≡◌};
 
 use rd_base::{Answer, Digest32, OpenText};
@@ -18,19 +19,6 @@ pub struct Interval {
     pub second: Digest32,
 }
 
-/// A round that went on: its interval, and what each side's answer was settled as.
-#[derive(Debug, Drop)]
-pub struct Round {
-    /// The lower step of its interval.
-    pub lo: u64,
-    /// The upper step of its interval.
-    pub hi: u64,
-    /// What the first side's answer was settled as.
-    pub first: Settled,
-    /// What the second side's answer was settled as.
-    pub second: Settled,
-}
-
 /// A side of a dispute.
 #[derive(Clone, Copy, Debug, PartialEq, Eq)]
 pub enum Side {
@@ -49,6 +37,19 @@ pub enum Settled {
     Faulty(Answer),
     /// The prover passed once more than the patience.
     Spent,
+}
+
+/// A round that went on: its interval, and what each side's answer was settled as.
+#[derive(Debug, Drop)]
+pub struct Round {
+    /// The lower step of its interval.
+    pub lo: u64,
+    /// The upper step of its interval.
+    pub hi: u64,
+    /// What the first side's answer was settled as.
+    pub first: Settled,
+    /// What the second side's answer was settled as.
+    pub second: Settled,
 }
 
 /// How a dispute closed.

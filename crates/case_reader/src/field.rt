@@ -1,8 +1,10 @@
+//! The values of keys: of a case, with a fault that names the key (`text_of`, `number_of` and their like), and of the parts of a script,
+//! with `None` for each fault (`text_at`, `number_at`, `word_at`).
 ghost use Rattle.std.specs.Prelude.{◌≤◌, map, Ok, IfOk, IfSome, ◌≡◌};
+ghost use Rattle.std.specs.Option.{option_map};
 ghost use Rattle.serde_json.specs.View.{view, items_view};
 ghost use Rattle.rd_base.specs.Results.{Gives};
 ghost use Rattle.case_reader.specs.Fields.{field, text_in, bytes_in, number_of, number_in, optional_number_in, array_in, hex_of};
-ghost use Rattle.std.specs.Option.{option_map};
 ghost use Rattle.case_reader.specs.Scripts.{text_at, number_at, word_at};
 
 use crate::fault::{CaseFault, Key};

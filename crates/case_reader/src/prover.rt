@@ -1,3 +1,4 @@
+//! The script of a prover: its tamper and its manner.
 ghost use Rattle.std.specs.Prelude.{◌≡◌, ◌≤◌, length, map, IfOk, Ok, codes};
 ghost use Rattle.serde_json.specs.Find.{get};
 ghost use Rattle.serde_json.specs.View.{view};
@@ -48,7 +49,7 @@ fn early_of(tamper: &Value) -> Option<Tamper>
 
 /// The tamper of a value, where it is one that is known.
 #[tactic(auto, unfolding(crate::specs::Scripts::tamper_in))]
-pub fn tamper_of(tamper: &Value) -> Option<Tamper>
+fn tamper_of(tamper: &Value) -> Option<Tamper>
     ensures { result ≡ tamper_in (view tamper.now) }
 {
     match text_at(tamper, "kind")? {
@@ -60,7 +61,7 @@ pub fn tamper_of(tamper: &Value) -> Option<Tamper>
 }
 
 /// The tamper of a prover, where it is known or there is none.
-fn tamper_in(prover: &Value) -> Option<Tamper>
+fn tamper_or_untouched(prover: &Value) -> Option<Tamper>
     ensures { result ≡ tamper_or_untouched (get (codes "tamper") (view prover.now)) }
 {
     match prover.get("tamper") {
@@ -70,7 +71,7 @@ fn tamper_in(prover: &Value) -> Option<Tamper>
 }
 
 /// The manner of a prover, where it is known or there is none.
-fn manner_in(alloc: Global, prover: &Value) -> Result<Option<Manner>, CaseFault>
+fn manner_or_plain(alloc: Global, prover: &Value) -> Result<Option<Manner>, CaseFault>
     ensures { Gives CaseFault.Memory (λ known. known) result (Ok (manner_or_plain (get (codes "manner") (view prover.now)))) }
 {
     match prover.get("manner") {
@@ -86,10 +87,10 @@ fn script_of(alloc: Global, prover: &Value) -> Result<Option<Script>, CaseFault>
     if !prover.is_object() {
         return Ok(None);
     }
-    let Some(tamper) = tamper_in(prover) else {
+    let Some(tamper) = tamper_or_untouched(prover) else {
         return Ok(None);
     };
-    match manner_in(alloc, prover)? {
+    match manner_or_plain(alloc, prover)? {
         Some(manner) => Ok(Some(Script { tamper, manner })),
         None => Ok(None),
     }

@@ -1,4 +1,4 @@
-//! Checkpoints, and the versions of pages below them, one behind the other: the last version of a page is the page.
+//! Checkpoints of a run, and the versions of its pages: of all versions of a page that stand before a checkpoint, the last one is the page.
 ghost use Rattle.std.specs.Prelude.{◌≡◌, ℕ, ◌++◌, [], List, true, IfOk, OnOk};
 ghost use Rattle.mem_plain.specs.Contents.{IsUsed};
 ghost use Rattle.checkpoint_run.specs.Versions.{pictured, pages_of, is_among, AreBelow, IsShownBut};
@@ -11,6 +11,15 @@ use rd_base::{Ctl, Memory, Regs};
 use rv_step::Machine;
 use std::alloc::Global;
 use std::collections::BTreeSet;
+
+/// A state of a run: its registers and control fields, and how many versions of pages stand before it. Its output is the
+/// front of the run's output.
+#[derive(Drop)]
+pub struct Checkpoint {
+    pub regs: Regs,
+    pub ctl: Ctl,
+    pub versions: usize,
+}
 
 /// The pages of a memory that have a byte other than 0, and no others. An `Err` is out of memory.
 pub fn used_pages(alloc: Global, mem: &PlainMem) -> Result<BTreeSet<u32>, Memory>
@@ -28,7 +37,7 @@ pub fn used_pages(alloc: Global, mem: &PlainMem) -> Result<BTreeSet<u32>, Memory
 }
 
 /// Adds one version of each page that changed, and no other. An `Err` is out of memory, after some were added.
-pub fn add_versions(
+fn add_versions(
     versions: &mut Vec<Version>,
     changed: &BTreeSet<u32>,
     mem: &PlainMem,
@@ -44,33 +53,6 @@ pub fn add_versions(
         versions.push(Version { page: *page, bytes })?;
     }
     Ok(())
-}
-
-/// The memory that versions stand for. It copies the last version of each page. An `Err` is out of memory.
-pub fn restored(alloc: Global, versions: &[Version]) -> Result<PlainMem, Memory>
-    ensures { IfOk result (λ m. m ≡ pictured versions.now) }
-{
-    contents_of_a_function();
-    laying_bytes();
-    let mut mem = PlainMem::new(alloc);
-    let mut put = BTreeSet::new(alloc);
-    'versions: for k in (0..versions.len()).rev() {
-        let version = &versions[k];
-        if put.insert(version.page)? {
-            mem.put_page(version.page, version.bytes.clone()?)?;
-        }
-    }
-    mem.is_memory();
-    Ok(mem)
-}
-
-/// A state of a run: its registers and control fields, and how many versions of pages stand before it. Its output is the
-/// front of the run's output.
-#[derive(Drop)]
-pub struct Checkpoint {
-    pub regs: Regs,
-    pub ctl: Ctl,
-    pub versions: usize,
 }
 
 /// Adds the checkpoint of a machine, with one version of each page that has changed since the checkpoint before, and no other.
@@ -99,4 +81,22 @@ pub fn add_checkpoint(
     contents_of_a_function();
     machine.mem.is_memory();
     Ok(())
+}
+
+/// The memory that versions stand for. It copies the last version of each page. An `Err` is out of memory.
+pub fn restored(alloc: Global, versions: &[Version]) -> Result<PlainMem, Memory>
+    ensures { IfOk result (λ m. m ≡ pictured versions.now) }
+{
+    contents_of_a_function();
+    laying_bytes();
+    let mut mem = PlainMem::new(alloc);
+    let mut put = BTreeSet::new(alloc);
+    'versions: for k in (0..versions.len()).rev() {
+        let version = &versions[k];
+        if put.insert(version.page)? {
+            mem.put_page(version.page, version.bytes.clone()?)?;
+        }
+    }
+    mem.is_memory();
+    Ok(mem)
 }

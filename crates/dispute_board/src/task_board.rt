@@ -18,8 +18,8 @@ use std::marker::Model;
 use std::sync::Wait;
 use tournament::Move;
 
-/// A seat at the board of many tasks, to ask and post with. It has no bytes. Contracts see the openings of the tasks' books (`head`), what the seat has
-/// seen of the journal of all tasks, and the places of its own posts there (`receipts`).
+/// A seat at the board of many tasks, to ask and post with. It has no bytes. Contracts see the openings of the tasks' books (`head`), what
+/// the seat has seen of the journal of all tasks, and the places of its own posts there (`receipts`).
 ///
 /// A seat that is dropped stays out: the board can then only be dropped.
 pub type TaskSeat<J, P> = seat_lock::Seat<Locked<J, P>>;

@@ -46,7 +46,7 @@ pub enum ReadAll {
 /// Reads all that the source has, at most `limit` bytes.
 ///
 /// `Fault` comes only where the source's count of faults rose, and every other answer leaves that count as it
-/// was. `TooLong` comes if and only if the source had more than `limit` bytes, and `Memory` where an allocation was
+/// was. `TooLong` comes only if the source had more than `limit` bytes, and `Memory` only if an allocation was
 /// refused, which an empty source never needs. After an error the source stands after the bytes that were read:
 /// at most `limit`, and with `TooLong` at most 4,096 more. Nothing is read after the end, nor once more than `limit`
 /// bytes were seen.

@@ -18,5 +18,5 @@ mod table;
 pub use laws::{
     contents_of_a_function, laying_bytes, memories_are_their_bytes, numbers_lie_in_chunks,
 };
-pub use memory::PlainMem;
+pub use memory::{PAGES, PlainMem};
 pub use page::{PAGE_BYTES, Page};

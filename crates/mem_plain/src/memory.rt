@@ -13,7 +13,7 @@ use std::marker::Model;
 const CHUNK_BYTES: u32 = 32;
 
 /// How many pages there are.
-const PAGES: u32 = 1_048_576;
+pub const PAGES: u32 = 1_048_576;
 
 /// Memory of 2^32 bytes, of which contracts see those that aren't 0.
 #[derive(Drop)]

@@ -31,6 +31,7 @@ fn used_pages(alloc: Global, mem: &PlainMem) -> Result<Vec<u32>, Memory>
     Ok(pages)
 }
 
+/// The subtree of a page, with a counter of its own. An `Err` is out of memory.
 fn page_tree_in<D: Digester, L: Ledger>(
     d: D,
     alloc: Global,
@@ -111,7 +112,7 @@ fn no_nodes<D: Digester>(alloc: Global, d: D) -> Nodes
     }
 }
 
-/// The nodes of a memory, whose pages' subtrees are computed side by side, with a counter of this name. An `Err` is out of memory.
+/// The nodes of a memory, whose pages' subtrees are computed side by side, with a counter of its own. An `Err` is out of memory.
 pub(crate) fn nodes_in<R: Threads + Sync, D: Digester + Send + Sync, L: Ledger>(
     rt: &R,
     alloc: Global,

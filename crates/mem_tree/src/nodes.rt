@@ -17,10 +17,10 @@ use std::collections::BTreeSet;
 use std::sync::ledger::Ledger;
 
 /// The level of the pages' roots.
-pub(crate) const PAGE_LEVEL: u8 = 7;
+pub const PAGE_LEVEL: u8 = 7;
 
 /// How many levels stand above the pages' roots.
-const UPPER_LEVELS: u8 = 20;
+pub const UPPER_LEVELS: u8 = 20;
 
 /// How many nodes a page has at one of the levels below its root.
 fn page_width(level: u8) -> u32

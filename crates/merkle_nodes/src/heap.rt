@@ -1,4 +1,4 @@
-//! Trees that are kept as heaps.
+//! The nodes of a tree whose leaves all have one string, and trees that are kept as heaps.
 ghost use Rattle.std.specs.Prelude.{◌≡◌, ◌+◌, ◌-◌, ◌*◌, ◌^◌, ◌<◌, ◌≤◌, ◌||◌, ℕ, List, false, length};
 ghost use Rattle.merkle_nodes.specs.Node.{digest_at, empty_node, beside as place_beside};
 ghost use Rattle.merkle_nodes.specs.Heap.{AreJoined, IsHeap, IsJoinedAt, is_marked};
@@ -34,6 +34,21 @@ pub fn fill_empty_nodes<D: Digester>(d: D, leaf: &OpenText, nodes: &mut [Digest3
     }
 }
 
+/// Makes a heap that of the tree of so many levels over leaves that all have one string, of which the empty node of each level
+/// is given, that of level l at place l. It makes no digest.
+pub fn fill_empty_heap(empties: &[Digest32], nodes: &mut [Digest32], levels: u32)
+    requires levels { levels < length empties.now }
+    requires len { length nodes.old ≡ 2 ^ (levels + 1) }
+    ensures len { length nodes.new ≡ length nodes.old }
+    ensures heap { (digest : List ℕ → List ℕ) (text : List ℕ) →
+        ((l : ℕ) → l ≤ levels → digest_at empties.now l ≡ empty_node digest text l) → IsHeap digest nodes.new levels (λ _. text) }
+{
+    'places: for place in 1..nodes.len() {
+        let above = place.ilog2();
+        nodes[place] = empties[(levels - above) as usize];
+    }
+}
+
 /// Digests the nodes of a heap anew that stand above marked places, and marks them, with a step for each. Every other node
 /// above the leaves is the digest of the two below it, so that each is in the end.
 pub fn renew_nodes<D: Digester, L: Ledger>(
@@ -64,21 +79,6 @@ pub fn renew_nodes<D: Digester, L: Ledger>(
             nodes[i] = node;
             marks[i] = true;
         }
-    }
-}
-
-/// Makes a heap that of the tree of so many levels over leaves that all have one string, of which the empty node of each level
-/// is given, that of level l at place l. It makes no digest.
-pub fn fill_empty_heap(empties: &[Digest32], nodes: &mut [Digest32], levels: u32)
-    requires levels { levels < length empties.now }
-    requires len { length nodes.old ≡ 2 ^ (levels + 1) }
-    ensures len { length nodes.new ≡ length nodes.old }
-    ensures heap { (digest : List ℕ → List ℕ) (text : List ℕ) →
-        ((l : ℕ) → l ≤ levels → digest_at empties.now l ≡ empty_node digest text l) → IsHeap digest nodes.new levels (λ _. text) }
-{
-    'places: for place in 1..nodes.len() {
-        let above = place.ilog2();
-        nodes[place] = empties[(levels - above) as usize];
     }
 }
 

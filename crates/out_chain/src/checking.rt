@@ -1,6 +1,6 @@
 ghost use Rattle.std.specs.Prelude.{◌≡◌, true};
-ghost use Rattle.out_chain.specs.Soundness.{claim_check, says_sound, is_claim_in_range, is_sound};
 ghost use Rattle.digest_core.specs.Chain as chain;
+ghost use Rattle.out_chain.specs.Soundness.{claim_check, says_sound, is_claim_in_range, is_sound};
 
 use digest_core::{Digester, chain_grows, codes_fit, digests_are_32_bytes, link};
 use rd_base::{Claim, Digest32, same_digest};

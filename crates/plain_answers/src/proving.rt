@@ -19,14 +19,29 @@ use rv_step::machines_are_valid;
 use state_commit::{Committed, INPUT_TREE, WHOLE_REGISTERS};
 use std::alloc::Global;
 
+/// The control fields of a machine's state.
+fn ctl_of<D: Digester>(committed: &Committed<D>) -> Ctl
+    ensures { result ≡ ctl_of D.digest_of committed.now }
+{
+    let machine = committed.machine();
+    let _out_len = machine.ctl.out_len;
+    machine.ctl
+}
+
+/// How many bytes a machine's input has.
+fn input_len<D: Digester>(committed: &Committed<D>) -> u32
+    ensures { result ≡ length committed.now.input }
+{
+    committed.machine().input.len() as u32
+}
+
 /// The digest of what a state stores, as its version has it.
 fn stored<D: Digester>(d: D, committed: &Committed<D>) -> Digest32
     ensures { result.0 ≡ storage_digest D.digest_of committed.now.version committed.now }
 {
-    let machine = committed.machine();
     let memory = committed.memory_root();
-    if machine.version == INPUT_TREE {
-        let text = storage_text(&memory, machine.input.len() as u32, &committed.input_root());
+    if committed.machine().version == INPUT_TREE {
+        let text = storage_text(&memory, input_len(committed), &committed.input_root());
         d.digest(text.as_slice())
     } else {
         memory
@@ -43,33 +58,16 @@ pub fn make_claim<D: Digester>(
     requires { length committed.now.output ≤ 4294967295 }
     ensures { IfOk result (λ c. c ≡ plain_claim D.digest_of committed.now) }
 {
-    let machine = committed.machine();
-    let _out_len = machine.ctl.out_len;
-    let Some(output) = ClaimOutput::new(machine.output.as_slice().to_vec(alloc)?) else {
+    let output = committed.machine().output.as_slice().to_vec(alloc)?;
+    let Some(output) = ClaimOutput::new(output) else {
         unreachable!()
     };
     Ok(Claim {
         mem: stored(d, committed),
         regs: committed.registers_digest(),
-        ctl: machine.ctl,
+        ctl: ctl_of(committed),
         output,
     })
-}
-
-/// The control fields of a machine's state.
-fn ctl_of<D: Digester>(committed: &Committed<D>) -> Ctl
-    ensures { result ≡ ctl_of D.digest_of committed.now }
-{
-    let machine = committed.machine();
-    let _out_len = machine.ctl.out_len;
-    machine.ctl
-}
-
-/// How many bytes a machine's input has.
-fn input_len<D: Digester>(committed: &Committed<D>) -> u32
-    ensures { result ≡ length committed.now.input }
-{
-    committed.machine().input.len() as u32
 }
 
 /// The plain proof that has all registers.

@@ -198,7 +198,8 @@ fn serve_round<
     }
 }
 
-// Serves the provers of these numbers until the matches of all are over, and says whether they are. A poster without provers has nothing to wait for.
+// Serves the provers of these numbers until the matches of all are over, and says whether they are. A poster without provers has nothing
+// to wait for.
 fn serve_all_rounds<
     J: Judge + Drop,
     P: Provers + Drop,

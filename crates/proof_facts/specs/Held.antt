@@ -1,5 +1,5 @@
 -- To believe: a state seen from what a proof holds of it, where digests stand for memory and output, and what an effect changes of
--- that. A law of the crate `proof_facts`, `shown_states_lead`, ties the step on it to the step of the machine.
+-- that. The law `shown_states_lead` ties the step on it to the step of the machine.
 use Rattle.std.specs.Prelude.{ℕ, ◌+◌, ◌/◌, ◌%◌, ◌^◌, List, Option, Some, None}
 use Rattle.rd_base.specs.declared.status.Ctl.{Ctl}
 use Rattle.rd_base.specs.declared.digest.Digest32.{Digest32}

@@ -59,8 +59,8 @@ pub fn fetched_in(chunk: &Option<Opening>, address: Option<u32>) -> Option<Instr
     ensures { result ≡ chunks.fetched_in chunk.now address }
 {
     match chunk {
-        Some(_opening) => match address {
-            Some(addr) => decode(number_shown(chunk, addr, 4)),
+        Some(opening) => match address {
+            Some(addr) => decode(number_from(&opening.chunk, (addr % 32) as usize, 4)),
             None => None,
         },
         None => None,

@@ -1,8 +1,8 @@
 //! Wire forms: a prover's answer as bytes, and back.
 //!
 //! The layers above may rely on this: which bytes an answer has is said by a grammar (`specs/Wire.antt`), `encode`
-//! writes them, and `decode` gives an answer if and only if bytes are its, and else the first rule that they break, by
-//! their number and places (`specs/FirstFault.antt`). An answer has one spelling, bytes spell one answer, and no
+//! writes them, and `decode` gives the answer whose form bytes are, or the first rule that they break, by the
+//! number of the rule and its places (`specs/FirstFault.antt`), unless memory runs out. An answer has one spelling, bytes spell one answer, and no
 //! answer's bytes are a proper prefix of another's (`laws`). Read `fault` first, then `reading` and `writing`.
 #![tactic(auto)]
 

@@ -1,3 +1,4 @@
+//! The provers of a case: what each says and where it waits, for those that post, and the answerers that say so.
 ghost use Rattle.std.specs.Prelude.{◌≡◌, ◌<◌, ◌^◌, IfOk, List, length, take, ◌++◌, [], OnOk, map};
 ghost use Rattle.rv_step.specs.State.{state_of, IsChained};
 ghost use Rattle.state_commit.specs.Committing.{HasInput};
@@ -176,31 +177,6 @@ fn put_answerers<D: Replays>(
     )
 }
 
-/// The answerers of the provers with these scripts, in their order, whose runs go from a machine up to the step `bound`, below
-/// 2^32. Each run is recorded with a checkpoint at every `every` steps (at least 1), and its roots are computed by `workers`
-/// threads (at least 1). The machine has put out nothing, and its chain is that of no output by the digester `d`. The tree of the
-/// machine's input, which version 3 has, is built once for all of them. An `Err` is out of memory.
-pub fn answerers_of<D: Replays>(
-    alloc: Global,
-    d: D,
-    scripts: &[Script],
-    machine: &Machine,
-    bound: u64,
-    every: u32,
-    workers: u32,
-) -> Result<Vec<Scripted<RunAnswerer<D>, D>>, Memory>
-    requires chained { IsChained D.digest_of machine.now }
-    requires silent { machine.now.output.items ≡ [] }
-    requires bound { bound < 2 ^ 32 }
-    requires every { 0 < every }
-    requires workers { 0 < workers }
-    ensures count { IfOk result (λ v. length v.items ≡ length scripts.now) }
-    ensures answers { IfOk result (λ v. AnswerAs ⟦<Scripted<RunAnswerer<D>, D> as Answerer>⟧.answers (case_says D.digest_of (state_of machine.now) bound scripts.now) 1 v.items) }
-{
-    let input = SharedInput::of(alloc, d, machine)?;
-    answerers_with_input(alloc, d, scripts, machine, &input, bound, every, workers)
-}
-
 /// `answerers_of`, from the tree of the machine's input, so that no part of the input is digested.
 pub fn answerers_with_input<D: Replays>(
     alloc: Global,
@@ -234,4 +210,29 @@ pub fn answerers_with_input<D: Replays>(
         &mut answerers,
     )?;
     Ok(answerers)
+}
+
+/// The answerers of the provers with these scripts, in their order, whose runs go from a machine up to the step `bound`, below
+/// 2^32. Each run is recorded with a checkpoint at every `every` steps (at least 1), and its roots are computed by `workers`
+/// threads (at least 1). The machine has put out nothing, and its chain is that of no output by the digester `d`. The tree of the
+/// machine's input, which version 3 has, is built once for all of them. An `Err` is out of memory.
+pub fn answerers_of<D: Replays>(
+    alloc: Global,
+    d: D,
+    scripts: &[Script],
+    machine: &Machine,
+    bound: u64,
+    every: u32,
+    workers: u32,
+) -> Result<Vec<Scripted<RunAnswerer<D>, D>>, Memory>
+    requires chained { IsChained D.digest_of machine.now }
+    requires silent { machine.now.output.items ≡ [] }
+    requires bound { bound < 2 ^ 32 }
+    requires every { 0 < every }
+    requires workers { 0 < workers }
+    ensures count { IfOk result (λ v. length v.items ≡ length scripts.now) }
+    ensures answers { IfOk result (λ v. AnswerAs ⟦<Scripted<RunAnswerer<D>, D> as Answerer>⟧.answers (case_says D.digest_of (state_of machine.now) bound scripts.now) 1 v.items) }
+{
+    let input = SharedInput::of(alloc, d, machine)?;
+    answerers_with_input(alloc, d, scripts, machine, &input, bound, every, workers)
 }

@@ -31,6 +31,7 @@ mod touching;
 mod valid;
 
 pub use asked::{Need, Outcome};
+pub use effect::{ILLEGAL_INSTRUCTION, MISALIGNED_JUMP};
 pub use laws::{
     effects_read_named_registers, machines_are_valid, names_are_registers, needs_tell_what_is_read,
     one_page_changes, output_only_grows, runs_keep_the_input, steps_keep_valid_states,

@@ -8,8 +8,8 @@
 //! each instruction before its line (`labels_stand_for_places`).
 //!
 //! Read `specs/Lines.antt` first, from there `Rows`, `Operands`, `Fields`, `Numbers`, `Characters` and `Faults`, then `specs/Assembly.antt`;
-//! `specs/Spelling.antt` and `specs/Meaning.antt` say how an instruction is written, `specs/Listing.antt` how words are listed, and `specs/Labels.antt`,
-//! `Unknown` and `Later` belong to the laws. Of the code read `assembling` first.
+//! `specs/Spelling.antt` and `specs/Meaning.antt` say how an instruction is written, `specs/Listing.antt` how words are listed, and
+//! `specs/Labels.antt`, `Unknown` and `Later` belong to the laws. Of the code read `assembling` first.
 #![tactic(auto)]
 
 mod assembling;

@@ -179,8 +179,7 @@ fn with_used<D: Digester>(tree: MemTree<D>, mem: &PlainMem) -> Result<MemTree<D>
     Ok(with)
 }
 
-/// The tree of a cursor, with each page touched that its memory has in use, and the cursor's machine dropped before another one is put
-/// together. An `Err` is out of memory.
+/// The tree of a cursor, with each page touched that its memory has in use. The machine is dropped. An `Err` is out of memory.
 fn let_go<D: Digester>(cursor: Cursor<D>) -> Result<MemTree<D>, Memory>
     ensures tree { IfOk result (λ t. (m : Contents) → IsTreeOf D.digest_of cursor.tree m → IsTreeOf D.digest_of t m) }
     ensures used { IfOk result (λ t. HasTouched t cursor.machine.mem) }

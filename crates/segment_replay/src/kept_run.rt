@@ -1,8 +1,8 @@
-ghost use Rattle.std.specs.Prelude.{◌≡◌, ◌<◌, IfOk, map, min};
-ghost use Rattle.checkpoint_run.specs.Recorded.{AreChained, state_of_step};
-ghost use Rattle.state_commit.specs.Committing.{HasInput};
-ghost use Rattle.segment_replay.specs.Roots.{root_at, digests};
 ghost use denote.Param.Send.{IsSync};
+ghost use Rattle.std.specs.Prelude.{◌≡◌, ◌<◌, IfOk, map, min};
+ghost use Rattle.state_commit.specs.Committing.{HasInput};
+ghost use Rattle.checkpoint_run.specs.Recorded.{AreChained, state_of_step};
+ghost use Rattle.segment_replay.specs.Roots.{root_at, digests};
 
 use crate::cursor::machine_of_step;
 use crate::replaying::{Worker, roots_by};

@@ -6,13 +6,13 @@
 //! depend on it. The root of the run's input, which version 3 has, is made once a call, or once for all runs of a machine if the caller
 //! hands it on (`run_input_root`, `roots_with_input`). A `KeptRun` keeps its workers, each of which makes its next root from the
 //! one that it made last, and digests no part of the input: it gets the input's tree, which all runs of a machine may share, from its
-//! caller.
+//! caller. A digester by which this can be done in threads is a `Replays`.
 //!
 //! The steps are cut into at most as many pieces as there are workers, which is proved of `piece_size`. Each worker goes from step to
 //! step with one tree of memory and one of registers, so that what differs alone is digested. It carries out the steps in between where
 //! the next step lies ahead and is near, measured by the pages in use, or no checkpoint lies between; else it replays from the last
 //! checkpoint up to the step, and compares all pages in use. That is not proved: it is read in `cursor`, and tests in `test_replay`
-//! count the digests. Read `specs/Roots.antt` first, then `replaying`, then `cursor`.
+//! count the digests. Read `specs/Roots.antt` first, then `kept_run`, `replaying` and `cursor`.
 #![tactic(auto)]
 
 mod cursor;

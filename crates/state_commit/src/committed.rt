@@ -152,13 +152,11 @@ impl<D: Digester> Committed<D> {
     {
         let Committed {
             d,
-            machine,
-            memory,
+            mut machine,
+            mut memory,
             regs,
             input,
         } = self;
-        let mut machine = machine;
-        let mut memory = memory;
         runs_keep_the_input();
         one_page_changes();
         let page = touches(&machine);

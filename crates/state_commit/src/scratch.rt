@@ -4,22 +4,13 @@ ghost use Rattle.merkle_nodes.specs.Node.{digest_at};
 ghost use Rattle.mem_tree.specs.Memory.{memory_node, zero_node};
 
 use digest_core::{Digester, leaf_text, node_text};
-use mem_plain::PlainMem;
-use mem_tree::memory_nodes;
+use mem_plain::{PAGES, PlainMem};
+use mem_tree::{PAGE_LEVEL, UPPER_LEVELS, memory_nodes};
 use merkle_nodes::{fill_empty_nodes, node_equations};
 use rd_base::Digest32;
 
-/// The level of the pages' roots.
-const PAGE_LEVEL: u8 = 7;
-
 /// How many levels of nodes a tree of memory has, the leaves' and the root's included.
 const LEVELS: usize = 28;
-
-/// How many levels stand above the pages' roots.
-const UPPER_LEVELS: u8 = 20;
-
-/// How many pages there are.
-const PAGES: u32 = 1_048_576;
 
 /// A node at the level of the pages' roots or below.
 fn page_part<D: Digester>(d: D, mem: &PlainMem, level: u8, k: u32) -> Digest32

@@ -17,14 +17,10 @@ use merkle_nodes::digest_counted;
 use proof_facts::{HeldInput, number_shown, offering};
 use rd_base::{Ctl, Digest32, InOpening, Opening, Regs, Status, Steps};
 use rv_decode::{Instr, decode};
-use rv_step::{Need, Outcome, finish, need, two_parts_are_the_step};
+use rv_step::{
+    ILLEGAL_INSTRUCTION, MISALIGNED_JUMP, Need, Outcome, finish, need, two_parts_are_the_step,
+};
 use std::sync::ledger::Ledger;
-
-/// The code of the trap of a `pc` that isn't a multiple of 4.
-const MISALIGNED_JUMP: u32 = 0;
-
-/// The code of the trap of a word that is no instruction.
-const ILLEGAL_INSTRUCTION: u32 = 2;
 
 /// What a proof holds of a state: the root of memory, the registers as far as they are shown, and the control fields.
 #[derive(Clone, Copy, Debug)]

@@ -136,11 +136,12 @@ fn check_facts<D: Digester, L: Ledger>(
 /// The root to which a proof leads from the root `a`, for a referee of a version: `Leads` if and only if its conditions hold, and then to
 /// the root that is made of its parts after the step (`leads`). It takes no memory and reads nothing but the proof.
 ///
-/// Else it answers by the first of its conditions that fails, in this order: `WrongShape` where the proof is of another version, or the
-/// fetched chunk isn't there if and only if the parts call for it; `NotOpen` where the parts don't open `a` or the fetched chunk not the
-/// root of memory; `WrongShape` where another number of registers is opened than the instruction names; `NotOpen` where one doesn't open
-/// the root of the registers; `WrongShape` where the data chunk isn't there if and only if the instruction calls for it; `NotOpen` where
-/// that doesn't open the root of memory; and the same for the chunk of the input (`not_open`, `wrong_shape`).
+/// Else it answers by the first of its conditions that fails, in this order: `WrongShape` if the proof is of another version, or the
+/// fetched chunk is left out though the parts call for it, or there though they don't; `NotOpen` if the parts don't open `a`, or the
+/// fetched chunk doesn't open the root of memory; `WrongShape` if another number of registers is opened than the instruction names;
+/// `NotOpen` if one of them doesn't open the root of the registers; `WrongShape` if the data chunk is left out though the instruction
+/// calls for it, or there though it doesn't; `NotOpen` if that doesn't open the root of memory; and the same for the chunk of the input
+/// (`not_open`, `wrong_shape`).
 ///
 /// `steps` ticks once for each digest and once for the step of the machine, which is read off the code and not proved: at most 91, 101 or
 /// 103 times, by the version (`few`), and at most 36, 57 or 69 times where there is no data chunk (`alone`). Where it leads, it ticks

@@ -140,7 +140,8 @@ pub fn a_number_names_one_question()
 }
 
 /// No question is beyond the bound: roots are asked of steps between the first and the last, several of them at the cuts of an interval
-/// within, into 2 to 16 parts; a proof is asked of a step before the last; in whatever was posted (`open_`) and under whatever number of a case (`asked`).
+/// within, into 2 to 16 parts; a proof is asked of a step before the last; in whatever was posted (`open_`) and under whatever number of
+/// a case (`asked`).
 pub fn questions_are_within_the_bound()
     ensures open_ { OpenIsWithinBound }
     ensures asked { AskedIsWithinBound }

@@ -95,7 +95,7 @@ impl Sheet {
         self.table
     }
 
-    /// What is settled: a claim of each prover, or none yet.
+    /// What is settled. For each prover it has a place for the claim.
     pub(crate) fn record(&self) -> &Record
         ensures value { result.now ≡ self.now.record_ }
         ensures claims { length result.now.claims ≡ self.now.table.provers }

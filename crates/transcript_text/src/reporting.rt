@@ -15,49 +15,6 @@ use std::fmt::Write;
 use text_types::Head;
 use tournament::{Record, Verdict};
 
-/// Adds what a prover has.
-fn add_balance(text: &mut String, prover: usize, has: u64) -> Result<(), AllocError>
-    ensures { OnOk result (string_bytes text.new ≡ string_bytes text.old ++ line_text (balance_line prover has)) }
-{
-    write!(text, "balance p{prover} {has}\n")
-}
-
-/// Adds what each prover has, of whom the first has the number 1.
-fn add_each(text: &mut String, balances: &[u64]) -> Result<(), AllocError>
-    ensures { OnOk result (string_bytes text.new ≡ string_bytes text.old ++ lines_text (lines_of_provers 1 balances.now)) }
-{
-    'provers: for (i, has) in balances.iter().enumerate() {
-        add_balance(text, i + 1, *has)?;
-    }
-    Ok(())
-}
-
-/// Adds what is in the pool.
-fn add_pool(text: &mut String, pool: u64) -> Result<(), AllocError>
-    ensures { OnOk result (string_bytes text.new ≡ string_bytes text.old ++ line_text (pool_line pool)) }
-{
-    write!(text, "pool {pool}\n")
-}
-
-/// Adds what each prover has and what is in the pool.
-#[tactic(auto, using(crate::proofs::LineLemmas::added_line))]
-fn add_all(text: &mut String, balances: &Balances) -> Result<(), AllocError>
-    ensures { OnOk result (string_bytes text.new ≡ string_bytes text.old ++ lines_text (lines_of_balances (Some balances.now))) }
-{
-    add_each(text, balances.of.as_slice())?;
-    add_pool(text, balances.pool)
-}
-
-/// Adds what each prover has and what is in the pool, in a match with deposits.
-pub(crate) fn add_balances(text: &mut String, balances: Option<&Balances>) -> Result<(), AllocError>
-    ensures { OnOk result (string_bytes text.new ≡ string_bytes text.old ++ lines_text (lines_of_balances (option_copied balances.entry))) }
-{
-    match balances {
-        Some(balances) => add_all(text, balances),
-        None => Ok(()),
-    }
-}
-
 #[tactic(auto, unfolding(crate::specs::Report::played_text))]
 fn add_played(text: &mut String, word: &str, head: &Head) -> Result<(), AllocError>
     ensures { OnOk result (string_bytes text.new ≡ string_bytes text.old ++ played_text word.now head.now) }
@@ -188,6 +145,49 @@ fn add_record(text: &mut String, alloc: Global, match_record: &Record) -> Result
 {
     add_claims(text, alloc, match_record.claims())?;
     add_disputes(text, match_record.disputes())
+}
+
+/// Adds what a prover has.
+fn add_balance(text: &mut String, prover: usize, has: u64) -> Result<(), AllocError>
+    ensures { OnOk result (string_bytes text.new ≡ string_bytes text.old ++ line_text (balance_line prover has)) }
+{
+    write!(text, "balance p{prover} {has}\n")
+}
+
+/// Adds what each prover has, of whom the first has the number 1.
+fn add_each(text: &mut String, balances: &[u64]) -> Result<(), AllocError>
+    ensures { OnOk result (string_bytes text.new ≡ string_bytes text.old ++ lines_text (lines_of_provers 1 balances.now)) }
+{
+    'provers: for (i, has) in balances.iter().enumerate() {
+        add_balance(text, i + 1, *has)?;
+    }
+    Ok(())
+}
+
+/// Adds what is in the pool.
+fn add_pool(text: &mut String, pool: u64) -> Result<(), AllocError>
+    ensures { OnOk result (string_bytes text.new ≡ string_bytes text.old ++ line_text (pool_line pool)) }
+{
+    write!(text, "pool {pool}\n")
+}
+
+/// Adds what each prover has and what is in the pool.
+#[tactic(auto, using(crate::proofs::LineLemmas::added_line))]
+fn add_all(text: &mut String, balances: &Balances) -> Result<(), AllocError>
+    ensures { OnOk result (string_bytes text.new ≡ string_bytes text.old ++ lines_text (lines_of_balances (Some balances.now))) }
+{
+    add_each(text, balances.of.as_slice())?;
+    add_pool(text, balances.pool)
+}
+
+/// Adds what each prover has and what is in the pool, in a match with deposits.
+fn add_balances(text: &mut String, balances: Option<&Balances>) -> Result<(), AllocError>
+    ensures { OnOk result (string_bytes text.new ≡ string_bytes text.old ++ lines_text (lines_of_balances (option_copied balances.entry))) }
+{
+    match balances {
+        Some(balances) => add_all(text, balances),
+        None => Ok(()),
+    }
 }
 
 /// The report of a match: the line of its head, one line for each prover, the disputes with their rounds, in a match with
