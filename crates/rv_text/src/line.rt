@@ -57,7 +57,7 @@ fn begins_blank(text: &[u8]) -> bool
 }
 
 /// The word of a row with the operands of a text.
-#[tactic(auto, using(crate::proofs::SumLemmas::word_rules))]
+#[tactic(auto, using(crate::proofs::digits::SumLemmas::word_rules))]
 fn row_word(row: Row, text: &[u8], scope: &Scope<'_, '_>) -> Result<u32, FaultKind>
     requires { row.base + most_in (the_slots_of row.form) < 2 ^ 32 }
     ensures { result ≡ word_of_row (distances_in scope.now) (Some row) text.now }

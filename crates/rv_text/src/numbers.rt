@@ -33,7 +33,7 @@ fn capped(n: u64) -> u64
 }
 
 /// The number that decimal digits are, capped.
-#[tactic(auto, using(crate::proofs::CappedLemmas::value_rules))]
+#[tactic(auto, using(crate::proofs::digits::CappedLemmas::value_rules))]
 fn decimal_value(digits: &[u8]) -> u64
     ensures value { result ≡ the_capped (digits_value 10 digits.now) }
     ensures most { result ≤ 4294967296 }
@@ -46,7 +46,7 @@ fn decimal_value(digits: &[u8]) -> u64
 }
 
 /// The number that hexadecimal digits are, capped.
-#[tactic(auto, using(crate::proofs::CappedLemmas::value_rules))]
+#[tactic(auto, using(crate::proofs::digits::CappedLemmas::value_rules))]
 fn hex_value(digits: &[u8]) -> u64
     ensures value { result ≡ the_capped (digits_value 16 digits.now) }
     ensures most { result ≤ 4294967296 }
@@ -101,7 +101,7 @@ fn positive(text: &[u8]) -> Option<i64>
 }
 
 /// The number that a text is in decimal behind a `-`, capped.
-#[tactic(auto, using(crate::proofs::CappedLemmas::sign_rules))]
+#[tactic(auto, using(crate::proofs::digits::CappedLemmas::sign_rules))]
 fn negative(digits: &[u8]) -> Option<i64>
     ensures { result ≡ option_map capped_integer (option_map (λ n. neg_ℤ (pos n)) (natural_in digits.now)) }
 {

@@ -28,7 +28,7 @@ fn ranged(field: Field, value: i64) -> Result<i64, FaultKind>
 }
 
 /// The value of a register's operand.
-#[tactic(auto, using(crate::proofs::Ranges::register_rules))]
+#[tactic(auto, using(crate::proofs::digits::Ranges::register_rules))]
 fn register_operand(field: Field, text: &[u8]) -> Result<i64, FaultKind>
     requires { the_is_register field ≡ true }
     ensures value { result ≡ registered_in text.now }
@@ -66,7 +66,7 @@ fn written(field: Field, number: Option<i64>) -> Result<i64, FaultKind>
 }
 
 /// The value of a number's operand.
-#[tactic(auto, using(crate::proofs::CappedLemmas::ranged_rules))]
+#[tactic(auto, using(crate::proofs::digits::CappedLemmas::ranged_rules))]
 fn number_operand(field: Field, text: &[u8]) -> Result<i64, FaultKind>
     ensures value { result ≡ the_written field (number_in text.now) }
     ensures in_range { IfOk result (λ z. the_is_in field z ≡ true) }

@@ -53,7 +53,7 @@ fn other_from(live: &[(u32, Digest32)], i: usize, root: &Digest32) -> Option<usi
 }
 
 /// The rooms of so many disputes.
-#[tactic(auto, using(crate::proofs::KeepingLemmas::rooms_more))]
+#[tactic(auto, using(crate::proofs::keeping::KeepingLemmas::rooms_more))]
 fn rooms_for(alloc: Global, bound: u64, fan: u32, many: usize) -> Result<Vec<Room>, Memory>
     requires steps { 0 < bound }
     requires short { bound < 2 ^ 32 }

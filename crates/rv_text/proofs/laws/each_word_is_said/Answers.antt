@@ -2,7 +2,7 @@ use Rattle.std.proofs.Common.{refl}
 use Rattle.rv_decode.specs.Word.{word_of}
 use Rattle.rv_text.specs.Spelling.{spelling_of}
 use Rattle.rv_text.specs.Meaning.{of_instruction}
-use Rattle.rv_text.proofs.MeaningLemmas.{statement-stands, written-word}
+use Rattle.rv_text.proofs.meaning.MeaningLemmas.{statement-stands, written-word}
 use Rattle.rv_text.proofs.laws.each_word_is_said.Goals as goal
 
 pub returns-clause-word : goal.returns-clause-word

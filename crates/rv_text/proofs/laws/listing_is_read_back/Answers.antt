@@ -1,4 +1,4 @@
-use Rattle.rv_text.proofs.ListingLemmas.{assembled-listing}
+use Rattle.rv_text.proofs.read_back.ListingLemmas.{assembled-listing}
 use Rattle.rv_text.proofs.laws.listing_is_read_back.Goals as goal
 
 pub returns : goal.returns

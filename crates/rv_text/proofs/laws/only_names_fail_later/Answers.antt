@@ -1,4 +1,4 @@
-use Rattle.rv_text.proofs.LaterLemmas.{name-later, undefined-later, far-later}
+use Rattle.rv_text.proofs.meaning.LaterLemmas.{name-later, undefined-later, far-later}
 use Rattle.rv_text.proofs.laws.only_names_fail_later.Goals as goal
 
 pub returns-clause-of_name : goal.returns-clause-of_name

@@ -1,4 +1,4 @@
-use Rattle.rv_text.proofs.UnknownLemmas.{unknown}
+use Rattle.rv_text.proofs.meaning.UnknownLemmas.{unknown}
 use Rattle.rv_text.proofs.laws.unknown_mnemonics_have_no_row.Goals as goal
 
 pub returns : goal.returns

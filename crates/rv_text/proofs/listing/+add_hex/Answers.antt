@@ -2,7 +2,7 @@ use Rattle.std.proofs.Common.{◌≡◌, ◌<◌, ◌%◌, ◌∙◌, ap, ℕ, L
 use Rattle.std.specs.Prelude.{is_ok, if◌then◌else◌}
 use Rattle.std.proofs.lemmas.Bool.Decides.{nat_tests}
 use Rattle.rv_text.specs.Operands.{hex_digit}
-use Rattle.rv_text.proofs.HexLemmas.{hex_none, hex_step}
+use Rattle.rv_text.proofs.digits.HexLemmas.{hex_none, hex_step}
 use Rattle.rv_text.proofs.PassLemmas.{append-none}
 use Rattle.rv_text.proofs.listing.+add_hex.Goals as goal
 

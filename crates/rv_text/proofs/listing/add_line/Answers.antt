@@ -1,6 +1,6 @@
 use Rattle.std.proofs.Common.{sym, ap, ◌∙◌, Some}
 use Rattle.std.proofs.lemmas.Bool.{ne_eqb}
-use Rattle.rv_text.proofs.FenceLemmas.{fence_line}
+use Rattle.rv_text.proofs.read_back.FenceLemmas.{fence_line}
 use Rattle.rv_text.proofs.listing.add_line.Goals as goal
 
 pub returns-in-None : goal.returns-in-None

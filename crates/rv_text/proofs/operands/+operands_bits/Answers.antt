@@ -1,6 +1,6 @@
 use Rattle.std.proofs.Common.{Some, None}
 use Rattle.rv_text.specs.Places.{distances_in}
-use Rattle.rv_text.proofs.SumLemmas.{sum-first}
+use Rattle.rv_text.proofs.digits.SumLemmas.{sum-first}
 use Rattle.rv_text.proofs.operands.+operands_bits.Goals as goal
 use Rattle.rv_text.proofs.operands.+operands_bits.Goals.{in-Some, in-None}
 

@@ -1,4 +1,4 @@
-use Rattle.tournament.proofs.TheoremLemmas as lemmas
+use Rattle.tournament.proofs.safety.TheoremLemmas as lemmas
 use Rattle.tournament.proofs.laws.a_match_has_few_disputes_and_rounds.Goals as goal
 
 pub returns : goal.returns

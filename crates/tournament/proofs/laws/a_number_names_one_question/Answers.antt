@@ -1,4 +1,4 @@
-use Rattle.tournament.proofs.AskedLemmas as lemmas
+use Rattle.tournament.proofs.order.AskedLemmas as lemmas
 use Rattle.tournament.proofs.laws.a_number_names_one_question.Goals as goal
 
 pub returns : goal.returns

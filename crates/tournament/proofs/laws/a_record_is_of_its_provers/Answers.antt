@@ -1,6 +1,6 @@
-use Rattle.tournament.proofs.NumberLemmas.{records-are-of-provers}
+use Rattle.tournament.proofs.length.NumberLemmas.{records-are-of-provers}
 use Rattle.tournament.proofs.PostLemmas.{posts_settle}
-use Rattle.tournament.proofs.TheoremLemmas as lemmas
+use Rattle.tournament.proofs.safety.TheoremLemmas as lemmas
 use Rattle.tournament.proofs.laws.a_record_is_of_its_provers.Goals as goal
 
 pub returns : goal.returns

@@ -1,4 +1,4 @@
-use Rattle.tournament.proofs.SoFarLemmas as lemmas
+use Rattle.tournament.proofs.order.SoFarLemmas as lemmas
 use Rattle.tournament.proofs.laws.a_record_is_the_bracket_over_its_answers.Goals as goal
 
 pub returns : goal.returns

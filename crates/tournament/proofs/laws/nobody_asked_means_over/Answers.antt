@@ -1,4 +1,4 @@
-use Rattle.tournament.proofs.TheoremLemmas as lemmas
+use Rattle.tournament.proofs.safety.TheoremLemmas as lemmas
 use Rattle.tournament.proofs.laws.nobody_asked_means_over.Goals as goal
 
 pub returns : goal.returns

@@ -1,4 +1,4 @@
-use Rattle.tournament.proofs.BracketLemmas as lemmas
+use Rattle.tournament.proofs.order.BracketLemmas as lemmas
 use Rattle.tournament.proofs.laws.one_record_of_a_case.Goals as goal
 
 pub returns : goal.returns

@@ -1,4 +1,4 @@
-use Rattle.tournament.proofs.SoFarLemmas as lemmas
+use Rattle.tournament.proofs.order.SoFarLemmas as lemmas
 use Rattle.tournament.proofs.laws.open_disputes_share_no_prover.Goals as goal
 
 pub returns : goal.returns

@@ -1,4 +1,4 @@
-use Rattle.tournament.proofs.AskedLemmas as lemmas
+use Rattle.tournament.proofs.order.AskedLemmas as lemmas
 use Rattle.tournament.proofs.laws.open_questions_stay.Goals as goal
 
 pub returns : goal.returns

@@ -1,5 +1,5 @@
 use Rattle.tournament.proofs.StageLemmas as stage
-use Rattle.tournament.proofs.JournalLemmas as journal
+use Rattle.tournament.proofs.order.JournalLemmas as journal
 use Rattle.tournament.proofs.laws.order_does_not_matter.Goals as goal
 
 pub returns : goal.returns

@@ -1,4 +1,4 @@
-use Rattle.tournament.proofs.WithinLemmas as lemmas
+use Rattle.tournament.proofs.length.WithinLemmas as lemmas
 use Rattle.tournament.proofs.laws.questions_are_within_the_bound.Goals as goal
 
 pub returns : goal.returns

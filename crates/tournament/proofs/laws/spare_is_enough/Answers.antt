@@ -1,4 +1,4 @@
-use Rattle.tournament.proofs.LengthLemmas as lemmas
+use Rattle.tournament.proofs.length.LengthLemmas as lemmas
 use Rattle.tournament.proofs.laws.spare_is_enough.Goals as goal
 
 pub returns : goal.returns

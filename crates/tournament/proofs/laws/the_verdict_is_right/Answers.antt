@@ -1,4 +1,4 @@
-use Rattle.tournament.proofs.TheoremLemmas as lemmas
+use Rattle.tournament.proofs.safety.TheoremLemmas as lemmas
 use Rattle.tournament.proofs.laws.the_verdict_is_right.Goals as goal
 
 pub returns : goal.returns

@@ -1,4 +1,4 @@
-use Rattle.tournament.proofs.TrueMoveLemmas as lemmas
+use Rattle.tournament.proofs.safety.TrueMoveLemmas as lemmas
 use Rattle.tournament.proofs.laws.true_moves_are_true_answers.Goals as goal
 
 pub returns : goal.returns

@@ -1,4 +1,4 @@
-use Rattle.tournament.proofs.TruthfulLemmas as lemmas
+use Rattle.tournament.proofs.safety.TruthfulLemmas as lemmas
 use Rattle.tournament.proofs.laws.truthful_provers_are_safe.Goals as goal
 
 pub returns : goal.returns

@@ -1,4 +1,4 @@
-use Rattle.tournament.proofs.TheoremLemmas as lemmas
+use Rattle.tournament.proofs.safety.TheoremLemmas as lemmas
 use Rattle.tournament.proofs.laws.truthful_provers_stay.Goals as goal
 
 pub returns : goal.returns

@@ -1,4 +1,4 @@
-use Rattle.tournament.proofs.PostedLemmas.{match-over}
+use Rattle.tournament.proofs.keeping.PostedLemmas.{match-over}
 use Rattle.tournament.proofs.playing.Match.asks_nobody_once_over.Goals as goal
 
 pub returns : goal.returns

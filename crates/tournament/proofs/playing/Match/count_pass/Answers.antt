@@ -1,4 +1,4 @@
-use Rattle.tournament.proofs.PostedLemmas.{match-passed}
+use Rattle.tournament.proofs.keeping.PostedLemmas.{match-passed}
 use Rattle.tournament.proofs.playing.Match.count_pass.Goals as goal
 
 pub invariant_of-self : goal.invariant_of-self

@@ -1,4 +1,4 @@
-use Rattle.tournament.proofs.PostedLemmas.{match-disputes, match-rounds}
+use Rattle.tournament.proofs.keeping.PostedLemmas.{match-disputes, match-rounds}
 use Rattle.tournament.proofs.playing.Match.has_few_disputes_and_rounds.Goals as goal
 
 pub returns-clause-disputes : goal.returns-clause-disputes

@@ -1,4 +1,4 @@
-use Rattle.tournament.proofs.PostedLemmas.{match-stays, match-verdict}
+use Rattle.tournament.proofs.keeping.PostedLemmas.{match-stays, match-verdict}
 use Rattle.tournament.proofs.playing.Match.keeps_true_provers.Goals as goal
 
 pub returns-clause-stay : goal.returns-clause-stay

@@ -1,7 +1,7 @@
 use Rattle.std.proofs.Common.{ap, ◌-◌, slice_set}
 use Rattle.tournament.specs.Moves.{MatchState}
 use Rattle.tournament.specs.Bracket.{Record}
-use Rattle.tournament.proofs.PostedLemmas.{put-few, match-settled, settled-record}
+use Rattle.tournament.proofs.keeping.PostedLemmas.{put-few, match-settled, settled-record}
 use Rattle.tournament.proofs.playing.Match.settle.Goals as goal
 
 pub open_due-requires-clause-few : goal.open_due-requires-clause-few

@@ -1,7 +1,7 @@
 use Rattle.std.proofs.Common.{sym, ap}
 use Rattle.tournament.specs.Bracket.{Record}
 use Rattle.tournament.specs.Posting.{rules_of}
-use Rattle.tournament.proofs.KeepingLemmas.{put-nowhere}
+use Rattle.tournament.proofs.keeping.KeepingLemmas.{put-nowhere}
 use Rattle.tournament.proofs.record.Record.put.Goals as goal
 
 pub returns-in_default : goal.returns-in_default

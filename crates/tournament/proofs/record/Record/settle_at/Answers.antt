@@ -3,7 +3,7 @@ use Rattle.bisect_game.specs.Rules.{Rules}
 use Rattle.bisect_game.specs.Bisection.{Bisection, settle_side}
 use Rattle.tournament.specs.Bracket.{Record}
 use Rattle.tournament.specs.Posting.{rules_of}
-use Rattle.tournament.proofs.KeepingLemmas.{AskedAt, asked-here, asked-within, asked-asks}
+use Rattle.tournament.proofs.keeping.KeepingLemmas.{AskedAt, asked-here, asked-within, asked-asks}
 use Rattle.tournament.proofs.record.Record.settle_at.Goals as goal
 
 pub index_mut-requires : goal.index_mut-requires

@@ -1,7 +1,7 @@
 use Rattle.std.proofs.Common.{◌≡◌, ◌∙◌, refl, ap, arith, suc, length, ◌+◌, ◌-◌, ◌∷◌, [], Some, None, length-append}
 use Rattle.tournament.specs.Bracket.{Record}
 use Rattle.tournament.specs.Keeping.{other_from, side_pairs, dispute_at}
-use Rattle.tournament.proofs.KeepingLemmas.{pairs-none, pairs-some, pairs-opened}
+use Rattle.tournament.proofs.keeping.KeepingLemmas.{pairs-none, pairs-some, pairs-opened}
 use Rattle.tournament.proofs.sheet.Sheet.+open_pairs.Goals as goal
 
 pub open_pairs-requires : goal.open_pairs-requires

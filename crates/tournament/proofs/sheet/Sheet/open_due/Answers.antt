@@ -3,7 +3,7 @@ use Rattle.tournament.specs.Bracket.{live, is_stage_due}
 use Rattle.tournament.specs.Keeping.{Sheet, sides}
 use Rattle.tournament.specs.Posting.{rules_of}
 use Rattle.tournament.proofs.OpenedLemmas.{opened-not}
-use Rattle.tournament.proofs.KeepingLemmas.{stage-is, stage-few, filled-live}
+use Rattle.tournament.proofs.keeping.KeepingLemmas.{stage-is, stage-few, filled-live}
 use Rattle.tournament.proofs.sheet.Sheet.open_due.Goals as goal
 
 pub returns-then-not-is_stage_due-clause-record_ : goal.returns-then-not-is_stage_due-clause-record_

@@ -1,6 +1,6 @@
 use Rattle.std.proofs.Common.{ap, List, length, ◌+◌, ◌≤◌}
 use Rattle.bisect_game.specs.Bisection.{Bisection}
-use Rattle.tournament.proofs.KeepingLemmas.{sheet-opened, sheet-room, one-opened}
+use Rattle.tournament.proofs.keeping.KeepingLemmas.{sheet-opened, sheet-room, one-opened}
 use Rattle.tournament.proofs.sheet.Sheet.open_one.Goals as goal
 
 pub invariant_of-self : goal.invariant_of-self

@@ -1,5 +1,5 @@
 use Rattle.tournament.specs.Posting.{rules_of}
-use Rattle.tournament.proofs.KeepingLemmas.{sheet-put}
+use Rattle.tournament.proofs.keeping.KeepingLemmas.{sheet-put}
 use Rattle.tournament.proofs.sheet.Sheet.put.Goals as goal
 
 pub invariant_of-self : goal.invariant_of-self

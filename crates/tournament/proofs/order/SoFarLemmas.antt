@@ -20,14 +20,14 @@ use Rattle.tournament.specs.Settling.{after, Fits}
 use Rattle.tournament.specs.Posting.{record_after}
 use Rattle.tournament.specs.Fitting.{AllFit}
 use Rattle.tournament.specs.SoFar.{settled_among, claim_at, answers_in, RecordIsBracket}
-use Rattle.tournament.proofs.AskedLemmas.{Numbered, numbered-settle}
-use Rattle.tournament.proofs.BracketLemmas.{bracket-is}
-use Rattle.tournament.proofs.CountLemmas.{few_disputes}
-use Rattle.tournament.proofs.MatchLemmas.{ArePaired, AllPaired, pairs-right, live-right}
+use Rattle.tournament.proofs.order.AskedLemmas.{Numbered, numbered-settle}
+use Rattle.tournament.proofs.order.BracketLemmas.{bracket-is}
+use Rattle.tournament.proofs.length.CountLemmas.{few_disputes}
+use Rattle.tournament.proofs.safety.MatchLemmas.{ArePaired, AllPaired, pairs-right, live-right}
 use Rattle.tournament.specs.OpenDisputes.{AllApart, OpenDisputesShareNoProver, SidesAreTwoProvers}
 use Rattle.tournament.proofs.OnceLemmas.{IsApart, IsOpen, apart-nothing, opens, not-eqb, is-eqb}
 use Rattle.tournament.proofs.OpenedLemmas.{opened-not, opened-due}
-use Rattle.tournament.proofs.OverLemmas.{AllMove, apart-after, moves-after}
+use Rattle.tournament.proofs.length.OverLemmas.{AllMove, apart-after, moves-after}
 use Rattle.tournament.proofs.PostLemmas.{IsSettled, settled-begun}
 use Rattle.tournament.proofs.ReachLemmas.{either, reach_back}
 use Rattle.tournament.proofs.SidesLemmas.{SameSides, sides-first, sides-second}

@@ -8,7 +8,7 @@ use Rattle.bisect_game.specs.Bisection.{Bisection}
 use Rattle.tournament.specs.Bracket.{claim_in, is_out_in, also, live_from, live}
 use Rattle.tournament.specs.Outs.{TheLiveAreListed}
 use Rattle.tournament.specs.Theorem.{is_out_by_claim}
-use Rattle.tournament.proofs.LiveLemmas.{IsIn, live-in, in-contains}
+use Rattle.tournament.proofs.safety.LiveLemmas.{IsIn, live-in, in-contains}
 
 -- a claim that counts was given
 claim-given : (s : Option Settled) (c : Claim) → claim_in s ≡ Some c → s ≡ Some (Given (answer.Claim c))

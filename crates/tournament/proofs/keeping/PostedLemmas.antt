@@ -6,7 +6,7 @@ use Rattle.bisect_game.specs.declared.settled.Settled.{Settled}
 use Rattle.bisect_game.specs.Rules.{Rules, ArePlayable}
 use Rattle.bisect_game.specs.Ruling.{Ruling, IsFair}
 use Rattle.bisect_game.specs.Truth.{Truth, IsRun}
-use Rattle.tournament.proofs.CountLemmas.{few_disputes}
+use Rattle.tournament.proofs.length.CountLemmas.{few_disputes}
 use Rattle.tournament.proofs.PostLemmas.{IsSettled, settled-begun, after-last}
 use Rattle.tournament.specs.Bracket.{Record, open_question, stage_opened, put, settle, nothing_settled, is_complete, verdict_of}
 use Rattle.tournament.specs.Keeping.{Sheet, IsReached, IsMove, IsMatch}

@@ -18,8 +18,8 @@ use Rattle.rv_text.specs.declared.form.Slot.TheVariants.{Last, UpTo}
 use Rattle.rv_text.specs.declared.fault.FaultKind.{FaultKind}
 use Rattle.rv_text.specs.declared.fault.FaultKind.TheVariants.{OtherForm}
 use Rattle.rv_text.proofs.Runs.{run-append, behind-append, skip-none, operand-no_blank}
-use Rattle.rv_text.proofs.TripLemmas.{reads, operands-read, blank-before}
-use Rattle.rv_text.proofs.SpellingLemmas.{fit, IsSpelled}
+use Rattle.rv_text.proofs.read_back.TripLemmas.{reads, operands-read, blank-before}
+use Rattle.rv_text.proofs.read_back.SpellingLemmas.{fit, IsSpelled}
 
 -- ---- characters
 -- neither a line feed nor `#`

@@ -19,9 +19,9 @@ use Rattle.rv_text.specs.declared.fault.FaultKind.{FaultKind}
 use Rattle.rv_text.specs.declared.fault.FaultKind.TheVariants.{OtherForm}
 use Rattle.rv_text.proofs.Runs.{run-append, behind-append, skip-none, run-no_blank}
 use Rattle.rv_text.proofs.PassLemmas.{append-none}
-use Rattle.rv_text.proofs.NumberLemmas.{digits-name, digits-operand, decimal-digits, number-signed, register-decimal, signed-operand, signed-first, signed-no_name}
-use Rattle.rv_text.proofs.HexLemmas.{hex-digits_operand, hex-in_digits}
-use Rattle.rv_text.proofs.SpellingLemmas.{fit}
+use Rattle.rv_text.proofs.digits.NumberLemmas.{digits-name, digits-operand, decimal-digits, number-signed, register-decimal, signed-operand, signed-first, signed-no_name}
+use Rattle.rv_text.proofs.digits.HexLemmas.{hex-digits_operand, hex-in_digits}
+use Rattle.rv_text.proofs.read_back.SpellingLemmas.{fit}
 
 -- one operand: its text is a run of operand characters, and is read as its value
 pub record Reads (f : Field) (z : ℤ) (text : List ℕ) : Type 0 where

@@ -16,7 +16,7 @@ use Rattle.bisect_game.specs.Laws.{IsPlay, KeepsRight}
 use Rattle.bisect_game.specs.Rules.{Rules, ArePlayable}
 use Rattle.bisect_game.specs.Ruling.{Ruling, IsFair, same_digest}
 use Rattle.bisect_game.specs.Truth.{Truth, IsRun, IsFit, IsFitSoFar, IsRight, is_put_out}
-use Rattle.tournament.proofs.LiveLemmas.{live-contains}
+use Rattle.tournament.proofs.safety.LiveLemmas.{live-contains}
 use Rattle.tournament.proofs.OpenedLemmas.{opened-not, opened-due}
 use Rattle.tournament.proofs.ReachLemmas.{either, same-not}
 use Rattle.tournament.proofs.SidesLemmas.{SameSides, sides-first, sides-second}

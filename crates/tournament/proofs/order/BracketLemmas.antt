@@ -9,8 +9,8 @@ use Rattle.bisect_game.specs.Bisection.{Bisection, is_closed}
 use Rattle.bisect_game.specs.Disputes.{Answers, filled, round_over, played, or_else}
 use Rattle.bisect_game.specs.Rules.{Rules}
 use Rattle.bisect_game.specs.Says.{Says}
-use Rattle.tournament.proofs.CountLemmas.{IsOrdered, ordered-settle, ordered-nothing, fewer}
-use Rattle.tournament.proofs.JournalLemmas.{ends-journal, counts-begun}
+use Rattle.tournament.proofs.length.CountLemmas.{IsOrdered, ordered-settle, ordered-nothing, fewer}
+use Rattle.tournament.proofs.order.JournalLemmas.{ends-journal, counts-begun}
 use Rattle.tournament.proofs.OpenedLemmas.{opened-not, opened-due}
 use Rattle.tournament.proofs.ReachLemmas.{either, iterate-fixed, reach_one}
 use Rattle.tournament.proofs.RoundLemmas.{IsWithin, within-advanced}

@@ -32,12 +32,12 @@ use Rattle.tournament.proofs.ReachLemmas.{either}
 use Rattle.tournament.proofs.OpenedLemmas.{opened-not, opened-due}
 use Rattle.tournament.proofs.OnceLemmas.{both, is-eqb}
 use Rattle.tournament.proofs.SidesLemmas.{SameSides, sides-first, sides-second}
-use Rattle.tournament.proofs.LiveLemmas.{live-contains}
-use Rattle.tournament.proofs.MatchLemmas.{settled_stay, claim-there}
-use Rattle.tournament.proofs.VerdictLemmas.{settled_right}
-use Rattle.tournament.proofs.JournalLemmas.{Turned, Passed, Settles, turned, turns-keep}
+use Rattle.tournament.proofs.safety.LiveLemmas.{live-contains}
+use Rattle.tournament.proofs.safety.MatchLemmas.{settled_stay, claim-there}
+use Rattle.tournament.proofs.safety.VerdictLemmas.{settled_right}
+use Rattle.tournament.proofs.order.JournalLemmas.{Turned, Passed, Settles, turned, turns-keep}
 use Rattle.tournament.proofs.PostLemmas.{fit-judged, fit-last, after-last}
-use Rattle.tournament.proofs.AskedLemmas.{IsOnWay, way-begun, way-turn, way-asked}
+use Rattle.tournament.proofs.order.AskedLemmas.{IsOnWay, way-begun, way-turn, way-asked}
 
 -- a side that has answered truly so far is truthful after a round was decided
 

@@ -3,11 +3,11 @@ use Rattle.bisect_game.specs.Laws.{BisectionLaws}
 use Rattle.tournament.specs.Numbers.{DisputesHaveTheFan}
 use Rattle.tournament.specs.Posting.{record_after, NobodyAskedIsOver}
 use Rattle.tournament.specs.Theorem.{TruthfulStay, VerdictIsRight, FewDisputes, FewRounds}
-use Rattle.tournament.proofs.CountLemmas.{few_disputes}
-use Rattle.tournament.proofs.FewLemmas.{few_rounds, have_the_fan}
-use Rattle.tournament.proofs.MatchLemmas.{settled_stay}
-use Rattle.tournament.proofs.VerdictLemmas.{settled_right}
-use Rattle.tournament.proofs.OverLemmas.{over-after}
+use Rattle.tournament.proofs.length.CountLemmas.{few_disputes}
+use Rattle.tournament.proofs.length.FewLemmas.{few_rounds, have_the_fan}
+use Rattle.tournament.proofs.safety.MatchLemmas.{settled_stay}
+use Rattle.tournament.proofs.safety.VerdictLemmas.{settled_right}
+use Rattle.tournament.proofs.length.OverLemmas.{over-after}
 use Rattle.tournament.proofs.PostLemmas.{IsSettled, settled-begun}
 
 pub few_disputes_of_posts : FewDisputes

@@ -17,7 +17,7 @@ use Rattle.tournament.specs.Posting.{record_after}
 use Rattle.tournament.specs.Asked.{kind_in, kind_of, asked_in, IsWithinBound, OpenIsWithinBound, AskedIsWithinBound}
 use Rattle.tournament.proofs.RoundLemmas.{RoundsWithin, IsWithin}
 use Rattle.tournament.proofs.StageLemmas.{AllWithin, IsPlayed, played-settle, played-nothing}
-use Rattle.tournament.proofs.BracketLemmas.{within-stages}
+use Rattle.tournament.proofs.order.BracketLemmas.{within-stages}
 use Rattle.tournament.proofs.PostLemmas.{IsSettled, settled-begun}
 
 kind-by : (fan bound lo hi : ℕ) (b two : Bool) → nat_le (hi - lo) 1 ≡ b → (fan == 2) ≡ two → 1 < fan → fan ≤ 16 → lo < hi → hi ≤ bound →

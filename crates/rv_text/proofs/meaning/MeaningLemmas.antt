@@ -24,8 +24,8 @@ use Rattle.rv_text.specs.declared.form.Form.{Form}
 use Rattle.rv_text.specs.declared.form.Slot.{Slot}
 use Rattle.rv_text.specs.declared.fault.FaultKind.{FaultKind}
 use Rattle.rv_text.specs.declared.fault.FaultKind.TheVariants.{OtherForm, UnknownMnemonic, NoRegister, OutOfRange, Undefined}
-use Rattle.rv_text.proofs.SpellingLemmas.{is_mnemonic, IsSpelled, spellings}
-use Rattle.rv_text.proofs.InstructionLemmas.{in_ranges, Built, instruction, word, Builds, AllBuild, register-rows, multiply-rows, immediate-rows, memory-rows, branch-rows, other-rows}
+use Rattle.rv_text.proofs.read_back.SpellingLemmas.{is_mnemonic, IsSpelled, spellings}
+use Rattle.rv_text.proofs.meaning.InstructionLemmas.{in_ranges, Built, instruction, word, Builds, AllBuild, register-rows, multiply-rows, immediate-rows, memory-rows, branch-rows, other-rows}
 
 -- ---- results
 value_or : {A E : Type 0} → A → Result A E → A

@@ -16,13 +16,13 @@ use Rattle.bisect_game.specs.Closing.{close_of}
 use Rattle.bisect_game.specs.Disputes.{Answers, filled, round_over, played}
 use Rattle.bisect_game.specs.Rules.{Rules}
 use Rattle.bisect_game.specs.Says.{Says}
-use Rattle.tournament.proofs.JournalLemmas.{AreCounts, counts-begun, turned, Turned, Passed, Settles, counts-turn, turns-keep, at-other}
+use Rattle.tournament.proofs.order.JournalLemmas.{AreCounts, counts-begun, turned, Turned, Passed, Settles, counts-turn, turns-keep, at-other}
 use Rattle.tournament.proofs.OnceLemmas.{IsApart, IsOpen, opens, not-eqb, stays-asked}
 use Rattle.tournament.proofs.OpenedLemmas.{opened-not, opened-due}
 use Rattle.tournament.proofs.ReachLemmas.{either, Reaches}
 use Rattle.tournament.proofs.SidesLemmas.{round-closed, round-open}
 use Rattle.tournament.proofs.StageLemmas.{IsPlayed, played-settle, played-nothing, steps-settle}
-use Rattle.tournament.proofs.StagedLemmas.{bracket-fixed}
+use Rattle.tournament.proofs.order.StagedLemmas.{bracket-fixed}
 use Rattle.tournament.specs.Asked.{kind_in, kind_of, asked_in, asked, AskedByTheCase, QuestionsStay}
 use Rattle.tournament.specs.Bracket.{Record, claim_question, pairs, last_stage, disputes_of, is_stage_due, stage_opened, carried, stage_over, bracket, asks_first, asks_second, question_in, claim_missing, open_question, settled_in, put, settle}
 use Rattle.tournament.specs.Journals.{turn, turn_on, turns, answers_of}

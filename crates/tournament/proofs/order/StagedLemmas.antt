@@ -6,8 +6,8 @@ use Rattle.bisect_game.specs.declared.settled.Settled.{Settled}
 use Rattle.bisect_game.specs.Bisection.{Bisection, is_closed}
 use Rattle.bisect_game.specs.Disputes.{Answers, filled, round_over, played}
 use Rattle.bisect_game.specs.Rules.{Rules}
-use Rattle.tournament.proofs.BracketLemmas.{reach-fixed}
-use Rattle.tournament.proofs.CountLemmas.{Pair, SidesOf, AllHonest, IsHonest, IsStaged, IsOrdered, honest-advanced, ordered-opened, ordered-nothing, fewer}
+use Rattle.tournament.proofs.order.BracketLemmas.{reach-fixed}
+use Rattle.tournament.proofs.length.CountLemmas.{Pair, SidesOf, AllHonest, IsHonest, IsStaged, IsOrdered, honest-advanced, ordered-opened, ordered-nothing, fewer}
 use Rattle.tournament.proofs.ReachLemmas.{either}
 use Rattle.tournament.proofs.SidesLemmas.{SameSides, sides-round, round-closed, round-open}
 use Rattle.tournament.proofs.StageLemmas.{claims-full, played-all, all-out}

@@ -14,10 +14,10 @@ use Rattle.tournament.specs.Moves.{MatchState, begun, passes_of, settled_by, mov
 use Rattle.tournament.specs.Posting.{same_qid, posted, posted_on, Post, after_posts, record_after}
 use Rattle.tournament.specs.Theorem.{AreTrue, Stays}
 use Rattle.tournament.specs.TrueMoves.{IsTrueMove, MovesTruly, TrueMovesAreTrueAnswers, TrueMovesAreSafe}
-use Rattle.tournament.proofs.LiveLemmas.{live-contains}
-use Rattle.tournament.proofs.MatchLemmas.{claim-there}
-use Rattle.tournament.proofs.TheoremLemmas.{truthful_stay, verdict_is_right}
-use Rattle.tournament.proofs.TruthfulLemmas.{true-settle, judged-true, none-yet}
+use Rattle.tournament.proofs.safety.LiveLemmas.{live-contains}
+use Rattle.tournament.proofs.safety.MatchLemmas.{claim-there}
+use Rattle.tournament.proofs.safety.TheoremLemmas.{truthful_stay, verdict_is_right}
+use Rattle.tournament.proofs.safety.TruthfulLemmas.{true-settle, judged-true, none-yet}
 
 none-spent : (s : Settled) (b : Bool) → b ≡ true → (if b then None else Some Spent) ≡ Some s → ⊥
 none-spent s true within e = absurd (cc)

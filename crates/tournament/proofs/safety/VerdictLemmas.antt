@@ -16,8 +16,8 @@ use Rattle.bisect_game.specs.Closing.{both_proved, closed_by, close_of, is_out, 
 use Rattle.bisect_game.specs.Rules.{Rules, ArePlayable}
 use Rattle.bisect_game.specs.Ruling.{Ruling, IsFair, IsCollision, same_digest}
 use Rattle.bisect_game.specs.Truth.{Truth, IsRun}
-use Rattle.tournament.proofs.LiveLemmas.{IsIn, live-in}
-use Rattle.tournament.proofs.MatchLemmas.{HasClaim, AllClaim, live-right, settled_stay, claim-there, IsKept, kept-start, FitClaims}
+use Rattle.tournament.proofs.safety.LiveLemmas.{IsIn, live-in}
+use Rattle.tournament.proofs.safety.MatchLemmas.{HasClaim, AllClaim, live-right, settled_stay, claim-there, IsKept, kept-start, FitClaims}
 use Rattle.tournament.proofs.OpenedLemmas.{opened-not, opened-due, opened-twice}
 use Rattle.tournament.proofs.ReachLemmas.{either, same-is}
 use Rattle.tournament.proofs.StageLemmas.{IsPlayed, played-nothing}

@@ -10,8 +10,8 @@ use Rattle.rv_text.specs.Spelling.{Spelling, spelling_of, spelling_by, spelling_
 use Rattle.rv_text.specs.Listing.{line_of, listing, spelling_text}
 use Rattle.rv_text.specs.Lines.{code_in, label_in, word_in}
 use Rattle.rv_text.specs.Assembly.{Names, no_names, near, distances_from, pass, after_line, with_label, place_after, first_pass, second_pass, assembled}
-use Rattle.rv_text.proofs.SpellingLemmas.{IsSpelled, spellings, raw-law}
-use Rattle.rv_text.proofs.LineLemmas.{line-read, line-unlabelled, lines-first, spelling-plain}
+use Rattle.rv_text.proofs.read_back.SpellingLemmas.{IsSpelled, spellings, raw-law}
+use Rattle.rv_text.proofs.read_back.LineLemmas.{line-read, line-unlabelled, lines-first, spelling-plain}
 
 -- the decoder's law: the reading of a word is the one instruction that has it
 abbrev pub OneReading : Type 0

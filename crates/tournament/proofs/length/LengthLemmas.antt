@@ -9,9 +9,9 @@ use Rattle.bisect_game.specs.Bisection.{Bisection, is_closed, question_of, settl
 use Rattle.bisect_game.specs.Closing.{close_of}
 use Rattle.bisect_game.specs.Rules.{Rules}
 use Rattle.bisect_game.specs.Says.{Says}
-use Rattle.tournament.proofs.CountLemmas.{IsOrdered, ordered-settle, ordered-nothing, fewer}
-use Rattle.tournament.proofs.FewLemmas.{AllFew, few-settle}
-use Rattle.tournament.proofs.JournalLemmas.{IsCount, AreCounts, counts-begun, count-by, turned, counts-turn, turns-keep}
+use Rattle.tournament.proofs.length.CountLemmas.{IsOrdered, ordered-settle, ordered-nothing, fewer}
+use Rattle.tournament.proofs.length.FewLemmas.{AllFew, few-settle}
+use Rattle.tournament.proofs.order.JournalLemmas.{IsCount, AreCounts, counts-begun, count-by, turned, counts-turn, turns-keep}
 use Rattle.tournament.specs.OpenDisputes.{one_if}
 use Rattle.tournament.proofs.OnceLemmas.{IsOpen, opens, is-prover, not-eqb, is-eqb}
 use Rattle.tournament.proofs.OpenedLemmas.{opened-not, opened-due}
