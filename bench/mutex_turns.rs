@@ -1,4 +1,4 @@
-// The same as the program bench_lock_turns, with a mutex of Rust's standard library in place of our lock.
+// The same as the subject `lock` of the program bench_layers, with a mutex of Rust's standard library in place of our lock.
 use std::env;
 use std::hint::black_box;
 use std::process::exit;

@@ -1,9 +1,6 @@
-//! The program `bench_rulings`: judges the proof of one step again and again, and prints how often it led.
-//!
-//! The command line says the version of the commitment, after how many steps of a small program the proof is made, and how many rulings
-//! there are: after 2 steps a byte is stored, after 3 a word is loaded, after 4 memory isn't used. `bench/rulings` measures it.
-#![tactic(auto)]
-
+//! The subject `rulings`: the proof of one step is judged again and again. Its numbers are the version of the commitment, after how many
+//! steps of a small program the proof is made, and how many rulings there are: after 2 steps a byte is stored, after 3 a word is loaded,
+//! after 4 memory isn't used. `bench/rulings` measures it.
 ghost use Rattle.std.specs.Prelude.{◌≤◌};
 
 use bisect_game::Judge;
@@ -14,10 +11,7 @@ use rd_base::Memory;
 use rv_step::Machine;
 use state_commit::Committed;
 use std::alloc::Global;
-use std::env::Env;
-use std::process::ExitCode;
 use std::thread::Threads;
-use std::{env, io};
 use step_referee::MachineJudge;
 
 /// lui x5, 0x20; addi x6, x0, 122; sb x6, 3(x5); lw x10, 0(x5); srli x10, x10, 24
@@ -52,25 +46,14 @@ fn led<R: Threads + Sync>(
     Ok(led)
 }
 
-// The three numbers of the command line.
-fn numbers(rt: &(impl Env + AllocGlobal)) -> Option<(u8, u64, u64)> {
-    let words: Vec<String> = env::args(rt).ok()?.collect(rt.alloc()).ok()?;
-    let version = words.get(1)?.as_str().parse::<u8>().ok()?;
-    let steps = words.get(2)?.as_str().parse::<u64>().ok()?;
-    let rulings = words.get(3)?.as_str().parse::<u64>().ok()?;
-    Some((version, steps, rulings))
-}
-
-fn main(rt: HostRuntime) -> io::Result<ExitCode> {
-    let Some((version, steps, rulings)) = numbers(&rt) else {
-        return Ok(ExitCode::from(2));
-    };
+/// How often the proof led, as a line. `None` if the words don't begin with the subject's numbers, or memory ran out.
+pub fn line<R: Threads + Sync>(rt: &R, alloc: Global, words: &[String]) -> Option<String> {
+    let version = words.first()?.as_str().parse::<u8>().ok()?;
+    let steps = words.get(1)?.as_str().parse::<u64>().ok()?;
+    let rulings = words.get(2)?.as_str().parse::<u64>().ok()?;
     if version < 1 || version > 3 {
-        return Ok(ExitCode::from(2));
+        return None;
     }
-    match led(&rt, rt.alloc(), version, steps, rulings) {
-        Ok(led) => println!(rt; "{led}")?,
-        Err(_) => return Ok(ExitCode::from(2)),
-    }
-    Ok(ExitCode::SUCCESS)
+    let led = led(rt, alloc, version, steps, rulings).ok()?;
+    format!(in alloc; "{led}\n").ok()
 }

@@ -1,18 +1,13 @@
-//! The program `bench_lock_turns`: many threads add to one counter under a lock, one a turn, and the count is printed.
-//!
-//! The command line says how many threads there are, at most 16, and how many turns each takes. `bench/run` measures it.
-#![tactic(auto)]
-
+//! The subject `lock`: many threads add to one counter under a lock, one a turn. Its numbers are how many threads there are, at most 16, and
+//! how many turns each takes. `bench/lock` measures it.
 ghost use Rattle.std.specs.Prelude.{◌≡◌, ◌≤◌, All, IfOk};
 
 use rd_base::Memory;
 use seat_lock::{Job, Logged, Seat, SeatLock};
 use std::alloc::Global;
-use std::env::Env;
-use std::process::ExitCode;
 use std::sync::Wait;
+use std::thread;
 use std::thread::Threads;
-use std::{env, io, thread};
 
 /// The most threads that there may be.
 const MOST: u64 = 16;
@@ -110,24 +105,13 @@ fn count<R: Threads + Wait + Sync>(
     Ok(lock.with_turn(rt, &mut seat, Add { number: 0 }))
 }
 
-// The two numbers of the command line.
-fn numbers(rt: &(impl Env + AllocGlobal)) -> Option<(u64, u64)> {
-    let words: Vec<String> = env::args(rt).ok()?.collect(rt.alloc()).ok()?;
-    let threads = words.get(1)?.as_str().parse::<u64>().ok()?;
-    let turns = words.get(2)?.as_str().parse::<u64>().ok()?;
-    Some((threads, turns))
-}
-
-fn main(rt: HostRuntime) -> io::Result<ExitCode> {
-    let Some((threads, turns)) = numbers(&rt) else {
-        return Ok(ExitCode::from(2));
-    };
+/// What the counter stands at after all turns, as a line. `None` if the words don't begin with the subject's numbers, or memory ran out.
+pub fn line<R: Threads + Wait + Sync>(rt: &R, alloc: Global, words: &[String]) -> Option<String> {
+    let threads = words.first()?.as_str().parse::<u64>().ok()?;
+    let turns = words.get(1)?.as_str().parse::<u64>().ok()?;
     if threads > MOST {
-        return Ok(ExitCode::from(2));
+        return None;
     }
-    match count(&rt, rt.alloc(), threads, turns) {
-        Ok(count) => println!(rt; "{count}")?,
-        Err(_) => return Ok(ExitCode::from(2)),
-    }
-    Ok(ExitCode::SUCCESS)
+    let count = count(rt, alloc, threads, turns).ok()?;
+    format!(in alloc; "{count}\n").ok()
 }

@@ -1,15 +1,9 @@
-//! The program `bench_text`: assembles the text on standard input, lists its words, and prints how many words there are, the last one,
-//! and how many bytes the listing has.
-//!
-//! For a text with a fault it prints the fault's number and its line. `bench/text` measures it.
-#![tactic(auto)]
+//! The subject `text`: the text on standard input is assembled, and its words are listed. It has no numbers. `bench/text` measures it.
 
-use io_edge::{StdSource, read_all};
+use io_edge::{Source, read_all};
 use rd_base::Memory;
 use rv_text::{AsmError, AsmFault, MAX_ASSEMBLY_BYTES, assemble, list};
 use std::alloc::Global;
-use std::io;
-use std::process::ExitCode;
 
 /// What is seen of a text.
 enum Seen {
@@ -43,25 +37,21 @@ fn assembled(alloc: Global, text: &[u8]) -> Result<Seen, Memory> {
     })
 }
 
-fn main(rt: HostRuntime) -> io::Result<ExitCode> {
-    let mut source = StdSource::new(rt.stdin());
-    let text = match read_all(rt.alloc(), &mut source, MAX_ASSEMBLY_BYTES) {
-        Ok(text) => text,
-        Err(_) => return Ok(ExitCode::from(2)),
-    };
-    match assembled(rt.alloc(), text.as_slice()) {
-        Ok(
-            Seen::Words {
-                count,
-                last,
-                listed,
-            },
-        ) => println!(rt; "{count} words, the last {last:08x}, listed in {listed} bytes")?,
-        Ok(Seen::Fault(fault)) => {
+/// How many words the text has, the last one, and how many bytes their listing has, or the number of the text's fault and its line, as a
+/// line. `None` if the text can't be read, or memory ran out.
+pub fn line<S: Source>(alloc: Global, source: &mut S) -> Option<String> {
+    let text = read_all(alloc, source, MAX_ASSEMBLY_BYTES).ok()?;
+    match assembled(alloc, text.as_slice()).ok()? {
+        Seen::Words {
+            count,
+            last,
+            listed,
+        } => format!(in alloc;
+            "{count} words, the last {last:08x}, listed in {listed} bytes\n"
+        ).ok(),
+        Seen::Fault(fault) => {
             let (kind, line) = (fault.kind.number(), fault.line);
-            println!(rt; "fault {kind} line {line}")?;
+            format!(in alloc; "fault {kind} line {line}\n").ok()
         }
-        Err(_) => return Ok(ExitCode::from(2)),
     }
-    Ok(ExitCode::SUCCESS)
 }

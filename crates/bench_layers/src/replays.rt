@@ -1,11 +1,7 @@
-//! The program `bench_replays`: records a run of a small program, asks roots of it, and prints the first bytes of the last one.
-//!
-//! The command line says how many pages the program stores to, the bound, how many steps lie between two checkpoints, how
-//! many roots are asked, at even distances up to the bound, and how many workers there are. With no steps between two
-//! checkpoints the program runs plainly, and with no roots the run is recorded alone: the last count is printed then, which is
-//! that of the stores. `bench/replays` measures it.
-#![tactic(auto)]
-
+//! The subject `replays`: a run of a small program is recorded, and roots are asked of it. Its numbers are how many pages the program stores
+//! to, the bound, how many steps lie between two checkpoints, how many roots are asked, at even distances up to the bound, and how many
+//! workers there are. With no steps between two checkpoints the program runs plainly, and with no roots the run is recorded alone.
+//! `bench/replays` measures it.
 ghost use Rattle.std.specs.Prelude.{ℕ, List, IfOk};
 ghost use Rattle.rv_step.specs.State.{IsChained};
 
@@ -16,10 +12,7 @@ use rd_base::{Memory, Tamper};
 use rv_step::{Machine, advance};
 use segment_replay::roots;
 use std::alloc::Global;
-use std::env::Env;
-use std::process::ExitCode;
 use std::thread::Threads;
-use std::{env, io};
 
 /// lui x6, 0x20; lui x8, 0x20 (and so many pages more); then add x28, x6, x0, and on from there sw x5, 0(x28); addi x5, x5, 1;
 /// addi x28, x28, 256; bne x28, x8, -12; jal x0, -20: it stores its count to every 64th word of the pages from 0x20000 on,
@@ -27,7 +20,7 @@ use std::{env, io};
 const PROGRAM: &[u8] =
     b"\x37\x03\x02\x00\x37\x04\x02\x00\x33\x0e\x03\x00\x23\x20\x5e\x00\x93\x82\x12\x00\x13\x0e\x0e\x10\xe3\x1a\x8e\xfe\x6f\xf0\xdf\xfe";
 
-/// What the command line says.
+/// The numbers of the subject.
 #[derive(Clone, Copy)]
 struct Work {
     pages: u32,
@@ -48,7 +41,7 @@ fn machine_of(alloc: Global, pages: u32) -> Result<Machine, Memory>
     Machine::new(alloc, 1, mem, 0x1_0000, &[])
 }
 
-// What is printed: the first four bytes of the last root, or the last count.
+// The first four bytes of the last root as a number; if no root is asked, the last count, which is that of the stores.
 fn worked<R: Threads + Sync>(rt: &R, alloc: Global, work: Work) -> Result<u32, Memory> {
     let mut machine = machine_of(alloc, work.pages)?;
     if work.every == 0 {
@@ -81,25 +74,20 @@ fn worked<R: Threads + Sync>(rt: &R, alloc: Global, work: Work) -> Result<u32, M
     }
 }
 
-// The numbers of the command line.
-fn work_of(rt: &(impl Env + AllocGlobal)) -> Option<Work> {
-    let words: Vec<String> = env::args(rt).ok()?.collect(rt.alloc()).ok()?;
+// The numbers of the subject, with which the words begin.
+fn work_of(words: &[String]) -> Option<Work> {
     Some(Work {
-        pages: words.get(1)?.as_str().parse::<u32>().ok()?,
-        bound: words.get(2)?.as_str().parse::<u32>().ok()?,
-        every: words.get(3)?.as_str().parse::<u32>().ok()?,
-        roots: words.get(4)?.as_str().parse::<u32>().ok()?,
-        workers: words.get(5)?.as_str().parse::<u32>().ok()?,
+        pages: words.first()?.as_str().parse::<u32>().ok()?,
+        bound: words.get(1)?.as_str().parse::<u32>().ok()?,
+        every: words.get(2)?.as_str().parse::<u32>().ok()?,
+        roots: words.get(3)?.as_str().parse::<u32>().ok()?,
+        workers: words.get(4)?.as_str().parse::<u32>().ok()?,
     })
 }
 
-fn main(rt: HostRuntime) -> io::Result<ExitCode> {
-    let Some(work) = work_of(&rt) else {
-        return Ok(ExitCode::from(2));
-    };
-    match worked(&rt, rt.alloc(), work) {
-        Ok(number) => println!(rt; "{number}")?,
-        Err(_) => return Ok(ExitCode::from(2)),
-    }
-    Ok(ExitCode::SUCCESS)
+/// The first four bytes of the last root as a number, or the last count, as a line. `None` if the words don't begin with the subject's
+/// numbers, or memory ran out.
+pub fn line<R: Threads + Sync>(rt: &R, alloc: Global, words: &[String]) -> Option<String> {
+    let number = worked(rt, alloc, work_of(words)?).ok()?;
+    format!(in alloc; "{number}\n").ok()
 }
