@@ -144,6 +144,11 @@ pub scripts-said : {A : Type 0} (answers : A → Question → ℕ → Option Ans
     → scripts ≡ others → AnswerAs answers (case_says digest start bound scripts) 1 xs → AnswerAs answers (case_says digest start bound others) 1 xs
 scripts-said answers digest start bound scripts others xs same say = subst (λ (ss : List Script). AnswerAs answers (case_says digest start bound ss) 1 xs) same say
 
+-- a copy of the start says the same
+pub said-as : {A : Type 0} (answers : A → Question → ℕ → Option Answer) (digest : List ℕ → List ℕ) (s start : State) (bound : ℕ) (scripts : List Script) (xs : List A)
+    → s ≡ start → AnswerAs answers (case_says digest s bound scripts) 1 xs → AnswerAs answers (case_says digest start bound scripts) 1 xs
+said-as answers digest s start bound scripts xs same say = subst (λ (t : State). AnswerAs answers (case_says digest t bound scripts) 1 xs) same say
+
 pub said-in-order : {A : Type 0} (answers : A → Question → ℕ → Option Answer) → SayInOrder answers → (digest : List ℕ → List ℕ) (start : State) (bound : ℕ) (scripts : List Script) (xs : List A)
     → length xs ≡ length scripts → AnswerAs answers (case_says digest start bound scripts) 1 xs → map answers xs ≡ sayings_from (case_says digest start bound scripts) 1 (length scripts)
 said-in-order answers law digest start bound scripts xs count say =

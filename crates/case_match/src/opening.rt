@@ -32,7 +32,7 @@ pub fn open_match<D: Replays>(
     alloc: Global,
     d: D,
     case: &Case,
-    start: &Machine,
+    start: Machine,
     input: &SharedInput<D>,
     root: Digest32,
     options: Options,
@@ -43,30 +43,30 @@ pub fn open_match<D: Replays>(
     ),
     Memory,
 >
-    requires chained { IsChained D.digest_of start.now }
-    requires silent { start.now.output.items ≡ [] }
-    requires input { HasInput D.digest_of (state_of start.now) input.now }
-    requires root { root ≡ start_root D.digest_of (state_of start.now) }
+    requires chained { IsChained D.digest_of start }
+    requires silent { start.output.items ≡ [] }
+    requires input { HasInput D.digest_of (state_of start) input.now }
+    requires root { root ≡ start_root D.digest_of (state_of start) }
     requires options { AreAtLeastOne options }
-    ensures opening { IfOk result (λ opened. opened.0.0 ≡ opening_of_case D.digest_of (data_of case.now) (state_of start.now)) }
+    ensures opening { IfOk result (λ opened. opened.0.0 ≡ opening_of_case D.digest_of (data_of case.now) (state_of start)) }
     ensures empty { IfOk result (λ opened. opened.0.1 ≡ []) }
     ensures count { IfOk result (λ opened. length opened.1.items ≡ length case.now.provers) }
-    ensures says { IfOk result (λ opened. AnswerAs ⟦<Scripted<RunAnswerer<D>, D> as Answerer>⟧.answers (case_says D.digest_of (state_of start.now) case.now.bound case.now.provers) 1 opened.1.items) }
-    ensures playable { ArePlayable (rules_of_case D.digest_of (data_of case.now) (state_of start.now)) }
+    ensures says { IfOk result (λ opened. AnswerAs ⟦<Scripted<RunAnswerer<D>, D> as Answerer>⟧.answers (case_says D.digest_of (state_of start) case.now.bound case.now.provers) 1 opened.1.items) }
+    ensures playable { ArePlayable (rules_of_case D.digest_of (data_of case.now) (state_of start)) }
 {
     let scripts = case.provers.as_slice();
     let judge = MachineJudge::new(d, start.version);
-    let provers = CaseProvers::new(alloc, d, scripts, start, case.bound)?;
     let answerers = answerers_with_input(
         alloc,
         d,
         scripts,
-        start,
+        &start,
         input,
         case.bound,
         options.every,
         options.workers,
     )?;
+    let provers = CaseProvers::new(alloc, d, scripts, start, case.bound)?;
     let book = Book::open(
         alloc,
         judge,
@@ -112,7 +112,8 @@ pub fn open_matches<D: Replays>(
         return Ok(());
     };
     let input = SharedInput::of(alloc, d, start)?;
-    let (book, mut own) = open_match(alloc, d, case, start, &input, *root, options)?;
+    let machine = start.copy()?;
+    let (book, mut own) = open_match(alloc, d, case, machine, &input, *root, options)?;
     answerers_say_in_order::<Scripted<RunAnswerer<D>, D>>();
     books.push(book)?;
     answerers.append(&mut own)?;

@@ -79,7 +79,7 @@ where
     ensures verdict { IfOk result (λ played. played.1 ≡ verdict_of_record D.digest_of (data_of case.now) (state_of start) played.0) }
     ensures settled_up { IfOk result (λ played. IsSettledUp (length case.now.provers) played.0) }
 {
-    let (book, mut answerers) = open_match(alloc, d, case, &start, input, root, options)?;
+    let (book, mut answerers) = open_match(alloc, d, case, start, input, root, options)?;
     records_of_cases_are_settled_up();
     play_out(rt, alloc, book, answerers.as_mut_slice(), options.posters)
 }

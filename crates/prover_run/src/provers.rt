@@ -75,19 +75,18 @@ fn copied(alloc: Global, scripts: &[Script]) -> Result<Vec<Script>, Memory>
 }
 
 impl<D: Digester> CaseProvers<D> {
-    /// The provers with these scripts, fewer than 2^32, whose runs go from a machine up to the step `bound`. An `Err` is out
-    /// of memory.
+    /// The provers with these scripts, fewer than 2^32, whose runs go from the machine `start` up to the step `bound`. An `Err` is out of
+    /// memory, and drops the machine.
     pub fn new(
         alloc: Global,
         d: D,
         scripts: &[Script],
-        machine: &Machine,
+        start: Machine,
         bound: u64,
     ) -> Result<Self, Memory>
         requires { length scripts.now < 2 ^ 32 }
-        ensures { IfOk result (λ c. c ≡ record { start = state_of machine.now; bound = bound; scripts = scripts.now }) }
+        ensures { IfOk result (λ c. c ≡ record { start = state_of start; bound = bound; scripts = scripts.now }) }
     {
-        let start = machine.copy()?;
         Ok(CaseProvers {
             d,
             start,

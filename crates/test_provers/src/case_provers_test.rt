@@ -92,7 +92,7 @@ fn provers_with(alloc: Global, scripts: &[Script]) -> Result<CaseProvers<Sha256>
     requires { length scripts.now ≤ 7 }
 {
     let machine = eight_steps(alloc, 1)?;
-    CaseProvers::new(alloc, Sha256, scripts, &machine, 8)
+    CaseProvers::new(alloc, Sha256, scripts, machine, 8)
 }
 
 /// Their answerers.

@@ -18,7 +18,7 @@ open-requires-clause-few g c =
 pub returns-clause-opening : goal.returns-clause-opening
 returns-clause-opening g c =
     ap (λ b. b.0) c.in_ok-book.ensures
-    ∙ opened-as g.D.Digester.digest_of c.new-judge.result.version (data_of c.args.case.now) (state_of c.args.start.now) c.as_slice-scripts.result.now c.in_ok-provers.provers c.args.root
+    ∙ opened-as g.D.Digester.digest_of c.new-judge.result.version (data_of c.args.case.now) (state_of c.args.start) c.as_slice-scripts.result.now c.in_ok-provers.provers c.args.root
     c.new-judge.ensures.version c.as_slice-scripts.ensures c.in_ok-provers.ensures c.requires.root
 
 pub returns-clause-count : goal.returns-clause-count
@@ -26,5 +26,5 @@ returns-clause-count g c = c.in_ok-answerers.ensures.count ∙ ap length c.as_sl
 
 pub returns-clause-says : goal.returns-clause-says
 returns-clause-says g c =
-    scripts-said _ g.D.Digester.digest_of (state_of c.args.start.now) c.args.case.now.bound c.as_slice-scripts.result.now c.args.case.now.provers c.in_ok-answerers.answerers.items
+    scripts-said _ g.D.Digester.digest_of (state_of c.args.start) c.args.case.now.bound c.as_slice-scripts.result.now c.args.case.now.provers c.in_ok-answerers.answerers.items
     c.as_slice-scripts.ensures c.in_ok-answerers.ensures.answers
