@@ -30,7 +30,7 @@ pub struct Hall<'g, J: Judge + Drop, P: Provers + Drop, G: TaskGate> {
     pub posters: u64,
     /// How many posters have begun.
     pub begun: AtomicU64,
-    /// One more after each post, and after each poster that ended early. A poster with nothing to do sleeps on it.
+    /// One more after each post, and after each poster that ended. A poster with nothing to do sleeps on it.
     pub news: AtomicU64,
     /// Whether a poster looks for news.
     pub is_watched: AtomicBool,
@@ -272,7 +272,9 @@ impl<'g, J: Judge + Drop, P: Provers + Drop, A: Answerer, G: TaskGate> Worker<Ha
         hall.begun.fetch_add(1, Ordering::SeqCst);
         if !serve_all_rounds(rt, hall, &mut self.seat, numbers, answerers) {
             hall.ended_early.store(true, Ordering::SeqCst);
-            tell_posters(hall);
         }
+        // Where no thread could be made, one that hasn't begun yet may stand behind a poster that sleeps: this one may have been the
+        // last that looked for it.
+        tell_posters(hall);
     }
 }
