@@ -1,5 +1,6 @@
 -- To believe: what a manner makes of a prover's answers.
-use Rattle.std.specs.Prelude.{◌≡◌, ℕ, ◌≤◌, ◌==◌, ◌&&◌, Bool, true, false, List, [], ◌∷◌, map, Option, Some, None, option_map, is_none, nat_lt, nat_le, if◌then◌else◌}
+use Rattle.std.specs.Prelude.{◌≡◌, ℕ, ◌≤◌, ◌==◌, Bool, true, false, List, [], ◌∷◌, map, Option, Some, None, option_map, is_none, nat_lt, nat_le, if◌then◌else◌}
+use Rattle.rd_base.specs.Questions.{same_qid}
 use Rattle.rd_base.specs.Regs.{with_register}
 use Rattle.rd_base.specs.declared.digest.Digest32.{Digest32}
 use Rattle.rd_base.specs.declared.opened.RegOpening.{RegOpening}
@@ -60,14 +61,10 @@ with_roots root (kind.Root i) (answer.Root _) = answer.Root root
 with_roots root (kind.Roots lo hi parts) (answer.Roots roots) = answer.Roots (map (λ _. root) roots)
 with_roots root k a = a
 
--- two numbers of questions are the same
-abbrev pub same_number : Qid → Qid → Bool
-same_number a b = (a.dispute == b.dispute) && (a.round == b.round)
-
 -- the first answer that is written down for the question of this number
 abbrev pub written : List TapeAnswer → Qid → Option Answer
 written [] qid = None
-written (entry ∷ rest) qid = if same_number entry.qid qid then Some entry.answer else written rest qid
+written (entry ∷ rest) qid = if same_qid entry.qid qid then Some entry.answer else written rest qid
 
 -- what a prover with a manner answers, by what it answers without one: a late one passes so many times on each question, and a
 -- silent one from a round on; the next three alter an answer, and never pass; one with a tape answers what is written down,

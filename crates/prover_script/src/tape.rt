@@ -1,23 +1,16 @@
 //! What is written down on a tape.
 ghost use Rattle.std.specs.Prelude.{◌≡◌, IfOk, MatchOption, None, Some};
-ghost use Rattle.prover_script.specs.Manners.{same_number, written};
+ghost use Rattle.prover_script.specs.Manners.{written};
 
-use rd_base::{Answer, Memory, Qid, TapeAnswer};
+use rd_base::{Answer, Memory, Qid, TapeAnswer, same_qid};
 use std::alloc::Global;
-
-/// Whether two numbers of questions are the same.
-fn same_number(first: Qid, second: Qid) -> bool
-    ensures { result ≡ same_number first second }
-{
-    first.dispute == second.dispute && first.round == second.round
-}
 
 /// The first answer that is written down for the question of this number.
 pub fn written(entries: &[TapeAnswer], qid: Qid) -> Option<&Answer>
     ensures { MatchOption result (written entries.now qid ≡ None) (λ a. written entries.now qid ≡ Some a.now) }
 {
     'entries: for entry in entries {
-        if same_number(entry.qid, qid) {
+        if same_qid(entry.qid, qid) {
             return Some(&entry.answer);
         }
     }

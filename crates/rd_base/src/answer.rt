@@ -1,4 +1,5 @@
 ghost use Rattle.std.specs.Prelude.{◌≡◌, IfOk};
+ghost use Rattle.rd_base.specs.Questions.{same_qid};
 
 use crate::claim::Claim;
 use crate::digest::Digest32;
@@ -15,6 +16,13 @@ pub struct Qid {
     pub dispute: u32,
     /// The round of the dispute, from 1; 0 is the claim.
     pub round: u32,
+}
+
+/// Whether two numbers name the same question.
+pub fn same_qid(first: Qid, second: Qid) -> bool
+    ensures { result ≡ same_qid first second }
+{
+    first.dispute == second.dispute && first.round == second.round
 }
 
 /// What a prover answers.

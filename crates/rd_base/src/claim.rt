@@ -1,7 +1,6 @@
 ghost use Rattle.std.specs.Prelude.{◌≡◌, ◌≤◌, ◌↔◌, length, IfOk, IfSome, IsSome};
 
 use crate::digest::Digest32;
-use crate::listed::Bytes;
 use crate::memory::Memory;
 use crate::status::Ctl;
 use std::alloc::Global;
@@ -15,7 +14,7 @@ pub const MAX_OUTPUT_BYTES: usize = 4_294_967_295;
 /// Contracts see it as the list of its bytes.
 #[derive(Debug, Drop)]
 pub struct ClaimOutput {
-    bytes: Bytes,
+    bytes: Vec<u8>,
 }
 
 impl Model for ClaimOutput {
@@ -23,9 +22,9 @@ impl Model for ClaimOutput {
 
     ghost Value = { List ℕ };
 
-    ghost view = { λ o. o.bytes };
+    ghost view = { λ o. o.bytes.items };
 
-    ghost invariant = { λ o. length o.bytes ≤ 4294967295 };
+    ghost invariant = { λ o. length o.bytes.items ≤ 4294967295 };
 }
 
 impl ClaimOutput {
@@ -35,9 +34,7 @@ impl ClaimOutput {
         ensures value { IfSome result (λ o. o ≡ bytes.items) }
     {
         if bytes.len() <= MAX_OUTPUT_BYTES {
-            Some(ClaimOutput {
-                bytes: Bytes::new(bytes),
-            })
+            Some(ClaimOutput { bytes })
         } else {
             None
         }
@@ -63,7 +60,7 @@ impl ClaimOutput {
         ensures { IfOk result (λ o. o ≡ self.now) }
     {
         Ok(ClaimOutput {
-            bytes: Bytes::new(self.bytes.as_slice().to_vec(alloc)?),
+            bytes: self.bytes.to_vec(alloc)?,
         })
     }
 }

@@ -4,7 +4,8 @@
 //! `x0`, a claimed output is never longer than its length field can say, a tampered register is one of `x1` to `x31`,
 //! a late prover passes at most 1,000 times, a tape has at most 4,096 answers, an answer of several roots has 1 to 15, a proof opens
 //! at most three registers,
-//! and a byte string is seen in contracts as the list of its bytes. Read `regs` first, then `answer`.
+//! and a byte string is seen in contracts as the list of its bytes. What is said of plain data in more than one layer stands here too:
+//! `same_digest`, `same_qid` and the laws. Read `regs` first, then `answer`.
 #![tactic(auto)]
 
 mod answer;
@@ -25,10 +26,10 @@ mod steps;
 mod tamper;
 mod tape;
 
-pub use answer::{Answer, Qid};
+pub use answer::{Answer, Qid, same_qid};
 pub use claim::{Claim, ClaimOutput, MAX_OUTPUT_BYTES};
 pub use digest::{Digest32, same_digest};
-pub use laws::registers_are_32;
+pub use laws::{paths_have_5_levels, paths_have_15_levels, paths_have_27_levels, registers_are_32};
 pub use limits::MAX_INPUT_BYTES;
 pub use listed::{Boxed, Bytes, Listed};
 pub use memory::Memory;

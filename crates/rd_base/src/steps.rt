@@ -3,7 +3,8 @@ ghost use Rattle.std.specs.Prelude.{◌≡◌, ◌+◌};
 use std::marker::Model;
 use std::sync::ledger::{Blank, Book, Ledger, Share};
 
-/// A counter of steps that takes no bytes when the program runs: it is there for contracts.
+/// A counter of steps of work, such as digests, that takes no bytes when the program runs: it is there for contracts. The function that
+/// ticks says what a tick stands for.
 ///
 /// Contracts see it as the number of ticks so far. Nothing but `tick` changes it.
 #[derive(Drop)]

@@ -341,7 +341,7 @@ const READ_IN_ANY_ORDER: &str =
     "Case { image: Listed { items: [] }, format: Elf, input: Listed { items: [0, 255] }, \
      bound: 4294967295, patience: 100, version: 3, fan: 16, stake: Some(1000000000), provers: Listed { items: [\
      Script { tamper: Untouched, manner: Plain }, \
-     Script { tamper: Untouched, manner: Output(ClaimOutput { bytes: Listed { items: [171] } }) }] } }";
+     Script { tamper: Untouched, manner: Output(ClaimOutput { bytes: [171] }) }] } }";
 
 /// Each tamper and each manner, with the numbers of its own keys.
 const SCRIPTS: &str =
