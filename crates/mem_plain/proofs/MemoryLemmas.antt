@@ -1,11 +1,10 @@
 -- Contents that are made of a function, and the memories among contents.
-use Rattle.std.proofs.Common.{◌≡◌, ◌≢◌, ℕ, zero, suc, ◌+◌, ◌-◌, ◌/◌, ◌%◌, ◌^◌, ◌<◌, ◌≤◌, List, [], ◌∷◌, ◌++◌, length, take, drop, replicate, set, slice_index, cond, eqb, refl, sym, ap, subst, ◌∙◌, ⊎_elim, arith, get_or-set_same, get_or-set_other}
+use Rattle.std.proofs.Common.{◌≡◌, ◌≢◌, ℕ, zero, suc, ◌+◌, ◌-◌, ◌/◌, ◌%◌, ◌^◌, ◌<◌, ◌≤◌, List, [], ◌∷◌, length, replicate, slice_index, cond, eqb, refl, sym, ap, subst, ◌∙◌, ⊎_elim, arith}
 use Rattle.std.proofs.lemmas.Bool.{cases_eq, cases_lt, eq-eqb, ne_eqb}
 use Rattle.std.proofs.lemmas.Bool.Decides.{nat_tests}
-use Rattle.std.proofs.lemmas.List.{get_or_past, set_past, get_or-replicate, length-replicate}
+use Rattle.std.proofs.lemmas.List.{get_or_past, get_or-replicate, length-replicate}
 use Rattle.mem_plain.specs.Contents.{Contents, no_bytes, byte_at, with_byte, with_number, laid, is_among, tabulated, contents_with}
 use Rattle.mem_plain.specs.Memory.{IsMemory}
-use Rattle.mem_plain.specs.Page.{with_number_in}
 use Rattle.mem_plain.proofs.ContentsLemmas.{tabulated_written, tabulated_alike, tabulated_nothing, byte_at-tabulated, byte_at-tabulated_beyond}
 
 -- the bytes of f, but from a on these
@@ -76,32 +75,3 @@ zeros_fit n at = ⊎_elim
     (λ below. fits_alike (get_or-replicate {A = ℕ} n at 0 0 below) (omega arith))
     (λ beyond. fits_alike (get_or_past {X = ℕ} (replicate n 0) at 0 (omega (arith, length-replicate {A = ℕ} n 0))) (omega arith))
     (cases_lt at n)
-
-set_fit : (bytes : List ℕ) (place b : ℕ) → Fit bytes → b < 256 → Fit (set bytes place b)
-set_fit bytes place b fit byte at = ⊎_elim
-    (λ inside. ⊎_elim
-    (λ same. fits_alike (ap (slice_index (set bytes place b)) same ∙ get_or-set_same bytes place b 0 inside) byte)
-    (λ apart. fits_alike (get_or-set_other bytes place at b 0 apart) (fit at))
-    (cases_eq at place))
-    (λ outside. fits_alike (ap (λ items. slice_index items at) (set_past bytes place b outside)) (fit at))
-    (cases_lt place (length bytes))
-
-pub written_fit : (bytes : List ℕ) (place width value : ℕ) → Fit bytes → Fit (with_number_in bytes place width value)
-written_fit bytes place zero value fit = fit
-written_fit bytes place (suc width) value fit = written_fit (set bytes place (value % 256)) (place + 1) width (value / 256) (set_fit bytes place (value % 256) fit (omega arith))
-
-pub take_fit : (n : ℕ) (bytes : List ℕ) → Fit bytes → Fit (take n bytes)
-take_fit zero bytes fit at = omega arith
-take_fit (suc n) [] fit at = omega arith
-take_fit (suc n) (b ∷ bytes) fit zero = fit 0
-take_fit (suc n) (b ∷ bytes) fit (suc at) = take_fit n bytes (λ k. fit (suc k)) at
-
-pub drop_fit : (n : ℕ) (bytes : List ℕ) → Fit bytes → Fit (drop n bytes)
-drop_fit zero bytes fit = fit
-drop_fit (suc n) [] fit = fit
-drop_fit (suc n) (b ∷ bytes) fit = drop_fit n bytes (λ k. fit (suc k))
-
-pub append_fit : (front rest : List ℕ) → Fit front → Fit rest → Fit (front ++ rest)
-append_fit [] rest fit others at = others at
-append_fit (b ∷ front) rest fit others zero = fit 0
-append_fit (b ∷ front) rest fit others (suc at) = append_fit front rest (λ k. fit (suc k)) others at

@@ -1,6 +1,6 @@
 //! The pages that are kept, found by two array accesses: a table by the high ten bits of a page's number, and the page
 //! in it by the low ten.
-ghost use Rattle.std.specs.Prelude.{◌≡◌, ◌≢◌, ◌⊎◌, ℕ, ◌+◌, ◌/◌, ◌<◌, ◌≤◌, ◌^◌, [], List, IfOk, OnOk, OnErr, Some, None, is_some, replicate, slice_index_or, option_copied, vec_len};
+ghost use Rattle.std.specs.Prelude.{◌≡◌, ◌≢◌, ◌⊎◌, ℕ, ◌+◌, ◌/◌, ◌<◌, ◌≤◌, ◌^◌, [], IfOk, OnOk, OnErr, Some, None, is_some, replicate, slice_index_or, option_copied, vec_len};
 ghost use Rattle.mem_plain.specs.Pages.{page_in};
 ghost use Rattle.mem_plain.specs.Kept.{IsWritten, IsCopied};
 
@@ -89,8 +89,8 @@ impl Directory {
         }
     }
 
-    /// A place for each table. An `Err` is out of memory. The same pages are kept.
-    fn make_places(&mut self) -> Result<(), Memory>
+    /// Makes a place for each table that has none. An `Err` is out of memory. The same pages are kept.
+    pub fn make_places(&mut self) -> Result<(), Memory>
         ensures places { OnOk result (1024 ≤ vec_len self.new.tables) }
         ensures same { (q : ℕ) → page_in self.new.tables.items q ≡ page_in self.old.tables.items q }
     {
@@ -100,15 +100,27 @@ impl Directory {
         Ok(())
     }
 
-    /// Keeps a page, which has a number below 2^20. An `Err` is out of memory, and the same pages are kept.
+    /// Puts a page, which has a number below 2^20, into its table, and makes the table where there is none. There is a
+    /// place for each table. An `Err` is out of memory, and changes nothing.
     pub fn put(&mut self, alloc: Global, number: u32, page: Page) -> Result<(), Memory>
-        requires { number < 2 ^ 20 }
+        requires number { number < 2 ^ 20 }
+        requires places { 1024 ≤ vec_len self.old.tables }
         ensures here { OnOk result (page_in self.new.tables.items number ≡ Some page) }
         ensures elsewhere { OnOk result ((q : ℕ) → q ≢ number → page_in self.new.tables.items q ≡ page_in self.old.tables.items q) }
-        ensures err { OnErr result ((q : ℕ) → page_in self.new.tables.items q ≡ page_in self.old.tables.items q) }
+        ensures err { OnErr result (self.new.tables.items ≡ self.old.tables.items) }
     {
-        self.make_places()?;
-        put_in(alloc, &mut self.tables, number, page)
+        match &mut self.tables[(number / TABLE_PAGES) as usize] {
+            Some(table) => {
+                table.pages[(number % TABLE_PAGES) as usize] = Some(page);
+                Ok(())
+            }
+            None => {
+                let mut table = no_pages(alloc)?;
+                table.pages[(number % TABLE_PAGES) as usize] = Some(page);
+                self.tables[(number / TABLE_PAGES) as usize] = Some(table);
+                Ok(())
+            }
+        }
     }
 
     /// A directory with copies of the pages. An `Err` is out of memory.
@@ -140,31 +152,4 @@ fn no_pages(alloc: Global) -> Result<Table, Memory>
         pages.push(None)?;
     }
     Ok(Table { pages })
-}
-
-/// Puts a page into its table, and makes this where there is none. An `Err` is out of memory, and changes nothing.
-fn put_in(
-    alloc: Global,
-    tables: &mut Vec<Option<Table>>,
-    number: u32,
-    page: Page,
-) -> Result<(), Memory>
-    requires number { number < 2 ^ 20 }
-    requires places { 1024 ≤ vec_len tables.old }
-    ensures here { OnOk result (page_in tables.new.items number ≡ Some page) }
-    ensures elsewhere { OnOk result ((q : ℕ) → q ≢ number → page_in tables.new.items q ≡ page_in tables.old.items q) }
-    ensures err { OnErr result (tables.new.items ≡ tables.old.items) }
-{
-    match &mut tables[(number / TABLE_PAGES) as usize] {
-        Some(table) => {
-            table.pages[(number % TABLE_PAGES) as usize] = Some(page);
-            Ok(())
-        }
-        None => {
-            let mut table = no_pages(alloc)?;
-            table.pages[(number % TABLE_PAGES) as usize] = Some(page);
-            tables[(number / TABLE_PAGES) as usize] = Some(table);
-            Ok(())
-        }
-    }
 }

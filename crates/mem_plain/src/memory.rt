@@ -1,5 +1,4 @@
 ghost use Rattle.std.specs.Prelude.{◌≡◌, ◌⊎◌, ℕ, ◌+◌, ◌*◌, ◌/◌, ◌%◌, ◌^◌, ◌<◌, ◌≤◌, length, slice_index, if◌then◌else◌, ◌==◌, IfOk, IfSome, IsTrue, ◌↔◌, OnOk, OnErr};
-ghost use Rattle.mem_plain.specs.Pages.{contents_of, page_in};
 ghost use Rattle.mem_plain.specs.Memory.{IsMemory};
 ghost use Rattle.mem_plain.specs.Contents.{no_bytes, byte_at, number_at, with_number, laid, chunk_at, IsUsed, IsNextUsed};
 
@@ -97,7 +96,45 @@ impl PlainMem {
         ensures next { IsNextUsed self.now from result }
         ensures below { IfSome result (λ page. page < 2 ^ 20) }
     {
-        next_used(&self.pages, from)
+        let mut number = from;
+        'pages: while number < PAGES {
+            let next = self.past_empty_table(number);
+            if next > number {
+                number = next;
+            } else {
+                if self.is_used(number) {
+                    return Some(number);
+                }
+                number += 1;
+            }
+        }
+        self.is_memory();
+        None
+    }
+
+    /// The number itself, which is below 2^20, where some page of its table is kept, and else the first number of the
+    /// next table. No page from the number on and before the one that comes back is used.
+    fn past_empty_table(&self, number: u32) -> u32
+        requires { number < 2 ^ 20 }
+        ensures further { number ≤ result }
+        ensures unused { (q : ℕ) → number ≤ q → q < result → ¬ (IsUsed self.now q) }
+    {
+        if self.pages.has_table(number) {
+            number
+        } else {
+            (number / TABLE_PAGES + 1) * TABLE_PAGES
+        }
+    }
+
+    /// Whether the page with a number below 2^20 has a byte that isn't 0.
+    fn is_used(&self, number: u32) -> bool
+        requires { number < 2 ^ 20 }
+        ensures { IsTrue result ↔ IsUsed self.now number }
+    {
+        match self.pages.page(number) {
+            Some(page) => page.is_used(),
+            None => false,
+        }
     }
 
     /// Memory with the same bytes, which goes its own way from now on. An `Err` is out of memory.
@@ -110,7 +147,7 @@ impl PlainMem {
         })
     }
 
-    /// The page with a number below 2^20: the 4,096 bytes from address 4,096 * `number` on. An `Err` is out of memory.
+    /// A copy of the page with a number below 2^20: the 4,096 bytes from address 4,096 * `number` on. An `Err` is out of memory.
     pub fn page(&self, number: u32) -> Result<Page, Memory>
         requires { number < 2 ^ 20 }
         ensures { IfOk result (λ page. (at : ℕ) → at < 4096 → slice_index page.bytes.items at ≡ byte_at self.now (number * 4096 + at)) }
@@ -128,6 +165,7 @@ impl PlainMem {
         ensures put { OnOk result ((q : ℕ) → byte_at self.new q ≡ (if q / 4096 == number then slice_index page.bytes.items (q % 4096) else byte_at self.old q)) }
         ensures err { OnErr result (self.new ≡ self.old) }
     {
+        self.pages.make_places()?;
         self.pages.put(self.alloc, number, page)
     }
 
@@ -154,7 +192,9 @@ impl PlainMem {
         }
         let mut page = Page::zeros(self.alloc)?;
         page.write(at, width, value);
-        self.pages.put(self.alloc, addr / PAGE_BYTES, page)
+        self.put_page(addr / PAGE_BYTES, page)?;
+        self.is_memory();
+        Ok(())
     }
 
     /// Lays bytes over what is there, from an address on. They don't reach beyond the end of the addresses. An
@@ -180,38 +220,12 @@ impl PlainMem {
         requires { addr % 4096 + length piece.now ≤ 4096 }
         ensures { OnOk result (self.new ≡ laid self.old addr piece.now) }
     {
+        self.is_memory();
         let number = addr / PAGE_BYTES;
         let mut page = self.page(number)?;
         page.lay((addr % PAGE_BYTES) as usize, piece);
-        self.pages.put(self.alloc, number, page)
+        self.put_page(number, page)?;
+        self.is_memory();
+        Ok(())
     }
-}
-
-/// Whether a page is kept that has a byte other than 0.
-fn is_used(pages: &Directory, number: u32) -> bool
-    requires { number < 2 ^ 20 }
-    ensures { IsTrue result ↔ IsUsed (contents_of (page_in pages.now.tables.items)) number }
-{
-    match pages.page(number) {
-        Some(page) => page.is_used(),
-        None => false,
-    }
-}
-
-fn next_used(pages: &Directory, from: u32) -> Option<u32>
-    ensures next { IsNextUsed (contents_of (page_in pages.now.tables.items)) from result }
-    ensures below { IfSome result (λ page. page < 2 ^ 20) }
-{
-    let mut number = from;
-    'pages: while number < PAGES {
-        if !pages.has_table(number) {
-            number = (number / TABLE_PAGES + 1) * TABLE_PAGES;
-        } else {
-            if is_used(pages, number) {
-                return Some(number);
-            }
-            number += 1;
-        }
-    }
-    None
 }
