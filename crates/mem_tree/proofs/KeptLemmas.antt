@@ -7,7 +7,7 @@ use Rattle.std.specs.List.Sorted.{IsStrictlySortedBy}
 use Rattle.std.specs.Map.{keys_of}
 use Rattle.std.specs.BTreeMap.{is_at}
 use Rattle.std.proofs.Math.Nat.{div-one}
-use Rattle.std.proofs.lemmas.Bool.{cases_Bool, cases_eq, cases_lt}
+use Rattle.std.proofs.lemmas.Bool.{cases_Bool, cases_eq, cases_lt, or_cases}
 use Rattle.std.proofs.lemmas.Cmp.{eq_by_cmp_equiv, nat_cmp_total, on_total, then_total}
 use Rattle.std.proofs.lemmas.List.Folds.{list_any-append}
 use Rattle.std.proofs.lemmas.Map.Entries.{length-keys_of}
@@ -29,10 +29,6 @@ stale-over (q ∷ rest) w k = ⊎_elim
     (stale-over rest w k))
     (cases_eq (q / w) k)
 
-either : (a b : Bool) → (a || b) ≡ true → (a ≡ true) ⊎ (b ≡ true)
-either true b is = inl refl
-either false b is = inr is
-
 -- above the pages
 module _ (digest : List ℕ → List ℕ) (t : Kept) (stale : List ℕ) (joined : IsJoinedBut digest t stale) where
   abbrev IsBelow : ℕ → Type 0
@@ -48,7 +44,7 @@ module _ (digest : List ℕ → List ℕ) (t : Kept) (stale : List ℕ) (joined 
       (λ fresh. ⊎_elim
       (λ left. let found = over n (2 * k) (omega arith) left in (found.0, up-half found.0 n k (2 * k) (inl refl) found.1, found.2))
       (λ right. let found = over n (2 * k + 1) (omega arith) right in (found.0, up-half found.0 n k (2 * k + 1) (inr refl) found.1, found.2))
-      (either _ _ (sym (joined.above n k (omega arith) fresh).kept ∙ (ap (λ i. is_some (upper_at t i k)) (sym one) ∙ is))))
+      (or_cases _ _ (sym (joined.above n k (omega arith) fresh).kept ∙ (ap (λ i. is_some (upper_at t i k)) (sym one) ∙ is))))
       (stale-over stale (2 ^ (n + 1)) k)
     where
       one : suc n ≡ n + 1

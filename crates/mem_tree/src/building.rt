@@ -31,29 +31,28 @@ fn used_pages(alloc: Global, mem: &PlainMem) -> Result<Vec<u32>, Memory>
     Ok(pages)
 }
 
-/// The subtree of a page, with a counter of its own. An `Err` is out of memory.
-fn page_tree_in<D: Digester, L: Ledger>(
+/// What `page_tree_after` gives for a page of which nothing was kept, with a counter of its own. An `Err` is out of memory.
+fn counted_page_tree<D: Digester, L: Ledger>(
     d: D,
     alloc: Global,
     empties: &[Digest32],
     mem: &PlainMem,
     page: u32,
     blank: Blank,
-) -> Result<Option<PageTree>, Memory>
+) -> Result<(Option<PageTree>, bool), Memory>
     requires name { blank.name ≡ L.name }
     requires parts { blank.parts ≡ L.parts }
     requires one { L.parts ≡ 1 }
     requires page { page < 2 ^ 20 }
     requires levels { length empties.now ≡ 28 }
     requires empty { AreEmpty D.digest_of empties.now }
-    ensures { IfOk result (λ tree. IsPageTree D.digest_of tree mem.now page) }
+    ensures { IfOk result (λ a. IsPageTree D.digest_of a.0 mem.now page) }
 {
     let mut steps = Steps::<L>::new(blank);
-    let (tree, _changed) = page_tree_after(d, alloc, empties, None, mem, page, &mut steps)?;
-    Ok(tree)
+    page_tree_after(d, alloc, empties, None, mem, page, &mut steps)
 }
 
-/// The subtree of a page, uncounted.
+/// The subtree of a page, uncounted. An `Err` is out of memory.
 fn plain_page_tree<D: Digester>(
     d: D,
     alloc: Global,
@@ -66,7 +65,15 @@ fn plain_page_tree<D: Digester>(
     requires empty { AreEmpty D.digest_of empties.now }
     ensures { IfOk result (λ tree. IsPageTree D.digest_of tree mem.now page) }
 {
-    page_tree_in::<D, Brand>(d, alloc, empties, mem, page, Blank::new(1))
+    let (tree, _changed) = counted_page_tree::<D, Brand>(
+        d,
+        alloc,
+        empties,
+        mem,
+        page,
+        Blank::new(1),
+    )?;
+    Ok(tree)
 }
 
 /// The subtrees of pages, in their order, from as many threads as there are processors.
