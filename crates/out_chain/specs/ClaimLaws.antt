@@ -3,6 +3,7 @@ use Rattle.std.proofs.Common.{◌≡◌, ◌≢◌, ℕ, suc, ◌^◌, ◌<◌, 
 use Rattle.std.specs.Prelude.{bytes_eq, if◌then◌else◌}
 use Rattle.std.proofs.lemmas.Slice.Eq.{bytes_eq-Decides}
 use Rattle.std.proofs.lemmas.Bool.Decides.{Decides-eqb, Decides-ltb}
+use Rattle.std.proofs.lemmas.Bool.{and_parts}
 use Rattle.rd_base.specs.declared.claim.Claim.{Claim}
 use Rattle.digest_core.specs.Text.{link_text, status_code}
 use Rattle.digest_core.specs.TextLaws.{cons_parts, append_parts, control_text_same, state_text_same}
@@ -92,10 +93,6 @@ links-collide digest is_digest (x ∷ xs) (y ∷ ys) c d sizes lengths chains no
     let byte = cons_parts x y [] [] parts.1 in
     (parts.0, cc)
 
-both-true : (a b : Bool) → (a && b) ≡ true → (a ≡ true) × (b ≡ true)
-both-true true b t = (refl, t)
-both-true false b t = absurd (true≢false (sym t))
-
 -- what a sound claim has
 record IsSoundClaim (digest : List ℕ → List ℕ) (claim : Claim) : Type 0 where
   mem_size : length claim.mem.0 ≡ 32
@@ -120,12 +117,12 @@ check-parts digest claim test = go (eqb claim.ctl.out_len (length claim.output))
 sound-parts : (digest : List ℕ → List ℕ) (claim : Claim) → is_sound digest claim ≡ true → IsSoundClaim digest claim
 unfolding is_sound
 sound-parts digest claim test =
-    let whole = both-true (is_claim_in_range claim) (says_sound (claim_check digest claim)) test in
-    let length_fits = both-true _ (ltb claim.ctl.out_len (2 ^ 64)) whole.0 in
-    let code_fits = both-true _ (ltb (status_code claim.ctl.status) (2 ^ 32)) length_fits.0 in
-    let pc_fits = both-true _ (ltb claim.ctl.pc (2 ^ 32)) code_fits.0 in
-    let chain_size = both-true _ (eqb (length claim.ctl.chain.0) 32) pc_fits.0 in
-    let sizes = both-true (eqb (length claim.mem.0) 32) (eqb (length claim.regs.0) 32) chain_size.0 in
+    let whole = and_parts (is_claim_in_range claim) (says_sound (claim_check digest claim)) test in
+    let length_fits = and_parts _ (ltb claim.ctl.out_len (2 ^ 64)) whole.0 in
+    let code_fits = and_parts _ (ltb (status_code claim.ctl.status) (2 ^ 32)) length_fits.0 in
+    let pc_fits = and_parts _ (ltb claim.ctl.pc (2 ^ 32)) code_fits.0 in
+    let chain_size = and_parts _ (eqb (length claim.ctl.chain.0) 32) pc_fits.0 in
+    let sizes = and_parts (eqb (length claim.mem.0) 32) (eqb (length claim.regs.0) 32) chain_size.0 in
     let checked = check-parts digest claim whole.1 in
     record {
       mem_size = (Decides-eqb _ _).0 sizes.0;

@@ -2,12 +2,11 @@ ghost use Rattle.std.specs.Prelude.{◌≡◌, ◌&&◌, ◌∷◌, not, bytes_e
 ghost use Rattle.out_chain.specs.Root.{control_text_of};
 ghost use Rattle.out_chain.specs.Collision as collision;
 
-use crate::root::claim_text;
 use digest_core::{Digester, control_text, link_text};
 use rd_base::{Claim, Digest32, OpenText, same_digest};
 
 /// Whether two strings differ and their digests, which are given beside them, are one.
-fn collides(x: &OpenText, of_x: &Digest32, y: &OpenText, of_y: &Digest32) -> bool
+pub fn collides(x: &OpenText, of_x: &Digest32, y: &OpenText, of_y: &Digest32) -> bool
     ensures { result ≡ (not (bytes_eq x.now y.now) && bytes_eq of_x.now.0 of_y.now.0) }
 {
     x.as_slice() != y.as_slice() && same_digest(of_x, of_y)
@@ -35,9 +34,14 @@ fn link_collision<D: Digester>(d: D, first: &[u8], second: &[u8]) -> Option<(Ope
     None
 }
 
-/// The first two different strings with one digest among the control strings and the link strings of two claims.
+/// The first two different strings with one digest below the state strings of two claims: their control strings, or the link strings at one
+/// place of their outputs, in this order. The first string is opened by the first claim, the second by the second. It takes no memory.
 #[tactic(auto, unfolding(crate::specs::Collision::first_collision))]
-fn collision_below<D: Digester>(d: D, first: &Claim, second: &Claim) -> Option<(OpenText, OpenText)>
+pub fn collision_below<D: Digester>(
+    d: D,
+    first: &Claim,
+    second: &Claim,
+) -> Option<(OpenText, OpenText)>
     ensures { result ≡ collision.first_collision D.digest_of
         (control_text_of first.now.ctl ∷ collision.links_of D.digest_of first.now.output)
         (control_text_of second.now.ctl ∷ collision.links_of D.digest_of second.now.output) }
@@ -50,30 +54,4 @@ fn collision_below<D: Digester>(d: D, first: &Claim, second: &Claim) -> Option<(
         return Some((x, y));
     }
     link_collision(d, first.output.as_slice(), second.output.as_slice())
-}
-
-/// Two different strings with one digest, the first opened by the first claim, the second by the second, of two claims of
-/// one root: the first such pair in the order state string, control string, link strings from the output's first byte on.
-///
-/// `None` where the roots differ. Of two sound claims of one root it comes if and only if the claims are equal
-/// (`claims_of_one_root`).
-#[tactic(auto, unfolding(crate::specs::Collision::claim_collision, crate::specs::Collision::first_collision))]
-pub fn claim_collision<D: Digester>(
-    d: D,
-    first: &Claim,
-    second: &Claim,
-) -> Option<(OpenText, OpenText)>
-    ensures { result ≡ collision.claim_collision D.digest_of first.now second.now }
-{
-    let x = claim_text(d, first);
-    let y = claim_text(d, second);
-    let of_x = d.digest(x.as_slice());
-    let of_y = d.digest(y.as_slice());
-    if !same_digest(&of_x, &of_y) {
-        return None;
-    }
-    if collides(&x, &of_x, &y, &of_y) {
-        return Some((x, y));
-    }
-    collision_below(d, first, second)
 }

@@ -1,5 +1,5 @@
 //! One walk over two ways, for every tree.
-ghost use Rattle.std.specs.Prelude.{◌≡◌, ◌&&◌, ◌+◌, ℕ, List, [], ◌∷◌, Some, not, length, bytes_eq};
+ghost use Rattle.std.specs.Prelude.{◌≡◌, ◌+◌, ℕ, List, [], ◌∷◌, Some, length};
 ghost use Rattle.merkle_nodes.specs.Node.{digest_at};
 ghost use Rattle.merkle_nodes.specs.Opening.{opened};
 ghost use Rattle.out_chain.specs.Collision.{first_collision};
@@ -11,14 +11,11 @@ ghost use Rattle.proof_collision.specs.Collision.{ways_collision};
 
 use digest_core::{Digester, leaf_text, register_text};
 use merkle_nodes::joined_text;
-use rd_base::{Digest32, InOpening, InPath, OpenText, Opening, Path, RegOpening, RegPath};
-
-/// Whether two strings differ and their digests, which are given beside them, are one.
-fn collides(x: &OpenText, of_x: &Digest32, y: &OpenText, of_y: &Digest32) -> bool
-    ensures { result ≡ (not (bytes_eq x.now y.now) && bytes_eq of_x.now.0 of_y.now.0) }
-{
-    x.as_slice() != y.as_slice() && of_x.0 == of_y.0
-}
+use out_chain::collides;
+use rd_base::{
+    Digest32, InOpening, OpenText, Opening, RegOpening, paths_have_5_levels, paths_have_15_levels,
+    paths_have_27_levels,
+};
 
 /// Two strings, where they differ and have one digest.
 pub(crate) fn text_collision<D: Digester>(
@@ -67,27 +64,6 @@ fn path_collision<D: Digester>(
         j /= 2;
     }
     text_collision(d, x, y)
-}
-
-/// A path in the tree of memory has 27 levels.
-fn paths_have_27_levels(path: &Path)
-    ensures { length path.now.0 ≡ 27 }
-{
-    let _first = path.0[0];
-}
-
-/// A path in the tree of registers has five levels.
-fn paths_have_5_levels(path: &RegPath)
-    ensures { length path.now.0 ≡ 5 }
-{
-    let _first = path.0[0];
-}
-
-/// A path in the tree of the input has 15 levels.
-fn paths_have_15_levels(path: &InPath)
-    ensures { length path.now.0 ≡ 15 }
-{
-    let _first = path.0[0];
 }
 
 /// The first two different strings of one digest on the paths of two opened chunks, each of which holds the address beside it.

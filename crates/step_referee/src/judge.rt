@@ -1,35 +1,35 @@
-ghost use Rattle.std.specs.Prelude.{◌≡◌};
-ghost use Rattle.step_referee.specs.MachineRuling.{leads_in, machine_ruling};
+ghost use Rattle.std.specs.Prelude.{◌≡◌, ◌↔◌};
+ghost use Rattle.rd_base.specs.declared.digest.Digest32.{Digest32};
+ghost use Rattle.proof_facts.specs.Conditions.{LeadsFrom};
+ghost use Rattle.proof_facts.specs.Facts as facts_of_proof;
+ghost use Rattle.step_check.specs.declared.check.StepCheck.TheVariants as StepCheck;
+ghost use Rattle.step_referee.specs.MachineRuling.{machine_ruling};
 ghost use Rattle.step_referee.specs.MachineFair.{machine_ruling_is_fair};
 
 use bisect_game::Judge;
 use digest_core::Digester;
+use out_chain::{check_claim, collision_below, parts_text};
 use proof_facts::proofs_are_in_range;
-use rd_base::{Claim, Digest32, OpenText, Proof, Steps};
+use rd_base::{Claim, Digest32, OpenText, Proof, Steps, same_digest};
 use std::marker::Brand;
 use std::sync::ledger::{Blank, Ledger};
 use step_check::{StepCheck, check_step, leading_is_decided};
 
-fn lead_in<D: Digester, L: Ledger>(
+/// What the check says of a proof, with a counter of its own.
+fn checked<D: Digester, L: Ledger>(
     d: D,
     version: u8,
     from: Digest32,
     proof: &Proof,
     blank: Blank,
-) -> Option<Digest32>
+) -> StepCheck
     requires name { blank.name ≡ L.name }
     requires parts { blank.parts ≡ L.parts }
     requires one { L.parts ≡ 1 }
-    ensures { result ≡ leads_in D.digest_of version from proof.now }
+    ensures { (b : Digest32) → (result ≡ StepCheck.Leads b) ↔ LeadsFrom D.digest_of version from (facts_of_proof.facts_of proof.now) b }
 {
-    leading_is_decided();
-    proofs_are_in_range(proof);
     let mut steps = Steps::<L>::new(blank);
-    match check_step(d, version, from, proof, &mut steps) {
-        StepCheck::Leads(b) => Some(b),
-        StepCheck::NotOpen => None,
-        StepCheck::WrongShape => None,
-    }
+    check_step(d, version, from, proof, &mut steps)
 }
 
 /// The names of the judge of the machine: the version of the commitment. The judge's type says all else that it decides by.
@@ -71,19 +71,38 @@ impl<D: Digester> Judge for MachineJudge<D> {
     ghost is_fair = { λ n. machine_ruling_is_fair D.digest_of D.is_digest n.version };
 
     fn sound(&self, claim: &Claim) -> bool {
-        out_chain::check_claim(self.digester, claim).is_sound()
+        check_claim(self.digester, claim).is_sound()
     }
 
     fn root_of(&self, claim: &Claim) -> Digest32 {
-        out_chain::root_of_claim(self.digester, claim)
+        let text = parts_text(self.digester, claim.mem, claim.regs, &claim.ctl);
+        self.digester.digest(text.as_slice())
     }
 
     fn leads(&self, from: Digest32, proof: &Proof) -> Option<Digest32> {
-        lead_in::<D, Brand>(self.digester, self.version, from, proof, Blank::new(1))
+        leading_is_decided();
+        proofs_are_in_range(proof);
+        match checked::<D, Brand>(self.digester, self.version, from, proof, Blank::new(1)) {
+            StepCheck::Leads(b) => Some(b),
+            StepCheck::NotOpen => None,
+            StepCheck::WrongShape => None,
+        }
     }
 
+    #[tactic(auto, unfolding(out_chain::specs::Collision::claim_collision, out_chain::specs::Collision::first_collision))]
     fn claim_collision(&self, first: &Claim, second: &Claim) -> Option<(OpenText, OpenText)> {
-        out_chain::claim_collision(self.digester, first, second)
+        let x = parts_text(self.digester, first.mem, first.regs, &first.ctl);
+        let y = parts_text(self.digester, second.mem, second.regs, &second.ctl);
+        let of_x = self.digester.digest(x.as_slice());
+        let of_y = self.digester.digest(y.as_slice());
+        // Claims of two roots have none. Of one root the state strings come first, and then what stands below them.
+        if !same_digest(&of_x, &of_y) {
+            return None;
+        }
+        if x.as_slice() != y.as_slice() {
+            return Some((x, y));
+        }
+        collision_below(self.digester, first, second)
     }
 
     fn step_collision(

@@ -8,6 +8,8 @@
 #[cfg(test)]
 mod changed;
 #[cfg(test)]
+mod claims_test;
+#[cfg(test)]
 mod machines;
 #[cfg(test)]
 mod plain_answers_test;

@@ -6,8 +6,8 @@ ghost use Rattle.rv_step.specs.State.{IsChained};
 use bisect_game::{Answerer, Kind, Question};
 use digest_core::{Digester, Sha256, registers_text, storage_text};
 use mem_plain::PlainMem;
-use out_chain::{ClaimCheck, check_claim, parts_root, root_of_claim};
-use rd_base::{Answer, Memory, Proof, Qid, Tamper};
+use out_chain::{ClaimCheck, check_claim, parts_root};
+use rd_base::{Answer, Claim, Digest32, Memory, Proof, Qid, Tamper};
 use rv_step::Machine;
 use std::alloc::Global;
 use std::thread::Threads;
@@ -64,13 +64,18 @@ fn root_of_parts(proof: &Proof) -> u64 {
     first_eight(root)
 }
 
+/// The root of the state that a claim names.
+pub(crate) fn claimed_root(claim: &Claim) -> Digest32 {
+    parts_root(Sha256, claim.mem, claim.regs, &claim.ctl)
+}
+
 /// How the root begins that an answer stands for: that of the claimed state, the root itself, or that of the state whose
 /// parts a proof has. 0 where a claim doesn't agree with itself, and of several roots.
 pub(crate) fn root_in(answer: &Answer) -> u64 {
     match answer {
         Answer::Root(root) => first_eight(*root),
         Answer::Claim(claim) => match check_claim(Sha256, claim) {
-            ClaimCheck::Sound => first_eight(root_of_claim(Sha256, claim)),
+            ClaimCheck::Sound => first_eight(claimed_root(claim)),
             _ => 0,
         },
         Answer::Step(proof) => root_of_parts(proof.get()),

@@ -2,10 +2,11 @@ ghost use denote.Param.Send.{IsSync};
 ghost use Rattle.std.specs.Prelude.{◌≡◌, ◌≤◌, ℕ, List, length, IfOk};
 ghost use Rattle.rv_step.specs.State.{IsChained};
 
+use crate::asking::claimed_root;
 use digest_core::{Digester, Sha256, leaf_text, register_text, storage_text};
 use mem_plain::PlainMem;
 use merkle_nodes::climb;
-use out_chain::{ClaimCheck, check_claim, parts_root, root_of_claim};
+use out_chain::{ClaimCheck, check_claim, parts_root};
 use plain_answers::{make_claim, make_proof};
 use proof_wire::encode;
 use rd_base::{
@@ -265,7 +266,7 @@ fn is_claim(claim: &Option<Claim>, root: u64, output: &[u8]) -> bool {
     };
     match check_claim(Sha256, claim) {
         ClaimCheck::Sound => {
-            claim.output.as_slice() == output && first_eight(root_of_claim(Sha256, claim)) == root
+            claim.output.as_slice() == output && first_eight(claimed_root(claim)) == root
         }
         _ => false,
     }

@@ -1,9 +1,8 @@
-use digest_core::{Digester, Sha256, control_text, link_text, state_text};
-use out_chain::{ClaimCheck, chain_of, check_claim, claim_collision, parts_root, root_of_claim};
-use rd_base::{Claim, ClaimOutput, Ctl, Digest32, OpenText, Status};
+use digest_core::{Digester, Sha256};
+use out_chain::{ClaimCheck, chain_of, check_claim, parts_root, parts_text};
+use rd_base::{Claim, ClaimOutput, Ctl, Digest32, Status};
 use std::alloc::Global;
 use std::test::Fail;
-use toy_machine::OneValue;
 
 /// The chain of the one byte 2a, as `chain(b'\x2a')` of this program in Python gives it:
 ///
@@ -65,7 +64,7 @@ fn claim(
 /// The last state of the program that puts out the byte 2a and exits with 0: its memory, its registers and its root, by
 /// an independent program in Python that carries it out and hashes its memory from scratch.
 #[test]
-fn root_of_the_claim_of_a_run(rt: HostRuntime) -> Result<(), Fail> {
+fn root_of_the_parts_of_a_run(rt: HostRuntime) -> Result<(), Fail> {
     let mem = Digest32(
         *b"\x2a\x6d\xe9\xff\xcf\x27\xc7\x61\x2e\x0b\xae\x4f\xeb\x45\x4d\xcc\x42\x95\xe9\xf0\x51\x81\xae\x90\x2d\x92\xdd\x19\xe0\x75\xab\xf2",
     );
@@ -79,7 +78,8 @@ fn root_of_the_claim_of_a_run(rt: HostRuntime) -> Result<(), Fail> {
         assert!(rt; false, "no claim was made");
         return Ok(());
     };
-    assert!(rt; root_of_claim(Sha256, &claim) == root);
+    let text = parts_text(Sha256, mem, regs, &claim.ctl);
+    assert!(rt; Sha256.digest(text.as_slice()) == root);
     assert!(rt; parts_root(Sha256, mem, regs, &claim.ctl) == root);
     Ok(())
 }
@@ -103,93 +103,4 @@ fn a_claim_is_checked_length_first(rt: HostRuntime) -> Result<(), Fail> {
         }
     }
     Ok(())
-}
-
-const DIGESTER: OneValue<Sha256> = OneValue { of: Sha256 };
-
-/// A claim with this first digest, pc and output, of three bytes, which is sound by the digest function with one value.
-fn claim_by_one_value(alloc: Global, row: (u8, u32, &[u8])) -> Option<Claim> {
-    let parts = (Digest32([row.0; 32]), Digest32([2; 32]));
-    claim(alloc, parts, row.1, 3, DIGESTER.digest(&[]), row.2)
-}
-
-/// What two such claims have as their collision.
-fn collision_of(
-    alloc: Global,
-    first: (u8, u32, &[u8]),
-    second: (u8, u32, &[u8]),
-) -> Option<Option<(OpenText, OpenText)>> {
-    let x = claim_by_one_value(alloc, first)?;
-    let y = claim_by_one_value(alloc, second)?;
-    Some(claim_collision(DIGESTER, &x, &y))
-}
-
-/// Whether a collision is these two strings.
-fn is_pair(
-    found: &Option<Option<(OpenText, OpenText)>>,
-    first: &OpenText,
-    second: &OpenText,
-) -> bool {
-    match found {
-        Some(Some((x, y))) => {
-            x.as_slice() == first.as_slice() && y.as_slice() == second.as_slice()
-        }
-        Some(None) => false,
-        None => false,
-    }
-}
-
-/// By a digest function with one value all claims have one root, so that the order of the strings decides.
-#[test]
-fn claims_collide_in_their_first_different_strings(rt: HostRuntime) {
-    let alloc = rt.alloc();
-    let one = DIGESTER.digest(&[]);
-    let zero = Digest32::ZERO;
-    let a: (u8, u32, &[u8]) = (1, 4, &[1, 2, 3]);
-    let state = state_text(&Digest32([1; 32]), &Digest32([2; 32]), &one);
-    let other = state_text(&Digest32([9; 32]), &Digest32([2; 32]), &one);
-    assert!(rt; is_pair(&collision_of(alloc, a, (9, 8, &[7, 5, 6])), &state, &other));
-    assert!(rt; is_pair(&collision_of(alloc, (9, 8, &[7, 5, 6]), a), &other, &state));
-    let control = control_text(&exited(4, 3, one));
-    assert!(rt;
-        is_pair(
-            &collision_of(alloc, a, (1, 8, &[7, 5, 6])),
-            &control,
-            &control_text(&exited(8, 3, one))
-        )
-    );
-    let link = link_text(&one, 2);
-    assert!(rt;
-        is_pair(
-            &collision_of(alloc, a, (1, 4, &[1, 5, 6])),
-            &link,
-            &link_text(&one, 5)
-        )
-    );
-    let link = link_text(&zero, 1);
-    assert!(rt;
-        is_pair(
-            &collision_of(alloc, a, (1, 4, &[7, 2, 6])),
-            &link,
-            &link_text(&zero, 7)
-        )
-    );
-}
-
-/// Equal claims have no collision, whatever the digest, and claims of two roots have none.
-#[test]
-fn equal_claims_and_claims_of_two_roots_have_no_collision(rt: HostRuntime) {
-    let alloc = rt.alloc();
-    match collision_of(alloc, (1, 4, &[1, 2, 3]), (1, 4, &[1, 2, 3])) {
-        Some(found) => assert!(rt; found.is_none()),
-        None => assert!(rt; false, "no claims were made"),
-    }
-    let first = claim_by_one_value(alloc, (1, 4, &[1, 2, 3]));
-    let second = claim_by_one_value(alloc, (1, 8, &[1, 2, 3]));
-    assert!(rt; first.is_some() && second.is_some());
-    if let Some(x) = first {
-        if let Some(y) = second {
-            assert!(rt; claim_collision(Sha256, &x, &y).is_none());
-        }
-    }
 }
