@@ -1,2 +1,3 @@
+pub mod CalledLemmas
 pub mod PathLemmas
 pub mod WholeLemmas

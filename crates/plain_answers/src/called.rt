@@ -3,7 +3,6 @@ ghost use Rattle.std.specs.Prelude.{◌≡◌, ◌<◌, ◌≤◌, ◌%◌, IfSo
 ghost use Rattle.rv_step.specs.Alike.{named_at};
 ghost use Rattle.rv_step.specs.Named.{AreRegisters};
 ghost use Rattle.proof_facts.specs.OpenedChunk as openings;
-ghost use Rattle.proof_facts.specs.Facts as facts;
 ghost use Rattle.proof_facts.specs.Shown as shown;
 
 use digest_core::Digester;
@@ -13,7 +12,6 @@ use proof_facts::{
     states_name_registers,
 };
 use rv_decode::{Instr, decode};
-use rv_step::Need;
 use state_commit::{Committed, INPUT_TREE};
 
 /// The instruction at an address that is a multiple of 4, in memory.
@@ -27,23 +25,6 @@ fn fetched_at(mem: &PlainMem, address: Option<u32>) -> Option<Instr>
     }
 }
 
-/// The address of the word that a state fetches.
-fn fetch_of<D: Digester>(committed: &Committed<D>) -> Option<u32>
-    ensures value { result ≡ openings.fetch_of_state D.digest_of committed.now }
-    ensures aligned { IfSome result (λ addr. addr % 4 ≡ 0) }
-{
-    fetch_address(&committed.machine().ctl)
-}
-
-/// The instruction that a state fetches.
-fn word_of<D: Digester>(committed: &Committed<D>, fetch: Option<u32>) -> Option<Instr>
-    requires fetch { fetch ≡ openings.fetch_of_state D.digest_of committed.now }
-    requires aligned { IfSome fetch (λ addr. addr % 4 ≡ 0) }
-    ensures { result ≡ shown.word_of_state D.digest_of committed.now }
-{
-    fetched_at(&committed.machine().mem, fetch)
-}
-
 /// What a state has of the input as a tree.
 fn tree_of<D: Digester>(committed: &Committed<D>) -> Option<HeldInput>
     ensures value { result ≡ shown.tree_of D.digest_of committed.now }
@@ -53,25 +34,11 @@ fn tree_of<D: Digester>(committed: &Committed<D>) -> Option<HeldInput>
     if machine.version == INPUT_TREE {
         Some(HeldInput {
             len: machine.input.len() as u32,
-            root: committed.input_root(),
+            root: committed.input().root(),
         })
     } else {
         None
     }
-}
-
-/// What the instruction that a state fetches needs.
-fn needed_of<D: Digester>(
-    committed: &Committed<D>,
-    tree: &Option<HeldInput>,
-    word: &Option<Instr>,
-) -> Need
-    requires tree { tree.now ≡ shown.tree_of D.digest_of committed.now }
-    requires word { word.now ≡ shown.word_of_state D.digest_of committed.now }
-    ensures { result ≡ shown.needed_of_state D.digest_of committed.now }
-{
-    let machine = committed.machine();
-    needed_by(tree, &machine.regs, machine.ctl.pc, word)
 }
 
 /// For which openings a state calls.
@@ -97,10 +64,11 @@ pub(crate) fn called_by<D: Digester>(committed: &Committed<D>) -> Called
     ensures inside { IfSome result.input (λ k. k < 1048576) }
 {
     states_name_registers();
-    let fetch = fetch_of(committed);
-    let word = word_of(committed, fetch);
+    let machine = committed.machine();
+    let fetch = fetch_address(&machine.ctl);
+    let word = fetched_at(&machine.mem, fetch);
     let tree = tree_of(committed);
-    let need = needed_of(committed, &tree, &word);
+    let need = needed_by(&tree, &machine.regs, machine.ctl.pc, &word);
     Called {
         fetch,
         names: named_by(&word),

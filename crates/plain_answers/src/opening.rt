@@ -5,30 +5,12 @@ ghost use Rattle.proof_facts.specs.OpenedChunk as memory;
 ghost use Rattle.proof_facts.specs.PlainProof as parts;
 
 use digest_core::Digester;
-use rd_base::{InOpening, InPath, Opening, Path, RegOpening, RegOpenings, RegPath};
+use rd_base::{
+    InOpening, Opening, RegOpening, RegOpenings, paths_have_5_levels, paths_have_15_levels,
+    paths_have_27_levels,
+};
 use state_commit::Committed;
 use state_trees::input_chunk;
-
-/// A path of memory has 27 siblings.
-fn paths_have_27_levels(path: &Path)
-    ensures { length path.now.0 ≡ 27 }
-{
-    let _first = path.0[0];
-}
-
-/// A path of registers has 5 siblings.
-fn paths_have_5_levels(path: &RegPath)
-    ensures { length path.now.0 ≡ 5 }
-{
-    let _first = path.0[0];
-}
-
-/// A path of the input has 15 siblings.
-fn paths_have_15_levels(path: &InPath)
-    ensures { length path.now.0 ≡ 15 }
-{
-    let _first = path.0[0];
-}
 
 /// The chunk of memory that holds an address, with its path.
 fn opening_of<D: Digester>(committed: &Committed<D>, addr: u32) -> Opening
@@ -36,7 +18,7 @@ fn opening_of<D: Digester>(committed: &Committed<D>, addr: u32) -> Opening
 {
     let index = addr / 32;
     let chunk = committed.machine().mem.chunk(index);
-    let path = committed.path(index);
+    let path = committed.memory().path(index);
     paths_have_27_levels(&path);
     Opening { chunk, path }
 }
@@ -102,7 +84,7 @@ fn input_opening_of<D: Digester>(committed: &Committed<D>, byte: u32) -> InOpeni
 {
     let index = byte / 32;
     let chunk = input_chunk(&committed.machine().input, index as usize);
-    let path = committed.input_path(index);
+    let path = committed.input().path(index);
     paths_have_15_levels(&path);
     InOpening { chunk, path }
 }

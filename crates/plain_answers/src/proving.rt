@@ -39,9 +39,9 @@ fn input_len<D: Digester>(committed: &Committed<D>) -> u32
 fn stored<D: Digester>(d: D, committed: &Committed<D>) -> Digest32
     ensures { result.0 ≡ storage_digest D.digest_of committed.now.version committed.now }
 {
-    let memory = committed.memory_root();
+    let memory = committed.memory().root();
     if committed.machine().version == INPUT_TREE {
-        let text = storage_text(&memory, input_len(committed), &committed.input_root());
+        let text = storage_text(&memory, input_len(committed), &committed.input().root());
         d.digest(text.as_slice())
     } else {
         memory
@@ -76,7 +76,7 @@ fn proof_1<D: Digester>(committed: &Committed<D>) -> StepProof
 {
     let called = called_by(committed);
     StepProof {
-        mem: committed.memory_root(),
+        mem: committed.memory().root(),
         regs: committed.machine().regs,
         ctl: ctl_of(committed),
         fetch: opening_at(committed, called.fetch),
@@ -91,7 +91,7 @@ fn proof_2<D: Digester>(committed: &Committed<D>) -> StepProof2
 {
     let called = called_by(committed);
     StepProof2 {
-        mem: committed.memory_root(),
+        mem: committed.memory().root(),
         regs: committed.registers_digest(),
         ctl: ctl_of(committed),
         fetch: opening_at(committed, called.fetch),
@@ -107,9 +107,9 @@ fn proof_3<D: Digester>(committed: &Committed<D>) -> StepProof3
 {
     let called = called_by(committed);
     StepProof3 {
-        mem: committed.memory_root(),
+        mem: committed.memory().root(),
         input_len: input_len(committed),
-        input_root: committed.input_root(),
+        input_root: committed.input().root(),
         regs: committed.registers_digest(),
         ctl: ctl_of(committed),
         fetch: opening_at(committed, called.fetch),
@@ -119,26 +119,11 @@ fn proof_3<D: Digester>(committed: &Committed<D>) -> StepProof3
     }
 }
 
-/// The plain proof in the state's version.
-#[tactic(auto, using(crate::proofs::WholeLemmas::plain_1, crate::proofs::WholeLemmas::plain_2, crate::proofs::WholeLemmas::plain_3))]
-fn versioned_proof<D: Digester>(committed: &Committed<D>) -> Proof
-    ensures { result ≡ plain.plain_proof D.digest_of committed.now }
-{
-    let machine = committed.machine();
-    if machine.version == WHOLE_REGISTERS {
-        return Proof::V1(proof_1(committed));
-    }
-    if machine.version == INPUT_TREE {
-        return Proof::V3(proof_3(committed));
-    }
-    machines_are_valid(machine);
-    Proof::V2(proof_2(committed))
-}
-
 /// The plain proof of the step from a machine's state, in the state's version: the state's parts; the chunk that holds the word at
 /// `pc` where the machine is running and `pc` is a multiple of 4; from version 2 on the registers that the instruction names, in
 /// their order; the chunk of its data where it is an aligned load or store; and in version 3 the chunk of the input's byte that it
 /// reads. It leads from the root of this state to the root of the next. It takes no memory.
+#[tactic(auto, using(crate::proofs::WholeLemmas::plain_1, crate::proofs::WholeLemmas::plain_2, crate::proofs::WholeLemmas::plain_3))]
 pub fn make_proof<D: Digester>(committed: &Committed<D>) -> Proof
     ensures plain { result ≡ plain.plain_proof D.digest_of committed.now }
     ensures leads { (a b : Digest32) → a.0 ≡ root_in D.digest_of committed.now.version committed.now →
@@ -146,6 +131,13 @@ pub fn make_proof<D: Digester>(committed: &Committed<D>) -> Proof
         LeadsFrom D.digest_of committed.now.version a (facts_of result) b }
 {
     plain_proofs_lead();
-    machines_are_valid(committed.machine());
-    versioned_proof(committed)
+    let machine = committed.machine();
+    machines_are_valid(machine);
+    if machine.version == WHOLE_REGISTERS {
+        return Proof::V1(proof_1(committed));
+    }
+    if machine.version == INPUT_TREE {
+        return Proof::V3(proof_3(committed));
+    }
+    Proof::V2(proof_2(committed))
 }

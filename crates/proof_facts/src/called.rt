@@ -11,6 +11,7 @@ use crate::names::{Names, named_by};
 use rd_base::{Ctl, Opening, RegOpening, Regs};
 use rv_decode::{Instr, decode};
 use rv_step::{Need, need};
+use state_commit::{INPUT_TREE, WHOLE_REGISTERS};
 
 /// The address of the word that is fetched: `pc`, if the machine is running and `pc` is a multiple of 4.
 pub fn fetch_address(ctl: &Ctl) -> Option<u32>
@@ -101,8 +102,8 @@ pub fn offering(tree: &Option<HeldInput>) -> u8
     ensures { result ≡ facts.offering tree.now }
 {
     match tree {
-        Some(_tree) => 3,
-        None => 1,
+        Some(_tree) => INPUT_TREE,
+        None => WHOLE_REGISTERS,
     }
 }
 

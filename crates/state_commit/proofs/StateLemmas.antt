@@ -1,5 +1,5 @@
 -- What a step leaves of a state's memory.
-use Rattle.std.proofs.Common.{◌≡◌, ◌≢◌, ℕ, ◌/◌, ◌%◌, ◌^◌, ◌<◌, List, length, Option, Some, None, sym, ap, ◌∙◌, arith}
+use Rattle.std.proofs.Common.{◌≡◌, ◌≢◌, ℕ, ◌/◌, Option, Some, None, sym, ap}
 use Rattle.mem_plain.specs.Contents.{byte_at}
 use Rattle.rv_step.specs.State.{State}
 use Rattle.rv_step.specs.Step.{step}
@@ -15,6 +15,3 @@ step-outside s (Some page) is kept elsewhere q apart = sym (elsewhere s page q (
 
 pub same-named : (page : Option ℕ) (x y : ℕ) → page ≡ Some x → page ≡ Some y → x ≡ y
 same-named page x y first second = cc
-
-pub none-named : (page : Option ℕ) (x : ℕ) → page ≡ None → page ≡ Some x → ⊥
-none-named page x none some = cc

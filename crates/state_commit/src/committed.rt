@@ -1,4 +1,4 @@
-ghost use Rattle.std.specs.Prelude.{◌≡◌, ◌≢◌, ℕ, ◌<◌, ◌==◌, ◌/◌, ◌^◌, [], Some, IfOk, OnOk, IfSome, true, false};
+ghost use Rattle.std.specs.Prelude.{◌≡◌, ◌≢◌, ℕ, ◌<◌, ◌==◌, ◌/◌, ◌^◌, [], Some, IfOk, OnOk, IfSome};
 ghost use Rattle.mem_plain.specs.Contents.{Contents, byte_at};
 ghost use Rattle.mem_tree.specs.Tree.{IsTreeOf};
 ghost use Rattle.rv_step.specs.State.{state_of};
@@ -9,7 +9,7 @@ use crate::shared_input::SharedInput;
 use digest_core::{Digester, registers_text};
 use mem_plain::PlainMem;
 use mem_tree::MemTree;
-use rd_base::{Digest32, InPath, Memory, Path, RegPath};
+use rd_base::{Digest32, Memory, RegPath};
 use rv_step::{Machine, one_page_changes, runs_keep_the_input, step, touches};
 use state_trees::RegTree;
 use std::alloc::Global;
@@ -28,17 +28,10 @@ fn follow<D: Digester>(
     ensures tree { OnOk result ((m : Contents) → IsTreeOf D.digest_of tree.old m →
         ((a : ℕ) → page ≢ Some (a / 4096) → byte_at m a ≡ byte_at mem.now a) → IsTreeOf D.digest_of tree.new mem.now) }
 {
-    match page {
-        Some(page) => {
-            tree.touch(page)?;
-            tree.refresh(mem)?;
-            Ok(())
-        }
-        None => {
-            tree.refresh(mem)?;
-            Ok(())
-        }
+    if let Some(page) = page {
+        tree.touch(page)?;
     }
+    tree.refresh(mem)
 }
 
 /// The tree of a machine's registers, where its version has one.
@@ -97,11 +90,8 @@ impl<D: Digester> Committed<D> {
     ghost use Rattle.rv_step.specs.State.{state_of, IsChained};
     ghost use Rattle.rv_step.specs.Step.{step as step_of};
     ghost use Rattle.merkle_nodes.specs.Opening.{IsPath};
-    ghost use Rattle.mem_tree.specs.Memory.{memory_leaf};
-    ghost use Rattle.state_commit.specs.StateRoot.{memory_digest};
     ghost use Rattle.state_commit.specs.StateRoot.{registers_digest, root_in};
     ghost use Rattle.state_trees.specs.RegisterTree.{register_leaf};
-    ghost use Rattle.state_trees.specs.InputTree.{input_leaf, input_root};
 
     /// A machine with the trees of its version, which are built from scratch. The machine's chain is that of its output, by this
     /// digester. An `Err` is out of memory, and drops the machine.
@@ -180,11 +170,12 @@ impl<D: Digester> Committed<D> {
         &self.machine
     }
 
-    /// The root of the machine's memory.
-    pub fn memory_root(&self) -> Digest32
-        ensures { result.0 ≡ memory_digest D.digest_of self.now }
+    /// The tree of the machine's memory; no page of it is touched.
+    pub fn memory(&self) -> &MemTree<D>
+        ensures tree { IsTreeOf D.digest_of result.now self.now.memory }
+        ensures untouched { result.now.touched ≡ [] }
     {
-        self.memory.root()
+        &self.memory
     }
 
     /// The digest of the machine's registers in its version.
@@ -197,11 +188,11 @@ impl<D: Digester> Committed<D> {
         }
     }
 
-    /// The root of the machine's input in version 3, and else 32 zeros.
-    pub fn input_root(&self) -> Digest32
-        ensures { self.now.version ≡ 3 → result.0 ≡ input_root D.digest_of self.now.input }
+    /// The tree of the machine's input, which is there in version 3.
+    pub fn input(&self) -> &SharedInput<D>
+        ensures { HasInput D.digest_of self.now result.now }
     {
-        self.input.root()
+        &self.input
     }
 
     /// The root of the machine's state in its version.
@@ -211,19 +202,11 @@ impl<D: Digester> Committed<D> {
         root_of_parts(
             self.d,
             self.machine.version,
-            self.memory_root(),
+            self.memory.root(),
             self.registers_digest(),
-            self.input_root(),
+            self.input.root(),
             &self.machine,
         )
-    }
-
-    /// The path of a chunk of the machine's memory, by the chunk's index below 2^27.
-    pub fn path(&self, chunk: u32) -> Path
-        requires { chunk < 2 ^ 27 }
-        ensures { IsPath D.digest_of (memory_leaf self.now.memory) 27 chunk result.0 }
-    {
-        self.memory.path(chunk)
     }
 
     /// The path of a register, from `x0` to `x31`, where the version is above 1.
@@ -236,14 +219,5 @@ impl<D: Digester> Committed<D> {
             Some(tree) => tree.path(reg),
             None => RegPath([Digest32::ZERO; 5]),
         }
-    }
-
-    /// The path of a chunk of the machine's input, by the chunk's index below 2^15, where the version is 3.
-    pub fn input_path(&self, chunk: u32) -> InPath
-        requires chunk { chunk < 2 ^ 15 }
-        requires version { self.now.version ≡ 3 }
-        ensures { IsPath D.digest_of (input_leaf self.now.input) 15 chunk result.0 }
-    {
-        self.input.path(chunk)
     }
 }

@@ -144,8 +144,8 @@ fn a_path_climbs_to_the_digest_of_memory(rt: HostRuntime) -> Result<(), Fail> {
     // the chunks at 0, at the program, at the byte that was stored, and at the end of memory
     for index in [0, 0x800, 0x1000, 0x7ff_ffff] {
         let leaf = leaf_text(&committed.machine().mem.chunk(index));
-        let digest = climb(Sha256, index, &leaf, &committed.path(index).0);
-        assert!(rt; digest == committed.memory_root(), "chunk {index}");
+        let digest = climb(Sha256, index, &leaf, &committed.memory().path(index).0);
+        assert!(rt; digest == committed.memory().root(), "chunk {index}");
     }
     Ok(())
 }

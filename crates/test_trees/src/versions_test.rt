@@ -1,5 +1,5 @@
 //! Tests of `state_commit` in each version of the commitment.
-ghost use Rattle.std.specs.Prelude.{◌≡◌, ◌≤◌, ℕ, List, length, IfOk};
+ghost use Rattle.std.specs.Prelude.{◌≤◌, ℕ, List, length, IfOk};
 ghost use Rattle.rv_step.specs.State.{IsChained};
 
 use crate::state_trees_test::{bytes_of_numbers, one_register};
@@ -207,8 +207,8 @@ fn paths_climb_to_the_roots_that_a_version_has(rt: HostRuntime) -> Result<(), Fa
     }
     for chunk in [0u32, 0x800, 0x1000] {
         let leaf = leaf_text(&kept.machine().mem.chunk(chunk));
-        let root = climb(Sha256, chunk, &leaf, &kept.path(chunk).0);
-        assert!(rt; root == kept.memory_root(), "chunk {chunk}");
+        let root = climb(Sha256, chunk, &leaf, &kept.memory().path(chunk).0);
+        assert!(rt; root == kept.memory().root(), "chunk {chunk}");
     }
     if kept.machine().version != 3 {
         return Ok(());
@@ -220,8 +220,8 @@ fn paths_climb_to_the_roots_that_a_version_has(rt: HostRuntime) -> Result<(), Fa
     }
     for chunk in [0u32, 1] {
         let leaf = leaf_text(&input_chunk(&kept.machine().input, chunk as usize));
-        let root = climb(Sha256, chunk, &leaf, &kept.input_path(chunk).0);
-        assert!(rt; root == kept.input_root(), "chunk {chunk}");
+        let root = climb(Sha256, chunk, &leaf, &kept.input().path(chunk).0);
+        assert!(rt; root == kept.input().root(), "chunk {chunk}");
     }
     Ok(())
 }

@@ -9,4 +9,4 @@ pub returns : goal.returns
 returns g c =
     let o : Opening = record { chunk = c.chunk-chunk.result; path = c.path-path.result } in
     opening-is g.D.Digester.digest_of c.args.committed.now.memory c.args.addr o
-    (c.chunk-chunk.ensures ∙ ap (λ (s : State). chunk_at s.memory (c.args.addr / 32)) c.machine.ensures.state) c.paths_have_27_levels.ensures c.path-path.ensures
+    (c.chunk-chunk.ensures ∙ ap (λ (s : State). chunk_at s.memory (c.args.addr / 32)) c.machine.ensures.state) c.paths_have_27_levels.ensures (c.path-path.ensures c.args.committed.now.memory c.memory.ensures.tree)

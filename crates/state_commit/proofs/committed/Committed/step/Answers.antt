@@ -1,4 +1,4 @@
-use Rattle.std.proofs.Common.{◌≡◌, List, ℕ, sym, ap, ◌∙◌, subst}
+use Rattle.std.proofs.Common.{◌≡◌, ℕ, sym, ap, ◌∙◌, subst}
 use Rattle.mem_plain.specs.Contents.{byte_at}
 use Rattle.rv_step.specs.State.{State, state_of}
 use Rattle.rv_step.specs.Step.{step}
