@@ -1,6 +1,6 @@
 -- Versions of pages, and the memory that they stand for.
-use Rattle.std.proofs.Common.{◌≡◌, ◌≢◌, ◌⊎◌, ℕ, ◌+◌, ◌*◌, ◌/◌, ◌%◌, ◌^◌, ◌<◌, ◌≤◌, List, [], ◌∷◌, ◌++◌, length, slice_index, Some, eqb, cond, Bool, true, false, true≢false, ◌||◌, inl, inr, refl, sym, ap, subst, ◌∙◌, ⊎_elim, arith, reverse}
-use Rattle.std.proofs.lemmas.Bool.{cases_eq, cases_lt, eq-eqb, ne_eqb}
+use Rattle.std.proofs.Common.{◌≡◌, ◌≢◌, ◌⊎◌, ℕ, ◌+◌, ◌*◌, ◌/◌, ◌%◌, ◌^◌, ◌<◌, ◌≤◌, List, [], ◌∷◌, ◌++◌, length, slice_index, Some, eqb, cond, Bool, true, false, true≢false, ◌||◌, refl, sym, ap, subst, ◌∙◌, ⊎_elim, arith, reverse}
+use Rattle.std.proofs.lemmas.Bool.{cases_Bool, cases_eq, cases_lt, eq-eqb, ne_eqb}
 use Rattle.std.proofs.lemmas.Bool.Decides.{nat_tests}
 use Rattle.std.proofs.lemmas.List.{reverse-append, append_assoc, map-append, length-map, length-append}
 use Rattle.std.specs.Ordering.{nat_cmp}
@@ -188,8 +188,4 @@ pub restored_all : (all : List Version) (put : List ℕ) (m : Contents) → IsRe
 restored_all all put m restoring a below none = ⊎_elim
     (λ there. restoring.shown a below there)
     (λ absent. restoring.empty a below absent ∙ sym (ap (λ o. byte_of o (a % 4096)) (restoring.same (a / 4096) absent)))
-    (either (is_among put (a / 4096)))
-  where
-    either : (b : Bool) → (b ≡ true) ⊎ (b ≡ false)
-    either true = inl refl
-    either false = inr refl
+    (cases_Bool (is_among put (a / 4096)))

@@ -155,25 +155,29 @@ pub fn machine_at(run: &Run, checkpoint: u64) -> Result<Machine, Memory>
     Ok(Machine::of_parts(kept.regs, kept.ctl, mem, output, run.version, input))
 }
 
-/// Takes the machine of step `i`, which is below the bound, to the next step, and tells the pages that were written: the page
-/// that the step stores to, and then the page in which the tamper flips a byte. No other page changes. A page goes by its
-/// number, below 2^20. It keeps the chain by the digester `d`. An `Err` is out of memory, at some state of the machine.
+/// Takes the machine of step `at`, which is below the bound, to the next step, counts the step, and tells the pages that were written:
+/// the page that the step stores to, and then the page in which the tamper flips a byte. No other page changes. A page goes by its
+/// number, below 2^20. It keeps the chain by the digester `d`. An `Err` is out of memory: the machine is at some state then, and need
+/// not be at the step `at`.
 pub fn next<D: Digester>(
     d: D,
     run: &Run,
-    i: u64,
+    at: &mut u64,
     machine: &mut Machine,
 ) -> Result<[Option<u32>; 2], Memory>
     requires chained { IsChained D.digest_of machine.old }
-    requires at { state_of machine.old ≡ state_of_step run.now i }
-    requires below { i < run.now.bound }
-    ensures state { OnOk result (state_of machine.new ≡ state_of_step run.now (i + 1)) }
+    requires at { state_of machine.old ≡ state_of_step run.now at.old }
+    requires below { at.old < run.now.bound }
+    ensures state { OnOk result (state_of machine.new ≡ state_of_step run.now (at.old + 1)) }
+    ensures counted { OnOk result (at.new ≡ at.old + 1) }
     ensures chained { IsChained D.digest_of machine.new }
     ensures two { IfOk result (λ pages. length pages ≡ 2) }
-    ensures written { IfOk result (λ pages. pages ≡ written_by run.now.tamper i (state_of_step run.now i)) }
+    ensures written { IfOk result (λ pages. pages ≡ written_by run.now.tamper at.old (state_of_step run.now at.old)) }
     ensures pages { IfOk result (λ pages. ArePages pages) }
     ensures elsewhere { IfOk result (λ pages. (q : ℕ) → ¬ IsNamed (q / 4096) pages → byte_at machine.new.mem q ≡ byte_at machine.old.mem q) }
 {
     let _bound = run.bound();
-    follow(d, &run.tamper, i, machine)
+    let pages = follow(d, &run.tamper, *at, machine)?;
+    *at += 1;
+    Ok(pages)
 }

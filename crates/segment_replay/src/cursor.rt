@@ -53,8 +53,7 @@ fn machine_up_to<D: Digester>(d: D, run: &Run, goal: u64) -> Result<Machine, Mem
     let mut at = checkpoint * every;
     let mut machine = machine_at(run, checkpoint)?;
     'steps: while at < goal {
-        let _pages = next(d, run, at, &mut machine)?;
-        at += 1;
+        next(d, run, &mut at, &mut machine)?;
     }
     Ok(machine)
 }
@@ -107,18 +106,14 @@ fn go_on<D: Digester>(d: D, run: &Run, cursor: Cursor<D>) -> Result<Cursor<D>, M
     pages_of_two_places();
     let _bound = run.bound();
     let Cursor {
-        at,
+        mut at,
         mut machine,
         mut tree,
     } = cursor;
-    let pages = next(d, run, at, &mut machine)?;
+    let pages = next(d, run, &mut at, &mut machine)?;
     touch_named(&mut tree, pages[0])?;
     touch_named(&mut tree, pages[1])?;
-    Ok(Cursor {
-        at: at + 1,
-        machine,
-        tree,
-    })
+    Ok(Cursor { at, machine, tree })
 }
 
 /// The cursor at a later step, up to the one from which the run stands still. An `Err` is out of memory.

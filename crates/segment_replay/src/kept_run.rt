@@ -5,7 +5,7 @@ ghost use Rattle.checkpoint_run.specs.Recorded.{AreChained, state_of_step};
 ghost use Rattle.segment_replay.specs.Roots.{root_at, digests};
 
 use crate::cursor::machine_of_step;
-use crate::replaying::{Worker, roots_by};
+use crate::replaying::{Worker, roots_by, roots_by_one};
 use checkpoint_run::{Run, tampered_runs_keep_the_input};
 use digest_core::{Digester, Sha256, Weak8};
 use rd_base::{Digest32, Memory};
@@ -87,8 +87,10 @@ impl<D: Digester> KeptRun<D> {
         &self.run
     }
 
-    /// `roots` of the run, without the digests of its input: each worker makes its first root from the one that it made last, whether the
-    /// step lies ahead or behind. An `Err` is out of memory; a worker that was stopped by it makes its next root from a tree of its own.
+    /// The roots of steps of the run, in the order asked, as the function `roots` gives them, but without the digests of its input. Each
+    /// worker makes its first root from the one that it made last, whether the step lies ahead or behind. A single root is made by the
+    /// first worker, in the caller's thread; other threads help only if it has no tree yet. An `Err` is out of memory; a worker that was
+    /// stopped by it makes its next root from a tree of its own.
     pub fn roots<R: Threads + Sync>(
         &mut self,
         rt: &R,
@@ -102,12 +104,24 @@ impl<D: Digester> KeptRun<D> {
         ensures roots { IfOk result (λ v. digests v.items ≡ map (root_at D.digest_of self.old) steps.now) }
         ensures run { self.new ≡ self.old }
     {
+        let input = self.input.root();
+        if steps.len() == 1 {
+            return roots_by_one(
+                rt,
+                alloc,
+                self.d,
+                &self.run,
+                input,
+                steps,
+                &mut self.workers,
+            );
+        }
         roots_by(
             rt,
             alloc,
             self.d,
             &self.run,
-            self.input.root(),
+            input,
             steps,
             workers,
             &mut self.workers,

@@ -14,8 +14,8 @@ use std::alloc::Global;
 use std::thread;
 use std::thread::Threads;
 
-/// What a worker keeps of a run: its cursor, once it has made a root, the digests of the registers of that root, and the roots of the
-/// piece that it made last, or that memory ran out in it.
+/// What a worker keeps of a run: its cursor, once it has made a root, the digests of the registers of that root, and the roots of its
+/// piece in the last call that cut steps into pieces, or that memory ran out in it.
 #[derive(Drop)]
 pub struct Worker<D: Digester> {
     pub cursor: Option<Cursor<D>>,
@@ -191,6 +191,31 @@ fn joined<D: Digester>(alloc: Global, workers: &[Worker<D>]) -> Result<Vec<Diges
         }
     }
     Ok(all)
+}
+
+/// The roots of steps, by the first of the workers that a run keeps, from the root of the run's input. It is made in the caller's thread,
+/// but for the pages of the worker's first tree. An `Err` is out of memory; the worker makes its next root from a tree of its own then.
+pub fn roots_by_one<D: Digester + Send + Sync, R: Threads + Sync>(
+    rt: &R,
+    alloc: Global,
+    d: D,
+    run: &Run,
+    input: Digest32,
+    steps: &[u64],
+    workers: &mut Vec<Worker<D>>,
+) -> Result<Vec<Digest32>, Memory>
+    requires chained { AreChained D.digest_of run.now }
+    requires input { IsInputRoot D.digest_of run.now input.0 }
+    requires registers { All (λ w. w.registers ≡ run.now.first.version) workers.old.items }
+    requires machines { All (λ w. IfSome w.cursor (λ c. IsMachineOf D.digest_of run.now c.at c.machine)) workers.old.items }
+    requires trees { All (λ w. IfSome w.cursor (λ c. IsFresh D.digest_of c.tree c.machine.mem)) workers.old.items }
+    ensures registers { All (λ w. w.registers ≡ run.now.first.version) workers.new.items }
+    ensures machines { All (λ w. IfSome w.cursor (λ c. IsMachineOf D.digest_of run.now c.at c.machine)) workers.new.items }
+    ensures trees { All (λ w. IfSome w.cursor (λ c. IsFresh D.digest_of c.tree c.machine.mem)) workers.new.items }
+    ensures roots { IfOk result (λ v. digests v.items ≡ map (root_at D.digest_of run.now) steps.now) }
+{
+    add_workers(d, run, 1, workers)?;
+    replayed(rt, alloc, d, run, input, steps, &mut workers[0])
 }
 
 /// The roots of steps, by the workers that a run keeps, from the root of the run's input. The steps are cut into at most `count` (at

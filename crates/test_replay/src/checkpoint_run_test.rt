@@ -187,12 +187,12 @@ fn a_checkpoint_has_the_pages_of_its_step(rt: HostRuntime) -> Result<(), Fail> {
 fn named_from(alloc: Global, tamper: Tamper, step: u32) -> Result<[Option<u32>; 2], Memory> {
     let machine = machine_of(alloc, &A_STORE_IN_EACH_PAGE)?;
     let run = record_run(alloc, Sha256, &machine, 12, 1, tamper)?;
-    let at = u64::from(step) * u64::from(run.every());
+    let mut at = u64::from(step) * u64::from(run.every());
     if at > run.still() || at >= run.bound() {
         return Ok([None, None]);
     }
     let mut kept = machine_at(&run, u64::from(step))?;
-    Ok(next(Sha256, &run, at, &mut kept)?)
+    Ok(next(Sha256, &run, &mut at, &mut kept)?)
 }
 
 #[test]
