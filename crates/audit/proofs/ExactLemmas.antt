@@ -1,6 +1,6 @@
 -- A text is confirmed if and only if it is that of its own match.
 use Rattle.std.proofs.Common.{◌≡◌, ℕ, zero, suc, ◌+◌, ◌<◌, ◌≤◌, Bool, true, false, ◌==◌, if◌then◌else◌, List, [], ◌∷◌, ◌++◌, length, replicate, Option, Some, None, inl, inr, refl, sym, ◌∙◌, ap, arith, subst, append-nil, append_assoc, length-append}
-use Rattle.std.proofs.lemmas.Bool.{cases_Bool}
+use Rattle.std.proofs.lemmas.Bool.{cases_Bool, and_parts}
 use Rattle.std.proofs.lemmas.List.Elements.{All-head, All-tail}
 use Rattle.rd_base.specs.declared.answer.Answer.{Answer}
 use Rattle.rd_base.specs.declared.answer.Qid.{Qid}
@@ -14,7 +14,8 @@ use Rattle.tournament.specs.declared.verdict.Verdict.{Verdict}
 use Rattle.tournament.specs.Bracket.{Record, open_question, settle, nothing_settled, is_complete, verdict_of, bracket}
 use Rattle.tournament.specs.Moves.{MatchState, begun, passes_of, settled_by, moved}
 use Rattle.tournament.specs.Journals.{turn, turn_on, turns, Legal, said, settled_after, answers_of, RecordOfCase}
-use Rattle.tournament.specs.Posting.{same_qid, record_after, NobodyAskedIsOver}
+use Rattle.rd_base.specs.Questions.{same_qid}
+use Rattle.tournament.specs.Posting.{record_after, NobodyAskedIsOver}
 use Rattle.tournament.specs.Length.{IsMost, most_entries, SpareIsEnough, ThereIsAMost}
 use Rattle.text_types.specs.declared.text.TextMove.{TextMove}
 use Rattle.text_types.specs.declared.text.Stated.{Stated}
@@ -29,7 +30,7 @@ use Rattle.audit.specs.BetweenLines.{fresh, passed_on}
 use Rattle.audit.specs.OwnMatch.{settled_by_lines, answer_in, says_in, own_record, IsTextOf, ConfirmedExactly, CaseTextsAreConfirmed}
 use Rattle.audit.proofs.PassLemmas.{same-number, begin_passing, passes-there, pass-counts, pass-spends, moved-pass, moved-settled, moved_more, moved_last, moved_once}
 use Rattle.audit.proofs.NextLemmas.{next_is_open, nobody_next}
-use Rattle.audit.proofs.StatedLemmas.{eqb-same, is-eqb, both-true, is-this}
+use Rattle.audit.proofs.StatedLemmas.{eqb-same, is-eqb, is-this}
 use Rattle.audit.proofs.LegalLemmas.{after_moves, IsLegalEntry, AllLegal, IsConfirmed, confirmed-played, Reaches, reach-on, settled-posts, fit-given, unfit-faulty, not-true}
 use Rattle.audit.proofs.OrderLemmas.{move_on, all-none, none-moves}
 use Rattle.audit.proofs.GrowLemmas.{IsInOrder, order-nothing, IsLonger, grows, next-prover, AreOther, other-found, unseen}
@@ -108,7 +109,7 @@ as-said rules q Spent right = refl
 
 pub qid-is : (a b : Qid) → same_qid a b ≡ true → a ≡ b
 qid-is a b e =
-    let parts : ((a.dispute == b.dispute) ≡ true) × ((a.round == b.round) ≡ true) = both-true (a.dispute == b.dispute) (a.round == b.round) e in
+    let parts : ((a.dispute == b.dispute) ≡ true) × ((a.round == b.round) ≡ true) = and_parts (a.dispute == b.dispute) (a.round == b.round) e in
     ap (λ (d : ℕ). let x : Qid = record { dispute = d; round = a.round } in x) (is-eqb a.dispute b.dispute parts.0)
     ∙ ap (λ (r : ℕ). let x : Qid = record { dispute = b.dispute; round = r } in x) (is-eqb a.round b.round parts.1)
 

@@ -1,7 +1,7 @@
 -- In the order of the text each settled answer is one line more, and no two lines have one question.
 use Rattle.std.proofs.Common.{◌≡◌, ◌≢◌, ℕ, zero, suc, ◌+◌, ◌-◌, ◌<◌, ◌≤◌, Bool, true, false, ◌&&◌, ◌==◌, if◌then◌else◌, List, [], ◌∷◌, ◌++◌, length, replicate, slice_get, Option, Some, None, is_none, inl, inr, refl, sym, ◌∙◌, ap, arith, append-nil, append_assoc}
 use Rattle.std.proofs.lemmas.Bool.Decides.{nat_tests}
-use Rattle.std.proofs.lemmas.Bool.{cases_Bool}
+use Rattle.std.proofs.lemmas.Bool.{cases_Bool, and_parts}
 use Rattle.rd_base.specs.declared.answer.Qid.{Qid}
 use Rattle.bisect_game.specs.declared.settled.Round.{Round}
 use Rattle.bisect_game.specs.declared.question.Question.{Question}
@@ -10,13 +10,13 @@ use Rattle.bisect_game.specs.declared.settled.Side.TheVariants.{First, Second}
 use Rattle.bisect_game.specs.Rules.{Rules}
 use Rattle.bisect_game.specs.Bisection.{Bisection, question_of, asks, is_closed, settle_first, settle_second}
 use Rattle.tournament.specs.Bracket.{Record, nothing_settled, claim_question, claim_missing, settled_in, put, settle, stage_opened, is_stage_due, claims_collision, disputes_of, pairs, live, live_from, all_there, all_out, last_stage}
-use Rattle.tournament.specs.Posting.{same_qid}
+use Rattle.rd_base.specs.Questions.{same_qid}
 use Rattle.text_types.specs.declared.text.TextMove.{TextMove}
 use Rattle.text_types.specs.MoveLists.{qid_of, move_if, moves_of_claims, moves_of_round, moves_of_past, moves_of_dispute, moves_of_disputes, moves_of}
 use Rattle.audit.specs.NextEntry.{next_claim, next_in, claim_or, next}
 use Rattle.audit.specs.OwnMatch.{settled_by_lines}
 use Rattle.audit.proofs.NextLemmas.{IsMissing, next-missing, none-missing, and-false, pair-first, pair-second}
-use Rattle.audit.proofs.StatedLemmas.{eqb-same, both-true}
+use Rattle.audit.proofs.StatedLemmas.{eqb-same}
 use Rattle.audit.proofs.OrderLemmas.{move_on, AllNone, ClaimsInOrder, order-none, set-order, set-moves, set-length, missing-not-there, none-all-there, AllBegun, DisputesInOrder, begun-moves, moves-both, out-order, HasSides, AllSided, sided-both, rising-live, pairs-in, sided-new, begun-new, SameSides, IsSettledIn, settled-first, settled-second, IsOpenSide, side-open, side-settled}
 
 not-eqb : (a b : ℕ) → a ≢ b → (a == b) ≡ false
@@ -171,8 +171,8 @@ opened-due rules t i there out =
 opened-by : (rules : Rules) (t : Record) (b : Bool) → is_stage_due rules t ≡ b → IsInOrder rules t →
     IsOpened rules t (if b then record t { disputes = t.disputes ++ disputes_of rules (last_stage t.disputes + 1) (length t.disputes + 1) (pairs rules t) } else t)
 opened-by rules t true due i =
-    let parts : (all_there t.claims ≡ true) × ((all_out t.disputes && is_none (claims_collision rules.ruling (live_from [] 1 t.claims))) ≡ true) = both-true _ _ due in
-    let more : (all_out t.disputes ≡ true) × (is_none (claims_collision rules.ruling (live_from [] 1 t.claims)) ≡ true) = both-true _ _ parts.1 in
+    let parts : (all_there t.claims ≡ true) × ((all_out t.disputes && is_none (claims_collision rules.ruling (live_from [] 1 t.claims))) ≡ true) = and_parts _ _ due in
+    let more : (all_out t.disputes ≡ true) × (is_none (claims_collision rules.ruling (live_from [] 1 t.claims)) ≡ true) = and_parts _ _ parts.1 in
     opened-due rules t i parts.0 more.0
 opened-by rules t false due i = record { moves = refl; order = i }
 

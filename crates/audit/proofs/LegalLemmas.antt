@@ -1,6 +1,6 @@
 -- What is confirmed was played, by posts.
 use Rattle.std.proofs.Common.{◌≡◌, ℕ, zero, suc, ◌+◌, ◌<◌, ◌≤◌, Bool, true, false, not, ◌==◌, if◌then◌else◌, List, [], ◌∷◌, ◌++◌, Option, Some, None, inl, inr, refl, ◌∙◌, ap, arith}
-use Rattle.std.proofs.lemmas.Bool.{cases_Bool}
+use Rattle.std.proofs.lemmas.Bool.{cases_Bool, and_parts}
 use Rattle.rd_base.specs.declared.answer.Answer.{Answer}
 use Rattle.bisect_game.specs.declared.question.Question.{Question}
 use Rattle.bisect_game.specs.declared.settled.Settled.{Settled}
@@ -9,7 +9,8 @@ use Rattle.bisect_game.specs.Rules.{Rules, is_fit, judged}
 use Rattle.tournament.specs.declared.verdict.Verdict.{Verdict}
 use Rattle.tournament.specs.Bracket.{Record, open_question, settle, is_complete, verdict_of}
 use Rattle.tournament.specs.Moves.{MatchState}
-use Rattle.tournament.specs.Posting.{same_qid, posted, Post, after_posts}
+use Rattle.rd_base.specs.Questions.{same_qid}
+use Rattle.tournament.specs.Posting.{posted, Post, after_posts}
 use Rattle.text_types.specs.declared.text.TextMove.{TextMove}
 use Rattle.text_types.specs.declared.text.Stated.{Stated}
 use Rattle.text_types.specs.StatedVerdict.{stated_of}
@@ -20,7 +21,7 @@ use Rattle.audit.specs.NextEntry.{next}
 use Rattle.audit.specs.LineByLine.{is_right, is_move_of, cause_by, cause_of, is_stated, audit_from}
 use Rattle.audit.specs.BetweenLines.{fresh, passed_on}
 use Rattle.audit.proofs.PassLemmas.{begin_passing, pass_more, pass_last, answered_at_once}
-use Rattle.audit.proofs.StatedLemmas.{is-eqb, both-true, this-is}
+use Rattle.audit.proofs.StatedLemmas.{is-eqb, this-is}
 
 -- the record to which moves come one after another
 abbrev pub after_moves : Rules → List TextMove → Record → Record
@@ -43,7 +44,7 @@ legal-by : (rules : Rules) (t : Record) (m : TextMove) (asked : ℕ × Question)
     is_move_of m asked ≡ x → is_right rules asked.1.kind m.settled ≡ y →
     (if x then (if y then None else Some OtherReply) else Some NotAsked) ≡ None → IsLegalEntry rules t m
 legal-by rules t m asked true true still is ex ey e =
-    let parts : ((asked.0 == m.prover) ≡ true) × (same_qid asked.1.qid m.qid ≡ true) = both-true (asked.0 == m.prover) (same_qid asked.1.qid m.qid) ex in
+    let parts : ((asked.0 == m.prover) ≡ true) × (same_qid asked.1.qid m.qid ≡ true) = and_parts (asked.0 == m.prover) (same_qid asked.1.qid m.qid) ex in
     record {
       question = asked.1;
       is_next = is ∙ ap (λ (p : ℕ). Some (p, asked.1)) (is-eqb asked.0 m.prover parts.0);

@@ -1,5 +1,6 @@
 -- A match that is played in the order of its text: what is settled is the front of what the text lists.
 use Rattle.std.proofs.Common.{◌≡◌, ℕ, zero, suc, ◌+◌, ◌-◌, ◌<◌, ◌≤◌, Bool, true, false, not, ◌&&◌, if◌then◌else◌, List, [], ◌∷◌, ◌++◌, length, replicate, slice_set, Option, Some, None, is_some, is_none, refl, sym, ◌∙◌, ap, arith, append-nil, append_assoc}
+use Rattle.std.proofs.lemmas.Bool.{and_parts}
 use Rattle.rd_base.specs.declared.claim.Claim.{Claim}
 use Rattle.rd_base.specs.declared.digest.Digest32.{Digest32}
 use Rattle.bisect_game.specs.declared.settled.Round.{Round}
@@ -14,7 +15,6 @@ use Rattle.tournament.specs.Bracket.{claim_question, disputes_of, pairs_of, Take
 use Rattle.text_types.specs.declared.text.TextMove.{TextMove}
 use Rattle.text_types.specs.MoveLists.{moves_of_claims, moves_of_round, moves_of_past, moves_of_dispute, moves_of_disputes}
 use Rattle.audit.specs.NextEntry.{next_claim}
-use Rattle.audit.proofs.StatedLemmas.{both-true}
 use Rattle.audit.proofs.NextLemmas.{IsMissing, next-missing}
 
 abbrev pub move_on : ℕ → Question → Settled → TextMove
@@ -124,7 +124,7 @@ out-closed (Some c) e = refl
 pub out-order : (ds es : List Bisection) → all_out ds ≡ true → AllBegun es → DisputesInOrder (ds ++ es)
 out-order [] es out h = begun-order es h
 out-order (d ∷ ds) es out h =
-    let parts : (put_out d.close ≡ true) × (all_out ds ≡ true) = both-true (put_out d.close) (all_out ds) out in
+    let parts : (put_out d.close ≡ true) × (all_out ds ≡ true) = and_parts (put_out d.close) (all_out ds) out in
     let closed : is_closed d ≡ true = out-closed d.close parts.0 in
     (λ still. absurd (let no : true ≡ false = sym closed ∙ still in cc), out-order ds es parts.1 h)
 

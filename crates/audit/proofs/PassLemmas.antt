@@ -11,7 +11,8 @@ use Rattle.tournament.specs.Bracket.{Record, open_question, settle}
 use Rattle.tournament.specs.Moves.{MatchState, passes_of, settled_by, moved}
 use Rattle.tournament.specs.declared.posting.Reply.{Reply}
 use Rattle.tournament.specs.declared.posting.Reply.TheVariants.{Stale}
-use Rattle.tournament.specs.Posting.{same_qid, posted, posted_on, reply_by, reply_on, reply_to}
+use Rattle.rd_base.specs.Questions.{same_qid}
+use Rattle.tournament.specs.Posting.{posted, posted_on, reply_by, reply_on, reply_to}
 use Rattle.audit.specs.BetweenLines.{fresh, passed_on, is_faulty}
 
 -- counts of passes

@@ -1,8 +1,9 @@
 -- A verdict is stated by one line.
-use Rattle.std.proofs.Common.{◌≡◌, ℕ, Bool, true, false, ◌&&◌, ◌==◌, List, Option, Some, None, refl, ◌∙◌, ap, arith}
+use Rattle.std.proofs.Common.{◌≡◌, ℕ, true, ◌==◌, List, Option, Some, None, refl, ◌∙◌, ap, arith}
 use Rattle.std.proofs.lemmas.Bool.Decides.{nat_tests}
 use Rattle.std.proofs.lemmas.Slice.Eq.{bytes_eq-Decides}
 use Rattle.std.specs.Prelude.{bytes_eq}
+use Rattle.std.proofs.lemmas.Bool.{and_parts}
 use Rattle.rd_base.specs.declared.status.Status.{Status}
 use Rattle.rd_base.specs.declared.status.Status.TheVariants.{Running, Exited, Trapped}
 use Rattle.text_types.specs.declared.text.Stated.{Stated}
@@ -14,11 +15,6 @@ is-eqb a b e = grind (arith, nat_tests)
 
 pub eqb-same : (n : ℕ) → (n == n) ≡ true
 eqb-same n = grind (arith, nat_tests)
-
-pub both-true : (a b : Bool) → (a && b) ≡ true → (a ≡ true) × (b ≡ true)
-both-true true true e = (refl, refl)
-both-true true false e = absurd (cc)
-both-true false b e = absurd (cc)
 
 pub bytes-same : (xs : List ℕ) → bytes_eq xs xs ≡ true
 bytes-same xs = (bytes_eq-Decides xs xs).1 refl
@@ -41,7 +37,7 @@ status-same (Trapped a) = eqb-same a
 
 stated-is : (s said : Stated) → same_stated s said ≡ true → s ≡ said
 stated-is (Accept status output) (Accept other bytes) e =
-    let parts : (same_status status other ≡ true) × (bytes_eq output bytes ≡ true) = both-true _ _ e in
+    let parts : (same_status status other ≡ true) × (bytes_eq output bytes ≡ true) = and_parts _ _ e in
     ap (λ (x : Status). Accept x output) (status-is status other parts.0) ∙ ap (Accept other) ((bytes_eq-Decides output bytes).0 parts.1)
 stated-is (Accept status output) NoneLeft e = absurd (cc)
 stated-is (Accept status output) (Collision a b) e = absurd (cc)
@@ -51,7 +47,7 @@ stated-is NoneLeft (Collision a b) e = absurd (cc)
 stated-is (Collision x y) (Accept other bytes) e = absurd (cc)
 stated-is (Collision x y) NoneLeft e = absurd (cc)
 stated-is (Collision x y) (Collision a b) e =
-    let parts : (bytes_eq x a ≡ true) × (bytes_eq y b ≡ true) = both-true _ _ e in
+    let parts : (bytes_eq x a ≡ true) × (bytes_eq y b ≡ true) = and_parts _ _ e in
     ap (λ (s : List ℕ). Collision s y) ((bytes_eq-Decides x a).0 parts.0) ∙ ap (Collision a) ((bytes_eq-Decides y b).0 parts.1)
 
 stated-same : (s : Stated) → same_stated s s ≡ true

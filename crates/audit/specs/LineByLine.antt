@@ -11,7 +11,8 @@ use Rattle.bisect_game.specs.Rules.{Rules, is_fit}
 use Rattle.tournament.specs.declared.setup.Setup.{Setup}
 use Rattle.tournament.specs.declared.verdict.Verdict.{Verdict}
 use Rattle.tournament.specs.Bracket.{Record, nothing_settled, is_complete, settle, verdict_of}
-use Rattle.tournament.specs.Posting.{rules_of, same_qid}
+use Rattle.rd_base.specs.Questions.{same_qid}
+use Rattle.tournament.specs.Posting.{rules_of}
 use Rattle.text_types.specs.declared.text.Head.{Head}
 use Rattle.text_types.specs.declared.text.TextMove.{TextMove}
 use Rattle.text_types.specs.declared.text.Stated.{Stated}

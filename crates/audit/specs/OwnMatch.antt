@@ -10,7 +10,7 @@ use Rattle.bisect_game.specs.Rules.{Rules, ArePlayable}
 use Rattle.tournament.specs.declared.verdict.Verdict.{Verdict}
 use Rattle.tournament.specs.Bracket.{Record, is_complete, verdict_of, bracket}
 use Rattle.tournament.specs.Journals.{answers_of}
-use Rattle.tournament.specs.Posting.{same_qid}
+use Rattle.rd_base.specs.Questions.{same_qid}
 use Rattle.text_types.specs.declared.text.Head.{Head}
 use Rattle.text_types.specs.declared.text.TextMove.{TextMove}
 use Rattle.text_types.specs.declared.text.FullText.{FullText}

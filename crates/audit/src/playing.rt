@@ -10,10 +10,10 @@ ghost use Rattle.audit.specs.BetweenLines.{fresh, is_faulty};
 use crate::finding::Cause;
 use crate::next_entry::next;
 use bisect_game::{Judge, Question, Settled};
-use rd_base::{Answer, Memory};
+use rd_base::{Answer, Memory, same_qid};
 use std::alloc::Global;
 use text_types::TextMove;
-use tournament::{Match, Move, Reply, same_qid};
+use tournament::{Match, Move, Reply};
 
 /// A prover spends its open question: it passes once more than the patience.
 fn spend<J: Judge + Drop>(played: &mut Match<J>, p: u32, question: Question)

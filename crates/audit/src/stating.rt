@@ -1,13 +1,12 @@
 //! Whether a verdict is the stated one.
 ghost use Rattle.std.specs.Prelude.{◌≡◌};
-ghost use Rattle.std.specs.Option.{option_copied};
 ghost use Rattle.text_types.specs.declared.text.Stated.TheVariants.{Accept};
 ghost use Rattle.text_types.specs.StatedVerdict.{settled_at, given_claim, stated_claim};
 ghost use Rattle.audit.specs.LineByLine.{same_status, is_this, is_stated};
 
 use bisect_game::Settled;
 use rd_base::{Answer, Status};
-use text_types::Stated;
+use text_types::{Stated, settled_at};
 use tournament::Verdict;
 
 /// Whether two statuses are the same.
@@ -20,13 +19,6 @@ fn same_status(first: Status, second: Status) -> bool
         (Status::Trapped(x), Status::Trapped(y)) => x == y,
         _ => false,
     }
-}
-
-/// What is settled of a prover's claim, by its number from 1.
-fn settled_at(claims: &[Option<Settled>], number: u32) -> Option<&Option<Settled>>
-    ensures { option_copied result ≡ settled_at claims.now number }
-{
-    claims.get((number as usize).checked_sub(1)?)
 }
 
 /// Whether the claim of a prover was given with this status and this output.

@@ -1,13 +1,10 @@
 -- The cuts of an interval rise, and no part is as long as the whole.
-use Rattle.std.proofs.Common.{◌≡◌, ℕ, zero, suc, ◌+◌, ◌-◌, ◌*◌, ◌/◌, ◌<◌, ◌≤◌, refl, arith, ap, ◌∙◌, ◌⊎◌, inl, inr, nat_le, Bool, true, false, List, [], ◌∷◌, ◌++◌, length, append_assoc}
+use Rattle.std.proofs.Common.{◌≡◌, ℕ, zero, suc, ◌+◌, ◌-◌, ◌*◌, ◌/◌, ◌<◌, ◌≤◌, refl, arith, ap, ◌∙◌, ◌⊎◌, inl, inr, nat_le, List, [], ◌∷◌, ◌++◌, length, append_assoc}
 use Rattle.std.proofs.lemmas.Bool.Decides.{nat_tests}
 use Rattle.std.proofs.Math.Nat.{mul-le-mul_left, le_of_mul-le-mul_left, mul-div_cancel_left}
+use Rattle.std.proofs.lemmas.Bool.{cases_Bool}
 use Rattle.bisect_game.specs.Bisection.{cut, cuts_from, cuts}
 use Rattle.bisect_game.specs.Laws.{CutsDivide, OneCutFewer}
-
-pub either : (b : Bool) → (b ≡ true) ⊎ (b ≡ false)
-either true = inl refl
-either false = inr refl
 
 pub record IsQuotient (g x a : ℕ) : Type 0 where
   pub low : g * a ≤ x
@@ -17,7 +14,7 @@ is_quotient : (g x : ℕ) → 0 < g → IsQuotient g x (x / g)
 is_quotient g x some = record { low = omega arith; high = omega arith }
 
 le-or-lt : (m n : ℕ) → (m ≤ n) ⊎ (n < m)
-le-or-lt m n = elim (either (nat_le m n)) [ inl e ↦ inl (grind (arith, nat_tests)) | inr e ↦ inr (grind (arith, nat_tests)) ]
+le-or-lt m n = elim (cases_Bool (nat_le m n)) [ inl e ↦ inl (grind (arith, nat_tests)) | inr e ↦ inr (grind (arith, nat_tests)) ]
 
 rises : (g l p a b : ℕ) → g ≤ l → IsQuotient g p a → IsQuotient g (p + l) b → b ≤ a → ⊥
 rises g l p a b few qa qb le = omega (arith, mul-le-mul_left g le)

@@ -2,6 +2,7 @@
 use Rattle.std.proofs.Common.{◌≡◌, ℕ, zero, suc, ◌+◌, ◌-◌, ◌*◌, ◌^◌, ◌<◌, ◌≤◌, min, nat_le, false, not, ◌&&◌, ◌||◌, List, [], ◌∷◌, length, drop, inl, inr, Option, Some, None, is_some, is_none, refl, sym, ◌∙◌, ap, arith, add-one}
 use Rattle.std.proofs.lemmas.Bool.Decides.{nat_tests}
 use Rattle.std.proofs.Math.Pow.{pow_mono}
+use Rattle.std.proofs.lemmas.Bool.{cases_Bool}
 use Rattle.rd_base.specs.declared.digest.Digest32.{Digest32}
 use Rattle.bisect_game.specs.declared.settled.Interval.{Interval}
 use Rattle.bisect_game.specs.declared.settled.Settled.{Settled}
@@ -13,7 +14,6 @@ use Rattle.bisect_game.specs.Closing.{is_step, close_of}
 use Rattle.bisect_game.specs.Bisection.{Bisection, kept, closed_with, went_on, closed_or, decided, advanced, agreeing, settle_side, settle_first, settle_second}
 use Rattle.bisect_game.specs.Laws.{IsNarrower, OrderOfSidesIsFree}
 use Rattle.bisect_game.specs.Narrowing.{IsNarrowing}
-use Rattle.bisect_game.proofs.CutLemmas.{either}
 use Rattle.bisect_game.proofs.FewLemmas.{kept-narrow, few-power, halves-least}
 use Rattle.bisect_game.proofs.RoundLemmas.{kept-narrows}
 
@@ -29,7 +29,7 @@ agreeing-end xs (y ∷ ys) (suc j) le = agreeing-end xs ys j (omega arith)
 
 fewer : (k : ℕ) → 2 ^ k < 2 ^ 32 → k < 32
 fewer k lt =
-    elim (either (nat_le 32 k)) [
+    elim (cases_Bool (nat_le 32 k)) [
       | inl e ↦ let le : 32 ≤ k = grind (arith, nat_tests) in absurd (omega (arith, pow_mono le))
       | inr e ↦ grind (arith, nat_tests)
     ]

@@ -3,6 +3,7 @@ use Rattle.std.proofs.Common.{◌≡◌, ℕ, zero, suc, ◌+◌, ◌-◌, ◌*�
 use Rattle.std.proofs.lemmas.Bool.Decides.{nat_tests}
 use Rattle.std.proofs.Math.Nat.{mul-le-mul_left, pow-succ', pow-le-pow_left}
 use Rattle.std.proofs.Math.Pow.{pow_mono}
+use Rattle.std.proofs.lemmas.Bool.{cases_Bool}
 use Rattle.bisect_game.specs.declared.settled.Interval.{Interval}
 use Rattle.bisect_game.specs.declared.settled.Round.{Round}
 use Rattle.bisect_game.specs.declared.settled.Settled.{Settled}
@@ -10,7 +11,7 @@ use Rattle.bisect_game.specs.declared.settled.Close.{Close}
 use Rattle.rd_base.specs.declared.digest.Digest32.{Digest32}
 use Rattle.bisect_game.specs.declared.settled.Side.{Side}
 use Rattle.bisect_game.specs.declared.settled.Side.TheVariants.{First, Second}
-use Rattle.bisect_game.proofs.CutLemmas.{either, tight}
+use Rattle.bisect_game.proofs.CutLemmas.{tight}
 use Rattle.bisect_game.proofs.RoundLemmas.{close_of-none}
 use Rattle.bisect_game.specs.Bisection.{Bisection, rounds_of, proof_rounds_in, cut, kept_part, kept, parts_of, went_on, closed_or, decided, advanced, roots_of, settle_first, settle_second, settle_side}
 use Rattle.bisect_game.specs.Closing.{is_step, close_of}
@@ -24,7 +25,7 @@ none-more l (suc m) long le = let one : 1 ≤ suc m = omega arith in absurd (ome
 -- m parts more, each of which was one in so many
 shrinks : (fan l g m w bound : ℕ) → 1 < l → 1 < fan → g ≡ min fan l → g * m ≤ l - 1 → (l - 1) * w < bound → m * (fan * w) < bound
 shrinks fan l g m w bound long more is le few =
-    elim (either (nat_le fan l)) [
+    elim (cases_Bool (nat_le fan l)) [
       | inl e ↦
           let same : g ≡ fan = grind (arith, nat_tests) in
           let low : fan * m ≤ l - 1 = rw same at le in
@@ -149,7 +150,7 @@ too-many fan bound m count more few short le =
 few-digits : (fan bound rounds count : ℕ) → 1 < fan → fan ^ rounds < fan * bound → bound < 2 ^ count → rounds ≤ count
 few-digits fan bound zero count more few short = omega arith
 few-digits fan bound (suc m) count more few short =
-    elim (either (nat_le count m)) [
+    elim (cases_Bool (nat_le count m)) [
       | inl e ↦ absurd (too-many fan bound m count more few short (grind (arith, nat_tests)))
       | inr e ↦ grind (arith, nat_tests)
     ]

@@ -2,6 +2,7 @@
 use Rattle.std.proofs.Common.{◌≡◌, ◌≢◌, ℕ, zero, suc, ◌+◌, ◌-◌, ◌<◌, ◌≤◌, ◌==◌, ◌&&◌, not, true, false, List, [], ◌∷◌, length, ◌⊎◌, inl, inr, Option, Some, None, is_some, is_none, refl, sym, ◌∙◌, ap, arith}
 use Rattle.std.proofs.lemmas.Bool.Decides.{nat_tests}
 use Rattle.std.specs.Fn.{iterate}
+use Rattle.std.proofs.lemmas.Bool.{cases_Bool}
 use Rattle.bisect_game.specs.declared.question.Question.{Question}
 use Rattle.bisect_game.specs.declared.settled.Close.{Close}
 use Rattle.bisect_game.specs.declared.settled.Settled.{Settled}
@@ -16,7 +17,6 @@ use Rattle.bisect_game.specs.Laws.{IsNarrower, HasClosed}
 use Rattle.bisect_game.specs.Rules.{Rules}
 use Rattle.bisect_game.specs.Ruling.{Ruling}
 use Rattle.bisect_game.specs.Truth.{own_open}
-use Rattle.bisect_game.proofs.CutLemmas.{either}
 use Rattle.bisect_game.proofs.HeldLemmas.{settled_is_held}
 use Rattle.bisect_game.proofs.RoundLemmas.{rounds_narrow}
 
@@ -61,7 +61,7 @@ fan-advanced ruling d None b = refl
 
 fan-round : (ruling : Ruling) (f : Answers) (d : Bisection) → (round_over ruling f d).fan ≡ d.fan
 fan-round ruling f d =
-    elim (either (is_closed d)) [
+    elim (cases_Bool (is_closed d)) [
       | inl closed ↦ ap (λ (e : Bisection). e.fan) (round-closed ruling f d closed)
       | inr open_ ↦ ap (λ (e : Bisection). e.fan) (round-open ruling f d open_) ∙ fan-advanced ruling (filled f d) (filled f d).by_first (filled f d).by_second
     ]
@@ -91,7 +91,7 @@ filled-twice f d =
 round-moves : (ruling : Ruling) (f : Answers) (d : Bisection) → 1 < d.fan →
     (round_over ruling f (round_over ruling f d) ≡ round_over ruling f d) ⊎ IsNarrower d.place (round_over ruling f d).place
 round-moves ruling f d more =
-    elim (either (is_closed d)) [
+    elim (cases_Bool (is_closed d)) [
       | inl closed ↦ inl (ap (round_over ruling f) (round-closed ruling f d closed))
       | inr still ↦
           let e : Bisection = filled f d in
@@ -216,7 +216,7 @@ none-closed (Some c) e = absurd (cc)
 
 round-same : (ruling : Ruling) (f : Answers) (d : Bisection) → Waits d.by_first d.by_second d.close → f d.first (question_of d) ≡ d.by_first → f d.second (question_of d) ≡ d.by_second → round_over ruling f d ≡ d
 round-same ruling f d m ea eb =
-    elim (either (is_closed d)) [
+    elim (cases_Bool (is_closed d)) [
       | inl closed ↦ round-closed ruling f d closed
       | inr open_ ↦ round-open ruling f d open_ ∙ (ap (advance ruling) (filled-same f d ea eb) ∙ still-by ruling d d.by_first d.by_second (rw (none-closed d.close open_) at m))
     ]
@@ -299,7 +299,7 @@ eqb-same : (n : ℕ) → (n == n) ≡ true
 eqb-same n = grind (arith, nat_tests)
 
 not-eqb : (m n : ℕ) → m ≢ n → (m == n) ≡ false
-not-eqb m n ne = elim (either (m == n)) [ inl e ↦ absurd (ne (grind (arith, nat_tests))) | inr e ↦ e ]
+not-eqb m n ne = elim (cases_Bool (m == n)) [ inl e ↦ absurd (ne (grind (arith, nat_tests))) | inr e ↦ e ]
 
 -- what a dispute holds of a side in a round
 held-at : (by : Side) (d e : Bisection) (s : Settled) → d.first ≢ d.second → HoldsOn d e → settled_after_rounds by e.past (own_open by e) (length d.past) ≡ Some s → held e (prover_of by d) (question_of d) ≡ Some s

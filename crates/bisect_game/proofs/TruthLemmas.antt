@@ -3,6 +3,7 @@ use Rattle.std.proofs.Common.{◌≡◌, ◌≢◌, ℕ, zero, suc, ◌+◌, ◌
 use Rattle.std.proofs.lemmas.Bool.Decides.{nat_tests}
 use Rattle.std.proofs.lemmas.List.{length-map}
 use Rattle.std.proofs.lemmas.Slice.Eq.{bytes_eq-Decides}
+use Rattle.std.proofs.lemmas.Bool.{cases_Bool}
 use Rattle.rd_base.specs.declared.digest.Digest32.{Digest32}
 use Rattle.bisect_game.specs.declared.settled.Interval.{Interval}
 use Rattle.bisect_game.specs.declared.question.Kind.TheVariants as kind
@@ -12,7 +13,7 @@ use Rattle.bisect_game.specs.declared.settled.Settled.{Settled}
 use Rattle.bisect_game.specs.declared.settled.Settled.TheVariants.{Given, Faulty, Spent}
 use Rattle.bisect_game.specs.declared.settled.Side.{Side}
 use Rattle.bisect_game.specs.declared.settled.Side.TheVariants.{First, Second}
-use Rattle.bisect_game.proofs.CutLemmas.{either, cut-first, cut-last}
+use Rattle.bisect_game.proofs.CutLemmas.{cut-first, cut-last}
 use Rattle.bisect_game.specs.Bisection.{cut, cuts_from, cuts, kept, kind_over, parts_of, roots_of, roots_in, agreeing}
 use Rattle.bisect_game.specs.Closing.{is_step, is_out, is_proved}
 use Rattle.bisect_game.specs.Laws.{TrueAnswersFit}
@@ -32,9 +33,9 @@ same-not x y e same = let yes : same_digest x y ≡ true = same-digests x y same
 
 same-turned : (x y : Digest32) → same_digest x y ≡ same_digest y x
 same-turned x y =
-    elim (either (same_digest x y)) [
+    elim (cases_Bool (same_digest x y)) [
       | inl e ↦ e ∙ sym (same-digests y x (sym (same-is x y e)))
-      | inr e ↦ elim (either (same_digest y x)) [
+      | inr e ↦ elim (cases_Bool (same_digest y x)) [
         | inl f ↦ absurd (same-not x y e (sym (same-is y x f)))
         | inr f ↦ e ∙ sym f
       ]
@@ -122,7 +123,7 @@ same-front a other [] [] (suc j) le = refl
 same-front a other [] (y ∷ ys) (suc j) le = absurd (omega arith)
 same-front a other (x ∷ xs) [] (suc j) le = absurd (omega arith)
 same-front a other (x ∷ xs) (y ∷ ys) (suc j) le =
-    elim (either (same_digest x y)) [
+    elim (cases_Bool (same_digest x y)) [
       | inl e ↦
           let here : suc j ≤ suc (agreeing xs ys) = rw e at le in
           let same : x ≡ y = same-is x y e in
@@ -169,7 +170,7 @@ apart f s u v [] [] n j differ lx ly is = let z : j ≡ 0 = omega arith in rw z 
 apart f s u v [] (y ∷ ys) n j differ lx ly is = absurd (omega arith)
 apart f s u v (x ∷ xs) [] n j differ lx ly is = absurd (omega arith)
 apart f s u v (x ∷ xs) (y ∷ ys) n j differ lx ly is =
-    elim (either (same_digest x y)) [
+    elim (cases_Bool (same_digest x y)) [
       | inl e ↦
           let here : j ≡ min (suc (agreeing xs ys)) n = rw e at is in
           let next : j ≡ suc (min (agreeing xs ys) (n - 1)) = omega arith in

@@ -26,6 +26,6 @@ pub use laws::{
     one_cut_fewer_than_parts, sides_settle_in_any_order, the_fan_stays,
 };
 pub use question::{Kind, Question};
-pub use rounds::{cut, kept_part, parts_of};
+pub use rounds::{cut, kept_part, parts_of, roots_in};
 pub use settled::{Close, Interval, Round, Settled, Side};
 pub use steps::steps_asked;

@@ -1,5 +1,5 @@
 ghost use Rattle.std.specs.Prelude.{◌≡◌, ◌+◌, ◌-◌, ◌<◌, ◌≤◌, ◌^◌, ◌∷◌, ◌++◌, [], length, min, slice_index_or};
-ghost use Rattle.bisect_game.specs.Bisection.{cut, kept_part, kept, kind_over, roots_of, agreeing};
+ghost use Rattle.bisect_game.specs.Bisection.{cut, kept_part, kept, kind_over, roots_in, roots_of, agreeing};
 ghost use Rattle.bisect_game.specs.Closing.{is_out, is_proved, both_proved, close_of};
 
 use crate::judge::Judge;
@@ -55,13 +55,23 @@ pub(crate) fn kind_over(fan: u32, lo: u64, hi: u64) -> Kind
     }
 }
 
-/// The roots that an answer gives.
+/// The roots that an answer gives, in their order; none of an answer of another kind.
+pub fn roots_in(answer: &Answer) -> &[Digest32]
+    ensures { result.now ≡ roots_in answer.now }
+{
+    match answer {
+        Answer::Root(root) => slice::from_ref(root),
+        Answer::Roots(roots) => roots.as_slice(),
+        _ => &[],
+    }
+}
+
+/// The roots that a settled answer gives; none where it wasn't given.
 fn roots_of(settled: &Settled) -> &[Digest32]
     ensures { result.now ≡ roots_of settled.now }
 {
     match settled {
-        Settled::Given(Answer::Root(root)) => slice::from_ref(root),
-        Settled::Given(Answer::Roots(roots)) => roots.as_slice(),
+        Settled::Given(answer) => roots_in(answer),
         _ => &[],
     }
 }

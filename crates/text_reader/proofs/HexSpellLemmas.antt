@@ -1,15 +1,11 @@
 -- Hexadecimal digits of lower case are those of the bytes that they decode to.
-use Rattle.std.proofs.Common.{◌≡◌, ℕ, zero, suc, ◌+◌, ◌*◌, ◌/◌, ◌%◌, ◌<◌, Bool, true, false, ◌&&◌, List, [], ◌∷◌, slice_index, Option, Some, None, Result, Ok, Err, refl, sym, ◌∙◌, ap, arith}
+use Rattle.std.proofs.Common.{◌≡◌, ℕ, zero, suc, ◌+◌, ◌*◌, ◌/◌, ◌%◌, ◌<◌, true, ◌&&◌, List, [], ◌∷◌, slice_index, Option, Some, None, Result, Ok, Err, refl, sym, ◌∙◌, ap, arith}
 use Rattle.std.proofs.lemmas.Bool.Decides.{nat_tests}
+use Rattle.std.proofs.lemmas.Bool.{and_parts}
 use Rattle.hex.specs.Hex.{encode_with, encode_lower, lower_digits, hex_digit_value, digit_or_error, value_at, pair_value, decode_pairs, decode_of, IsBytes, ◌>>=◌}
 use Rattle.hex.specs.declared.error.FromHexError.{FromHexError}
 use Rattle.hex.proofs.HexLemmas.{decode_of-ok, decode_of-even}
 use Rattle.text_reader.specs.Fields.{is_lower, are_lower}
-
-both-true : (a b : Bool) → (a && b) ≡ true → (a ≡ true) × (b ≡ true)
-both-true true true e = (refl, refl)
-both-true true false e = absurd (cc)
-both-true false b e = absurd (cc)
 
 hex-bind : {A B : Type 0} (r : Result A FromHexError) (f : A → Result B FromHexError) (y : B) → (r >>= f) ≡ Ok y → (x : A) × (r ≡ Ok x) × (f x ≡ Ok y)
 hex-bind (Ok x) f y h = (x, refl, h)
@@ -52,8 +48,8 @@ unfolding decode_pairs encode_with
 pairs-are i [] xs l e = let none : [] ≡ xs = hex-same [] xs e in rw (← none) refl
 pairs-are i (a ∷ []) xs l e = absurd (cc)
 pairs-are i (a ∷ b ∷ rest) xs l e =
-    let la : (is_lower a ≡ true) × ((is_lower b && are_lower rest) ≡ true) = both-true (is_lower a) (is_lower b && are_lower rest) l in
-    let lb : (is_lower b ≡ true) × (are_lower rest ≡ true) = both-true (is_lower b) (are_lower rest) la.1 in
+    let la : (is_lower a ≡ true) × ((is_lower b && are_lower rest) ≡ true) = and_parts (is_lower a) (is_lower b && are_lower rest) l in
+    let lb : (is_lower b ≡ true) × (are_lower rest ≡ true) = and_parts (is_lower b) (are_lower rest) la.1 in
     let p0 = hex-bind (pair_value a b i) _ xs e in
     let p1 = hex-bind (value_at a i) _ p0.0 p0.1 in
     let p2 = hex-bind (value_at b (i + 1)) _ p0.0 p1.2 in

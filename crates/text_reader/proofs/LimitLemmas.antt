@@ -3,6 +3,7 @@ use Rattle.std.proofs.Common.{◌≡◌, ℕ, ◌+◌, ◌<◌, ◌≤◌, nat_l
 use Rattle.std.specs.Prelude.{codes, bytes_eq}
 use Rattle.std.specs.Option.{ok_or}
 use Rattle.std.proofs.lemmas.Bool.Decides.{nat_tests}
+use Rattle.std.proofs.lemmas.Bool.{and_parts}
 use Rattle.rd_base.specs.Results.{◌>>=◌}
 use Rattle.rd_base.specs.declared.answer.Answer.{Answer}
 use Rattle.rd_base.specs.declared.digest.Digest32.{Digest32}
@@ -31,7 +32,7 @@ use Rattle.text_reader.specs.Entries.{head_in, faulty_or_spent, given_or_not, se
 use Rattle.text_reader.specs.ReadText.{is_prover, are_in_limits, head_of, head_with, ended, line_read, later, rest_with, text_in, read_text}
 use Rattle.text_reader.specs.InLimits.{AreBytes, IsWithin, IsHeadInLimits, IsMoveInLimits, AreMovesInLimits, IsStatusInLimits, IsString, IsStatedInLimits, IsInLimits}
 use Rattle.transcript_text.specs.FullLines.{IsWritten}
-use Rattle.text_reader.proofs.SpellLemmas.{bind-ok, okay, ok-same, both-true, or-ok, small-is, hex-is, some-hex-is, WireSpells}
+use Rattle.text_reader.proofs.SpellLemmas.{bind-ok, okay, ok-same, or-ok, small-is, hex-is, some-hex-is, WireSpells}
 use Rattle.text_reader.proofs.TextSpellLemmas.{AreWithin, are-within, pair-same, head-same, text-same}
 
 -- answers and what they are settled as
@@ -200,7 +201,7 @@ ended-limits p n moves s x (line l ls) a b e = absurd (cc)
 
 is-prover-of : (p n : ℕ) → is_prover p n ≡ true → (1 ≤ n) × (n ≤ p)
 is-prover-of p n e =
-    let parts : (nat_le 1 n ≡ true) × (nat_le n p ≡ true) = both-true (nat_le 1 n) (nat_le n p) e in
+    let parts : (nat_le 1 n ≡ true) × (nat_le n p ≡ true) = and_parts (nat_le 1 n) (nat_le n p) e in
     let a : nat_le 1 n ≡ true = parts.0 in
     let b : nat_le n p ≡ true = parts.1 in
     (grind (arith, nat_tests), grind (arith, nat_tests))
@@ -226,7 +227,7 @@ later-limits wire p n moves x (line l ls) so_far e = by (entry_in l) refl e (λ 
 
 within-is : (l : Limit) (n : ℕ) → is_within l n ≡ true → IsWithin l n
 within-is l n e =
-    let parts : (nat_le l.least n ≡ true) × (nat_le n l.most ≡ true) = both-true (nat_le l.least n) (nat_le n l.most) e in
+    let parts : (nat_le l.least n ≡ true) × (nat_le n l.most ≡ true) = and_parts (nat_le l.least n) (nat_le n l.most) e in
     let a : nat_le l.least n ≡ true = parts.0 in
     let b : nat_le n l.most ≡ true = parts.1 in
     (grind (arith, nat_tests), grind (arith, nat_tests))

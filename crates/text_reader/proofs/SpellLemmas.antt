@@ -1,9 +1,9 @@
 -- What is read is what the bytes spell: no other bytes are read.
-use Rattle.std.proofs.Common.{◌≡◌, ◌≢◌, ℕ, ◌+◌, ◌-◌, ◌*◌, ◌/◌, ◌%◌, ◌<◌, ◌≤◌, nat_le, nat_lt, Bool, true, false, ◌&&◌, ◌==◌, if◌then◌else◌, List, [], ◌∷◌, ◌++◌, length, Option, Some, None, Result, Ok, Err, inl, inr, refl, sym, ◌∙◌, ap, arith, subst, append-nil, append_assoc}
+use Rattle.std.proofs.Common.{◌≡◌, ◌≢◌, ℕ, ◌+◌, ◌-◌, ◌*◌, ◌/◌, ◌%◌, ◌<◌, ◌≤◌, nat_le, nat_lt, Bool, true, false, ◌==◌, if◌then◌else◌, List, [], ◌∷◌, ◌++◌, length, Option, Some, None, Result, Ok, Err, inl, inr, refl, sym, ◌∙◌, ap, arith, subst, append-nil, append_assoc}
 use Rattle.std.specs.Prelude.{decimal}
 use Rattle.std.specs.Option.{ok_or}
 use Rattle.std.proofs.lemmas.Bool.Decides.{nat_tests}
-use Rattle.std.proofs.lemmas.Bool.{cases_Bool}
+use Rattle.std.proofs.lemmas.Bool.{cases_Bool, and_parts}
 use Rattle.std.proofs.lemmas.Fmt.{decimal_digit, decimal_step}
 use Rattle.hex.specs.Hex.{encode_lower, decode_of}
 use Rattle.text_reader.proofs.HexSpellLemmas.{decoded-are, decoded-bytes}
@@ -21,11 +21,6 @@ use Rattle.transcript_text.specs.FullLines.{wire_text}
 
 pub is-eqb : (a b : ℕ) → (a == b) ≡ true → a ≡ b
 is-eqb a b e = grind (arith, nat_tests)
-
-pub both-true : (a b : Bool) → (a && b) ≡ true → (a ≡ true) × (b ≡ true)
-both-true true true e = (refl, refl)
-both-true true false e = absurd (cc)
-both-true false b e = absurd (cc)
 
 -- what an Ok after >>= shows
 pub bind-ok : {A B E : Type 0} (r : Result A E) (f : A → Result B E) (y : B) → (r >>= f) ≡ Ok y → (x : A) × (r ≡ Ok x) × (f x ≡ Ok y)
@@ -59,7 +54,7 @@ skip-is word bytes rest e = after-is word bytes rest (skip-by (after word bytes)
 -- numbers
 
 digit-low : (b : ℕ) → is_digit b ≡ true → (48 ≤ b) × (b ≤ 57)
-digit-low b e = let parts : (nat_le 48 b ≡ true) × (nat_le b 57 ≡ true) = both-true (nat_le 48 b) (nat_le b 57) e in (grind (arith, nat_tests), grind (arith, nat_tests))
+digit-low b e = let parts : (nat_le 48 b ≡ true) × (nat_le b 57 ≡ true) = and_parts (nat_le 48 b) (nat_le b 57) e in (grind (arith, nat_tests), grind (arith, nat_tests))
 
 -- a number that is too large stays so
 large-stays : (bytes : List ℕ) → (digits_at 4294967296 bytes).0 ≡ 4294967296

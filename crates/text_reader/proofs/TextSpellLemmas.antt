@@ -4,6 +4,7 @@ use Rattle.std.specs.Prelude.{codes, decimal, bytes_eq}
 use Rattle.std.specs.Option.{ok_or}
 use Rattle.std.proofs.lemmas.Bool.Decides.{nat_tests}
 use Rattle.std.proofs.lemmas.Slice.Eq.{bytes_eq-Decides}
+use Rattle.std.proofs.lemmas.Bool.{and_parts}
 use Rattle.hex.specs.Hex.{encode_lower}
 use Rattle.rd_base.specs.Status.{status_text}
 use Rattle.text_types.specs.Digest.{digest_text, digests}
@@ -28,7 +29,7 @@ use Rattle.text_reader.specs.Entries.{head_in, move_in, status_at, output_in, ac
 use Rattle.text_reader.specs.ReadText.{is_prover, are_in_limits, head_of, head_with, ended, line_read, later, rest_with, text_in, read_text}
 use Rattle.text_types.specs.Limits.{is_within, provers_limit, bound_limit, patience_limit, version_limit, fan_limit}
 use Rattle.text_types.specs.declared.limits.Limit.{Limit}
-use Rattle.text_reader.proofs.SpellLemmas.{bind-ok, okay, ok-same, after-is, skip-is, number-is, some-hex-is, digest-is, joined, joined-lines, cut-is, both-true, WireSpells}
+use Rattle.text_reader.proofs.SpellLemmas.{bind-ok, okay, ok-same, after-is, skip-is, number-is, some-hex-is, digest-is, joined, joined-lines, cut-is, WireSpells}
 use Rattle.text_reader.proofs.EntrySpellLemmas.{move-spelled, move-is, status-is}
 use Rattle.text_reader.proofs.BackLemmas.{stated_text, stated-line, head-spelled, head-nested}
 
@@ -244,7 +245,7 @@ head-is bytes h e small =
 
 within-few : (l : Limit) (n : ℕ) → l.most < 4294967296 → is_within l n ≡ true → n < 4294967296
 within-few l n few e =
-    let parts : (nat_le l.least n ≡ true) × (nat_le n l.most ≡ true) = both-true (nat_le l.least n) (nat_le n l.most) e in
+    let parts : (nat_le l.least n ≡ true) × (nat_le n l.most ≡ true) = and_parts (nat_le l.least n) (nat_le n l.most) e in
     let most : nat_le n l.most ≡ true = parts.1 in
     let m : n ≤ l.most = grind (arith, nat_tests) in
     omega (arith, m, few)
@@ -259,10 +260,10 @@ pub record AreWithin (h : HeadNumbers) : Type 0 where
 
 pub are-within : (h : HeadNumbers) → are_in_limits h ≡ true → AreWithin h
 are-within h e =
-    let p1 : (is_within provers_limit h.provers ≡ true) × ((is_within bound_limit h.bound && (is_within patience_limit h.patience && (is_within version_limit h.version && is_within fan_limit h.fan))) ≡ true) = both-true _ _ e in
-    let p2 : (is_within bound_limit h.bound ≡ true) × ((is_within patience_limit h.patience && (is_within version_limit h.version && is_within fan_limit h.fan)) ≡ true) = both-true _ _ p1.1 in
-    let p3 : (is_within patience_limit h.patience ≡ true) × ((is_within version_limit h.version && is_within fan_limit h.fan) ≡ true) = both-true _ _ p2.1 in
-    let p4 : (is_within version_limit h.version ≡ true) × (is_within fan_limit h.fan ≡ true) = both-true _ _ p3.1 in
+    let p1 : (is_within provers_limit h.provers ≡ true) × ((is_within bound_limit h.bound && (is_within patience_limit h.patience && (is_within version_limit h.version && is_within fan_limit h.fan))) ≡ true) = and_parts _ _ e in
+    let p2 : (is_within bound_limit h.bound ≡ true) × ((is_within patience_limit h.patience && (is_within version_limit h.version && is_within fan_limit h.fan)) ≡ true) = and_parts _ _ p1.1 in
+    let p3 : (is_within patience_limit h.patience ≡ true) × ((is_within version_limit h.version && is_within fan_limit h.fan) ≡ true) = and_parts _ _ p2.1 in
+    let p4 : (is_within version_limit h.version ≡ true) × (is_within fan_limit h.fan ≡ true) = and_parts _ _ p3.1 in
     record { provers = p1.0; bound = p2.0; patience = p3.0; version = p4.0; fan = p4.1 }
 
 small-limits : (h : HeadNumbers) → are_in_limits h ≡ true → AreSmall h

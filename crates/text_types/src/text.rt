@@ -1,5 +1,7 @@
 ghost use Rattle.std.specs.Prelude.{◌≡◌, Some};
+ghost use Rattle.std.specs.Option.{option_copied};
 ghost use Rattle.text_types.specs.Digest.{digest_text};
+ghost use Rattle.text_types.specs.StatedVerdict.{settled_at};
 
 use bisect_game::Settled;
 use rd_base::{Bytes, Digest32, Listed, OpenText, Qid, Status};
@@ -83,4 +85,11 @@ pub struct FullText {
     /// The settled answers, in the order of the text.
     pub moves: Listed<TextMove>,
     pub stated: Stated,
+}
+
+/// What is settled of a prover's claim, by its number from 1; `None` where no prover has the number.
+pub fn settled_at(claims: &[Option<Settled>], number: u32) -> Option<&Option<Settled>>
+    ensures { option_copied result ≡ settled_at claims.now number }
+{
+    claims.get((number as usize).checked_sub(1)?)
 }

@@ -1,5 +1,5 @@
 -- No line speaks against a prover whose answers are given and true and that isn't put out.
-use Rattle.std.proofs.Common.{◌≡◌, ℕ, suc, ◌+◌, ◌-◌, Bool, true, false, ◌&&◌, ◌||◌, ◌==◌, ◌⊎◌, inl, inr, List, [], ◌∷◌, ◌++◌, length, slice_get, Option, Some, None, if◌then◌else◌, refl, arith}
+use Rattle.std.proofs.Common.{◌≡◌, ℕ, suc, ◌+◌, ◌-◌, Bool, true, false, ◌&&◌, ◌||◌, ◌==◌, inl, inr, List, [], ◌∷◌, ◌++◌, length, slice_get, Option, Some, None, if◌then◌else◌, refl, arith}
 use Rattle.std.specs.Prelude.{min}
 use Rattle.std.proofs.lemmas.Bool.Decides.{nat_tests}
 use Rattle.rd_base.specs.declared.answer.Answer.TheVariants as answer
@@ -20,10 +20,6 @@ use Rattle.transcript_text.specs.declared.word.Word.{Word}
 use Rattle.transcript_text.specs.declared.word.Word.TheVariants as word
 use Rattle.transcript_text.specs.Words.{said_word, said_word_of_proof, speaks_against}
 use Rattle.transcript_text.specs.Lines.{Parted, Line, stage_line, said_in, is_said_against, is_against, is_against_if_there, are_against, line_of_claim, lines_of_claims, line_of_halves, line_of_parts, line_of_round, lines_of_rounds, line_of_step, line_of_last, lines_of_dispute, lines_of_disputes, lines_of_record}
-
-either : (b : Bool) → (b ≡ true) ⊎ (b ≡ false)
-either true = inl refl
-either false = inr refl
 
 is-equal : (m n : ℕ) → (m == n) ≡ true → m ≡ n
 is-equal m n e = grind (arith, nat_tests)

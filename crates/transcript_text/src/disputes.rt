@@ -5,11 +5,10 @@ ghost use Rattle.transcript_text.specs.Lines.{dispute_line, lines_of_all_rounds,
 ghost use Rattle.transcript_text.specs.Report.{said_text, parted_text, kept_text, line_text, text_if_there, lines_text};
 
 use crate::word::{Word, said_word, said_word_of_proof};
-use bisect_game::{Close, Dispute, Interval, Settled, Side, kept_part, parts_of};
-use rd_base::{Answer, Digest32, same_digest};
+use bisect_game::{Close, Dispute, Interval, Settled, Side, kept_part, parts_of, roots_in};
+use rd_base::{Answer, same_digest};
 use std::alloc::AllocError;
 use std::fmt::Write;
-use std::slice;
 
 /// Adds what a line says of both sides, and ends the line.
 fn add_said(
@@ -69,17 +68,6 @@ fn add_parted(
 {
     write!(text, "round {number} in {lo}")?;
     write!(text, " {hi} by {parts}")
-}
-
-/// The roots that an answer gives.
-fn roots_in(answer: &Answer) -> &[Digest32]
-    ensures { result.now ≡ roots_in answer.now }
-{
-    match answer {
-        Answer::Root(root) => slice::from_ref(root),
-        Answer::Roots(roots) => roots.as_slice(),
-        _ => &[],
-    }
 }
 
 /// Adds which of so many parts is kept, counted from 1, and ends the line.

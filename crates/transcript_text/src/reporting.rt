@@ -1,5 +1,4 @@
-ghost use Rattle.std.specs.Prelude.{◌≡◌, ◌++◌, string_bytes, IfOk, OnOk, Some};
-ghost use Rattle.std.specs.Option.{option_copied};
+ghost use Rattle.std.specs.Prelude.{◌≡◌, ◌++◌, string_bytes, IfOk, OnOk, Some, option_copied};
 ghost use Rattle.text_types.specs.StatedVerdict.{settled_at};
 ghost use Rattle.transcript_text.specs.Lines.{line_of_accepted, line_of_verdict, collision_line, lines_of_record, balance_line, pool_line, lines_of_provers, lines_of_balances};
 ghost use Rattle.transcript_text.specs.Report.{played_text, patience_text, committed_text, numbers_text, head_line, line_text, text_if_there, lines_text, report_text};
@@ -12,7 +11,7 @@ use deposits::Balances;
 use rd_base::{Answer, Memory};
 use std::alloc::{AllocError, Global};
 use std::fmt::Write;
-use text_types::Head;
+use text_types::{Head, settled_at};
 use tournament::{Record, Verdict};
 
 #[tactic(auto, unfolding(crate::specs::Report::played_text))]
@@ -66,13 +65,6 @@ pub fn head_line(alloc: Global, head: &Head) -> Result<String, AllocError>
     let mut text = String::new(alloc);
     add_head(&mut text, head)?;
     Ok(text)
-}
-
-/// What is settled of a prover's claim, by its number from 1.
-fn settled_at(claims: &[Option<Settled>], number: u32) -> Option<&Option<Settled>>
-    ensures { option_copied result ≡ settled_at claims.now number }
-{
-    claims.get((number as usize).checked_sub(1)?)
 }
 
 /// Adds the line of a claim that is accepted.
