@@ -1,5 +1,6 @@
 -- The record of a match that has ended: its disputes are between two of its provers, and nobody is put out twice.
 use Rattle.std.proofs.Common.{◌≡◌, ℕ, zero, suc, ◌+◌, ◌-◌, ◌<◌, ◌≤◌, Bool, true, false, ◌&&◌, ◌||◌, ◌==◌, List, [], ◌∷◌, slice_get, Option, Some, None, refl, arith}
+use Rattle.std.proofs.lemmas.Bool.{and_parts}
 use Rattle.bisect_game.specs.declared.settled.Close.{Close}
 use Rattle.bisect_game.specs.declared.settled.Close.TheVariants.{Out, Collision}
 use Rattle.bisect_game.specs.Bisection.{Bisection}
@@ -14,10 +15,6 @@ use Rattle.deposits.specs.Balances.{AllSides}
 use Rattle.deposits.specs.Theorem.{EndedIsSettledUp}
 use Rattle.deposits.proofs.StepLemmas.{other-test}
 use Rattle.deposits.proofs.RecordLemmas.{outs-append, claims-past, claims-outs}
-
-both : (a b : Bool) → (a && b) ≡ true → (a ≡ true) × (b ≡ true)
-both true b e = (refl, e)
-both false b e = absurd (cc)
 
 sides-of : (n m : ℕ) (ds : List Bisection) → AreNumbered n m ds → AllApart ds → AllSides n ds
 sides-of n m [] i j = tt
@@ -77,7 +74,7 @@ ended-is-settled-up of_provers twice apart rules xs playable over =
     let i : IsOfProvers rules.provers r = of_provers rules xs in
     record {
       claims = i.claims;
-      settled = (both (all_there r.claims) (all_closed r.disputes) over).0;
+      settled = (and_parts (all_there r.claims) (all_closed r.disputes) over).0;
       sides = sides-of rules.provers 1 r.disputes i.disputes (apart rules xs playable);
       once = λ p. once-of rules.provers r p i (twice rules xs p);
     }

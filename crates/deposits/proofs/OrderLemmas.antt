@@ -1,10 +1,11 @@
 -- Events in any order come to the closed form, and may be told where nobody is put out twice.
-use Rattle.std.proofs.Common.{◌≡◌, ℕ, zero, suc, ◌+◌, ◌-◌, ◌*◌, ◌<◌, ◌≤◌, Bool, true, false, ◌&&◌, ◌||◌, ◌==◌, List, [], ◌∷◌, length, replicate, slice_index_or, ◌⊎◌, inl, inr, All, refl, sym, ◌∙◌, ap, arith, subst}
+use Rattle.std.proofs.Common.{◌≡◌, ℕ, zero, suc, ◌+◌, ◌-◌, ◌*◌, ◌<◌, ◌≤◌, Bool, true, false, ◌&&◌, ◌||◌, ◌==◌, List, [], ◌∷◌, length, replicate, slice_index_or, inl, inr, All, refl, sym, ◌∙◌, ap, arith, subst}
 use Rattle.std.specs.List.{sum_by}
 use Rattle.std.specs.List.Sorted.{IsPermutation}
 use Rattle.std.proofs.Math.Nat.{mul-sub, mul-add}
 use Rattle.std.proofs.lemmas.List.Sums.{sum_by-cons}
 use Rattle.std.proofs.lemmas.List.Sorted.{sum_by-IsPermutation, All-permutation}
+use Rattle.std.proofs.lemmas.Bool.{or_cases}
 use Rattle.bisect_game.specs.declared.settled.Close.TheVariants.{Out, Collision}
 use Rattle.tournament.specs.OpenDisputes.{one_if}
 use Rattle.deposits.specs.Events.{Event, puts_out, pays, pooled, outs, wins, spent, IsEventOf, AllEventsOf}
@@ -95,10 +96,6 @@ none-out o p q zero (suc n) same is =
     ap any (rw here at is)
 none-out o p q (suc k) (suc n) same is = none-out o p (q + 1) k n (omega (arith, same)) is
 
-either : (a b : Bool) → (a || b) ≡ true → (a ≡ true) ⊎ (b ≡ true)
-either true b e = inl refl
-either false b e = inr e
-
 right-of : (a b : Bool) → (a && b) ≡ true → b ≡ true
 right-of true b e = e
 right-of false b e = absurd (cc)
@@ -108,7 +105,7 @@ named : (n : ℕ) (e : Event) (p : ℕ) → IsEventOf n e → puts_out e p ≡ t
 named n (ClaimOut q) p i put = let same : q ≡ p = is-same q p put in rw (← same) i.0
 named n (Closed a b (Collision x y)) p i put = absurd (cc)
 named n (Closed a b (Out x y)) p i put =
-    elim (either (x && (a == p)) (y && (b == p)) put) [
+    elim (or_cases (x && (a == p)) (y && (b == p)) put) [
       | inl e ↦ let same : a ≡ p = is-same a p (right-of x (a == p) e) in rw (← same) i.first.0
       | inr e ↦ let same : b ≡ p = is-same b p (right-of y (b == p) e) in rw (← same) i.second.0
     ]

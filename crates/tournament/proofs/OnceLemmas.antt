@@ -1,6 +1,7 @@
 -- A prover is in at most one open dispute, so that its open question stays while others post.
 use Rattle.std.proofs.Common.{◌≡◌, ◌≢◌, ℕ, zero, suc, ◌+◌, ◌-◌, ◌<◌, ◌≤◌, nat_le, Bool, true, false, not, ◌&&◌, ◌||◌, ◌==◌, if◌then◌else◌, List, [], ◌∷◌, ◌++◌, length, replicate, slice_get, slice_set, inl, inr, Option, Some, None, is_some, is_none, refl, sym, ◌∙◌, ap, arith}
 use Rattle.std.proofs.lemmas.Bool.Decides.{nat_tests}
+use Rattle.std.proofs.lemmas.Bool.{and_parts, cases_Bool}
 use Rattle.rd_base.specs.declared.digest.Digest32.{Digest32}
 use Rattle.rd_base.specs.declared.claim.Claim.{Claim}
 use Rattle.bisect_game.specs.declared.question.Question.{Question}
@@ -11,7 +12,6 @@ use Rattle.bisect_game.specs.Rules.{Rules}
 use Rattle.bisect_game.specs.Ruling.{Ruling, same_digest}
 use Rattle.tournament.specs.OpenDisputes.{one_if, is_side, open_disputes_of}
 use Rattle.tournament.proofs.OpenedLemmas.{opened-not, opened-due}
-use Rattle.tournament.proofs.ReachLemmas.{either}
 use Rattle.tournament.proofs.SidesLemmas.{SameSides, sides-first, sides-second}
 use Rattle.tournament.specs.Bracket.{Record, claim_question, is_out_in, claim_in, also, live_from, live, Taken, passed_over, take_other, pairs_of, pairs, last_stage, disputes_of, all_there, all_out, put_out, is_stage_due, stage_opened, nothing_settled, asks_first, asks_second, question_in, claim_missing, open_question, settled_in, put, settle}
 
@@ -64,7 +64,7 @@ times-live p k (Some c) xs false = omega arith
 times-live p k None xs false = omega arith
 
 pub not-eqb : (m n : ℕ) → m ≢ n → (m == n) ≡ false
-not-eqb m n ne = elim (either (m == n)) [ inl e ↦ absurd (ne (grind (arith, nat_tests))) | inr e ↦ e ]
+not-eqb m n ne = elim (cases_Bool (m == n)) [ inl e ↦ absurd (ne (grind (arith, nat_tests))) | inr e ↦ e ]
 
 pub is-eqb : (m n : ℕ) → (m == n) ≡ true → m ≡ n
 is-eqb m n e = grind (arith, nat_tests)
@@ -85,7 +85,7 @@ times-above ds p k (s ∷ ss) le =
 times-once : (ds : List Bisection) (p k : ℕ) (ss : List (Option Settled)) → times p (live_from ds k ss) ≤ 1
 times-once ds p k [] = omega arith
 times-once ds p k (s ∷ ss) =
-    elim (either (k == p)) [
+    elim (cases_Bool (k == p)) [
       | inl e ↦
           let same : k ≡ p = is-eqb k p e in
           let one : one_if (k == p) ≡ 1 = ap one_if e in
@@ -106,10 +106,6 @@ pub engaged-both : (p : ℕ) (ds es : List Bisection) → open_disputes_of p (ds
 engaged-both p [] es = omega arith
 engaged-both p (d ∷ ds) es = omega (arith, engaged-both p ds es)
 
-pub both : (a b : Bool) → (a && b) ≡ true → (a ≡ true) × (b ≡ true)
-both true b e = (refl, e)
-both false b e = absurd (cc)
-
 out-closed : (a : Bool) (c : Option Close) → put_out c ≡ true → one_if (a && not (is_some c)) ≡ 0
 out-closed true (Some c) e = refl
 out-closed false (Some c) e = refl
@@ -118,15 +114,15 @@ out-closed a None e = absurd (cc)
 pub engaged-out : (p : ℕ) (ds : List Bisection) → all_out ds ≡ true → open_disputes_of p ds ≡ 0
 engaged-out p [] e = refl
 engaged-out p (d ∷ ds) e =
-    let two : (put_out d.close ≡ true) × (all_out ds ≡ true) = both (put_out d.close) (all_out ds) e in
+    let two : (put_out d.close ≡ true) × (all_out ds ≡ true) = and_parts (put_out d.close) (all_out ds) e in
     omega (arith, out-closed (is_side p d) d.close two.0, engaged-out p ds two.1)
 
 apart-opened : (rules : Rules) (p : ℕ) (t : Record) → IsApart rules p t → IsApart rules p (stage_opened rules t)
 apart-opened rules p t a =
-    elim (either (is_stage_due rules t)) [
+    elim (cases_Bool (is_stage_due rules t)) [
       | inl due ↦
-          let two : (all_there t.claims ≡ true) × (_ ≡ true) = both (all_there t.claims) _ due in
-          let outs : (all_out t.disputes ≡ true) × (_ ≡ true) = both (all_out t.disputes) _ two.1 in
+          let two : (all_there t.claims ≡ true) × (_ ≡ true) = and_parts (all_there t.claims) _ due in
+          let outs : (all_out t.disputes ≡ true) × (_ ≡ true) = and_parts (all_out t.disputes) _ two.1 in
           let none : open_disputes_of p t.disputes ≡ 0 = engaged-out p t.disputes outs.0 in
           let sum : open_disputes_of p (t.disputes ++ disputes_of rules (last_stage t.disputes + 1) (length t.disputes + 1) (pairs rules t)) ≡ open_disputes_of p t.disputes + open_disputes_of p (disputes_of rules (last_stage t.disputes + 1) (length t.disputes + 1) (pairs rules t)) =
           engaged-both p t.disputes (disputes_of rules (last_stage t.disputes + 1) (length t.disputes + 1) (pairs rules t)) in
@@ -239,7 +235,7 @@ prover-by : (rules : Rules) (p : ℕ) (q : Question) (t : Record) (b : Bool) →
     (if b then Some claim_question else question_in p t.disputes) ≡ Some q → p ≤ rules.provers
 prover-by rules p q t true eb some a e = omega (arith, has-claim t.claims (p - 1) eb, a.claims)
 prover-by rules p q t false eb some a e =
-    elim (either (nat_le p rules.provers)) [
+    elim (cases_Bool (nat_le p rules.provers)) [
       | inl le ↦ grind (arith, nat_tests)
       | inr gt ↦ let past : rules.provers < p = grind (arith, nat_tests) in absurd (omega (arith, a.known past, engaged-asked p q t.disputes e))
     ]
@@ -272,7 +268,7 @@ not-asked p d e =
 -- a prover asked further on is no side of an open dispute before
 apart-here : (p : ℕ) (q : Question) (d : Bisection) (ds : List Bisection) → open_disputes_of p (d ∷ ds) ≤ 1 → is_closed d ≡ false → question_in p ds ≡ Some q → is_side p d ≡ false
 apart-here p q d ds le still e =
-    elim (either (is_side p d)) [
+    elim (cases_Bool (is_side p d)) [
       | inl t ↦ absurd (omega (arith, one-touch (d.first == p) (d.second == p) (is_closed d) t still, engaged-asked p q ds e))
       | inr far ↦ far
     ]
@@ -331,7 +327,7 @@ stays-put rules p who s q t true some other ne a e =
     let same : slice_get (slice_set t.claims (who - 1) (Some s)) (p - 1) ≡ slice_get t.claims (p - 1) = get-other t.claims (who - 1) (p - 1) (Some s) (λ k. ne (omega arith)) in
     rw same e
 stays-put rules p who s q t false some other ne a e =
-    elim (either (claim_missing (slice_get t.claims (p - 1)))) [
+    elim (cases_Bool (claim_missing (slice_get t.claims (p - 1)))) [
       | inl here ↦ rw here (rw here at e)
       | inr there ↦ rw there (stays-settled rules p who s q t.disputes ne a.one (rw there at e))
     ]
@@ -339,17 +335,17 @@ stays-put rules p who s q t false some other ne a e =
 in-append : (p : ℕ) (q : Question) (ds es : List Bisection) → question_in p ds ≡ Some q → question_in p (ds ++ es) ≡ Some q
 in-append p q [] es e = absurd (cc)
 in-append p q (d ∷ ds) es e =
-    elim (either (asks_first p d || asks_second p d)) [
+    elim (cases_Bool (asks_first p d || asks_second p d)) [
       | inl here ↦ rw here (rw here at e)
       | inr there ↦ rw there (in-append p q ds es (rw there at e))
     ]
 
 stays-opened : (rules : Rules) (p : ℕ) (q : Question) (t : Record) → open_question rules t p ≡ Some q → open_question rules (stage_opened rules t) p ≡ Some q
 stays-opened rules p q t e =
-    elim (either (is_stage_due rules t)) [
+    elim (cases_Bool (is_stage_due rules t)) [
       | inl due ↦
           rw (opened-due rules t due)
-          (elim (either (claim_missing (slice_get t.claims (p - 1)))) [
+          (elim (cases_Bool (claim_missing (slice_get t.claims (p - 1)))) [
             | inl here ↦ rw here (rw here at e)
             | inr there ↦ rw there (in-append p q t.disputes _ (rw there at e))
           ])

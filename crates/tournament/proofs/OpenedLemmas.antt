@@ -1,9 +1,9 @@
 -- A stage begins, or nothing changes.
 use Rattle.std.proofs.Common.{◌≡◌, ℕ, ◌+◌, Bool, true, false, ◌&&◌, List, [], ◌∷◌, ◌++◌, length, inl, inr, refl, ◌∙◌, ap, append-nil}
+use Rattle.std.proofs.lemmas.Bool.{cases_Bool}
 use Rattle.rd_base.specs.declared.claim.Claim.{Claim}
 use Rattle.bisect_game.specs.Bisection.{Bisection}
 use Rattle.bisect_game.specs.Rules.{Rules}
-use Rattle.tournament.proofs.ReachLemmas.{either}
 use Rattle.tournament.specs.Bracket.{Record, pairs, last_stage, disputes_of, all_there, all_out, put_out, is_stage_due, stage_opened}
 
 pub opened-not : (rules : Rules) (t : Record) → is_stage_due rules t ≡ false → stage_opened rules t ≡ t
@@ -41,7 +41,7 @@ begun rules t (p ∷ ps) due e =
 -- once a stage has begun, none begins
 pub opened-twice : (rules : Rules) (t : Record) → stage_opened rules (stage_opened rules t) ≡ stage_opened rules t
 opened-twice rules t =
-    elim (either (is_stage_due rules t)) [
+    elim (cases_Bool (is_stage_due rules t)) [
       | inl due ↦ rw (opened-due rules t due) (begun rules t (pairs rules t) due refl)
       | inr not_due ↦ ap (stage_opened rules) (opened-not rules t not_due)
     ]

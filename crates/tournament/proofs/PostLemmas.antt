@@ -12,7 +12,8 @@ use Rattle.bisect_game.specs.Truth.{IsFit}
 use Rattle.tournament.specs.Bracket.{Record, open_question, settle, nothing_settled}
 use Rattle.tournament.specs.Settling.{after}
 use Rattle.tournament.specs.Moves.{MatchState, begun, passes_of, settled_by, moved}
-use Rattle.tournament.specs.Posting.{same_qid, posted, posted_on, Post, after_posts}
+use Rattle.rd_base.specs.Questions.{same_qid}
+use Rattle.tournament.specs.Posting.{posted, posted_on, Post, after_posts}
 use Rattle.tournament.specs.Fitting.{MaySettle, AllFit, PostsSettle}
 
 pub fit-last : (rules : Rules) (es : List (ℕ × Settled)) (p : ℕ) (s : Settled) (r : Record) → AllFit rules es r → MaySettle rules (after rules es r) p s → AllFit rules (es ++ (p, s) ∷ []) r

@@ -1,6 +1,7 @@
 -- A stage over answers, and a settled answer that is one of them.
 use Rattle.std.proofs.Common.{◌≡◌, ℕ, zero, suc, ◌+◌, ◌-◌, ◌<◌, Bool, true, false, not, ◌&&◌, ◌||◌, ◌==◌, if◌then◌else◌, List, [], ◌∷◌, ◌++◌, length, map, replicate, slice_get, slice_set, ◌⊎◌, inl, inr, Option, Some, None, is_some, is_none, refl, sym, ◌∙◌, ap, arith}
 use Rattle.std.proofs.lemmas.Bool.Decides.{nat_tests}
+use Rattle.std.proofs.lemmas.Bool.{and_parts, cases_Bool}
 use Rattle.rd_base.specs.declared.claim.Claim.{Claim}
 use Rattle.bisect_game.specs.declared.question.Question.{Question}
 use Rattle.bisect_game.specs.declared.settled.Settled.{Settled}
@@ -10,7 +11,7 @@ use Rattle.bisect_game.specs.Bisection.{Bisection, is_closed, question_of, settl
 use Rattle.bisect_game.specs.Disputes.{Answers, played, or_else}
 use Rattle.bisect_game.specs.Rules.{Rules}
 use Rattle.tournament.proofs.OpenedLemmas.{opened-not, opened-due, opened-twice}
-use Rattle.tournament.proofs.ReachLemmas.{either, Reaches, reach_back, reach_one}
+use Rattle.tournament.proofs.ReachLemmas.{Reaches, reach_back, reach_one}
 use Rattle.tournament.proofs.RoundLemmas.{IsWithin, within-first, within-second}
 use Rattle.tournament.specs.Bracket.{Record, claim_question, pairs, last_stage, disputes_of, all_there, all_out, put_out, is_stage_due, stage_opened, claims_over, carried, stage_over, nothing_settled, asks_first, asks_second, question_in, claim_missing, open_question, settled_in, put, settle, is_complete, all_closed}
 use Rattle.tournament.specs.Settling.{after, Fits, OneRecord}
@@ -36,10 +37,6 @@ pub record Ends (rules : Rules) (f : Answers) (t z : Record) : Type 0 where
   pub reaches : Reaches (stage_over rules f) t z
 
 module _ (laws : BisectionLaws) where
-  both : (a b : Bool) → (a && b) ≡ true → (a ≡ true) × (b ≡ true)
-  both true b e = (refl, e)
-  both false b e = absurd (cc)
-
   -- claims
 
   pub claims-full : (f : Answers) (p : ℕ) (ss : List (Option Settled)) → all_there ss ≡ true → claims_over f p ss ≡ ss
@@ -63,7 +60,7 @@ module _ (laws : BisectionLaws) where
   pub played-all : (rules : Rules) (f : Answers) (ds : List Bisection) → all_closed ds ≡ true → map (played rules f) ds ≡ ds
   played-all rules f [] e = refl
   played-all rules f (d ∷ ds) e =
-      let two : (is_closed d ≡ true) × (all_closed ds ≡ true) = both (is_closed d) (all_closed ds) e in
+      let two : (is_closed d ≡ true) × (all_closed ds ≡ true) = and_parts (is_closed d) (all_closed ds) e in
       rw (laws.played.closed rules f d two.0, played-all rules f ds two.1) refl
 
   closed-out : (c : Option Close) → put_out c ≡ true → is_some c ≡ true
@@ -73,7 +70,7 @@ module _ (laws : BisectionLaws) where
   pub all-out : (ds : List Bisection) → all_out ds ≡ true → all_closed ds ≡ true
   all-out [] e = refl
   all-out (d ∷ ds) e =
-      let two : (put_out d.close ≡ true) × (all_out ds ≡ true) = both (put_out d.close) (all_out ds) e in
+      let two : (put_out d.close ≡ true) × (all_out ds ≡ true) = and_parts (put_out d.close) (all_out ds) e in
       rw (closed-out d.close two.0, all-out ds two.1) refl
 
   asked : (same : Bool) (o : Option Settled) (c : Option Close) → (same && (is_none o && not (is_some c))) ≡ true → (same ≡ true) × IsAsked o c
@@ -140,7 +137,7 @@ module _ (laws : BisectionLaws) where
 
   pub within-opened : (rules : Rules) (t : Record) → 0 < rules.bound → AllWithin rules t.disputes → AllWithin rules (stage_opened rules t).disputes
   within-opened rules t long w =
-      elim (either (is_stage_due rules t)) [
+      elim (cases_Bool (is_stage_due rules t)) [
         | inl due ↦ rw (opened-due rules t due) (within-both rules t.disputes _ w (within-new rules (last_stage t.disputes + 1) (length t.disputes + 1) (pairs rules t) long))
         | inr not_due ↦ rw (opened-not rules t not_due) w
       ]
@@ -188,10 +185,10 @@ module _ (laws : BisectionLaws) where
   unfolding settle
   steps-settle rules f p s q t numbered more long i e is =
       let same : carried rules f (put rules p s t) ≡ carried rules f t = carried-put rules f p s q t numbered more long i.within e is in
-      elim (either (is_stage_due rules (put rules p s t))) [
+      elim (cases_Bool (is_stage_due rules (put rules p s t))) [
         | inl due ↦
-            let two : (all_there (put rules p s t).claims ≡ true) × ((all_out (put rules p s t).disputes && _) ≡ true) = both _ _ due in
-            let outs : (all_out (put rules p s t).disputes ≡ true) × (_ ≡ true) = both _ _ two.1 in
+            let two : (all_there (put rules p s t).claims ≡ true) × ((all_out (put rules p s t).disputes && _) ≡ true) = and_parts _ _ due in
+            let outs : (all_out (put rules p s t).disputes ≡ true) × (_ ≡ true) = and_parts _ _ two.1 in
             let still : carried rules f (put rules p s t) ≡ put rules p s t = carried-due rules f (put rules p s t) two.0 (all-out (put rules p s t).disputes outs.0) in
             inr (ap (stage_opened rules) (sym still ∙ same))
         | inr not_due ↦ inl (ap (λ (u : Record). stage_opened rules (carried rules f u)) (opened-not rules (put rules p s t) not_due) ∙ ap (stage_opened rules) same)
@@ -199,7 +196,7 @@ module _ (laws : BisectionLaws) where
 
   pub complete-fixed : (rules : Rules) (f : Answers) (t : Record) → IsPlayed rules t → is_complete t ≡ true → stage_over rules f t ≡ t
   complete-fixed rules f t i c =
-      let two : (all_there t.claims ≡ true) × (all_closed t.disputes ≡ true) = both _ _ c in
+      let two : (all_there t.claims ≡ true) × (all_closed t.disputes ≡ true) = and_parts _ _ c in
       ap (stage_opened rules) (carried-due rules f t two.0 two.1) ∙ i.rests
 
   -- every complete list comes to what the stages over the answers come to

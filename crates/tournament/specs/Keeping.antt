@@ -76,7 +76,7 @@ and_also r ds = record r { disputes = r.disputes ++ ds }
 
 -- a record and the numbers that it is played by
 pub record Sheet : Type 0 where
-  pub table : Setup
+  pub setup : Setup
   pub record_ : Record
 
 -- each room is one for a dispute of the match
@@ -109,10 +109,10 @@ pub record IsMove (rules : Rules) (st : MatchState) (p : ℕ) (o : Option Settle
   pub settles : settled_by rules question (passes_of st p) answer ≡ o
 
 pub record IsMatch (r : Ruling) (s : Sheet) (passed : List ℕ) (room : ℕ) : Type 0 where
-  pub some : 0 < s.table.provers
-  pub steps : 0 < s.table.bound
-  pub parted : 1 < s.table.fan
-  pub few_parts : s.table.fan ≤ 16
-  pub counts : length passed ≡ s.table.provers
-  pub reached : IsReached (rules_of r s.table) (record { record_ = s.record_; passed = passed })
-  pub room_ : s.table.provers ≤ room
+  pub some : 0 < s.setup.provers
+  pub steps : 0 < s.setup.bound
+  pub parted : 1 < s.setup.fan
+  pub few_parts : s.setup.fan ≤ 16
+  pub counts : length passed ≡ s.setup.provers
+  pub reached : IsReached (rules_of r s.setup) (record { record_ = s.record_; passed = passed })
+  pub room_ : s.setup.provers ≤ room

@@ -1,7 +1,8 @@
 -- To believe: a post. The tests in their order, the state after it, and the reply to it; and lists of posts.
-use Rattle.std.specs.Prelude.{◌≡◌, ◌↔◌, ℕ, ◌<◌, ◌≤◌, Bool, true, ◌&&◌, ◌==◌, List, [], ◌∷◌, Option, Some, None, is_some, if◌then◌else◌}
+use Rattle.std.specs.Prelude.{◌≡◌, ◌↔◌, ℕ, ◌<◌, ◌≤◌, true, List, [], ◌∷◌, Option, Some, None, is_some, if◌then◌else◌}
 use Rattle.rd_base.specs.declared.answer.Answer.{Answer}
 use Rattle.rd_base.specs.declared.answer.Qid.{Qid}
+use Rattle.rd_base.specs.Questions.{same_qid}
 use Rattle.bisect_game.specs.declared.question.Question.{Question}
 use Rattle.bisect_game.specs.declared.settled.Settled.{Settled}
 use Rattle.bisect_game.specs.declared.settled.Settled.TheVariants as settled
@@ -22,9 +23,6 @@ rules_of r t = record { ruling = r; provers = t.provers; bound = t.bound; fan = 
 abbrev pub answer_of : Move → Option Answer
 answer_of Pass = None
 answer_of (Give a) = Some a
-
-abbrev pub same_qid : Qid → Qid → Bool
-same_qid a b = (a.dispute == b.dispute) && (a.round == b.round)
 
 abbrev pub posted_on : Rules → MatchState → ℕ → Qid → Option Answer → Option Question → MatchState
 posted_on rules st p qid m None = st

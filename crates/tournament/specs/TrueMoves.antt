@@ -7,7 +7,8 @@ use Rattle.bisect_game.specs.Rules.{Rules, ArePlayable}
 use Rattle.bisect_game.specs.Truth.{Truth, IsRun, IsTrueAnswer}
 use Rattle.tournament.specs.Bracket.{open_question}
 use Rattle.tournament.specs.Moves.{MatchState, begun, passes_of}
-use Rattle.tournament.specs.Posting.{same_qid, posted, Post, record_after}
+use Rattle.rd_base.specs.Questions.{same_qid}
+use Rattle.tournament.specs.Posting.{posted, Post, record_after}
 use Rattle.tournament.specs.Theorem.{AreTrue}
 use Rattle.tournament.specs.Truthful.{IsSafe}
 

@@ -25,7 +25,7 @@ pub use laws::{
     true_moves_are_true_answers, truthful_provers_are_safe, truthful_provers_stay,
 };
 pub use playing::Match;
-pub use posting::{Move, Reply, is_pass, move_of, same_qid};
+pub use posting::{Move, Reply, is_pass, move_of};
 pub use record::Record;
 pub use setup::Setup;
 pub use verdict::Verdict;

@@ -11,13 +11,14 @@ use crate::laws::{
     a_match_has_few_disputes_and_rounds, nobody_asked_means_over, the_verdict_is_right,
     truthful_provers_stay,
 };
-use crate::posting::{Move, Reply, judged, reply_by, same_qid};
+use crate::posting::{Move, Reply, judged, reply_by};
+use crate::reading::{all_closed, all_there, question_in};
 use crate::record::Record;
 use crate::setup::Setup;
 use crate::sheet::Sheet;
 use crate::verdict::Verdict;
-use bisect_game::{Judge, Question, Settled};
-use rd_base::{Digest32, Memory, Qid};
+use bisect_game::{Judge, Kind, Question, Settled};
+use rd_base::{Digest32, Memory, Qid, same_qid};
 use std::alloc::Global;
 use std::marker::Model;
 
@@ -52,7 +53,7 @@ impl<J: Judge + Drop> Model for Match<J> {
 
     ghost Value = { J.Names × Setup × MatchState };
 
-    ghost view = { λ m. (J.names m.judge, m.sheet.table, record { record_ = m.sheet.record_; passed = m.passed.items }) };
+    ghost view = { λ m. (J.names m.judge, m.sheet.setup, record { record_ = m.sheet.record_; passed = m.passed.items }) };
 
     ghost invariant = { λ m. IsMatch (J.ruling (J.names m.judge)) m.sheet m.passed.items (vec_capacity m.live) };
 }
@@ -97,21 +98,26 @@ impl<J: Judge + Drop> Match<J> {
     pub fn setup(&self) -> Setup
         ensures { result ≡ self.now.1 }
     {
-        self.sheet.setup()
+        self.sheet.setup
     }
 
     /// Whether it is over: nothing is open.
     pub fn is_over(&self) -> bool
         ensures { result ≡ is_complete self.now.2.record_ }
     {
-        self.sheet.record().is_over()
+        let record = &self.sheet.record_;
+        all_there(record.claims()) && all_closed(record.disputes())
     }
 
     /// The verdict; `None` if and only if a question is open.
     pub fn verdict(&self) -> Option<Verdict>
         ensures { result ≡ (if is_complete self.now.2.record_ then Some (verdict_of (rules_of (J.ruling self.now.0) self.now.1) self.now.2.record_) else None) }
     {
-        self.sheet.verdict(&self.judge)
+        if self.is_over() {
+            Some(self.sheet.verdict(&self.judge))
+        } else {
+            None
+        }
     }
 
     /// The open question of a prover, from 1 to their count; `None` if and only if it has none.
@@ -120,7 +126,17 @@ impl<J: Judge + Drop> Match<J> {
         requires few { p ≤ self.now.1.provers }
         ensures { result ≡ open_question (rules_of (J.ruling self.now.0) self.now.1) self.now.2.record_ p }
     {
-        self.sheet.record().question(p)
+        let record = &self.sheet.record_;
+        if record.claims()[p as usize - 1].is_none() {
+            return Some(Question {
+                qid: Qid {
+                    dispute: 0,
+                    round: 0,
+                },
+                kind: Kind::Claim,
+            });
+        }
+        question_in(record.disputes(), p)
     }
 
     /// How often a prover has passed on its open question; 0 without one.
@@ -165,8 +181,7 @@ impl<J: Judge + Drop> Match<J> {
             live,
             ..
         } = self;
-        sheet.put(judge, p, settled);
-        sheet.open_due(judge, live);
+        sheet.settle(judge, p, settled, live);
     }
 
     /// A move on the open question.
@@ -187,7 +202,7 @@ impl<J: Judge + Drop> Match<J> {
                 reply
             }
             Move::Pass => {
-                if self.passed[p as usize - 1] < self.sheet.setup().patience {
+                if self.passed[p as usize - 1] < self.setup().patience {
                     self.count_pass(p);
                     Reply::Taken
                 } else {
@@ -260,7 +275,7 @@ impl<J: Judge + Drop> Match<J> {
     pub fn record(&self) -> &Record
         ensures { result.now ≡ self.now.2.record_ }
     {
-        self.sheet.record()
+        &self.sheet.record_
     }
 
     /// What was settled. It takes no memory.
@@ -268,6 +283,7 @@ impl<J: Judge + Drop> Match<J> {
         ensures { result ≡ self.2.record_ }
     {
         let Match { sheet, .. } = self;
-        sheet.into_record()
+        let Sheet { record_, .. } = sheet;
+        record_
     }
 }

@@ -1,6 +1,6 @@
 ghost use Rattle.std.specs.Prelude.{◌≡◌, Some, is_none};
 ghost use Rattle.bisect_game.specs.Rules.{is_fit, judged};
-ghost use Rattle.tournament.specs.Posting.{answer_of, same_qid, reply_by};
+ghost use Rattle.tournament.specs.Posting.{answer_of, reply_by};
 
 use bisect_game::{Judge, Kind, Settled};
 use rd_base::{Answer, Qid};
@@ -43,13 +43,6 @@ pub enum Reply {
     Spent,
     /// The question isn't the prover's open one, which stands here. Nothing changed, and the move is dropped.
     Stale(Option<Qid>),
-}
-
-/// Whether two numbers name the same question.
-pub fn same_qid(first: Qid, second: Qid) -> bool
-    ensures { result ≡ same_qid first second }
-{
-    first.dispute == second.dispute && first.round == second.round
 }
 
 /// Whether an answer is of the kind that was asked, with a root for each cut, and a claim sound.

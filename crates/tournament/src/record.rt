@@ -1,12 +1,11 @@
-ghost use Rattle.std.specs.Prelude.{◌≡◌, ◌+◌, ◌-◌, ◌<◌, ◌≤◌, ◌∷◌, ◌++◌, [], length, slice_get, slice_set, Some, None, IfOk, replicate, if◌then◌else◌};
-ghost use Rattle.bisect_game.specs.Bisection.{Bisection, asks, settle_side};
-ghost use Rattle.tournament.specs.Bracket.{claim_missing, claim_question, question_in, settled_in, put, is_complete};
-ghost use Rattle.tournament.specs.Keeping.{asked_from, and_also};
+ghost use Rattle.std.specs.Prelude.{◌≡◌, ◌+◌, ◌-◌, ◌<◌, ◌≤◌, ◌∷◌, [], length, slice_set, Some, None, IfOk, replicate};
+ghost use Rattle.tournament.specs.Bracket.{put};
+ghost use Rattle.tournament.specs.Keeping.{and_also};
 ghost use Rattle.tournament.specs.Posting.{rules_of};
 
-use crate::reading::{all_closed, all_there, asked_from, question_in};
-use bisect_game::{Dispute, Judge, Kind, Question, Settled, Side};
-use rd_base::{Memory, Qid};
+use crate::reading::asked_from;
+use bisect_game::{Dispute, Judge, Settled};
+use rd_base::Memory;
 use std::alloc::Global;
 use std::marker::Model;
 
@@ -65,24 +64,6 @@ impl Record {
         self.disputes.as_slice()
     }
 
-    /// The open question of a prover.
-    pub(crate) fn question(&self, p: u32) -> Option<Question>
-        requires some { 0 < p }
-        requires few { p ≤ length self.now.claims }
-        ensures { result ≡ (if claim_missing (slice_get self.now.claims (p - 1)) then Some claim_question else question_in p self.now.disputes) }
-    {
-        if self.claims[p as usize - 1].is_none() {
-            return Some(Question {
-                qid: Qid {
-                    dispute: 0,
-                    round: 0,
-                },
-                kind: Kind::Claim,
-            });
-        }
-        question_in(self.disputes.as_slice(), p)
-    }
-
     /// Adds a dispute.
     pub(crate) fn push(&mut self, dispute: Dispute)
         requires { length self.old.disputes + 1 < length self.old.claims }
@@ -100,14 +81,6 @@ impl Record {
         self.claims[p as usize - 1] = Some(settled);
     }
 
-    /// The answer of a prover is settled where it is asked.
-    fn settle_at<J: Judge>(&mut self, judge: &J, i: usize, side: Side, p: u32, settled: Settled)
-        requires { asked_from 0 p self.old.disputes ≡ Some (i, side) }
-        ensures { (setup : _) → self.new ≡ record self.old { disputes = settled_in (rules_of (J.ruling (J.names judge.now)) setup) p settled self.old.disputes } }
-    {
-        self.disputes[i].settle(judge, side, settled);
-    }
-
     /// What a prover is asked is settled.
     pub(crate) fn put<J: Judge>(&mut self, judge: &J, p: u32, settled: Settled)
         requires some { 0 < p }
@@ -118,14 +91,7 @@ impl Record {
             return self.put_claim(p, settled);
         }
         if let Some((i, side)) = asked_from(self.disputes.as_slice(), 0, p) {
-            self.settle_at(judge, i, side, p, settled);
+            self.disputes[i].settle(judge, side, settled);
         }
-    }
-
-    /// Whether nothing is open.
-    pub(crate) fn is_over(&self) -> bool
-        ensures { result ≡ is_complete self.now }
-    {
-        all_there(self.claims.as_slice()) && all_closed(self.disputes.as_slice())
     }
 }

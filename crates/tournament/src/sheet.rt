@@ -1,5 +1,5 @@
-ghost use Rattle.std.specs.Prelude.{◌≡◌, ◌+◌, ◌-◌, ◌<◌, ◌≤◌, ◌^◌, ◌∷◌, ◌++◌, [], length, vec_len, vec_capacity, Some, None, IfSome, IfOk, replicate, if◌then◌else◌};
-ghost use Rattle.tournament.specs.Bracket.{Record, put, is_stage_due, last_stage, stage_opened, is_complete, verdict_of, nothing_settled};
+ghost use Rattle.std.specs.Prelude.{◌≡◌, ◌+◌, ◌-◌, ◌<◌, ◌≤◌, ◌^◌, ◌∷◌, [], length, vec_len, vec_capacity, Some, None, IfSome, IfOk, replicate};
+ghost use Rattle.tournament.specs.Bracket.{Record, put, is_stage_due, last_stage, stage_opened, verdict_of};
 ghost use Rattle.tournament.specs.Keeping.{Sheet, other_from, side_pairs, dispute_at, disputes_over, and_also, AllRooms};
 ghost use Rattle.tournament.specs.Posting.{rules_of};
 
@@ -17,8 +17,8 @@ use std::marker::Model;
 /// A record with the numbers by which it is played and the rooms of the disputes to come.
 #[derive(Drop)]
 pub(crate) struct Sheet {
-    table: Setup,
-    record_: Record,
+    pub(crate) setup: Setup,
+    pub(crate) record_: Record,
     rooms: Vec<Room>,
 }
 
@@ -28,9 +28,9 @@ impl Model for Sheet {
 
     ghost Value = { Sheet };
 
-    ghost view = { λ s. record { table = s.table; record_ = s.record_ } };
+    ghost view = { λ s. record { setup = s.setup; record_ = s.record_ } };
 
-    ghost invariant = { λ s. IsSheet s.table s.record_ s.rooms.items (vec_len s.rooms) };
+    ghost invariant = { λ s. IsSheet s.setup s.record_ s.rooms.items (vec_len s.rooms) };
 }
 
 /// Where the first prover with another root stands, of provers the first of which stands at `i`.
@@ -78,59 +78,36 @@ impl Sheet {
         requires short { setup.bound < 2 ^ 32 }
         requires parted { 1 < setup.fan }
         requires few_parts { setup.fan ≤ 16 }
-        ensures { IfOk result (λ s. s ≡ record { table = setup; record_ = record { claims = replicate setup.provers None; disputes = [] } }) }
+        ensures { IfOk result (λ s. s ≡ record { setup = setup; record_ = record { claims = replicate setup.provers None; disputes = [] } }) }
     {
         let provers = setup.provers as usize;
         Ok(Sheet {
-            table: setup,
+            setup,
             record_: Record::new(alloc, provers)?,
             rooms: rooms_for(alloc, setup.bound, setup.fan, provers - 1)?,
         })
     }
 
-    /// The numbers by which it is played.
-    pub(crate) fn setup(&self) -> Setup
-        ensures { result ≡ self.now.table }
-    {
-        self.table
-    }
-
-    /// What is settled. For each prover it has a place for the claim.
-    pub(crate) fn record(&self) -> &Record
-        ensures value { result.now ≡ self.now.record_ }
-        ensures claims { length result.now.claims ≡ self.now.table.provers }
-    {
-        &self.record_
-    }
-
-    /// What was settled, without the rooms.
-    pub(crate) fn into_record(self) -> Record
-        ensures { result ≡ self.record_ }
-    {
-        let Sheet { record_, .. } = self;
-        record_
-    }
-
     /// Opens one dispute.
     fn open_one(&mut self, stage: u32, first: (u32, Digest32), second: (u32, Digest32))
-        requires few { length self.old.record_.disputes + 1 < self.old.table.provers }
+        requires few { length self.old.record_.disputes + 1 < self.old.setup.provers }
         requires stage { stage ≤ length self.old.record_.disputes + 1 }
-        ensures table { self.new.table ≡ self.old.table }
-        ensures record_ { self.new.record_ ≡ and_also self.old.record_ (dispute_at self.old.table stage (length self.old.record_.disputes + 1) first second ∷ []) }
+        ensures setup { self.new.setup ≡ self.old.setup }
+        ensures record_ { self.new.record_ ≡ and_also self.old.record_ (dispute_at self.old.setup stage (length self.old.record_.disputes + 1) first second ∷ []) }
     {
         let Some(room) = self.rooms.pop() else {
             unreachable!()
         };
         let number = self.record_.disputes().len() as u32 + 1;
-        self.record_.push(Dispute::new(room, stage, number, self.table.start, first, second));
+        self.record_.push(Dispute::new(room, stage, number, self.setup.start, first, second));
     }
 
     /// Opens the disputes of a stage, of at most so many pairs.
     fn open_pairs(&mut self, stage: u32, left: u32, live: &mut Vec<(u32, Digest32)>)
-        requires few { length self.old.record_.disputes + length (side_pairs left live.old.items) < self.old.table.provers }
+        requires few { length self.old.record_.disputes + length (side_pairs left live.old.items) < self.old.setup.provers }
         requires stage { stage ≤ length self.old.record_.disputes + 1 }
-        ensures table { self.new.table ≡ self.old.table }
-        ensures record_ { self.new.record_ ≡ and_also self.old.record_ (disputes_over self.old.table stage (length self.old.record_.disputes + 1) (side_pairs left live.old.items)) }
+        ensures setup { self.new.setup ≡ self.old.setup }
+        ensures record_ { self.new.record_ ≡ and_also self.old.record_ (disputes_over self.old.setup stage (length self.old.record_.disputes + 1) (side_pairs left live.old.items)) }
         ensures capacity { vec_capacity live.new ≡ vec_capacity live.old }
     {
         if left == 0 || live.is_empty() {
@@ -147,19 +124,9 @@ impl Sheet {
         }
     }
 
-    /// What a prover is asked is settled.
-    pub(crate) fn put<J: Judge>(&mut self, judge: &J, p: u32, settled: Settled)
-        requires some { 0 < p }
-        requires few { p ≤ self.old.table.provers }
-        ensures table { self.new.table ≡ self.old.table }
-        ensures record_ { self.new.record_ ≡ put (rules_of (J.ruling (J.names judge.now)) self.old.table) p settled self.old.record_ }
-    {
-        self.record_.put(judge, p, settled);
-    }
-
     /// Whether the next stage may begin.
     fn is_stage_due<J: Judge>(&self, judge: &J) -> bool
-        ensures { result ≡ is_stage_due (rules_of (J.ruling (J.names judge.now)) self.now.table) self.now.record_ }
+        ensures { result ≡ is_stage_due (rules_of (J.ruling (J.names judge.now)) self.now.setup) self.now.record_ }
     {
         all_there(self.record_.claims())
             && (all_out(self.record_.disputes())
@@ -175,17 +142,17 @@ impl Sheet {
     }
 
     /// Opens the next stage where it is due.
-    pub(crate) fn open_due<J: Judge>(&mut self, judge: &J, live: &mut Vec<(u32, Digest32)>)
-        requires few { length (stage_opened (rules_of (J.ruling (J.names judge.now)) self.old.table) self.old.record_).disputes < self.old.table.provers }
-        requires room { self.old.table.provers ≤ vec_capacity live.old }
-        ensures table { self.new.table ≡ self.old.table }
-        ensures record_ { self.new.record_ ≡ stage_opened (rules_of (J.ruling (J.names judge.now)) self.old.table) self.old.record_ }
+    fn open_due<J: Judge>(&mut self, judge: &J, live: &mut Vec<(u32, Digest32)>)
+        requires few { length (stage_opened (rules_of (J.ruling (J.names judge.now)) self.old.setup) self.old.record_).disputes < self.old.setup.provers }
+        requires room { self.old.setup.provers ≤ vec_capacity live.old }
+        ensures setup { self.new.setup ≡ self.old.setup }
+        ensures record_ { self.new.record_ ≡ stage_opened (rules_of (J.ruling (J.names judge.now)) self.old.setup) self.old.record_ }
         ensures capacity { vec_capacity live.new ≡ vec_capacity live.old }
     {
         if !self.is_stage_due(judge) {
             return;
         }
-        let provers = self.table.provers;
+        let provers = self.setup.provers;
         let stage = self.next_stage();
         live.clear();
         fill_live(
@@ -198,9 +165,29 @@ impl Sheet {
         self.open_pairs(stage, provers, live);
     }
 
+    /// What a prover is asked is settled, and the next stage opens where it is due.
+    pub(crate) fn settle<J: Judge>(
+        &mut self,
+        judge: &J,
+        p: u32,
+        settled: Settled,
+        live: &mut Vec<(u32, Digest32)>,
+    )
+        requires some { 0 < p }
+        requires few { p ≤ self.old.setup.provers }
+        requires disputes { length (stage_opened (rules_of (J.ruling (J.names judge.now)) self.old.setup) (put (rules_of (J.ruling (J.names judge.now)) self.old.setup) p settled self.old.record_)).disputes < self.old.setup.provers }
+        requires room { self.old.setup.provers ≤ vec_capacity live.old }
+        ensures setup { self.new.setup ≡ self.old.setup }
+        ensures record_ { self.new.record_ ≡ stage_opened (rules_of (J.ruling (J.names judge.now)) self.old.setup) (put (rules_of (J.ruling (J.names judge.now)) self.old.setup) p settled self.old.record_) }
+        ensures capacity { vec_capacity live.new ≡ vec_capacity live.old }
+    {
+        self.record_.put(judge, p, settled);
+        self.open_due(judge, live);
+    }
+
     /// The verdict of a match in which nothing is open.
-    fn verdict_now<J: Judge>(&self, judge: &J) -> Verdict
-        ensures { result ≡ verdict_of (rules_of (J.ruling (J.names judge.now)) self.now.table) self.now.record_ }
+    pub(crate) fn verdict<J: Judge>(&self, judge: &J) -> Verdict
+        ensures { result ≡ verdict_of (rules_of (J.ruling (J.names judge.now)) self.now.setup) self.now.record_ }
     {
         if let Some((x, y)) = claims_collision(judge, self.record_.claims()) {
             return Verdict::Collision(x, y);
@@ -209,16 +196,5 @@ impl Sheet {
             return Verdict::Collision(x, y);
         }
         lowest(self.record_.disputes(), 1, self.record_.claims())
-    }
-
-    /// The verdict; `None` if and only if a question is open.
-    pub(crate) fn verdict<J: Judge>(&self, judge: &J) -> Option<Verdict>
-        ensures { result ≡ (if is_complete self.now.record_ then Some (verdict_of (rules_of (J.ruling (J.names judge.now)) self.now.table) self.now.record_) else None) }
-    {
-        if self.record_.is_over() {
-            Some(self.verdict_now(judge))
-        } else {
-            None
-        }
     }
 }

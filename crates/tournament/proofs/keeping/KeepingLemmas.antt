@@ -1,6 +1,7 @@
 -- A sheet as it is kept.
 use Rattle.std.proofs.Common.{◌≡◌, ℕ, zero, suc, ◌+◌, ◌-◌, ◌<◌, ◌≤◌, max, Bool, true, false, if◌then◌else◌, List, [], ◌∷◌, ◌++◌, length, slice_index_or, slice_get, slice_set, Option, Some, None, is_some, refl, sym, ◌∙◌, ap, arith, length-append, append_assoc}
 use Rattle.std.specs.List.{remove}
+use Rattle.std.proofs.lemmas.Bool.{and_parts}
 use Rattle.rd_base.specs.declared.digest.Digest32.{Digest32}
 use Rattle.tournament.specs.declared.setup.Setup.{Setup}
 use Rattle.rd_base.specs.declared.claim.Claim.{Claim}
@@ -10,7 +11,6 @@ use Rattle.bisect_game.specs.declared.settled.Side.TheVariants.{First, Second}
 use Rattle.bisect_game.specs.Bisection.{Bisection, asks, settle_side, settle_first, settle_second}
 use Rattle.bisect_game.specs.Rules.{Rules}
 use Rattle.bisect_game.specs.Ruling.{Ruling, same_digest}
-use Rattle.tournament.proofs.OnceLemmas.{both}
 use Rattle.tournament.proofs.OpenedLemmas.{opened-due}
 use Rattle.tournament.proofs.SidesLemmas.{SameSides, sides-first, sides-second}
 use Rattle.tournament.specs.Bracket.{Record, last_stage, Taken, passed_over, take_other, pairs_of, side_of, disputes_of, asks_first, asks_second, settled_in, live, live_from, is_stage_due, stage_opened, put, claim_missing}
@@ -100,7 +100,7 @@ within-from k p i side (h ∷ hs) e = within-choice k p i (length hs) side hs (a
 pub asked-within : (p i : ℕ) (side : Side) (ds : List Bisection) (hs : List Bisection) → ds ≡ hs → asked_from 0 p ds ≡ Some (i, side) → i < length hs
 asked-within p i side ds hs same e = let w : i < 0 + length hs = within-from 0 p i side hs (rw same at e) in omega (arith, w)
 
-pub record AskedAt (rules : Rules) (p j : ℕ) (s : Settled) (side : Side) (hs : List Bisection) (x : Bisection) : Type 0 where
+record AskedAt (rules : Rules) (p j : ℕ) (s : Settled) (side : Side) (hs : List Bisection) (x : Bisection) : Type 0 where
   pub within : j < length hs
   pub asks_ : asks_of side p (slice_index_or hs j x) ≡ true
   pub settles : (y : Bisection) → y ≡ settle_side rules.ruling side s (slice_index_or hs j x) → settled_in rules p s hs ≡ slice_set hs j y
@@ -128,12 +128,12 @@ asked-at rules k p i j s side [] x e ij = absurd (cc)
 asked-at rules k p i j s side (h ∷ hs) x e ij =
     at-choice rules k p i j s side h hs x (asks_first p h) (asks_second p h) refl refl ij e (λ m f g. asked-at rules (k + 1) p i m s side hs x f g)
 
-pub asked-here : (rules : Rules) (p i : ℕ) (s : Settled) (side : Side) (ds : List Bisection) (hs : List Bisection) (x : Bisection) → ds ≡ hs → asked_from 0 p ds ≡ Some (i, side) → AskedAt rules p i s side hs x
+asked-here : (rules : Rules) (p i : ℕ) (s : Settled) (side : Side) (ds : List Bisection) (hs : List Bisection) (x : Bisection) → ds ≡ hs → asked_from 0 p ds ≡ Some (i, side) → AskedAt rules p i s side hs x
 asked-here rules p i s side ds hs x same e = asked-at rules 0 p i i s side hs x (rw same at e) (omega arith)
 
 pub asks-of : (side : Side) (p : ℕ) (d : Bisection) → asks_of side p d ≡ true → asks side d ≡ true
-asks-of First p d e = let two : (_ ≡ true) × (asks First d ≡ true) = both _ _ e in two.1
-asks-of Second p d e = let two : (_ ≡ true) × (asks Second d ≡ true) = both _ _ e in two.1
+asks-of First p d e = let two : (_ ≡ true) × (asks First d ≡ true) = and_parts _ _ e in two.1
+asks-of Second p d e = let two : (_ ≡ true) × (asks Second d ≡ true) = and_parts _ _ e in two.1
 
 pub asked-asks : (rules : Rules) (p i : ℕ) (s : Settled) (side : Side) (ds hs : List Bisection) (x : Bisection) → ds ≡ hs → asked_from 0 p ds ≡ Some (i, side) → x ≡ slice_index_or hs i x → asks side x ≡ true
 asked-asks rules p i s side ds hs x same e at =
@@ -320,6 +320,16 @@ put-nowhere rules p s t hs gs cs x ed ec ea ex there e =
     let a : asked_from 0 p t.disputes ≡ None = rw (ed, ← ea) (sym e) in
     let n : settled_in rules p s t.disputes ≡ t.disputes = nowhere rules 0 p s t.disputes a in
     rw (m, n) refl
+
+-- who is asked is settled where it is asked
+
+pub put-there : (rules : Rules) (p i : ℕ) (s : Settled) (side : Side) (t : Record) (hs gs : List Bisection) (cs : List (Option Settled)) (x : Option Settled) (d e : Bisection) → t.disputes ≡ hs → t.claims ≡ cs → gs ≡ hs →
+    x ≡ slice_index_or cs (p - 1) x → is_some x ≡ true → asked_from 0 p gs ≡ Some (i, side) → d ≡ slice_index_or hs i d → e ≡ settle_side rules.ruling side s d → record { claims = cs; disputes = slice_set hs i e } ≡ put rules p s t
+put-there rules p i s side t hs gs cs x d e ed ec ea ex there asked at is =
+    let m : claim_missing (slice_get t.claims (p - 1)) ≡ false = rw ec (claim-there cs (p - 1) x ex there) in
+    let a : AskedAt rules p i s side hs d = asked-here rules p i s side gs hs d ea asked in
+    let n : settled_in rules p s t.disputes ≡ slice_set hs i e = rw ed (a.settles e (is ∙ ap (λ (y : Bisection). settle_side rules.ruling side s y) at)) in
+    rw (m, n, ec) refl
 
 pub filled-live : (r : Ruling) (rec : Record) (hs gs : List Bisection) (cs bs : List (Option Settled)) (xs zs : List (ℕ × Digest32)) → rec.disputes ≡ hs → rec.claims ≡ cs → gs ≡ hs → bs ≡ cs → zs ≡ [] →
     xs ≡ zs ++ sides r (live_from gs 1 bs) → xs ≡ sides r (live rec)

@@ -11,7 +11,8 @@ use Rattle.tournament.proofs.PostLemmas.{IsSettled, settled-begun, after-last}
 use Rattle.tournament.specs.Bracket.{Record, open_question, stage_opened, put, settle, nothing_settled, is_complete, verdict_of}
 use Rattle.tournament.specs.Keeping.{Sheet, IsReached, IsMove, IsMatch}
 use Rattle.tournament.specs.Moves.{MatchState, begun, passes_of, settled_by, moved}
-use Rattle.tournament.specs.Posting.{rules_of, same_qid, posted, posted_on, Post, after_posts, record_after, NobodyAskedIsOver}
+use Rattle.rd_base.specs.Questions.{same_qid}
+use Rattle.tournament.specs.Posting.{rules_of, posted, posted_on, Post, after_posts, record_after, NobodyAskedIsOver}
 use Rattle.tournament.specs.Theorem.{AreTrue, Stays, TruthfulStay, IsRightVerdict, VerdictIsRight, FewDisputes, AllShort, FewRounds}
 
 -- a move on the open question is a post
@@ -48,37 +49,31 @@ settled-few rules p s t some i =
 reached-settled : (rules : Rules) (st : MatchState) → IsReached rules st → IsSettled rules st.record_
 reached-settled rules st r = rw r.1 at (settled-begun rules r.0)
 
-settle-is : (rules : Rules) (p : ℕ) (s : Settled) (t : Record) → stage_opened rules (put rules p s t) ≡ settle rules p s t
+pub settle-is : (rules : Rules) (p : ℕ) (s : Settled) (t : Record) → stage_opened rules (put rules p s t) ≡ settle rules p s t
 unfolding settle
 settle-is rules p s t = refl
 
-put-settles : (r : Ruling) (v u : Sheet) (p : ℕ) (s : Settled) → u.table ≡ v.table → u.record_ ≡ put (rules_of r v.table) p s v.record_ → stage_opened (rules_of r u.table) u.record_ ≡ settle (rules_of r v.table) p s v.record_
-put-settles r v u p s et er = rw (et, er) (settle-is (rules_of r v.table) p s v.record_)
-
-pub put-few : (r : Ruling) (v u : Sheet) (passed : List ℕ) (room p : ℕ) (s : Settled) → IsMatch r v passed room → u.table ≡ v.table → u.record_ ≡ put (rules_of r v.table) p s v.record_ →
-    length (stage_opened (rules_of r u.table) u.record_).disputes < u.table.provers
-put-few r v u passed room p s m et er =
-    let few : length (settle (rules_of r v.table) p s v.record_).disputes < v.table.provers = settled-few (rules_of r v.table) p s v.record_ m.some (reached-settled (rules_of r v.table) _ m.reached) in
-    rw (put-settles r v u p s et er, et) few
+pub put-few : (r : Ruling) (v : Sheet) (passed : List ℕ) (room p : ℕ) (s : Settled) → IsMatch r v passed room →
+    length (stage_opened (rules_of r v.setup) (put (rules_of r v.setup) p s v.record_)).disputes < v.setup.provers
+put-few r v passed room p s m =
+    rw (settle-is (rules_of r v.setup) p s v.record_) (settled-few (rules_of r v.setup) p s v.record_ m.some (reached-settled (rules_of r v.setup) _ m.reached))
 
 count-length : (xs : List ℕ) (k v : ℕ) → length (slice_set xs k v) ≡ length xs
 count-length [] k v = refl
 count-length (x ∷ xs) zero v = refl
 count-length (x ∷ xs) (suc k) v = ap suc (count-length xs k v)
 
-pub match-settled : (r : Ruling) (v u w : Sheet) (passed : List ℕ) (room wide p : ℕ) (s : Settled) → 0 < p → IsMove (rules_of r v.table) (record { record_ = v.record_; passed = passed }) p (Some s) →
-    IsMatch r v passed room → u.table ≡ v.table → u.record_ ≡ put (rules_of r v.table) p s v.record_ →
-    w.table ≡ u.table → w.record_ ≡ stage_opened (rules_of r u.table) u.record_ → wide ≡ room → IsMatch r w (slice_set passed (p - 1) 0) wide
-match-settled r v u w passed room wide p s some move m et er ft fr ew =
-    let wt : w.table ≡ v.table = ft ∙ et in
-    let wr : w.record_ ≡ settle (rules_of r v.table) p s v.record_ = fr ∙ put-settles r v u p s et er in
+pub match-settled : (r : Ruling) (v w : Sheet) (passed : List ℕ) (room wide p : ℕ) (s : Settled) → 0 < p → IsMove (rules_of r v.setup) (record { record_ = v.record_; passed = passed }) p (Some s) →
+    IsMatch r v passed room → w.setup ≡ v.setup → w.record_ ≡ stage_opened (rules_of r v.setup) (put (rules_of r v.setup) p s v.record_) → wide ≡ room → IsMatch r w (slice_set passed (p - 1) 0) wide
+match-settled r v w passed room wide p s some move m wt fr ew =
+    let wr : w.record_ ≡ settle (rules_of r v.setup) p s v.record_ = fr ∙ settle-is (rules_of r v.setup) p s v.record_ in
     record {
       some = rw wt m.some;
       steps = rw wt m.steps;
       parted = rw wt m.parted;
       few_parts = rw wt m.few_parts;
       counts = rw wt (count-length passed (p - 1) 0 ∙ m.counts);
-      reached = rw (wt, wr) (reached-move (rules_of r v.table) (record { record_ = v.record_; passed = passed }) p (Some s) some m.reached move);
+      reached = rw (wt, wr) (reached-move (rules_of r v.setup) (record { record_ = v.record_; passed = passed }) p (Some s) some m.reached move);
       room_ = rw (wt, ew) m.room_;
     }
 
@@ -87,7 +82,7 @@ index-same [] k d lt = absurd (omega arith)
 index-same (x ∷ xs) zero d lt = refl
 index-same (x ∷ xs) (suc k) d lt = index-same xs k d (omega arith)
 
-pub match-passed : (r : Ruling) (v : Sheet) (passed : List ℕ) (room p n : ℕ) → 0 < p → p ≤ v.table.provers → IsMove (rules_of r v.table) (record { record_ = v.record_; passed = passed }) p None →
+pub match-passed : (r : Ruling) (v : Sheet) (passed : List ℕ) (room p n : ℕ) → 0 < p → p ≤ v.setup.provers → IsMove (rules_of r v.setup) (record { record_ = v.record_; passed = passed }) p None →
     n ≡ slice_index_or passed (p - 1) n → IsMatch r v passed room → IsMatch r v (slice_set passed (p - 1) (n + 1)) room
 match-passed r v passed room p n some few move is m =
     let same : n ≡ slice_index passed (p - 1) = is ∙ index-same passed (p - 1) n (omega (arith, some, few, m.counts)) in
@@ -97,41 +92,37 @@ match-passed r v passed room p n some few move is m =
       parted = m.parted;
       few_parts = m.few_parts;
       counts = count-length passed (p - 1) (n + 1) ∙ m.counts;
-      reached = rw same (reached-move (rules_of r v.table) (record { record_ = v.record_; passed = passed }) p None some m.reached move);
+      reached = rw same (reached-move (rules_of r v.setup) (record { record_ = v.record_; passed = passed }) p None some m.reached move);
       room_ = m.room_;
     }
 
-pub settled-record : (r : Ruling) (v u w : Sheet) (p : ℕ) (s : Settled) → u.table ≡ v.table → u.record_ ≡ put (rules_of r v.table) p s v.record_ → w.record_ ≡ stage_opened (rules_of r u.table) u.record_ →
-    w.record_ ≡ settle (rules_of r v.table) p s v.record_
-settled-record r v u w p s et er fr = fr ∙ put-settles r v u p s et er
-
 -- what the laws over lists of posts say of a match
 
-match-playable : (r : Ruling) (s : Sheet) (passed : List ℕ) (room : ℕ) → IsMatch r s passed room → ArePlayable (rules_of r s.table)
+match-playable : (r : Ruling) (s : Sheet) (passed : List ℕ) (room : ℕ) → IsMatch r s passed room → ArePlayable (rules_of r s.setup)
 match-playable r s passed room m = record { some = m.some; parted = m.parted; few_parts = m.few_parts; steps = m.steps }
 
-match-record : (r : Ruling) (s : Sheet) (passed : List ℕ) (room : ℕ) (m : IsMatch r s passed room) → record_after (rules_of r s.table) m.reached.0 ≡ s.record_
+match-record : (r : Ruling) (s : Sheet) (passed : List ℕ) (room : ℕ) (m : IsMatch r s passed room) → record_after (rules_of r s.setup) m.reached.0 ≡ s.record_
 match-record r s passed room m = ap (λ (st : MatchState). st.record_) m.reached.1
 
 pub match-stays : TruthfulStay → (r : Ruling) (s : Sheet) (passed : List ℕ) (room : ℕ) → IsMatch r s passed room → IsFair r →
-    (t : Truth) (p : ℕ) → IsRun (rules_of r s.table) t → 0 < p → AreTrue (rules_of r s.table) t p s.record_ → Stays (rules_of r s.table) t p s.record_
+    (t : Truth) (p : ℕ) → IsRun (rules_of r s.setup) t → 0 < p → AreTrue (rules_of r s.setup) t p s.record_ → Stays (rules_of r s.setup) t p s.record_
 match-stays stay r s passed room m fair t p run some true_ =
-    let same : record_after (rules_of r s.table) m.reached.0 ≡ s.record_ = match-record r s passed room m in
-    rw same at (stay (rules_of r s.table) t m.reached.0 p (match-playable r s passed room m) fair run some (rw (← same) at true_))
+    let same : record_after (rules_of r s.setup) m.reached.0 ≡ s.record_ = match-record r s passed room m in
+    rw same at (stay (rules_of r s.setup) t m.reached.0 p (match-playable r s passed room m) fair run some (rw (← same) at true_))
 
 pub match-verdict : VerdictIsRight → (r : Ruling) (s : Sheet) (passed : List ℕ) (room : ℕ) → IsMatch r s passed room → IsFair r →
-    (t : Truth) (p : ℕ) → IsRun (rules_of r s.table) t → 0 < p → AreTrue (rules_of r s.table) t p s.record_ → is_complete s.record_ ≡ true →
-    IsRightVerdict (rules_of r s.table) t s.record_ (verdict_of (rules_of r s.table) s.record_)
+    (t : Truth) (p : ℕ) → IsRun (rules_of r s.setup) t → 0 < p → AreTrue (rules_of r s.setup) t p s.record_ → is_complete s.record_ ≡ true →
+    IsRightVerdict (rules_of r s.setup) t s.record_ (verdict_of (rules_of r s.setup) s.record_)
 match-verdict right r s passed room m fair t p run some true_ complete =
-    let same : record_after (rules_of r s.table) m.reached.0 ≡ s.record_ = match-record r s passed room m in
-    rw same at (right (rules_of r s.table) t m.reached.0 p (match-playable r s passed room m) fair run some (rw (← same) at true_) (rw (← same) at complete))
+    let same : record_after (rules_of r s.setup) m.reached.0 ≡ s.record_ = match-record r s passed room m in
+    rw same at (right (rules_of r s.setup) t m.reached.0 p (match-playable r s passed room m) fair run some (rw (← same) at true_) (rw (← same) at complete))
 
-pub match-disputes : FewDisputes → (r : Ruling) (s : Sheet) (passed : List ℕ) (room : ℕ) → IsMatch r s passed room → length s.record_.disputes < s.table.provers
-match-disputes few r s passed room m = rw (match-record r s passed room m) at (few (rules_of r s.table) m.reached.0 m.some)
+pub match-disputes : FewDisputes → (r : Ruling) (s : Sheet) (passed : List ℕ) (room : ℕ) → IsMatch r s passed room → length s.record_.disputes < s.setup.provers
+match-disputes few r s passed room m = rw (match-record r s passed room m) at (few (rules_of r s.setup) m.reached.0 m.some)
 
-pub match-rounds : FewRounds → (r : Ruling) (s : Sheet) (passed : List ℕ) (room : ℕ) → IsMatch r s passed room → AllShort (rules_of r s.table) s.record_.disputes
-match-rounds few r s passed room m = rw (match-record r s passed room m) at (few (rules_of r s.table) m.reached.0 (match-playable r s passed room m))
+pub match-rounds : FewRounds → (r : Ruling) (s : Sheet) (passed : List ℕ) (room : ℕ) → IsMatch r s passed room → AllShort (rules_of r s.setup) s.record_.disputes
+match-rounds few r s passed room m = rw (match-record r s passed room m) at (few (rules_of r s.setup) m.reached.0 (match-playable r s passed room m))
 
 pub match-over : NobodyAskedIsOver → (r : Ruling) (s : Sheet) (passed : List ℕ) (room : ℕ) → IsMatch r s passed room →
-    ((p : ℕ) → 0 < p → p ≤ s.table.provers → open_question (rules_of r s.table) s.record_ p ≡ None) ↔ (is_complete s.record_ ≡ true)
-match-over over r s passed room m = rw (match-record r s passed room m) at (over (rules_of r s.table) m.reached.0 (match-playable r s passed room m))
+    ((p : ℕ) → 0 < p → p ≤ s.setup.provers → open_question (rules_of r s.setup) s.record_ p ≡ None) ↔ (is_complete s.record_ ≡ true)
+match-over over r s passed room m = rw (match-record r s passed room m) at (over (rules_of r s.setup) m.reached.0 (match-playable r s passed room m))

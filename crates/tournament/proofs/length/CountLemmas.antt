@@ -1,6 +1,7 @@
 -- m provers play at most m - 1 disputes.
 use Rattle.std.proofs.Common.{◌≡◌, ℕ, zero, suc, ◌+◌, ◌-◌, ◌*◌, ◌<◌, ◌≤◌, Bool, true, false, not, ◌&&◌, ◌||◌, ◌==◌, if◌then◌else◌, List, [], ◌∷◌, ◌++◌, length, replicate, slice_get, slice_set, ◌⊎◌, inl, inr, Option, Some, None, is_some, is_none, refl, ◌∙◌, ap, arith, append-nil, length-append}
 use Rattle.std.proofs.lemmas.Bool.Decides.{nat_tests}
+use Rattle.std.proofs.lemmas.Bool.{and_parts, cases_Bool}
 use Rattle.rd_base.specs.declared.answer.Answer.TheVariants as answer
 use Rattle.bisect_game.specs.declared.settled.Interval.{Interval}
 use Rattle.bisect_game.specs.declared.settled.Settled.TheVariants.{Given}
@@ -14,7 +15,6 @@ use Rattle.bisect_game.specs.Closing.{both_proved, closed_by, close_of, is_out, 
 use Rattle.bisect_game.specs.Rules.{Rules}
 use Rattle.bisect_game.specs.Ruling.{Ruling, same_digest}
 use Rattle.tournament.proofs.OpenedLemmas.{opened-not, opened-due}
-use Rattle.tournament.proofs.ReachLemmas.{either}
 use Rattle.tournament.proofs.SidesLemmas.{SameSides, sides-first, sides-second}
 use Rattle.tournament.specs.Bracket.{Record, is_out_by, is_out_in, claim_in, also, live_from, Taken, passed_over, take_other, pairs_of, pairs, last_stage, disputes_of, all_there, all_out, put_out, is_stage_due, stage_opened, nothing_settled, asks_first, asks_second, claim_missing, settled_in, put, settle}
 use Rattle.tournament.specs.Settling.{after}
@@ -177,16 +177,12 @@ one-more : (out more : ℕ → Bool) (ps : List Pair) → OneOut out ps → OneO
 one-more out more [] o = tt
 one-more out more (p ∷ ps) o = (wider (more p.0.0) (out p.0.0) (more p.1.0) (out p.1.0) o.0, one-more out more ps o.1)
 
-both : (a b : Bool) → (a && b) ≡ true → (a ≡ true) × (b ≡ true)
-both true b e = (refl, e)
-both false b e = absurd (cc)
-
 stage-out : (ps : List Pair) (ds : List Bisection) → SidesOf ps ds → all_out ds ≡ true → AllHonest ds → OneOut (is_out_in ds) ps
 stage-out [] [] s e h = tt
 stage-out [] (d ∷ ds) s e h = tt
 stage-out (p ∷ ps) [] s e h = absurd s
 stage-out (p ∷ ps) (d ∷ ds) s e h =
-    let two : (put_out d.close ≡ true) × (all_out ds ≡ true) = both (put_out d.close) (all_out ds) e in (
+    let two : (put_out d.close ≡ true) × (all_out ds ≡ true) = and_parts (put_out d.close) (all_out ds) e in (
       out-of-pair d d.close p.0.0 p.1.0 (is_out_in ds p.0.0) (is_out_in ds p.1.0) two.0 h.0 s.0 s.1,
       one-more (is_out_in ds) (λ q. is_out_by d d.close q) ps (stage-out ps ds s.2 two.1 h.1),
     )
@@ -234,7 +230,7 @@ past-choice rules p s d ds es false false ex ey e = ap (λ (zs : List Bisection)
 settled-past : (rules : Rules) (p : ℕ) (s : Settled) (ds es : List Bisection) → all_out ds ≡ true → settled_in rules p s (ds ++ es) ≡ ds ++ settled_in rules p s es
 settled-past rules p s [] es e = refl
 settled-past rules p s (d ∷ ds) es e =
-    let two : (put_out d.close ≡ true) × (all_out ds ≡ true) = both (put_out d.close) (all_out ds) e in
+    let two : (put_out d.close ≡ true) × (all_out ds ≡ true) = and_parts (put_out d.close) (all_out ds) e in
     let ex : asks_first p d ≡ false = asked-not (d.first == p) d.by_first d.close two.0 in
     let ey : asks_second p d ≡ false = asked-not (d.second == p) d.by_second d.close two.0 in
     rw (ex, ey) (ap (λ (zs : List Bisection). d ∷ zs) (settled-past rules p s ds es two.1))
@@ -267,7 +263,7 @@ honest-both (d ∷ ds) es h k = (h.0, honest-both ds es h.1 k)
 
 out-second : (ds es : List Bisection) → all_out (ds ++ es) ≡ true → all_out es ≡ true
 out-second [] es e = e
-out-second (d ∷ ds) es e = let two : (_ ≡ true) × (all_out (ds ++ es) ≡ true) = both (put_out d.close) (all_out (ds ++ es)) e in out-second ds es two.1
+out-second (d ∷ ds) es e = let two : (_ ≡ true) × (all_out (ds ++ es) ≡ true) = and_parts (put_out d.close) (all_out (ds ++ es)) e in out-second ds es two.1
 
 honest-second : (ds es : List Bisection) → AllHonest (ds ++ es) → AllHonest es
 honest-second [] es h = h
@@ -415,10 +411,10 @@ ordered-next rules t (q ∷ ps) e there outs o =
 
 pub ordered-opened : (rules : Rules) (t : Record) → IsOrdered rules t → IsOrdered rules (stage_opened rules t)
 ordered-opened rules t o =
-    elim (either (is_stage_due rules t)) [
+    elim (cases_Bool (is_stage_due rules t)) [
       | inl due ↦
-          let two : (all_there t.claims ≡ true) × (_ ≡ true) = both (all_there t.claims) _ due in
-          let outs : (all_out t.disputes ≡ true) × (_ ≡ true) = both (all_out t.disputes) _ two.1 in
+          let two : (all_there t.claims ≡ true) × (_ ≡ true) = and_parts (all_there t.claims) _ due in
+          let outs : (all_out t.disputes ≡ true) × (_ ≡ true) = and_parts (all_out t.disputes) _ two.1 in
           rw (opened-due rules t due) (ordered-next rules t (pairs rules t) refl two.0 outs.0 o)
       | inr not_due ↦ rw (opened-not rules t not_due) o
     ]

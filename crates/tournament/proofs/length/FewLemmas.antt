@@ -1,6 +1,7 @@
 -- Each dispute of a match has few rounds.
 use Rattle.std.proofs.Common.{◌≡◌, ◌∙◌, ℕ, ◌+◌, ◌-◌, ◌*◌, ◌^◌, ◌<◌, ◌≤◌, Bool, true, false, List, [], ◌∷◌, ◌++◌, length, inl, inr, Some, refl, arith, slice_get, slice_set, if◌then◌else◌}
 use Rattle.std.proofs.Math.Nat.{mul-le-mul_left, pow-zero}
+use Rattle.std.proofs.lemmas.Bool.{cases_Bool}
 use Rattle.bisect_game.specs.declared.settled.Side.{Side}
 use Rattle.bisect_game.specs.declared.settled.Side.TheVariants.{First, Second}
 use Rattle.bisect_game.specs.declared.settled.Settled.{Settled}
@@ -10,7 +11,6 @@ use Rattle.bisect_game.specs.Bisection.{Bisection, proof_rounds_in, settle_side,
 use Rattle.bisect_game.specs.Laws.{IsFew}
 use Rattle.bisect_game.specs.Rules.{Rules, ArePlayable}
 use Rattle.tournament.proofs.OpenedLemmas.{opened-not, opened-due}
-use Rattle.tournament.proofs.ReachLemmas.{either}
 use Rattle.tournament.proofs.SidesLemmas.{SameSides, sides-first, sides-second}
 use Rattle.tournament.specs.Bracket.{Record, pairs, last_stage, disputes_of, is_stage_due, stage_opened, nothing_settled, asks_first, asks_second, claim_missing, settled_in, put, settle}
 use Rattle.tournament.specs.Numbers.{AllHaveFan}
@@ -60,7 +60,7 @@ module _ (laws : BisectionLaws) where
 
   few-opened : (rules : Rules) (t : Record) → 1 < rules.fan → 0 < rules.bound → AllFew rules t.disputes → AllFew rules (stage_opened rules t).disputes
   few-opened rules t more long h =
-      elim (either (is_stage_due rules t)) [
+      elim (cases_Bool (is_stage_due rules t)) [
         | inl due ↦ rw (opened-due rules t due) (few-both rules t.disputes _ h (few-new rules (last_stage t.disputes + 1) (length t.disputes + 1) (pairs rules t) more long))
         | inr not_due ↦ rw (opened-not rules t not_due) h
       ]

@@ -1,6 +1,7 @@
 -- No legal journal is longer than the passes of all questions and one answer of each.
 use Rattle.std.proofs.Common.{◌≡◌, ℕ, zero, suc, ◌+◌, ◌-◌, ◌*◌, ◌<◌, ◌≤◌, Bool, true, false, not, ◌&&◌, ◌||◌, ◌==◌, if◌then◌else◌, List, [], ◌∷◌, ◌++◌, length, replicate, slice_get, slice_set, slice_index, ◌⊎◌, inl, inr, Option, Some, None, is_some, is_none, refl, sym, ◌∙◌, ap, arith, length-append}
 use Rattle.std.proofs.Math.Nat.{mul-le-mul_left}
+use Rattle.std.proofs.lemmas.Bool.{cases_Bool}
 use Rattle.bisect_game.specs.Ruling.{Ruling}
 use Rattle.bisect_game.specs.declared.question.Question.{Question}
 use Rattle.bisect_game.specs.declared.settled.Settled.{Settled}
@@ -15,7 +16,6 @@ use Rattle.tournament.proofs.order.JournalLemmas.{IsCount, AreCounts, counts-beg
 use Rattle.tournament.specs.OpenDisputes.{one_if}
 use Rattle.tournament.proofs.OnceLemmas.{IsOpen, opens, is-prover, not-eqb, is-eqb}
 use Rattle.tournament.proofs.OpenedLemmas.{opened-not, opened-due}
-use Rattle.tournament.proofs.ReachLemmas.{either}
 use Rattle.tournament.specs.Bracket.{Record, claim_question, pairs, last_stage, disputes_of, is_stage_due, stage_opened, asks_first, asks_second, question_in, claim_missing, open_question, settled_in, put, settle}
 use Rattle.tournament.specs.Journals.{turn, turns}
 use Rattle.tournament.specs.Length.{IsMost, most_entries, SpareIsEnough}
@@ -132,7 +132,7 @@ module _ (laws : BisectionLaws) where
 
   count-opened : (rules : Rules) (t : Record) → settled_count t ≤ settled_count (stage_opened rules t)
   count-opened rules t =
-      elim (either (is_stage_due rules t)) [
+      elim (cases_Bool (is_stage_due rules t)) [
         | inl due ↦ rw (opened-due rules t due) (omega (arith, answered-both t.disputes (disputes_of rules (last_stage t.disputes + 1) (length t.disputes + 1) (pairs rules t))))
         | inr not_due ↦ rw (opened-not rules t not_due) (omega arith)
       ]
@@ -193,7 +193,7 @@ module _ (laws : BisectionLaws) where
   over-once : (x k n : ℕ) (b : Bool) → over k n (λ p. one_if ((x == p) && b)) ≤ one_if b
   over-once x k zero b = omega arith
   over-once x k (suc n) b =
-      elim (either (x == k)) [
+      elim (cases_Bool (x == k)) [
         | inl e ↦ let same : x ≡ k = is-eqb x k e in omega (arith, one-most (x == k) b, over-past x (k + 1) n b (omega arith))
         | inr e ↦ omega (arith, one-and (x == k) b e, over-once x (k + 1) n b)
       ]

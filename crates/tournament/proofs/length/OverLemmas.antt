@@ -1,15 +1,15 @@
 -- A match in which nobody is asked is complete.
 use Rattle.std.proofs.Common.{◌≡◌, ◌↔◌, ℕ, zero, suc, ◌+◌, ◌-◌, ◌<◌, ◌≤◌, Bool, true, false, ◌&&◌, ◌||◌, ◌==◌, if◌then◌else◌, List, [], ◌∷◌, ◌++◌, length, slice_get, slice_set, inl, inr, Option, Some, None, is_some, is_none, refl, arith}
 use Rattle.std.proofs.lemmas.Bool.Decides.{nat_tests}
+use Rattle.std.proofs.lemmas.Bool.{and_parts, cases_Bool}
 use Rattle.bisect_game.specs.declared.question.Question.{Question}
 use Rattle.bisect_game.specs.declared.settled.Settled.{Settled}
 use Rattle.rd_base.specs.declared.claim.Claim.{Claim}
 use Rattle.bisect_game.specs.declared.settled.Close.{Close}
 use Rattle.bisect_game.specs.Bisection.{Bisection, is_closed, question_of, settle_first, settle_second}
 use Rattle.bisect_game.specs.Rules.{Rules}
-use Rattle.tournament.proofs.OnceLemmas.{IsApart, both, apart-nothing, apart-settle, engaged-asked, is-prover, or-left, or-right}
+use Rattle.tournament.proofs.OnceLemmas.{IsApart, apart-nothing, apart-settle, engaged-asked, is-prover, or-left, or-right}
 use Rattle.tournament.proofs.OpenedLemmas.{opened-not, opened-due}
-use Rattle.tournament.proofs.ReachLemmas.{either}
 use Rattle.tournament.specs.Bracket.{Record, claim_question, pairs, last_stage, disputes_of, is_stage_due, stage_opened, nothing_settled, asks_first, asks_second, question_in, claim_missing, open_question, settled_in, put, settle, all_there, all_closed, is_complete}
 use Rattle.tournament.specs.Settling.{after}
 use Rattle.bisect_game.specs.OverAnswers.{Waits, IsWaiting}
@@ -53,7 +53,7 @@ module _ (laws : BisectionLaws) where
 
   moves-opened : (rules : Rules) (t : Record) → AllMove t.disputes → AllMove (stage_opened rules t).disputes
   moves-opened rules t a =
-      elim (either (is_stage_due rules t)) [
+      elim (cases_Bool (is_stage_due rules t)) [
         | inl due ↦ rw (opened-due rules t due) (moves-both t.disputes _ a (moves-new rules (last_stage t.disputes + 1) (length t.disputes + 1) (pairs rules t)))
         | inr not_due ↦ rw (opened-not rules t not_due) a
       ]
@@ -92,7 +92,7 @@ module _ (laws : BisectionLaws) where
 
   asked-further : (d : Bisection) (ds : List Bisection) → IsAsked ds → IsAsked (d ∷ ds)
   asked-further d ds i =
-      elim (either (asks_first i.prover d || asks_second i.prover d)) [
+      elim (cases_Bool (asks_first i.prover d || asks_second i.prover d)) [
         | inl here ↦ asked-true i.prover d ds here
         | inr further ↦ record { prover = i.prover; question = i.question; asked = rw further i.asked }
       ]
@@ -124,19 +124,19 @@ module _ (laws : BisectionLaws) where
 
   pub complete-is : (rules : Rules) (t : Record) → ((p : ℕ) → IsApart rules p t) → AllMove t.disputes → ((p : ℕ) → 0 < p → p ≤ rules.provers → open_question rules t p ≡ None) → is_complete t ≡ true
   complete-is rules t apart moves none =
-      elim (either (all_there t.claims)) [
+      elim (cases_Bool (all_there t.claims)) [
         | inr part ↦
             let m : (k : ℕ) × (claim_missing (slice_get t.claims k) ≡ true) = missing-at t.claims part in
             let at : m.0 + 1 - 1 ≡ m.0 = omega arith in
             let e : open_question rules t (m.0 + 1) ≡ Some claim_question = rw (at, m.1) refl in
             absurd (some-none (m.0 + 1) rules t claim_question apart none (omega arith) e)
         | inl whole ↦
-            elim (either (all_closed t.disputes)) [
+            elim (cases_Bool (all_closed t.disputes)) [
               | inl closed ↦ rw (whole, closed) refl
               | inr open_ ↦
                   let i : IsAsked t.disputes = asked-some t.disputes moves open_ in
                   let e : open_question rules t i.prover ≡ Some i.question = rw (there-at t.claims (i.prover - 1) whole) i.asked in
-                  elim (either (i.prover == 0)) [
+                  elim (cases_Bool (i.prover == 0)) [
                     | inl zero_ ↦ let z : i.prover ≡ 0 = grind (arith, nat_tests) in absurd (let a : IsApart rules i.prover t = apart i.prover in omega (arith, a.numbered z, engaged-asked i.prover i.question t.disputes i.asked))
                     | inr more ↦ let some : 0 < i.prover = grind (arith, nat_tests) in absurd (some-none i.prover rules t i.question apart none some e)
                   ]
@@ -161,12 +161,12 @@ module _ (laws : BisectionLaws) where
   closed-none : (p : ℕ) (ds : List Bisection) → all_closed ds ≡ true → question_in p ds ≡ None
   closed-none p [] e = refl
   closed-none p (d ∷ ds) e =
-      let two : (is_closed d ≡ true) × (all_closed ds ≡ true) = both (is_closed d) (all_closed ds) e in
+      let two : (is_closed d ≡ true) × (all_closed ds ≡ true) = and_parts (is_closed d) (all_closed ds) e in
       rw (closed-not p d two.0) (closed-none p ds two.1)
 
   complete-none : (rules : Rules) (t : Record) (p : ℕ) → is_complete t ≡ true → open_question rules t p ≡ None
   complete-none rules t p e =
-      let two : (all_there t.claims ≡ true) × (all_closed t.disputes ≡ true) = both (all_there t.claims) (all_closed t.disputes) e in
+      let two : (all_there t.claims ≡ true) × (all_closed t.disputes ≡ true) = and_parts (all_there t.claims) (all_closed t.disputes) e in
       rw (there-at t.claims (p - 1) two.0) (closed-none p t.disputes two.1)
 
   pub over-after : (rules : Rules) (es : List (ℕ × Settled)) →

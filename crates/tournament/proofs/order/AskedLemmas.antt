@@ -2,6 +2,7 @@
 use Rattle.std.proofs.Common.{◌≡◌, ◌≢◌, ℕ, zero, suc, ◌+◌, ◌-◌, ◌<◌, ◌≤◌, Bool, true, false, ◌||◌, ◌==◌, if◌then◌else◌, List, [], ◌∷◌, ◌++◌, length, map, slice_get, slice_set, ◌⊎◌, inl, inr, Option, Some, None, refl, ◌∙◌, ap, subst, arith}
 use Rattle.std.proofs.lemmas.Bool.Decides.{nat_tests}
 use Rattle.std.specs.Fn.{iterate}
+use Rattle.std.proofs.lemmas.Bool.{cases_Bool}
 use Rattle.bisect_game.specs.Ruling.{Ruling}
 use Rattle.bisect_game.specs.declared.settled.Interval.{Interval}
 use Rattle.bisect_game.specs.declared.settled.Round.{Round}
@@ -19,7 +20,7 @@ use Rattle.bisect_game.specs.Says.{Says}
 use Rattle.tournament.proofs.order.JournalLemmas.{AreCounts, counts-begun, turned, Turned, Passed, Settles, counts-turn, turns-keep, at-other}
 use Rattle.tournament.proofs.OnceLemmas.{IsApart, IsOpen, opens, not-eqb, stays-asked}
 use Rattle.tournament.proofs.OpenedLemmas.{opened-not, opened-due}
-use Rattle.tournament.proofs.ReachLemmas.{either, Reaches}
+use Rattle.tournament.proofs.ReachLemmas.{Reaches}
 use Rattle.tournament.proofs.SidesLemmas.{round-closed, round-open}
 use Rattle.tournament.proofs.StageLemmas.{IsPlayed, played-settle, played-nothing, steps-settle}
 use Rattle.tournament.proofs.order.StagedLemmas.{bracket-fixed}
@@ -103,7 +104,7 @@ module _ (laws : BisectionLaws) where
 
   on-round : (ruling : Ruling) (f : Answers) (d : Bisection) → GoesOn d (round_over ruling f d)
   on-round ruling f d =
-      elim (either (is_closed d)) [
+      elim (cases_Bool (is_closed d)) [
         | inl closed ↦ rw (round-closed ruling f d closed) (on-same d)
         | inr open_ ↦
             let filled_ : GoesOn d (filled f d) = record { number = refl; first = refl; second = refl; kinds = λ k x e. e } in
@@ -121,7 +122,7 @@ module _ (laws : BisectionLaws) where
 
   all-opened : (rules : Rules) (t : Record) → AllGoOn t.disputes (stage_opened rules t).disputes
   all-opened rules t =
-      elim (either (is_stage_due rules t)) [
+      elim (cases_Bool (is_stage_due rules t)) [
         | inl due ↦ rw (opened-due rules t due) (all-append t.disputes _)
         | inr not_due ↦ rw (opened-not rules t not_due) (all-same t.disputes)
       ]
@@ -141,7 +142,7 @@ module _ (laws : BisectionLaws) where
 
   kind-on : (round : ℕ) (d e : Bisection) (x : Kind) → GoesOn d e → kind_of d round ≡ Some x → kind_of e round ≡ Some x
   kind-on round d e x g is =
-      elim (either (round == 0)) [
+      elim (cases_Bool (round == 0)) [
         | inl zero_ ↦ let none : kind_of d round ≡ None = rw zero_ refl in absurd (cc)
         | inr more ↦ rw more (g.kinds (round - 1) x (rw more at is))
       ]
@@ -166,7 +167,7 @@ module _ (laws : BisectionLaws) where
 
   pub asked-further : (rules : Rules) (t u : Record) (p : ℕ) (qid : Qid) (x : Kind) → AllGoOn t.disputes u.disputes → asked rules t p qid ≡ Some x → asked rules u p qid ≡ Some x
   asked-further rules t u p qid x g is =
-      elim (either (qid.dispute == 0)) [
+      elim (cases_Bool (qid.dispute == 0)) [
         | inl claim ↦ rw claim (rw claim at is)
         | inr dispute ↦ rw dispute (asked-on p qid t.disputes u.disputes x g (rw dispute at is))
       ]
@@ -183,7 +184,7 @@ module _ (laws : BisectionLaws) where
 
   numbered-opened : (rules : Rules) (t : Record) → Numbered 1 t.disputes → Numbered 1 (stage_opened rules t).disputes
   numbered-opened rules t a =
-      elim (either (is_stage_due rules t)) [
+      elim (cases_Bool (is_stage_due rules t)) [
         | inl due ↦
             let e : length t.disputes + 1 ≡ 1 + length t.disputes = omega arith in
             rw (opened-due rules t due) (numbered-both 1 t.disputes _ a (subst (λ (n : ℕ). Numbered n (disputes_of rules (last_stage t.disputes + 1) (length t.disputes + 1) (pairs rules t))) e (numbered-new rules (last_stage t.disputes + 1) (length t.disputes + 1) (pairs rules t))))

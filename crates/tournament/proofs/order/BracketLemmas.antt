@@ -2,6 +2,7 @@
 use Rattle.std.proofs.Common.{◌≡◌, ℕ, zero, suc, ◌+◌, ◌-◌, ◌<◌, ◌≤◌, nat_le, true, List, [], ◌∷◌, length, map, ◌⊎◌, inl, inr, Option, Some, None, refl, sym, ◌∙◌, ap, arith, append-nil, length-append}
 use Rattle.std.proofs.lemmas.Bool.Decides.{nat_tests}
 use Rattle.std.specs.Fn.{iterate}
+use Rattle.std.proofs.lemmas.Bool.{cases_Bool}
 use Rattle.bisect_game.specs.declared.question.Question.{Question}
 use Rattle.rd_base.specs.declared.claim.Claim.{Claim}
 use Rattle.bisect_game.specs.declared.settled.Settled.{Settled}
@@ -12,7 +13,7 @@ use Rattle.bisect_game.specs.Says.{Says}
 use Rattle.tournament.proofs.length.CountLemmas.{IsOrdered, ordered-settle, ordered-nothing, fewer}
 use Rattle.tournament.proofs.order.JournalLemmas.{ends-journal, counts-begun}
 use Rattle.tournament.proofs.OpenedLemmas.{opened-not, opened-due}
-use Rattle.tournament.proofs.ReachLemmas.{either, iterate-fixed, reach_one}
+use Rattle.tournament.proofs.ReachLemmas.{iterate-fixed, reach_one}
 use Rattle.tournament.proofs.RoundLemmas.{IsWithin, within-advanced}
 use Rattle.tournament.proofs.SidesLemmas.{round-closed, round-open}
 use Rattle.tournament.proofs.StageLemmas.{AllWithin, within-opened, Ends, played-nothing}
@@ -29,7 +30,7 @@ module _ (laws : BisectionLaws) where
 
   within-round : (rules : Rules) (f : Answers) (d : Bisection) → 1 < rules.fan → IsWithin rules d → IsWithin rules (round_over rules.ruling f d)
   within-round rules f d more w =
-      elim (either (is_closed d)) [
+      elim (cases_Bool (is_closed d)) [
         | inl closed ↦ rw (round-closed rules.ruling f d closed) w
         | inr still ↦ rw (round-open rules.ruling f d still) ((within-advanced laws) rules (filled f d) (filled f d).by_first (filled f d).by_second more (record { fanned = w.fanned; some = w.some; high = w.high; past = w.past }))
       ]
@@ -104,14 +105,14 @@ module _ (laws : BisectionLaws) where
 
   grows : (rules : Rules) (f : Answers) (t : Record) → 1 < rules.fan → AllWithin rules t.disputes → Grows rules f t
   grows rules f t more w =
-      elim (either (is_stage_due rules (carried rules f t))) [
+      elim (cases_Bool (is_stage_due rules (carried rules f t))) [
         | inl due ↦ grows-by rules f t (pairs rules (carried rules f t)) more w due refl
         | inr not_due ↦ inl (still rules f t more w (opened-not rules (carried rules f t) not_due))
       ]
 
   longer : (rules : Rules) (f : Answers) (t : Record) → 1 < rules.fan → AllWithin rules t.disputes → length t.disputes ≤ length (stage_over rules f t).disputes
   longer rules f t more w =
-      elim (either (is_stage_due rules (carried rules f t))) [
+      elim (cases_Bool (is_stage_due rules (carried rules f t))) [
         | inl due ↦ rw (opened-due rules (carried rules f t) due, length-append (carried rules f t).disputes _, carried-length rules f t) (omega arith)
         | inr not_due ↦ rw (opened-not rules (carried rules f t) not_due, carried-length rules f t) (omega arith)
       ]
@@ -150,7 +151,7 @@ module _ (laws : BisectionLaws) where
       elim (reach-fixed rules f rules.provers (nothing_settled rules) more long tt) [
         | inl fixed ↦ reach_one (stage_over rules f) e.reaches.0 rules.provers (nothing_settled rules) z _ e.fixed fixed e.reaches.1 refl
         | inr many ↦
-            elim (either (nat_le rules.provers e.reaches.0)) [
+            elim (cases_Bool (nat_le rules.provers e.reaches.0)) [
               | inl le ↦
                   let q : e.reaches.0 ≡ rules.provers + (e.reaches.0 - rules.provers) = grind (arith, nat_tests) in
                   let further : length (iterate (stage_over rules f) rules.provers (nothing_settled rules)).disputes ≤ length (iterate (stage_over rules f) (e.reaches.0 - rules.provers) (iterate (stage_over rules f) rules.provers (nothing_settled rules))).disputes =

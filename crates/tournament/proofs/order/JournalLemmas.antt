@@ -1,6 +1,7 @@
 -- A move as its prover says settles what is settled of its question.
 use Rattle.std.proofs.Common.{◌≡◌, ◌≢◌, ℕ, zero, suc, ◌+◌, ◌-◌, ◌<◌, ◌≤◌, nat_lt, Bool, true, false, ◌==◌, if◌then◌else◌, List, [], ◌∷◌, replicate, length, slice_index, slice_set, ◌⊎◌, inl, inr, Option, Some, None, refl, sym, ◌∙◌, ap, subst, arith}
 use Rattle.std.proofs.lemmas.Bool.Decides.{nat_tests}
+use Rattle.std.proofs.lemmas.Bool.{cases_Bool}
 use Rattle.bisect_game.specs.declared.question.Question.{Question}
 use Rattle.rd_base.specs.declared.answer.Answer.{Answer}
 use Rattle.bisect_game.specs.declared.settled.Settled.{Settled}
@@ -8,7 +9,7 @@ use Rattle.bisect_game.specs.declared.settled.Settled.TheVariants.{Spent}
 use Rattle.bisect_game.specs.Rules.{Rules}
 use Rattle.bisect_game.specs.Says.{Says}
 use Rattle.tournament.proofs.OnceLemmas.{IsApart, is-eqb, apart-nothing, apart-settle, stays-asked}
-use Rattle.tournament.proofs.ReachLemmas.{either, reach_back, reach_one}
+use Rattle.tournament.proofs.ReachLemmas.{reach_back, reach_one}
 use Rattle.tournament.proofs.StageLemmas.{IsPlayed, played-settle, steps-settle, Ends, complete-fixed, played-nothing}
 use Rattle.tournament.specs.Bracket.{Record, open_question, settle, stage_over, nothing_settled, is_complete}
 use Rattle.tournament.specs.Journals.{turn, turn_on, turns, Legal, said, settled_after, answers_of, OrderDoesNotMatter}
@@ -75,7 +76,7 @@ module _ (laws : BisectionLaws) where
   counts-passed : (rules : Rules) (says : Says) (st : MatchState) (p : ℕ) (q : Question) → 0 < p → open_question rules st.record_ p ≡ Some q → AreCounts rules says st →
       IsCount rules says p q (passes_of st p + 1) → AreCounts rules says (moved rules st p None)
   counts-passed rules says st p q some e cs c = record {
-    counts = λ r other. elim (either (p == r)) [
+    counts = λ r other. elim (cases_Bool (p == r)) [
       | inl same ↦
           let pr : p ≡ r = is-eqb p r same in
           subst (λ (x : ℕ). IsCountIn rules says (moved rules st p None) x) pr
@@ -101,7 +102,7 @@ module _ (laws : BisectionLaws) where
   -- the counts after an answer: the others' open questions stay
   counts-settled : (rules : Rules) (says : Says) (st : MatchState) (p : ℕ) (s : Settled) → 0 < p → AreCounts rules says st → AreCounts rules says (moved rules st p (Some s))
   counts-settled rules says st p s some cs = record {
-    counts = λ r other. elim (either (p == r)) [
+    counts = λ r other. elim (cases_Bool (p == r)) [
       | inl same ↦
           let pr : p ≡ r = is-eqb p r same in
           subst (λ (x : ℕ). IsCountIn rules says (moved rules st p (Some s)) x) pr

@@ -1,6 +1,7 @@
 -- A record of a match is the bracket over the answers that it holds.
 use Rattle.std.proofs.Common.{◌≡◌, ◌≢◌, ℕ, zero, suc, ◌+◌, ◌-◌, ◌<◌, ◌≤◌, Bool, true, false, ◌||◌, ◌==◌, if◌then◌else◌, List, [], ◌∷◌, ◌++◌, length, map, slice_get, slice_set, inl, inr, Option, Some, None, refl, sym, ◌∙◌, ap, arith}
 use Rattle.std.proofs.lemmas.Bool.Decides.{nat_tests}
+use Rattle.std.proofs.lemmas.Bool.{cases_Bool}
 use Rattle.rd_base.specs.declared.answer.Answer.TheVariants as answer
 use Rattle.rd_base.specs.declared.answer.Qid.{Qid}
 use Rattle.rd_base.specs.declared.claim.Claim.{Claim}
@@ -29,7 +30,7 @@ use Rattle.tournament.proofs.OnceLemmas.{IsApart, IsOpen, apart-nothing, opens, 
 use Rattle.tournament.proofs.OpenedLemmas.{opened-not, opened-due}
 use Rattle.tournament.proofs.length.OverLemmas.{AllMove, apart-after, moves-after}
 use Rattle.tournament.proofs.PostLemmas.{IsSettled, settled-begun}
-use Rattle.tournament.proofs.ReachLemmas.{either, reach_back}
+use Rattle.tournament.proofs.ReachLemmas.{reach_back}
 use Rattle.tournament.proofs.SidesLemmas.{SameSides, sides-first, sides-second}
 use Rattle.tournament.proofs.StageLemmas.{IsPlayed, Ends, played-settle, played-nothing, steps-settle}
 
@@ -99,7 +100,7 @@ module _ (laws : BisectionLaws) where
 
   holds-opened : (rules : Rules) (t : Record) → Holds t (stage_opened rules t)
   holds-opened rules t =
-      elim (either (is_stage_due rules t)) [
+      elim (cases_Bool (is_stage_due rules t)) [
         | inl due ↦ rw (opened-due rules t due) (record { claims = λ k s e. e; disputes = all-append t.disputes _ })
         | inr not_due ↦ rw (opened-not rules t not_due) (record { claims = λ k s e. e; disputes = all-same t.disputes })
       ]
@@ -304,7 +305,7 @@ module _ (laws : BisectionLaws) where
 
   apart-opened : (rules : Rules) (t : Record) → AllApart t.disputes → AllApart (stage_opened rules t).disputes
   apart-opened rules t a =
-      elim (either (is_stage_due rules t)) [
+      elim (cases_Bool (is_stage_due rules t)) [
         | inl due ↦
             rw (opened-due rules t due) (apart-both t.disputes _ a
             (apart-new rules (last_stage t.disputes + 1) (length t.disputes + 1) t.claims (pairs rules t)

@@ -1,6 +1,7 @@
 -- The bracket has fewer disputes than provers, and no stage changes it.
 use Rattle.std.proofs.Common.{◌≡◌, ℕ, zero, suc, ◌+◌, ◌<◌, true, false, List, [], ◌∷◌, ◌++◌, length, map, ◌⊎◌, inl, inr, Option, refl, ◌∙◌, ap, arith}
 use Rattle.std.specs.Fn.{iterate}
+use Rattle.std.proofs.lemmas.Bool.{cases_Bool}
 use Rattle.bisect_game.specs.Ruling.{Ruling}
 use Rattle.bisect_game.specs.declared.settled.Settled.{Settled}
 use Rattle.bisect_game.specs.Bisection.{Bisection, is_closed}
@@ -8,7 +9,6 @@ use Rattle.bisect_game.specs.Disputes.{Answers, filled, round_over, played}
 use Rattle.bisect_game.specs.Rules.{Rules}
 use Rattle.tournament.proofs.order.BracketLemmas.{reach-fixed}
 use Rattle.tournament.proofs.length.CountLemmas.{Pair, SidesOf, AllHonest, IsHonest, IsStaged, IsOrdered, honest-advanced, ordered-opened, ordered-nothing, fewer}
-use Rattle.tournament.proofs.ReachLemmas.{either}
 use Rattle.tournament.proofs.SidesLemmas.{SameSides, sides-round, round-closed, round-open}
 use Rattle.tournament.proofs.StageLemmas.{claims-full, played-all, all-out}
 use Rattle.tournament.specs.Bracket.{Record, all_there, claims_over, carried, stage_over, nothing_settled, bracket}
@@ -28,7 +28,7 @@ module _ (laws : BisectionLaws) where
 
   honest-round : (ruling : Ruling) (f : Answers) (d : Bisection) → IsHonest d.close → IsHonest (round_over ruling f d).close
   honest-round ruling f d h =
-      elim (either (is_closed d)) [
+      elim (cases_Bool (is_closed d)) [
         | inl closed ↦ rw (round-closed ruling f d closed) h
         | inr open_ ↦ rw (round-open ruling f d open_) (honest-advanced ruling (filled f d) (filled f d).by_first (filled f d).by_second h)
       ]
@@ -77,7 +77,7 @@ module _ (laws : BisectionLaws) where
 
   not-there : (f : Answers) (ss : List (Option Settled)) → all_there (claims_over f 1 ss) ≡ false → all_there ss ≡ false
   not-there f ss e =
-      elim (either (all_there ss)) [
+      elim (cases_Bool (all_there ss)) [
         | inl whole ↦ rw ((claims-full laws) f 1 ss whole) at e
         | inr part ↦ part
       ]
@@ -88,7 +88,7 @@ module _ (laws : BisectionLaws) where
     counted = record {
       claims = claims-length f 1 t.claims ∙ o.counted.claims;
       honest = honest-played rules f t.disputes o.counted.honest;
-      staged = elim (either (all_there t.claims)) [
+      staged = elim (cases_Bool (all_there t.claims)) [
         | inl whole ↦ staged-carried rules f t whole o.counted.staged
         | inr part ↦ inl (ap (map (played rules f)) (o.first part))
       ];

@@ -1,6 +1,7 @@
 -- What every record of a match keeps: disputes in play, each side right, and claims that fit.
 use Rattle.std.proofs.Common.{◌≡◌, ◌≢◌, ℕ, zero, suc, ◌+◌, ◌-◌, ◌<◌, Bool, true, false, not, ◌&&◌, ◌||◌, ◌==◌, if◌then◌else◌, List, [], ◌∷◌, ◌++◌, length, replicate, slice_get, slice_set, inl, inr, Option, Some, None, is_some, is_none, refl, sym, ◌∙◌, ap, arith}
 use Rattle.std.proofs.lemmas.Bool.Decides.{nat_tests}
+use Rattle.std.proofs.lemmas.Bool.{cases_Bool}
 use Rattle.rd_base.specs.declared.digest.Digest32.{Digest32}
 use Rattle.rd_base.specs.declared.claim.Claim.{Claim}
 use Rattle.bisect_game.specs.declared.question.Kind.TheVariants as kind
@@ -18,7 +19,7 @@ use Rattle.bisect_game.specs.Ruling.{Ruling, IsFair, same_digest}
 use Rattle.bisect_game.specs.Truth.{Truth, IsRun, IsFit, IsFitSoFar, IsRight, is_put_out}
 use Rattle.tournament.proofs.safety.LiveLemmas.{live-contains}
 use Rattle.tournament.proofs.OpenedLemmas.{opened-not, opened-due}
-use Rattle.tournament.proofs.ReachLemmas.{either, same-not}
+use Rattle.tournament.proofs.ReachLemmas.{same-not}
 use Rattle.tournament.proofs.SidesLemmas.{SameSides, sides-first, sides-second}
 use Rattle.tournament.specs.Bracket.{Record, claim_question, is_out_by, is_out_in, claim_in, also, live_from, live, Taken, passed_over, take_other, pairs_of, pairs, last_stage, disputes_of, all_there, is_stage_due, stage_opened, nothing_settled, asks_first, asks_second, question_in, claim_missing, open_question, settled_in, put, settle, is_complete}
 use Rattle.tournament.specs.Settling.{after}
@@ -233,7 +234,7 @@ module _ (laws : BisectionLaws) where
 
   kept-opened : (rules : Rules) (t : Truth) (p : ℕ) (r : Record) → 1 < rules.fan → 0 < rules.bound → IsRun rules t → IsKept rules t p r → IsKept rules t p (stage_opened rules r)
   kept-opened rules t p r more long run k =
-      elim (either (is_stage_due rules r)) [
+      elim (cases_Bool (is_stage_due rules r)) [
         | inl due ↦
             let there : all_there r.claims ≡ true = and-first _ _ due in
             rw (opened-due rules r due) (record {

@@ -1,5 +1,6 @@
 -- Nobody is put out twice: who is out by a claim or by a dispute is in no further dispute.
 use Rattle.std.proofs.Common.{◌≡◌, ◌≢◌, ℕ, zero, suc, ◌+◌, ◌-◌, ◌<◌, ◌≤◌, Bool, true, false, not, ◌&&◌, ◌||◌, ◌==◌, if◌then◌else◌, List, [], ◌∷◌, ◌++◌, length, slice_get, slice_set, inl, inr, Option, Some, None, is_some, refl, ap, arith}
+use Rattle.std.proofs.lemmas.Bool.{and_parts, cases_Bool}
 use Rattle.rd_base.specs.declared.claim.Claim.{Claim}
 use Rattle.bisect_game.specs.declared.settled.Settled.{Settled}
 use Rattle.bisect_game.specs.declared.settled.Settled.TheVariants.{Given, Faulty, Spent}
@@ -14,9 +15,8 @@ use Rattle.tournament.specs.Posting.{record_after}
 use Rattle.tournament.specs.Settling.{after}
 use Rattle.tournament.specs.Theorem.{is_out_by_claim}
 use Rattle.tournament.proofs.OpenedLemmas.{opened-not, opened-due}
-use Rattle.tournament.proofs.OnceLemmas.{times, times-below, times-live, is-eqb, both, opens, IsOpen, engaged-new, engaged-both, engaged-out}
+use Rattle.tournament.proofs.OnceLemmas.{times, times-below, times-live, is-eqb, opens, IsOpen, engaged-new, engaged-both, engaged-out}
 use Rattle.tournament.proofs.PostLemmas.{IsSettled, settled-begun}
-use Rattle.tournament.proofs.ReachLemmas.{either}
 use Rattle.tournament.proofs.SidesLemmas.{SameSides, sides-first, sides-second}
 
 -- A DISPUTE that moves
@@ -91,7 +91,7 @@ out-not-live : (ds : List Bisection) (p k : ℕ) (ss : List (Option Settled)) �
 out-not-live ds p k [] e = refl
 out-not-live ds p k (s ∷ ss) e =
     let rest : times p (live_from ds (k + 1) ss) ≡ 0 = out-not-live ds p (k + 1) ss e in
-    elim (either (k == p)) [
+    elim (cases_Bool (k == p)) [
       | inl same ↦ (let here : is_out_in ds k ≡ true = rw (is-eqb k p same) e in rw here rest)
       | inr other ↦
           let none : one_if (k == p) ≡ 0 = ap one_if other in
@@ -124,7 +124,7 @@ times-also p k None xs false = omega arith
 times-also p k (Some c) xs false = omega (arith, one-more (k == p))
 
 not-same : (m n : ℕ) → m ≢ n → one_if (m == n) ≡ 0
-not-same m n ne = elim (either (m == n)) [
+not-same m n ne = elim (cases_Bool (m == n)) [
   | inl same ↦ absurd (ne (is-eqb m n same))
   | inr other ↦ ap one_if other
 ]
@@ -148,10 +148,10 @@ opposite false e f = absurd (cc)
 
 once-opened : (rules : Rules) (p : ℕ) (t : Record) → 0 < p → IsOnce p t → IsOnce p (stage_opened rules t)
 once-opened rules p t some i =
-    elim (either (is_stage_due rules t)) [
+    elim (cases_Bool (is_stage_due rules t)) [
       | inl due ↦
-          let two : (all_there t.claims ≡ true) × (_ ≡ true) = both (all_there t.claims) _ due in
-          let outs : (all_out t.disputes ≡ true) × (_ ≡ true) = both (all_out t.disputes) _ two.1 in
+          let two : (all_there t.claims ≡ true) × (_ ≡ true) = and_parts (all_there t.claims) _ due in
+          let outs : (all_out t.disputes ≡ true) × (_ ≡ true) = and_parts (all_out t.disputes) _ two.1 in
           let fresh : List Bisection = disputes_of rules (last_stage t.disputes + 1) (length t.disputes + 1) (pairs rules t) in
           let none : open_disputes_of p t.disputes ≡ 0 = engaged-out p t.disputes outs.0 in
           let opened : open_disputes_of p (t.disputes ++ fresh) ≡ open_disputes_of p t.disputes + open_disputes_of p fresh = engaged-both p t.disputes fresh in
@@ -159,7 +159,7 @@ once-opened rules p t some i =
           let out : outs_in p (t.disputes ++ fresh) ≡ outs_in p t.disputes + outs_in p fresh = outs-both p t.disputes fresh in
           let still : outs_in p fresh ≡ 0 = outs-new rules p (last_stage t.disputes + 1) (length t.disputes + 1) (pairs rules t) in
           let was : one_if (is_out_by_claim (slice_get t.claims (p - 1))) + weight p t.disputes ≤ 1 = i.once in
-          let now : one_if (is_out_by_claim (slice_get t.claims (p - 1))) + (times p (live t) + outs_in p t.disputes) ≤ 1 = elim (either (is_out_in t.disputes p)) [
+          let now : one_if (is_out_by_claim (slice_get t.claims (p - 1))) + (times p (live t) + outs_in p t.disputes) ≤ 1 = elim (cases_Bool (is_out_in t.disputes p)) [
             | inl e ↦ omega (arith, was, out-not-live t.disputes p 1 t.claims e)
             | inr e ↦ omega (arith, outs-some p t.disputes e, live-or-out t.disputes p 1 (p - 1) t.claims (omega (arith, some)))
           ] in

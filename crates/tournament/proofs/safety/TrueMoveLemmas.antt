@@ -11,7 +11,8 @@ use Rattle.bisect_game.specs.Truth.{Truth, IsRun, IsTrueSettled}
 use Rattle.bisect_game.specs.Laws.{BisectionLaws}
 use Rattle.tournament.specs.Bracket.{open_question}
 use Rattle.tournament.specs.Moves.{MatchState, begun, passes_of, settled_by, moved}
-use Rattle.tournament.specs.Posting.{same_qid, posted, posted_on, Post, after_posts, record_after}
+use Rattle.rd_base.specs.Questions.{same_qid}
+use Rattle.tournament.specs.Posting.{posted, posted_on, Post, after_posts, record_after}
 use Rattle.tournament.specs.Theorem.{AreTrue, Stays}
 use Rattle.tournament.specs.TrueMoves.{IsTrueMove, MovesTruly, TrueMovesAreTrueAnswers, TrueMovesAreSafe}
 use Rattle.tournament.proofs.safety.LiveLemmas.{live-contains}

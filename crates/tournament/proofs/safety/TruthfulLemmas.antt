@@ -1,6 +1,7 @@
 -- A truthful prover's settled answers are given and true, whoever moves in whatever order.
 use Rattle.std.proofs.Common.{◌≡◌, ◌≢◌, ℕ, zero, suc, ◌+◌, ◌-◌, ◌<◌, ◌≤◌, Bool, true, false, ◌||◌, ◌==◌, if◌then◌else◌, List, [], ◌∷◌, ◌++◌, length, replicate, slice_get, slice_set, inl, inr, Option, Some, None, refl, sym, ◌∙◌, ap, arith}
 use Rattle.std.proofs.lemmas.Bool.Decides.{nat_tests}
+use Rattle.std.proofs.lemmas.Bool.{cases_Bool, and_parts}
 use Rattle.rd_base.specs.declared.answer.Answer.{Answer}
 use Rattle.rd_base.specs.declared.answer.Answer.TheVariants as answer
 use Rattle.rd_base.specs.declared.claim.Claim.{Claim}
@@ -28,9 +29,8 @@ use Rattle.tournament.specs.Asked.{asked}
 use Rattle.tournament.specs.Fitting.{AllFit}
 use Rattle.tournament.specs.Theorem.{HasTrueClaimSoFar, TrueIn, AllTrueIn, AreTrue, Stays}
 use Rattle.tournament.specs.Truthful.{AnswersTruly, IsTruthfulProver, TruthfulProversAreSafe}
-use Rattle.tournament.proofs.ReachLemmas.{either}
 use Rattle.tournament.proofs.OpenedLemmas.{opened-not, opened-due}
-use Rattle.tournament.proofs.OnceLemmas.{both, is-eqb}
+use Rattle.tournament.proofs.OnceLemmas.{is-eqb}
 use Rattle.tournament.proofs.SidesLemmas.{SameSides, sides-first, sides-second}
 use Rattle.tournament.proofs.safety.LiveLemmas.{live-contains}
 use Rattle.tournament.proofs.safety.MatchLemmas.{settled_stay, claim-there}
@@ -124,11 +124,11 @@ true-choice : (rules : Rules) (t : Truth) (p other : ℕ) (s : Settled) (q : Que
     AllTrueIn rules t p (if x then settle_first rules.ruling s d ∷ ds else if y then settle_second rules.ruling s d ∷ ds else d ∷ settled_in rules other s ds)
 true-choice rules t p other s q d ds true y ex ey e own h hs rest =
     let same : question_of d ≡ q = cc in
-    let two : ((d.first == other) ≡ true) × _ = both _ _ ex in
+    let two : ((d.first == other) ≡ true) × _ = and_parts _ _ ex in
     (true-first rules t p other s d (is-eqb d.first other two.0) (λ mine. rw (← same) at (own mine)) h, hs)
 true-choice rules t p other s q d ds false true ex ey e own h hs rest =
     let same : question_of d ≡ q = cc in
-    let two : ((d.second == other) ≡ true) × _ = both _ _ ey in
+    let two : ((d.second == other) ≡ true) × _ = and_parts _ _ ey in
     (true-second rules t p other s d (is-eqb d.second other two.0) (λ mine. rw (← same) at (own mine)) h, hs)
 true-choice rules t p other s q d ds false false ex ey e own h hs rest = (h, rest e)
 
@@ -148,7 +148,7 @@ true-both rules t p (d ∷ ds) es h k = (h.0, true-both rules t p ds es h.1 k)
 
 true-opened : (rules : Rules) (t : Truth) (p : ℕ) (r : Record) → AreTrue rules t p r → AreTrue rules t p (stage_opened rules r)
 true-opened rules t p r h =
-    elim (either (is_stage_due rules r)) [
+    elim (cases_Bool (is_stage_due rules r)) [
       | inl due ↦ rw (opened-due rules r due) (record { claim = h.claim; disputes = true-both rules t p r.disputes _ h.disputes (true-new rules t p (last_stage r.disputes + 1) (length r.disputes + 1) (pairs rules r)) })
       | inr not_due ↦ rw (opened-not rules r not_due) h
     ]
@@ -178,7 +178,7 @@ true-claim t Spent is = absurd is
 claim-put : (t : Truth) (claims : List (Option Settled)) (p other : ℕ) (s : Settled) → 0 < p → 0 < other → claim_missing (slice_get claims (other - 1)) ≡ true → (other ≡ p → IsTrueSettled t kind.Claim s) →
     HasTrueClaimSoFar t claims p → HasTrueClaimSoFar t (slice_set claims (other - 1) (Some s)) p
 claim-put t claims p other s some far missing own h =
-    elim (either (other == p)) [
+    elim (cases_Bool (other == p)) [
       | inl e ↦
           let same : other ≡ p = is-eqb other p e in
           let mine : s ≡ Given (answer.Claim t.claim) = true-claim t s (own same) in
@@ -213,7 +213,7 @@ settled-true fits rules says t p q a zero n sound low high =
     let here : n ≡ a.passes = omega arith in
     rw (here, a.gives) (judged-true fits rules.ruling t q.kind a.answer sound a.is_true)
 settled-true fits rules says t p q a (suc left) n sound low high =
-    elim (either (n == a.passes)) [
+    elim (cases_Bool (n == a.passes)) [
       | inl e ↦ let here : n ≡ a.passes = is-eqb n a.passes e in rw (here, a.gives) (judged-true fits rules.ruling t q.kind a.answer sound a.is_true)
       | inr e ↦
           let differ : n ≢ a.passes = λ same. let yes : (n == a.passes) ≡ true = grind (arith, nat_tests) in cc in

@@ -1,6 +1,7 @@
 -- The verdict is right.
 use Rattle.std.proofs.Common.{◌≡◌, ℕ, zero, suc, ◌+◌, ◌-◌, ◌<◌, Bool, true, false, not, ◌&&◌, ◌||◌, ◌==◌, if◌then◌else◌, List, [], ◌∷◌, ◌++◌, length, slice_get, slice_set, ◌⊎◌, inl, inr, Option, Some, None, is_some, is_none, refl, sym, ◌∙◌, ap, arith, length-append}
 use Rattle.std.proofs.lemmas.Bool.Decides.{nat_tests}
+use Rattle.std.proofs.lemmas.Bool.{and_parts, cases_Bool}
 use Rattle.rd_base.specs.declared.digest.Digest32.{Digest32}
 use Rattle.rd_base.specs.declared.claim.Claim.{Claim}
 use Rattle.rd_base.specs.declared.proof.Proof.{Proof}
@@ -19,7 +20,7 @@ use Rattle.bisect_game.specs.Truth.{Truth, IsRun}
 use Rattle.tournament.proofs.safety.LiveLemmas.{IsIn, live-in}
 use Rattle.tournament.proofs.safety.MatchLemmas.{HasClaim, AllClaim, live-right, settled_stay, claim-there, IsKept, kept-start, FitClaims}
 use Rattle.tournament.proofs.OpenedLemmas.{opened-not, opened-due, opened-twice}
-use Rattle.tournament.proofs.ReachLemmas.{either, same-is}
+use Rattle.tournament.proofs.ReachLemmas.{same-is}
 use Rattle.tournament.proofs.StageLemmas.{IsPlayed, played-nothing}
 use Rattle.tournament.specs.Bracket.{Record, is_out_in, claim_in, also, live_from, live, first_of, collision_with, claims_collision, Taken, passed_over, take_other, pairs_of, pairs, last_stage, disputes_of, all_there, all_out, put_out, all_closed, is_stage_due, stage_opened, nothing_settled, asks_first, asks_second, claim_missing, settled_in, put, settle, is_complete, collided, disputes_collision, lowest, or_lowest, verdict_of}
 use Rattle.tournament.specs.Settling.{after}
@@ -115,7 +116,7 @@ module _ (laws : BisectionLaws) where
 
   met-opened : (rules : Rules) (t : Record) → AllMet rules.ruling t.disputes → AllMet rules.ruling (stage_opened rules t).disputes
   met-opened rules t h =
-      elim (either (is_stage_due rules t)) [
+      elim (cases_Bool (is_stage_due rules t)) [
         | inl due ↦ rw (opened-due rules t due) (met-both rules.ruling t.disputes _ h (met-new rules (last_stage t.disputes + 1) (length t.disputes + 1) (pairs rules t)))
         | inr not_due ↦ rw (opened-not rules t not_due) h
       ]
@@ -278,10 +279,6 @@ module _ (laws : BisectionLaws) where
 
   -- a complete match without a collision has no pair left
 
-  both : (a b : Bool) → (a && b) ≡ true → (a ≡ true) × (b ≡ true)
-  both true b e = (refl, e)
-  both false b e = absurd (cc)
-
   out-closed : (c : Option Close) → is_some c ≡ true → collided c ≡ None → put_out c ≡ true
   out-closed (Some (Out a b)) e n = refl
   out-closed (Some (Collision s u)) e n = absurd (cc)
@@ -290,7 +287,7 @@ module _ (laws : BisectionLaws) where
   all-out-by : (ds : List Bisection) → all_closed ds ≡ true → disputes_collision ds ≡ None → all_out ds ≡ true
   all-out-by [] e n = refl
   all-out-by (d ∷ ds) e n =
-      let two : (is_closed d ≡ true) × (all_closed ds ≡ true) = both (is_closed d) (all_closed ds) e in
+      let two : (is_closed d ≡ true) × (all_closed ds ≡ true) = and_parts (is_closed d) (all_closed ds) e in
       let none : (collided d.close ≡ None) × (disputes_collision ds ≡ None) = first-none (collided d.close) (disputes_collision ds) n in
       rw (out-closed d.close two.0 none.0, all-out-by ds two.1 none.1) refl
 
@@ -320,7 +317,7 @@ module _ (laws : BisectionLaws) where
   verdict-by rules t r p None (Some pair) some fair run numbered k m rests c claim stays ea eb =
       dispute-collision rules r r.disputes pair eb m (λ a i. i)
   verdict-by rules t r p None None some fair run numbered k m rests c claim stays ea eb =
-      let two : (all_there r.claims ≡ true) × (all_closed r.disputes ≡ true) = both (all_there r.claims) (all_closed r.disputes) c in
+      let two : (all_there r.claims ≡ true) × (all_closed r.disputes ≡ true) = and_parts (all_there r.claims) (all_closed r.disputes) c in
       let outs : all_out r.disputes ≡ true = all-out-by r.disputes two.1 eb in
       let due : is_stage_due rules r ≡ true = rw (two.0, outs, ea) refl in
       let at : 1 + (p - 1) ≡ p = omega arith in

@@ -29,8 +29,8 @@ open_pairs-requires-in-Some t c =
     c.remove-first.ensures.value c.remove-first.ensures.items e c.remove-second.ensures.value c.remove-second.ensures.items in
     let n : length (side_pairs c.args.left c.args.live.now.items) ≡ suc (length (side_pairs (c.args.left - 1) c.remove-second.new.self.items)) = ap (λ ps. length ps) p in
     let m : length c.open_one.new.self.record_.disputes ≡ length c.args.self.now.record_.disputes + 1 =
-    ap (λ (r : Record). length r.disputes) c.open_one.ensures.record_ ∙ length-append c.args.self.now.record_.disputes (dispute_at c.args.self.now.table c.args.stage (length c.args.self.now.record_.disputes + 1) c.remove-first.result c.remove-second.result ∷ []) in
-    let q : c.open_one.new.self.table.provers ≡ c.args.self.now.table.provers = rw c.open_one.ensures.table refl in
+    ap (λ (r : Record). length r.disputes) c.open_one.ensures.record_ ∙ length-append c.args.self.now.record_.disputes (dispute_at c.args.self.now.setup c.args.stage (length c.args.self.now.record_.disputes + 1) c.remove-first.result c.remove-second.result ∷ []) in
+    let q : c.open_one.new.self.setup.provers ≡ c.args.self.now.setup.provers = rw c.open_one.ensures.setup refl in
     (omega (arith, c.decreases, c.if-left-eq0.false), (omega (arith, n, m, q, c.requires.few), omega (arith, m, c.requires.stage)))
 
 pub returns-in-None-clause-record_ : goal.returns-in-None-clause-record_
@@ -46,5 +46,5 @@ returns-in-Some-clause-record_ t c =
     let p : side_pairs c.args.left c.args.live.now.items ≡ (c.remove-first.result, c.remove-second.result) ∷ side_pairs (c.args.left - 1) c.remove-second.new.self.items =
     pairs-some c.args.left c.in-Some.i c.args.live.now.items c.remove-first.new.self.items c.remove-second.new.self.items c.remove-first.result c.remove-second.result (omega (arith, c.if-left-eq0.false)) (omega (arith, c.remove-first.ensures.len, c.args.live.now.ok.0))
     c.remove-first.ensures.value c.remove-first.ensures.items e c.remove-second.ensures.value c.remove-second.ensures.items in
-    pairs-opened c.args.self.now.table c.args.stage c.args.self.now.record_ c.open_one.new.self.record_ c.open_pairs-in-Some.new.self.record_ c.remove-first.result c.remove-second.result (side_pairs (c.args.left - 1) c.remove-second.new.self.items) _
-    c.open_one.ensures.record_ (rw c.open_one.ensures.table at c.open_pairs-in-Some.ensures.record_) p
+    pairs-opened c.args.self.now.setup c.args.stage c.args.self.now.record_ c.open_one.new.self.record_ c.open_pairs-in-Some.new.self.record_ c.remove-first.result c.remove-second.result (side_pairs (c.args.left - 1) c.remove-second.new.self.items) _
+    c.open_one.ensures.record_ (rw c.open_one.ensures.setup at c.open_pairs-in-Some.ensures.record_) p
