@@ -1,8 +1,9 @@
 -- A book as it is kept.
-use Rattle.std.proofs.Common.{◌≡◌, ◌↔◌, ℕ, zero, suc, ◌+◌, ◌-◌, ◌*◌, ◌^◌, ◌<◌, ◌≤◌, nat_le, Bool, true, false, ◌&&◌, ◌==◌, if◌then◌else◌, List, [], ◌∷◌, ◌++◌, length, slice_index_or, slice_set, ◌⊎◌, inl, inr, Option, Some, None, is_none, refl, sym, ◌∙◌, ap, arith, add-one, length-append, append_assoc}
+use Rattle.std.proofs.Common.{◌≡◌, ◌↔◌, ℕ, zero, suc, ◌+◌, ◌-◌, ◌*◌, ◌^◌, ◌<◌, ◌≤◌, nat_le, Bool, true, false, ◌==◌, if◌then◌else◌, List, [], ◌∷◌, ◌++◌, length, slice_index_or, slice_set, inl, inr, Option, Some, None, is_none, refl, sym, ◌∙◌, ap, arith, add-one, length-append, append_assoc}
 use Rattle.std.proofs.lemmas.Bool.Decides.{nat_tests}
 use Rattle.std.proofs.Math.Nat.{mul-le-mul_left, pow-succ', pow-le-pow_left, pow-le-pow_right}
 use Rattle.std.proofs.Math.Pow.{pow_mono}
+use Rattle.std.proofs.lemmas.Bool.{cases_Bool, and_parts}
 use Rattle.rd_base.specs.declared.answer.Answer.{Answer}
 use Rattle.rd_base.specs.declared.answer.Qid.{Qid}
 use Rattle.bisect_game.specs.declared.question.Question.{Question}
@@ -15,7 +16,8 @@ use Rattle.tournament.specs.Moves.{MatchState, begun, passes_of, settled_by, mov
 use Rattle.tournament.specs.Journals.{turn, turn_on, turns, IsAskedOf, Legal, answers_of, RecordOfCase}
 use Rattle.tournament.specs.Length.{IsMost, most_entries, SpareIsEnough}
 use Rattle.tournament.specs.declared.setup.Setup.{Setup}
-use Rattle.tournament.specs.Posting.{rules_of, same_qid, posted, posted_on, reply_by, reply_on, reply_to}
+use Rattle.rd_base.specs.Questions.{same_qid}
+use Rattle.tournament.specs.Posting.{rules_of, posted, posted_on, reply_by, reply_on, reply_to}
 use Rattle.tournament.specs.Asked.{asked, AskedByTheCase}
 use Rattle.tournament.specs.Truthful.{IsTruthfulProver, IsSafe, TruthfulProversAreSafe}
 use Rattle.bisect_game.specs.Truth.{Truth, IsRun}
@@ -23,14 +25,6 @@ use Rattle.bisect_game.specs.Ruling.{Ruling, IsFair}
 use Rattle.board_book.specs.declared.entry.Entry.{Entry}
 use Rattle.board_book.specs.Entries.{IsEntry, IsJournal, who, state_after, is_stale}
 use Rattle.board_book.specs.Keeping.{IsBook}
-
-either : (b : Bool) → (b ≡ true) ⊎ (b ≡ false)
-either true = inl refl
-either false = inr refl
-
-both : (a b : Bool) → (a && b) ≡ true → (a ≡ true) × (b ≡ true)
-both true b e = (refl, e)
-both false b e = absurd (cc)
 
 is-eqb : (m n : ℕ) → (m == n) ≡ true → m ≡ n
 is-eqb m n e = grind (arith, nat_tests)
@@ -43,7 +37,7 @@ most-power fan i j more le = let some : 0 < fan = omega arith in pow-le-pow_righ
 pub most-is : (fan bound k w : ℕ) → 1 < fan → fan ^ k ≡ w → w < fan * bound → bound ≤ w → IsMost fan bound k
 most-is fan bound k w more e low high = record {
   few = rw e low;
-  most = λ j lt. elim (either (nat_le j k)) [
+  most = λ j lt. elim (cases_Bool (nat_le j k)) [
     | inl le ↦ grind (arith, nat_tests)
     | inr gt ↦
         let past : k + 1 ≤ j = grind (arith, nat_tests) in
@@ -59,7 +53,7 @@ pub most-small : (fan k w bound : ℕ) → 1 < fan → fan ≤ 16 → fan ^ k �
 most-small fan k w bound more few is low short =
     let two : 2 ≤ fan = omega arith in
     let wide : bound * fan ≤ bound * 16 = mul-le-mul_left bound few in
-    elim (either (nat_le 36 k)) [
+    elim (cases_Bool (nat_le 36 k)) [
       | inl e ↦
           let past : 36 ≤ k = grind (arith, nat_tests) in
           absurd (omega (arith, pow_mono past, pow-le-pow_left two k, is, low, wide, short))
@@ -97,7 +91,7 @@ journal-last rules says (x ∷ es) e st j i = (j.0, journal-last rules says es e
 
 same_qid-is : (a b : Qid) → same_qid a b ≡ true → a ≡ b
 same_qid-is a b e =
-    let two : ((a.dispute == b.dispute) ≡ true) × ((a.round == b.round) ≡ true) = both _ _ e in
+    let two : ((a.dispute == b.dispute) ≡ true) × ((a.round == b.round) ≡ true) = and_parts _ _ e in
     let d : a.dispute ≡ b.dispute = is-eqb a.dispute b.dispute two.0 in
     let n : a.round ≡ b.round = is-eqb a.round b.round two.1 in
     rw (d, n) refl

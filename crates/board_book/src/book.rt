@@ -1,15 +1,15 @@
 ghost use denote.Param.Send.{IsSync};
-ghost use Rattle.std.specs.Prelude.{◌≡◌, ◌↔◌, ◌+◌, ◌-◌, ◌*◌, ◌<◌, ◌≤◌, ◌^◌, ◌∷◌, ◌++◌, [], ℕ, List, Some, None, IfOk, IfErr, IfSome, IfNone, length, true, is_none, if◌then◌else◌};
+ghost use Rattle.std.specs.Prelude.{◌≡◌, ◌+◌, ◌-◌, ◌<◌, ◌≤◌, ◌^◌, ◌∷◌, ◌++◌, [], ℕ, List, Some, None, IfOk, IfErr, IfSome, IfNone, length, true, is_none};
 ghost use Rattle.bisect_game.specs.declared.question.Question.{Question};
 ghost use Rattle.tournament.specs.declared.setup.Setup.{Setup};
-ghost use Rattle.tournament.specs.Bracket.{open_question, is_complete, verdict_of, bracket};
+ghost use Rattle.tournament.specs.Bracket.{open_question, is_complete, bracket};
 ghost use Rattle.tournament.specs.Moves.{passes_of, begun};
 ghost use Rattle.tournament.specs.Journals.{answers_of};
-ghost use Rattle.tournament.specs.Posting.{rules_of, answer_of, same_qid, posted, reply_to};
+ghost use Rattle.rd_base.specs.Questions.{same_qid};
+ghost use Rattle.tournament.specs.Posting.{rules_of, answer_of, posted, reply_to};
 ghost use Rattle.bisect_game.specs.Says.{AnswerAs};
 ghost use Rattle.bisect_game.specs.Truth.{Truth, IsRun};
 ghost use Rattle.tournament.specs.Asked.{asked};
-ghost use Rattle.tournament.specs.Theorem.{AreTrue, Stays, IsRightVerdict, AllShort};
 ghost use Rattle.tournament.specs.Truthful.{IsTruthfulProver, IsSafe};
 ghost use Rattle.tournament.specs.Length.{IsMost, most_entries};
 ghost use Rattle.board_book.specs.declared.entry.Entry.{Entry};
@@ -23,8 +23,8 @@ use std::alloc::Global;
 use std::marker::Model;
 use std::thread::Threads;
 use tournament::{
-    Match, Move, Record, Reply, Setup, Verdict, a_number_names_one_question, is_pass, move_of,
-    one_record_of_a_case, spare_is_enough, truthful_provers_are_safe,
+    Match, Move, Reply, Setup, a_number_names_one_question, is_pass, move_of, one_record_of_a_case,
+    spare_is_enough, truthful_provers_are_safe,
 };
 
 /// Whether a reply says that nothing changed.
@@ -99,12 +99,21 @@ impl<J: Judge + Drop, P: Provers + Drop> Book<J, P> {
         })
     }
 
-    /// The numbers by which the match is played.
-    pub fn setup(&self) -> Setup
-        ensures value { result ≡ self.now.0.2 }
+    /// The match.
+    pub fn game(&self) -> &Match<J>
+        ensures value { result.now ≡ (self.now.0.0, self.now.0.2, self.now.2) }
         ensures few { self.now.0.2.provers ≤ 16 }
     {
-        self.game.setup()
+        &self.game
+    }
+
+    /// The match, without the journal and the provers. It takes no memory.
+    pub fn into_game(self) -> Match<J>
+        ensures value { result ≡ (self.0.0, self.0.2, self.2) }
+        ensures few { self.0.2.provers ≤ 16 }
+    {
+        let Book { game, .. } = self;
+        game
     }
 
     /// The posts that weren't stale, in their order.
@@ -112,28 +121,6 @@ impl<J: Judge + Drop, P: Provers + Drop> Book<J, P> {
         ensures { result.now ≡ self.now.1 }
     {
         self.journal.as_slice()
-    }
-
-    /// The verdict; `None` if and only if a question is open.
-    pub fn verdict(&self) -> Option<Verdict>
-        ensures { result ≡ (if is_complete self.now.2.record_ then Some (verdict_of (rules_of (J.ruling self.now.0.0) self.now.0.2) self.now.2.record_) else None) }
-    {
-        self.game.verdict()
-    }
-
-    /// What is settled so far.
-    pub fn record(&self) -> &Record
-        ensures { result.now ≡ self.now.2.record_ }
-    {
-        self.game.record()
-    }
-
-    /// What was settled. It takes no memory.
-    pub fn into_record(self) -> Record
-        ensures { result ≡ self.2.record_ }
-    {
-        let Book { game, .. } = self;
-        game.into_record()
     }
 
     /// What prover `p`, from 1 to their count, is asked: `Nothing` if and only if it has no open question and the match goes
@@ -308,31 +295,6 @@ impl<J: Judge + Drop, P: Provers + Drop> Book<J, P> {
     {
         a_number_names_one_question();
         let _ = &self.room;
-    }
-
-    /// The dispute theorem, whoever posted what: a prover whose settled answers so far are all given and true stays (`stay`),
-    /// and where there is one the verdict of a match that is over is right (`verdict`).
-    pub fn keeps_true_provers(&self)
-        ensures stay { let rules = rules_of (J.ruling self.now.0.0) self.now.0.2 in (t : Truth) (p : ℕ) → IsRun rules t → 0 < p → AreTrue rules t p self.now.2.record_ → Stays rules t p self.now.2.record_ }
-        ensures verdict { let rules = rules_of (J.ruling self.now.0.0) self.now.0.2 in (t : Truth) (p : ℕ) → IsRun rules t → 0 < p → AreTrue rules t p self.now.2.record_ → is_complete self.now.2.record_ ≡ true → IsRightVerdict rules t self.now.2.record_ (verdict_of rules self.now.2.record_) }
-    {
-        self.game.keeps_true_provers();
-    }
-
-    /// Few rounds: fewer disputes than provers, and in each k bisection rounds with `F^k < F * N` for rounds of F parts and the
-    /// bound N, and at most one proof round.
-    pub fn has_few_disputes_and_rounds(&self)
-        ensures disputes { length self.now.2.record_.disputes < self.now.0.2.provers }
-        ensures rounds { AllShort (rules_of (J.ruling self.now.0.0) self.now.0.2) self.now.2.record_.disputes }
-    {
-        self.game.has_few_disputes_and_rounds();
-    }
-
-    /// Nobody is asked if and only if the match is over.
-    pub fn asks_nobody_once_over(&self)
-        ensures { let rules = rules_of (J.ruling self.now.0.0) self.now.0.2 in ((p : ℕ) → 0 < p → p ≤ rules.provers → open_question rules self.now.2.record_ p ≡ None) ↔ (is_complete self.now.2.record_ ≡ true) }
-    {
-        self.game.asks_nobody_once_over();
     }
 
     /// The dispute theorem: a prover that answers truly within its patience each question that the record of the case asks it

@@ -6,7 +6,8 @@ ghost use Rattle.bisect_game.specs.declared.question.Question.{Question};
 ghost use Rattle.bisect_game.specs.Says.{AnswerAs};
 ghost use Rattle.tournament.specs.Bracket.{open_question, is_complete};
 ghost use Rattle.tournament.specs.Moves.{passes_of};
-ghost use Rattle.tournament.specs.Posting.{rules_of, answer_of, same_qid};
+ghost use Rattle.rd_base.specs.Questions.{same_qid};
+ghost use Rattle.tournament.specs.Posting.{rules_of, answer_of};
 ghost use Rattle.board_book.specs.declared.entry.Entry.{Entry};
 ghost use Rattle.board_book.specs.Entries.{ask_on};
 ghost use Rattle.board_book.specs.Tasks.{numbered, games_of, IsTaskJournal, entries_of, BookOf, of_task, openings, tasks_of, sayings, PostedTo};
@@ -222,7 +223,7 @@ impl<J: Judge + Drop, P: Provers + Drop> Books<J, P> {
         ensures books { (b : BookOf J.Names P.Names) × (numbered self.old.0 t ≡ Some b) × ((c : BookOf J.Names P.Names) × (c.0 ≡ b.0) × (self.new.0 ≡ set self.old.0 (t - 1) c) × IfOk result (λ _. is_complete c.2.record_ ≡ true)) }
         ensures prefix { (xs : List (ℕ × Entry)) × (self.new.1 ≡ self.old.1 ++ xs) }
     {
-        let provers = self.book(t).setup().provers as usize;
+        let provers = self.book(t).game().setup().provers as usize;
         let (_, rest) = answerers.split_at_mut(from);
         let (own, _) = rest.split_at_mut(provers);
         self.finish_task(rt, t, own)?;

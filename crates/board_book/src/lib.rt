@@ -3,8 +3,8 @@
 //!
 //! The layers above may rely on this: the journal of a book is legal, the match is the state of that journal, and nothing
 //! that comes needs memory (`Book::is_legal`, `Book::spare`); a complete book has the record of its case, in whatever order
-//! the posts came (`Book::has_the_record_of_the_case`), a truthful prover is safe (`Book::keeps_truthful_provers`), and rounds
-//! are few (`Book::has_few_disputes_and_rounds`).
+//! the posts came (`Book::has_the_record_of_the_case`), and a truthful prover is safe (`Book::keeps_truthful_provers`). The laws of
+//! `Match` hold of the book's match (`Book::game`), so rounds are few (`Match::has_few_disputes_and_rounds`).
 //!
 //! Of many books: the joint journal is legal, entry by entry, where the entry's task stands, and the entries of a task are the journal
 //! of that task's own book (`Books::is_legal`). Each task is alone: its entries are a legal journal of it, and fix what it asks, what a

@@ -12,7 +12,8 @@ use Rattle.bisect_game.specs.Truth.{Truth, IsRun}
 use Rattle.tournament.specs.Bracket.{Record, open_question, is_complete, bracket}
 use Rattle.tournament.specs.Moves.{MatchState, begun, passes_of}
 use Rattle.tournament.specs.Journals.{turn, turn_on, turns, IsAskedOf, Legal, answers_of, RecordOfCase}
-use Rattle.tournament.specs.Posting.{same_qid, posted, posted_on, Post, after_posts, record_after, NobodyAskedIsOver}
+use Rattle.rd_base.specs.Questions.{same_qid}
+use Rattle.tournament.specs.Posting.{posted, posted_on, Post, after_posts, record_after, NobodyAskedIsOver}
 use Rattle.tournament.specs.Length.{IsMost, most_entries, SpareIsEnough, ThereIsAMost}
 use Rattle.tournament.specs.Truthful.{IsTruthfulProver, IsSafe, TruthfulProversAreSafe}
 use Rattle.deposits.specs.Balances.{IsSettledUp}

@@ -90,8 +90,9 @@ fn ending_of<J: Judge + Drop, P: Provers + Drop>(book: Book<J, P>) -> (Record, V
     ensures { result ≡ ending J.ruling P.says book.0 }
 {
     book.has_the_record_of_the_case();
-    let verdict = book.verdict().unwrap();
-    (book.into_record(), verdict)
+    let game = book.into_game();
+    let verdict = game.verdict().unwrap();
+    (game.into_record(), verdict)
 }
 
 /// How the matches of books that are over have ended, in their order. An `Err` is out of memory.

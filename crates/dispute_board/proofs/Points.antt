@@ -1,8 +1,9 @@
 -- What is asked and answered at a point of the journal.
-use Rattle.std.proofs.Common.{◌≡◌, ℕ, ◌<◌, ◌==◌, Bool, true, false, not, ◌&&◌, if◌then◌else◌, List, [], ◌∷◌, ◌++◌, length, Option, Some, None, is_none, refl, sym, ap, ap₂, ◌∙◌, subst, arith, All}
+use Rattle.std.proofs.Common.{◌≡◌, ℕ, ◌<◌, ◌==◌, Bool, true, false, not, if◌then◌else◌, List, [], ◌∷◌, ◌++◌, length, Option, Some, None, is_none, refl, sym, ap, ap₂, ◌∙◌, subst, arith, All}
 use Rattle.std.proofs.lemmas.Bool.Decides.{nat_tests}
 use Rattle.std.proofs.lemmas.List.{length-map}
 use Rattle.std.proofs.lemmas.Option.{same_Some}
+use Rattle.std.proofs.lemmas.Bool.{and_parts}
 use mathlib.Core.List.{map-append}
 use Rattle.rd_base.specs.declared.answer.Answer.{Answer}
 use Rattle.rd_base.specs.declared.answer.Qid.{Qid}
@@ -16,7 +17,8 @@ use Rattle.tournament.specs.Asked.{asked}
 use Rattle.tournament.specs.Bracket.{open_question, is_complete, bracket}
 use Rattle.tournament.specs.Journals.{answers_of}
 use Rattle.tournament.specs.Moves.{MatchState, passes_of, settled_by}
-use Rattle.tournament.specs.Posting.{same_qid, reply_by, reply_on, reply_to}
+use Rattle.rd_base.specs.Questions.{same_qid}
+use Rattle.tournament.specs.Posting.{reply_by, reply_on, reply_to}
 use Rattle.board_book.specs.declared.entry.Entry.{Entry}
 use Rattle.board_book.specs.declared.entry.Ask.{Ask}
 use Rattle.board_book.specs.declared.entry.Ask.TheVariants as ask
@@ -73,13 +75,9 @@ pub due_says : (says : Says) (st : MatchState) (p : ℕ) (m : Option Answer) (q 
 due_says says st p m q one due on =
     same_said says p q on.0 (passes_of st p) m (says p q (passes_of st p)) one on.1 refl (alike (is_none m) (is_none (says p q (passes_of st p))) due)
 
-both : (a b : Bool) → (a && b) ≡ true → (a ≡ true) × (b ≡ true)
-both true b e = (refl, e)
-both false b e = absurd (cc)
-
 pub same_qid-is : (a b : Qid) → same_qid a b ≡ true → a ≡ b
 same_qid-is a b e =
-    let two : ((a.dispute == b.dispute) ≡ true) × ((a.round == b.round) ≡ true) = both _ _ e in
+    let two : ((a.dispute == b.dispute) ≡ true) × ((a.round == b.round) ≡ true) = and_parts _ _ e in
     let d : a.dispute ≡ b.dispute = is-eq a.dispute b.dispute two.0 in
     let n : a.round ≡ b.round = is-eq a.round b.round two.1 in
     rw (d, n) refl

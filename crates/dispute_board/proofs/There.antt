@@ -13,7 +13,8 @@ use Rattle.tournament.specs.declared.posting.Reply.{Reply}
 use Rattle.tournament.specs.declared.posting.Reply.TheVariants.{Stale}
 use Rattle.tournament.specs.Bracket.{open_question}
 use Rattle.tournament.specs.Moves.{MatchState, passes_of}
-use Rattle.tournament.specs.Posting.{rules_of, same_qid, reply_on, reply_to}
+use Rattle.rd_base.specs.Questions.{same_qid}
+use Rattle.tournament.specs.Posting.{rules_of, reply_on, reply_to}
 use Rattle.board_book.specs.declared.entry.Ask.{Ask}
 use Rattle.board_book.specs.Entries.{state_after}
 use Rattle.dispute_board.specs.declared.turns.Posted.{Posted}

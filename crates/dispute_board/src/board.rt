@@ -105,7 +105,7 @@ impl<J: Judge + Drop, P: Provers + Drop> Board<J, P> {
         ensures other { result ≡ split_off seat.old result.number }
     {
         Seat {
-            tasks: self.tasks.split(&mut seat.tasks),
+            tasks: self.tasks.lock().split(&mut seat.tasks),
         }
     }
 
@@ -115,7 +115,7 @@ impl<J: Judge + Drop, P: Provers + Drop> Board<J, P> {
         requires first { seat.old.number ≡ 0 }
         ensures { seat.new ≡ after_join seat.old other }
     {
-        self.tasks.join(&mut seat.tasks, other.tasks);
+        self.tasks.lock().join(&mut seat.tasks, other.tasks);
     }
 
     /// The book, once every seat that was split off is joined in again. Its opening is that of the seat, and its journal begins with

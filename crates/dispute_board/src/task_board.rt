@@ -1,8 +1,8 @@
 //! The board of many tasks, and its seats.
-ghost use Rattle.std.specs.Prelude.{◌≡◌, ◌+◌, ◌^◌, ◌<◌, length, List, Some, IfOk};
+ghost use Rattle.std.specs.Prelude.{◌≡◌, ◌<◌, length, List, Some, IfOk};
 ghost use Rattle.std.specs.List.{All};
 ghost use Rattle.seat_lock.specs.History.{log_of, Begins, NoneTwice};
-ghost use Rattle.seat_lock.specs.Seats.{first_seat, after_split, split_off, after_join};
+ghost use Rattle.seat_lock.specs.Seats.{first_seat};
 ghost use Rattle.tournament.specs.declared.setup.Setup.{Setup};
 ghost use Rattle.tournament.specs.Posting.{answer_of};
 ghost use Rattle.board_book.specs.Tasks.{openings, tasks_of};
@@ -83,24 +83,11 @@ impl<J: Judge + Drop, P: Provers + Drop> TaskBoard<J, P> {
         self.lock.with_turn(rt, seat, Posting { t, p, qid, turn })
     }
 
-    /// Splits a seat off the first one. It has seen the same and has no receipts. It takes no memory.
-    pub fn split(&self, seat: &mut TaskSeat<J, P>) -> TaskSeat<J, P>
-        requires lock { seat.old.lock ≡ self.now }
-        requires first { seat.old.number ≡ 0 }
-        requires few { seat.old.out + 2 < 2 ^ 64 }
-        ensures first { seat.new ≡ after_split seat.old }
-        ensures other { result ≡ split_off seat.old result.number }
+    /// The lock that the books stand under. Its `split` and `join` split seats off the first one and join them in again.
+    pub fn lock(&self) -> &SeatLock<Locked<J, P>>
+        ensures { result.now ≡ self.now }
     {
-        self.lock.split(seat)
-    }
-
-    /// Joins a seat that was split off into the first one, which takes its receipts behind its own.
-    pub fn join(&self, seat: &mut TaskSeat<J, P>, other: TaskSeat<J, P>)
-        requires lock { (seat.old.lock ≡ self.now) × (other.lock ≡ self.now) }
-        requires first { seat.old.number ≡ 0 }
-        ensures { seat.new ≡ after_join seat.old other }
-    {
-        self.lock.join(seat, other);
+        &self.lock
     }
 
     /// The books, once every seat that was split off is joined in again. Their openings are those of the seat, and their journal begins

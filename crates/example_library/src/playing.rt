@@ -59,5 +59,5 @@ where
 {
     let book = play(rt, alloc, book, answerers, posters, &OpenGate)?;
     book.has_the_record_of_the_case();
-    Ok(book.verdict().unwrap())
+    Ok(book.game().verdict().unwrap())
 }

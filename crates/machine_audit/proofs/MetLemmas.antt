@@ -19,7 +19,8 @@ use Rattle.bisect_game.specs.Rules.{Rules}
 use Rattle.bisect_game.specs.Ruling.{Ruling, IsFair, IsCollision}
 use Rattle.tournament.specs.Bracket.{Record, last_stage, disputes_of, pairs, is_stage_due, stage_opened, nothing_settled, asks_first, asks_second, claim_missing, settled_in, put, settle, carried, stage_over, bracket, open_question}
 use Rattle.tournament.specs.Moves.{MatchState, begun, passes_of, settled_by, moved}
-use Rattle.tournament.specs.Posting.{Post, same_qid, posted_on, posted, after_posts, record_after}
+use Rattle.rd_base.specs.Questions.{same_qid}
+use Rattle.tournament.specs.Posting.{Post, posted_on, posted, after_posts, record_after}
 
 -- the two proofs that are settled, with a collision that is theirs
 pub record IsOfProofs (r : Ruling) (a b : Option Settled) (pair : List ℕ × List ℕ) : Type 0 where

@@ -1,12 +1,11 @@
 //! The matches of many tasks played by posters.
-ghost use Rattle.std.specs.Prelude.{◌≡◌, ℕ, ◌+◌, ◌*◌, ◌<◌, ◌≤◌, ◌^◌, ◌++◌, [], List, All, Option, Some, true, map, take, length, IfOk};
-ghost use Rattle.tournament.specs.declared.setup.Setup.{Setup};
+ghost use Rattle.std.specs.Prelude.{◌≡◌, ℕ, ◌+◌, ◌<◌, ◌≤◌, ◌++◌, [], List, All, Some, true, map, length, IfOk};
 ghost use Rattle.tournament.specs.Bracket.{is_complete};
 ghost use Rattle.round_robin.specs.Classes.{HaveClasses};
 ghost use Rattle.board_book.specs.declared.entry.Entry.{Entry};
 ghost use Rattle.seat_lock.specs.History.{log_of};
 ghost use Rattle.board_book.specs.Tasks.{openings, sayings};
-ghost use Rattle.posters.specs.Serving.{provers_from, places_from, IsSeatOf, KnowsStart};
+ghost use Rattle.posters.specs.Serving.{provers_from, places_from, KnowsStart};
 
 use crate::serving::{Hall, Poster};
 use bisect_game::{Answerer, Judge, Provers};
@@ -64,7 +63,7 @@ fn places_of<J: Judge + Drop, P: Provers + Drop>(
     tasks_are_numbered::<J, P>();
     let mut places = Vec::new(alloc);
     for i in 0..books.count() {
-        add_provers(&mut places, i + 1, books.book(i + 1).setup().provers)?;
+        add_provers(&mut places, i + 1, books.book(i + 1).game().setup().provers)?;
     }
     Ok(places)
 }
@@ -85,7 +84,7 @@ fn seat_posters<J: Judge + Drop, P: Provers + Drop>(
     ensures classes { HaveClasses (λ poster. poster.class) 0 posters.new.items }
 {
     for class in 0..count {
-        let seat = board.split(seat);
+        let seat = board.lock().split(seat);
         posters.push_reserved(Poster { class, seat });
     }
 }
@@ -104,7 +103,7 @@ fn join_posters<J: Judge + Drop, P: Provers + Drop>(
 {
     while let Some(poster) = posters.pop() {
         let Poster { seat: other, .. } = poster;
-        board.join(seat, other);
+        board.lock().join(seat, other);
     }
 }
 

@@ -15,10 +15,10 @@ use toy_game::{Cast, HONEST, LIAR, Player, SILENT, Seated, ToyJudge, root};
 
 /// Whether a book has the match of a lying, a late and a silent prover: 23 entries, and the disputes of it alone.
 fn has_the_match(alloc: Global, book: &Book<ToyJudge, Cast>) -> Result<bool, Memory> {
-    let lines = lines(alloc, book.record())?;
+    let lines = lines(alloc, book.game().record())?;
     Ok(
         book.journal().len() == 23
-            && how(book.verdict()) == Ended::Accepted(2)
+            && how(book.game().verdict()) == Ended::Accepted(2)
             && lines.as_slice() == LINES.as_slice(),
     )
 }
@@ -244,10 +244,10 @@ fn played_by_two<G: Gate + Sync, R: Threads + Wait + Sync>(
 fn posters_side_by_side(rt: HostRuntime) -> Result<(), Fail> {
     let gate = empty_meeting();
     let book = played_by_two(&rt, rt.alloc(), &gate)?;
-    let lines = lines(rt.alloc(), book.record())?;
+    let lines = lines(rt.alloc(), book.game().record())?;
     assert_eq!(rt; lines.as_slice(), [(1, 1, 1, 2, 3, false, true)].as_slice());
     assert_eq!(rt;
-        (book.journal().len(), how(book.verdict())),
+        (book.journal().len(), how(book.game().verdict())),
         (10, Ended::Accepted(1))
     );
     assert_eq!(rt; gate.met.load(Ordering::SeqCst), 10);

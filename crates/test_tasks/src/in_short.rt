@@ -17,7 +17,7 @@ fn line_at(record: &Record, place: usize) -> Option<Line> {
 
 /// A book in short.
 pub(crate) fn in_short(book: &Book<ToyJudge, Cast>) -> Short {
-    let record = book.record();
+    let record = book.game().record();
     let lines = [line_at(record, 0), line_at(record, 1), line_at(record, 2)];
-    (book.journal().len(), how(book.verdict()), lines)
+    (book.journal().len(), how(book.game().verdict()), lines)
 }

@@ -2,6 +2,7 @@
 use Rattle.std.proofs.Common.{◌≡◌, ◌≢◌, ℕ, ◌%◌, Bool, true, false, not, ◌&&◌, ◌==◌, List, [], ◌∷◌, length, Some, None, if◌then◌else◌, refl, sym, ◌∙◌, ap, arith}
 use Rattle.std.proofs.lemmas.Bool.Decides.{nat_tests}
 use Rattle.std.proofs.lemmas.Slice.Eq.{bytes_eq-Decides}
+use Rattle.std.proofs.lemmas.Bool.{and_parts}
 use Rattle.rd_base.specs.declared.claim.Claim.{Claim}
 use Rattle.rd_base.specs.declared.digest.Digest32.{Digest32}
 use Rattle.rd_base.specs.declared.proof.Proof.{Proof}
@@ -17,10 +18,6 @@ same-is x y e = ap (λ (bytes : List ℕ). let d : Digest32 = record { 0 = bytes
 same-digests : (x y : Digest32) → x ≡ y → same_digest x y ≡ true
 same-digests x y e = (bytes_eq-Decides x.0 y.0).1 (ap (λ (d : Digest32). d.0) e)
 
-both : (a b : Bool) → (a && b) ≡ true → (a ≡ true) × (b ≡ true)
-both true b e = (refl, e)
-both false b e = absurd (cc)
-
 running-is : (s : Status) → is_running s ≡ true → s ≡ Running
 running-is Running e = refl
 running-is (Exited code) e = absurd (cc)
@@ -33,10 +30,10 @@ empty-is (x ∷ xs) e = absurd (grind (arith, nat_tests))
 -- a sound claim is its root and its mark
 plain-is : (c : Claim) → is_plain c ≡ true → c ≡ claim_of c.mem c.ctl.pc
 plain-is c e =
-    let a : (same_digest c.regs (root 0) ≡ true) × (_ ≡ true) = both _ _ e in
-    let b : (is_running c.ctl.status ≡ true) × (_ ≡ true) = both _ _ a.1 in
-    let d : ((c.ctl.out_len == 0) ≡ true) × (_ ≡ true) = both _ _ b.1 in
-    let f : (same_digest c.ctl.chain (root 0) ≡ true) × ((length c.output == 0) ≡ true) = both _ _ d.1 in
+    let a : (same_digest c.regs (root 0) ≡ true) × (_ ≡ true) = and_parts _ _ e in
+    let b : (is_running c.ctl.status ≡ true) × (_ ≡ true) = and_parts _ _ a.1 in
+    let d : ((c.ctl.out_len == 0) ≡ true) × (_ ≡ true) = and_parts _ _ b.1 in
+    let f : (same_digest c.ctl.chain (root 0) ≡ true) × ((length c.output == 0) ≡ true) = and_parts _ _ d.1 in
     let none : c.ctl.out_len ≡ 0 = let t : (c.ctl.out_len == 0) ≡ true = d.0 in grind (arith, nat_tests) in
     let make : Digest32 → Status → ℕ → Digest32 → List ℕ → Claim = λ regs status out_len chain output. record { mem = c.mem; regs = regs; ctl = record { pc = c.ctl.pc; status = status; out_len = out_len; chain = chain }; output = output } in
     ap (λ (x : Digest32). make x c.ctl.status c.ctl.out_len c.ctl.chain c.output) (same-is c.regs (root 0) a.0)

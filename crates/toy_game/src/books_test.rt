@@ -78,14 +78,18 @@ fn played_alone<R: Threads + Sync>(
 
 /// The room that is left in a book, its entries, and how it ended.
 fn numbers(book: &Book<ToyJudge, Cast>) -> (u64, usize, Ended) {
-    (book.spare(), book.journal().len(), how(book.verdict()))
+    (
+        book.spare(),
+        book.journal().len(),
+        how(book.game().verdict()),
+    )
 }
 
 /// A book is played out by one thread, with an entry for each pass and each answer.
 #[test]
 fn a_book_is_played_out_alone(rt: HostRuntime) -> Result<(), Fail> {
     let (book, room, ask) = played_alone(&rt, rt.alloc())?;
-    let lines = lines(rt.alloc(), book.record())?;
+    let lines = lines(rt.alloc(), book.game().record())?;
     // the room is (P + 1) * (m + 2 * (m - 1) * (K + 1)) with P = 1, m = 3 and K = 3, the greatest k with 2^k < 16; the claims take 1, 2 and
     // 1 entries, the first dispute 4 of p1 and 8 of p2, the second 4 of p2 and 1 + 2 of p3
     assert_eq!(rt;
@@ -159,7 +163,7 @@ fn both_pass(alloc: Global) -> Result<([(Asked, Option<Replied>, usize); 5], End
         asked_and_passed(&mut book, 1),
         asked_and_passed(&mut book, 2),
     ];
-    Ok((turns, how(book.verdict())))
+    Ok((turns, how(book.game().verdict())))
 }
 
 /// Two silent provers without patience: each pass is spent at once, and a stale one is not noted.
