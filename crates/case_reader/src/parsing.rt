@@ -1,8 +1,8 @@
-ghost use Rattle.std.specs.Prelude.{◌≡◌, ◌≤◌, length, map, IfOk, IfSome};
+ghost use Rattle.std.specs.Prelude.{◌≡◌, ◌≤◌, length, map, IfOk};
 ghost use Rattle.std.specs.Option.{ok_or};
 ghost use Rattle.serde_json.specs.View.{view};
 ghost use Rattle.rd_base.specs.Results.{Gives};
-ghost use Rattle.case_reader.specs.Fields.{has_tasks, text_in, format_in, image_in, input_in, version_in, fan_in, stake_in, provers_in};
+ghost use Rattle.case_reader.specs.Fields.{has_tasks, text_in, format_in, image_in, input_in, version_in, fan_in, provers_in};
 ghost use Rattle.case_reader.specs.Case.{case_of, case_at, tree_of, data_of};
 ghost use Rattle.case_reader.specs.declared.fault.CaseFault.TheVariants.{NotJson};
 
@@ -89,13 +89,6 @@ fn fan_of(tree: &Value) -> Result<u32, CaseFault>
     }
 }
 
-fn stake_of(tree: &Value) -> Result<Option<u64>, CaseFault>
-    ensures value { Gives CaseFault.Memory (λ stake. stake) result (stake_in (view tree.now)) }
-    ensures small { IfOk result (λ stake. IfSome stake (λ s. s ≤ 1000000000)) }
-{
-    optional_number_of(tree, Key::Stake, 0, MAX_STAKE)
-}
-
 #[tactic(auto, unfolding(crate::specs::Fields::provers_in))]
 fn provers_of(tree: &Value) -> Result<&[Value], CaseFault>
     ensures value { Gives CaseFault.Memory (λ provers. map view provers.now) result (provers_in (view tree.now)) }
@@ -135,7 +128,7 @@ pub fn case_of_tree(alloc: Global, tree: &Value) -> Result<Case, CaseFault>
     let patience = number_of(tree, Key::Patience, 0, MAX_PATIENCE)? as u32;
     let version = version_of(tree)?;
     let fan = fan_of(tree)?;
-    let stake = stake_of(tree)?;
+    let stake = optional_number_of(tree, Key::Stake, 0, MAX_STAKE)?;
     let provers = provers_of(tree)?;
     let provers = scripts_of(alloc, provers)?;
     Ok(Case {

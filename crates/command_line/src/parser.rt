@@ -1,5 +1,5 @@
 //! The command line, as `clap` is told it.
-ghost use Rattle.std.specs.Prelude.{◌≡◌, ℕ, pos, false, codes, IfOk};
+ghost use Rattle.std.specs.Prelude.{◌≡◌, ℕ, pos, false, IfOk};
 ghost use Rattle.clap.specs.Walk.{rule_of};
 ghost use Rattle.clap.specs.Simple.{app_of};
 ghost use Rattle.clap.specs.declared.builder.command.Command.TheViews.{out-Command as fields_of};
@@ -26,38 +26,14 @@ fn number_option<'a>(
         .default_value(default)
 }
 
-/// `--workers`, from 1 to 64.
-fn workers_option<'a>(alloc: Global) -> Arg<'a>
-    ensures rule { rule_of result ≡ the_number_option (codes "workers") 64 (codes "1") }
-    ensures own { result.global ≡ false }
-{
-    number_option(alloc, "workers", value_parser!(u32).range(1..=64), "1")
-}
-
-/// `--posters`, from 1 to 16.
-fn posters_option<'a>(alloc: Global) -> Arg<'a>
-    ensures rule { rule_of result ≡ the_number_option (codes "posters") 16 (codes "1") }
-    ensures own { result.global ≡ false }
-{
-    number_option(alloc, "posters", value_parser!(u32).range(1..=16), "1")
-}
-
-/// `--every`, from 1 to 65,536.
-fn every_option<'a>(alloc: Global) -> Arg<'a>
-    ensures rule { rule_of result ≡ the_number_option (codes "every") 65536 (codes "1024") }
-    ensures own { result.global ≡ false }
-{
-    number_option(alloc, "every", value_parser!(u32).range(1..=65_536), "1024")
-}
-
-/// A command with the options of a match.
+/// A command with the options of a match: `--workers` from 1 to 64, `--posters` from 1 to 16, and `--every` from 1 to 65,536.
 fn with_match_options<'a>(alloc: Global, command: Parser<'a>) -> Result<Parser<'a>, AllocError>
     ensures app { IfOk result (λ parser. app_of parser ≡ the_match_options (app_of command.entry)) }
     ensures local { IfOk result (λ parser. (fields_of command.entry).has_globals ≡ false → (fields_of parser).has_globals ≡ false) }
 {
-    let workers = workers_option(alloc);
-    let posters = posters_option(alloc);
-    let every = every_option(alloc);
+    let workers = number_option(alloc, "workers", value_parser!(u32).range(1..=64), "1");
+    let posters = number_option(alloc, "posters", value_parser!(u32).range(1..=16), "1");
+    let every = number_option(alloc, "every", value_parser!(u32).range(1..=65_536), "1024");
     command.arg(workers)?.arg(posters)?.arg(every)
 }
 

@@ -1,4 +1,4 @@
-use Rattle.std.proofs.Common.{◌∙◌, ◌||◌, ap₂, refl}
+use Rattle.std.proofs.Common.{◌∙◌, ◌||◌, ap₂, refl, rules}
 use Rattle.std.proofs.lemmas.Result.{IfOk-weaker}
 use Rattle.clap.specs.Simple.{with_rule}
 use Rattle.command_line.proofs.parser.with_match_options.Goals as goal
@@ -6,10 +6,10 @@ use Rattle.command_line.proofs.parser.with_match_options.Goals as goal
 pub returns-clause-app : goal.returns-clause-app
 returns-clause-app c =
     IfOk-weaker c.arg-3.result _ _
-    (λ parser adds. adds.shape c.every_option-every.ensures.own ∙ ap₂ with_rule
-    (c.in_ok-arg-2.ensures.shape c.posters_option-posters.ensures.own ∙ ap₂ with_rule
-    (c.in_ok-arg.ensures.shape c.workers_option-workers.ensures.own ∙ ap₂ with_rule refl c.workers_option-workers.ensures.rule)
-    c.posters_option-posters.ensures.rule) c.every_option-every.ensures.rule)
+    (λ parser adds. adds.shape c.number_option-every.ensures.own ∙ ap₂ with_rule
+    (c.in_ok-arg-2.ensures.shape c.number_option-posters.ensures.own ∙ ap₂ with_rule
+    (c.in_ok-arg.ensures.shape c.number_option-workers.ensures.own ∙ ap₂ with_rule refl (c.number_option-workers.ensures.rule 64 (search rules)))
+    (c.number_option-posters.ensures.rule 16 (search rules))) (c.number_option-every.ensures.rule 65536 (search rules)))
     c.arg-3.ensures
 
 pub returns-clause-local : goal.returns-clause-local
@@ -17,6 +17,6 @@ returns-clause-local c =
     IfOk-weaker c.arg-3.result _ _
     (λ parser adds none. adds.globals ∙ ap₂ (λ a b. a || b)
     (c.in_ok-arg-2.ensures.globals ∙ ap₂ (λ a b. a || b)
-    (c.in_ok-arg.ensures.globals ∙ ap₂ (λ a b. a || b) none c.workers_option-workers.ensures.own)
-    c.posters_option-posters.ensures.own) c.every_option-every.ensures.own)
+    (c.in_ok-arg.ensures.globals ∙ ap₂ (λ a b. a || b) none c.number_option-workers.ensures.own)
+    c.number_option-posters.ensures.own) c.number_option-every.ensures.own)
     c.arg-3.ensures
