@@ -38,7 +38,8 @@ impl Model for CaseNames {
     ghost inverse = { λ n. record { never = 0 } };
 }
 
-/// The provers of a case.
+/// The provers of a case. The code asks only how many there are and how each one waits, for which it needs their scripts; the rest is
+/// there for contracts alone.
 ///
 /// Contracts see them as the state from which their runs start, the bound, and their scripts.
 #[derive(Drop)]
