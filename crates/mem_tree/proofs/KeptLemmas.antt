@@ -1,5 +1,5 @@
 -- What a tree keeps: nothing but what stands over pages that are used, or stale; and so how much.
-use Rattle.std.proofs.Common.{◌≡◌, ◌≢◌, ◌⊎◌, inl, inr, ℕ, zero, suc, ◌+◌, ◌*◌, ◌/◌, ◌^◌, ◌<◌, ◌≤◌, List, [], ◌∷◌, ◌++◌, length, length-append, is_some, Bool, true, false, true≢false, ◌||◌, refl, sym, ap, ◌∙◌, subst, arith, ⊎_elim}
+use Rattle.std.proofs.Common.{◌≡◌, ◌≢◌, ◌⊎◌, inl, inr, ℕ, zero, suc, ◌+◌, ◌*◌, ◌/◌, ◌^◌, ◌<◌, ◌≤◌, List, [], ◌∷◌, ◌++◌, length, length-append, is_some, true, false, true≢false, refl, sym, ap, ◌∙◌, subst, arith, ⊎_elim}
 use Rattle.std.specs.Ordering.{nat_cmp, eq_by_cmp}
 use Rattle.std.specs.Cmp.{IsEquivalence}
 use Rattle.std.specs.List.{list_any}
@@ -7,7 +7,7 @@ use Rattle.std.specs.List.Sorted.{IsStrictlySortedBy}
 use Rattle.std.specs.Map.{keys_of}
 use Rattle.std.specs.BTreeMap.{is_at}
 use Rattle.std.proofs.Math.Nat.{div-one}
-use Rattle.std.proofs.lemmas.Bool.{cases_Bool, cases_eq, cases_lt, or_cases}
+use Rattle.std.proofs.lemmas.Bool.{cases_Bool, cases_eq, cases_lt, or_cases, or_left, or_right}
 use Rattle.std.proofs.lemmas.Cmp.{eq_by_cmp_equiv, nat_cmp_total, on_total, then_total}
 use Rattle.std.proofs.lemmas.List.Folds.{list_any-append}
 use Rattle.std.proofs.lemmas.Map.Entries.{length-keys_of}
@@ -92,28 +92,20 @@ ways-length (p ∷ rest) = let one = way-length p 21 in let others = ways-length
 place_equal : IsEquivalence (eq_by_cmp by_place)
 place_equal = eq_by_cmp_equiv (then_total (on_total (λ (q : ℕ × ℕ). q.0) nat_cmp_total) (on_total (λ (q : ℕ × ℕ). q.1) nat_cmp_total))
 
-or-left : (a b : Bool) → a ≡ true → (a || b) ≡ true
-or-left true b is = refl
-or-left false b is = absurd (true≢false (sym is))
-
-or-right : (a b : Bool) → b ≡ true → (a || b) ≡ true
-or-right true b is = refl
-or-right false b is = is
-
 on-way : (p n top : ℕ) → n < top → list_any (is_at (by_place (n, p / 2 ^ n))) (way p top) ≡ true
 unfolding way
 on-way p n zero low = absurd (omega arith)
 on-way p n (suc top) low = ⊎_elim
-    (λ same. or-left _ _ (subst (λ i. is_at (by_place (n, p / 2 ^ n)) (i, p / 2 ^ i) ≡ true) same (place_equal.refl (n, p / 2 ^ n))))
-    (λ other. or-right _ _ (on-way p n top (omega arith)))
+    (λ same. or_left _ _ (subst (λ i. is_at (by_place (n, p / 2 ^ n)) (i, p / 2 ^ i) ≡ true) same (place_equal.refl (n, p / 2 ^ n))))
+    (λ other. or_right _ _ (on-way p n top (omega arith)))
     (cases_eq n top)
 
 on-ways : (pages : List ℕ) (p n : ℕ) → is_among pages p ≡ true → n < 21 → list_any (is_at (by_place (n, p / 2 ^ n))) (ways pages) ≡ true
 unfolding ways
 on-ways [] p n among low = absurd (true≢false (sym among))
 on-ways (q ∷ rest) p n among low = list_any-append (is_at (by_place (n, p / 2 ^ n))) (way q 21) (ways rest) ∙ ⊎_elim
-    (λ same. or-left _ _ (subst (λ x. list_any (is_at (by_place (n, p / 2 ^ n))) (way x 21) ≡ true) same (on-way p n 21 low)))
-    (λ other. or-right _ _ (on-ways rest p n (among-rest q rest p other among) low))
+    (λ same. or_left _ _ (subst (λ x. list_any (is_at (by_place (n, p / 2 ^ n))) (way x 21) ≡ true) same (on-way p n 21 low)))
+    (λ other. or_right _ _ (on-ways rest p n (among-rest q rest p other among) low))
     (cases_eq p q)
   where
     among-rest : (q : ℕ) (rest : List ℕ) (p : ℕ) → p ≢ q → is_among (q ∷ rest) p ≡ true → is_among rest p ≡ true

@@ -1,9 +1,8 @@
-ghost use Rattle.std.specs.Prelude.{◌≡◌, ◌≢◌, ◌⊎◌, ◌+◌, ◌-◌, ◌*◌, ◌/◌, ◌≤◌, ◌<◌, ◌^◌, ◌||◌, ℕ, List, [], length, OnOk, OnErr, Option, None, is_some, false, true};
+ghost use Rattle.std.specs.Prelude.{◌≡◌, ◌≢◌, ◌⊎◌, ◌+◌, ◌-◌, ◌*◌, ◌/◌, ◌≤◌, ◌<◌, ◌^◌, ◌||◌, ℕ, List, [], length, OnOk, OnErr, None, is_some, false, true};
 ghost use Rattle.digest_core.specs.Text.{node_text as node_string};
-ghost use Rattle.mem_plain.specs.Contents.{Contents};
 ghost use Rattle.merkle_nodes.specs.Node.{digest_at};
 ghost use Rattle.mem_tree.specs.Page.{AreEmpty, IsMadeTree, IsPageOf, kept_or};
-ghost use Rattle.mem_tree.specs.Tree.{kept_of, page_at, page_node as node_in_page, upper_at, upper_node as node_above, AllMade, IsJoinedBut, IsOfTwo, IsRaised, is_among};
+ghost use Rattle.mem_tree.specs.Tree.{kept_of, page_at, page_node as node_in_page, upper_at, upper_node as node_above, AllMade, IsJoinedBut, IsRaised, is_among};
 ghost use Rattle.mem_tree.specs.Costs.{changed_chunks, needs, page_changes, page_needs};
 
 use crate::kept::{Nodes, PageTree};

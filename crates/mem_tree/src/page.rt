@@ -1,11 +1,11 @@
-ghost use Rattle.std.specs.Prelude.{◌≡◌, ◌↔◌, ◌+◌, ◌*◌, ◌≤◌, ◌<◌, ◌^◌, ℕ, List, Some, None, length, vec_len, is_some, false, IfOk, OnErr, OnOk, IsTrue};
+ghost use Rattle.std.specs.Prelude.{◌≡◌, ◌↔◌, ◌+◌, ◌<◌, ◌^◌, ℕ, List, Some, length, vec_len, is_some, false, IfOk, OnErr, OnOk, IsTrue};
 ghost use Rattle.mem_plain.specs.Contents.{IsUsed};
 ghost use Rattle.merkle_nodes.specs.Node.{digest_at};
 ghost use Rattle.merkle_nodes.specs.Heap.{HasLeaves, IsHeap, is_marked};
 ghost use Rattle.merkle_nodes.specs.Renewals.{how_many, is_changed, renewals};
-ghost use Rattle.mem_tree.specs.Page.{AreEmpty, IsMadeTree, IsPageTree, chunk_in, heap_node, kept_or, leaf_of, page_chunk, zero_chunks};
+ghost use Rattle.mem_tree.specs.Page.{AreEmpty, IsMadeTree, IsPageTree, chunk_in, heap_node, leaf_of, page_chunk, zero_chunks};
 ghost use Rattle.mem_tree.specs.Tree.{IsRoot};
-ghost use Rattle.mem_tree.specs.Costs.{are_different, differs, has_changed, page_changes, page_renewals};
+ghost use Rattle.mem_tree.specs.Costs.{are_different, differs, has_changed, page_renewals};
 
 use crate::kept::PageTree;
 use digest_core::{Digester, leaf_text};

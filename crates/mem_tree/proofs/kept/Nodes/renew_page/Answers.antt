@@ -69,14 +69,14 @@ returns-then-changed-clause-least g c =
     let page = c.args.page in
     let laws = c.renewals_are_few.ensures in
     let was = c.take_page-before.ensures.taken in
-    let needs = needs-most laws.few laws.most laws.root laws.some c.take_page-before.result m page in
+    let needs = needs-most c.take_page-before.result m page in
     let moved : page_needs (page_at (kept_of c.args.self.now) page) m page ≡ page_needs c.take_page-before.result m page = ap (λ (o : Option PageTree). page_needs o m page) (sym was) in
     let more = c.place.ensures.more in
     let made = c.in_ok-tree.ensures.steps in
     at-least c.in_ok-tree.tree c.args.steps.now c.page_tree_after.new.steps c.place.new.steps (page_renewals c.take_page-before.result m page)
     (page_needs c.take_page-before.result m page) _ moved made more needs
     (λ is. c.in_ok-place.ensures.counted is)
-    (λ not. needs-empty laws.few laws.most laws.root laws.some c.take_page-before.result m page (unused-filled laws.root laws.some m page (λ used. true≢false (sym (c.in_ok-tree.ensures.tree.page_of.used.1 used) ∙ not))))
+    (λ not. needs-empty c.take_page-before.result m page (unused-filled laws.root laws.some m page (λ used. true≢false (sym (c.in_ok-tree.ensures.tree.page_of.used.1 used) ∙ not))))
 
 pub returns-clause-whole : goal.returns-clause-whole
 returns-clause-whole g c = λ before.
@@ -128,7 +128,6 @@ pub returns-clause-least : goal.returns-clause-least
 returns-clause-least g c =
     let m = c.args.mem.now in
     let page = c.args.page in
-    let laws = c.renewals_are_few.ensures in
-    let none = needs-none laws.few laws.most laws.root laws.some c.take_page-before.result m page (sym c.in_ok-tree.ensures.changed ∙ c.if-changed.false) in
+    let none = needs-none c.take_page-before.result m page (sym c.in_ok-tree.ensures.changed ∙ c.if-changed.false) in
     let moved : page_needs (page_at (kept_of c.args.self.now) page) m page ≡ page_needs c.take_page-before.result m page = ap (λ (o : Option PageTree). page_needs o m page) (sym c.take_page-before.ensures.taken) in
     omega (arith, none, moved, c.in_ok-tree.ensures.steps)
