@@ -2,6 +2,7 @@
 use Rattle.std.proofs.Common.{◌≡◌, ◌≢◌, ℕ, zero, suc, ◌+◌, ◌-◌, ◌<◌, ◌≤◌, Bool, true, false, ◌&&◌, ◌==◌, if◌then◌else◌, List, [], ◌∷◌, ◌++◌, length, replicate, slice_get, Option, Some, None, is_none, inl, inr, refl, sym, ◌∙◌, ap, arith, append-nil, append_assoc}
 use Rattle.std.proofs.lemmas.Bool.Decides.{nat_tests}
 use Rattle.std.proofs.lemmas.Bool.{cases_Bool, and_parts}
+use Rattle.std.proofs.Math.Bool.{and-false}
 use Rattle.rd_base.specs.declared.answer.Qid.{Qid}
 use Rattle.bisect_game.specs.declared.settled.Round.{Round}
 use Rattle.bisect_game.specs.declared.question.Question.{Question}
@@ -15,7 +16,7 @@ use Rattle.text_types.specs.declared.text.TextMove.{TextMove}
 use Rattle.text_types.specs.MoveLists.{qid_of, move_if, moves_of_claims, moves_of_round, moves_of_past, moves_of_dispute, moves_of_disputes, moves_of}
 use Rattle.audit.specs.NextEntry.{next_claim, next_in, claim_or, next}
 use Rattle.audit.specs.OwnMatch.{settled_by_lines}
-use Rattle.audit.proofs.NextLemmas.{IsMissing, next-missing, none-missing, and-false, pair-first, pair-second}
+use Rattle.audit.proofs.NextLemmas.{IsMissing, next-missing, none-missing, pair-first, pair-second}
 use Rattle.audit.proofs.StatedLemmas.{eqb-same}
 use Rattle.audit.proofs.OrderLemmas.{move_on, AllNone, ClaimsInOrder, order-none, set-order, set-moves, set-length, missing-not-there, none-all-there, AllBegun, DisputesInOrder, begun-moves, moves-both, out-order, HasSides, AllSided, sided-both, rising-live, pairs-in, sided-new, begun-new, SameSides, IsSettledIn, settled-first, settled-second, IsOpenSide, side-open, side-settled}
 

@@ -1,5 +1,6 @@
 -- The next entry is an open question, and where there is none nobody is asked.
-use Rattle.std.proofs.Common.{◌≡◌, ℕ, zero, suc, ◌+◌, ◌-◌, ◌<◌, ◌≤◌, Bool, true, false, ◌&&◌, ◌==◌, if◌then◌else◌, List, [], ◌∷◌, length, slice_get, Option, Some, None, refl, ◌∙◌, ap, arith, subst}
+use Rattle.std.proofs.Common.{◌≡◌, ℕ, zero, suc, ◌+◌, ◌-◌, ◌<◌, ◌≤◌, Bool, true, false, ◌==◌, if◌then◌else◌, List, [], ◌∷◌, length, slice_get, Option, Some, None, refl, ◌∙◌, ap, arith, subst}
+use Rattle.std.proofs.Math.Bool.{and-false}
 use Rattle.bisect_game.specs.declared.question.Question.{Question}
 use Rattle.bisect_game.specs.declared.settled.Settled.{Settled}
 use Rattle.bisect_game.specs.declared.settled.Side.TheVariants.{First, Second}
@@ -8,10 +9,6 @@ use Rattle.bisect_game.specs.Bisection.{Bisection, question_of, asks}
 use Rattle.tournament.specs.Bracket.{Record, claim_question, question_in, claim_missing, open_question}
 use Rattle.audit.specs.NextEntry.{next_claim, next_in, claim_or, next}
 use Rattle.audit.proofs.StatedLemmas.{eqb-same}
-
-pub and-false : (b : Bool) → (b && false) ≡ false
-and-false true = refl
-and-false false = refl
 
 some-pair : (x y : ℕ × Question) → Some x ≡ Some y → x ≡ y
 some-pair x y e = cc

@@ -5,7 +5,7 @@ use Rattle.std.specs.List.Sorted.{IsPermutation}
 use Rattle.std.proofs.Math.Nat.{mul-sub, mul-add}
 use Rattle.std.proofs.lemmas.List.Sums.{sum_by-cons}
 use Rattle.std.proofs.lemmas.List.Sorted.{sum_by-IsPermutation, All-permutation}
-use Rattle.std.proofs.lemmas.Bool.{or_cases}
+use Rattle.std.proofs.lemmas.Bool.{or_cases, and_parts}
 use Rattle.bisect_game.specs.declared.settled.Close.TheVariants.{Out, Collision}
 use Rattle.tournament.specs.OpenDisputes.{one_if}
 use Rattle.deposits.specs.Events.{Event, puts_out, pays, pooled, outs, wins, spent, IsEventOf, AllEventsOf}
@@ -96,18 +96,14 @@ none-out o p q zero (suc n) same is =
     ap any (rw here at is)
 none-out o p q (suc k) (suc n) same is = none-out o p (q + 1) k n (omega (arith, same)) is
 
-right-of : (a b : Bool) → (a && b) ≡ true → b ≡ true
-right-of true b e = e
-right-of false b e = absurd (cc)
-
 -- whom an event puts out has a number from 1 on
 named : (n : ℕ) (e : Event) (p : ℕ) → IsEventOf n e → puts_out e p ≡ true → 0 < p
 named n (ClaimOut q) p i put = let same : q ≡ p = is-same q p put in rw (← same) i.0
 named n (Closed a b (Collision x y)) p i put = absurd (cc)
 named n (Closed a b (Out x y)) p i put =
     elim (or_cases (x && (a == p)) (y && (b == p)) put) [
-      | inl e ↦ let same : a ≡ p = is-same a p (right-of x (a == p) e) in rw (← same) i.first.0
-      | inr e ↦ let same : b ≡ p = is-same b p (right-of y (b == p) e) in rw (← same) i.second.0
+      | inl e ↦ let same : a ≡ p = is-same a p (and_parts x (a == p) e).1 in rw (← same) i.first.0
+      | inr e ↦ let same : b ≡ p = is-same b p (and_parts y (b == p) e).1 in rw (← same) i.second.0
     ]
 
 can-more : (s n : ℕ) (e : Event) (w o : ℕ → ℕ) (k : ℕ) → IsEventOf n e → ((p : ℕ) → o p + one_if (puts_out e p) ≤ 1) → CanTell (accounts_by s n w o k) e

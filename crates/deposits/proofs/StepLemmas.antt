@@ -2,6 +2,7 @@
 use Rattle.std.proofs.Common.{◌≡◌, ◌≢◌, ℕ, zero, suc, ◌+◌, ◌-◌, ◌*◌, ◌<◌, ◌≤◌, Bool, true, false, ◌||◌, ◌==◌, List, [], ◌∷◌, length, replicate, sum, slice_index, slice_index_or, slice_set, refl, sym, ◌∙◌, ap, arith}
 use Rattle.std.proofs.lemmas.Bool.Decides.{nat_tests}
 use Rattle.std.proofs.lemmas.List.Sums.{sum_by-cons}
+use Rattle.std.proofs.lemmas.Bool.{or_right}
 use Rattle.bisect_game.specs.declared.settled.Close.TheVariants.{Out}
 use Rattle.tournament.specs.OpenDisputes.{one_if}
 use Rattle.deposits.specs.Events.{Event, puts_out, pays, pooled}
@@ -80,12 +81,7 @@ marks-set q p zero (o ∷ os) e lt = two-cells _ _ _ _ (rw (same-test q p (omega
     or-true false = refl
 marks-set q p (suc k) (o ∷ os) e lt = two-cells _ _ _ _ (rw (other-test q p (λ same. omega (arith, e, same))) (sym (or-false o))) (marks-set q (p + 1) k os (omega (arith, e)) (omega (arith, lt)))
 
--- what a place has at most, and at least
-
-pub place-within : (k : ℕ) (xs : List ℕ) → k < length xs → slice_index xs k ≤ sum xs
-place-within k [] lt = absurd (omega arith)
-place-within zero (x ∷ xs) lt = omega (arith, sum-cons x xs)
-place-within (suc k) (x ∷ xs) lt = omega (arith, sum-cons x xs, place-within k xs (omega (arith, lt)))
+-- what a place has at least
 
 pub has-stake : (s k : ℕ) (xs : List ℕ) (os : List Bool) → AllHaveStake s xs os → length os ≡ length xs → k < length xs → slice_index_or os k false ≡ false → s ≤ slice_index xs k
 has-stake s k [] os a same lt live = absurd (omega arith)
@@ -343,17 +339,13 @@ pub told-length : (stake : ℕ) (e : Event) (p : ℕ) (xs : List ℕ) → length
 told-length stake e p [] = refl
 told-length stake e p (x ∷ xs) = ap suc (told-length stake e (p + 1) xs)
 
-or-right : (a b : Bool) → b ≡ true → (a || b) ≡ true
-or-right true b e = refl
-or-right false b e = e
-
 pub second-can : (s : Accounts) (a b : ℕ) → CanTell s (Closed a b (Out true true)) → CanTell (told s (ClaimOut a)) (ClaimOut b)
 second-can s a b can = record {
   known = rw (told-length s.stake (ClaimOut a) 1 s.of) can.known.second;
   not_yet = λ p put.
       let same : b ≡ p = is-same b p put in
       let some : 0 < p = rw same at can.known.second.0 in
-      not-out-after s (ClaimOut a) p some (can.not_yet p (or-right (a == p) (b == p) put)) (other-test a p (λ e. can.known.two (e ∙ sym same)));
+      not-out-after s (ClaimOut a) p some (can.not_yet p (or_right (a == p) (b == p) put)) (other-test a p (λ e. can.known.two (e ∙ sym same)));
 }
 
 pub count-of : (x k : ℕ) → length (replicate k x) ≡ k

@@ -1,5 +1,6 @@
 -- Nothing is lost: balances and pool add up to the stakes after any events that may be told.
 use Rattle.std.proofs.Common.{◌≡◌, ℕ, ◌+◌, ◌-◌, ◌*◌, ◌<◌, ◌≤◌, Bool, true, false, ◌||◌, ◌==◌, List, [], ◌∷◌, length, refl, sym, ◌∙◌, arith, subst}
+use Rattle.std.proofs.lemmas.Bool.{or_left}
 use Rattle.bisect_game.specs.declared.settled.Close.TheVariants.{Out, Collision}
 use Rattle.deposits.specs.Events.{Event, events_of}
 use Rattle.deposits.specs.Events.Event.{ClaimOut, Closed}
@@ -23,12 +24,8 @@ funded-claim a p i can =
     let one : a.pool + a.stake ≡ a.pool + a.stake * 1 = omega arith in
     subst (λ (n : ℕ). IsFunded a.stake (balances_told a.stake (ClaimOut p) 1 a.of) (outs_told (ClaimOut p) 1 a.out) n) one m
 
-or-left : (a b : Bool) → a ≡ true → (a || b) ≡ true
-or-left true b e = refl
-or-left false b e = absurd (cc)
-
 first-can : (s : Accounts) (a b : ℕ) → CanTell s (Closed a b (Out true true)) → CanTell s (ClaimOut a)
-first-can s a b can = record { known = can.known.first; not_yet = λ p put. can.not_yet p (or-left (a == p) (b == p) put) }
+first-can s a b can = record { known = can.known.first; not_yet = λ p put. can.not_yet p (or_left (a == p) (b == p) put) }
 
 funded-pass : (s : Accounts) (a b : ℕ) → Funded s → CanTell s (Closed a b (Out true false)) → Funded (told s (Closed a b (Out true false)))
 funded-pass s a b i can =
@@ -39,7 +36,7 @@ funded-pass s a b i can =
     let lt : a - 1 < length s.of = omega (arith, some, few) in
     let lt2 : b - 1 < length s.of = omega (arith, some2, few2) in
     let flags : length s.out ≡ length s.of = i.flags in
-    let live : is_out s a ≡ false = can.not_yet a (or-left (a == a) false (same-test a a refl)) in
+    let live : is_out s a ≡ false = can.not_yet a (or_left (a == a) false (same-test a a refl)) in
     let len : length (loses s.stake a 1 s.of) ≡ length s.of = loses-length s.stake a 1 s.of in
     let k = kept-pass s.stake a b (a - 1) (b - 1) s.of s.out s.pool i (place-of a some) (place-of b some2) lt lt2 live in
     let m = rw (loses-set s.stake a 1 (a - 1) s.of (place-of a some) lt) at k in

@@ -1,7 +1,7 @@
 -- How many nodes of a heap are made anew.
 use Rattle.std.proofs.Common.{◌≡◌, ℕ, zero, suc, ◌+◌, ◌*◌, ◌-◌, ◌/◌, ◌%◌, ◌^◌, ◌<◌, ◌≤◌, Bool, true, false, ◌||◌, cond, refl, sym, ap, ◌∙◌, subst, arith, ⊎_elim}
 use Rattle.std.proofs.Math.Nat.{pow-suc}
-use Rattle.std.proofs.lemmas.Bool.{cases_eq}
+use Rattle.std.proofs.lemmas.Bool.{cases_eq, or_right}
 use Rattle.std.proofs.lemmas.Nat.{pow_pos}
 use Rattle.merkle_nodes.specs.Renewals.{how_many, is_changed, renewals_up_to, renewals}
 use Rattle.merkle_nodes.proofs.HeapLemmas.{pow-up}
@@ -136,12 +136,8 @@ module _ (changed : ℕ → Bool) where
       half : (q : ℕ) (f : ℕ → Bool) → f q ≡ true → (f (2 * (q / 2)) || f (2 * (q / 2) + 1)) ≡ true
       half q f is = ⊎_elim
           (λ even. let left : 2 * (q / 2) ≡ q = omega arith in rw (ap f left, is) refl)
-          (λ odd. let right : 2 * (q / 2) + 1 ≡ q = omega arith in last (f (2 * (q / 2))) (f (2 * (q / 2) + 1)) (ap f right ∙ is))
+          (λ odd. let right : 2 * (q / 2) + 1 ≡ q = omega arith in or_right (f (2 * (q / 2))) (f (2 * (q / 2) + 1)) (ap f right ∙ is))
           (cases_eq (q % 2) 0)
-        where
-          last : (a b : Bool) → b ≡ true → (a || b) ≡ true
-          last true b is = refl
-          last false b is = is
 
   pub root-changed : (n k : ℕ) → k < 2 ^ n → changed k ≡ true → is_changed changed n 0 ≡ true
   root-changed n k low is =

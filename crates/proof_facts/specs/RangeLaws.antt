@@ -1,7 +1,7 @@
 -- Derived: what the ranges of a proof's types say.
-use Rattle.std.proofs.Common.{◌≡◌, ℕ, zero, suc, ◌^◌, ◌<◌, ltb, List, [], ◌∷◌, length, slice_index, Bool, true, false, ◌&&◌, eqb, refl, arith, Option, Some, None}
+use Rattle.std.proofs.Common.{◌≡◌, ℕ, zero, suc, ◌^◌, ◌<◌, ltb, List, [], ◌∷◌, length, slice_index, true, ◌&&◌, eqb, refl, arith, Option, Some, None}
 use Rattle.std.proofs.lemmas.Bool.Decides.{Decides-eqb, Decides-ltb}
-use Rattle.std.proofs.lemmas.Bool.{and_parts}
+use Rattle.std.proofs.lemmas.Bool.{and_parts, and_from}
 use Rattle.rd_base.specs.declared.digest.Digest32.{Digest32}
 use Rattle.merkle_nodes.specs.Node.{digest_at}
 use Rattle.proof_facts.specs.InRange.{are_words, are_digests, is_opening_in_range, is_ctl_in_range, is_input_in_range, are_openings_in_range, are_registers_in_range, is_tree_in_range, are_facts_in_range}
@@ -14,20 +14,16 @@ use Rattle.proof_facts.specs.declared.facts.HeldInput.{HeldInput}
 use Rattle.proof_facts.specs.declared.facts.HeldRegisters.{HeldRegisters}
 use Rattle.proof_facts.specs.declared.facts.HeldRegisters.TheVariants.{Whole, Opened}
 
-and-true : (a b : Bool) → a ≡ true → b ≡ true → (a && b) ≡ true
-and-true true b x y = y
-and-true false b x y = x
-
 pub words_are : (xs : List ℕ) → ((r : ℕ) → slice_index xs r < 2 ^ 32) → are_words xs ≡ true
 unfolding are_words
 words_are [] words = refl
-words_are (x ∷ xs) words = and-true (ltb x (2 ^ 32)) (are_words xs) ((Decides-ltb x (2 ^ 32)).1 (words 0)) (words_are xs (λ r. words (suc r)))
+words_are (x ∷ xs) words = and_from (ltb x (2 ^ 32)) (are_words xs) ((Decides-ltb x (2 ^ 32)).1 (words 0)) (words_are xs (λ r. words (suc r)))
 
 pub digests_are : (ds : List Digest32) → ((l : ℕ) → l < length ds → length (digest_at ds l) ≡ 32) → are_digests ds ≡ true
 unfolding are_digests
 digests_are [] sizes = refl
 digests_are (d ∷ ds) sizes =
-    and-true (eqb (length d.0) 32) (are_digests ds) ((Decides-eqb (length d.0) 32).1 (sizes 0 (omega arith))) (digests_are ds (λ l below. sizes (suc l) (omega arith)))
+    and_from (eqb (length d.0) 32) (are_digests ds) ((Decides-eqb (length d.0) 32).1 (sizes 0 (omega arith))) (digests_are ds (λ l below. sizes (suc l) (omega arith)))
 
 -- a path has so many digests of 32 bytes
 pub record IsPathOf (n : ℕ) (path : List Digest32) : Type 0 where

@@ -1,22 +1,17 @@
 -- What is written of a field is read back.
-use Rattle.std.proofs.Common.{◌≡◌, ◌≢◌, ℕ, zero, suc, ◌+◌, ◌-◌, ◌/◌, ◌%◌, ◌^◌, ◌<◌, ◌≤◌, nat_lt, Bool, true, false, ◌&&◌, ◌==◌, List, [], ◌∷◌, ◌++◌, length, slice_index, Some, Ok, refl, ◌∙◌, ap, arith, append_assoc}
+use Rattle.std.proofs.Common.{◌≡◌, ◌≢◌, ℕ, zero, suc, ◌+◌, ◌-◌, ◌/◌, ◌%◌, ◌^◌, ◌<◌, ◌≤◌, nat_lt, true, false, ◌==◌, List, [], ◌∷◌, ◌++◌, length, slice_index, Some, Ok, refl, ◌∙◌, ap, arith, append_assoc}
 use Rattle.std.specs.Prelude.{decimal}
 use Rattle.std.proofs.lemmas.Bool.Decides.{nat_tests}
 use Rattle.std.proofs.lemmas.Fmt.{decimal_by_steps}
+use Rattle.std.proofs.lemmas.Bool.{and_parts}
 use Rattle.hex.specs.Hex.{encode_with, encode_lower, lower_digits}
 use Rattle.hex.proofs.HexLemmas.{decode_of-encode_lower}
 use Rattle.text_reader.specs.TextLines.{line, begun_with, lines_of, cut_front, cut_at}
-use Rattle.text_reader.specs.Fields.{after, is_digit, with_digit, digits_at, number_at, small_number_at, is_lower, are_lower, hex_of, some_hex_of}
+use Rattle.text_reader.specs.Fields.{is_digit, with_digit, digits_at, number_at, small_number_at, is_lower, are_lower, hex_of, some_hex_of}
 use Rattle.text_reader.specs.InLimits.{AreBytes}
 
 pub eqb-same : (n : ℕ) → (n == n) ≡ true
 eqb-same n = grind (arith, nat_tests)
-
--- words
-
-pub after-word : (word rest : List ℕ) → after word (word ++ rest) ≡ Some rest
-after-word [] rest = refl
-after-word (w ∷ ws) rest = rw (eqb-same w) (after-word ws rest)
 
 -- numbers
 
@@ -95,16 +90,8 @@ small-back n rest few free =
 
 lower-at : (xs : List ℕ) (d : ℕ) → are_lower xs ≡ true → is_lower (slice_index xs d) ≡ true
 lower-at [] d e = refl
-lower-at (x ∷ xs) zero e = first-true (is_lower x) (are_lower xs) e
-  where
-    first-true : (a b : Bool) → (a && b) ≡ true → a ≡ true
-    first-true true b e = refl
-    first-true false b e = absurd (cc)
-lower-at (x ∷ xs) (suc d) e = lower-at xs d (second-true (is_lower x) (are_lower xs) e)
-  where
-    second-true : (a b : Bool) → (a && b) ≡ true → b ≡ true
-    second-true true b e = e
-    second-true false b e = absurd (cc)
+lower-at (x ∷ xs) zero e = (and_parts (is_lower x) (are_lower xs) e).0
+lower-at (x ∷ xs) (suc d) e = lower-at xs d (and_parts (is_lower x) (are_lower xs) e).1
 
 encoded-lower : (xs : List ℕ) → are_lower (encode_lower xs) ≡ true
 unfolding encode_with

@@ -1,7 +1,7 @@
 -- A prover is in at most one open dispute, so that its open question stays while others post.
 use Rattle.std.proofs.Common.{◌≡◌, ◌≢◌, ℕ, zero, suc, ◌+◌, ◌-◌, ◌<◌, ◌≤◌, nat_le, Bool, true, false, not, ◌&&◌, ◌||◌, ◌==◌, if◌then◌else◌, List, [], ◌∷◌, ◌++◌, length, replicate, slice_get, slice_set, inl, inr, Option, Some, None, is_some, is_none, refl, sym, ◌∙◌, ap, arith}
 use Rattle.std.proofs.lemmas.Bool.Decides.{nat_tests}
-use Rattle.std.proofs.lemmas.Bool.{and_parts, cases_Bool}
+use Rattle.std.proofs.lemmas.Bool.{and_parts, cases_Bool, or_left, or_right, or_parts}
 use Rattle.rd_base.specs.declared.digest.Digest32.{Digest32}
 use Rattle.rd_base.specs.declared.claim.Claim.{Claim}
 use Rattle.bisect_game.specs.declared.question.Question.{Question}
@@ -203,21 +203,14 @@ apart-nothing rules p = record { claims = none-length rules.provers; one = omega
 one-touch : (a b c : Bool) → (a || b) ≡ true → c ≡ false → one_if ((a || b) && not c) ≡ 1
 one-touch a b c e f = rw (e, f) refl
 
-pub or-left : (a b : Bool) → a ≡ true → (a || b) ≡ true
-or-left a b e = rw e refl
-
-pub or-right : (a b : Bool) → b ≡ true → (a || b) ≡ true
-or-right true b e = refl
-or-right false b e = e
-
 engaged-in : (p : ℕ) (q : Question) (d : Bisection) (ds : List Bisection) (u v : Bool) → asks_first p d ≡ u → asks_second p d ≡ v →
     (if u || v then Some (question_of d) else question_in p ds) ≡ Some q → (question_in p ds ≡ Some q → 1 ≤ open_disputes_of p ds) → 1 ≤ open_disputes_of p (d ∷ ds)
 engaged-in p q d ds true v eu ev e r =
     let a : ((d.first == p) ≡ true) × IsOpen d.by_first d.close = opens (d.first == p) d.by_first d.close eu in
-    omega (arith, one-touch (d.first == p) (d.second == p) (is_closed d) (or-left _ _ a.0) a.1.still)
+    omega (arith, one-touch (d.first == p) (d.second == p) (is_closed d) (or_left _ _ a.0) a.1.still)
 engaged-in p q d ds false true eu ev e r =
     let a : ((d.second == p) ≡ true) × IsOpen d.by_second d.close = opens (d.second == p) d.by_second d.close ev in
-    omega (arith, one-touch (d.first == p) (d.second == p) (is_closed d) (or-right _ _ a.0) a.1.still)
+    omega (arith, one-touch (d.first == p) (d.second == p) (is_closed d) (or_right _ _ a.0) a.1.still)
 engaged-in p q d ds false false eu ev e r = omega (arith, r e)
 
 pub engaged-asked : (p : ℕ) (q : Question) (ds : List Bisection) → question_in p ds ≡ Some q → 1 ≤ open_disputes_of p ds
@@ -253,16 +246,9 @@ second-waits : (ruling : Ruling) (s : Settled) (d : Bisection) → d.by_first �
 unfolding settle_second
 second-waits ruling s d e = ap (λ (o : Option Settled). advanced ruling (record d { by_second = Some s }) o (Some s)) e
 
-and-false : (a b : Bool) → a ≡ false → (a && b) ≡ false
-and-false a b e = rw e refl
-
-neither : (a b : Bool) → (a || b) ≡ false → (a ≡ false) × (b ≡ false)
-neither true b e = absurd (cc)
-neither false b e = (refl, e)
-
 not-asked : (p : ℕ) (d : Bisection) → is_side p d ≡ false → (asks_first p d || asks_second p d) ≡ false
 not-asked p d e =
-    let two : ((d.first == p) ≡ false) × ((d.second == p) ≡ false) = neither (d.first == p) (d.second == p) e in
+    let two : ((d.first == p) ≡ false) × ((d.second == p) ≡ false) = or_parts (d.first == p) (d.second == p) e in
     rw (two.0, two.1) refl
 
 -- a prover asked further on is no side of an open dispute before
@@ -289,13 +275,13 @@ stays-choice rules p who s q d ds true y true v ex ey eu ev ne le e r =
     absurd (ne (sym (is-eqb d.first who a.0) ∙ is-eqb d.first p b.0))
 stays-choice rules p who s q d ds true y false true ex ey eu ev ne le e r =
     let b : ((d.second == p) ≡ true) × IsOpen d.by_second d.close = opens (d.second == p) d.by_second d.close ev in
-    rw (first-waits rules.ruling s d b.1.missing, or-right (asks_first p (record d { by_first = Some s })) (asks_second p d) ev) e
+    rw (first-waits rules.ruling s d b.1.missing, or_right (asks_first p (record d { by_first = Some s })) (asks_second p d) ev) e
 stays-choice rules p who s q d ds true y false false ex ey eu ev ne le e r =
     let a : ((d.first == who) ≡ true) × IsOpen d.by_first d.close = opens (d.first == who) d.by_first d.close ex in
     passed-by p q d (settle_first rules.ruling s d) ds (sides-first rules.ruling s d) (apart-here p q d ds le a.1.still e) e
 stays-choice rules p who s q d ds false true true v ex ey eu ev ne le e r =
     let b : ((d.first == p) ≡ true) × IsOpen d.by_first d.close = opens (d.first == p) d.by_first d.close eu in
-    rw (second-waits rules.ruling s d b.1.missing, or-left (asks_first p d) (asks_second p (record d { by_second = Some s })) eu) e
+    rw (second-waits rules.ruling s d b.1.missing, or_left (asks_first p d) (asks_second p (record d { by_second = Some s })) eu) e
 stays-choice rules p who s q d ds false true false true ex ey eu ev ne le e r =
     let a : ((d.second == who) ≡ true) × IsOpen d.by_second d.close = opens (d.second == who) d.by_second d.close ey in
     let b : ((d.second == p) ≡ true) × IsOpen d.by_second d.close = opens (d.second == p) d.by_second d.close ev in

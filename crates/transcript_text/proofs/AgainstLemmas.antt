@@ -2,6 +2,7 @@
 use Rattle.std.proofs.Common.{◌≡◌, ℕ, suc, ◌+◌, ◌-◌, Bool, true, false, ◌&&◌, ◌||◌, ◌==◌, inl, inr, List, [], ◌∷◌, ◌++◌, length, slice_get, Option, Some, None, if◌then◌else◌, refl, arith}
 use Rattle.std.specs.Prelude.{min}
 use Rattle.std.proofs.lemmas.Bool.Decides.{nat_tests}
+use Rattle.std.proofs.lemmas.Bool.{or_from}
 use Rattle.rd_base.specs.declared.answer.Answer.TheVariants as answer
 use Rattle.bisect_game.specs.declared.settled.Round.{Round}
 use Rattle.bisect_game.specs.declared.question.Kind.{Kind}
@@ -32,9 +33,6 @@ are_against-append p (x ∷ xs) ys e f = both (is_against_if_there p x) (are_aga
     both true b e g = e
     both false b e g = g e
 
-neither : (a b : Bool) → a ≡ false → b ≡ false → (a || b) ≡ false
-neither a b e f = rw (e, f) refl
-
 -- what is said of one side, where nothing is said against it if it is the prover's
 quiet-side : (q p : ℕ) (w : Word) → (q ≡ p → speaks_against w ≡ false) → ((q == p) && speaks_against w) ≡ false
 quiet-side q p w quiet = decided (q == p) refl
@@ -44,7 +42,7 @@ quiet-side q p w quiet = decided (q == p) refl
     decided false e = refl
 
 quiet-said : (p : ℕ) (d : Bisection) (x y : Word) → (d.first ≡ p → speaks_against x ≡ false) → (d.second ≡ p → speaks_against y ≡ false) → is_said_against p (said_in d x y) ≡ false
-quiet-said p d x y f g = neither _ _ (quiet-side d.first p x f) (quiet-side d.second p y g)
+quiet-said p d x y f g = or_from _ _ (quiet-side d.first p x f) (quiet-side d.second p y g)
 
 true-word : (t : Truth) (k : Kind) (s : Settled) → IsTrueSettled t k s → speaks_against (said_word s) ≡ false
 true-word t k (Given a) is = refl
@@ -94,7 +92,7 @@ quiet-rounds : (t : Truth) (fan p : ℕ) (d : Bisection) (n : ℕ) (rs : List Ro
     → are_against p (lines_of_rounds d n rs) ≡ false
 quiet-rounds t fan p d n [] f g = refl
 quiet-rounds t fan p d n (r ∷ rs) f g =
-    neither _ _
+    or_from _ _
     (quiet-round p d n r.lo r.hi r.first r.second (λ mine. true-word t _ r.first (f mine).0) (λ mine. true-word t _ r.second (g mine).0))
     (quiet-rounds t fan p d (n + 1) rs (λ mine. (f mine).1) (λ mine. (g mine).1))
 
@@ -123,10 +121,10 @@ quiet-last t k p d None b f g = refl
 
 quiet-dispute : (rules : Rules) (t : Truth) (p before : ℕ) (d : Bisection) → TrueIn rules t p d → RightIn t p d → are_against p (lines_of_dispute before d) ≡ false
 quiet-dispute rules t p before d is right =
-    neither _ _ (quiet-choice p (d.stage == before) None (Some (stage_line d.stage)) refl refl)
+    or_from _ _ (quiet-choice p (d.stage == before) None (Some (stage_line d.stage)) refl refl)
     (are_against-append p (lines_of_rounds d 1 d.past) _
     (quiet-rounds t d.fan p d 1 d.past (λ mine. (is.first mine).past) (λ mine. (is.second mine).past))
-    (neither _ _
+    (or_from _ _
     (quiet-last t _ p d d.by_first d.by_second (λ mine. ((right.first mine).stays, (is.first mine).open_)) (λ mine. ((right.second mine).stays, (is.second mine).open_)))
     refl))
 
@@ -160,7 +158,7 @@ quiet-claim p q (Some Spent) f = quiet-side q p word.Spent (λ mine. absurd (f m
 quiet-claims : (p q : ℕ) (ss : List (Option Settled)) → ((k : ℕ) → q + k ≡ p → IsQuietClaim (claimed (slice_get ss k))) → are_against p (lines_of_claims q ss) ≡ false
 quiet-claims p q [] f = refl
 quiet-claims p q (s ∷ ss) f =
-    neither _ _ (quiet-claim p q s (λ mine. f 0 (omega (arith, mine)))) (quiet-claims p (q + 1) ss (λ k is. f (suc k) (omega (arith, is))))
+    or_from _ _ (quiet-claim p q s (λ mine. f 0 (omega (arith, mine)))) (quiet-claims p (q + 1) ss (λ k is. f (suc k) (omega (arith, is))))
 
 quiet-true : (t : Truth) (claims : List (Option Settled)) (p : ℕ) → HasTrueClaimSoFar t claims p → IsQuietClaim (claimed (slice_get claims (p - 1)))
 quiet-true t claims p (inl e) = rw e tt

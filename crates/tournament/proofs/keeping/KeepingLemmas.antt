@@ -23,11 +23,6 @@ stages-append : (ds es : List Bisection) → last_stage (ds ++ es) ≡ max (last
 stages-append [] es = omega arith
 stages-append (d ∷ ds) es = rw (stages-append ds es) (omega arith)
 
-stages-set : (ds : List Bisection) (j : ℕ) (x y : Bisection) → x ≡ slice_index_or ds j x → y.stage ≡ x.stage → last_stage (slice_set ds j y) ≡ last_stage ds
-stages-set [] j x y e same = refl
-stages-set (d ∷ ds) zero x y e same = let at : y.stage ≡ d.stage = same ∙ ap (λ (z : Bisection). z.stage) e in ap (λ (n : ℕ). max n (last_stage ds)) at
-stages-set (d ∷ ds) (suc j) x y e same = ap (λ (n : ℕ). max d.stage n) (stages-set ds j x y e same)
-
 pub set-length : (ds : List Bisection) (j : ℕ) (y : Bisection) → length (slice_set ds j y) ≡ length ds
 set-length [] j y = refl
 set-length (d ∷ ds) zero y = refl

@@ -1,7 +1,7 @@
 -- m provers play at most m - 1 disputes.
 use Rattle.std.proofs.Common.{◌≡◌, ℕ, zero, suc, ◌+◌, ◌-◌, ◌*◌, ◌<◌, ◌≤◌, Bool, true, false, not, ◌&&◌, ◌||◌, ◌==◌, if◌then◌else◌, List, [], ◌∷◌, ◌++◌, length, replicate, slice_get, slice_set, ◌⊎◌, inl, inr, Option, Some, None, is_some, is_none, refl, ◌∙◌, ap, arith, append-nil, length-append}
 use Rattle.std.proofs.lemmas.Bool.Decides.{nat_tests}
-use Rattle.std.proofs.lemmas.Bool.{and_parts, cases_Bool}
+use Rattle.std.proofs.lemmas.Bool.{and_parts, cases_Bool, or_left, or_right}
 use Rattle.rd_base.specs.declared.answer.Answer.TheVariants as answer
 use Rattle.bisect_game.specs.declared.settled.Interval.{Interval}
 use Rattle.bisect_game.specs.declared.settled.Settled.TheVariants.{Given}
@@ -149,20 +149,13 @@ sides-length (p ∷ ps) (d ∷ ds) s = ap suc (sides-length ps ds s.2)
 eqb-same : (n : ℕ) → (n == n) ≡ true
 eqb-same n = grind (arith, nat_tests)
 
-or-left : (a b : Bool) → a ≡ true → (a || b) ≡ true
-or-left a b e = rw e refl
-
-or-right : (a b : Bool) → b ≡ true → (a || b) ≡ true
-or-right true b e = refl
-or-right false b e = e
-
 out-of-pair : (d : Bisection) (c : Option Close) (x y : ℕ) (u v : Bool) → put_out c ≡ true → IsHonest c → d.first ≡ x → d.second ≡ y → ((is_out_by d c x || u) || (is_out_by d c y || v)) ≡ true
 out-of-pair d (Some (Out true b)) x y u v e h f g =
     let same : (d.first == x) ≡ true = rw f (eqb-same x) in
-    or-left _ _ (or-left _ u (or-left _ _ same))
+    or_left _ _ (or_left _ u (or_left _ _ same))
 out-of-pair d (Some (Out false true)) x y u v e h f g =
     let same : (d.second == y) ≡ true = rw g (eqb-same y) in
-    or-right _ _ (or-left _ v same)
+    or_right _ _ (or_left _ v same)
 out-of-pair d (Some (Out false false)) x y u v e h f g = absurd (cc)
 out-of-pair d (Some (Collision s t)) x y u v e h f g = absurd (cc)
 out-of-pair d None x y u v e h f g = absurd (cc)
@@ -170,7 +163,7 @@ out-of-pair d None x y u v e h f g = absurd (cc)
 wider : (a b c d : Bool) → (b || d) ≡ true → ((a || b) || (c || d)) ≡ true
 wider true b c d e = refl
 wider false true c d e = refl
-wider false false c true e = or-right c true refl
+wider false false c true e = or_right c true refl
 wider false false c false e = absurd (cc)
 
 one-more : (out more : ℕ → Bool) (ps : List Pair) → OneOut out ps → OneOut (λ p. more p || out p) ps
@@ -220,12 +213,6 @@ asked-not true None (Some c) e = refl
 asked-not true (Some s) c e = refl
 asked-not false o c e = refl
 asked-not true None None e = absurd (cc)
-
-past-choice : (rules : Rules) (p : ℕ) (s : Settled) (d : Bisection) (ds : List Bisection) (es : List Bisection) (x y : Bool) → x ≡ false → y ≡ false → ds ≡ es →
-    (if x then settle_first rules.ruling s d ∷ ds else if y then settle_second rules.ruling s d ∷ ds else d ∷ ds) ≡ d ∷ es
-past-choice rules p s d ds es true y ex ey e = absurd (cc)
-past-choice rules p s d ds es false true ex ey e = absurd (cc)
-past-choice rules p s d ds es false false ex ey e = ap (λ (zs : List Bisection). d ∷ zs) e
 
 settled-past : (rules : Rules) (p : ℕ) (s : Settled) (ds es : List Bisection) → all_out ds ≡ true → settled_in rules p s (ds ++ es) ≡ ds ++ settled_in rules p s es
 settled-past rules p s [] es e = refl

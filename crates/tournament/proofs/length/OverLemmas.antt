@@ -1,14 +1,14 @@
 -- A match in which nobody is asked is complete.
 use Rattle.std.proofs.Common.{◌≡◌, ◌↔◌, ℕ, zero, suc, ◌+◌, ◌-◌, ◌<◌, ◌≤◌, Bool, true, false, ◌&&◌, ◌||◌, ◌==◌, if◌then◌else◌, List, [], ◌∷◌, ◌++◌, length, slice_get, slice_set, inl, inr, Option, Some, None, is_some, is_none, refl, arith}
 use Rattle.std.proofs.lemmas.Bool.Decides.{nat_tests}
-use Rattle.std.proofs.lemmas.Bool.{and_parts, cases_Bool}
+use Rattle.std.proofs.lemmas.Bool.{and_parts, cases_Bool, or_left, or_right}
 use Rattle.bisect_game.specs.declared.question.Question.{Question}
 use Rattle.bisect_game.specs.declared.settled.Settled.{Settled}
 use Rattle.rd_base.specs.declared.claim.Claim.{Claim}
 use Rattle.bisect_game.specs.declared.settled.Close.{Close}
 use Rattle.bisect_game.specs.Bisection.{Bisection, is_closed, question_of, settle_first, settle_second}
 use Rattle.bisect_game.specs.Rules.{Rules}
-use Rattle.tournament.proofs.OnceLemmas.{IsApart, apart-nothing, apart-settle, engaged-asked, is-prover, or-left, or-right}
+use Rattle.tournament.proofs.OnceLemmas.{IsApart, apart-nothing, apart-settle, engaged-asked, is-prover}
 use Rattle.tournament.proofs.OpenedLemmas.{opened-not, opened-due}
 use Rattle.tournament.specs.Bracket.{Record, claim_question, pairs, last_stage, disputes_of, is_stage_due, stage_opened, nothing_settled, asks_first, asks_second, question_in, claim_missing, open_question, settled_in, put, settle, all_there, all_closed, is_complete}
 use Rattle.tournament.specs.Settling.{after}
@@ -80,10 +80,10 @@ module _ (laws : BisectionLaws) where
   asked-true p d ds e = record { prover = p; question = question_of d; asked = rw e refl }
 
   asked-first : (d : Bisection) (ds : List Bisection) → d.by_first ≡ None → d.close ≡ None → IsAsked (d ∷ ds)
-  asked-first d ds e f = asked-true d.first d ds (or-left (asks_first d.first d) (asks_second d.first d) (rw (eqb-same d.first, e, f) refl))
+  asked-first d ds e f = asked-true d.first d ds (or_left (asks_first d.first d) (asks_second d.first d) (rw (eqb-same d.first, e, f) refl))
 
   asked-second : (d : Bisection) (ds : List Bisection) → d.by_second ≡ None → d.close ≡ None → IsAsked (d ∷ ds)
-  asked-second d ds e f = asked-true d.second d ds (or-right (asks_first d.second d) (asks_second d.second d) (rw (eqb-same d.second, e, f) refl))
+  asked-second d ds e f = asked-true d.second d ds (or_right (asks_first d.second d) (asks_second d.second d) (rw (eqb-same d.second, e, f) refl))
 
   asked-open : (d : Bisection) (ds : List Bisection) (x y : Option Settled) → d.by_first ≡ x → d.by_second ≡ y → d.close ≡ None → Waits x y None → IsAsked (d ∷ ds)
   asked-open d ds (Some a) (Some b) ex ey ec m = absurd m

@@ -2,7 +2,7 @@
 use Rattle.std.proofs.Common.{◌≡◌, ◌≢◌, ℕ, zero, suc, ◌+◌, ◌-◌, ◌<◌, ◌≤◌, Bool, true, false, ◌||◌, ◌==◌, if◌then◌else◌, List, [], ◌∷◌, ◌++◌, length, map, slice_get, slice_set, ◌⊎◌, inl, inr, Option, Some, None, refl, ◌∙◌, ap, subst, arith}
 use Rattle.std.proofs.lemmas.Bool.Decides.{nat_tests}
 use Rattle.std.specs.Fn.{iterate}
-use Rattle.std.proofs.lemmas.Bool.{cases_Bool}
+use Rattle.std.proofs.lemmas.Bool.{cases_Bool, or_left, or_right}
 use Rattle.bisect_game.specs.Ruling.{Ruling}
 use Rattle.bisect_game.specs.declared.settled.Interval.{Interval}
 use Rattle.bisect_game.specs.declared.settled.Round.{Round}
@@ -230,13 +230,6 @@ module _ (laws : BisectionLaws) where
       let n : length d.past + 1 - 1 ≡ length d.past = omega arith in
       rw (e, n) (last-kind d.fan d.place d.past)
 
-  or-left : (a b : Bool) → a ≡ true → (a || b) ≡ true
-  or-left a b e = rw e refl
-
-  or-right : (a b : Bool) → b ≡ true → (a || b) ≡ true
-  or-right true b e = refl
-  or-right false b e = e
-
   eqb-same : (n : ℕ) → (n == n) ≡ true
   eqb-same n = grind (arith, nat_tests)
 
@@ -248,11 +241,11 @@ module _ (laws : BisectionLaws) where
   asked-by p n q d ds true y ex ey num e r =
       let a : ((d.first == p) ≡ true) × IsOpen d.by_first d.close = opens (d.first == p) d.by_first d.close ex in
       let same : question_of d ≡ q = cc in
-      rw (← same) (record { after = omega (arith, num); kind = asked-here p n d ds (or-left _ _ a.0) })
+      rw (← same) (record { after = omega (arith, num); kind = asked-here p n d ds (or_left _ _ a.0) })
   asked-by p n q d ds false true ex ey num e r =
       let a : ((d.second == p) ≡ true) × IsOpen d.by_second d.close = opens (d.second == p) d.by_second d.close ey in
       let same : question_of d ≡ q = cc in
-      rw (← same) (record { after = omega (arith, num); kind = asked-here p n d ds (or-right _ _ a.0) })
+      rw (← same) (record { after = omega (arith, num); kind = asked-here p n d ds (or_right _ _ a.0) })
   asked-by p n q d ds false false ex ey num e r =
       let i : IsAskedIn p (n + 1) q ds = r e in
       let other : (d.number == q.qid.dispute) ≡ false = not-eqb d.number q.qid.dispute (λ z. omega (arith, i.after, num)) in

@@ -100,10 +100,6 @@ module _ (laws : BisectionLaws) where
   ordered-stages rules f zero t o = o
   ordered-stages rules f (suc n) t o = ordered-stages rules f n (stage_over rules f t) (ordered-opened rules (carried rules f t) (ordered-carried rules f t o))
 
-  pub bracket-ordered : (rules : Rules) (f : Answers) → IsOrdered rules (bracket rules f)
-  unfolding bracket
-  bracket-ordered rules f = ordered-stages rules f rules.provers (nothing_settled rules) (ordered-nothing rules)
-
   pub bracket-fixed : (rules : Rules) (f : Answers) → 0 < rules.provers → 1 < rules.fan → 0 < rules.bound → stage_over rules f (bracket rules f) ≡ bracket rules f
   unfolding bracket
   bracket-fixed rules f some more long =

@@ -1,5 +1,6 @@
 -- Who lives and whose claim was given is listed with it among the live, and nobody else is.
-use Rattle.std.proofs.Common.{◌≡◌, ℕ, zero, suc, ◌+◌, ◌-◌, Bool, true, false, not, ◌&&◌, if◌then◌else◌, List, [], ◌∷◌, inl, inr, slice_get, Option, Some, None, refl, ◌∙◌, ap, subst, arith, Contains}
+use Rattle.std.proofs.Common.{◌≡◌, ℕ, zero, suc, ◌+◌, ◌-◌, Bool, true, false, not, if◌then◌else◌, List, [], ◌∷◌, inl, inr, slice_get, Option, Some, None, refl, ◌∙◌, ap, subst, arith, Contains}
+use Rattle.std.proofs.lemmas.Bool.{and_parts}
 use Rattle.rd_base.specs.declared.claim.Claim.{Claim}
 use Rattle.rd_base.specs.declared.answer.Answer.TheVariants as answer
 use Rattle.bisect_game.specs.declared.settled.Settled.{Settled}
@@ -54,10 +55,6 @@ contains-in p c [] (k, below, is) = absurd (omega (arith, below))
 contains-in p c (x ∷ xs) (zero, below, is) = inl is
 contains-in p c (x ∷ xs) (suc k, below, is) = inr (contains-in p c xs (k, omega (arith, below), is))
 
-both-true : (a b : Bool) → (a && b) ≡ true → b ≡ true
-both-true true b e = e
-both-true false b e = absurd (cc)
-
 not-true : (b : Bool) → not b ≡ true → b ≡ false
 not-true true e = absurd (cc)
 not-true false e = refl
@@ -72,6 +69,6 @@ the-live-are-listed r p c some =
           let given : slice_get r.claims (p - 1) ≡ Some (Some (Given (answer.Claim c))) = subst (λ k. slice_get r.claims k ≡ Some (Some (Given (answer.Claim c)))) is i.given in
           (rw (given, i.stays) refl, given),
       λ two.
-          let stays : is_out_in r.disputes p ≡ false = not-true _ (both-true (not (is_out_by_claim (slice_get r.claims (p - 1)))) (not (is_out_in r.disputes p)) two.0) in
+          let stays : is_out_in r.disputes p ≡ false = not-true _ (and_parts (not (is_out_by_claim (slice_get r.claims (p - 1)))) (not (is_out_in r.disputes p)) two.0).1 in
           in-contains p c (live r) (rw at at (live-in r.disputes 1 (p - 1) c r.claims two.1 (rw at stays))),
     )

@@ -1,7 +1,7 @@
 -- What every record of a match keeps: disputes in play, each side right, and claims that fit.
 use Rattle.std.proofs.Common.{◌≡◌, ◌≢◌, ℕ, zero, suc, ◌+◌, ◌-◌, ◌<◌, Bool, true, false, not, ◌&&◌, ◌||◌, ◌==◌, if◌then◌else◌, List, [], ◌∷◌, ◌++◌, length, replicate, slice_get, slice_set, inl, inr, Option, Some, None, is_some, is_none, refl, sym, ◌∙◌, ap, arith}
 use Rattle.std.proofs.lemmas.Bool.Decides.{nat_tests}
-use Rattle.std.proofs.lemmas.Bool.{cases_Bool}
+use Rattle.std.proofs.lemmas.Bool.{cases_Bool, and_parts}
 use Rattle.rd_base.specs.declared.digest.Digest32.{Digest32}
 use Rattle.rd_base.specs.declared.claim.Claim.{Claim}
 use Rattle.bisect_game.specs.declared.question.Kind.TheVariants as kind
@@ -228,15 +228,11 @@ module _ (laws : BisectionLaws) where
         fit = k.fit;
       }
 
-  and-first : (a b : Bool) → (a && b) ≡ true → a ≡ true
-  and-first true b e = refl
-  and-first false b e = absurd (cc)
-
   kept-opened : (rules : Rules) (t : Truth) (p : ℕ) (r : Record) → 1 < rules.fan → 0 < rules.bound → IsRun rules t → IsKept rules t p r → IsKept rules t p (stage_opened rules r)
   kept-opened rules t p r more long run k =
       elim (cases_Bool (is_stage_due rules r)) [
         | inl due ↦
-            let there : all_there r.claims ≡ true = and-first _ _ due in
+            let there : all_there r.claims ≡ true = (and_parts _ _ due).0 in
             rw (opened-due rules r due) (record {
               good = good-both rules t r.claims p r.disputes _ k.good
                   (good-new rules (last_stage r.disputes + 1) t r.claims p (length r.disputes + 1) (pairs rules r) more long run (pairs-right rules.ruling r.claims rules.provers (live r) (live-right r.claims r.disputes 0 r.claims (λ i. ap (slice_get r.claims) (omega arith)))));
@@ -347,5 +343,5 @@ module _ (laws : BisectionLaws) where
   claim-there t p r c (inr claim) = claim
   claim-there t p r c (inl missing) =
       let part : all_there r.claims ≡ false = missing-there r.claims (p - 1) (ap claim_missing missing) in
-      let whole : all_there r.claims ≡ true = and-first _ _ c in
+      let whole : all_there r.claims ≡ true = (and_parts _ _ c).0 in
       absurd (cc)

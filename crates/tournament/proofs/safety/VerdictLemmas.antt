@@ -1,6 +1,5 @@
 -- The verdict is right.
 use Rattle.std.proofs.Common.{◌≡◌, ℕ, zero, suc, ◌+◌, ◌-◌, ◌<◌, Bool, true, false, not, ◌&&◌, ◌||◌, ◌==◌, if◌then◌else◌, List, [], ◌∷◌, ◌++◌, length, slice_get, slice_set, ◌⊎◌, inl, inr, Option, Some, None, is_some, is_none, refl, sym, ◌∙◌, ap, arith, length-append}
-use Rattle.std.proofs.lemmas.Bool.Decides.{nat_tests}
 use Rattle.std.proofs.lemmas.Bool.{and_parts, cases_Bool}
 use Rattle.rd_base.specs.declared.digest.Digest32.{Digest32}
 use Rattle.rd_base.specs.declared.claim.Claim.{Claim}
@@ -230,9 +229,6 @@ module _ (laws : BisectionLaws) where
       (λ x h. meets-sub r x ds (p + 1) ss h) (λ further. collide-sub r ds (p + 1) ss further)
 
   -- without a pair, live ones have one root
-
-  eqb-is : (m n : ℕ) → (m == n) ≡ true → m ≡ n
-  eqb-is m n e = grind (arith, nat_tests)
 
   passed-none : (x : ℕ × Claim) (t : Taken) → passed_over x t ≡ None → t ≡ None
   passed-none x None e = refl

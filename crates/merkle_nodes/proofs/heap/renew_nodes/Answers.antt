@@ -1,16 +1,9 @@
-use Rattle.std.proofs.Common.{◌≡◌, ◌+◌, ◌-◌, ◌*◌, ◌||◌, Bool, true, false, true≢false, refl, ap, ◌∙◌, subst, sym, arith}
+use Rattle.std.proofs.Common.{◌≡◌, ◌+◌, ◌-◌, ◌*◌, true, false, ap, ◌∙◌, subst, sym, arith}
+use Rattle.std.proofs.lemmas.Bool.{or_left, or_right}
 use Rattle.merkle_nodes.specs.Heap.{is_marked}
 use Rattle.merkle_nodes.proofs.RenewingLemmas.{IsRenewing, renewing-first, renewing-set, renewing-stay, renewed-joined, renewed-above, renewed-made}
 use Rattle.merkle_nodes.proofs.heap.renew_nodes.Goals.{then-marks-i, then-marks-i-via-then-marks-i, then-marks-i-via-else-marks-i+then-marks-i-2, else-marks-i+else-marks-i-2}
 use Rattle.merkle_nodes.proofs.heap.renew_nodes.Goals as goal
-
-or-left : (a b : Bool) → a ≡ true → (a || b) ≡ true
-or-left true b is = refl
-or-left false b is = absurd (true≢false (sym is))
-
-or-right : (a b : Bool) → b ≡ true → (a || b) ≡ true
-or-right true b is = refl
-or-right false b is = is
 
 pub nodes-init : goal.nodes-init
 nodes-init g c =
@@ -37,8 +30,8 @@ nodes-preserved g c =
           rw (w.nodes-is, w.marks-is, w.steps-is, w.digest_counted-node.ensures.steps) (renewing-set digest old first width start nodes marks c.nodes.steps place (omega (arith, c.nodes-test.true)) (omega (arith, c.nodes.auto.k)) is
           w.digest_counted-node.result (w.digest_counted-node.ensures.digest ∙ ap digest w.node_text-text.ensures)
           (elim w.then-marks-i.branch [
-            | then-marks-i-via-then-marks-i v ↦ or-left (is_marked marks (2 * place)) (is_marked marks (2 * place + 1)) v.if-marks-i.true
-            | then-marks-i-via-else-marks-i+then-marks-i-2 v ↦ or-right (is_marked marks (2 * place)) (is_marked marks (2 * place + 1)) v.if-marks-i-2.true
+            | then-marks-i-via-then-marks-i v ↦ or_left (is_marked marks (2 * place)) (is_marked marks (2 * place + 1)) v.if-marks-i.true
+            | then-marks-i-via-else-marks-i+then-marks-i-2 v ↦ or_right (is_marked marks (2 * place)) (is_marked marks (2 * place + 1)) v.if-marks-i-2.true
           ])) in
           subst (IsRenewing digest old first width start c.if-marks-i.nodes c.if-marks-i.marks c.if-marks-i.steps) (sym down) set
       | else-marks-i+else-marks-i-2 w ↦
