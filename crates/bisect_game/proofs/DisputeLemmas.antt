@@ -1,5 +1,5 @@
 -- What a dispute keeps in memory: its interval and the room for its rounds; and its calls, moved one answer at a time.
-use Rattle.std.proofs.Common.{◌≡◌, ℕ, zero, suc, ◌+◌, ◌-◌, ◌*◌, ◌^◌, ◌<◌, ◌≤◌, min, nat_le, false, not, ◌&&◌, ◌||◌, List, [], ◌∷◌, length, drop, inl, inr, Option, Some, None, is_some, is_none, refl, sym, ◌∙◌, ap, arith, add-one}
+use Rattle.std.proofs.Common.{◌≡◌, ℕ, zero, suc, ◌+◌, ◌-◌, ◌*◌, ◌^◌, ◌<◌, ◌≤◌, min, nat_le, false, List, [], ◌∷◌, length, drop, inl, inr, Option, Some, None, refl, sym, ◌∙◌, ap, arith, add-one}
 use Rattle.std.proofs.lemmas.Bool.Decides.{nat_tests}
 use Rattle.std.proofs.Math.Pow.{pow_mono}
 use Rattle.std.proofs.lemmas.Bool.{cases_Bool}
@@ -120,17 +120,6 @@ seen-first-last ruling side a b v w u es same other e = rw es (e ∙ (first-deci
 pub seen-second-last : (ruling : Ruling) (side : Side) (a b : Settled) (v w u : Bisection) → side ≡ Second → v ≡ w → v.by_first ≡ Some a → u ≡ decided ruling (record v { by_first = Some a; by_second = Some b }) a b →
     u ≡ settle_side ruling side b w
 seen-second-last ruling side a b v w u es same other e = rw es (e ∙ (second-decides ruling a b v other ∙ ap (settle_second ruling b) same))
-
--- a closed dispute asks nobody, and an open one that waits asks a side
-pub open-asked : (a b : Option Settled) (c : Option Close) → (is_some a && (is_some b && is_none c)) ≡ false → is_none c ≡ ((is_none a && not (is_some c)) || (is_none b && not (is_some c)))
-open-asked (Some a) (Some b) (Some c) e = refl
-open-asked (Some a) (Some b) None e = absurd (cc)
-open-asked (Some a) None (Some c) e = refl
-open-asked (Some a) None None e = refl
-open-asked None (Some b) (Some c) e = refl
-open-asked None (Some b) None e = refl
-open-asked None None (Some c) e = refl
-open-asked None None None e = refl
 
 -- whoever settles first, the round is decided over both answers
 pub order_of_sides_is_free : OrderOfSidesIsFree

@@ -31,16 +31,6 @@ same-digests x y e = (bytes_eq-Decides x.0 y.0).1 (ap (λ (d : Digest32). d.0) e
 pub same-not : (x y : Digest32) → same_digest x y ≡ false → x ≢ y
 same-not x y e same = let yes : same_digest x y ≡ true = same-digests x y same in cc
 
-same-turned : (x y : Digest32) → same_digest x y ≡ same_digest y x
-same-turned x y =
-    elim (cases_Bool (same_digest x y)) [
-      | inl e ↦ e ∙ sym (same-digests y x (sym (same-is x y e)))
-      | inr e ↦ elim (cases_Bool (same_digest y x)) [
-        | inl f ↦ absurd (same-not x y e (sym (same-is y x f)))
-        | inr f ↦ e ∙ sym f
-      ]
-    ]
-
 -- the roots at so many cuts, from the one with this number on
 abbrev roots_at : (ℕ → Digest32) → ℕ → ℕ → ℕ → ℕ → ℕ → List Digest32
 roots_at root lo hi parts j n = map root (cuts_from lo hi parts j n)
@@ -107,14 +97,6 @@ kept-first t fan i a b more long some is h =
     kept-roots t i.lo i.hi i.agreed i.first (min fan (i.hi - i.lo)) (roots_of a) (min (agreeing (roots_of a) (roots_of b)) (min fan (i.hi - i.lo) - 1)) i.agreed i.first
     (omega arith) (omega arith) (omega arith) (true-roots t fan i.lo i.hi a more long is) h.agreed h.own
     in record { agreed = k.0; own = k.1 }
-
-agreeing-turned : (xs ys : List Digest32) → agreeing xs ys ≡ agreeing ys xs
-agreeing-turned [] [] = refl
-agreeing-turned [] (y ∷ ys) = refl
-agreeing-turned (x ∷ xs) [] = refl
-agreeing-turned (x ∷ xs) (y ∷ ys) =
-    let e : same_digest x y ≡ same_digest y x = same-turned x y in
-    rw (e, agreeing-turned xs ys) refl
 
 -- agreed roots: those of the first side are those of the second
 same-front : (a other : Digest32) (xs ys : List Digest32) (j : ℕ) → j ≤ agreeing xs ys → get_or (a ∷ xs) j other ≡ get_or (a ∷ ys) j other

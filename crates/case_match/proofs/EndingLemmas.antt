@@ -22,10 +22,6 @@ use Rattle.case_match.specs.Match.{RecordsOfCasesAreSettledUp}
 
 -- one more move
 
-turns-last : (rules : Rules) (says : Says) (ps : List ℕ) (p : ℕ) (st : MatchState) → turns rules says (ps ++ p ∷ []) st ≡ turn_on rules says (turns rules says ps st) p (open_question rules (turns rules says ps st).record_ p)
-turns-last rules says [] p st = refl
-turns-last rules says (q ∷ ps) p st = turns-last rules says ps p _
-
 legal-last : (rules : Rules) (says : Says) (ps : List ℕ) (p : ℕ) (st : MatchState) → Legal rules says ps st → IsAskedOf rules (turns rules says ps st) p → Legal rules says (ps ++ p ∷ []) st
 legal-last rules says [] p st legal asked = (asked, tt)
 legal-last rules says (q ∷ ps) p st legal asked = (legal.0, legal-last rules says ps p _ legal.1 asked)

@@ -107,9 +107,6 @@ first-rest (y ∷ ys) x some is =
     ap₂ (λ a l. a ∷ l) (sym is) (sym (ap (λ n. take n ys) fewer ∙ take-length ys))
 
 module _ (digest : List ℕ → List ℕ) where
-  pub none-opened : (cs : List CaseData) (starts : List State) → cs ≡ [] → openings_of_cases digest cs starts ≡ []
-  none-opened cs starts none = rw none refl
-
   pub more-opened : (cs later : List CaseData) (c : CaseData) (starts later_starts : List State) (start : State) → cs ≡ c ∷ later → starts ≡ start ∷ later_starts
       → openings_of_cases digest cs starts ≡ opening_of_case digest c start ∷ openings_of_cases digest later later_starts
   more-opened cs later c starts later_starts start cs_are starts_are = rw cs_are (rw starts_are refl)

@@ -1,11 +1,11 @@
 -- Versions of pages, and the memory that they stand for.
-use Rattle.std.proofs.Common.{◌≡◌, ◌≢◌, ◌⊎◌, ℕ, ◌+◌, ◌*◌, ◌/◌, ◌%◌, ◌^◌, ◌<◌, ◌≤◌, List, [], ◌∷◌, ◌++◌, length, slice_index, Some, eqb, cond, Bool, true, false, true≢false, ◌||◌, refl, sym, ap, subst, ◌∙◌, ⊎_elim, arith, reverse}
-use Rattle.std.proofs.lemmas.Bool.{cases_Bool, cases_eq, cases_lt, eq-eqb, ne_eqb}
+use Rattle.std.proofs.Common.{◌≡◌, ◌≢◌, ℕ, ◌+◌, ◌*◌, ◌/◌, ◌%◌, ◌^◌, ◌<◌, ◌≤◌, List, [], ◌∷◌, ◌++◌, length, slice_index, Some, eqb, cond, true, false, true≢false, ◌||◌, refl, sym, ap, subst, ◌∙◌, ⊎_elim, arith, reverse}
+use Rattle.std.proofs.lemmas.Bool.{cases_Bool, cases_eq, cases_lt, eq-eqb, ne_eqb, or_right}
 use Rattle.std.proofs.lemmas.Bool.Decides.{nat_tests}
 use Rattle.std.proofs.lemmas.List.{reverse-append, append_assoc, map-append, length-map, length-append}
 use Rattle.std.specs.Ordering.{nat_cmp}
 use Rattle.std.specs.BTreeMap.{is_at}
-use Rattle.mem_plain.specs.Contents.{Contents, byte_at, no_bytes, IsUsed, contents_with}
+use Rattle.mem_plain.specs.Contents.{Contents, byte_at, IsUsed, contents_with}
 use Rattle.mem_plain.specs.Memory.{IsMemory}
 use Rattle.mem_plain.specs.Pages.{byte_of}
 use Rattle.checkpoint_run.specs.Versions.{first_of, byte_by, pictured, pages_of, is_among, AreBelow, IsShownBut}
@@ -19,11 +19,7 @@ pub among_first : (page : ℕ) (rest : List ℕ) → is_among (page ∷ rest) pa
 among_first page rest = ap (λ b. b || is_among rest page) (is_at-eqb page page ∙ eq-eqb page page refl)
 
 pub among_rest : (page : ℕ) (rest : List ℕ) (p : ℕ) → is_among rest p ≡ true → is_among (page ∷ rest) p ≡ true
-among_rest page rest p is = either (is_at (nat_cmp p) page) (is_among rest p) is
-  where
-    either : (b c : Bool) → c ≡ true → (b || c) ≡ true
-    either true c is = refl
-    either false c is = is
+among_rest page rest p is = or_right (is_at (nat_cmp p) page) (is_among rest p) is
 
 pub among_other : (page : ℕ) (rest : List ℕ) (p : ℕ) → p ≢ page → is_among rest p ≡ false → is_among (page ∷ rest) p ≡ false
 among_other page rest p apart none = ap (λ b. b || is_among rest p) (is_at-eqb p page ∙ ne_eqb page p (λ same. apart (sym same))) ∙ none
@@ -41,12 +37,6 @@ module _ (page : ℕ) (old new : List ℕ) (adds : IsAddedTo page old new) where
 
   pub added_kept : (q : ℕ) → is_among old q ≡ true → is_among new q ≡ true
   added_kept q there = ⊎_elim (λ same. ap (is_among new) same ∙ added_here) (λ other. added_elsewhere q other ∙ there) (cases_eq q page)
-
-  pub added_apart : (q : ℕ) → is_among new q ≡ false → q ≢ page
-  added_apart q none same = true≢false (sym added_here ∙ (ap (is_among new) (sym same) ∙ none))
-
-  pub added_none : (q : ℕ) → is_among new q ≡ false → is_among old q ≡ false
-  added_none q none = sym (added_elsewhere q (added_apart q none)) ∙ none
 
   pub added_below : page < 2 ^ 20 → AreBelow old → AreBelow new
   added_below small below q there = ⊎_elim (λ same. subst (λ n. n < 2 ^ 20) (sym same) small) (λ other. below q (sym (added_elsewhere q other) ∙ there)) (cases_eq q page)
@@ -132,56 +122,6 @@ pub record IsRestoring (all left : List Version) (put : List ℕ) (m : Contents)
   pub shown : (a : ℕ) → a < 2 ^ 32 → is_among put (a / 4096) ≡ true → byte_at m a ≡ byte_by all a
   pub empty : (a : ℕ) → a < 2 ^ 32 → is_among put (a / 4096) ≡ false → byte_at m a ≡ 0
   pub same : (p : ℕ) → is_among put p ≡ false → first_of (reverse all) p ≡ first_of left p
-
-pub restoring_none : (all : List Version) → ((q : ℕ) → byte_at no_bytes q ≡ 0) → IsRestoring all (reverse all) [] no_bytes
-restoring_none all zeros = record {
-  shown = λ a below among. absurd (true≢false (sym among));
-  empty = λ a below none. zeros a;
-  same = λ p none. refl;
-}
-
--- the last version of a page that was not put before
-pub restoring_put : (all : List Version) (v : Version) (left : List Version) (old new : List ℕ) (m n : Contents) (bytes : List ℕ)
-    → IsRestoring all (v ∷ left) old m → is_among old v.page ≡ false
-    → IsAddedTo v.page old new
-    → bytes ≡ v.bytes.bytes.items → ((q : ℕ) → byte_at n q ≡ cond (eqb (q / 4096) v.page) (slice_index bytes (q % 4096)) (byte_at m q))
-    → IsRestoring all left new n
-restoring_put all v left old new m n bytes restoring fresh adds is puts = record {
-  shown = λ a below among. ⊎_elim
-      (λ here.
-      puts a ∙ (ap (λ b. cond b (slice_index bytes (a % 4096)) (byte_at m a)) (eq-eqb (a / 4096) v.page here)
-      ∙ (ap (λ bs. slice_index bs (a % 4096)) is
-      ∙ sym (ap (λ o. byte_of o (a % 4096)) (restoring.same (a / 4096) (ap (is_among old) here ∙ fresh)
-      ∙ ap (λ b. cond b (Some v.bytes) (first_of left (a / 4096))) (eq-eqb v.page (a / 4096) (sym here)))))))
-      (λ other. kept a other ∙ restoring.shown a below (sym (before (a / 4096) other) ∙ among))
-      (cases_eq (a / 4096) v.page);
-  empty = λ a below none.
-      let other = apart (a / 4096) none in
-      kept a other ∙ restoring.empty a below (sym (before (a / 4096) other) ∙ none);
-  same = λ p none.
-      let other = apart p none in
-      restoring.same p (sym (before p other) ∙ none) ∙ ap (λ b. cond b (Some v.bytes) (first_of left p)) (ne_eqb v.page p (λ same. other (sym same)));
-}
-  where
-    before : (p : ℕ) → p ≢ v.page → is_among new p ≡ is_among old p
-    before p other = added_elsewhere v.page old new adds p other
-
-    apart : (p : ℕ) → is_among new p ≡ false → p ≢ v.page
-    apart p none = added_apart v.page old new adds p none
-
-    kept : (a : ℕ) → a / 4096 ≢ v.page → byte_at n a ≡ byte_at m a
-    kept a other = puts a ∙ ap (λ b. cond b (slice_index bytes (a % 4096)) (byte_at m a)) (ne_eqb (a / 4096) v.page other)
-
--- an earlier version of a page that was put before
-pub restoring_passed : (all : List Version) (v : Version) (left : List Version) (put : List ℕ) (m : Contents)
-    → IsRestoring all (v ∷ left) put m → is_among put v.page ≡ true → IsRestoring all left put m
-restoring_passed all v left put m restoring there = record {
-  shown = restoring.shown;
-  empty = restoring.empty;
-  same = λ p none.
-      let other : p ≢ v.page = λ same. true≢false (sym (ap (is_among put) same ∙ there) ∙ none) in
-      restoring.same p none ∙ ap (λ b. cond b (Some v.bytes) (first_of left p)) (ne_eqb v.page p (λ same. other (sym same)));
-}
 
 -- no version is left
 pub restored_all : (all : List Version) (put : List ℕ) (m : Contents) → IsRestoring all [] put m → IsShownBut all [] m

@@ -6,7 +6,7 @@ use Rattle.clap.specs.Walk.{Text, Row, Walk, walked, nothing_held, finished, set
 use Rattle.clap.specs.Facts.{explicit_source}
 use Rattle.clap.specs.Simple.{built, names_of, entered}
 use Rattle.clap.specs.Faults.{fault_of, walk_fault, settle_fault, defaults_fault, check_fault}
-use Rattle.clap.specs.Kinds.{Kinds, or_else, value_kinds, check_kinds}
+use Rattle.clap.specs.Kinds.{Kinds, or_else, check_kinds}
 use Rattle.clap.specs.Values.{reading_of}
 use Rattle.clap.specs.ValueTests.{is_unsigned_in, is_signed_in}
 use Rattle.clap.specs.declared.builder.value_parser.ValueParser.TheVariants as vp
@@ -44,9 +44,6 @@ seed_row seed = record { id = codes "N"; values = seed ∷ []; count = None; sou
 
 seed-used : (seed : Text) → settled_rows (rules true) (seed_last seed) [] ≡ seed_row seed ∷ []
 seed-used seed = refl
-
-seed-use : (seed : Text) → settle_fault (rules true) false (held [] (seed_last seed)) ≡ or_else [] (or_else (value_kinds false (vp.Signed (pos 0) (pos 4294967295)) seed) [])
-seed-use seed = refl
 
 -- the command
 

@@ -22,7 +22,7 @@ use Rattle.delegate.specs.commands.Judge.{judging, judged_of, judged}
 use Rattle.delegate.specs.commands.Big.{summing_up, summed_up}
 use Rattle.delegate.specs.Outcome.{bytes_for, carried_out, decides, response_to, outcome}
 use Rattle.delegate.specs.Headline.{Headline, HeadlineOfCases, AnswersTheCase, KeepsTheTruthful, AnswersTheTasks, KeepsTheTruthfulOfTasks}
-use Rattle.delegate.specs.Standing.{AreAllInRange, AreInRange, AreInRangeIfThere, DecidesInRange, CasesAreInRange}
+use Rattle.delegate.specs.Standing.{AreInRange, AreInRangeIfThere, DecidesInRange, CasesAreInRange}
 use Rattle.delegate.specs.Writing.{ForItsBytes, IsWritten}
 use Rattle.delegate.specs.declared.response.Subject.TheVariants.{Whole}
 use Rattle.delegate.specs.declared.response.Response.{Response}
@@ -187,9 +187,6 @@ same-ok r x y one other = (let both = sym one ∙ other in cc both)
 
 pub one-in-range : (c : CaseData) (start : State) → start_in Whole c ≡ Ok start → IsInRange c start → AreInRange (One c)
 one-in-range c start loads range other is = subst (IsInRange c) (same-ok (start_in Whole c) start other loads is) range
-
-pub many-in-range : (cs : List CaseData) (starts : List State) → starts_in 1 cs ≡ Ok starts → AreAllInRange cs starts → AreInRange (Many cs)
-many-in-range cs starts loads range others are = subst (AreAllInRange cs) (same-ok (starts_in 1 cs) starts others loads are) range
 
 pub judged-in-range : (text : MatchText) (bytes : List ℕ) (tasks : TasksData) → tasks_in bytes ≡ Ok tasks → AreInRange tasks → AreInRangeIfThere (tasks_for (written_as text) bytes)
 judged-in-range text bytes tasks reads range other is =

@@ -7,7 +7,6 @@ use Rattle.bisect_game.specs.declared.question.Question.{Question}
 use Rattle.bisect_game.specs.Says.{Says}
 use Rattle.seat_lock.specs.History.{LogEntry, History, log_of, turns_of, Begins}
 use Rattle.seat_lock.specs.Seats.{LockId, Known, after_join}
-use Rattle.seat_lock.specs.Turned.{SameSeat}
 use Rattle.board_book.specs.Keeping.{AreNumbered}
 use Rattle.dispute_board.specs.OneHistory.{IsOfTheCase, MayPostFor, SaidMayBePosted}
 use Rattle.bisect_game.specs.Ruling.{Ruling}
@@ -33,9 +32,6 @@ All-first P [] ys h = All-nil P
 All-first P (x ∷ xs) ys h = All-cons P x xs (All-head P x (xs ++ ys) h) (All-first P xs ys (All-tail P x (xs ++ ys) h))
 
 module _ {H : Type 0} where
-  pub kept_same : (before after : Known H) → SameSeat before after → kept_of after ≡ kept_of before
-  kept_same before after s = rw (s.lock, s.number, s.head, s.out) refl
-
   pub seat_again : (board : LockId) (head : H) (before after : Known H) → kept_of after ≡ kept_of before → IsSeatOf board head before → IsSeatOf board head after
   seat_again board head before after e s = record {
     lock = ap (λ (k : Known H). k.lock) e ∙ s.lock;

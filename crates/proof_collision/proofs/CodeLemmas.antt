@@ -1,8 +1,7 @@
 -- What the code's steps come to.
-use Rattle.std.proofs.Common.{◌≡◌, ℕ, zero, suc, ◌+◌, ◌-◌, ◌/◌, ◌%◌, ◌^◌, ◌<◌, ◌≤◌, List, [], ◌∷◌, length, take, drop, get_or, Option, Some, None, Bool, true, false, true≢false, is_some, not, ◌&&◌, refl, sym, ap, ◌∙◌, arith, add-one}
+use Rattle.std.proofs.Common.{◌≡◌, ℕ, zero, suc, ◌+◌, ◌-◌, ◌/◌, ◌%◌, ◌^◌, ◌≤◌, List, [], ◌∷◌, length, take, drop, get_or, Option, Some, None, Bool, true, false, true≢false, is_some, not, ◌&&◌, refl, sym, ap, ◌∙◌, arith, add-one}
 use Rattle.std.specs.Prelude.{bytes_eq, if◌then◌else◌}
 use Rattle.std.proofs.Math.Nat.{div-one, div-div-eq-div-mul, pow-suc}
-use Rattle.rd_base.specs.declared.digest.Digest32.{Digest32}
 use Rattle.rd_base.specs.declared.opened.RegOpening.{RegOpening}
 use Rattle.merkle_nodes.specs.Node.{digest_at}
 use Rattle.merkle_nodes.specs.Opening.{joined, opened}
@@ -48,10 +47,6 @@ there-is None first other is test = absurd (true≢false test)
 pub there-next : {A : Type 0} (found first other last : Option A) → found ≡ first → false ≡ is_some found → last ≡ other → last ≡ first_there first other
 there-next (Some x) first other last is test rest = absurd (true≢false (sym test))
 there-next None first other last is test rest = rest ∙ ap (λ o. first_there o other) is
-
-there-alone : {A : Type 0} (first : Option A) → first ≡ first_there first None
-there-alone (Some x) = refl
-there-alone None = refl
 
 -- the strings from a level on
 texts-next : (f : ℕ → List ℕ) (l n k : ℕ) → n ≡ k + 1 → texts_from f l n ≡ f l ∷ texts_from f (l + 1) k
@@ -104,9 +99,6 @@ pair-is digest v w i j x y n at_first at_second left right one two =
     ∙ (ap (λ (t : List ℕ). first_collision digest (texts_from (way_text digest v) 0 (n + 1)) (texts_from (λ l. opened digest t (digest_at w.siblings) l w.index) 0 (n + 1))) right
     ∙ (ap (λ (k : ℕ). first_collision digest (texts_from (way_text digest v) 0 (k + 1)) (texts_from (way_text digest w) 0 (n + 1))) one
     ∙ ap (λ (k : ℕ). first_collision digest (texts_from (way_text digest v) 0 (v.levels + 1)) (texts_from (way_text digest w) 0 (k + 1))) two))))
-
-pub single-is : (digest : List ℕ → List ℕ) (v w : Way) (found : Option (List ℕ × List ℕ)) → found ≡ first_collision digest (way_texts digest v) (way_texts digest w) → found ≡ ways_collision digest (v ∷ []) (w ∷ [])
-single-is digest v w found is = is ∙ there-alone (first_collision digest (way_texts digest v) (way_texts digest w))
 
 whole : {A : Type 0} (n : ℕ) (l : List A) → n ≡ length l → take n l ≡ l
 whole n [] is = ap (λ (k : ℕ). take k []) is

@@ -1,5 +1,5 @@
 -- A recorded run is a prover's, by its states and its bound.
-use Rattle.std.proofs.Common.{◌≡◌, ◌^◌, ◌≤◌, ◌<◌, ℕ, zero, suc, List, [], ◌∷◌, length, map, min, slice_index, slice_index_or, refl, sym, ap, ap₂, ◌∙◌, arith, Result, Ok, Err, IfOk}
+use Rattle.std.proofs.Common.{◌≡◌, ◌^◌, ◌≤◌, ◌<◌, ℕ, zero, suc, List, [], ◌∷◌, length, map, min, slice_index, slice_index_or, refl, sym, ap, ap₂, ◌∙◌, arith}
 use Rattle.rd_base.specs.declared.digest.Digest32.{Digest32}
 use Rattle.rd_base.specs.declared.answer.Answer.TheVariants as answer
 use Rattle.rv_step.specs.State.{State}
@@ -27,12 +27,6 @@ root_of_place root [] roots place d same inside = absurd (omega arith)
 root_of_place root (x ∷ xs) [] place d same inside = absurd (cc)
 root_of_place root (x ∷ xs) (r ∷ rs) zero d same inside = cc
 root_of_place root (x ∷ xs) (r ∷ rs) (suc place) d same inside = root_of_place root xs rs place d (cc) (omega arith)
-
--- where the step at that place is the one asked, it is that of the step
-pub root_of_step : {E : Type 0} (run root : ℕ → List ℕ) (steps shown : List ℕ) (place step : ℕ) (r : Result Digest32 E) → root ≡ run → shown ≡ steps → slice_index steps place ≡ step
-    → IfOk r (λ v. (other : ℕ → List ℕ) → other ≡ run → v.0 ≡ other (slice_index shown place)) → IfOk r (λ v. v.0 ≡ root step)
-root_of_step run root steps shown place step (Ok v) is same stands holds = holds root is ∙ ap root (ap (λ (xs : List ℕ). slice_index xs place) same ∙ stands)
-root_of_step run root steps shown place step (Err e) is same stands holds = holds
 
 -- the states of a recorded run, by its first state and its tamper
 pub states_of : (p : Prover) (r : Recorded) → r.first ≡ tampered p.tamper 0 p.start → r.tamper ≡ p.tamper → state_of_step r ≡ run_of p

@@ -58,27 +58,6 @@ module _ (classes : ℕ) where
   pub arranging-pass-as : (class p p' i : ℕ) (ns ns' : List ℕ) → p' ≡ p → ns' ≡ ns → i < length ns → get_or ns i 0 % classes ≢ class → IsArranging classes class p i ns → IsArranging classes class p' (i + 1) ns'
   arranging-pass-as class p p' i ns ns' same same' below other r = subst (λ (l : List ℕ). IsArranging classes class p' (i + 1) l) (sym same') (subst (λ (q : ℕ). IsArranging classes class q (i + 1) ns) (sym same) (arranging-pass class p i ns below other r))
 
-  -- the next class begins
-  pub arranging-next : (class p p' i : ℕ) (ns : List ℕ) → p' ≡ p → length ns ≤ i → IsArranging classes class p i ns → IsArranging classes (class + 1) p' p' ns
-  arranging-next class p p' i ns same end r = record {
-    front = λ a b x. r.front a b (omega arith);
-    others = λ j from here. let lt = r.passed j (omega arith) (omega arith) in omega arith;
-    passed = λ j from before. absurd (omega arith);
-  }
-
-  pub arranging-starts : (ns : List ℕ) → IsArranging classes 0 0 0 ns
-  arranging-starts ns = record {
-    front = λ a b x. absurd (omega arith);
-    others = λ j from here. omega arith;
-    passed = λ j from before. absurd (omega arith);
-  }
-
-  -- once all classes are through, the numbers are in order
-  pub arranged : (p i : ℕ) (ns : List ℕ) → 0 < classes → IsArranging classes classes p i ns → IsByClass classes ns
-  arranged p i ns some r a b ab here = dite (dec_le p a)
-      (λ beyond. let high = r.others a beyond (omega arith) in let low = mod-lt (get_or ns a 0) some in absurd (omega arith))
-      (λ front. r.front a b (omega arith) ab here)
-
 module _ {X : Type 0} (P : X → Type 0) where
   pub All-take : (n : ℕ) (xs ys : List X) → ys ≡ take n xs → length ys ≡ n → n ≤ length xs → All P xs → All P ys
   All-take n xs ys is long le all k d below = subst P (sym (ap (λ l. get_or l k d) is ∙ get_or-take n xs k d (omega arith))) (all k d (omega arith))

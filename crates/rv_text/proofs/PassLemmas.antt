@@ -1,13 +1,11 @@
 -- Both passes, line by line.
 use Rattle.std.proofs.Common.{◌≡◌, ℕ, ◌+◌, ◌-◌, ◌<◌, ◌≤◌, length, take, drop, Bool, List, [], ◌∷◌, ◌++◌, append_assoc, refl, ap, ◌∙◌, sym, arith, Option, Some, None, Result, Ok, Err}
 use Rattle.std.proofs.lemmas.List.{take_all}
-use Rattle.std.specs.BTreeMap.{BTreeMap}
-use denote.Ref.{Bor}
 use Rattle.rd_base.specs.Results.{◌>>=◌, map_fault, Fails}
 use Rattle.rv_text.specs.Characters.{is_of_line, run, behind, source_lines}
 use Rattle.rv_text.specs.Faults.{fault}
-use Rattle.rv_text.specs.Assembly.{Names, no_names, place_after, Pass, after_line, first_pass, also, word_of_line, second_pass}
-use Rattle.rv_text.specs.Places.{places_of, error_in, names_of}
+use Rattle.rv_text.specs.Assembly.{Names, place_after, Pass, after_line, first_pass, also, word_of_line, second_pass}
+use Rattle.rv_text.specs.Places.{error_in, names_of}
 use Rattle.rv_text.specs.declared.fault.FaultKind.{FaultKind}
 use Rattle.rv_text.specs.declared.fault.AsmFault.{AsmFault}
 use Rattle.rv_text.specs.declared.fault.AsmError.{AsmError}
@@ -41,10 +39,6 @@ left-length (c ∷ cs) l = let same : take (length (c ∷ cs) - 1) (drop 1 (c �
 pub no-lines : (tail : List ℕ) → length tail < 1 → lines_behind tail ≡ []
 no-lines [] l = refl
 no-lines (c ∷ cs) l = let never : ⊥ = omega arith in elim never [ ]
-
--- ---- names
-pub empty-places : (m : BTreeMap (Bor (List ℕ)) ℕ) → m.entries ≡ [] → places_of m ≡ no_names
-empty-places m e = rw e refl
 
 -- ---- the first pass
 first-go : (n : ℕ) (r : Result Pass FaultKind) (q : Pass) (ls : List (List ℕ)) → map_fault lines.Fault r ≡ Ok q → (map_fault (fault n) r >>= λ q. first_pass (n + 1) q ls) ≡ first_pass (n + 1) q ls
@@ -84,11 +78,6 @@ word-goes n names here l ls xs w e = rw e (also-before xs w (second_pass (n + 1)
 
 pub word-fails : (n : ℕ) (names : Names) (here : ℕ) (l : List ℕ) (ls : List (List ℕ)) (xs : List ℕ) (k : FaultKind) → word_of_line names here l ≡ Err k → before xs (second_pass n names here (l ∷ ls)) ≡ Err (fault n k)
 word-fails n names here l ls xs k e = rw e refl
-
--- ---- one after the other
-pub both-passes : (r : Result Pass AsmFault) (names : Names) (f : Names → Result (List ℕ) AsmFault) → names_of r ≡ Ok names → (r >>= λ p. f p.names) ≡ f names
-both-passes (Ok p) names f e = grind (arith, e)
-both-passes (Err k) names f e = grind (arith, e)
 
 -- ---- a line of the first pass, as the code has it
 pub pass-goes : (rest line tail : List ℕ) (n : ℕ) (p q : Pass) (all : Result Pass AsmFault) → line ≡ run is_of_line rest → tail ≡ behind is_of_line rest

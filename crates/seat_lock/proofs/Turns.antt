@@ -26,9 +26,6 @@ module _ {T H : Type 0} (head : T → H) (log : T → List LogEntry) where
   pub given_back : (m m' m'' : Mine) (x y : T) → m.1 ≡ (0, Some x) ∷ [] → m' ≡ (m.0, (0, None) ∷ rest m.1) → m'' ≡ (m'.0, (0, Some y) ∷ rest m'.1) → m'' ≡ (m.0, (0, Some y) ∷ [])
   given_back m m' m'' x y e f g = g ∙ ap (λ (n : Mine). (n.0, (0, Some y) ∷ rest n.1)) f ∙ ap (λ l. (m.0, (0, Some y) ∷ rest l)) e
 
-  pub ends_with : (m : Mine) (y : T) (m' : Mine) → (x : T) → m.1 ≡ (0, Some y) ∷ [] → m.1 ≡ (0, Some x) ∷ [] → EndsTurn log m x m' → EndsTurn log m y m'
-  ends_with m y m' x e f ended = subst (λ z. EndsTurn log m z m') (same_value m.1 [] y x e f) ended
-
   -- a turn that begins after some looks at other numbers begins all the same
   pub begins_later : (ticket : ℕ) (m m' m'' : Mine) → StillWaits ticket m m' → BeginsTurn head log m' ticket m'' → BeginsTurn head log m ticket m''
   begins_later ticket m m' m'' waits b = record {

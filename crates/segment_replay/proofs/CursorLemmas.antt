@@ -1,17 +1,9 @@
--- A tree behind a memory, and the checkpoint that a step is replayed from.
-use Rattle.std.proofs.Common.{◌≡◌, ◌≢◌, ◌⊎◌, ℕ, ◌+◌, ◌*◌, ◌/◌, ◌<◌, ◌≤◌, List, ◌∷◌, [], get_or, Option, None, true, false, true≢false, sym, ap, subst, ◌∙◌, ⊎_elim, arith}
+-- A tree behind a memory.
+use Rattle.std.proofs.Common.{◌≡◌, ◌≢◌, ◌⊎◌, ℕ, ◌+◌, ◌/◌, ◌<◌, ◌≤◌, List, ◌∷◌, [], get_or, Option, None, true, false, true≢false, sym, ap, subst, ◌∙◌, ⊎_elim, arith}
 use Rattle.std.proofs.lemmas.Bool.{cases_eq, cases_lt}
-use Rattle.std.proofs.Math.Nat.{div-add-mod, mul_comm}
 use Rattle.mem_plain.specs.Contents.{Contents, byte_at, IsUsed}
 use Rattle.mem_tree.specs.Tree.{is_among, SameBut}
 use Rattle.checkpoint_run.specs.NamedPages.{IsNamed}
-
--- the last checkpoint up to a step
-pub checkpoint_up_to : (goal every : ℕ) → goal / every * every ≤ goal
-checkpoint_up_to goal every =
-    let whole = div-add-mod goal every in
-    let turned = mul_comm every (goal / every) in
-    omega arith
 
 -- a memory that is changed in the pages named alone is the tree's but for the touched pages, once both were touched
 pub same_more : (pages : List (Option ℕ)) (before between after : List ℕ) (old m n : Contents)
