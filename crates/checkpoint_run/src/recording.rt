@@ -155,8 +155,7 @@ fn go_on<D: Digester>(
     Ok(())
 }
 
-/// Takes a recording at step 0 to the bound, or to the step from which the run stands still if that comes first. An `Err` is out
-/// of memory.
+/// What `record_to_end` does, in one loop for every tamper. An `Err` is out of memory.
 #[inline(always)]
 fn record_steps<D: Digester>(
     d: D,

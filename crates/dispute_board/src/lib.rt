@@ -6,7 +6,7 @@
 //! what the prover says after the passes that stand there, since somebody posted for the prover meanwhile, is stale and leaves no entry.
 //! A post that isn't stale has its place in the journal of all tasks as its receipt. `TaskBoard::into_books` gives books whose journal
 //! begins with all that was seen. `Board` is the board of one task. Nothing is said of how long a turn is waited for, or of whose turn
-//! comes first. Read `specs/OneHistory.antt` first, then `task_board`; `board` is its case of one task.
+//! comes first. Read `specs/OneHistory.antt` first, then `task_board`; `board` is its case of one task, for callers with one.
 #![tactic(auto)]
 
 mod board;

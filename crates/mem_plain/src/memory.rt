@@ -158,7 +158,7 @@ impl PlainMem {
         }
     }
 
-    /// The page with a number below 2^20 has these bytes from now on, and every other byte stays. An `Err` is want of
+    /// The page with a number below 2^20 has these bytes from now on, and every other byte stays. An `Err` is out of
     /// memory, and changes nothing.
     pub fn put_page(&mut self, number: u32, page: Page) -> Result<(), Memory>
         requires { number < 2 ^ 20 }

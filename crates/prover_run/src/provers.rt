@@ -1,5 +1,5 @@
 //! The provers of a case: what each says and where it waits, for those that post, and the answerers that say so.
-ghost use Rattle.std.specs.Prelude.{◌≡◌, ◌<◌, ◌^◌, IfOk, List, length, take, ◌++◌, [], OnOk, map};
+ghost use Rattle.std.specs.Prelude.{◌≡◌, ◌<◌, ◌^◌, IfOk, length, ◌++◌, [], OnOk, map};
 ghost use Rattle.rv_step.specs.State.{state_of, IsChained};
 ghost use Rattle.state_commit.specs.Committing.{HasInput};
 ghost use Rattle.bisect_game.specs.Says.{AnswerAs};
@@ -177,7 +177,10 @@ fn put_answerers<D: Replays>(
     )
 }
 
-/// `answerers_of`, from the tree of the machine's input, so that no part of the input is digested.
+/// The answerers of the provers with these scripts, in their order, whose runs go from a machine up to the step `bound`, below
+/// 2^32. Each run is recorded with a checkpoint at every `every` steps (at least 1), and its roots are computed by `workers`
+/// threads (at least 1). The machine has put out nothing, and its chain is that of no output by the digester `d`. `input` is the tree of
+/// the machine's input, so that no part of the input is digested. An `Err` is out of memory.
 pub fn answerers_with_input<D: Replays>(
     alloc: Global,
     d: D,
@@ -212,10 +215,8 @@ pub fn answerers_with_input<D: Replays>(
     Ok(answerers)
 }
 
-/// The answerers of the provers with these scripts, in their order, whose runs go from a machine up to the step `bound`, below
-/// 2^32. Each run is recorded with a checkpoint at every `every` steps (at least 1), and its roots are computed by `workers`
-/// threads (at least 1). The machine has put out nothing, and its chain is that of no output by the digester `d`. The tree of the
-/// machine's input, which version 3 has, is built once for all of them. An `Err` is out of memory.
+/// `answerers_with_input`, which builds the tree of the machine's input itself, once for all of them. Only version 3 has one. An `Err`
+/// is out of memory.
 pub fn answerers_of<D: Replays>(
     alloc: Global,
     d: D,

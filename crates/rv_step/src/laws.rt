@@ -1,4 +1,4 @@
-//! Laws of the definitions, each the contract of a function that does nothing.
+//! Laws of the definitions, each the contract of a function that changes nothing.
 ghost use Rattle.std.specs.Prelude.{◌≡◌, ◌≢◌, ℕ, ◌++◌, ◌/◌, ◌<◌, ◌^◌, List, map, slice_index, Option, Some, None, false};
 ghost use Rattle.rd_base.specs.Status.{is_running};
 ghost use Rattle.rv_decode.specs.declared.instr.Instr.{Instr};

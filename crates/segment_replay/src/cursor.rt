@@ -2,7 +2,6 @@
 ghost use Rattle.std.specs.Prelude.{◌≡◌, ℕ, ◌+◌, ◌<◌, ◌≤◌, ◌∷◌, [], true, false, IfOk, OnOk, IfSome, min};
 ghost use Rattle.mem_plain.specs.Contents.{Contents};
 ghost use Rattle.mem_tree.specs.Tree.{IsTreeOf, is_among};
-ghost use Rattle.rv_step.specs.State.{state_of, IsChained};
 ghost use Rattle.checkpoint_run.specs.NamedPages.{IsNamed, ArePages};
 ghost use Rattle.checkpoint_run.specs.Recorded.{AreChained, state_of_step, still_of};
 ghost use Rattle.segment_replay.specs.Roots.{IsInputRoot, root_at};
@@ -21,11 +20,11 @@ use state_trees::input_root;
 use std::alloc::Global;
 use std::thread::Threads;
 
-/// A cursor is moved on by up to so many steps whatever its memory holds, rather than that its machine is put together from a
+/// Up to so many steps are made to move a cursor on, whatever its memory holds; for more its machine may be put together from a
 /// checkpoint. They take half a millisecond, about as long as going over the versions of pages of a long run.
 const STEPS_WORTH_A_CHECKPOINT: u64 = 16_384;
 
-/// A cursor is moved on by up to so many steps for each page in use, too. They take 20 to 120 us of a processor, the more the more
+/// Up to so many steps for each page in use are made too. They take 20 to 120 us of a processor, the more the more
 /// pages are in use. A machine that is put together from a checkpoint copies each page in use, and its tree compares the page's 128
 /// chunks with those that it keeps. What has changed is digested either way.
 const STEPS_WORTH_A_PAGE: u64 = 1_024;
@@ -58,8 +57,8 @@ fn machine_up_to<D: Digester>(d: D, run: &Run, goal: u64) -> Result<Machine, Mem
     Ok(machine)
 }
 
-/// A step that has the state of a step, at most the one from which the run stands still. Above the bound the state of
-/// the bound stands for a step.
+/// The step to replay to for the state of the step asked: from where the run stands still, and above the bound, an earlier one has the
+/// same state.
 fn goal_of(run: &Run, step: u64) -> u64
     ensures within { result ≤ still_of run.now }
     ensures same { state_of_step run.now result ≡ state_of_step run.now (min step run.now.bound) }

@@ -146,7 +146,7 @@ impl<D: Digester> KeptRun<D> {
 }
 
 /// A digester by which runs can be replayed in threads. A method of a trait can't hand a digester of a type parameter to
-/// threads, so each digester says by itself that it can: its methods are those of `KeptRun`.
+/// threads, so each digester says for itself that it can, by calls of `KeptRun::roots` and `KeptRun::committed`.
 pub trait Replays: Digester {
     /// `KeptRun::roots` by this digester.
     fn roots_of<R: Threads + Sync>(

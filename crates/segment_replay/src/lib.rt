@@ -1,12 +1,13 @@
 //! Roots of a recorded run, replayed piece by piece from its checkpoints.
 //!
-//! The layers above may rely on this: `roots` gives the root of the run's state of each step asked, in the version of the run and in
-//! the order asked, and `committed_at` the machine of a step with the trees of its version; each is that of the definition, whatever
-//! the spacing of the checkpoints and the number of workers. Workers run side by side where threads can be made; the answers don't
-//! depend on it. The root of the run's input, which version 3 has, is made once a call, or once for all runs of a machine if the caller
-//! hands it on (`run_input_root`, `roots_with_input`). A `KeptRun` keeps its workers, each of which makes its next root from the
-//! one that it made last, and digests no part of the input: it gets the input's tree, which all runs of a machine may share, from its
-//! caller. A digester by which this can be done in threads is a `Replays`.
+//! The layers above may rely on this: a `KeptRun` gives the root of the run's state of each step asked, in the version of the run and in
+//! the order asked (`roots`), and the machine of a step with the trees of its version (`committed`); each is that of the definition,
+//! whatever the spacing of the checkpoints and the number of workers. Workers run side by side if threads can be made; the answers don't
+//! depend on it. A `KeptRun` keeps its workers, each of which makes its next root from the one that it made last, and digests no part of
+//! the input: it gets the input's tree, which all runs of a machine may share, from its caller. A digester by which this can be done in
+//! threads is a `Replays`. A caller that asks once calls the functions `roots` and `committed_at`, which keep nothing; the root of the
+//! run's input, which version 3 has, is made once a call, or once for all runs of a machine if the caller hands it on
+//! (`run_input_root`, `roots_with_input`).
 //!
 //! The steps are cut into at most as many pieces as there are workers, which is proved of `piece_size`. Each worker goes from step to
 //! step with one tree of memory and one of registers, so that what differs alone is digested. It carries out the steps in between where

@@ -14,8 +14,8 @@ use std::alloc::Global;
 use std::thread;
 use std::thread::Threads;
 
-/// What a worker keeps of a run: its cursor, once it has made a root, the digests of the registers of that root, and the roots of its
-/// piece in the last call that cut steps into pieces, or that memory ran out in it.
+/// What a worker keeps of a run: its cursor, once it has made a root; the digests of the registers of that root; and what it made in the
+/// last call that cut steps into pieces: the roots of its piece, or out of memory.
 #[derive(Drop)]
 pub struct Worker<D: Digester> {
     pub cursor: Option<Cursor<D>>,
