@@ -1,4 +1,4 @@
-ghost use Rattle.std.specs.Prelude.{◌≡◌, ◌+◌, ◌<◌, ◌≤◌, ◌^◌, [], true, false, ◌||◌, Option, Some, None, is_none, option_copied, IfOk, if◌then◌else◌};
+ghost use Rattle.std.specs.Prelude.{◌≡◌, ◌<◌, ◌≤◌, ◌^◌, [], true, false, ◌||◌, Some, None, is_none, option_copied, IfOk, if◌then◌else◌};
 ghost use Rattle.bisect_game.specs.declared.settled.Side.TheVariants.{First, Second};
 ghost use Rattle.bisect_game.specs.Bisection.{prover_of, asks, settle_side, question_of, decided, went_on};
 ghost use Rattle.bisect_game.specs.Closing.{is_step};

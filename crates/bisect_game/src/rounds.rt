@@ -1,4 +1,4 @@
-ghost use Rattle.std.specs.Prelude.{◌≡◌, ◌+◌, ◌-◌, ◌<◌, ◌≤◌, ◌^◌, ◌∷◌, ◌++◌, [], length, min, slice_index_or};
+ghost use Rattle.std.specs.Prelude.{◌≡◌, ◌-◌, ◌<◌, ◌≤◌, ◌∷◌, ◌++◌, [], length, min, slice_index_or};
 ghost use Rattle.bisect_game.specs.Bisection.{cut, kept_part, kept, kind_over, roots_in, roots_of, agreeing};
 ghost use Rattle.bisect_game.specs.Closing.{is_out, is_proved, both_proved, close_of};
 

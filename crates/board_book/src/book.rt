@@ -1,5 +1,5 @@
 ghost use denote.Param.Send.{IsSync};
-ghost use Rattle.std.specs.Prelude.{◌≡◌, ◌+◌, ◌-◌, ◌<◌, ◌≤◌, ◌^◌, ◌∷◌, ◌++◌, [], ℕ, List, Some, None, IfOk, IfErr, IfSome, IfNone, length, true, is_none};
+ghost use Rattle.std.specs.Prelude.{◌≡◌, ◌+◌, ◌<◌, ◌≤◌, ◌^◌, ◌∷◌, ◌++◌, [], ℕ, List, Some, IfOk, IfErr, IfSome, IfNone, length, true, is_none};
 ghost use Rattle.bisect_game.specs.declared.question.Question.{Question};
 ghost use Rattle.tournament.specs.declared.setup.Setup.{Setup};
 ghost use Rattle.tournament.specs.Bracket.{open_question, is_complete, bracket};

@@ -2,7 +2,7 @@
 //! with `None` for each fault (`text_at`, `number_at`, `word_at`).
 ghost use Rattle.std.specs.Prelude.{◌≤◌, map, Ok, IfOk, IfSome, ◌≡◌};
 ghost use Rattle.std.specs.Option.{option_map};
-ghost use Rattle.serde_json.specs.View.{view, items_view};
+ghost use Rattle.serde_json.specs.View.{view};
 ghost use Rattle.rd_base.specs.Results.{Gives};
 ghost use Rattle.case_reader.specs.Fields.{field, text_in, bytes_in, number_of, number_in, optional_number_in, array_in, hex_of};
 ghost use Rattle.case_reader.specs.Scripts.{text_at, number_at, word_at};

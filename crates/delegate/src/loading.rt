@@ -1,7 +1,7 @@
 //! How every command on a case reads it and loads its image, and how tasks are read and loaded.
-ghost use Rattle.std.specs.Prelude.{◌≡◌, ◌+◌, ◌≤◌, ℕ, List, [], map, length, IfOk, Ok};
+ghost use Rattle.std.specs.Prelude.{◌≡◌, ◌+◌, ◌≤◌, ℕ, List, [], map, length, IfOk};
 ghost use Rattle.std.specs.List.{All};
-ghost use Rattle.rv_step.specs.State.{State, state_of, IsChained};
+ghost use Rattle.rv_step.specs.State.{state_of, IsChained};
 ghost use Rattle.case_reader.specs.Case.{data_of};
 ghost use Rattle.case_reader.specs.Tasks.{tasks_data, AreFew};
 ghost use Rattle.image_reader.specs.Image.{loaded_of};

@@ -1,4 +1,4 @@
-ghost use Rattle.std.specs.Prelude.{◌≡◌, ◌≢◌, ◌-◌, ◌<◌, ◌≤◌, true, false, length, slice_index, IfOk, replicate};
+ghost use Rattle.std.specs.Prelude.{◌≡◌, ◌-◌, ◌<◌, ◌≤◌, true, false, length, slice_index, IfOk, replicate};
 ghost use Rattle.bisect_game.specs.declared.settled.Close.TheVariants.{Out};
 ghost use Rattle.deposits.specs.Accounts.{opened, is_out, told, CanTell};
 ghost use Rattle.deposits.specs.Events.Event.{ClaimOut, Closed};

@@ -1,5 +1,5 @@
 //! What is done to the books in a turn: a question, or a post.
-ghost use Rattle.std.specs.Prelude.{◌≡◌, ◌<◌, ◌≤◌, Option, Some, None};
+ghost use Rattle.std.specs.Prelude.{◌≡◌, ◌<◌, ◌≤◌, Some};
 ghost use Rattle.tournament.specs.Bracket.{open_question};
 ghost use Rattle.tournament.specs.Posting.{rules_of, answer_of};
 ghost use Rattle.bisect_game.specs.declared.question.Question.{Question};

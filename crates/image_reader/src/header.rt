@@ -1,4 +1,4 @@
-ghost use Rattle.std.specs.Prelude.{◌≡◌, ℕ, ◌+◌, ◌*◌, ◌<◌, ◌≤◌, length, Ok};
+ghost use Rattle.std.specs.Prelude.{◌≡◌, ◌+◌, ◌*◌, ◌≤◌, length, Ok};
 ghost use Rattle.rd_base.specs.Results.{Gives};
 ghost use Rattle.image_reader.specs.Elf.{header_at, program_header_at, header_in, loads_from, loads_in, is_bad_table};
 

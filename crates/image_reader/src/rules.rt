@@ -1,4 +1,4 @@
-ghost use Rattle.std.specs.Prelude.{◌≡◌, ◌+◌, ◌^◌, false, OnOk};
+ghost use Rattle.std.specs.Prelude.{◌≡◌, ◌+◌, false, OnOk};
 ghost use Rattle.std.specs.List.{list_any};
 ghost use Rattle.rd_base.specs.Results.{Gives};
 ghost use Rattle.image_reader.specs.Elf.{is_outside_file, has_larger_file, is_past_end, checked_in};

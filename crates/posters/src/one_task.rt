@@ -1,5 +1,5 @@
 //! A match played by posters: the case of one task.
-ghost use Rattle.std.specs.Prelude.{◌≡◌, ◌<◌, ◌≤◌, ◌++◌, List, true, length, IfOk};
+ghost use Rattle.std.specs.Prelude.{◌≡◌, ◌<◌, ◌++◌, List, true, length, IfOk};
 ghost use Rattle.bisect_game.specs.Says.{AnswerAs};
 ghost use Rattle.tournament.specs.Bracket.{is_complete};
 ghost use Rattle.board_book.specs.declared.entry.Entry.{Entry};

@@ -1,5 +1,5 @@
 //! The matches of many tasks played by posters.
-ghost use Rattle.std.specs.Prelude.{◌≡◌, ℕ, ◌+◌, ◌<◌, ◌≤◌, ◌++◌, [], List, All, Some, true, map, length, IfOk};
+ghost use Rattle.std.specs.Prelude.{◌≡◌, ℕ, ◌<◌, ◌≤◌, ◌++◌, [], List, All, true, map, length, IfOk};
 ghost use Rattle.tournament.specs.Bracket.{is_complete};
 ghost use Rattle.round_robin.specs.Classes.{HaveClasses};
 ghost use Rattle.board_book.specs.declared.entry.Entry.{Entry};

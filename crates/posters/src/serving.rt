@@ -1,5 +1,5 @@
 //! What one poster does.
-ghost use Rattle.std.specs.Prelude.{◌≡◌, ℕ, ◌+◌, ◌<◌, ◌≤◌, Some, List, map, length, slice_get};
+ghost use Rattle.std.specs.Prelude.{◌≡◌, ℕ, ◌≤◌, List, map, slice_get};
 ghost use Rattle.std.specs.Thread.{IsSync};
 ghost use Rattle.tournament.specs.declared.setup.Setup.{Setup};
 ghost use Rattle.posters.specs.declared.serving.Round.TheVariants.{GoesOn};
@@ -238,7 +238,7 @@ fn serve_all_rounds<
 
 impl<'g, J: Judge + Drop, P: Provers + Drop, A: Answerer, G: TaskGate> Worker<Hall<'g, J, P, G>, A>
     for Poster<J, P> {
-    ghost use Rattle.std.specs.Prelude.{◌≡◌, ℕ, ◌+◌, Option, List};
+    ghost use Rattle.std.specs.Prelude.{◌≡◌, ℕ, Option, List};
     ghost use Rattle.rd_base.specs.declared.answer.Answer.{Answer};
     ghost use Rattle.bisect_game.specs.declared.question.Question.{Question};
     ghost use Rattle.tournament.specs.declared.setup.Setup.{Setup};

@@ -1,5 +1,5 @@
 //! Answers from their bytes.
-ghost use Rattle.std.specs.Prelude.{◌≡◌, ◌≤◌, List, ℕ, length, Ok, IfOk};
+ghost use Rattle.std.specs.Prelude.{◌≡◌, ◌≤◌, length, Ok, IfOk};
 ghost use Rattle.rd_base.specs.Results.{Gives};
 ghost use Rattle.rd_base.specs.declared.answer.Answer.{Answer};
 ghost use Rattle.rd_base.specs.declared.answer.Answer.TheVariants.{Step};

@@ -1,5 +1,5 @@
 //! The listing of words.
-ghost use Rattle.std.specs.Prelude.{◌≡◌, ◌++◌, ◌<◌, ◌∷◌, string_bytes, OnOk, IfOk};
+ghost use Rattle.std.specs.Prelude.{◌≡◌, ◌++◌, ◌<◌, string_bytes, OnOk, IfOk};
 ghost use Rattle.rv_text.specs.Operands.{hex_digit as the_hex_digit, hex_digits};
 ghost use Rattle.rv_text.specs.Spelling.{raw};
 ghost use Rattle.rv_text.specs.Listing.{spelling_text, line_of, listing};

@@ -1,6 +1,6 @@
 //! Names and the places that they stand for.
-ghost use Rattle.std.specs.Prelude.{◌≡◌, ◌<◌, ◌^◌, IfSome, OnOk};
-ghost use Rattle.rv_text.specs.Assembly.{Names, with_name};
+ghost use Rattle.std.specs.Prelude.{◌≡◌, OnOk};
+ghost use Rattle.rv_text.specs.Assembly.{with_name};
 ghost use Rattle.rv_text.specs.Places.{places_of, distances_in};
 
 use std::alloc::AllocError;

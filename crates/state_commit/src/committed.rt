@@ -1,4 +1,4 @@
-ghost use Rattle.std.specs.Prelude.{◌≡◌, ◌≢◌, ℕ, ◌<◌, ◌==◌, ◌/◌, ◌^◌, [], Some, IfOk, OnOk, IfSome};
+ghost use Rattle.std.specs.Prelude.{◌≡◌, ◌≢◌, ℕ, ◌<◌, ◌/◌, ◌^◌, [], Some, IfOk, OnOk, IfSome};
 ghost use Rattle.mem_plain.specs.Contents.{Contents, byte_at};
 ghost use Rattle.mem_tree.specs.Tree.{IsTreeOf};
 ghost use Rattle.rv_step.specs.State.{state_of};

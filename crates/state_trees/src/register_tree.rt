@@ -1,4 +1,4 @@
-ghost use Rattle.std.specs.Prelude.{◌≡◌, ℕ, ◌+◌, ◌<◌, ◌≤◌, false, length};
+ghost use Rattle.std.specs.Prelude.{◌≡◌, ℕ, ◌+◌, ◌<◌, false, length};
 ghost use Rattle.rd_base.specs.Regs.{no_registers_set};
 ghost use Rattle.merkle_nodes.specs.Node.{digest_at};
 ghost use Rattle.merkle_nodes.specs.Heap.{HasLeaves, IsHeap, is_marked};

@@ -1,4 +1,4 @@
-ghost use Rattle.std.specs.Prelude.{◌≡◌, ◌↔◌, ◌+◌, ◌≤◌, false, is_some, length};
+ghost use Rattle.std.specs.Prelude.{◌≡◌, ◌↔◌, ◌+◌, ◌≤◌, false, is_some};
 ghost use Rattle.rd_base.specs.declared.digest.Digest32.{Digest32};
 ghost use Rattle.rv_step.specs.Named.{AreRegisters};
 ghost use Rattle.proof_facts.specs.Conditions.{FirstFails, LeadsFrom, conditions};
@@ -6,7 +6,7 @@ ghost use Rattle.proof_facts.specs.Conditions.Refusal.{opening, shape};
 ghost use Rattle.proof_facts.specs.Facts as facts_of_proof;
 ghost use Rattle.proof_facts.specs.Next as next;
 ghost use Rattle.step_check.specs.Tests.{checked, checked_ticks};
-ghost use Rattle.step_check.specs.Ticks.{TicksUntil, condition_digests, step_ticks, most_alone, most_ticks, next_digests, opening_digests, registers_changed_digests, registers_digests, storage_digests, digests_on, ticks_of};
+ghost use Rattle.step_check.specs.Ticks.{TicksUntil, condition_digests, step_ticks, most_alone, most_ticks, opening_digests, registers_changed_digests, registers_digests, storage_digests, digests_on, ticks_of};
 
 use crate::carrying::{Parts, step_on};
 use crate::opening::{

@@ -1,5 +1,5 @@
 //! Roots and ways, with each digest counted: one walk for every tree.
-ghost use Rattle.std.specs.Prelude.{◌≡◌, ◌+◌, true, length};
+ghost use Rattle.std.specs.Prelude.{◌≡◌, ◌+◌};
 ghost use Rattle.digest_core.specs.Text.{register_text as text_of_register};
 ghost use Rattle.merkle_nodes.specs.Node.{digest_at};
 ghost use Rattle.merkle_nodes.specs.Opening.{opened};

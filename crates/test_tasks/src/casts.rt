@@ -1,7 +1,6 @@
 //! Tasks of players of the toy game, their books and their answerers.
 ghost use Rattle.std.specs.Prelude.{◌≡◌, ◌++◌, ◌<◌, ◌≤◌, IfOk, map, length};
 ghost use Rattle.board_book.specs.Tasks.{openings, sayings, sayings_from};
-ghost use Rattle.toy_game.specs.declared.cast.Seated.{Seated};
 ghost use Rattle.toy_game.specs.Toy.{answers, says_of};
 ghost use Rattle.test_tasks.specs.Casts.{opening_of, book_of, AreCounted};
 

@@ -1,5 +1,5 @@
 //! A full text from its bytes, in one pass over its lines.
-ghost use Rattle.std.specs.Prelude.{◌≡◌, ◌+◌, ◌<◌, ◌≤◌, ◌^◌, [], List, length, Ok};
+ghost use Rattle.std.specs.Prelude.{◌+◌, ◌<◌, ◌^◌, []};
 ghost use Rattle.rd_base.specs.Results.{Gives};
 ghost use Rattle.text_reader.specs.Entries.{head_in};
 ghost use Rattle.text_reader.specs.TextLines.{lines_of};

@@ -1,5 +1,4 @@
 //! Lines but the first.
-ghost use Rattle.std.specs.Prelude.{◌≡◌};
 ghost use Rattle.rd_base.specs.Results.{Gives};
 ghost use Rattle.text_reader.specs.Entries.{settled_in, move_in, status_at, output_in, accepted_in, string_in, collided_in, verdict_in, entry_in};
 

@@ -1,4 +1,4 @@
-ghost use Rattle.std.specs.Prelude.{◌≡◌, ◌+◌, ◌<◌, ◌≤◌, ◌^◌, ◌∷◌, ◌++◌, [], ℕ, List, length, vec_len, vec_capacity, Option};
+ghost use Rattle.std.specs.Prelude.{◌≡◌, ◌+◌, ◌<◌, ◌≤◌, ◌^◌, ◌++◌, [], ℕ, length, vec_len, vec_capacity};
 ghost use Rattle.tournament.specs.Bracket.{put_out, is_out_by, collided, all_there, all_out, is_out_in, live_from, collision_with, claims_collision, disputes_collision, question_in, all_closed, lowest, last_stage};
 ghost use Rattle.tournament.specs.Keeping.{asks_of, asked_from, sides};
 

@@ -1,5 +1,5 @@
-ghost use Rattle.std.specs.Prelude.{◌≡◌, ◌+◌, ◌-◌, ◌<◌, ◌≤◌, ◌^◌, ◌∷◌, [], length, vec_len, vec_capacity, Some, None, IfSome, IfOk, replicate};
-ghost use Rattle.tournament.specs.Bracket.{Record, put, is_stage_due, last_stage, stage_opened, verdict_of};
+ghost use Rattle.std.specs.Prelude.{◌≡◌, ◌+◌, ◌<◌, ◌≤◌, ◌^◌, ◌∷◌, [], length, vec_len, vec_capacity, None, IfSome, IfOk, replicate};
+ghost use Rattle.tournament.specs.Bracket.{put, is_stage_due, last_stage, stage_opened, verdict_of};
 ghost use Rattle.tournament.specs.Keeping.{Sheet, other_from, side_pairs, dispute_at, disputes_over, and_also, AllRooms};
 ghost use Rattle.tournament.specs.Posting.{rules_of};
 
