@@ -1,10 +1,11 @@
--- Derived: a machine of a run, and a tree that is kept with its memory.
-use Rattle.std.specs.Prelude.{◌≡◌, ℕ, List, [], true}
+-- Derived: a machine of a run, a tree that is kept with its memory, and what a worker keeps of a run.
+use Rattle.std.specs.Prelude.{◌≡◌, ℕ, List, [], true, IfSome}
 use Rattle.mem_plain.specs.Contents.{Contents, IsUsed}
 use Rattle.mem_tree.specs.Tree.{Tree, IsTreeOf, SameBut, is_among}
 use Rattle.rv_step.specs.State.{state_of, IsChained}
 use Rattle.rv_step.specs.declared.machine.Machine.{Machine}
 use Rattle.checkpoint_run.specs.Recorded.{Recorded, state_of_step}
+use Rattle.segment_replay.specs.declared.replaying.Worker.{Worker}
 
 -- the machine is that of a step of the run, by this digest
 pub record IsMachineOf (digest : List ℕ → List ℕ) (r : Recorded) (at : ℕ) (machine : Machine) : Type 0 where
@@ -24,3 +25,10 @@ pub record IsFresh (digest : List ℕ → List ℕ) (tree : Tree) (m : Contents)
 -- each page that a memory has in use is touched
 abbrev pub HasTouched : Tree → Contents → Type 0
 HasTouched tree m = (p : ℕ) → IsUsed m p → is_among tree.touched p ≡ true
+
+-- what a worker keeps is of the run: the digests of registers in the run's version, and a cursor, if it has one, whose machine is that of
+-- its step and whose tree is the machine's memory's
+pub record IsKept {D : Type 0} (digest : List ℕ → List ℕ) (r : Recorded) (w : Worker D) : Type 0 where
+  pub registers : w.registers ≡ r.first.version
+  pub machine : IfSome w.cursor (λ c. IsMachineOf digest r c.at c.machine)
+  pub tree : IfSome w.cursor (λ c. IsFresh digest c.tree c.machine.mem)

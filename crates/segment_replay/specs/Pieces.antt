@@ -7,6 +7,6 @@ use Rattle.rd_base.specs.declared.memory.Memory.{Memory}
 use Rattle.rd_base.specs.declared.digest.Digest32.{Digest32}
 use Rattle.segment_replay.specs.Roots.{digests}
 
--- each piece, where it was made, is that chunk of the wanted list
+-- each piece, if it was made, is that chunk of the wanted list
 abbrev pub ArePieces : List (List ℕ) → ℕ → List (Result (Vec Digest32 Global) Memory) → Type 0
 ArePieces wanted size pieces = (n : ℕ) (d : Result (Vec Digest32 Global) Memory) → n < length pieces → IfOk (slice_index_or pieces n d) (λ v. digests v.items ≡ slice_chunk wanted size n)

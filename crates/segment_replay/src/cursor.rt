@@ -1,4 +1,4 @@
-//! One worker: a machine of a run, moved from step to step with the tree of its memory.
+//! A worker's cursor: a machine of a run, moved from step to step with the tree of its memory.
 ghost use Rattle.std.specs.Prelude.{◌≡◌, ℕ, ◌+◌, ◌<◌, ◌≤◌, ◌∷◌, [], true, false, IfOk, OnOk, IfSome, min};
 ghost use Rattle.mem_plain.specs.Contents.{Contents};
 ghost use Rattle.mem_tree.specs.Tree.{IsTreeOf, is_among};
@@ -20,11 +20,11 @@ use state_trees::input_root;
 use std::alloc::Global;
 use std::thread::Threads;
 
-/// Up to so many steps are made to move a cursor on, whatever its memory holds; for more its machine may be put together from a
+/// Up to this many steps are made to move a cursor on, whatever its memory holds; for more its machine may be put together from a
 /// checkpoint. They take half a millisecond, about as long as going over the versions of pages of a long run.
 const STEPS_WORTH_A_CHECKPOINT: u64 = 16_384;
 
-/// Up to so many steps for each page in use are made too. They take 20 to 120 us of a processor, the more the more
+/// Up to this many steps for each page in use are made too. They take 20 to 120 us of a processor, the more the more
 /// pages are in use. A machine that is put together from a checkpoint copies each page in use, and its tree compares the page's 128
 /// chunks with those that it keeps. What has changed is digested either way.
 const STEPS_WORTH_A_PAGE: u64 = 1_024;
@@ -57,7 +57,7 @@ fn machine_up_to<D: Digester>(d: D, run: &Run, goal: u64) -> Result<Machine, Mem
     Ok(machine)
 }
 
-/// The step to replay to for the state of the step asked: from where the run stands still, and above the bound, an earlier one has the
+/// The step to replay to for the state of the step asked: once the run stands still, and above the bound, an earlier one has the
 /// same state.
 fn goal_of(run: &Run, step: u64) -> u64
     ensures within { result ≤ still_of run.now }
@@ -77,7 +77,7 @@ pub fn machine_of_step<D: Digester>(d: D, run: &Run, step: u64) -> Result<Machin
     machine_up_to(d, run, goal)
 }
 
-/// Touches a page, where one is named. An `Err` is out of memory.
+/// Touches a page, if one is named. An `Err` is out of memory.
 fn touch_named<D: Digester>(tree: &mut MemTree<D>, page: Option<u32>) -> Result<(), Memory>
     requires { ArePages (page ∷ []) }
     ensures tree { OnOk result ((m : Contents) → IsTreeOf D.digest_of tree.old m → IsTreeOf D.digest_of tree.new m) }
@@ -93,7 +93,7 @@ fn touch_named<D: Digester>(tree: &mut MemTree<D>, page: Option<u32>) -> Result<
     }
 }
 
-/// The cursor at the next step, with the pages touched that changed. An `Err` is out of memory.
+/// The cursor at the next step, with the pages touched that were written. An `Err` is out of memory.
 fn go_on<D: Digester>(d: D, run: &Run, cursor: Cursor<D>) -> Result<Cursor<D>, Memory>
     requires machine { IsMachineOf D.digest_of run.now cursor.at cursor.machine }
     requires below { cursor.at < run.now.bound }
@@ -140,7 +140,7 @@ fn moved_on<D: Digester>(d: D, run: &Run, cursor: Cursor<D>, goal: u64) -> Resul
     Ok(Cursor { at, machine, tree })
 }
 
-/// Whether a memory has at least so many pages in use, those with a byte other than 0. It looks at no more of them.
+/// Whether a memory has at least this many pages in use, those with a byte other than 0. It looks at no more of them.
 fn has_pages(mem: &PlainMem, count: u64) -> bool {
     let mut from = 0;
     'pages: for _ in 0..count {
@@ -152,7 +152,7 @@ fn has_pages(mem: &PlainMem, count: u64) -> bool {
     true
 }
 
-/// Whether moving a cursor with this memory on by so many steps is taken to cost less than putting a machine together from a
+/// Whether moving a cursor with this memory on by this many steps is taken to cost less than putting a machine together from a
 /// checkpoint. No answer depends on it.
 fn is_near(mem: &PlainMem, steps: u64) -> bool {
     steps <= STEPS_WORTH_A_CHECKPOINT || has_pages(mem, steps.div_ceil(STEPS_WORTH_A_PAGE))
@@ -209,8 +209,8 @@ fn turned_to<D: Digester>(
     })
 }
 
-/// The cursor of a step, up to the one from which the run stands still: the cursor at hand moved on, where the step lies
-/// ahead of it and is near or no checkpoint lies between; else the one at hand turned to the step; and a new one where there is none
+/// The cursor of a step, up to the one from which the run stands still: the cursor at hand moved on, if the step lies
+/// ahead of it, and either is near or no checkpoint lies between; else the one at hand turned to the step; and a new one if there is none
 /// at hand. An `Err` is out of memory.
 fn cursor_at<D: Digester + Send + Sync, R: Threads + Sync>(
     rt: &R,
@@ -259,8 +259,8 @@ pub fn run_input_root<D: Digester>(d: D, run: &Run) -> Digest32
     }
 }
 
-/// The root of a step, from the root of the run's input, and a cursor for the next one. Of the registers those leaves alone are
-/// digested that differ from those of the root before. An `Err` is out of memory.
+/// The root of a step, from the root of the run's input, and a cursor for the next one. From version 2 on those leaves alone of the
+/// registers are digested that differ from those of the root before. An `Err` is out of memory.
 pub fn root_of_step<D: Digester + Send + Sync, R: Threads + Sync>(
     rt: &R,
     alloc: Global,

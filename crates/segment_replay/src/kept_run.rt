@@ -5,7 +5,7 @@ ghost use Rattle.checkpoint_run.specs.Recorded.{AreChained, state_of_step};
 ghost use Rattle.segment_replay.specs.Roots.{root_at, digests};
 
 use crate::cursor::machine_of_step;
-use crate::replaying::{Worker, roots_by, roots_by_one};
+use crate::replaying::{Worker, roots_by};
 use checkpoint_run::{Run, tampered_runs_keep_the_input};
 use digest_core::{Digester, Sha256, Weak8};
 use rd_base::{Digest32, Memory};
@@ -34,7 +34,8 @@ fn committed_with_input<D: Digester + Send + Sync, R: Threads + Sync>(
 }
 
 /// A run that is kept with what each worker's last root was made of, so that its next root takes the digests of what differs alone: a
-/// machine of the run with the trees of its memory and of its registers; and with the tree of its input, which all runs of a machine may share.
+/// machine of the run with the tree of its memory and, from version 2 on, that of its registers. In version 3 the tree of the run's
+/// input is kept too, which all runs of a machine may share.
 ///
 /// Contracts see it as the run.
 #[derive(Drop)]
@@ -46,10 +47,10 @@ pub struct KeptRun<D: Digester> {
 }
 
 impl<D: Digester> Model for KeptRun<D> {
-    ghost use Rattle.std.specs.Prelude.{◌≡◌, All, IfSome};
+    ghost use Rattle.std.specs.Prelude.{◌≡◌, All};
     ghost use Rattle.checkpoint_run.specs.Recorded.{Recorded, recorded_code, AreChained};
     ghost use Rattle.state_commit.specs.Committing.{HasInput};
-    ghost use Rattle.segment_replay.specs.Cursor.{IsMachineOf, IsFresh};
+    ghost use Rattle.segment_replay.specs.Cursor.{IsKept};
 
     ghost Value = { Recorded };
 
@@ -58,9 +59,7 @@ impl<D: Digester> Model for KeptRun<D> {
     ghost view = { λ k. k.run };
 
     ghost invariant = { λ k. AreChained D.digest_of k.run × HasInput D.digest_of k.run.first k.input
-        × All (λ w. w.registers ≡ k.run.first.version) k.workers.items
-        × All (λ w. IfSome w.cursor (λ c. IsMachineOf D.digest_of k.run c.at c.machine)) k.workers.items
-        × All (λ w. IfSome w.cursor (λ c. IsFresh D.digest_of c.tree c.machine.mem)) k.workers.items };
+        × All (λ w. IsKept D.digest_of k.run w) k.workers.items };
 }
 
 impl<D: Digester> KeptRun<D> {
@@ -88,9 +87,9 @@ impl<D: Digester> KeptRun<D> {
     }
 
     /// The roots of steps of the run, in the order asked, as the function `roots` gives them, but without the digests of its input. Each
-    /// worker makes its first root from the one that it made last, whether the step lies ahead or behind. A single root is made by the
-    /// first worker, in the caller's thread; other threads help only if it has no tree yet. An `Err` is out of memory; a worker that was
-    /// stopped by it makes its next root from a tree of its own.
+    /// worker makes its first root from the one that it made last, whether the step lies ahead or behind. A single root, and all roots if
+    /// `workers` is 1, are made by the first worker, in the caller's thread; other threads help only if that one has no tree yet. An `Err`
+    /// is out of memory; a worker that was making a root then builds its next tree anew.
     pub fn roots<R: Threads + Sync>(
         &mut self,
         rt: &R,
@@ -105,17 +104,6 @@ impl<D: Digester> KeptRun<D> {
         ensures run { self.new ≡ self.old }
     {
         let input = self.input.root();
-        if steps.len() == 1 {
-            return roots_by_one(
-                rt,
-                alloc,
-                self.d,
-                &self.run,
-                input,
-                steps,
-                &mut self.workers,
-            );
-        }
         roots_by(
             rt,
             alloc,
@@ -145,10 +133,11 @@ impl<D: Digester> KeptRun<D> {
     }
 }
 
-/// A digester by which runs can be replayed in threads. A method of a trait can't hand a digester of a type parameter to
-/// threads, so each digester says for itself that it can, by calls of `KeptRun::roots` and `KeptRun::committed`.
+/// A digester by which runs can be replayed in threads. A method of a trait, such as that of an answerer, can't hand a digester of a type
+/// parameter to threads. So each digester has these methods of its own, which do what `KeptRun::roots` and `KeptRun::committed` do; a
+/// digester of another crate calls those.
 pub trait Replays: Digester {
-    /// `KeptRun::roots` by this digester.
+    /// The roots of steps of the run, in the order asked, as `KeptRun::roots` gives them.
     fn roots_of<R: Threads + Sync>(
         self,
         rt: &R,
@@ -162,7 +151,7 @@ pub trait Replays: Digester {
         ensures roots { IfOk result (λ v. digests v.items ≡ map (root_at Self.digest_of run.old) steps.now) }
         ensures run { run.new ≡ run.old };
 
-    /// `KeptRun::committed` by this digester.
+    /// The machine of a step with the trees of its version, as `KeptRun::committed` gives it.
     fn committed_of<R: Threads + Sync>(
         self,
         rt: &R,
@@ -183,7 +172,17 @@ impl Replays for Sha256 {
         steps: &[u64],
         workers: u32,
     ) -> Result<Vec<Digest32>, Memory> {
-        run.roots(rt, alloc, steps, workers)
+        let input = run.input.root();
+        roots_by(
+            rt,
+            alloc,
+            self,
+            &run.run,
+            input,
+            steps,
+            workers,
+            &mut run.workers,
+        )
     }
 
     fn committed_of<R: Threads + Sync>(
@@ -193,7 +192,8 @@ impl Replays for Sha256 {
         run: &KeptRun<Self>,
         step: u64,
     ) -> Result<Committed<Self>, Memory> {
-        run.committed(rt, alloc, step)
+        let input = run.input.share()?;
+        committed_with_input(rt, alloc, self, &run.run, input, step)
     }
 }
 
@@ -206,7 +206,17 @@ impl Replays for Weak8 {
         steps: &[u64],
         workers: u32,
     ) -> Result<Vec<Digest32>, Memory> {
-        run.roots(rt, alloc, steps, workers)
+        let input = run.input.root();
+        roots_by(
+            rt,
+            alloc,
+            self,
+            &run.run,
+            input,
+            steps,
+            workers,
+            &mut run.workers,
+        )
     }
 
     fn committed_of<R: Threads + Sync>(
@@ -216,6 +226,7 @@ impl Replays for Weak8 {
         run: &KeptRun<Self>,
         step: u64,
     ) -> Result<Committed<Self>, Memory> {
-        run.committed(rt, alloc, step)
+        let input = run.input.share()?;
+        committed_with_input(rt, alloc, self, &run.run, input, step)
     }
 }

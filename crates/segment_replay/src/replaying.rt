@@ -1,8 +1,8 @@
-ghost use Rattle.std.specs.Prelude.{◌≡◌, ◌<◌, ◌≤◌, ◌+◌, ◌*◌, ◌/◌, ◌%◌, ℕ, All, IfOk, IfSome, OnOk, List, length, map, min, vec_len};
+ghost use Rattle.std.specs.Prelude.{◌≡◌, ◌<◌, ◌≤◌, ◌+◌, ◌*◌, ◌/◌, ◌%◌, ℕ, All, IfOk, OnOk, List, length, map, min, vec_len};
 ghost use Rattle.std.specs.Fork.{slice_chunk};
 ghost use Rattle.checkpoint_run.specs.Recorded.{AreChained, state_of_step};
 ghost use Rattle.segment_replay.specs.Roots.{IsInputRoot, root_at, digests};
-ghost use Rattle.segment_replay.specs.Cursor.{IsMachineOf, IsFresh};
+ghost use Rattle.segment_replay.specs.Cursor.{IsKept};
 ghost use Rattle.segment_replay.specs.Pieces.{ArePieces};
 
 use crate::cursor::{Cursor, machine_of_step, root_of_step, run_input_root};
@@ -14,8 +14,9 @@ use std::alloc::Global;
 use std::thread;
 use std::thread::Threads;
 
-/// What a worker keeps of a run: its cursor, once it has made a root; the digests of the registers of that root; and what it made in the
-/// last call that cut steps into pieces: the roots of its piece, or out of memory.
+/// What a worker keeps of a run: its cursor, unless it has made no root so far or ran out of memory in its last one; the digests of the
+/// registers that it digested last; and, of the last call that cut steps into several pieces, the roots of its piece, or an `Err` if it
+/// was out of memory or there was no such call since the worker was added.
 #[derive(Drop)]
 pub struct Worker<D: Digester> {
     pub cursor: Option<Cursor<D>>,
@@ -23,8 +24,8 @@ pub struct Worker<D: Digester> {
     pub made: Result<Vec<Digest32>, Memory>,
 }
 
-/// The roots of steps, in their order, by one worker, the first one made from the root that it made last. An `Err` is out of memory; the
-/// worker makes its next root from a tree of its own then.
+/// The roots of steps, in their order, by one worker, the first one made from the root that it made last. An `Err` is out of memory; a
+/// worker that was making a root then builds its next tree anew.
 fn replayed<D: Digester + Send + Sync, R: Threads + Sync>(
     rt: &R,
     alloc: Global,
@@ -36,12 +37,8 @@ fn replayed<D: Digester + Send + Sync, R: Threads + Sync>(
 ) -> Result<Vec<Digest32>, Memory>
     requires chained { AreChained D.digest_of run.now }
     requires input { IsInputRoot D.digest_of run.now input.0 }
-    requires registers { worker.old.registers ≡ run.now.first.version }
-    requires machine { IfSome worker.old.cursor (λ c. IsMachineOf D.digest_of run.now c.at c.machine) }
-    requires tree { IfSome worker.old.cursor (λ c. IsFresh D.digest_of c.tree c.machine.mem) }
-    ensures registers { worker.new.registers ≡ run.now.first.version }
-    ensures machine { IfSome worker.new.cursor (λ c. IsMachineOf D.digest_of run.now c.at c.machine) }
-    ensures tree { IfSome worker.new.cursor (λ c. IsFresh D.digest_of c.tree c.machine.mem) }
+    requires kept { IsKept D.digest_of run.now worker.old }
+    ensures kept { IsKept D.digest_of run.now worker.new }
     ensures roots { IfOk result (λ v. digests v.items ≡ map (root_at D.digest_of run.now) steps.now) }
 {
     let mut roots = Vec::new(alloc);
@@ -55,7 +52,7 @@ fn replayed<D: Digester + Send + Sync, R: Threads + Sync>(
     Ok(roots)
 }
 
-/// The piece with a place, from 0, where steps are cut into pieces of a size; none behind the last one.
+/// Of steps that are cut into pieces of a size, the piece with a place, from 0; none behind the last one.
 fn piece_at(steps: &[u64], size: usize, place: usize) -> &[u64]
     ensures { result.now ≡ slice_chunk steps.now size place }
 {
@@ -80,19 +77,15 @@ fn replay_piece<D: Digester + Send + Sync, R: Threads + Sync>(
 )
     requires chained { AreChained D.digest_of run.now }
     requires input { IsInputRoot D.digest_of run.now input.0 }
-    requires registers { worker.old.registers ≡ run.now.first.version }
-    requires machine { IfSome worker.old.cursor (λ c. IsMachineOf D.digest_of run.now c.at c.machine) }
-    requires tree { IfSome worker.old.cursor (λ c. IsFresh D.digest_of c.tree c.machine.mem) }
-    ensures registers { worker.new.registers ≡ run.now.first.version }
-    ensures machine { IfSome worker.new.cursor (λ c. IsMachineOf D.digest_of run.now c.at c.machine) }
-    ensures tree { IfSome worker.new.cursor (λ c. IsFresh D.digest_of c.tree c.machine.mem) }
+    requires kept { IsKept D.digest_of run.now worker.old }
+    ensures kept { IsKept D.digest_of run.now worker.new }
     ensures made { IfOk worker.new.made (λ v. digests v.items ≡ slice_chunk (map (root_at D.digest_of run.now) steps.now) size place) }
 {
     let piece = piece_at(steps, size, place);
     worker.made = replayed(rt, alloc, d, run, input, piece, worker);
 }
 
-/// How long a piece is where so many steps are cut into at most `workers` pieces of this length, of which the last one may be
+/// How long a piece is if this many steps are cut into at most `workers` pieces of this length, of which the last one may be
 /// shorter. No shorter pieces would do.
 fn piece_size(steps: usize, workers: u32) -> usize
     requires steps { 0 < steps }
@@ -104,19 +97,15 @@ fn piece_size(steps: usize, workers: u32) -> usize
     steps.div_ceil(workers as usize)
 }
 
-/// At least so many workers of a run. An `Err` is out of memory, after some were added.
+/// At least this many workers of a run. An `Err` is out of memory, after some were added.
 fn add_workers<D: Digester>(
     d: D,
     run: &Run,
     count: usize,
     workers: &mut Vec<Worker<D>>,
 ) -> Result<(), Memory>
-    requires registers { All (λ w. w.registers ≡ run.now.first.version) workers.old.items }
-    requires machines { All (λ w. IfSome w.cursor (λ c. IsMachineOf D.digest_of run.now c.at c.machine)) workers.old.items }
-    requires trees { All (λ w. IfSome w.cursor (λ c. IsFresh D.digest_of c.tree c.machine.mem)) workers.old.items }
-    ensures registers { All (λ w. w.registers ≡ run.now.first.version) workers.new.items }
-    ensures machines { All (λ w. IfSome w.cursor (λ c. IsMachineOf D.digest_of run.now c.at c.machine)) workers.new.items }
-    ensures trees { All (λ w. IfSome w.cursor (λ c. IsFresh D.digest_of c.tree c.machine.mem)) workers.new.items }
+    requires kept { All (λ w. IsKept D.digest_of run.now w) workers.old.items }
+    ensures kept { All (λ w. IsKept D.digest_of run.now w) workers.new.items }
     ensures count { OnOk result (count ≤ vec_len workers.new) }
 {
     'workers: while workers.len() < count {
@@ -145,30 +134,22 @@ fn replay_pieces<D: Digester + Send + Sync, R: Threads + Sync>(
     requires threads { 0 < threads }
     requires chained { AreChained D.digest_of run.now }
     requires input { IsInputRoot D.digest_of run.now input.0 }
-    requires registers { All (λ w. w.registers ≡ run.now.first.version) workers.old }
-    requires machines { All (λ w. IfSome w.cursor (λ c. IsMachineOf D.digest_of run.now c.at c.machine)) workers.old }
-    requires trees { All (λ w. IfSome w.cursor (λ c. IsFresh D.digest_of c.tree c.machine.mem)) workers.old }
-    ensures registers { All (λ w. w.registers ≡ run.now.first.version) workers.new }
-    ensures machines { All (λ w. IfSome w.cursor (λ c. IsMachineOf D.digest_of run.now c.at c.machine)) workers.new }
-    ensures trees { All (λ w. IfSome w.cursor (λ c. IsFresh D.digest_of c.tree c.machine.mem)) workers.new }
+    requires kept { All (λ w. IsKept D.digest_of run.now w) workers.old }
+    ensures kept { All (λ w. IsKept D.digest_of run.now w) workers.new }
     ensures count { length workers.new ≡ length workers.old }
     ensures made { ArePieces (map (root_at D.digest_of run.now) steps.now) size (map (λ w. w.made) workers.new) }
 {
     let work = |place: usize, worker: &mut Worker<D>|
         requires chained { AreChained D.digest_of run.now }
         requires input { IsInputRoot D.digest_of run.now input.0 }
-        requires registers { worker.now.registers ≡ run.now.first.version }
-        requires machine { IfSome worker.now.cursor (λ c. IsMachineOf D.digest_of run.now c.at c.machine) }
-        requires tree { IfSome worker.now.cursor (λ c. IsFresh D.digest_of c.tree c.machine.mem) }
-        ensures registers { worker.exit.now.registers ≡ run.entry.now.first.version }
-        ensures machine { IfSome worker.exit.now.cursor (λ c. IsMachineOf D.digest_of run.entry.now c.at c.machine) }
-        ensures tree { IfSome worker.exit.now.cursor (λ c. IsFresh D.digest_of c.tree c.machine.mem) }
+        requires kept { IsKept D.digest_of run.now worker.now }
+        ensures kept { IsKept D.digest_of run.entry.now worker.exit.now }
         ensures made { IfOk worker.exit.now.made (λ v. digests v.items ≡ slice_chunk (map (root_at D.digest_of run.entry.now) steps.entry.now) size place) }
     { replay_piece(rt, alloc, d, run, input, steps, size, place, worker) };
     thread::for_each_mut(rt, workers, threads, &work);
 }
 
-/// Into how many pieces of a size so many steps are cut, of which the last one may be shorter.
+/// Into how many pieces of a size this many steps are cut, of which the last one may be shorter.
 #[tactic(auto, using(crate::proofs::PieceLemmas::some_pieces))]
 fn piece_count(steps: usize, size: usize) -> usize
     requires steps { 0 < steps }
@@ -193,33 +174,10 @@ fn joined<D: Digester>(alloc: Global, workers: &[Worker<D>]) -> Result<Vec<Diges
     Ok(all)
 }
 
-/// The roots of steps, by the first of the workers that a run keeps, from the root of the run's input. It is made in the caller's thread,
-/// but for the pages of the worker's first tree. An `Err` is out of memory; the worker makes its next root from a tree of its own then.
-pub fn roots_by_one<D: Digester + Send + Sync, R: Threads + Sync>(
-    rt: &R,
-    alloc: Global,
-    d: D,
-    run: &Run,
-    input: Digest32,
-    steps: &[u64],
-    workers: &mut Vec<Worker<D>>,
-) -> Result<Vec<Digest32>, Memory>
-    requires chained { AreChained D.digest_of run.now }
-    requires input { IsInputRoot D.digest_of run.now input.0 }
-    requires registers { All (λ w. w.registers ≡ run.now.first.version) workers.old.items }
-    requires machines { All (λ w. IfSome w.cursor (λ c. IsMachineOf D.digest_of run.now c.at c.machine)) workers.old.items }
-    requires trees { All (λ w. IfSome w.cursor (λ c. IsFresh D.digest_of c.tree c.machine.mem)) workers.old.items }
-    ensures registers { All (λ w. w.registers ≡ run.now.first.version) workers.new.items }
-    ensures machines { All (λ w. IfSome w.cursor (λ c. IsMachineOf D.digest_of run.now c.at c.machine)) workers.new.items }
-    ensures trees { All (λ w. IfSome w.cursor (λ c. IsFresh D.digest_of c.tree c.machine.mem)) workers.new.items }
-    ensures roots { IfOk result (λ v. digests v.items ≡ map (root_at D.digest_of run.now) steps.now) }
-{
-    add_workers(d, run, 1, workers)?;
-    replayed(rt, alloc, d, run, input, steps, &mut workers[0])
-}
-
 /// The roots of steps, by the workers that a run keeps, from the root of the run's input. The steps are cut into at most `count` (at
-/// least 1) pieces of consecutive entries, one for each worker, whose cursor stands where it made its last root. An `Err` is out of memory.
+/// least 1) pieces of consecutive entries, one for each worker, whose cursor stands where it made its last root. A single piece is made in
+/// the caller's thread; other threads help only if its worker has no tree yet. An `Err` is out of memory; a worker that was making a
+/// root then builds its next tree anew.
 pub fn roots_by<D: Digester + Send + Sync, R: Threads + Sync>(
     rt: &R,
     alloc: Global,
@@ -233,12 +191,8 @@ pub fn roots_by<D: Digester + Send + Sync, R: Threads + Sync>(
     requires count { 0 < count }
     requires chained { AreChained D.digest_of run.now }
     requires input { IsInputRoot D.digest_of run.now input.0 }
-    requires registers { All (λ w. w.registers ≡ run.now.first.version) workers.old.items }
-    requires machines { All (λ w. IfSome w.cursor (λ c. IsMachineOf D.digest_of run.now c.at c.machine)) workers.old.items }
-    requires trees { All (λ w. IfSome w.cursor (λ c. IsFresh D.digest_of c.tree c.machine.mem)) workers.old.items }
-    ensures registers { All (λ w. w.registers ≡ run.now.first.version) workers.new.items }
-    ensures machines { All (λ w. IfSome w.cursor (λ c. IsMachineOf D.digest_of run.now c.at c.machine)) workers.new.items }
-    ensures trees { All (λ w. IfSome w.cursor (λ c. IsFresh D.digest_of c.tree c.machine.mem)) workers.new.items }
+    requires kept { All (λ w. IsKept D.digest_of run.now w) workers.old.items }
+    ensures kept { All (λ w. IsKept D.digest_of run.now w) workers.new.items }
     ensures roots { IfOk result (λ v. digests v.items ≡ map (root_at D.digest_of run.now) steps.now) }
 {
     if steps.is_empty() {
@@ -247,6 +201,9 @@ pub fn roots_by<D: Digester + Send + Sync, R: Threads + Sync>(
     let size = piece_size(steps.len(), count);
     let pieces = piece_count(steps.len(), size);
     add_workers(d, run, pieces, workers)?;
+    if pieces == 1 {
+        return replayed(rt, alloc, d, run, input, steps, &mut workers[0]);
+    }
     replay_pieces(rt, alloc, d, run, input, steps, size, pieces, workers);
     joined(alloc, workers)
 }
@@ -273,8 +230,8 @@ pub fn roots_with_input<D: Digester + Send + Sync, R: Threads + Sync>(
 
 /// The roots of the run's states of some steps, each in the version of the run, in the order asked; a step may be asked more than
 /// once, and above the bound the state of the bound stands for it. The steps are cut into at most `workers` (at least 1) pieces of
-/// consecutive entries, and each piece is replayed by a thread of its own, where one can be made. The chain of each of the run's
-/// checkpoints is that of its output by this digester, as `record_run` makes it. An `Err` is out of memory.
+/// consecutive entries. Several pieces are replayed by a thread each, if one can be made, and a single one in the caller's thread. The
+/// chain of each of the run's checkpoints is that of its output by this digester, as `record_run` makes it. An `Err` is out of memory.
 pub fn roots<D: Digester + Send + Sync, R: Threads + Sync>(
     rt: &R,
     alloc: Global,

@@ -1,43 +1,21 @@
-use Rattle.std.proofs.Common.{◌≡◌, ℕ, ◌+◌, ◌≤◌, ◌*◌, ◌/◌, ◌%◌, min, ◌∙◌, All, IfSome, List, drop, length, map, sym, ap, subst, arith}
+use Rattle.std.proofs.Common.{◌≡◌, ℕ, ◌+◌, ◌≤◌, ◌*◌, ◌/◌, ◌%◌, min, ◌∙◌, All, List, drop, length, map, sym, ap, subst, arith}
 use Rattle.std.proofs.lemmas.List.{length-map}
 use Rattle.segment_replay.specs.Roots.{root_at}
-use Rattle.segment_replay.specs.Cursor.{IsMachineOf, IsFresh}
+use Rattle.segment_replay.specs.Cursor.{IsKept}
 use Rattle.segment_replay.specs.Pieces.{ArePieces}
 use Rattle.segment_replay.proofs.PieceLemmas.{written_back, enough_workers}
 use Rattle.segment_replay.proofs.replaying.roots_by.Goals as goal
 
-pub replay_pieces-requires-clause-registers : goal.replay_pieces-requires-clause-registers
-replay_pieces-requires-clause-registers g c κs within =
-    subst (All (λ w. w.registers ≡ c.args.run.now.first.version)) (sym c.deref_mut.ensures.value) c.in_ok-add_workers.ensures.registers
+pub replay_pieces-requires-clause-kept : goal.replay_pieces-requires-clause-kept
+replay_pieces-requires-clause-kept g c κs within =
+    subst (All (IsKept g.D.Digester.digest_of c.args.run.now)) (sym c.deref_mut.ensures.value) c.in_ok-add_workers.ensures.kept
 
-pub replay_pieces-requires-clause-machines : goal.replay_pieces-requires-clause-machines
-replay_pieces-requires-clause-machines g c κs within =
-    subst (All (λ w. IfSome w.cursor (λ c'. IsMachineOf g.D.Digester.digest_of c.args.run.now c'.at c'.machine))) (sym c.deref_mut.ensures.value) c.in_ok-add_workers.ensures.machines
-
-pub replay_pieces-requires-clause-trees : goal.replay_pieces-requires-clause-trees
-replay_pieces-requires-clause-trees g c κs within =
-    subst (All (λ w. IfSome w.cursor (λ c'. IsFresh g.D.Digester.digest_of c'.tree c'.machine.mem))) (sym c.deref_mut.ensures.value) c.in_ok-add_workers.ensures.trees
-
-pub returns-clause-registers : goal.returns-clause-registers
-returns-clause-registers g c =
+pub returns-clause-kept : goal.returns-clause-kept
+returns-clause-kept g c =
     let same = ap length c.deref_mut.ensures.value in
-    subst (All (λ w. w.registers ≡ c.args.run.now.first.version))
+    subst (All (IsKept g.D.Digester.digest_of c.args.run.now))
     (sym (written_back c.add_workers.new.workers.len c.replay_pieces.new.workers (drop (length c.replay_pieces.new.workers) c.add_workers.new.workers.items) (c.add_workers.new.workers.ok.0 ∙ (sym same ∙ sym c.replay_pieces.ensures.count))))
-    c.replay_pieces.ensures.registers
-
-pub returns-clause-machines : goal.returns-clause-machines
-returns-clause-machines g c =
-    let same = ap length c.deref_mut.ensures.value in
-    subst (All (λ w. IfSome w.cursor (λ c'. IsMachineOf g.D.Digester.digest_of c.args.run.now c'.at c'.machine)))
-    (sym (written_back c.add_workers.new.workers.len c.replay_pieces.new.workers (drop (length c.replay_pieces.new.workers) c.add_workers.new.workers.items) (c.add_workers.new.workers.ok.0 ∙ (sym same ∙ sym c.replay_pieces.ensures.count))))
-    c.replay_pieces.ensures.machines
-
-pub returns-clause-trees : goal.returns-clause-trees
-returns-clause-trees g c =
-    let same = ap length c.deref_mut.ensures.value in
-    subst (All (λ w. IfSome w.cursor (λ c'. IsFresh g.D.Digester.digest_of c'.tree c'.machine.mem)))
-    (sym (written_back c.add_workers.new.workers.len c.replay_pieces.new.workers (drop (length c.replay_pieces.new.workers) c.add_workers.new.workers.items) (c.add_workers.new.workers.ok.0 ∙ (sym same ∙ sym c.replay_pieces.ensures.count))))
-    c.replay_pieces.ensures.trees
+    c.replay_pieces.ensures.kept
 
 pub returns-clause-roots : goal.returns-clause-roots
 returns-clause-roots g c =
