@@ -21,7 +21,7 @@ TasksAreAlone =
     (xs : List (ℕ × Entry)) (games : Games) (t : ℕ) (g : Game) → IsTaskJournal xs games → games t ≡ Some g →
     IsJournal g.task.rules g.task.says (entries_of t xs) g.state × (games_after xs games t ≡ Some (played (entries_of t xs) g))
 
--- two games are alike where what is asked, what a post is answered, and the record are the same
+-- two games are alike if what is asked, what a post is answered, and the record are the same
 pub record AreAlike (task : Task) (a b : MatchState) : Type 0 where
   pub asked : (p : ℕ) → ask_on a p (open_question task.rules a.record_ p) ≡ ask_on b p (open_question task.rules b.record_ p)
   pub replied : (p : ℕ) (qid : Qid) (m : Option Answer) → reply_to task.rules a p qid m ≡ reply_to task.rules b p qid m

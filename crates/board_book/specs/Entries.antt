@@ -15,7 +15,7 @@ use Rattle.board_book.specs.declared.entry.Ask.{Ask}
 use Rattle.board_book.specs.declared.entry.Ask.TheVariants as ask
 
 -- an entry replays: its question is its prover's open one, and its reply is the game's. It is scripted: its move is what the
--- prover says to that question after so many passes.
+-- prover says to that question after this many passes.
 pub record IsEntry (rules : Rules) (says : Says) (st : MatchState) (e : Entry) : Type 0 where
   pub question : Question
   pub numbered : 0 < e.p

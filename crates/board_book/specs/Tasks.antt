@@ -39,7 +39,7 @@ module _ {N M : Type 0} where
   abbrev pub tasks_of : (N → Ruling) → (M → Says) → List (N × M × Setup) → List Task
   tasks_of ruling says = map (task_of ruling says)
 
--- the element of a number, of a list that is counted from 1; None where there is none
+-- the element of a number, of a list that is counted from 1; None if there is none
 abbrev pub numbered : {A : Type 0} → List A → ℕ → Option A
 numbered xs t = if t == 0 then None else slice_get xs (t - 1)
 
@@ -66,7 +66,7 @@ turned p g = record { task = g.task; state = turn_on g.task.rules g.task.says g.
 abbrev pub after_entry : ℕ × Entry → Games → Games
 after_entry x games t = if t == x.0 then option_map (turned x.1.p) (games t) else games t
 
--- an entry is legal where its task is there, and where it is legal in the state of that task's match
+-- an entry is legal if its task is there and it is legal in the state of that task's match
 pub record IsTaskEntry (games : Games) (x : ℕ × Entry) : Type 0 where
   pub game : Game
   pub there : games x.0 ≡ Some game
@@ -105,7 +105,7 @@ pub record PostedTo {N M : Type 0} (ruling : N → Ruling) (books : List (BookOf
 
 -- WHO ANSWERS. Provers are numbered from 0 through all tasks, in order of the tasks
 
--- what so many provers of a task say, from this one on
+-- what this many provers of a task say, from this one on
 abbrev pub sayings_from : Says → ℕ → ℕ → List (Question → ℕ → Option Answer)
 sayings_from says p zero = []
 sayings_from says p (suc n) = says p ∷ sayings_from says (p + 1) n

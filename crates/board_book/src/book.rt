@@ -181,7 +181,7 @@ impl<J: Judge + Drop, P: Provers + Drop> Book<J, P> {
     }
 
     /// A post of prover `p`, from 1 to their count. Its move is what the prover says at that point, or the question is stale.
-    /// It takes no memory. The journal is longer by exactly this entry, or as it was where the reply is `Stale`.
+    /// It takes no memory. The journal is longer by exactly this entry, or as it was if the reply is `Stale`.
     pub fn post(&mut self, p: u32, qid: Qid, turn: Move) -> Reply
         requires some { 0 < p }
         requires few { p ≤ self.old.0.2.provers }
@@ -271,7 +271,7 @@ impl<J: Judge + Drop, P: Provers + Drop> Book<J, P> {
         Ok(())
     }
 
-    /// Where the journal is as long as it can be, the match is over.
+    /// If the journal is as long as it can be, the match is over.
     fn is_full(&self)
         requires { let rules = rules_of (J.ruling self.now.0.0) self.now.0.2 in (k : ℕ) × IsMost rules.fan rules.bound k × (length self.now.1 ≡ most_entries rules k) }
         ensures { is_complete self.now.2.record_ ≡ true }

@@ -9,12 +9,11 @@ ghost use Rattle.tournament.specs.Moves.{passes_of};
 ghost use Rattle.rd_base.specs.Questions.{same_qid};
 ghost use Rattle.tournament.specs.Posting.{rules_of, answer_of};
 ghost use Rattle.board_book.specs.declared.entry.Entry.{Entry};
-ghost use Rattle.board_book.specs.Entries.{ask_on};
 ghost use Rattle.board_book.specs.Tasks.{numbered, games_of, IsTaskJournal, entries_of, BookOf, of_task, openings, tasks_of, sayings, PostedTo};
 ghost use Rattle.board_book.specs.Keeping.{HasRoom};
 
 use crate::book::Book;
-use crate::entry::{Ask, Entry};
+use crate::entry::Entry;
 use bisect_game::{Answerer, Judge, Provers};
 use rd_base::{Memory, Qid};
 use std::alloc::Global;
@@ -149,19 +148,8 @@ impl<J: Judge + Drop, P: Provers + Drop> Books<J, P> {
         let _ = &self.journal;
     }
 
-    /// What prover `p` of task `t` is asked, as of that task's book.
-    pub fn ask(&self, t: u32, p: u32) -> Ask
-        requires task { 0 < t }
-        requires tasks { t ≤ length self.now.0 }
-        requires some { 0 < p }
-        requires few { (b : BookOf J.Names P.Names) → numbered self.now.0 t ≡ Some b → p ≤ b.0.2.provers }
-        ensures { (b : BookOf J.Names P.Names) × (numbered self.now.0 t ≡ Some b) × (result ≡ ask_on b.2 p (open_question (rules_of (J.ruling b.0.0) b.0.2) b.2.record_ p)) }
-    {
-        self.book(t).ask(p)
-    }
-
     /// A post of prover `p` of task `t`, to that task's book. Its move is what the prover says at that point, or the question is stale.
-    /// It takes no memory. The journal is longer by exactly this entry, or as it was where the reply is `Stale`; the other books stay.
+    /// It takes no memory. The journal is longer by exactly this entry, or as it was if the reply is `Stale`; the other books stay.
     pub fn post(&mut self, t: u32, p: u32, qid: Qid, turn: Move) -> Reply
         requires task { 0 < t }
         requires tasks { t ≤ length self.old.0 }
