@@ -62,11 +62,10 @@ roots_of_digests digest p (i ∷ steps) (r ∷ rs) same =
     let first : r.0 ≡ own_root digest (run_of p (min i p.bound)) = cc in
     ap₂ (λ (x : Digest32) (xs : List Digest32). x ∷ xs) (λ j. record { 0 = first j }) (roots_of_digests digest p steps rs (cc))
 
-pub roots_answer : (digest : List ℕ → List ℕ) (p : Prover) (r : Recorded) (k : Kind) (lo hi parts : ℕ) (roots : List Digest32) → IsRunOf digest p r → k ≡ kind.Roots lo hi parts
-    → digests roots ≡ map (root_at digest r) (steps_asked lo hi parts) → answer.Roots roots ≡ plain digest (run_of p) p.bound k
-roots_answer digest p r k lo hi parts roots is asked same =
-    ap answer.Roots (roots_of_digests digest p (steps_asked lo hi parts) roots (same ∙ ap (λ (root : ℕ → List ℕ). map root (steps_asked lo hi parts)) (sym (roots_of_run digest p r is))))
-    ∙ ap (plain digest (run_of p) p.bound) (sym asked)
+pub roots_answer : (digest : List ℕ → List ℕ) (p : Prover) (k : Kind) (lo hi parts : ℕ) (roots : List Digest32) → k ≡ kind.Roots lo hi parts
+    → digests roots ≡ map (root_of digest p) (steps_asked lo hi parts) → answer.Roots roots ≡ plain digest (run_of p) p.bound k
+roots_answer digest p k lo hi parts roots asked same =
+    ap answer.Roots (roots_of_digests digest p (steps_asked lo hi parts) roots same) ∙ ap (plain digest (run_of p) p.bound) (sym asked)
 
 -- the last output of a run that began without one can be claimed
 pub last_output : OutputGrowsSlowly → (digest : List ℕ → List ℕ) (p : Prover) (r : Recorded) → IsRunOf digest p r → p.start.output ≡ [] → p.bound < 2 ^ 32

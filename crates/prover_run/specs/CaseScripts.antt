@@ -18,7 +18,7 @@ use Rattle.prover_run.specs.Plain.{plain_says}
 abbrev pub script_says : (List ℕ → List ℕ) → State → ℕ → Script → Question → ℕ → Option Answer
 script_says digest start bound script = says digest script.manner (plain_says digest (run_at script.tamper start) bound)
 
--- the same where there is a script; who isn't there passes for ever
+-- what a prover says that may have no script: who has none passes for ever
 abbrev pub said_by : (List ℕ → List ℕ) → State → ℕ → Option Script → Question → ℕ → Option Answer
 said_by digest start bound (Some script) = script_says digest start bound script
 said_by digest start bound None = λ question passes. None

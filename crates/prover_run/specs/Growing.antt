@@ -4,6 +4,6 @@ use Rattle.rd_base.specs.declared.tamper.Tamper.{Tamper}
 use Rattle.rv_step.specs.State.{State}
 use Rattle.checkpoint_run.specs.TamperedRun.{run_at}
 
--- the output of each state of a run is at most so much longer than that of the first
+-- the output of the state of step i is at most i bytes longer than that of the first
 abbrev pub OutputGrowsSlowly : Type 0
 OutputGrowsSlowly = (t : Tamper) (s : State) (i : ℕ) → length (run_at t s i).output ≤ length s.output + i

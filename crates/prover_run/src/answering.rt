@@ -1,6 +1,6 @@
 //! The plain answers of a recorded run.
 ghost use denote.Param.Send.{IsSync};
-ghost use Rattle.std.specs.Prelude.{◌≡◌, ◌<◌, ◌≤◌, ℕ, IfOk, List, length, map};
+ghost use Rattle.std.specs.Prelude.{◌≡◌, ◌<◌, ◌≤◌, ℕ, IfOk, IfSome, List, length, map};
 ghost use Rattle.checkpoint_run.specs.Recorded.{state_of_step};
 ghost use Rattle.segment_replay.specs.Roots.{root_at, digests};
 ghost use Rattle.bisect_game.specs.Bisection.{steps_asked};
@@ -20,7 +20,7 @@ use std::thread::Threads;
 pub struct RunReader<D: Replays> {
     pub alloc: Global,
     pub d: D,
-    /// How many threads compute roots, at least 1.
+    /// In how many pieces at most the roots that one question asks are made, side by side; at least 1.
     pub workers: u32,
 }
 
@@ -30,6 +30,13 @@ fn keep(kept: &mut BTreeMap<u64, Digest32>, step: u64, root: Digest32) -> Result
 {
     kept.insert(step, root)?;
     Ok(())
+}
+
+/// The root of a step, if it is kept.
+fn kept_root(kept: &BTreeMap<u64, Digest32>, step: u64) -> Option<Digest32>
+    ensures { (root : ℕ → List ℕ) → AreKept root kept.now.entries → IfSome result (λ r. r.0 ≡ root step) }
+{
+    kept.get(&step).copied()
 }
 
 /// The root of a step, made from the root that was made last. An `Err` is out of memory.
@@ -64,32 +71,75 @@ fn root<D: Replays, R: Threads + Sync>(
     ensures root { (root : ℕ → List ℕ) → root ≡ root_at D.digest_of run.old → AreKept root kept.old.entries → IfOk result (λ r. r.0 ≡ root step) }
     ensures run { run.new ≡ run.old }
 {
-    if let Some(root) = kept.get(&step) {
-        return Ok(*root);
+    if let Some(root) = kept_root(kept, step) {
+        return Ok(root);
     }
     let root = made(rt, reader, run, step)?;
     keep(kept, step, root)?;
     Ok(root)
 }
 
-/// The roots at the cuts of an interval, computed in one go. An `Err` is out of memory.
+/// The roots of steps, in their order, if all of them are kept. An `Err` is out of memory.
+fn kept_roots(
+    alloc: Global,
+    kept: &BTreeMap<u64, Digest32>,
+    steps: &[u64],
+) -> Result<Option<Vec<Digest32>>, Memory>
+    ensures count { IfOk result (λ found. IfSome found (λ v. length v.items ≡ length steps.now)) }
+    ensures roots { (root : ℕ → List ℕ) → AreKept root kept.now.entries → IfOk result (λ found. IfSome found (λ v. digests v.items ≡ map root steps.now)) }
+{
+    let mut roots = Vec::new(alloc);
+    'steps: for step in steps {
+        let Some(root) = kept_root(kept, *step) else {
+            return Ok(None);
+        };
+        roots.push(root)?;
+    }
+    Ok(Some(roots))
+}
+
+/// Keeps the roots of steps, which stand in the same order. An `Err` is out of memory, after some were kept.
+fn keep_all(
+    kept: &mut BTreeMap<u64, Digest32>,
+    steps: &[u64],
+    roots: &[Digest32],
+) -> Result<(), Memory>
+    ensures { (root : ℕ → List ℕ) → digests roots.now ≡ map root steps.now → AreKept root kept.old.entries → AreKept root kept.new.entries }
+{
+    let [step, later_steps @ ..] = steps else {
+        return Ok(());
+    };
+    let [root, later_roots @ ..] = roots else {
+        return Ok(());
+    };
+    keep(kept, *step, *root)?;
+    keep_all(kept, later_steps, later_roots)
+}
+
+/// The roots at the cuts of an interval, which are kept, or else are made in one go and kept. An `Err` is out of memory.
 #[tactic(auto, using(crate::proofs::RunLemmas::same_length))]
 fn roots_at_cuts<D: Replays, R: Threads + Sync>(
     rt: &R,
     reader: &RunReader<D>,
     run: &mut KeptRun<D>,
+    kept: &mut BTreeMap<u64, Digest32>,
     lo: u64,
     hi: u64,
     parts: u32,
 ) -> Result<RootList, Memory>
     requires sync { IsSync R.row }
     requires workers { 0 < reader.now.workers }
-    ensures roots { IfOk result (λ l. digests l ≡ map (root_at D.digest_of run.old) (steps_asked lo hi parts)) }
+    ensures kept { (root : ℕ → List ℕ) → root ≡ root_at D.digest_of run.old → AreKept root kept.old.entries → AreKept root kept.new.entries }
+    ensures roots { (root : ℕ → List ℕ) → root ≡ root_at D.digest_of run.old → AreKept root kept.old.entries → IfOk result (λ l. digests l ≡ map root (steps_asked lo hi parts)) }
     ensures run { run.new ≡ run.old }
 {
     let RunReader { alloc, d, workers } = *reader;
     let steps = steps_asked(alloc, lo, hi, parts)?;
+    if let Some(roots) = kept_roots(alloc, kept, &steps)? {
+        return Ok(RootList::new(roots).unwrap());
+    }
     let roots = d.roots_of(rt, alloc, run, &steps, workers)?;
+    keep_all(kept, &steps, &roots)?;
     Ok(RootList::new(roots).unwrap())
 }
 
@@ -118,7 +168,7 @@ pub fn plain_answer<D: Replays, R: Threads + Sync>(
             Ok(Answer::Root(root))
         }
         Kind::Roots { lo, hi, parts } => {
-            let roots = roots_at_cuts(rt, reader, run, lo, hi, parts)?;
+            let roots = roots_at_cuts(rt, reader, run, kept, lo, hi, parts)?;
             Ok(Answer::Roots(roots))
         }
         Kind::Claim => {

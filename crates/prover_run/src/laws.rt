@@ -23,9 +23,9 @@ pub fn outputs_grow_slowly()
     ensures { OutputGrowsSlowly }
 {}
 
-/// Where nothing is wrong with its run, a prover gives the plain answers of the machine's own run: at once where its manner
-/// is plain (`plain`); after so many passes on the question where it is late (`late`); in rounds before the first silent one
-/// (`silent`); and where it states the run's own output (`output`). The prover of a case says what its script says (`by_script`).
+/// If nothing is wrong with its run, a prover gives the plain answers of the machine's own run: at once if its manner
+/// is plain (`plain`); after its number of passes on the question if it is late (`late`); in rounds before the first silent one
+/// (`silent`); and if it states the run's own output (`output`). The prover of a case says what its script says (`by_script`).
 pub fn untouched_provers()
     ensures plain { (digest : List ℕ → List ℕ) (start : State) (bound : ℕ) (q : Question) (passes : ℕ) →
         script_says digest start bound (record { tamper = Untouched; manner = Plain }) q passes ≡ Some (plain digest (state_at start) bound q.kind) }
@@ -41,9 +41,9 @@ pub fn untouched_provers()
     tampered_runs();
 }
 
-/// Where nothing is wrong with its run, a prover gives the plain answers of the machine's own run with a manner that changes
-/// nothing of them: with a forgery that shows what the register holds, where it is asked for the proof of that step (`forge`), and
-/// with noise where it is asked for no root (`noise`). One with a tape says what is written down for the question, whatever its run (`tape`).
+/// If nothing is wrong with its run, a prover gives the plain answers of the machine's own run with a manner that changes
+/// nothing of them: with a forgery that shows what the register holds, if it is asked for the proof of that step (`forge`), and
+/// with noise if it is asked for no root (`noise`). One with a tape says what is written down for the question, whatever its run (`tape`).
 pub fn harmless_manners()
     ensures forge { (digest : List ℕ → List ℕ) (start : State) (bound step reg value : ℕ) (q : Question) (passes : ℕ) → (q.kind ≡ kind.Proof step → slice_index (state_at start (min step bound)).regs reg ≡ value) →
         script_says digest start bound (record { tamper = Untouched; manner = Forge step reg value }) q passes ≡ Some (plain digest (state_at start) bound q.kind) }

@@ -1,4 +1,3 @@
-ghost use denote.Param.Send.{IsSync};
 ghost use Rattle.std.specs.Prelude.{◌≡◌, ◌<◌, ◌^◌, [], IfOk, IfSome};
 ghost use Rattle.rv_step.specs.State.{state_of, IsChained};
 ghost use Rattle.state_commit.specs.Committing.{HasInput};
@@ -33,7 +32,7 @@ pub struct RunAnswerer<D: Replays> {
     workers: u32,
     /// The run, with what its last roots were made of.
     run: Option<KeptRun<D>>,
-    /// The roots that were asked for one at a time so far, by their steps.
+    /// The roots that were asked for so far, by their steps.
     roots: BTreeMap<u64, Digest32>,
 }
 
@@ -52,8 +51,9 @@ impl<D: Replays> Model for RunAnswerer<D> {
 
 impl<D: Replays> RunAnswerer<D> {
     /// A prover whose run goes from a machine, with this tamper, up to the step `bound`, below 2^32. Its run is recorded with
-    /// a checkpoint at every `every` steps (at least 1), and its roots are computed by `workers` threads (at least 1). The
-    /// machine has put out nothing, and its chain is that of no output by the digester `d`. An `Err` is out of memory.
+    /// a checkpoint at every `every` steps (at least 1), and the roots that one question asks are made in at most `workers` pieces (at
+    /// least 1), side by side. The machine has put out nothing, and its chain is that of no output by the digester `d`. An `Err` is out of
+    /// memory.
     pub fn new(
         alloc: Global,
         d: D,

@@ -178,9 +178,9 @@ fn put_answerers<D: Replays>(
 }
 
 /// The answerers of the provers with these scripts, in their order, whose runs go from a machine up to the step `bound`, below
-/// 2^32. Each run is recorded with a checkpoint at every `every` steps (at least 1), and its roots are computed by `workers`
-/// threads (at least 1). The machine has put out nothing, and its chain is that of no output by the digester `d`. `input` is the tree of
-/// the machine's input, so that no part of the input is digested. An `Err` is out of memory.
+/// 2^32. Each run is recorded with a checkpoint at every `every` steps (at least 1), and the roots that one question asks
+/// are made in at most `workers` pieces (at least 1), side by side. The machine has put out nothing, and its chain is that of no output
+/// by the digester `d`. `input` is the tree of the machine's input, so that no part of the input is digested. An `Err` is out of memory.
 pub fn answerers_with_input<D: Replays>(
     alloc: Global,
     d: D,

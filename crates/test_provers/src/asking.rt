@@ -70,7 +70,7 @@ pub(crate) fn claimed_root(claim: &Claim) -> Digest32 {
 }
 
 /// How the root begins that an answer stands for: that of the claimed state, the root itself, or that of the state whose
-/// parts a proof has. 0 where a claim doesn't agree with itself, and of several roots.
+/// parts a proof has. 0 if a claim doesn't agree with itself, and of several roots.
 pub(crate) fn root_in(answer: &Answer) -> u64 {
     match answer {
         Answer::Root(root) => first_eight(*root),

@@ -1,4 +1,4 @@
-//! Tests of the provers of a case: each answers by its script, and waits where its script has it wait.
+//! Tests of the provers of a case: each answers by its script, and waits when its script has it wait.
 ghost use denote.Param.Send.{IsSync};
 ghost use Rattle.std.specs.Prelude.{◌<◌, ◌≤◌, length, IfOk};
 
@@ -152,7 +152,7 @@ const SAID: [Said; 4] = [
     ),
 ];
 
-/// Whether an answerer answers so, and its prover waits where it passes.
+/// Whether an answerer answers so, and its prover waits exactly if it passes.
 fn is_said_by<R: Threads + Sync>(
     rt: &R,
     provers: &CaseProvers<Sha256>,
@@ -172,7 +172,7 @@ fn is_said_by<R: Threads + Sync>(
     Ok(root_said(&answer) == wanted)
 }
 
-/// Whether the answerers answer so, and the provers wait where they pass.
+/// Whether the answerers answer so, and each prover waits exactly if it passes.
 fn is_said<R: Threads + Sync>(
     rt: &R,
     provers: &CaseProvers<Sha256>,

@@ -101,7 +101,7 @@ fn prover_of<D: Replays>(
     RunAnswerer::new(alloc, d, machine, 24, 4, tamper, workers.max(1))
 }
 
-/// Whether the roots of these steps, asked one after the other once that of step 12 is made, take so many digests each.
+/// Whether the roots of these steps, asked one after the other once that of step 12 is made, take as many digests as `wanted` says of each.
 fn takes<R: Threads + Sync>(
     rt: &R,
     alloc: Global,
@@ -154,8 +154,13 @@ fn several_workers_make_no_root_that_is_not_asked(rt: HostRuntime) -> Result<(),
     Ok(())
 }
 
-/// How many digests so many workers take for the roots of steps 14 and 16, once those of steps 6, 12 and 18 are made.
-fn digests_of_thirds<R: Threads + Sync>(rt: &R, alloc: Global, workers: u32) -> Result<u64, Memory>
+/// How many digests this many workers take for the answer to a question, once the roots of steps 6, 12 and 18 are made.
+fn digests_after_quarters<R: Threads + Sync>(
+    rt: &R,
+    alloc: Global,
+    workers: u32,
+    kind: Kind,
+) -> Result<u64, Memory>
     requires { IsSync R.row }
 {
     let made = AtomicU64::new(0);
@@ -167,8 +172,7 @@ fn digests_of_thirds<R: Threads + Sync>(rt: &R, alloc: Global, workers: u32) -> 
     let (lo, hi, parts) = (0, 24, 4);
     answer_of(rt, &mut prover, &asked(1, Kind::Roots { lo, hi, parts }), 0)?;
     let before = made.load(Ordering::SeqCst);
-    let (lo, hi, parts) = (12, 18, 3);
-    answer_of(rt, &mut prover, &asked(2, Kind::Roots { lo, hi, parts }), 0)?;
+    answer_of(rt, &mut prover, &asked(2, kind), 0)?;
     Ok(made.load(Ordering::SeqCst).wrapping_sub(before))
 }
 
@@ -176,8 +180,24 @@ fn digests_of_thirds<R: Threads + Sync>(rt: &R, alloc: Global, workers: u32) -> 
 /// workers one goes from step 12 to 14, between which nothing is stored, and the other from 18 to 16.
 #[test]
 fn each_worker_goes_on_from_its_own_last_root(rt: HostRuntime) -> Result<(), Fail> {
-    assert_eq!(rt; digests_of_thirds(&rt, rt.alloc(), 1)?, 62);
-    assert_eq!(rt; digests_of_thirds(&rt, rt.alloc(), 2)?, 34);
+    let (lo, hi, parts) = (12, 18, 3);
+    let thirds = Kind::Roots { lo, hi, parts };
+    assert_eq!(rt; digests_after_quarters(&rt, rt.alloc(), 1, thirds)?, 62);
+    assert_eq!(rt; digests_after_quarters(&rt, rt.alloc(), 2, thirds)?, 34);
+    Ok(())
+}
+
+/// A later dispute asks for the roots of its first round once more, and may ask for one of them alone.
+#[test]
+fn roots_at_cuts_are_made_once(rt: HostRuntime) -> Result<(), Fail> {
+    let (lo, hi, parts) = (0, 24, 4);
+    let quarters = Kind::Roots { lo, hi, parts };
+    assert_eq!(rt; digests_after_quarters(&rt, rt.alloc(), 1, quarters)?, 0);
+    assert_eq!(rt; digests_after_quarters(&rt, rt.alloc(), 2, quarters)?, 0);
+    assert_eq!(rt;
+        digests_after_quarters(&rt, rt.alloc(), 1, Kind::Root(12))?,
+        0
+    );
     Ok(())
 }
 
@@ -238,7 +258,7 @@ fn ask_all<R: Threads + Sync, A: Answerer>(rt: &R, answerer: &mut A) -> Result<(
     Ok(())
 }
 
-/// How many digests the provers of a match of version 3 with an input of at most 4,096 bytes take, where each is asked for its claim,
+/// How many digests the provers of a match of version 3 with an input of at most 4,096 bytes take, if each is asked for its claim,
 /// for roots and for a proof.
 fn digests_of_provers<R: Threads + Sync>(
     rt: &R,

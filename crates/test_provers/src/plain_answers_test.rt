@@ -1,4 +1,3 @@
-ghost use denote.Param.Send.{IsSync};
 ghost use Rattle.std.specs.Prelude.{◌≡◌, ◌≤◌, ℕ, List, length, IfOk};
 ghost use Rattle.rv_step.specs.State.{IsChained};
 
@@ -53,7 +52,7 @@ fn machine_in(alloc: Global, version: u8, image: &[u8], input: &[u8]) -> Result<
     Machine::new(alloc, version, mem, 0x1_0000, input)
 }
 
-/// The machine with its trees after so many steps.
+/// The machine with its trees after this many steps.
 fn after<R: Threads + Sync>(
     rt: &R,
     alloc: Global,
@@ -81,7 +80,7 @@ enum Program {
     AsksForInput,
 }
 
-/// A program after so many steps; the one that asks for its input has the byte `41`.
+/// A program after this many steps; the one that asks for its input has the byte `41`.
 fn program_after<R: Threads + Sync>(
     rt: &R,
     alloc: Global,

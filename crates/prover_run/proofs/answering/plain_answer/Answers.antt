@@ -15,7 +15,15 @@ returns-in_ok-root-in-Root-clause-answer g c p is kept =
     root_answers g.D.Digester.digest_of p c.args.kind c.in-Root.step c.in_ok-root-in-Root.root c.in-Root.is
     (c.in_ok-root-in-Root.ensures.root (root_of g.D.Digester.digest_of p) (roots_of_run g.D.Digester.digest_of p c.args.run.now is) kept)
 
+pub returns-in_err-roots-in-Roots-clause-kept : goal.returns-in_err-roots-in-Roots-clause-kept
+returns-in_err-roots-in-Roots-clause-kept g c p is kept =
+    c.roots_at_cuts.ensures.kept (root_of g.D.Digester.digest_of p) (roots_of_run g.D.Digester.digest_of p c.args.run.now is) kept
+
+pub returns-in_ok-roots-in-Roots-clause-kept : goal.returns-in_ok-roots-in-Roots-clause-kept
+returns-in_ok-roots-in-Roots-clause-kept g c p is kept =
+    c.roots_at_cuts.ensures.kept (root_of g.D.Digester.digest_of p) (roots_of_run g.D.Digester.digest_of p c.args.run.now is) kept
+
 pub returns-in_ok-roots-in-Roots-clause-answer : goal.returns-in_ok-roots-in-Roots-clause-answer
 returns-in_ok-roots-in-Roots-clause-answer g c p is kept =
-    roots_answer g.D.Digester.digest_of p c.args.run.now c.args.kind c.in-Roots.lo c.in-Roots.hi c.in-Roots.parts c.in_ok-roots-in-Roots.roots is c.in-Roots.is
-    c.in_ok-roots-in-Roots.ensures.roots
+    roots_answer g.D.Digester.digest_of p c.args.kind c.in-Roots.lo c.in-Roots.hi c.in-Roots.parts c.in_ok-roots-in-Roots.roots c.in-Roots.is
+    (c.in_ok-roots-in-Roots.ensures.roots (root_of g.D.Digester.digest_of p) (roots_of_run g.D.Digester.digest_of p c.args.run.now is) kept)

@@ -1,0 +1,10 @@
+use Rattle.std.proofs.Common.{◌≡◌, ℕ, List, length, map, take}
+use Rattle.segment_replay.specs.Roots.{digests}
+use Rattle.prover_run.specs.Prover.{AreKept}
+use Rattle.prover_run.proofs.answering.kept_roots.Given as goal
+
+abbrev pub invariant-steps : goal.invariant-steps
+invariant-steps l = record {
+  count : length l.roots.items ≡ l.step-index;
+  so_far : (root : ℕ → List ℕ) → AreKept root l.kept.entries → digests l.roots.items ≡ map root (take l.step-index l.steps);
+}
