@@ -22,8 +22,8 @@ untampered manner = record { tamper = Untouched; manner = manner }
 
 -- a manner that is honest in a case whatever is asked: it answers at once, or after no more passes than the patience, or it states
 -- the output of the sequential run, or forges a register to what it holds in that step, or makes noise in a run of one step, of
--- which no root is asked. A silent one answers truly only where it is asked nothing from its round on, and one with a tape only
--- where the true answers are written down.
+-- which no root is asked. A silent one answers truly only if it is asked nothing from its round on, and one with a tape only
+-- if the true answers are written down.
 abbrev pub IsHonest : CaseData → State → Manner → Type 0
 IsHonest c start Plain = Unit {0}
 IsHonest c start (Late many) = many ≤ c.patience

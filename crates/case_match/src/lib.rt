@@ -1,11 +1,11 @@
 //! The match of a case: its provers' runs, the judge of the machine, and the bracket that they are played in; and those of many tasks.
 //!
 //! The layers above may rely on this: `verdict_of_case` gives the record of the case and its verdict, functions of the case, the
-//! state that its run starts in and the digester's function (`specs/Match.antt`), however many threads play it. `verdict_of_tasks`
-//! plays many together, of which each ends as it ends alone (`endings_of_cases`). A prover that
-//! claims and answers as the machine's definition says is safe in that record, which a law says for any digester
-//! (`specs/TruthfulInCase.antt`). Which scripts make a prover one of these says `specs/HonestScripts.antt`. The crate reads no
-//! device and writes no text. Read `specs/Match.antt` first, then `verdict`.
+//! state that its run starts in and the digester's function (`specs/Match.antt`), however many threads play it; `verdict_from` gives the
+//! same to a caller that has the tree of the input and the start's root. `verdict_of_tasks` plays many together, of which each ends as
+//! it ends alone (`endings_of_cases`). A prover that claims and answers as the machine's definition says is safe in that record, which
+//! a law says for any digester (`specs/TruthfulInCase.antt`). Which scripts make a prover one of these says `specs/HonestScripts.antt`.
+//! The crate reads no device and writes no text. Read `specs/Match.antt` first, then `verdict`.
 #![tactic(auto)]
 
 mod laws;

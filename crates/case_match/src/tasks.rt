@@ -1,5 +1,4 @@
 //! The matches of many tasks, played together.
-ghost use denote.Param.Send.{IsSync};
 ghost use Rattle.std.specs.Prelude.{◌≡◌, ◌<◌, ◌≤◌, [], map, length, IfOk};
 ghost use Rattle.std.specs.List.{All};
 ghost use Rattle.rv_step.specs.State.{state_of, IsChained};
@@ -64,7 +63,7 @@ where
     verdicts_from(rt, alloc, d, cases, starts, roots.as_slice(), options)
 }
 
-/// The same where the roots of the start states, each in its version, are at hand.
+/// The same, from the roots of the start states, each in its version.
 pub fn verdicts_from<R: Threads + Wait + Sync, D: Replays>(
     rt: &R,
     alloc: Global,

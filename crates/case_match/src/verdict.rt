@@ -1,5 +1,4 @@
 //! The match of a case, played; and matches played out: that of one book, and those of many.
-ghost use denote.Param.Send.{IsSync};
 ghost use Rattle.std.specs.Prelude.{◌≡◌, ◌<◌, ◌≤◌, [], true, map, length, IfOk};
 ghost use Rattle.std.specs.List.{All};
 ghost use Rattle.bisect_game.specs.Says.{AnswerAs};
@@ -57,7 +56,7 @@ where
     verdict_from(rt, alloc, d, case, start, &input, root, options)
 }
 
-/// The same where the tree of the input and the root of the start state, in its version, are at hand.
+/// The same, from the tree of the input and the root of the start state in its version.
 pub fn verdict_from<R: Threads + Wait + Sync, D: Replays>(
     rt: &R,
     alloc: Global,
@@ -111,7 +110,7 @@ fn endings<J: Judge + Drop, P: Provers + Drop>(
     Ok(ends)
 }
 
-/// Plays the match of a book out, with so many posters: what is settled in it, and how it ends. Its answerers, one for each prover,
+/// Plays the match of a book out, with this many posters: what is settled in it, and how it ends. Its answerers, one for each prover,
 /// answer as the provers say. How many posters there are changes nothing. An `Err` is out of memory.
 pub fn play_out<
     R: Threads + Wait + Sync,
@@ -139,7 +138,7 @@ where
     Ok(ending_of(played.into_one()))
 }
 
-/// Plays the matches of 1 to 8 books out, with so many posters over all of them: how each ends, in their order. Their answerers are
+/// Plays the matches of 1 to 8 books out, with this many posters over all of them: how each ends, in their order. Their answerers are
 /// numbered through all books. Each match ends as it ends alone, however many posters there are and whatever the others do. An `Err`
 /// is out of memory.
 pub fn play_out_all<

@@ -22,6 +22,6 @@ pub record IsConfirmed (bytes : List ℕ) (response : Response) : Type 0 where
   pub right : (start : State) (p : ℕ) → IsStatedStart (digest_of text.head.digest) text.head start → 0 < p → p ≤ text.head.provers →
       AreTrueOfRun (digest_of text.head.digest) text start p → IsAnswerOrCollision (digest_of text.head.digest) text start text.stated
 
--- all is done for `audit` only where the bytes are confirmed
+-- all is done for `audit` only if the bytes are confirmed
 abbrev pub ConfirmedTextsAreRight : Type 0
 ConfirmedTextsAreRight = (words : List (List ℕ)) (bytes : List ℕ) → chosen words ≡ Some Audit → (outcome words bytes).answered ≡ Done → IsConfirmed bytes (outcome words bytes)

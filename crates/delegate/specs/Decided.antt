@@ -94,7 +94,7 @@ answered_for (summary seed) verdict = answered.Done
 answered_for report verdict = answered_by verdict
 answered_for full verdict = answered_by verdict
 
--- what each prover has once the match has ended, and what is in the pool, where the case has deposits
+-- what each prover has once the match has ended, and what is in the pool, if the case has deposits
 abbrev pub balances_in : CaseData → Record → Option Balances
 balances_in c settled = option_map (λ stake. balances_of stake (length c.provers) settled) c.stake
 
@@ -137,7 +137,7 @@ abbrev pub task_texts : ℕ → List Response → List ℕ
 task_texts t [] = []
 task_texts t (r ∷ rs) = task_line t ++ (r.text ++ task_texts (t + 1) rs)
 
--- a collision where one of these answers is that, else that nobody is left where one is that, else that all is done
+-- a collision if one of these answers is that, else that nobody is left if one is that, else that all is done
 abbrev pub gravest : List Response → Answered
 gravest [] = answered.Done
 gravest (r ∷ rs) = graver r.answered (gravest rs)

@@ -1,5 +1,5 @@
 -- To believe. The headline: a prover that claims and answers as the machine's definition says, within its patience, is not
--- eliminated, keeps its stake where there are deposits, and the text accepts the sequential run's status and output or shows a collision.
+-- eliminated, keeps its stake if there are deposits, and the text accepts the sequential run's status and output or shows a collision.
 use Rattle.std.specs.Prelude.{◌≡◌, ℕ, ◌-◌, ◌<◌, ◌≤◌, ◌⊎◌, false, List, Contains, Some, Ok, slice_get, Bool, true, ◌&&◌, ◌||◌, ◌==◌, [], ◌∷◌}
 use Rattle.std.specs.Option.{option_and_then}
 use Rattle.rv_step.specs.State.{State}
@@ -55,7 +55,7 @@ pub record AreTasks (words : List (List ℕ)) (bytes : List ℕ) (m : Deciding) 
   pub loads : starts_in 1 cs ≡ Ok starts
 
 -- IT IS NOT ELIMINATED: it is live at the end, with the true claim; its answers in each of its disputes are given and true;
--- no line of the report or of the full text calls it faulty, spent or refuted; and where there are deposits it ends with at least its stake
+-- no line of the report or of the full text calls it faulty, spent or refuted; and if there are deposits it ends with at least its stake
 pub record IsNotEliminated (name : DigestName) (c : CaseData) (start : State) (p : ℕ) : Type 0 where
   pub is_live : Contains (live (record_of_case (digest_of name) c start)) (p, (truth_of_case (digest_of name) c start).claim)
   pub answers : AreTrue (rules_of_case (digest_of name) c start) (truth_of_case (digest_of name) c start) p (record_of_case (digest_of name) c start)

@@ -44,7 +44,7 @@ AreInRangeIfThere reading = (tasks : TasksData) → reading ≡ Ok tasks → Are
 abbrev pub DecidesInRange : Command → List ℕ → Type 0
 DecidesInRange command bytes = (m : Deciding) → decides command ≡ Some m → AreInRangeIfThere (tasks_for m.written bytes)
 
--- what these arguments ask for and these bytes hold, where they do, is in range
+-- what these arguments ask for and these bytes hold, if they do, is in range
 abbrev pub CasesAreInRange : List (List ℕ) → List ℕ → Type 0
 CasesAreInRange words bytes = (m : Deciding) → option_and_then decides (chosen words) ≡ Some m → AreInRangeIfThere (tasks_for m.written bytes)
 

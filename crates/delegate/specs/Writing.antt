@@ -15,7 +15,7 @@ use Rattle.delegate.specs.Answered.{status_number}
 
 -- THE BYTES OF A SOURCE, which may not be visible
 
--- bytes that a source may have had: its own where they are visible, and any where they aren't
+-- bytes that a source may have had: its own if they are visible, and any if they aren't
 abbrev pub MayBe : Option (List ℕ) → List ℕ → Type 0
 MayBe left bytes = IfSome left (λ all. all ≡ bytes)
 
@@ -23,14 +23,14 @@ MayBe left bytes = IfSome left (λ all. all ≡ bytes)
 abbrev pub ForItsBytes : Option (List ℕ) → (List ℕ → Type 0) → Type 0
 ForItsBytes left P = (bytes : List ℕ) × MayBe left bytes × P bytes
 
--- what was answered, and what the sink took, where its bytes are visible
+-- what was answered, and what the sink took, if its bytes are visible
 pub record IsWritten (response : Response) (result : Answered) (before now : Option (List ℕ)) : Type 0 where
   pub answered : result ≡ response.answered
   pub text : Appends before now response.text
 
 -- A PROCESS
 
--- the arguments, where reading them failed with this kind: none, which name no command, and nothing where memory ran out
+-- the arguments, if reading them failed with this kind: none, which name no command, and nothing if memory ran out
 abbrev pub given_after : ErrorKind → Option (List Text)
 given_after OutOfMemory = None
 given_after _ = Some []
@@ -44,7 +44,7 @@ given (Err error) = given_after (error_kind error)
 abbrev pub is_whole : ℕ → Bool
 is_whole status = not (status == 5 || status == 6 || status == 9)
 
--- a status with which the source was read to its end, where the arguments name a command that reads
+-- a status with which the source was read to its end, if the arguments name a command that reads
 abbrev pub is_read_whole : ℕ → Bool
 is_read_whole status = not (status == 2 || status == 5 || status == 6 || status == 9 || status == 12)
 

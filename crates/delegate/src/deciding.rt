@@ -1,5 +1,4 @@
 //! A match that is decided, and its text.
-ghost use denote.Param.Send.{IsSync};
 ghost use Rattle.std.specs.Prelude.{◌≡◌, ◌+◌, ◌<◌, ◌≤◌, ◌++◌, [], map, length, IfOk, OnOk};
 ghost use Rattle.std.specs.List.{All};
 ghost use Rattle.rv_step.specs.State.{state_of, IsChained};
@@ -52,7 +51,7 @@ fn answered_by(verdict: &Verdict) -> Answered
     }
 }
 
-/// The report of the match of a case that has ended: with what each prover has and what is in the pool, where the case has deposits.
+/// The report of the match of a case that has ended: with what each prover has and what is in the pool, if the case has deposits.
 fn report_of(
     alloc: Global,
     case: &Case,
@@ -113,7 +112,7 @@ fn response_of(
 }
 
 /// Plays the match of a case by the digester `d`, which has this name, and writes the text of it that is asked for. The machine and
-/// the options are as for `verdict_of_case`. An `Err` is out of memory.
+/// the options are as for `verdict_from`. An `Err` is out of memory.
 pub fn judge<R: Threads + Wait + Sync, D: Replays>(
     rt: &R,
     alloc: Global,

@@ -24,7 +24,7 @@ pub fn too_long(alloc: Global) -> Result<Response, AllocError>
     Ok(text_response(Answered::TooLong, text))
 }
 
-/// The response to a fault of a case, of this subject. The text is empty where memory ran out.
+/// The response to a fault of a case, of this subject. The text is empty if memory ran out.
 pub fn case_refusal(
     alloc: Global,
     subject: Subject,
@@ -36,7 +36,7 @@ pub fn case_refusal(
     Ok(text_response(Answered::Case, text))
 }
 
-/// The text about a rule of a case that is broken; it is empty where memory ran out.
+/// The text about a rule of a case that is broken; it is empty if memory ran out.
 fn case_fault_text(alloc: Global, subject: Subject, fault: CaseFault) -> Result<String, AllocError>
     ensures { IfOk result (λ text. string_bytes text ≡ case_fault_text subject fault) }
 {
@@ -52,7 +52,7 @@ fn case_fault_text(alloc: Global, subject: Subject, fault: CaseFault) -> Result<
     }
 }
 
-/// The response to a fault of one case or of tasks. The text is empty where memory ran out.
+/// The response to a fault of one case or of tasks. The text is empty if memory ran out.
 pub fn task_refusal(alloc: Global, fault: TaskFault) -> Result<Response, AllocError>
     ensures { IfOk result (λ response. response ≡ task_refusal fault) }
 {
@@ -63,7 +63,7 @@ pub fn task_refusal(alloc: Global, fault: TaskFault) -> Result<Response, AllocEr
     }
 }
 
-/// The response to a fault of an image, of this subject. The text is empty where memory ran out.
+/// The response to a fault of an image, of this subject. The text is empty if memory ran out.
 pub fn image_refusal(
     alloc: Global,
     subject: Subject,
@@ -75,7 +75,7 @@ pub fn image_refusal(
     Ok(text_response(Answered::Image, text))
 }
 
-/// The text about a rule of images that is broken; it is empty where memory ran out.
+/// The text about a rule of images that is broken; it is empty if memory ran out.
 fn rule_text(alloc: Global, subject: Subject, fault: ImageFault) -> Result<String, AllocError>
     ensures { IfOk result (λ text. string_bytes text ≡ rule_text subject (rule_of fault)) }
 {
@@ -85,7 +85,7 @@ fn rule_text(alloc: Global, subject: Subject, fault: ImageFault) -> Result<Strin
     }
 }
 
-/// The response to what is wrong with an assembly text, of this subject. The text is empty where memory ran out.
+/// The response to what is wrong with an assembly text, of this subject. The text is empty if memory ran out.
 pub fn asm_refusal(
     alloc: Global,
     subject: Subject,

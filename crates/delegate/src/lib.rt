@@ -2,7 +2,7 @@
 //!
 //! `run` is the top call. Its clauses say what it answers and writes as a function of the arguments and of the bytes
 //! that its source had, and carry the headline: a prover that claims and answers as the machine's definition says, within its
-//! patience, is not eliminated, and where there is one the verdict is the sequential run's status and output, or two
+//! patience, is not eliminated, and if there is one the verdict is the sequential run's status and output, or two
 //! different strings of one digest. Of tasks it says the same of each, in the part of the text that stands under its line. What `audit`
 //! confirms is right by a law (`specs/Confirmed.antt`). Which arguments name which command says `command_line`, and the match of a case
 //! is played in `case_match`. Read `program` first, whose commands stand in `commands`, a module each; those on a case read

@@ -20,8 +20,8 @@ use std::thread::Threads;
 use std::{env, io};
 
 /// TRUSTED, since no clause of the library says which arguments a process got: the arguments of the command line, in their order and
-/// none left out, the program's name first. An `Err` of the kind `OutOfMemory` comes where memory
-/// ran out, and one of another kind where an argument isn't UTF-8.
+/// none left out, the program's name first. An `Err` of the kind `OutOfMemory` comes if memory
+/// ran out, and one of another kind if an argument isn't UTF-8.
 pub fn arguments(rt: &(impl Env + AllocGlobal)) -> io::Result<Vec<String>> {
     let words = env::args(rt)?;
     Ok(words.collect(rt.alloc())?)
@@ -29,7 +29,7 @@ pub fn arguments(rt: &(impl Env + AllocGlobal)) -> io::Result<Vec<String>> {
 
 /// Runs the program as a process, with its arguments as they were read, and ends with the status of what `run` answers.
 ///
-/// Where an argument isn't UTF-8 there are no arguments, which name no command. Where memory ran out nothing is written, and where
+/// If an argument isn't UTF-8 there are no arguments, which name no command. If memory ran out nothing is written, and if
 /// it ran out in reading the arguments nothing is read.
 #[tactic(auto, using(crate::proofs::ProcessLemmas::status_facts))]
 pub fn run_process<R: Threads + Wait + Sync, S: Source, K: Sink>(
@@ -56,19 +56,19 @@ pub fn run_process<R: Threads + Wait + Sync, S: Source, K: Sink>(
     ensures read_whole { (words : List (List ℕ)) → given arguments ≡ Some words → reads (chosen words) ≡ true → is_read_whole (exit_status result) ≡ true → IsAtEnd (S.left source.new) }
     ensures rest { IfSome (S.left source.old) (IsLaterIn (S.left source.new)) }
 
-    // Faults of the devices come only where their counts rose, and nothing else raises those.
+    // A fault of a device is answered only if the device's count of faults rose, and nothing else raises that count.
     ensures read_fault { exit_status result ≡ 5 → Rises (S.faults source.old) (S.faults source.new) }
     ensures source_count { ¬ (exit_status result ≡ 5) → S.faults source.new ≡ S.faults source.old }
     ensures write_fault { exit_status result ≡ 6 → Rises (K.faults sink.old) (K.faults sink.new) }
     ensures sink_count { ¬ (exit_status result ≡ 6) → K.faults sink.new ≡ K.faults sink.old }
 
-    // What is written where there is a fault, or memory ran out.
+    // What is written if there is a fault, or memory ran out.
     ensures part { (words : List (List ℕ)) → given arguments ≡ Some words → exit_status result ≡ 6 → ForItsBytes (S.left source.old) (λ bytes.
         AppendsPart (K.held sink.old) (K.held sink.new) (outcome words bytes).text) }
     ensures nothing_read_fault { exit_status result ≡ 5 → K.held sink.new ≡ K.held sink.old }
     ensures nothing_memory { exit_status result ≡ 9 → K.held sink.new ≡ K.held sink.old }
 
-    // Where memory ran out in reading the arguments.
+    // What it answers and reads if memory ran out in reading the arguments.
     ensures no_arguments { given arguments ≡ None → exit_status result ≡ 9 }
     ensures nothing_read { given arguments ≡ None → S.left source.new ≡ S.left source.old }
 {
@@ -78,7 +78,7 @@ pub fn run_process<R: Threads + Wait + Sync, S: Source, K: Sink>(
     }
 }
 
-/// The arguments as they were read: none where one isn't UTF-8, and `None` where memory ran out.
+/// The arguments as they were read: none if one isn't UTF-8, and `None` if memory ran out.
 fn words_given(alloc: Global, arguments: io::Result<Vec<String>>) -> Option<Vec<String>>
     ensures { option_map (λ words. texts words.items) result ≡ given arguments }
 {

@@ -42,7 +42,7 @@ fn bytes_for<S: Source>(alloc: Global, command: Command, source: &mut S) -> Resu
     }
 }
 
-/// The response to the arguments and to what the source has, which is read only where the arguments name a command that reads.
+/// The response to the arguments and to what the source has, which is read only if the arguments name a command that reads.
 fn respond<R: Threads + Wait + Sync, S: Source>(
     rt: &R,
     alloc: Global,
@@ -74,7 +74,7 @@ fn respond<R: Threads + Wait + Sync, S: Source>(
     }
 }
 
-/// Runs the program: reads a case or a full text from the source where the arguments name a command that reads one, carries the
+/// Runs the program: reads a case or a full text from the source if the arguments name a command that reads one, carries the
 /// command out, and writes the text.
 ///
 /// The answer and the text are the outcome of the arguments and of the bytes that the source had, or a fault of a
@@ -86,7 +86,7 @@ pub fn run<R: Threads + Wait + Sync, S: Source, K: Sink>(
     source: &mut S,
     sink: &mut K,
 ) -> Answered
-    // What it answers and writes, for the source's bytes where they are visible, and for some bytes where they aren't.
+    // What it answers and writes, for the source's bytes if they are visible, and for some bytes if they aren't.
     ensures answers { is_outcome result ≡ true → ForItsBytes (S.left source.old) (λ bytes. IsWritten (outcome (texts words.now) bytes) result (K.held sink.old) (K.held sink.new)) }
     ensures of_its_command { is_outcome result ≡ true → is_answer_to (chosen (texts words.now)) result ≡ true }
 
@@ -99,13 +99,13 @@ pub fn run<R: Threads + Wait + Sync, S: Source, K: Sink>(
     ensures read_whole { reads (chosen (texts words.now)) ≡ true → reads_all result ≡ true → IsAtEnd (S.left source.new) }
     ensures rest { IfSome (S.left source.old) (IsLaterIn (S.left source.new)) }
 
-    // Faults of the devices come only where their counts rose, and nothing else raises those.
+    // A fault of a device is answered only if the device's count of faults rose, and nothing else raises that count.
     ensures read_fault { result ≡ Answered.ReadFault → Rises (S.faults source.old) (S.faults source.new) }
     ensures source_count { result ≢ Answered.ReadFault → S.faults source.new ≡ S.faults source.old }
     ensures write_fault { result ≡ Answered.WriteFault → Rises (K.faults sink.old) (K.faults sink.new) }
     ensures sink_count { result ≢ Answered.WriteFault → K.faults sink.new ≡ K.faults sink.old }
 
-    // What is written where there is a fault, or memory ran out.
+    // What is written if there is a fault, or memory ran out.
     ensures part { result ≡ Answered.WriteFault → ForItsBytes (S.left source.old) (λ bytes.
         AppendsPart (K.held sink.old) (K.held sink.new) (outcome (texts words.now) bytes).text) }
     ensures nothing_read_fault { result ≡ Answered.ReadFault → K.held sink.new ≡ K.held sink.old }

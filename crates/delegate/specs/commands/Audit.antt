@@ -20,7 +20,7 @@ use Rattle.delegate.specs.Refusal.{or_refusal}
 use Rattle.delegate.specs.declared.response.Response.{Response}
 use Rattle.delegate.specs.declared.response.Answered.TheVariants.{Done, AuditRefused}
 
--- the first fault of a text, with its line where it says one
+-- the first fault of a text, with its line if it says one
 abbrev pub text_fault_text : TextFault → List ℕ
 text_fault_text BadHead = codes "fault text 1\n"
 text_fault_text (BadLine line) = codes "fault text 2 " ++ (decimal line ++ codes "\n")

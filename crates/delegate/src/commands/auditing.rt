@@ -17,7 +17,7 @@ use step_referee::MachineJudge;
 use text_reader::{TextFault, read_full, reading_is_the_inverse_of_writing};
 use text_types::{DigestName, FullText, Stated};
 
-/// The response to a fault of a text. The text is empty where memory ran out.
+/// The response to a fault of a text. The text is empty if memory ran out.
 fn text_refusal(alloc: Global, fault: TextFault) -> Result<Response, AllocError>
     ensures { IfOk result (λ response. response ≡ text_refusal fault) }
 {
@@ -86,7 +86,7 @@ fn number_of(cause: Cause) -> u32
     }
 }
 
-/// Adds an output, where there is any.
+/// Adds an output, if there is any.
 fn add_output(text: &mut String, alloc: Global, output: &[u8]) -> Result<(), AllocError>
     ensures { OnOk result (string_bytes text.new ≡ string_bytes text.old ++ output_text output.now) }
 {

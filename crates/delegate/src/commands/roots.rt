@@ -34,7 +34,7 @@ fn bound_in(alloc: Global, case: &Case) -> Result<(), Stop>
     Ok(())
 }
 
-/// Adds the line of the root of each state, from this one on to that after so many steps, to an empty text.
+/// Adds the line of the root of each state, from this one on to that after this many steps, to an empty text.
 fn add_roots<D: Digester>(
     text: &mut String,
     alloc: Global,
