@@ -33,14 +33,14 @@ setup_of h = record { provers = h.provers; bound = h.bound; fan = h.fan; patienc
 abbrev pub rules_of_head : Ruling → Head → Rules
 rules_of_head r h = rules_of r (setup_of h)
 
--- each move is of one of so many provers
+-- each move is of one of `provers` provers
 abbrev pub IsOfProver : ℕ → TextMove → Type 0
 IsOfProver provers m = (0 < m.prover) × (m.prover ≤ provers)
 
 abbrev pub AreOfProvers : ℕ → List TextMove → Type 0
 AreOfProvers provers moves = All (IsOfProver provers) moves
 
--- an answer to what was asked is called what it is: given where it fits, else faulty. `spent` is taken as stated.
+-- an answer to what was asked is called what it is: given if it fits, else faulty. `spent` is taken as stated.
 abbrev pub is_right : Rules → Kind → Settled → Bool
 is_right rules k (Given a) = is_fit rules.ruling k a
 is_right rules k (Faulty a) = not (is_fit rules.ruling k a)
@@ -53,7 +53,7 @@ abbrev pub cause_by : Rules → TextMove → Option (ℕ × Question) → Option
 cause_by rules m None = Some NotAsked
 cause_by rules m (Some asked) = if is_move_of m asked then (if is_right rules asked.1.kind m.settled then None else Some OtherReply) else Some NotAsked
 
--- why a move isn't the next legal entry, where it isn't
+-- why a move isn't the next legal entry, if it isn't
 unfoldable pub cause_of : Rules → Record → TextMove → Option Cause
 cause_of rules t m = if is_complete t then Some MovesAfterEnd else cause_by rules m (next t)
 

@@ -34,7 +34,7 @@ answer_in (Some (Faulty a)) = Some a
 answer_in (Some Spent) = None
 answer_in None = None
 
--- the provers of a text: each gives the answer that the text has of it, and passes for ever where there is none
+-- the provers of a text: each gives the answer that the text has of it, and passes for ever if there is none
 abbrev pub says_in : List TextMove → Says
 says_in ms p q passes = answer_in (settled_by_lines p q.qid ms)
 

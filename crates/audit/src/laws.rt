@@ -34,7 +34,7 @@ pub fn case_texts_are_confirmed()
     nobody_asked_means_over();
 }
 
-/// What `transcript_text::full` writes of the record of every case is read, and the text that is read is confirmed, where the head's
+/// What `transcript_text::full` writes of the record of every case is read, and the text that is read is confirmed, if the head's
 /// numbers are within the limits. That each answer has a wire form is a clause of `full`.
 pub fn written_cases_are_confirmed()
     ensures { WrittenCasesAreConfirmed }
@@ -46,7 +46,7 @@ pub fn written_cases_are_confirmed()
     a_full_text_is_read_back();
 }
 
-/// A confirmed text is right: where one prover's lines are all given and true of a run, the text states the run's status and output, or
+/// A confirmed text is right: if one prover's lines are all given and true of a run, the text states the run's status and output, or
 /// two different strings of one digest that answers of the text open.
 pub fn a_confirmed_text_is_right()
     ensures { ConfirmedTextIsRight }

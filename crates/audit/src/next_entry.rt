@@ -42,7 +42,7 @@ fn next_in(disputes: &[Dispute]) -> Option<(usize, Question)>
     }
 }
 
-/// The prover whose answer comes next, and what it is asked; `None` where nothing is open.
+/// The prover whose answer comes next, and what it is asked; `None` if nothing is open.
 pub(crate) fn next(played: &Record) -> Option<(usize, Question)>
     ensures { result ≡ next played.now }
 {

@@ -57,7 +57,7 @@ fn answer<J: Judge + Drop>(played: &mut Match<J>, p: u32, question: Question, gi
     is_faulty(reply)
 }
 
-/// The open question of a prover is settled as a line says. Whether the line is right to call the answer given or faulty; where it isn't,
+/// The open question of a prover is settled as a line says. Whether the line is right to call the answer given or faulty; if it isn't,
 /// the match has gone on otherwise.
 fn settle<J: Judge + Drop>(
     alloc: Global,

@@ -14,7 +14,7 @@ use segment_replay::roots;
 use std::alloc::Global;
 use std::thread::Threads;
 
-/// lui x6, 0x20; lui x8, 0x20 (and so many pages more); then add x28, x6, x0, and on from there sw x5, 0(x28); addi x5, x5, 1;
+/// lui x6, 0x20; lui x8, 0x20 + `pages`; then add x28, x6, x0, and on from there sw x5, 0(x28); addi x5, x5, 1;
 /// addi x28, x28, 256; bne x28, x8, -12; jal x0, -20: it stores its count to every 64th word of the pages from 0x20000 on,
 /// again and again
 const PROGRAM: &[u8] =
@@ -30,7 +30,7 @@ struct Work {
     workers: u32,
 }
 
-/// The machine at the start of the program that stores to so many pages.
+/// The machine at the start of the program that stores to this many pages.
 fn machine_of(alloc: Global, pages: u32) -> Result<Machine, Memory>
     ensures { IfOk result (λ m. (digest : List ℕ → List ℕ) → IsChained digest m) }
 {

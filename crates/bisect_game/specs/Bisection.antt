@@ -34,12 +34,12 @@ abbrev pub prover_of : Side → Bisection → ℕ
 prover_of First d = d.first
 prover_of Second d = d.second
 
--- the j-th cut of an interval in so many parts: cut 0 is its beginning, the last its end. Of two parts cut 1 is the middle,
+-- the j-th cut of an interval in this many parts: cut 0 is its beginning, the last its end. Of two parts cut 1 is the middle,
 -- rounded down.
 unfoldable pub cut : ℕ → ℕ → ℕ → ℕ → ℕ
 cut lo hi parts j = lo + (j * (hi - lo)) / parts
 
--- so many cuts, from the one with this number on
+-- this many cuts, from the one with this number on
 abbrev pub cuts_from : ℕ → ℕ → ℕ → ℕ → ℕ → List ℕ
 cuts_from lo hi parts j zero = []
 cuts_from lo hi parts j (suc n) = cut lo hi parts j ∷ cuts_from lo hi parts (j + 1) n
@@ -52,7 +52,7 @@ cuts lo hi parts = cuts_from lo hi parts 1 (parts - 1)
 abbrev pub can_cut : ℕ → ℕ → ℕ → Bool
 can_cut lo hi parts = nat_le 2 parts && (nat_le parts 16 && nat_le parts (hi - lo))
 
--- the steps whose roots a question for so many parts asks: the cuts, or, where there are none, which no match asks, the beginning
+-- the steps whose roots a question for this many parts asks: the cuts, or, if there are none, which no match asks, the beginning
 abbrev pub steps_asked : ℕ → ℕ → ℕ → List ℕ
 steps_asked lo hi parts = if can_cut lo hi parts then cuts lo hi parts else lo ∷ []
 
@@ -93,7 +93,7 @@ agreeing (x ∷ xs) (y ∷ ys) = if same_digest x y then suc (agreeing xs ys) el
 agreeing (x ∷ xs) [] = 0
 agreeing [] ys = 0
 
--- the part that is kept, counted from 0: the first at whose end the roots differ, or the last where they agree at all cuts
+-- the part that is kept, counted from 0: the first at whose end the roots differ, or the last if they agree at all cuts
 abbrev pub kept_part : ℕ → List Digest32 → List Digest32 → ℕ
 kept_part parts xs ys = min (agreeing xs ys) (parts - 1)
 

@@ -29,7 +29,7 @@ is_out ruling i own (Given a) = is_step i && not (is_proved ruling i.agreed own 
 is_out ruling i own (Faulty a) = true
 is_out ruling i own Spent = true
 
--- a dispute in which both sides have proved closes as their collision, and nobody is out. Where a judge without the laws
+-- a dispute in which both sides have proved closes as their collision, and nobody is out. If a judge without the laws
 -- finds none, both are.
 abbrev pub closed_by : Option (List ℕ × List ℕ) → Close
 closed_by (Some pair) = Collision (pair.0) (pair.1)
@@ -39,7 +39,7 @@ abbrev pub both_proved : Ruling → Digest32 → Settled → Settled → Close
 both_proved ruling agreed (Given (answer.Step p)) (Given (answer.Step q)) = closed_by (ruling.step_collision agreed p q)
 both_proved ruling agreed a b = Out true true
 
--- how a round closes its dispute, where it does: a side is out, or it was the proof round
+-- how a round closes its dispute, if it does: a side is out, or it was the proof round
 unfoldable pub close_of : Ruling → Interval → Settled → Settled → Option Close
 close_of ruling i a b =
     let first_out = is_out ruling i i.first a in

@@ -8,7 +8,7 @@ use Rattle.bisect_game.specs.Ruling.{Ruling}
 use Rattle.bisect_game.specs.Rules.{Rules}
 use Rattle.bisect_game.specs.Bisection.{Bisection, question_of, is_closed, advance}
 
--- what each prover's answer to a question is settled as, where it is
+-- what each prover's answer to a question is settled as, if it is
 abbrev pub Answers : Type 0
 Answers = ℕ → Question → Option Settled
 

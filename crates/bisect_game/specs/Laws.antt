@@ -36,7 +36,7 @@ pub record CutsDivide : Type 0 where
   pub rise : (lo hi parts j : ℕ) → 0 < parts → parts ≤ hi - lo → j < parts → cut lo hi parts j < cut lo hi parts (j + 1)
   pub between : (lo hi parts j : ℕ) → 1 < parts → parts ≤ hi - lo → 0 < j → j < parts → (lo < cut lo hi parts j) × (cut lo hi parts j < hi)
 
--- between so many parts there is one cut fewer
+-- between this many parts there is one cut fewer
 abbrev pub OneCutFewer : Type 0
 OneCutFewer = (lo hi parts : ℕ) → length (cuts lo hi parts) ≡ parts - 1
 

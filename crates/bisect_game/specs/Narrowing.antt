@@ -13,7 +13,7 @@ pub record IsNarrowing (fan : ℕ) (place : Interval) (rounds room : ℕ) : Type
   pub roomy : 32 ≤ room
   pub counted : rounds ≤ 32
 
--- both answers of the last round are there only where it closed the dispute
+-- both answers of the last round are there only if it closed the dispute
 pub record IsKept (fan : ℕ) (place : Interval) (rounds room : ℕ) (by_first by_second : Option Settled) (close : Option Close) : Type 0 where
   pub narrowing : IsNarrowing fan place rounds room
   pub waits : (is_some by_first && (is_some by_second && is_none close)) ≡ false

@@ -38,7 +38,7 @@ Waits None b c = Unit {0}
 abbrev pub IsWaiting : Bisection → Type 0
 IsWaiting d = Waits d.by_first d.by_second d.close
 
--- a dispute over answers. A closed one stays, and so does one that waits where the answers have nothing more. As many rounds as
+-- a dispute over answers. A closed one stays, and so does one that waits if the answers have nothing more. As many rounds as
 -- there are steps are enough, and an answer that is settled before its turn changes nothing of the end.
 pub record PlayedOverAnswers : Type 0 where
   pub waits : (ruling : Ruling) (by : Side) (s : Settled) (d : Bisection) → IsWaiting (settle_side ruling by s d)

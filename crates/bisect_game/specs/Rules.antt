@@ -34,6 +34,6 @@ is_fit ruling (kind.Roots lo hi parts) (answer.Roots roots) = length roots == pa
 is_fit ruling (kind.Proof step) (answer.Step proof) = true
 is_fit ruling _ _ = false
 
--- an answer is taken where it fits, and faulty else
+-- an answer is taken if it fits, and faulty else
 abbrev pub judged : Ruling → Kind → Answer → Settled
 judged ruling k a = if is_fit ruling k a then Given a else Faulty a

@@ -3,7 +3,7 @@ use Rattle.std.specs.Prelude.{◌≡◌, ℕ, ◌+◌, List, [], ◌∷◌, Opti
 use Rattle.rd_base.specs.declared.answer.Answer.{Answer}
 use Rattle.bisect_game.specs.declared.question.Question.{Question}
 
--- what a prover answers to a question after so many passes on it; None is a pass
+-- what a prover answers to a question after this many passes on it; None is a pass
 abbrev pub Says : Type 0
 Says = ℕ → Question → ℕ → Option Answer
 

@@ -8,7 +8,7 @@ use crate::question::Question;
 use rd_base::{Answer, Memory};
 use std::thread::Threads;
 
-/// What the provers of a match say: to each question, after so many passes on it, an answer or a pass.
+/// What the provers of a match say: to each question, after this many passes on it, an answer or a pass.
 pub trait Provers {
     /// Plain data that tells which provers they are. Names and type fix what they say.
     type Names: Copy;
@@ -18,14 +18,14 @@ pub trait Provers {
     /// How many there are.
     ghost many: { Self.Names → ℕ };
 
-    /// What prover p answers to a question after so many passes; `None` is a pass.
+    /// What prover p answers to a question after this many passes; `None` is a pass.
     ghost says: { Self.Names → Says };
 
     /// How many provers there are.
     fn count(&self) -> u32
         ensures { result ≡ many (names self.now) };
 
-    /// Whether prover `p`, from 1 to their count, passes on the question after so many passes.
+    /// Whether prover `p`, from 1 to their count, passes on the question after this many passes.
     fn waits(&self, p: u32, question: &Question, passes: u32) -> bool
         requires some { 0 < p }
         requires few { p ≤ many (names self.now) }
@@ -37,10 +37,10 @@ pub trait Provers {
 
 /// What one prover answers. It keeps an allocator of its own, and each call keeps its meaning.
 pub trait Answerer {
-    /// The answer to a question after so many passes; `None` is a pass.
+    /// The answer to a question after this many passes; `None` is a pass.
     ghost answers: { Self → Question → ℕ → Option Answer };
 
-    /// The answer to the question after so many passes; `None` is a pass. Out of memory it answers `Memory`, and its
+    /// The answer to the question after this many passes; `None` is a pass. Out of memory it answers `Memory`, and its
     /// meaning stays.
     fn answer<R: Threads + Sync>(
         &mut self,

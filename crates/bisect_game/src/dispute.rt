@@ -136,7 +136,7 @@ impl Dispute {
         self.number
     }
 
-    /// In how many parts a round cuts its interval, where it has so many steps.
+    /// In how many parts a round cuts its interval, if that has at least as many steps.
     pub fn fan(&self) -> u32
         ensures { result ≡ self.now.fan }
     {
@@ -167,7 +167,7 @@ impl Dispute {
         self.past.as_slice()
     }
 
-    /// What is settled of this side in the last round; `None` where nothing is yet.
+    /// What is settled of this side in the last round; `None` if nothing is yet.
     pub fn last_answer(&self, side: Side) -> Option<&Settled>
         ensures { option_copied result ≡ own_open side self.now }
     {

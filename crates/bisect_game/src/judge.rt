@@ -21,7 +21,7 @@ pub trait Judge {
     fn root_of(&self, claim: &Claim) -> Digest32
         ensures { result ≡ (ruling (names self.now)).root_of claim.now };
 
-    /// The root to which a proof leads from the root `from`; `None` where it leads nowhere.
+    /// The root to which a proof leads from the root `from`; `None` if it leads nowhere.
     fn leads(&self, from: Digest32, proof: &Proof) -> Option<Digest32>
         ensures { result ≡ (ruling (names self.now)).leads from proof.now };
 

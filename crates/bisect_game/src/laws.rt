@@ -16,7 +16,7 @@ pub fn cuts_divide()
     ensures { CutsDivide }
 {}
 
-/// Between so many parts there is one cut fewer.
+/// Between this many parts there is one cut fewer.
 pub fn one_cut_fewer_than_parts()
     ensures { OneCutFewer }
 {}
@@ -26,8 +26,8 @@ pub fn the_fan_stays()
     ensures { FanStays }
 {}
 
-/// With the fan 2 a dispute is bisection as it is known: the root at the middle is asked, rounded down; where the two roots are
-/// equal the interval above it is kept, and where they differ the one below.
+/// With the fan 2 a dispute is bisection as it is known: the root at the middle is asked, rounded down; if the two roots are
+/// equal the interval above it is kept, and if they differ the one below.
 pub fn halves_are_bisection()
     ensures { HalvesAreBisection }
 {}

@@ -5,7 +5,7 @@ use rd_base::Qid;
 pub enum Kind {
     /// The claim about the whole run.
     Claim,
-    /// The root of the state after so many steps.
+    /// The root of the state after this many steps.
     Root(u64),
     /// The roots of the states at the cuts between the ends of an interval, in their order.
     Roots {

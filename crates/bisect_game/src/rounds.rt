@@ -8,7 +8,7 @@ use crate::settled::{Close, Interval, Settled};
 use rd_base::{Answer, Digest32, same_digest};
 use std::slice;
 
-/// The `j`-th cut of an interval in so many parts (2 to 16, at most its steps): `lo + j * (hi - lo) / parts`, rounded down. Cut 0 is
+/// The `j`-th cut of an interval in this many parts (2 to 16, at most its steps): `lo + j * (hi - lo) / parts`, rounded down. Cut 0 is
 /// its beginning, the last its end, and of two parts cut 1 the middle.
 #[tactic(auto, unfolding(crate::specs::Bisection::cut))]
 pub fn cut(lo: u64, hi: u64, parts: u32, j: u32) -> u64
@@ -66,7 +66,7 @@ pub fn roots_in(answer: &Answer) -> &[Digest32]
     }
 }
 
-/// The roots that a settled answer gives; none where it wasn't given.
+/// The roots that a settled answer gives; none if it wasn't given.
 fn roots_of(settled: &Settled) -> &[Digest32]
     ensures { result.now ≡ roots_of settled.now }
 {
@@ -76,7 +76,7 @@ fn roots_of(settled: &Settled) -> &[Digest32]
     }
 }
 
-/// How many roots are the same before the first that differ, at most so many.
+/// How many roots are the same before the first that differ, at most this many.
 fn agreeing(first: &[Digest32], second: &[Digest32], most: usize) -> usize
     ensures is { result ≡ min (agreeing first.now second.now) most }
     ensures first { result ≤ length first.now }
@@ -89,8 +89,8 @@ fn agreeing(first: &[Digest32], second: &[Digest32], most: usize) -> usize
     j
 }
 
-/// The part of so many that is kept, counted from 0, by the roots of both sides at the cuts: the first at whose end they differ, or
-/// the last where they are the same at all cuts.
+/// Which of this many parts is kept, counted from 0, by the roots of both sides at the cuts: the first at whose end they differ, or
+/// the last if they are the same at all cuts.
 pub fn kept_part(parts: u32, first: &[Digest32], second: &[Digest32]) -> u32
     ensures is { result ≡ kept_part parts first.now second.now }
     ensures within { result ≤ parts - 1 }
@@ -116,7 +116,7 @@ fn after(roots: &[Digest32], last: Digest32, j: usize) -> Digest32
     if j < roots.len() { roots[j] } else { last }
 }
 
-/// The part whose ends differ, of an interval in so many parts.
+/// The part whose ends differ, of an interval in this many parts.
 pub(crate) fn kept(place: Interval, parts: u32, first: &Settled, second: &Settled) -> Interval
     requires parted { 1 < parts }
     requires few_parts { parts ≤ 16 }
@@ -184,7 +184,7 @@ fn both_proved<J: Judge>(judge: &J, agreed: Digest32, first: &Settled, second: &
     }
 }
 
-/// How a round closes its dispute, where it does.
+/// How a round closes its dispute, if it does.
 #[tactic(auto, unfolding(crate::specs::Closing::close_of))]
 pub(crate) fn close_of<J: Judge>(
     judge: &J,

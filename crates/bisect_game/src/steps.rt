@@ -8,14 +8,14 @@ use std::alloc::Global;
 /// The most parts of a round.
 const MOST_PARTS: u32 = 16;
 
-/// Whether an interval is cut in so many parts: 2 to 16, and no more than it has steps.
+/// Whether an interval is cut in this many parts: 2 to 16, and no more than it has steps.
 fn can_cut(lo: u64, hi: u64, parts: u32) -> bool
     ensures { result ≡ can_cut lo hi parts }
 {
     2 <= parts && (parts <= MOST_PARTS && u64::from(parts) <= hi.saturating_sub(lo))
 }
 
-/// The cuts between the ends of an interval, or its beginning where there are none. An `Err` is out of memory.
+/// The cuts between the ends of an interval, or its beginning if there are none. An `Err` is out of memory.
 pub fn steps_asked(alloc: Global, lo: u64, hi: u64, parts: u32) -> Result<Vec<u64>, Memory>
     ensures value { IfOk result (λ v. v.items ≡ steps_asked lo hi parts) }
     ensures some { IfOk result (λ v. 0 < length v.items) }

@@ -3,7 +3,7 @@ use Rattle.std.specs.Prelude.{ℕ, Option, Some, None}
 use Rattle.case_reader.specs.declared.fault.CaseFault.{CaseFault}
 use Rattle.case_reader.specs.declared.fault.CaseFault.TheVariants.{NotJson, NotObject, Missing, WrongType, BadHex, OutOfRange, BadProver, Memory}
 
--- the number of the rule that is broken, and none where memory ran out
+-- the number of the rule that is broken, and none if memory ran out
 abbrev pub rule_of : CaseFault → Option ℕ
 rule_of NotJson = Some 1
 rule_of NotObject = Some 2

@@ -16,7 +16,7 @@ use Rattle.rd_base.specs.declared.tamper.Tamper.TheVariants.{Untouched, Flip, Re
 use Rattle.proof_wire.specs.Reading.{answer_in}
 use Rattle.case_reader.specs.Fields.{hex_of, listed}
 
--- the `?` of an option: the second step where the first gave a value
+-- the `?` of an option: the second step if the first gave a value
 infixl 10 ◌>>=◌
 abbrev pub ◌>>=◌ : {A B : Type 0} → Option A → (A → Option B) → Option B
 x >>= f = option_and_then f x
@@ -145,7 +145,7 @@ abbrev pub manner_or_plain : Option Data → Option Manner
 manner_or_plain (Some manner) = manner_in manner
 manner_or_plain None = Some Plain
 
--- a prover that is known: an object whose tamper and manner are known, where they are there
+-- a prover that is known: an object whose tamper and manner are known, if they are there
 unfoldable pub script_in : Data → Option Script
 script_in prover = do
   members ← as_object prover

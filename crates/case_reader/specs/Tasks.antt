@@ -53,7 +53,7 @@ one_of tree = do
   c ← map_fault Whole (case_of tree)
   Ok (One c)
 
--- tasks where the key is there, and else one case
+-- tasks if the key is there, and else one case
 abbrev pub tasks_of : Data → Result TasksData TaskFault
 tasks_of tree = if has_tasks tree then many_of tree else one_of tree
 
@@ -63,7 +63,7 @@ tasks_at bytes = do
   tree ← map_fault Whole (ok_or (tree_of bytes) NotJson)
   tasks_of tree
 
--- bytes read as one task if and only if they read as a case, and as the same one; and where they are refused as a case, but not for
+-- bytes read as one task if and only if they read as a case, and as the same one; and if they are refused as a case, but not for
 -- the key `tasks`, the fault of the whole text is the same
 pub record CasesAreTasks : Type 0 where
   pub same : (bytes : List ℕ) (c : CaseData) → tasks_at bytes ≡ Ok (One c) ↔ case_at bytes ≡ Ok c

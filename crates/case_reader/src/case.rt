@@ -58,7 +58,7 @@ pub struct Case {
     pub version: u32,
     /// Into how many parts a round cuts its interval.
     pub fan: u32,
-    /// What each prover puts down, where there are deposits.
+    /// What each prover puts down, if there are deposits.
     pub stake: Option<u64>,
     /// The provers, by number from 1.
     pub provers: Listed<Script>,

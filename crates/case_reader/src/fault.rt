@@ -81,7 +81,7 @@ pub enum CaseFault {
 }
 
 impl CaseFault {
-    /// The number of the rule that is broken, from 1 to 7 as the variants stand, and `None` where memory ran out.
+    /// The number of the rule that is broken, from 1 to 7 as the variants stand, and `None` if memory ran out.
     pub fn rule(self) -> Option<u32>
         ensures { result ≡ rule_of self }
     {

@@ -105,14 +105,14 @@ pub fn array_of(tree: &Value, key: Key) -> Result<&[Value], CaseFault>
     }
 }
 
-/// The text of a key, where the tree is an object with this key and the value is a string.
+/// The text of a key, if the tree is an object with this key and the value is a string.
 pub fn text_at<'v>(tree: &'v Value, key: &str) -> Option<&'v str>
     ensures { option_map (λ text. text.now) result ≡ text_at key.now (view tree.now) }
 {
     tree.get(key).and_then(Value::as_str)
 }
 
-/// The number of a key, where the tree is an object with this key and the value a whole number from `low` to `high`.
+/// The number of a key, if the tree is an object with this key and the value a whole number from `low` to `high`.
 #[tactic(auto, unfolding(crate::specs::Scripts::number_at))]
 pub fn number_at(tree: &Value, key: &str, low: u64, high: u64) -> Option<u64>
     ensures value { result ≡ number_at key.now low high (view tree.now) }

@@ -70,7 +70,7 @@ fn taped_of(alloc: Global, manner: &Value) -> Result<Option<Manner>, CaseFault>
     Ok(tape_of(alloc, manner)?.map(Manner::Tape))
 }
 
-/// The manner of a value, where it is one that is known.
+/// The manner of a value, if it is one that is known.
 #[tactic(auto, unfolding(crate::specs::Scripts::manner_in))]
 pub fn manner_of(alloc: Global, manner: &Value) -> Result<Option<Manner>, CaseFault>
     ensures { Gives CaseFault.Memory (λ known. known) result (Ok (manner_in (view manner.now))) }

@@ -47,7 +47,7 @@ fn early_of(tamper: &Value) -> Option<Tamper>
     })
 }
 
-/// The tamper of a value, where it is one that is known.
+/// The tamper of a value, if it is one that is known.
 #[tactic(auto, unfolding(crate::specs::Scripts::tamper_in))]
 fn tamper_of(tamper: &Value) -> Option<Tamper>
     ensures { result ≡ tamper_in (view tamper.now) }
@@ -60,7 +60,7 @@ fn tamper_of(tamper: &Value) -> Option<Tamper>
     }
 }
 
-/// The tamper of a prover, where it is known or there is none.
+/// The tamper of a prover, if it is known or there is none.
 fn tamper_or_untouched(prover: &Value) -> Option<Tamper>
     ensures { result ≡ tamper_or_untouched (get (codes "tamper") (view prover.now)) }
 {
@@ -70,7 +70,7 @@ fn tamper_or_untouched(prover: &Value) -> Option<Tamper>
     }
 }
 
-/// The manner of a prover, where it is known or there is none.
+/// The manner of a prover, if it is known or there is none.
 fn manner_or_plain(alloc: Global, prover: &Value) -> Result<Option<Manner>, CaseFault>
     ensures { Gives CaseFault.Memory (λ known. known) result (Ok (manner_or_plain (get (codes "manner") (view prover.now)))) }
 {

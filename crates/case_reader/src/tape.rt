@@ -51,7 +51,7 @@ fn tape_answer_of(alloc: Global, element: &Value) -> Result<Option<TapeAnswer>, 
     }
 }
 
-/// The answers of a tape, where all are known.
+/// The answers of a tape, if all are known.
 fn answers_of(alloc: Global, elements: &[Value]) -> Result<Option<Vec<TapeAnswer>>, CaseFault>
     ensures { Gives CaseFault.Memory (option_map (λ answers. answers.items)) result (Ok (tape_answers_in (map view elements.now))) }
 {

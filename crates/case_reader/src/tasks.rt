@@ -81,7 +81,7 @@ fn one_of(alloc: Global, tree: &Value) -> Result<Tasks, TaskFault>
 ///
 /// What comes back is what the bytes hold. A fault is the first rule that is broken: of the whole text (`Whole`), which is that of a
 /// case, or that `tasks` is no array (`WrongType`) or has no element or more than 8 (`OutOfRange`); or of the first task that has one
-/// (`Task`, with the task's number from 1), as of its case alone. `Memory` comes where memory ran out.
+/// (`Task`, with the task's number from 1), as of its case alone. `Memory` comes if memory ran out.
 #[tactic(auto, unfolding(crate::specs::Tasks::tasks_at))]
 pub fn read_tasks(alloc: Global, bytes: &[u8]) -> Result<Tasks, TaskFault>
     ensures value { Gives TaskFault.Memory tasks_data result (tasks_at bytes.now) }

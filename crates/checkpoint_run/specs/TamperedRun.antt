@@ -41,18 +41,18 @@ run_from tamper first (suc i) = next_of tamper i (run_from tamper first i)
 abbrev pub run_at : Tamper → State → ℕ → State
 run_at tamper s i = run_from tamper (tampered tamper 0 s) i
 
--- the first step below n at which the run has stopped, or n where it has not stopped at any of them
+-- the first step below n at which the run has stopped, or n if it has not stopped at any of them
 abbrev pub first_stop : Tamper → State → ℕ → ℕ
 first_stop tamper first zero = 0
 first_stop tamper first (suc n) =
     if is_running (run_from tamper first (first_stop tamper first n)).status then suc n else first_stop tamper first n
 
--- the later of a tamper's step and a stop, where the tamper's step is not above the bound
+-- the later of a tamper's step and a stop, if the tamper's step is not above the bound
 abbrev pub later_of : ℕ → ℕ → ℕ → ℕ
 later_of at bound stop = if nat_le at bound then max at stop else stop
 
 -- the step from which a run up to a bound stands still: the later of its first stop and of the step at which a byte or a
--- register is changed; the earlier of its first stop and of an early end; the bound where it does not stop before
+-- register is changed; the earlier of its first stop and of an early end; the bound if it does not stop before
 abbrev pub still : Tamper → State → ℕ → ℕ
 still Untouched first bound = first_stop Untouched first bound
 still (Flip at addr mask) first bound = later_of at bound (first_stop (Flip at addr mask) first bound)

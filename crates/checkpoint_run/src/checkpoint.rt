@@ -55,8 +55,8 @@ fn add_versions(
     Ok(())
 }
 
-/// Adds the checkpoint of a machine, with one version of each page that has changed since the checkpoint before, and no other.
-/// No page has changed since then. An `Err` is out of memory.
+/// Adds the checkpoint of a machine, with one version of each page in `changed` and of no other. Outside these pages the memory is what
+/// the versions so far show. `changed` is empty then. An `Err` is out of memory.
 pub fn add_checkpoint(
     machine: &Machine,
     changed: &mut BTreeSet<u32>,

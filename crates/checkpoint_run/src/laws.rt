@@ -41,9 +41,9 @@ pub fn tampered_runs_keep_the_input()
     runs_keep_the_input();
 }
 
-/// The first stop of a run below a step is the first: below it each state runs (`runs_before`), and where it is below the step
-/// its state has stopped (`stops`). A run rests at no step before the one from which it stands still (`moves_before`), and there
-/// it rests where it isn't at the bound (`rests_there`).
+/// The first stop of a run below a step is the first: below it each state runs (`runs_before`), and if it is itself below
+/// the step, its state has stopped (`stops`). A run rests at no step before the one from which it stands still (`moves_before`), and there
+/// it rests if it isn't at the bound (`rests_there`).
 pub fn stops_come_first()
     ensures runs_before { (t : Tamper) (first : State) (n k : ℕ) → k < first_stop t first n → is_running (run_from t first k).status ≡ true }
     ensures stops { (t : Tamper) (first : State) (n : ℕ) → first_stop t first n < n → is_running (run_from t first (first_stop t first n)).status ≡ false }

@@ -1,8 +1,8 @@
 //! The run of a prover, recorded once and kept as checkpoints.
 //!
 //! The run of a prover is the machine's own run with what a tamper does to it (`specs/TamperedRun.antt`). `record_run` makes
-//! it from a machine and keeps a checkpoint at every so many steps, none of them after the step from which the run stands
-//! still. The layers above may rely on this: `machine_at` gives the machine of a checkpoint, and `next` takes that machine
+//! it from a machine and keeps a checkpoint at each step that is a multiple of a spacing, none of them after the step from which the run
+//! stands still. The layers above may rely on this: `machine_at` gives the machine of a checkpoint, and `next` takes that machine
 //! itself to the next step, and tells the pages that were written; so each state of the run is had by replaying fewer steps than lie between two
 //! checkpoints. Both keep the chain by the digester that recorded the run. Laws of the run, in the words of the machine's
 //! own, are `tampered_runs` and `stops_come_first`; by `tampered_runs_keep_the_input` each state has the run's version and input.

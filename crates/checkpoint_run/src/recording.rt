@@ -89,7 +89,7 @@ fn forget(lately: &mut Vec<u64>)
     lately.fill(0);
 }
 
-/// Notes a page that was written, where one is named, and no other. One that was noted lately isn't looked up among all. An `Err`
+/// Notes a page that was written, if one is named, and no other. One that was noted lately isn't looked up among all. An `Err`
 /// is out of memory.
 fn note(changed: &mut BTreeSet<u32>, lately: &mut Vec<u64>, page: Option<u32>) -> Result<(), Memory>
     requires places { vec_len lately.old ≡ 256 }

@@ -139,7 +139,7 @@ pub fn record_run<D: Digester>(
     })
 }
 
-/// The machine of a checkpoint: that of the step which is so many times the spacing. The step is not above the one from which
+/// The machine of a checkpoint: that of the step `checkpoint` times the spacing. The step is not above the one from which
 /// the run stands still, so that there is such a checkpoint. Its chain is that of its output by the digester that recorded the
 /// run. An `Err` is out of memory.
 pub fn machine_at(run: &Run, checkpoint: u64) -> Result<Machine, Memory>

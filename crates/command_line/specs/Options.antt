@@ -98,7 +98,7 @@ abbrev pub digest_or : Option Given → DigestName
 digest_or (Some (digest name)) = name
 digest_or other = Sha256
 
--- the digest is that of the name, and SHA-256 where none is given
+-- the digest is that of the name, and SHA-256 if none is given
 abbrev pub digest_asked : List Given → DigestName
 digest_asked gs = digest_or (given_by (codes "digest") gs)
 

@@ -107,7 +107,7 @@ named entered = option_and_then (λ e. command_of_name e.0 e.1) entered
 unfoldable pub command_of : List Text → Option Command
 command_of words = named (subcommand_of command_line words)
 
--- the command, where the arguments are taken
+-- the command, if the arguments are taken
 abbrev pub chosen : List Text → Option Command
 chosen words = if is_taken words then command_of words else None
 
@@ -118,7 +118,7 @@ rows_given entered = option_map_or (λ e. e.1) entered []
 unfoldable pub given_options : List Text → List Row
 given_options words = rows_given (subcommand_of command_line words)
 
--- the number of an option: that of its text where it is one of 1 to 2^32 - 1, and a default where there is no text
+-- the number of an option: that of its text if it is one of 1 to 2^32 - 1, and a default if there is no text
 abbrev pub IsNumberOf : Option Text → ℕ → ℕ → Type 0
 IsNumberOf (Some text) default n = IsUnsignedIn 1 4294967295 text → n ≡ digits_value 10 (without_leading_plus text)
 IsNumberOf None default n = n ≡ default

@@ -21,7 +21,7 @@ fn seed_given(given: &ArgMatches<'_>) -> Option<u32>
     given.get_one::<u32>("N")
 }
 
-/// The full text where it is asked for, and else the report.
+/// The full text if it is asked for, and else the report.
 fn text_where(is_full: bool) -> MatchText
     ensures { result ≡ (if is_full then Full else Report) }
 {
@@ -125,7 +125,7 @@ fn request_in(matches: &ArgMatches<'_>) -> Option<Request>
     }
 }
 
-/// The command that the arguments name, of which the first is the program's name, and its options; `None` where they name
+/// The command that the arguments name, of which the first is the program's name, and its options; `None` if they name
 /// none.
 pub fn command_given(alloc: Global, words: &[String]) -> Result<Option<Request>, Memory>
     ensures command { IfOk result (λ given. option_map (λ request. request.command) given ≡ chosen (texts words.now)) }

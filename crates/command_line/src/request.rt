@@ -31,7 +31,7 @@ pub enum Command {
 /// How a match is played. No option changes what is answered.
 #[derive(Clone, Copy, Debug, PartialEq, Eq)]
 pub struct Options {
-    /// Among how many threads a prover replays its run, at least 1.
+    /// In how many pieces at most a prover makes, side by side, the roots that one question asks; at least 1.
     pub workers: u32,
     /// How many threads post the provers' answers, at least 1.
     pub posters: u32,

@@ -47,7 +47,7 @@ pooled_in (d ∷ ds) = pooled_if d.close + pooled_in ds
 abbrev pub pool : ℕ → Record → ℕ
 pool stake r = stake * (claims_out r.claims + pooled_in r.disputes)
 
--- of so many provers, the first of which has this number
+-- of this many provers, the first of which has this number
 abbrev pub balances_from : ℕ → Record → ℕ → ℕ → List ℕ
 balances_from stake r p zero = []
 balances_from stake r p (suc n) = balance stake r p ∷ balances_from stake r (p + 1) n

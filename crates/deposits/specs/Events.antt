@@ -58,7 +58,7 @@ abbrev pub spent : List Event → ℕ
 spent [] = 0
 spent (e ∷ es) = pooled e + spent es
 
--- an event of so many provers: those that it names are among them, and the sides of a dispute are two
+-- an event of this many provers: those that it names are among them, and the sides of a dispute are two
 
 pub record AreSides (provers a b : ℕ) : Type 0 where
   pub first : IsProver provers a

@@ -6,7 +6,7 @@ use tournament::{
     truthful_provers_are_safe,
 };
 
-/// The closed form: a prover has its stake times one more than its wins, less one stake where it is out (`record_`, read off a record
+/// The closed form: a prover has its stake times one more than its wins, less one stake if it is out (`record_`, read off a record
 /// and off its events; `ledger`, of a ledger after any events that put nobody out twice).
 pub fn balances_are_in_closed_form()
     ensures record_ { RecordsAreInClosedForm }

@@ -35,7 +35,7 @@ impl Model for Ledger {
     ghost invariant = { λ l. IsLedger l.stake l.of.items l.out.items l.pool };
 }
 
-/// So many stakes.
+/// This many stakes.
 fn stakes(alloc: Global, stake: u64, many: usize) -> Result<Vec<u64>, Memory>
     ensures { IfOk result (λ v. v.items ≡ replicate many stake) }
 {
@@ -46,7 +46,7 @@ fn stakes(alloc: Global, stake: u64, many: usize) -> Result<Vec<u64>, Memory>
     Ok(stakes)
 }
 
-/// So many provers of which none is out.
+/// This many provers of which none is out.
 fn none_out(alloc: Global, many: usize) -> Result<Vec<bool>, Memory>
     ensures { IfOk result (λ v. v.items ≡ replicate many false) }
 {
@@ -113,8 +113,8 @@ impl Ledger {
         }
     }
 
-    /// The dispute of the provers `a`, its first side, and `b` closes: the stake of a side that is out goes to the other side where
-    /// that stays live, and to the pool where both are out. A collision moves nothing.
+    /// The dispute of the provers `a`, its first side, and `b` closes: the stake of a side that is out goes to the other side if
+    /// that stays live, and to the pool if both are out. A collision moves nothing.
     pub fn closed(&mut self, a: u32, b: u32, close: &Close)
         requires { CanTell self.old (Closed a b close.now) }
         ensures { self.new ≡ told self.old (Closed a b close.now) }

@@ -47,7 +47,7 @@ fn tell_disputes(ledger: &mut Ledger, disputes: &[Dispute])
 }
 
 /// What each prover has once a match has ended, and what is in the pool: a prover that is out loses exactly its stake, at its claim
-/// to the pool, in a dispute to the other side where that stays live, and to the pool where both are out.
+/// to the pool, in a dispute to the other side if that stays live, and to the pool if both are out.
 ///
 /// Each of 1 to 16 provers has put down a stake of at most 1,000,000,000. The record has one settled claim per prover, the
 /// sides of each dispute are two of them, and nobody is put out twice, as in the record of each match that has ended.

@@ -15,7 +15,7 @@ pub data Kind : Type 0 where
   register : Kind
   storage : Kind
 
--- a string has a kind where it is made of parts of these sizes: a digest and a chunk have 32 bytes
+-- a string has a kind if it is made of parts of these sizes: a digest and a chunk have 32 bytes
 abbrev pub IsOfKind : Kind → List ℕ → Type 0
 IsOfKind leaf s = (chunk : List ℕ) × (length chunk ≡ 32) × (s ≡ leaf_text chunk)
 IsOfKind node s = (left : List ℕ) × (right : List ℕ) × (length left ≡ 32) × (length right ≡ 32) × (s ≡ node_text left right)

@@ -11,7 +11,7 @@ use Rattle.digest_core.specs.Text.{registers_text, status_byte, status_code, con
 pub cons_parts : (x y : ℕ) (xs ys : List ℕ) → x ∷ xs ≡ y ∷ ys → (x ≡ y) × (xs ≡ ys)
 cons_parts x y xs ys same = (cc, cc)
 
--- a first part and the rest, where the first parts have one length
+-- a first part and the rest, if the first parts have one length
 pub append_parts : (a b c d : List ℕ) → length a ≡ length b → a ++ c ≡ b ++ d → (a ≡ b) × (c ≡ d)
 append_parts [] [] c d lengths same = (refl, same)
 append_parts [] (y ∷ b) c d lengths same = absurd (omega arith)
@@ -21,7 +21,7 @@ append_parts (x ∷ a) (y ∷ b) c d lengths same =
     let rest = append_parts a b c d (omega arith) first.1 in
     (cc, rest.1)
 
--- a number in so many bytes, and the rest
+-- a number in this many bytes, and the rest
 pub number_parts : (width x y : ℕ) (c d : List ℕ) → x < 256 ^ width → y < 256 ^ width → little_bytes width x ++ c ≡ little_bytes width y ++ d → (x ≡ y) × (c ≡ d)
 number_parts width x y c d x_fits y_fits same =
     let number = sym (little_number-reads_back width x c x_fits) ∙ ap (little_number width) same ∙ little_number-reads_back width y d y_fits in

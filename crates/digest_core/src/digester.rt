@@ -41,7 +41,7 @@ impl Digester for Sha256 {
 }
 
 /// A digest of eight bits: the first byte of SHA-256, and 31 zeros. Two strings with one digest are soon found, which
-/// shows what a match does where that happens.
+/// shows what a match does if that happens.
 #[derive(Clone, Copy, Debug)]
 pub struct Weak8;
 

@@ -35,7 +35,7 @@ pub fn texts_determine_their_parts()
 {}
 
 /// The chain is 32 zero bytes for no output, else the digest of the link string of the chain before and the last byte.
-/// It has 32 bytes where each digest has.
+/// It has 32 bytes if each digest has.
 #[tactic(auto, using(crate::proofs::ChainLemmas::chain_of_none, crate::proofs::ChainLemmas::chain_of_more, crate::proofs::ChainLemmas::length_chain_of))]
 pub fn chain_grows()
     ensures none { (digest : List ℕ → List ℕ) → chain_of digest [] ≡ replicate 32 0 }

@@ -59,7 +59,7 @@ turn_of None = None
 abbrev pub LogsTellJournals : Type 0
 LogsTellJournals = (xs ys : List (ℕ × Entry)) → log_of_journal xs ≡ log_of_journal ys → xs ≡ ys
 
--- where a log begins with another, so does its journal
+-- if a log begins with another, so does its journal
 abbrev pub StartsTellJournals : Type 0
 StartsTellJournals = (xs ys : List (ℕ × Entry)) → Begins (log_of_journal xs) (log_of_journal ys) → Begins xs ys
 
@@ -73,7 +73,7 @@ ask_in rules st p = ask_on st p (open_question rules st.record_ p)
 abbrev pub IsOfTheCase : Rules → Says → ℕ → Question → Type 0
 IsOfTheCase rules says p q = asked rules (bracket rules (answers_of rules says)) p q.qid ≡ Some q.kind
 
--- a prover may post a move under a number: where the case asks it a question of that number, the move is what it says to it
+-- a prover may post a move under a number: if the case asks it a question of that number, the move is what it says to it
 -- after some number of passes
 abbrev pub MayPost : Rules → Says → ℕ → Qid → Option Answer → Type 0
 MayPost rules says p qid m = (q : Question) → q.qid ≡ qid → IsOfTheCase rules says p q → (n : ℕ) × (m ≡ says p q n)
@@ -86,8 +86,8 @@ MayPostFor tasks t p qid m = (task : Task) → numbered tasks t ≡ Some task �
 abbrev pub IsThere : List Task → ℕ → ℕ → Type 0
 IsThere tasks t p = (task : Task) × (numbered tasks t ≡ Some task) × (0 < p) × (p ≤ task.rules.provers)
 
--- the board's reply: where the prover has an open question and says the move after the passes that stand there, the one of the
--- book; where it says something else there, or has no question, stale, with the open one
+-- the board's reply: if the prover has an open question and says the move after the passes that stand there, the one of the
+-- book; if it says something else there, or has no question, stale, with the open one
 pub record IsReply (rules : Rules) (says : Says) (st : MatchState) (p : ℕ) (qid : Qid) (m : Option Answer) (r : Reply) : Type 0 where
   pub said : (q : Question) → open_question rules st.record_ p ≡ Some q → m ≡ says p q (passes_of st p) → r ≡ reply_to rules st p qid m
   pub unsaid : (q : Question) → open_question rules st.record_ p ≡ Some q → m ≢ says p q (passes_of st p) → r ≡ reply.Stale (Some q.qid)

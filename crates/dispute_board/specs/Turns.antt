@@ -24,11 +24,11 @@ abbrev pub reply_on_board : Rules → Says → MatchState → ℕ → Qid → Op
 reply_on_board rules says st p qid m None = reply.Stale None
 reply_on_board rules says st p qid m (Some q) = if is_due says st p m q then reply_to rules st p qid m else reply.Stale (Some q.qid)
 
--- the reply of the book where the move is due, and else stale with the open question
+-- the reply of the book if the move is due, and else stale with the open question
 abbrev pub reply_in : Rules → Says → MatchState → ℕ → Qid → Option Answer → Reply
 reply_in rules says st p qid m = reply_on_board rules says st p qid m (open_question rules st.record_ p)
 
--- the open question's number where the move isn't due on it
+-- the open question's number if the move isn't due on it
 abbrev pub undue : Says → MatchState → ℕ → Option Answer → Option Question → Option Qid
 undue says st p m None = None
 undue says st p m (Some q) = if is_due says st p m q then None else Some q.qid

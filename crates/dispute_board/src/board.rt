@@ -76,8 +76,8 @@ impl<J: Judge + Drop, P: Provers + Drop> Board<J, P> {
 
     /// Posts in one turn a move of prover `p`, from 1 to their count, on the question of this number.
     ///
-    /// Where the case asks the prover a question of that number, the move is what the prover says to it after some number of
-    /// passes. The reply is that of the book where the prover says this move after the passes that stand there, and else `Stale`
+    /// If the case asks the prover a question of that number, the move is what the prover says to it after some number of
+    /// passes. The reply is that of the book if the prover says this move after the passes that stand there, and else `Stale`
     /// with the open question, and nothing changes.
     pub fn post<R: Wait>(
         &self,

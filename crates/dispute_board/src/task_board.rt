@@ -63,8 +63,8 @@ impl<J: Judge + Drop, P: Provers + Drop> TaskBoard<J, P> {
 
     /// Posts in one turn a move of prover `p` of task `t` on the question of this number.
     ///
-    /// Where the task's case asks the prover a question of that number, the move is what the prover says to it after some number of
-    /// passes. The reply is that of the task's book where the prover says this move after the passes that stand there, and else
+    /// If the task's case asks the prover a question of that number, the move is what the prover says to it after some number of
+    /// passes. The reply is that of the task's book if the prover says this move after the passes that stand there, and else
     /// `Stale` with the open question, and nothing changes. No other task changes.
     pub fn post<R: Wait>(
         &self,

@@ -99,7 +99,7 @@ fn is_due<J: Judge + Drop, P: Provers + Drop>(book: &Book<J, P>, post: &Posting)
     if is_pass(&post.turn) { waits } else { !waits }
 }
 
-// The number of the open question, where the move isn't due on it.
+// The number of the open question, if the move isn't due on it.
 fn undue_on<J: Judge + Drop, P: Provers + Drop>(book: &Book<J, P>, post: &Posting) -> Option<Qid>
     requires some { 0 < post.now.p }
     requires few { post.now.p ≤ book.now.0.2.provers }

@@ -36,7 +36,7 @@ impl<A: Answerer + Drop> Answerer for Counting<A> {
     }
 }
 
-/// The verdict of a match that is played out by so many posters. It is a function of the rules and of what the provers say.
+/// The verdict of a match that is played out by this many posters. It is a function of the rules and of what the provers say.
 pub fn decide<
     R: Threads + Wait + Sync,
     J: Judge + Drop + Send,

@@ -20,7 +20,7 @@ pub fn start(alloc: Global, image: &[u8], input: &[u8]) -> Result<Machine, Image
     Ok(machine)
 }
 
-/// The machine after so many steps, kept with the trees of its commitment.
+/// The machine after this many steps, kept with the trees of its commitment.
 pub fn commit_after<R: Threads + Sync, D: Digester>(
     rt: &R,
     alloc: Global,

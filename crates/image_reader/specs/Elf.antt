@@ -11,7 +11,7 @@ use Rattle.image_reader.specs.declared.fault.ImageFault.TheVariants.{Short, NotE
 use Rattle.rd_base.specs.Results.{◌>>=◌}
 use Rattle.image_reader.specs.Image.{Image, too_large}
 
--- the number in so many bytes of a file from an offset on, the least byte first ('Data Encoding')
+-- the number in this many bytes of a file from an offset on, the least byte first ('Data Encoding')
 abbrev pub field : ℕ → List ℕ → ℕ → ℕ
 field width file offset = little_number width (drop offset file)
 
@@ -51,7 +51,7 @@ header_in file =
     else if not ((header_at file).e_machine == 243) then Err NotRiscv
     else Ok (header_at file)
 
--- the loads among so many program headers of 32 bytes, which stand one after another from an offset on: those of the
+-- the loads among this many program headers of 32 bytes, which stand one after another from an offset on: those of the
 -- type PT_LOAD, 1 ('Program Header')
 unfoldable pub loads_from : List ℕ → ℕ → ℕ → List ProgramHeader
 loads_from file offset zero = []
@@ -64,7 +64,7 @@ loads_from file offset (suc count) =
 abbrev pub is_bad_table : ℕ → Header → Bool
 is_bad_table file_bytes header = not (header.e_phentsize == 32) || nat_lt file_bytes (header.e_phoff + 32 * header.e_phnum)
 
--- the loads of a file, once rule 5 is tested where there are program headers ('ELF Header')
+-- the loads of a file; rule 5 is tested first, if there are program headers ('ELF Header')
 unfoldable pub loads_in : List ℕ → Header → Result (List ProgramHeader) ImageFault
 loads_in file header =
     if header.e_phnum == 0 then Ok []
@@ -121,8 +121,8 @@ covers load a = nat_le load.p_vaddr a && nat_lt a (load.p_vaddr + load.p_filesz)
 abbrev pub byte_of_load : List ℕ → ProgramHeader → ℕ → ℕ
 byte_of_load file load a = slice_index file (load.p_offset + (a - load.p_vaddr))
 
--- the byte that a file's loads have at an address: that of the load which covers it, of which there is at most one
--- where rules 7 and 9 hold, and else 0 ('Program Loading')
+-- the byte that a file's loads have at an address: that of the load which covers it, and 0 if none does. By rules 7 and 9 at most
+-- one does ('Program Loading')
 abbrev pub byte_of_loads : List ℕ → List ProgramHeader → ℕ → ℕ
 byte_of_loads file [] a = 0
 byte_of_loads file (load ∷ loads) a = if covers load a then byte_of_load file load a else byte_of_loads file loads a

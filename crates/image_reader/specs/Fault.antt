@@ -3,7 +3,7 @@ use Rattle.std.specs.Prelude.{ℕ, Option, Some, None}
 use Rattle.image_reader.specs.declared.fault.ImageFault.{ImageFault}
 use Rattle.image_reader.specs.declared.fault.ImageFault.TheVariants.{Short, NotElf32Le, NotExecutable, NotRiscv, BadTable, SegmentOutsideFile, FileLargerThanMemory, SegmentPastEnd, SegmentsOverlap, EntryMisaligned, ImageTooLarge, Memory}
 
--- the number of the rule that is broken, and none where memory ran out
+-- the number of the rule that is broken, and none if memory ran out
 abbrev pub rule_of : ImageFault → Option ℕ
 rule_of Short = Some 1
 rule_of NotElf32Le = Some 2

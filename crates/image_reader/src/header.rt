@@ -113,7 +113,7 @@ pub fn header_of(bytes: &[u8]) -> Result<Header, ImageFault>
     Ok(header)
 }
 
-/// The loads among so many program headers from an offset on.
+/// The loads among this many program headers from an offset on.
 fn collect_loads(
     alloc: Global,
     bytes: &[u8],

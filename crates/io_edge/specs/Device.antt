@@ -18,7 +18,7 @@ Counts before now r = MatchResult r (λ _. now ≡ before) (λ _. Rises before n
 abbrev pub IsLaterIn : Option (List ℕ) → List ℕ → Type 0
 IsLaterIn now before = (given : ℕ) × (now ≡ Some (drop given before))
 
--- where the bytes left are visible, at most so many were read
+-- if the bytes left are visible, at most this many were read
 abbrev pub ReadsUpTo : Option (List ℕ) → Option (List ℕ) → ℕ → Type 0
 ReadsUpTo before now most = IfSome before (λ xs. IfSome now (λ ys. length xs ≤ length ys + most))
 

@@ -37,7 +37,7 @@ impl Model for MemSink {
 
 impl MemSink {
     /// An empty sink, of which no call was made yet, with memory for `room` bytes. It takes at most `piece`
-    /// bytes a call, and the calls whose numbers stand in `fails` fail. `Memory` where that allocation was
+    /// bytes a call, and the calls whose numbers stand in `fails` fail. `Memory` if that allocation was
     /// refused; with `room` 0 it allocates nothing.
     pub fn new(alloc: Global, room: usize, piece: usize, fails: Vec<u64>) -> Result<Self, Memory>
         requires { 1 ≤ piece }
@@ -74,7 +74,7 @@ impl Sink for MemSink {
 
     ghost faults = { λ s. s.faults };
 
-    /// Takes as many bytes as the sink's own `piece`, this piece and the room left allow. Where it is full,
+    /// Takes as many bytes as the sink's own `piece`, this piece and the room left allow. If it is full,
     /// a piece that isn't empty is a fault.
     fn write_some(&mut self, piece: &[u8]) -> Result<usize, Failed>
         ensures fails { IsErr result ↔ (Contains self.old.fails (next_count self.old.calls) ⊎ ((length self.old.held ≡ self.old.room) × (0 < length piece.now))) }

@@ -63,7 +63,7 @@ impl Source for MemSource {
     ghost faults = { λ s. s.faults };
 
     /// Gives as many bytes as `piece`, `buf` and what is left allow. The rest of `buf` stays, and all of it
-    /// where the call fails.
+    /// if the call fails.
     fn read_some(&mut self, buf: &mut [u8]) -> Result<usize, Failed>
         requires { 0 < length buf.old }
 

@@ -51,7 +51,7 @@ impl<R: Read> Source for ReaderSource<R> {
     }
 }
 
-/// How many bytes were read into the first places of `buf`, 0 at the end of input, or `None` where reading failed.
+/// How many bytes were read into the first places of `buf`, 0 at the end of input, or `None` if reading failed.
 fn read_uninterrupted<R: Read>(input: &mut R, buf: &mut [u8]) -> Option<usize>
     requires { 0 < length buf.old }
     ensures within { IfSome result (λ n. n ≤ length buf.new) }

@@ -8,14 +8,14 @@ use thiserror::Error;
 
 /// Where bytes come from.
 pub trait Source {
-    /// The bytes that are left, where they are visible.
+    /// The bytes that are left, if they are visible.
     ghost left: { Self → Option (List ℕ) };
 
     /// How often reading has failed. It never falls, and stands still at the largest `u64`.
     ghost faults: { Self → ℕ };
 
     /// Reads some bytes into the first places of `buf`, and returns how many: at most as many as `buf` has. 0 means
-    /// the end of input, and comes exactly there where the bytes left are visible. A read that fails takes nothing
+    /// the end of input, and comes exactly there if the bytes left are visible. A read that fails takes nothing
     /// from the source, and raises its count of faults by one.
     fn read_some(&mut self, buf: &mut [u8]) -> Result<usize, Failed>
         requires { 0 < length buf.old }
@@ -45,7 +45,7 @@ pub enum ReadAll {
 
 /// Reads all that the source has, at most `limit` bytes.
 ///
-/// `Fault` comes only where the source's count of faults rose, and every other answer leaves that count as it
+/// `Fault` comes only if the source's count of faults rose, and every other answer leaves that count as it
 /// was. `TooLong` comes only if the source had more than `limit` bytes, and `Memory` only if an allocation was
 /// refused, which an empty source never needs. After an error the source stands after the bytes that were read:
 /// at most `limit`, and with `TooLong` at most 4,096 more. Nothing is read after the end, nor once more than `limit`

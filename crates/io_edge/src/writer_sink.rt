@@ -43,7 +43,7 @@ impl<W: Write> Sink for WriterSink<W> {
 
     /// It flushes before it returns `Ok`. A write or a flush that a signal interrupted is tried again, and is no
     /// fault. Every other error is one and isn't tried again, nor is a write that takes nothing of a piece that isn't
-    /// empty. Where the flush fails, the bytes were taken by then.
+    /// empty. If the flush fails, the bytes were taken by then.
     fn write_some(&mut self, piece: &[u8]) -> Result<usize, Failed> {
         if let Some(n) = write_and_flush(&mut self.output, piece) {
             return Ok(n);
@@ -53,7 +53,7 @@ impl<W: Write> Sink for WriterSink<W> {
     }
 }
 
-/// How many of the first bytes of `piece` were written and flushed, at least one where there is one, or `None` where
+/// How many of the first bytes of `piece` were written and flushed, at least one if there is one, or `None` if
 /// writing or flushing failed.
 fn write_and_flush<W: Write>(output: &mut W, piece: &[u8]) -> Option<usize>
     ensures within { IfSome result (λ n. n ≤ length piece.now) }
@@ -70,7 +70,7 @@ fn write_and_flush<W: Write>(output: &mut W, piece: &[u8]) -> Option<usize>
     Some(n)
 }
 
-/// How many of the first bytes of `piece` were written, at least one where there is one, or `None` where writing failed.
+/// How many of the first bytes of `piece` were written, at least one if there is one, or `None` if writing failed.
 fn write_uninterrupted<W: Write>(output: &mut W, piece: &[u8]) -> Option<usize>
     ensures within { IfSome result (λ n. n ≤ length piece.now) }
     ensures some { IfSome result (λ n. 0 < length piece.now → 0 < n) }

@@ -15,7 +15,7 @@ use Rattle.text_reader.specs.Laws.{HasStrings}
 use Rattle.audit.specs.LineByLine.{rules_of_head}
 use Rattle.audit.specs.OwnMatch.{IsReadAndConfirmed}
 
--- of each record to which posts come, by anybody and with any contents: where its answers have wire forms, each of the two strings of a
+-- of each record to which posts come, by anybody and with any contents: if its answers have wire forms, each of the two strings of a
 -- collision has 1 to 129 bytes
 abbrev pub CollisionsOfPostsHaveStrings : (List ℕ → List ℕ) → Type 0
 CollisionsOfPostsHaveStrings digest =
@@ -31,7 +31,7 @@ CollisionsOfCasesHaveStrings digest =
     rules.ruling ≡ machine_ruling digest version → AreWritten (moves_of r) → HasStrings (verdict_of rules r)
 
 -- so the bytes that `full` writes of a case's record are read, and the text that is read is confirmed before the judge of the machine in the
--- head's version, where the head's numbers are within the limits and the answers have wire forms
+-- head's version, if the head's numbers are within the limits and the answers have wire forms
 abbrev pub MachineCasesAreConfirmed : (List ℕ → List ℕ) → Type 0
 MachineCasesAreConfirmed digest =
     (says : Says) (head : Head) →

@@ -17,14 +17,14 @@ pub fn confirmed_cases_are_right<D: Digester>()
 }
 
 /// Each collision that the machine's judge calls, in each version, is of two strings of 1 to 129 bytes, as a text can state: in a match
-/// after any posts (`matches`), and in every case, whatever its provers say (`cases`), where the answers have wire forms.
+/// after any posts (`matches`), and in every case, whatever its provers say (`cases`), if the answers have wire forms.
 pub fn collisions_of_the_machine_have_strings<D: Digester>()
     ensures matches { CollisionsOfPostsHaveStrings D.digest_of }
     ensures cases { CollisionsOfCasesHaveStrings D.digest_of }
 {}
 
 /// What `transcript_text::full` writes of the record of every case of the machine is read, and the text that is read is confirmed
-/// before the judge of the head's version, where the head's numbers are within the limits. That each answer has a wire form is a
+/// before the judge of the head's version, if the head's numbers are within the limits. That each answer has a wire form is a
 /// clause of `full`.
 pub fn written_cases_are_confirmed<D: Digester>()
     ensures { MachineCasesAreConfirmed D.digest_of }

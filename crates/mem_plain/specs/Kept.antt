@@ -3,7 +3,7 @@ use Rattle.std.specs.Prelude.{◌≡◌, ℕ, Option, Some, None}
 use Rattle.mem_plain.specs.Page.{with_number_in}
 use Rattle.mem_plain.specs.declared.page.Page.{Page}
 
--- a page that is kept has the low so many bytes of a value from a place on, and one that isn't stays so
+-- a page that is kept has the low `width` bytes of a value from a place on, and one that isn't stays so
 abbrev pub IsWritten : Option Page → Option Page → ℕ → ℕ → ℕ → Type 0
 IsWritten (Some before) (Some after) at width value = after.bytes.items ≡ with_number_in before.bytes.items at width value
 IsWritten None None at width value = Unit {0}

@@ -51,7 +51,7 @@ impl Directory {
         self.table(number / TABLE_PAGES).is_some()
     }
 
-    /// The page with a number, where it is kept.
+    /// The page with a number, if it is kept.
     pub fn page(&self, number: u32) -> Option<&Page>
         ensures { option_copied result ≡ page_in self.now.tables.items number }
     {
@@ -64,7 +64,7 @@ impl Directory {
         }
     }
 
-    /// Writes the low `width` bytes of `value` into the page with a number, from a place on, the least byte first, where
+    /// Writes the low `width` bytes of `value` into the page with a number, from a place on, the least byte first, if
     /// the page is kept; says whether it is.
     pub fn write(&mut self, number: u32, at: usize, width: u8, value: u32) -> bool
         requires width { (width ≡ 1) ⊎ (width ≡ 2) ⊎ (width ≡ 4) }
@@ -100,7 +100,7 @@ impl Directory {
         Ok(())
     }
 
-    /// Puts a page, which has a number below 2^20, into its table, and makes the table where there is none. There is a
+    /// Puts a page, which has a number below 2^20, into its table, and makes the table if there is none. There is a
     /// place for each table. An `Err` is out of memory, and changes nothing.
     pub fn put(&mut self, alloc: Global, number: u32, page: Page) -> Result<(), Memory>
         requires number { number < 2 ^ 20 }

@@ -5,7 +5,7 @@ ghost use Rattle.mem_plain.specs.Memory.{IsMemory};
 ghost use Rattle.mem_plain.specs.Page.{number_in, with_number_in};
 
 /// Bytes that are laid from an address on stand there, and every other byte stays as it was (`laid`); and so do the
-/// low bytes of a number that is stored, the least first (`stored`). Where nothing is kept each byte is 0 (`nothing`).
+/// low bytes of a number that is stored, the least first (`stored`). If nothing is kept each byte is 0 (`nothing`).
 pub fn laying_bytes()
     ensures laid { (m : Contents) (a : ℕ) (bytes : List ℕ) (q : ℕ) →
         byte_at (laid m a bytes) q ≡ (if is_among a (length bytes) q then slice_index bytes (q - a) else byte_at m q) }
@@ -27,7 +27,7 @@ pub fn contents_of_a_function()
 {}
 
 /// Two memories with the same bytes are one (`same`). The contents of a function whose values are bytes are a memory
-/// (`made`), and a memory stays one where a number is stored below 2^32 (`stored`).
+/// (`made`), and a memory stays one if a number is stored below 2^32 (`stored`).
 pub fn memories_are_their_bytes()
     ensures same { (m n : Contents) → IsMemory m → IsMemory n → ((q : ℕ) → q < 2 ^ 32 → byte_at m q ≡ byte_at n q) → m ≡ n }
     ensures made { (f : ℕ → ℕ) → ((q : ℕ) → q < 2 ^ 32 → f q < 256) → IsMemory (contents_with f) }

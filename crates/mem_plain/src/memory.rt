@@ -90,7 +90,7 @@ impl PlainMem {
         }
     }
 
-    /// The least page at or after `from` with a byte that isn't 0, or `None` where there is no such page. A page
+    /// The least page at or after `from` with a byte that isn't 0, or `None` if there is no such page. A page
     /// goes by its number, which is that of its addresses / 4,096; `from` may be any number.
     pub fn next_page(&self, from: u32) -> Option<u32>
         ensures next { IsNextUsed self.now from result }
@@ -112,7 +112,7 @@ impl PlainMem {
         None
     }
 
-    /// The number itself, which is below 2^20, where some page of its table is kept, and else the first number of the
+    /// The number itself, which is below 2^20, if some page of its table is kept, and else the first number of the
     /// next table. No page from the number on and before the one that comes back is used.
     fn past_empty_table(&self, number: u32) -> u32
         requires { number < 2 ^ 20 }

@@ -22,11 +22,11 @@ has_changed tree m page = is_changed (differs tree m page) 7 0
 abbrev pub is_filled : Contents → ℕ → Bool
 is_filled m page = has_changed None m page
 
--- how many digests the subtree of a page takes: none where all bytes of the page are 0
+-- how many digests the subtree of a page takes: none if all bytes of the page are 0
 abbrev pub page_renewals : Option PageTree → Contents → ℕ → ℕ
 page_renewals tree m page = if is_filled m page then renewals (differs tree m page) 7 else 0
 
--- how many a page takes at least: where it has changed and isn't empty, those of its subtree and the 20 above it
+-- how many a page takes at least: if it has changed and isn't empty, those of its subtree and the 20 above it
 abbrev pub page_needs : Option PageTree → Contents → ℕ → ℕ
 page_needs tree m page = if is_filled m page && has_changed tree m page then renewals (differs tree m page) 7 + 20 else 0
 

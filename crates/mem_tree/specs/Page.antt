@@ -46,12 +46,12 @@ IsMadeTree digest None = Unit {0}
 abbrev pub AreEmpty : (List ℕ → List ℕ) → List Digest32 → Type 0
 AreEmpty digest empties = (l : ℕ) → l < 28 → digest_at empties l ≡ zero_node digest l
 
--- a digest of a page's heap, or another one where there is no heap
+-- a digest of a page's heap, or another one if there is no heap
 abbrev pub heap_node : Option PageTree → ℕ → List ℕ → List ℕ
 heap_node (Some tree) i empty = digest_at tree.nodes.items i
 heap_node None i empty = empty
 
--- a digest that is kept, or another one where none is
+-- a digest that is kept, or another one if none is
 abbrev pub kept_or : Option Digest32 → List ℕ → List ℕ
 kept_or (Some digest) empty = digest.0
 kept_or None empty = empty

@@ -35,7 +35,7 @@ pub record Tree : Type 0 where
 abbrev pub is_among : List ℕ → ℕ → Bool
 is_among pages p = list_any (is_at (nat_cmp p)) pages
 
--- the subtree of a page, where it is kept
+-- the subtree of a page, if it is kept
 abbrev pub page_at : Kept → ℕ → Option PageTree
 page_at t p = lookup (is_at (nat_cmp p)) t.pages
 
@@ -46,7 +46,7 @@ page_node t l k = heap_node (page_at t (k / 2 ^ (7 - l))) (place_of l k) (digest
 abbrev pub by_place : ℕ × ℕ → ℕ × ℕ → Ordering
 by_place p q = ordering_then (nat_cmp p.0 q.0) (nat_cmp p.1 q.1)
 
--- node k of level 7 + n, where it is kept
+-- node k of level 7 + n, if it is kept
 abbrev pub upper_at : Kept → ℕ → ℕ → Option Digest32
 upper_at t n k = lookup (is_at (by_place (n, k))) t.upper
 

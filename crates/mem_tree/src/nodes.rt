@@ -50,7 +50,7 @@ impl Nodes {
         }
     }
 
-    /// The node that stands so many levels above the pages' roots.
+    /// The node that stands this many levels above the pages' roots.
     pub(crate) fn upper_node(&self, above: u8, k: u32) -> Digest32
         requires { above ≤ 20 }
         ensures { result.0 ≡ node_above (kept_of self.now) above k }
@@ -61,7 +61,7 @@ impl Nodes {
         }
     }
 
-    /// Takes a page's subtree out, where one is kept.
+    /// Takes a page's subtree out, if one is kept.
     fn take_page(&mut self, page: u32) -> Option<PageTree>
         ensures taken { result ≡ page_at (kept_of self.old) page }
         ensures here { page_at (kept_of self.new) page ≡ None }
@@ -72,7 +72,7 @@ impl Nodes {
         self.pages.remove(&page)
     }
 
-    /// Keeps a page's subtree, or none where the page is empty. An `Err` is out of memory, and changes nothing.
+    /// Keeps a page's subtree, or none if the page is empty. An `Err` is out of memory, and changes nothing.
     fn put_page(&mut self, page: u32, tree: Option<PageTree>) -> Result<(), Memory>
         ensures here { OnOk result (page_at (kept_of self.new) page ≡ tree) }
         ensures err { OnErr result (page_at (kept_of self.new) page ≡ page_at (kept_of self.old) page) }
@@ -92,7 +92,7 @@ impl Nodes {
         }
     }
 
-    /// Keeps a node above the pages' roots, or none where it is the empty one. An `Err` is out of memory, and changes nothing.
+    /// Keeps a node above the pages' roots, or none if it is the empty one. An `Err` is out of memory, and changes nothing.
     fn put_upper(&mut self, above: u8, k: u32, node: Option<Digest32>) -> Result<(), Memory>
         ensures here { OnOk result (upper_at (kept_of self.new) above k ≡ node) }
         ensures elsewhere { (n q : ℕ) → (n ≢ above) ⊎ (q ≢ k) → upper_at (kept_of self.new) n q ≡ upper_at (kept_of self.old) n q }
@@ -111,7 +111,7 @@ impl Nodes {
         }
     }
 
-    /// The node over nodes 2 * k and 2 * k + 1 of a level, with a step for its digest; or `None`, with none, where neither is kept.
+    /// The node over nodes 2 * k and 2 * k + 1 of a level, with a step for its digest; or `None`, with none, if neither is kept.
     fn joined<D: Digester, L: Ledger>(
         &self,
         d: D,
@@ -139,7 +139,7 @@ impl Nodes {
         Some(digest_counted(d, &node_text(&left, &right), steps))
     }
 
-    /// Puts a page's root into its place and joins the nodes above it anew, with a step for each: 20 where there is a root. An
+    /// Puts a page's root into its place and joins the nodes above it anew, with a step for each: 20 if there is a root. An
     /// `Err` is out of memory, and leaves all nodes that don't stand above the page.
     fn raise<D: Digester, L: Ledger>(
         &mut self,

@@ -168,9 +168,9 @@ fn zeros(alloc: Global, empties: &[Digest32]) -> Result<PageTree, Memory>
     Ok(PageTree { nodes, chunks })
 }
 
-/// The subtree of a page from the one that was kept, or none where every byte of the page is 0, and whether some chunk differs
-/// from what was kept; with a step for each changed chunk and each node above one, where the page isn't empty. An `Err` is out of
-/// memory, and comes only where none was kept.
+/// The subtree of a page from the one that was kept, or none if every byte of the page is 0, and whether some chunk differs
+/// from what was kept; with a step for each changed chunk and each node above one, if the page isn't empty. An `Err` is out of
+/// memory, and comes only if none was kept.
 pub(crate) fn page_tree_after<D: Digester, L: Ledger>(
     d: D,
     alloc: Global,
@@ -207,7 +207,7 @@ pub(crate) fn page_tree_after<D: Digester, L: Ledger>(
     }
 }
 
-/// The root of a page's subtree, where the subtree is kept.
+/// The root of a page's subtree, if the subtree is kept.
 pub(crate) fn root_of(tree: &Option<PageTree>) -> Option<Digest32>
     ensures { IsRoot result tree.now }
 {

@@ -5,7 +5,7 @@ use Rattle.rd_base.specs.declared.digest.Digest32.{Digest32}
 use Rattle.digest_core.specs.Text.{node_text}
 use Rattle.merkle_nodes.specs.Node.{digest_at}
 
--- the first n leaves of a heap with so many are those of these strings
+-- the first n leaves of a heap of `width` leaves are those of these strings
 abbrev pub HasLeaves : (List ℕ → List ℕ) → List Digest32 → ℕ → (ℕ → List ℕ) → ℕ → Type 0
 HasLeaves digest nodes width leaf n = (k : ℕ) → k < n → digest_at nodes (width + k) ≡ digest (leaf k)
 

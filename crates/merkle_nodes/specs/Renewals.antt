@@ -1,4 +1,4 @@
--- To believe. How many nodes of a tree have to be digested anew where some of its leaves have changed: the changed leaves, and
+-- To believe. How many nodes of a tree have to be digested anew if some of its leaves have changed: the changed leaves, and
 -- each node that stands above one.
 use Rattle.std.specs.Prelude.{ℕ, zero, suc, ◌+◌, ◌*◌, ◌-◌, ◌^◌, Bool, ◌||◌, if◌then◌else◌}
 

@@ -34,7 +34,7 @@ pub fn fill_empty_nodes<D: Digester>(d: D, leaf: &OpenText, nodes: &mut [Digest3
     }
 }
 
-/// Makes a heap that of the tree of so many levels over leaves that all have one string, of which the empty node of each level
+/// Makes a heap that of the tree of this many levels over leaves that all have one string, of which the empty node of each level
 /// is given, that of level l at place l. It makes no digest.
 pub fn fill_empty_heap(empties: &[Digest32], nodes: &mut [Digest32], levels: u32)
     requires levels { levels < length empties.now }

@@ -85,7 +85,7 @@ pub fn heaps_are_trees()
         (l m k : ℕ) → m + l ≡ n → k < 2 ^ m → digest_at nodes (2 ^ m + k) ≡ node digest leaf l k }
 {}
 
-/// Where the leaves of a heap are marked that have changed, and a node above them if and only if one of the two below it is, as
+/// If those leaves of a heap are marked that have changed, and those nodes above them of which one of the two below is marked, then as
 /// many nodes are marked as have to be made anew, and the root is marked if and only if some leaf is.
 pub fn renewals_are_marked()
     ensures many { (marked changed : ℕ → Bool) (n : ℕ) → ((k : ℕ) → k < 2 ^ n → marked (2 ^ n + k) ≡ changed k) →
@@ -95,8 +95,8 @@ pub fn renewals_are_marked()
         ((i : ℕ) → 1 ≤ i → i < 2 ^ n → marked i ≡ (marked (2 * i) || marked (2 * i + 1))) → marked 1 ≡ is_changed changed n 0 }
 {}
 
-/// At most a leaf and the nodes above it are made anew for each leaf that has changed (`few`), and none where none has (`none`);
-/// where one has changed the root has (`root`), and where the root has one has (`some`).
+/// At most a leaf and the nodes above it are made anew for each leaf that has changed (`few`), and none if none has (`none`);
+/// if a leaf has changed, so has the root (`root`), and if the root has, some leaf has (`some`).
 pub fn renewals_are_few()
     ensures few { (changed : ℕ → Bool) (n : ℕ) → renewals changed n ≤ (n + 1) * how_many changed (2 ^ n) }
     ensures most { (changed : ℕ → Bool) (n : ℕ) → renewals changed n < 2 ^ (n + 1) }

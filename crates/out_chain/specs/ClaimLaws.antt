@@ -38,7 +38,7 @@ pub collision-cons : (digest : List ℕ → List ℕ) (x y : List ℕ) (xs ys : 
 unfolding first_collision
 collision-cons digest x y xs ys = refl
 
--- where nothing collides, strings of one digest at the head are one, and nothing collides behind them
+-- if nothing collides, strings of one digest at the head are one, and nothing collides behind them
 pub collision-none : (digest : List ℕ → List ℕ) (x y : List ℕ) (xs ys : List (List ℕ)) → first_collision digest (x ∷ xs) (y ∷ ys) ≡ None
     → (digest x ≡ digest y → x ≡ y) × (first_collision digest xs ys ≡ None)
 collision-none digest x y xs ys none = go (collides digest x y) refl (sym (collision-cons digest x y xs ys) ∙ none)

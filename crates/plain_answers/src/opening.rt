@@ -23,7 +23,7 @@ fn opening_of<D: Digester>(committed: &Committed<D>, addr: u32) -> Opening
     Opening { chunk, path }
 }
 
-/// The same where a chunk is called for.
+/// The chunk of memory that holds an address, with its path, if one is called for.
 pub(crate) fn opening_at<D: Digester>(
     committed: &Committed<D>,
     address: Option<u32>,
@@ -89,7 +89,7 @@ fn input_opening_of<D: Digester>(committed: &Committed<D>, byte: u32) -> InOpeni
     InOpening { chunk, path }
 }
 
-/// The same where a chunk is called for.
+/// The chunk of the input that holds a byte, with its path, if one is called for.
 pub(crate) fn input_opening_at<D: Digester>(
     committed: &Committed<D>,
     byte: Option<u32>,

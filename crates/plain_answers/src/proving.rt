@@ -120,8 +120,8 @@ fn proof_3<D: Digester>(committed: &Committed<D>) -> StepProof3
 }
 
 /// The plain proof of the step from a machine's state, in the state's version: the state's parts; the chunk that holds the word at
-/// `pc` where the machine is running and `pc` is a multiple of 4; from version 2 on the registers that the instruction names, in
-/// their order; the chunk of its data where it is an aligned load or store; and in version 3 the chunk of the input's byte that it
+/// `pc` if the machine is running and `pc` is a multiple of 4; from version 2 on the registers that the instruction names, in
+/// their order; the chunk of its data if it is an aligned load or store; and in version 3 the chunk of the input's byte that it
 /// reads. It leads from the root of this state to the root of the next. It takes no memory.
 #[tactic(auto, using(crate::proofs::WholeLemmas::plain_1, crate::proofs::WholeLemmas::plain_2, crate::proofs::WholeLemmas::plain_3))]
 pub fn make_proof<D: Digester>(committed: &Committed<D>) -> Proof

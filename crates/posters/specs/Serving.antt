@@ -11,7 +11,7 @@ use Rattle.seat_lock.specs.Seats.{LockId, Known}
 use Rattle.board_book.specs.Tasks.{numbered, sayings}
 use Rattle.posters.specs.declared.playing.Place.{Place}
 
--- the provers of all tasks are numbered from 0, through all tasks in order: so many provers of a task, from this one on
+-- the provers of all tasks are numbered from 0, through all tasks in order: this many provers of a task, from this one on
 abbrev pub provers_from : ℕ → ℕ → ℕ → List Place
 provers_from t p zero = []
 provers_from t p (suc n) = record { task = t; prover = p } ∷ provers_from t (p + 1) n

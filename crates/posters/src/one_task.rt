@@ -1,4 +1,4 @@
-//! A match played by posters: the case of one task.
+//! A match played by posters, for callers of the library that have one match and its answerers. The program plays one task as it plays many.
 ghost use Rattle.std.specs.Prelude.{◌≡◌, ◌<◌, ◌++◌, List, true, length, IfOk};
 ghost use Rattle.bisect_game.specs.Says.{AnswerAs};
 ghost use Rattle.tournament.specs.Bracket.{is_complete};
@@ -34,8 +34,8 @@ impl<'g, G: Gate> TaskGate for OneGate<'g, G> {
     }
 }
 
-/// Plays the match out with so many posters: poster t of them, from 0, serves the provers p with `(p - 1) mod posters = t`, each
-/// poster in a thread of its own where one can be made. With one poster no thread is started. There is one answerer for each
+/// Plays the match out with this many posters: poster t of them, from 0, serves the provers p with `(p - 1) mod posters = t`, each
+/// poster in a thread of its own if one can be made. With one poster no thread is started. There is one answerer for each
 /// prover, which answers as that prover; answers are made while other posters post.
 ///
 /// A poster ends when the match is over. It ends early when its answerer finds no memory, after 1,000,000 turns in a row with

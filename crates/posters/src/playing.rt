@@ -39,7 +39,7 @@ pub struct Place {
     pub prover: u32,
 }
 
-// Notes so many provers of task t, from 1 on.
+// Notes this many provers of task t, from 1 on.
 fn add_provers(places: &mut Vec<Place>, t: u32, count: u32) -> Result<(), Memory>
     ensures { IfOk result (λ _. places.new.items ≡ places.old.items ++ provers_from t 1 count) }
 {
@@ -107,8 +107,8 @@ fn join_posters<J: Judge + Drop, P: Provers + Drop>(
     }
 }
 
-/// Plays the matches of all tasks out with so many posters. Provers are numbered from 0 through all tasks, in order of the tasks. Poster
-/// i of k serves those whose number modulo k is i, each poster in a thread of its own where one can be made. With one poster no thread
+/// Plays the matches of all tasks out with this many posters. Provers are numbered from 0 through all tasks, in order of the tasks. Poster
+/// i of k serves those whose number modulo k is i, each poster in a thread of its own if one can be made. With one poster no thread
 /// is started. There is one answerer for each prover, which answers as that prover; answers are made while other posters post.
 ///
 /// A poster ends when the matches of all its provers are over. It ends early when its answerer finds no memory, after 1,000,000 turns in

@@ -16,7 +16,7 @@ use std::thread;
 use std::thread::Threads;
 use tournament::move_of;
 
-/// After so many turns in a row with nothing to do a poster ends.
+/// After this many turns in a row with nothing to do a poster ends.
 const MOST_IDLE_TURNS: u32 = 1_000_000;
 
 /// What the posters share.
@@ -63,7 +63,7 @@ enum Turn {
 enum Round {
     /// The match of each prover is over.
     Over,
-    /// One goes on; the last so many turns had nothing to do.
+    /// One goes on; the number of turns in a row, up to the last one, that had nothing to do.
     GoesOn(u32),
     /// The answerer found no memory, or another poster ended early, or too many turns in a row had nothing to do.
     EndsEarly,
@@ -78,7 +78,7 @@ fn tell_posters<J: Judge + Drop, P: Provers + Drop, G: TaskGate>(hall: &Hall<'_,
 // Waits for news since it stood at `seen`, for as many turns as may pass with nothing to do, and gives the number of all that
 // have passed then. While there is none, each prover that had nothing to do still has nothing to do, so that such a turn isn't
 // taken to the board. Once every poster has begun it sleeps, as there will be news. Before that one poster looks, turn by turn, and
-// only the others sleep: where no thread could be made, a poster may begin only after one that waits here has ended.
+// only the others sleep: if no thread could be made, a poster may begin only after one that waits here has ended.
 fn wait_for_news<J: Judge + Drop, P: Provers + Drop, G: TaskGate, R: Wait>(
     rt: &R,
     hall: &Hall<'_, J, P, G>,
@@ -152,7 +152,7 @@ fn serve_prover<
     }
 }
 
-// A turn for each prover of these numbers. The round is over where each prover's match is.
+// A turn for each prover of these numbers. The round is over if each prover's match is.
 fn serve_round<
     J: Judge + Drop,
     P: Provers + Drop,
@@ -273,7 +273,7 @@ impl<'g, J: Judge + Drop, P: Provers + Drop, A: Answerer, G: TaskGate> Worker<Ha
         if !serve_all_rounds(rt, hall, &mut self.seat, numbers, answerers) {
             hall.ended_early.store(true, Ordering::SeqCst);
         }
-        // Where no thread could be made, one that hasn't begun yet may stand behind a poster that sleeps: this one may have been the
+        // If no thread could be made, one that hasn't begun yet may stand behind a poster that sleeps: this one may have been the
         // last that looked for it.
         tell_posters(hall);
     }

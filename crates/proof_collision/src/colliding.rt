@@ -42,14 +42,14 @@ fn text_before<D: Digester>(d: D, facts: &Facts) -> OpenText
     state_text(&storage, &registers, &control)
 }
 
-/// The state strings of two proofs, where they differ and have one digest.
+/// The state strings of two proofs, if they differ and have one digest.
 fn state_collision<D: Digester>(d: D, x: &Facts, y: &Facts) -> Option<(OpenText, OpenText)>
     ensures { result ≡ first_collision D.digest_of (next.text_before D.digest_of x.now ∷ []) (next.text_before D.digest_of y.now ∷ []) }
 {
     text_collision(d, text_before(d, x), text_before(d, y))
 }
 
-/// The storage strings, where both have one.
+/// The storage strings, if both have one.
 #[tactic(auto, using(crate::proofs::CodeLemmas::collision_without, crate::proofs::CodeLemmas::collision_of_none))]
 fn storage_collision<D: Digester>(
     d: D,
@@ -73,7 +73,7 @@ fn storage_collision<D: Digester>(
     }
 }
 
-/// The registers strings, where both have one.
+/// The registers strings, if both have one.
 #[tactic(auto, using(crate::proofs::CodeLemmas::collision_without, crate::proofs::CodeLemmas::collision_of_none))]
 fn registers_collision<D: Digester>(
     d: D,
@@ -120,7 +120,7 @@ fn named_collision<D: Digester>(
     }
 }
 
-/// The same of chunks of the input, where both have the input as a tree.
+/// The same of chunks of the input, if both have the input as a tree.
 fn read_collision<D: Digester>(
     d: D,
     tree: &Option<HeldInput>,
@@ -239,7 +239,7 @@ fn opens_in<D: Digester>(d: D, version: u8, a: &Digest32, facts: &Facts) -> bool
 /// open the root `a`: the first such pair in the order state string, storage string, registers string, control string, then the strings of
 /// the fetched chunk, of the opened registers, of the chunk of data and of the chunk of the input, each from the leaf string up.
 ///
-/// `None` where a proof is of another version or doesn't open `a`. Of two proofs that lead from `a` it comes if and only if the proofs
+/// `None` if a proof is of another version or doesn't open `a`. Of two proofs that lead from `a` it comes if and only if the proofs
 /// are equal (`proofs_from_one_root`).
 #[tactic(auto, unfolding(crate::specs::Collision::step_collision))]
 pub fn step_collision<D: Digester>(

@@ -17,7 +17,7 @@ use rd_base::{
     paths_have_27_levels,
 };
 
-/// Two strings, where they differ and have one digest.
+/// Two strings, if they differ and have one digest.
 pub(crate) fn text_collision<D: Digester>(
     d: D,
     x: OpenText,

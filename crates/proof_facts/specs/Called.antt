@@ -9,7 +9,7 @@ use Rattle.rv_step.specs.declared.asked.Need.{Need}
 use Rattle.rv_step.specs.declared.asked.Need.TheVariants as need
 use Rattle.proof_facts.specs.Held.{number_shown}
 
--- the address of the word that is fetched: pc, where the machine is running and pc is a multiple of 4
+-- the address of the word that is fetched: pc, if the machine is running and pc is a multiple of 4
 abbrev pub fetch_address : Ctl → Option ℕ
 fetch_address ctl = if is_running ctl.status && (ctl.pc % 4 == 0) then Some ctl.pc else None
 

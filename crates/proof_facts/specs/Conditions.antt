@@ -1,4 +1,4 @@
--- To believe: the conditions of a proof in their order, each with the refusal where it is the first that fails, and when a proof
+-- To believe: the conditions of a proof in their order, each with the refusal if it is the first that fails, and when a proof
 -- leads from one root to another.
 use Rattle.std.specs.Prelude.{◌≡◌, ◌⊎◌, ℕ, List, [], ◌∷◌, is_some}
 use Rattle.rd_base.specs.declared.digest.Digest32.{Digest32}
@@ -14,7 +14,7 @@ pub data Refusal : Type 0 where
   shape : Refusal
   opening : Refusal
 
--- a condition, and the refusal where it is the first that fails
+-- a condition, and the refusal if it is the first that fails
 pub record Condition : Type 1 where
   pub refusal : Refusal
   pub holds : Type 0

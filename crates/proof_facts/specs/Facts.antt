@@ -56,7 +56,7 @@ file_shown rs (Opened root named) = file_of rs (values_of named)
 abbrev pub file_of_facts : Facts → List ℕ
 file_of_facts facts = file_shown (named_called facts) facts.regs
 
--- the input is offered to the step where it is a tree, as in version 3, and else it isn't, as in version 1
+-- the input is offered to the step if it is a tree, as in version 3, and else it isn't, as in version 1
 abbrev pub offering : Option HeldInput → ℕ
 offering (Some t) = 3
 offering None = 1
@@ -69,7 +69,7 @@ needed_by tree xs None = need.Nothing
 abbrev pub needed_of : Facts → Need
 needed_of facts = needed_by facts.input_tree (file_of_facts facts) (fetched facts)
 
--- the address of the data for which it calls, and the number of the input's byte, where the input has that byte
+-- the address of the data for which it calls, and the number of the input's byte, if the input has that byte
 abbrev pub operand_called : Facts → Option ℕ
 operand_called facts = address_needed (needed_of facts)
 

@@ -24,7 +24,7 @@ pub record Held : Type 0 where
 abbrev pub held_of : (List ℕ → List ℕ) → State → Held
 held_of digest s = record { mem = memory_digest digest s; regs = s.regs; ctl = ctl_of digest s }
 
--- the number of so many bytes at an address, in the chunk that holds them
+-- the number of this many bytes at an address, in the chunk that holds them
 abbrev pub number_shown : Option Opening → ℕ → ℕ → ℕ
 number_shown (Some o) addr width = number_in o.chunk (addr % 32) width
 number_shown None addr width = 0

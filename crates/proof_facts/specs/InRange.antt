@@ -1,4 +1,4 @@
--- To believe, where a law speaks of proofs that no program holds: digests, chunks and paths have their lengths, and numbers
+-- To believe, for laws that speak of proofs which no program holds: digests, chunks and paths have their lengths, and numbers
 -- are within the ranges of their types.
 use Rattle.std.specs.Prelude.{ℕ, ◌^◌, ◌==◌, nat_lt, List, [], ◌∷◌, length, Bool, true, ◌&&◌, Option, Some, None}
 use Rattle.rd_base.specs.declared.status.Ctl.{Ctl}

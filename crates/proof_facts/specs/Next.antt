@@ -37,7 +37,7 @@ step_held digest fetch operand offer p =
     else held_after digest operand p (Trap misaligned_jump))
     else p
 
--- the storage string where the input is a tree, and the digest of what is stored
+-- the storage string if the input is a tree, and the digest of what is stored
 abbrev pub storage_texts : Option HeldInput → List ℕ → List (List ℕ)
 storage_texts (Some t) mem = storage_text mem t.len t.root.0 ∷ []
 storage_texts None mem = []

@@ -1,7 +1,7 @@
 -- To believe: the strings of a path, and the first of two findings.
 use Rattle.std.specs.Prelude.{ℕ, zero, suc, ◌+◌, List, [], ◌∷◌, Option, Some, None}
 
--- so many strings, from a level on
+-- this many strings, from a level on
 unfoldable pub texts_from : (ℕ → List ℕ) → ℕ → ℕ → List (List ℕ)
 texts_from text l zero = []
 texts_from text l (suc n) = text l ∷ texts_from text (l + 1) n

@@ -39,7 +39,7 @@ pub record IsShown (digest : List ℕ → List ℕ) (m : Contents) (o : Opening)
   pub chunk : o.chunk ≡ chunk_at m (addr / 32)
   pub path : IsPath digest (memory_leaf m) 27 (addr / 32) o.path.0
 
--- the same where a chunk is called for
+-- an opening is there and is that one, if an address is called for
 abbrev pub IsShownAt : (List ℕ → List ℕ) → Contents → Option Opening → Option ℕ → Type 0
 IsShownAt digest m (Some o) (Some addr) = IsShown digest m o addr
 IsShownAt digest m None (Some addr) = ⊥

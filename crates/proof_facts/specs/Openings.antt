@@ -12,7 +12,7 @@ use Rattle.proof_facts.specs.declared.facts.HeldInput.{HeldInput}
 use Rattle.proof_facts.specs.declared.facts.HeldRegisters.{HeldRegisters}
 use Rattle.proof_facts.specs.declared.facts.HeldRegisters.TheVariants.{Whole, Opened}
 
--- a chunk of memory that holds an address, where one is there and called for
+-- a chunk of memory that holds an address, if one is there and called for
 abbrev pub chunk_way : List ℕ → Opening → ℕ → Way
 chunk_way root o addr = record { text = leaf_text o.chunk; index = addr / 32; siblings = o.path.0; levels = 27; root = root }
 
@@ -20,7 +20,7 @@ abbrev pub chunk_ways : List ℕ → Option Opening → Option ℕ → List Way
 chunk_ways root (Some o) (Some addr) = chunk_way root o addr ∷ []
 chunk_ways root chunk address = []
 
--- opened registers, by their numbers; none where a proof holds them all
+-- opened registers, by their numbers; none if a proof holds them all
 abbrev pub register_way : List ℕ → ℕ → RegOpening → Way
 register_way root r o = record { text = register_text o.value; index = r; siblings = o.path.0; levels = 5; root = root }
 
@@ -32,7 +32,7 @@ abbrev pub register_ways : List ℕ → HeldRegisters → List Way
 register_ways rs (Whole xs) = []
 register_ways rs (Opened root named) = each_way root.0 rs named
 
--- a chunk of the input that holds a byte, where one is there and called for
+-- a chunk of the input that holds a byte, if one is there and called for
 abbrev pub input_way : List ℕ → InOpening → ℕ → Way
 input_way root o k = record { text = leaf_text o.chunk; index = k / 32; siblings = o.path.0; levels = 15; root = root }
 

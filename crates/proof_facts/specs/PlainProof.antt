@@ -30,7 +30,7 @@ register_opening digest xs r = record { value = slice_index xs r; path = record 
 unfoldable pub input_siblings : (List ℕ → List ℕ) → List ℕ → ℕ → List Digest32
 input_siblings digest input k = map (λ l. record { 0 = input_node digest input l (beside (k / 2 ^ l)) }) (range_with_len 0 15)
 
--- the opened chunk that holds a byte, and the same where one is called for
+-- the opened chunk that holds a byte, and that of a byte that may not be called for
 abbrev pub input_opening_of : (List ℕ → List ℕ) → List ℕ → ℕ → InOpening
 input_opening_of digest input k = record { chunk = input_chunk input (k / 32); path = record { 0 = input_siblings digest input (k / 32) } }
 

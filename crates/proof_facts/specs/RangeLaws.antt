@@ -25,7 +25,7 @@ digests_are [] sizes = refl
 digests_are (d ∷ ds) sizes =
     and_from (eqb (length d.0) 32) (are_digests ds) ((Decides-eqb (length d.0) 32).1 (sizes 0 (omega arith))) (digests_are ds (λ l below. sizes (suc l) (omega arith)))
 
--- a path has so many digests of 32 bytes
+-- a path has this many digests of 32 bytes
 pub record IsPathOf (n : ℕ) (path : List Digest32) : Type 0 where
   pub levels : length path ≡ n
   pub sizes : (l : ℕ) → l < n → length (digest_at path l) ≡ 32

@@ -48,7 +48,7 @@ abbrev pub ShowsRegisters : (List ℕ → List ℕ) → State → HeldRegisters 
 ShowsRegisters digest s (Whole xs) = (s.version ≡ 1) × (xs ≡ s.regs)
 ShowsRegisters digest s (Opened root named) = (s.version ≢ 1) × (root.0 ≡ registers_root digest s.regs) × AreShown digest s.regs (named_at s) named
 
--- an opened chunk of the input is the one that holds a byte, with its path, where one is called for
+-- an opened chunk of the input is the one that holds a byte, with its path, if one is called for
 abbrev pub ShowsInput : (List ℕ → List ℕ) → List ℕ → Option InOpening → Option ℕ → Type 0
 ShowsInput digest input (Some o) (Some k) = (o.chunk ≡ input_chunk input (k / 32)) × IsPath digest (input_leaf input) 15 (k / 32) o.path.0
 ShowsInput digest input None (Some k) = ⊥

@@ -1,5 +1,5 @@
--- To believe: the strings that a proof opens, in their order: its state string, its storage string where the input is a tree, its
--- registers string where it holds all registers, and its control string; then those of the fetched chunk, of the opened registers in
+-- To believe: the strings that a proof opens, in their order: its state string, its storage string if the input is a tree, its
+-- registers string if it holds all registers, and its control string; then those of the fetched chunk, of the opened registers in
 -- their order, of the chunk of data and of the chunk of the input, each from the leaf string up.
 use Rattle.std.specs.Prelude.{ℕ, List, [], ◌∷◌, ◌++◌}
 use Rattle.digest_core.specs.Text.{registers_text}
@@ -11,7 +11,7 @@ use Rattle.proof_facts.specs.declared.facts.Facts.{Facts}
 use Rattle.proof_facts.specs.declared.facts.HeldRegisters.{HeldRegisters}
 use Rattle.proof_facts.specs.declared.facts.HeldRegisters.TheVariants.{Whole, Opened}
 
--- the registers string, where all are held
+-- the registers string, if all are held
 abbrev pub registers_texts : HeldRegisters → List (List ℕ)
 registers_texts (Whole xs) = registers_text xs ∷ []
 registers_texts (Opened root named) = []

@@ -97,7 +97,7 @@ pub fn file_shown(names: &[u8], regs: &HeldRegisters) -> Regs
     }
 }
 
-/// The version whose needs an instruction has: 3 where the input is a tree, and else one that offers no input.
+/// The version whose needs an instruction has: 3 if the input is a tree, and else one that offers no input.
 pub fn offering(tree: &Option<HeldInput>) -> u8
     ensures { result ≡ facts.offering tree.now }
 {
@@ -107,7 +107,7 @@ pub fn offering(tree: &Option<HeldInput>) -> u8
     }
 }
 
-/// What an instruction needs of memory or of the input, where one is fetched, from the register file that is shown.
+/// What an instruction needs of memory or of the input, if one is fetched, from the register file that is shown.
 pub fn needed_by(tree: &Option<HeldInput>, file: &Regs, pc: u32, instr: &Option<Instr>) -> Need
     ensures { result ≡ facts.needed_by tree.now file.now instr.now }
 {
@@ -130,7 +130,7 @@ pub fn address_needed(need: Need) -> Option<u32>
     }
 }
 
-/// The number of the input's byte that is needed, where the input has it.
+/// The number of the input's byte that is needed, if the input has it.
 pub fn byte_needed(tree: &Option<HeldInput>, need: Need) -> Option<u32>
     ensures { result ≡ facts.byte_needed tree.now need }
 {

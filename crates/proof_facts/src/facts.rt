@@ -29,7 +29,7 @@ pub struct Facts {
     pub version: u8,
     /// The root of memory.
     pub mem: Digest32,
-    /// The length and the root of the input, where the version has the input as a tree.
+    /// The length and the root of the input, if the version has the input as a tree.
     pub input_tree: Option<HeldInput>,
     /// The registers.
     pub regs: HeldRegisters,

@@ -36,7 +36,7 @@ impl Names {
         }
     }
 
-    /// One more behind the others, where it is kept.
+    /// One more behind the others, if it is kept.
     fn push(&mut self, kept: bool, reg: u8)
         requires { length self.old < 3 }
         ensures { self.new ≡ self.old ++ named.kept kept reg }
@@ -56,7 +56,7 @@ impl Names {
     }
 }
 
-/// The first and the second register that an instruction reads, and the one that it writes; `x0` where it has no such field.
+/// The first and the second register that an instruction reads, and the one that it writes; `x0` if it has no such field.
 #[tactic(auto, unfolding(rv_step::specs::Named::first_source, rv_step::specs::Named::second_source, rv_step::specs::Named::destination))]
 fn fields_of(instr: &Instr) -> (u8, u8, u8)
     ensures first { result.0 ≡ named.first_source instr.now }
@@ -135,7 +135,7 @@ fn named(instr: &Instr) -> Names
     once(first, second, last)
 }
 
-/// The registers that the instruction of a fetched word names, in the order of its fields: none where the word is no instruction, or
+/// The registers that the instruction of a fetched word names, in the order of its fields: none if the word is no instruction, or
 /// nothing is fetched.
 pub fn named_by(instr: &Option<Instr>) -> Names
     ensures value { result ≡ named.named_by instr.now }

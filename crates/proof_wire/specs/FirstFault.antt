@@ -23,7 +23,7 @@ word_from place bytes = from_le_bytes w32 (take 4 (drop place bytes))
 abbrev pub double_word_from : ℕ → List ℕ → ℕ
 double_word_from place bytes = from_le_bytes w64 (take 8 (drop place bytes))
 
--- there are so many bytes
+-- there are this many bytes
 abbrev pub is_whole : ℕ → List ℕ → Test
 is_whole size bytes = record { passes = nat_le size (length bytes); fault = Short }
 
@@ -38,7 +38,7 @@ is_within place least most bytes = record {
   fault = BadTag;
 }
 
--- the status byte at a place is 0 to 2, and where it is 0 the four bytes of the code behind it are 0
+-- the status byte at a place is 0 to 2, and if it is 0 the four bytes of the code behind it are 0
 abbrev pub is_status : ℕ → List ℕ → Test
 is_status place bytes = record {
   passes = if slice_index bytes place == 0 then word_from (place + 1) bytes == 0 else nat_le (slice_index bytes place) 2;
@@ -49,7 +49,7 @@ is_status place bytes = record {
 abbrev pub is_length : ℕ → List ℕ → Test
 is_length place bytes = record { passes = nat_le (double_word_from place bytes) 4294967295; fault = BadLength }
 
--- there are so many bytes, and no more
+-- there are this many bytes, and no more
 abbrev pub ends : ℕ → List ℕ → List Test
 ends size bytes = is_whole size bytes ∷ is_all size bytes ∷ []
 

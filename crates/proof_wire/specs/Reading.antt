@@ -24,11 +24,11 @@ use Rattle.proof_wire.specs.declared.fault.WireFault.TheVariants.{Short, BadTag,
 abbrev pub Read : Type 0 → Type 0
 Read A = Result (A × List ℕ) WireFault
 
--- bytes of which there are so many at least
+-- bytes of which there are this many at least
 abbrev pub at_least : ℕ → List ℕ → Result (List ℕ) WireFault
 at_least size bytes = if nat_lt (length bytes) size then Err Short else Ok bytes
 
--- so many bytes
+-- this many bytes
 abbrev pub block_at : ℕ → List ℕ → Read (List ℕ)
 block_at size bytes = if nat_lt (length bytes) size then Err Short else Ok (take size bytes, drop size bytes)
 
@@ -51,7 +51,7 @@ digest_at bytes = do
   front ← block_at 32 bytes
   Ok (record { 0 = front.0 }, front.1)
 
--- so many values, each read as the first is
+-- this many values, each read as the first is
 unfoldable pub each_at : {A : Type 0} → (List ℕ → Read A) → ℕ → List ℕ → Read (List A)
 each_at read zero bytes = Ok ([], bytes)
 each_at read (suc count) bytes = do
@@ -108,7 +108,7 @@ input_opening_at bytes = do
   path ← each_at digest_at 15 chunk.1
   Ok (record { chunk = chunk.0; path = record { 0 = path.0 } }, path.1)
 
--- a value where there is one
+-- a value if there is one
 unfoldable pub optional_at : {A : Type 0} → (List ℕ → Read A) → Bool → List ℕ → Read (Option A)
 optional_at read false bytes = Ok (None, bytes)
 optional_at read true bytes = do

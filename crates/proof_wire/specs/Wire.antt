@@ -48,11 +48,11 @@ word n = record { bytes = to_le_bytes w32 n; fits = n < 2 ^ 32 }
 abbrev pub double_word : ℕ → Form
 double_word n = record { bytes = to_le_bytes w64 n; fits = n < 2 ^ 64 }
 
--- so many bytes, as they are
+-- this many bytes, as they are
 abbrev pub block : ℕ → List ℕ → Form
 block size bytes = record { bytes = bytes; fits = (length bytes ≡ size) × ((k : ℕ) → slice_index bytes k < 256) }
 
--- so many values of one form, one behind another
+-- this many values of one form, one behind another
 abbrev pub each : {A : Type 0} → (A → Form) → ℕ → List A → Form
 each f count xs = record { bytes = flat_map (λ x. (f x).bytes) xs; fits = (length xs ≡ count) × AllByRecursion (λ x. (f x).fits) xs }
 
@@ -85,12 +85,12 @@ register_opening o = word o.value ‖ each digest 5 o.path.0
 abbrev pub input_opening : InOpening → Form
 input_opening o = block 32 o.chunk ‖ each digest 15 o.path.0
 
--- a value where there is one, and else no bytes
+-- a value if there is one, and else no bytes
 abbrev pub optional : {A : Type 0} → (A → Form) → Option A → Form
 optional f None = nothing
 optional f (Some x) = f x
 
--- the number that says that a value is there, and 0 where it isn't
+-- the number that says that a value is there, and 0 if it isn't
 abbrev pub flag : {A : Type 0} → ℕ → Option A → ℕ
 flag number None = 0
 flag number (Some x) = number

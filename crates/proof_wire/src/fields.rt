@@ -190,7 +190,7 @@ fn read_input_opening(bytes: &[u8]) -> Result<(InOpening, &[u8]), WireFault>
     Ok((InOpening { chunk, path }, rest))
 }
 
-/// A chunk of memory and its Merkle path where they are there, and else nothing.
+/// A chunk of memory and its Merkle path if they are there, and else nothing.
 #[tactic(auto, unfolding(crate::specs::Reading::optional_at))]
 pub fn read_opening_if(is_there: bool, bytes: &[u8]) -> Result<(Option<Opening>, &[u8]), WireFault>
     ensures { Gives Memory (λ x. (x.0, x.1.now)) result (optional_at opening_at is_there bytes.now) }
@@ -202,7 +202,7 @@ pub fn read_opening_if(is_there: bool, bytes: &[u8]) -> Result<(Option<Opening>,
     Ok((Some(opening), rest))
 }
 
-/// A chunk of the input and its Merkle path where they are there, and else nothing.
+/// A chunk of the input and its Merkle path if they are there, and else nothing.
 #[tactic(auto, unfolding(crate::specs::Reading::optional_at))]
 pub fn read_input_if(is_there: bool, bytes: &[u8]) -> Result<(Option<InOpening>, &[u8]), WireFault>
     ensures { Gives Memory (λ x. (x.0, x.1.now)) result (optional_at input_opening_at is_there bytes.now) }
@@ -214,7 +214,7 @@ pub fn read_input_if(is_there: bool, bytes: &[u8]) -> Result<(Option<InOpening>,
     Ok((Some(opening), rest))
 }
 
-/// So many opened registers.
+/// This many opened registers.
 pub fn read_named(count: u8, bytes: &[u8]) -> Result<(RegOpenings, &[u8]), WireFault>
     requires { count ≤ 3 }
     ensures { Gives Memory (λ x. (x.0, x.1.now)) result (each_at register_opening_at count bytes.now) }
@@ -232,7 +232,7 @@ pub fn read_named(count: u8, bytes: &[u8]) -> Result<(RegOpenings, &[u8]), WireF
     Ok((named, rest))
 }
 
-/// The number itself where it isn't above the largest. `BadTag` comes if and only if it is.
+/// The number itself if it isn't above the largest. `BadTag` comes if and only if it is.
 pub fn within(largest: u8, number: u8) -> Result<u8, WireFault>
     ensures { result ≡ at_most largest number }
 {

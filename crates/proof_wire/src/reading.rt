@@ -23,7 +23,7 @@ use rd_base::{
 };
 use std::alloc::Global;
 
-/// A claim's output of so many bytes, and the bytes behind it.
+/// A claim's output of this many bytes, and the bytes behind it.
 fn read_output(alloc: Global, size: u64, bytes: &[u8]) -> Result<(ClaimOutput, &[u8]), WireFault>
     ensures { Gives Memory (λ x. (x.0, x.1.now)) result (output_at size bytes.now) }
 {
@@ -83,7 +83,7 @@ fn count_of_roots(number: u8) -> Result<u8, WireFault>
     within(MOST_ROOTS, number)
 }
 
-/// So many digests.
+/// This many digests.
 fn read_digests(alloc: Global, count: u8, bytes: &[u8]) -> Result<(Vec<Digest32>, &[u8]), WireFault>
     ensures read { Gives Memory (λ x. (x.0.items, x.1.now)) result (each_at digest_at count bytes.now) }
     ensures number { IfOk result (λ x. length x.0.items ≡ count) }

@@ -123,7 +123,7 @@ fn put_input_opening(out: &mut Vec<u8>, opened: &InOpening) -> Result<(), AllocE
     put_digests(out, &opened.path.0)
 }
 
-/// A chunk of memory and its Merkle path where they are there, and else nothing.
+/// A chunk of memory and its Merkle path if they are there, and else nothing.
 fn put_opening_if(out: &mut Vec<u8>, opened: &Option<Opening>) -> Result<(), AllocError>
     ensures bytes { OnOk result (out.new.items ≡ out.old.items ++ (optional opening opened.now).bytes) }
     ensures fits { OnOk result (optional opening opened.now).fits }
@@ -134,7 +134,7 @@ fn put_opening_if(out: &mut Vec<u8>, opened: &Option<Opening>) -> Result<(), All
     Ok(())
 }
 
-/// A chunk of the input and its Merkle path where they are there, and else nothing.
+/// A chunk of the input and its Merkle path if they are there, and else nothing.
 fn put_input_if(out: &mut Vec<u8>, opened: &Option<InOpening>) -> Result<(), AllocError>
     ensures bytes { OnOk result (out.new.items ≡ out.old.items ++ (optional input_opening opened.now).bytes) }
     ensures fits { OnOk result (optional input_opening opened.now).fits }
@@ -173,7 +173,7 @@ fn put_named(out: &mut Vec<u8>, named: &RegOpenings) -> Result<(), AllocError>
     put_openings(out, named.as_slice())
 }
 
-/// A flag where a value is there, and 0 where it isn't.
+/// A flag if a value is there, and 0 if it isn't.
 fn flag_if<T>(flag: u8, value: &Option<T>) -> u8
     ensures { result ≡ flag_form flag value.now }
 {

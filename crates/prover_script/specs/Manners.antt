@@ -18,7 +18,7 @@ use Rattle.bisect_game.specs.declared.question.Kind.TheVariants as kind
 use Rattle.bisect_game.specs.declared.question.Question.{Question}
 use Rattle.proof_facts.specs.Facts.{facts_of, named_called}
 
--- what one prover answers to a question after so many passes on it; None is a pass
+-- what one prover answers to a question after this many passes on it; None is a pass
 abbrev pub Behaviour : Type 0
 Behaviour = Question → ℕ → Option Answer
 
@@ -27,13 +27,13 @@ abbrev pub with_output : List ℕ → Kind → Answer → Answer
 with_output bytes kind.Claim (answer.Claim claim) = answer.Claim (record claim { output = bytes })
 with_output bytes k a = a
 
--- opened registers with another value in one, where it is among them: each opening is that of the register that is named at its
+-- opened registers with another value in one, if it is among them: each opening is that of the register that is named at its
 -- place, and one at whose place none is named stays
 abbrev pub with_opened : ℕ → ℕ → List RegOpening → List ℕ → List RegOpening
 with_opened reg value (o ∷ os) (r ∷ rs) = (if r == reg then record o { value = value } else o) ∷ with_opened reg value os rs
 with_opened reg value os rs = os
 
--- a proof with another value in a register, where it shows that register: one row for each commitment version. From version 2 on it
+-- a proof with another value in a register, if it shows that register: one row for each commitment version. From version 2 on it
 -- shows the registers that its fetched instruction names
 abbrev pub with_shown : ℕ → ℕ → Proof → Proof
 with_shown reg value (V1 proof) = V1 (record proof { regs = with_register proof.regs reg value })
@@ -66,7 +66,7 @@ abbrev pub written : List TapeAnswer → Qid → Option Answer
 written [] qid = None
 written (entry ∷ rest) qid = if same_qid entry.qid qid then Some entry.answer else written rest qid
 
--- what a prover with a manner answers, by what it answers without one: a late one passes so many times on each question, and a
+-- what a prover with a manner answers, by what it answers without one: a late one passes its number of times on each question, and a
 -- silent one from a round on; the next three alter an answer, and never pass; one with a tape answers what is written down,
 -- instead of what it answers without it
 abbrev pub says : (List ℕ → List ℕ) → Manner → Behaviour → Behaviour
@@ -78,7 +78,7 @@ says digest (Forge step reg value) inner q n = option_map (with_forgery step reg
 says digest (Noise seed) inner q n = option_map (with_roots (noise digest seed q.qid) q.kind) (inner q n)
 says digest (Tape entries) inner q n = written entries q.qid
 
--- a manner passes, where the prover without it answers
+-- whether a manner passes on a question, of a prover that answers it without the manner
 abbrev pub passes_by : Manner → Question → ℕ → Bool
 passes_by (Late many) q n = nat_lt n many
 passes_by (Silent from) q n = nat_le from q.qid.round

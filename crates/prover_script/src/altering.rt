@@ -33,7 +33,7 @@ pub fn with_output(
     }
 }
 
-/// Puts opened registers behind others, at most three altogether, with another value in the register `reg`, where it is named at the
+/// Puts opened registers behind others, at most three altogether, with another value in the register `reg`, if it is named at the
 /// place of one.
 fn put_opened(reg: u8, value: u32, opened: &[RegOpening], names: &[u8], altered: &mut RegOpenings)
     requires { length altered.old + length opened.now ≤ 3 }
@@ -61,7 +61,7 @@ fn put_opened(reg: u8, value: u32, opened: &[RegOpening], names: &[u8], altered:
     }
 }
 
-/// Opened registers with another value in the register `reg`, where it is named at the place of one.
+/// Opened registers with another value in the register `reg`, if it is named at the place of one.
 fn with_opened(reg: u8, value: u32, opened: &RegOpenings, names: &[u8]) -> RegOpenings
     ensures { result ≡ manners.with_opened reg value opened.now names.now }
 {
@@ -77,7 +77,7 @@ fn named_in(proof: &Proof) -> Names
     called_by(&facts_of(proof)).names
 }
 
-/// A proof with another value in a register, where it shows that register. It takes no memory.
+/// A proof with another value in a register, if it shows that register. It takes no memory.
 fn with_shown(reg: RegisterNumber, value: u32, proof: &Proof) -> Proof
     ensures { result ≡ with_shown reg value proof.now }
 {

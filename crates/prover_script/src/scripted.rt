@@ -33,7 +33,7 @@ impl<A: Answerer + Drop, D: Digester> Scripted<A, D> {
     }
 }
 
-/// Whether a prover with this manner passes on a question after so many passes on it, where one without it answers.
+/// Whether a prover with this manner passes on a question after this many passes on it, if one without it answers.
 pub fn waits(manner: &Manner, question: &Question, passes: u32) -> bool
     ensures value { result ≡ passes_by manner.now question.now passes }
     ensures exact { (digest : List ℕ → List ℕ) (inner : Behaviour) → is_some (inner question.now passes) ≡ true → result ≡ is_none (says digest manner.now inner question.now passes) }

@@ -1,7 +1,7 @@
 -- To believe. How a definition stops at its first fault, and when a function answers what a definition gives.
 use Rattle.std.specs.Prelude.{◌≡◌, ◌≢◌, Result, Ok, Err}
 
--- the `?` of the logic: the second step where the first gave a value, and else the first one's fault
+-- the `?` of the logic: the second step if the first gave a value, and else the first one's fault
 infixl 10 ◌>>=◌
 abbrev pub ◌>>=◌ : {A B E : Type 0} → Result A E → (A → Result B E) → Result B E
 (Ok x) >>= f = f x

@@ -5,8 +5,8 @@ use crate::opened::{InOpening, Opening, RegOpenings};
 use crate::regs::Regs;
 use crate::status::Ctl;
 
-/// What a prover opens of one state, so that one step can be made from it, where the registers are digested as one
-/// string (commitment version 1).
+/// What a prover opens of one state in commitment version 1, in which the registers are digested as one string, so that
+/// one step can be made from it.
 #[derive(Clone, Copy, Debug)]
 pub struct StepProof {
     /// The digest of memory.
@@ -21,8 +21,8 @@ pub struct StepProof {
     pub operand: Option<Opening>,
 }
 
-/// What a prover opens of one state where the registers are a tree (commitment version 2): of the registers only those
-/// that the instruction names.
+/// What a prover opens of one state in commitment version 2, in which the registers are a tree: of the registers only
+/// those that the instruction names.
 #[derive(Debug, Drop)]
 pub struct StepProof2 {
     /// The digest of memory.
@@ -39,7 +39,7 @@ pub struct StepProof2 {
     pub operand: Option<Opening>,
 }
 
-/// What a prover opens of one state where the input is a tree of its own, too (commitment version 3).
+/// What a prover opens of one state in commitment version 3, in which the input is a tree of its own, too.
 #[derive(Debug, Drop)]
 pub struct StepProof3 {
     /// The root of memory's tree.
@@ -69,7 +69,7 @@ pub enum Proof {
     V1(StepProof),
     /// Of version 2: it opens the registers that the instruction names.
     V2(StepProof2),
-    /// Of version 3: it opens those registers, and a chunk of the input where a byte of it is read.
+    /// Of version 3: it opens those registers, and a chunk of the input if a byte of it is read.
     V3(StepProof3),
 }
 

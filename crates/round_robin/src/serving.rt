@@ -31,7 +31,7 @@ pub trait Worker<B, A> {
     fn class(&self) -> u32
         ensures { result ≡ class_of (stays self.now) };
 
-    /// Serves these items, which have these numbers. Each number is of the worker's class, of so many classes.
+    /// Serves these items, which have these numbers. Each number is of the worker's class, one of `classes`.
     fn serve<R: Threads + Wait + Sync>(
         &mut self,
         rt: &R,
@@ -110,7 +110,7 @@ fn serve_classes<B: Sync, A: Send, W: Worker<B, A> + Send, R: Threads + Wait + S
     );
 }
 
-/// Worker t of k serves the items t, t + k, t + 2 k and so on, each worker in a thread of its own where one can be made.
+/// Worker t of k serves the items t, t + k, t + 2 k and so on, each worker in a thread of its own if one can be made.
 ///
 /// Afterwards each item is at its place again, as far as what serving keeps of an item tells them apart. An `Err` is out of
 /// memory; nothing was served then.

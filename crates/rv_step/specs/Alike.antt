@@ -1,4 +1,4 @@
--- To believe: a state and one with other registers step alike, where the registers that the next instruction names hold the
+-- To believe: a state and one with other registers step alike, if the registers that the next instruction names hold the
 -- same.
 use Rattle.std.specs.Prelude.{◌≡◌, ◌≢◌, ℕ, ◌%◌, ◌==◌, List, [], ◌∷◌, Bool, false, ◌||◌, map, length, slice_index, if◌then◌else◌}
 use Rattle.rd_base.specs.Status.{is_running}
@@ -8,7 +8,7 @@ use Rattle.rv_step.specs.State.{State}
 use Rattle.rv_step.specs.Step.{step}
 use Rattle.rv_step.specs.Named.{named_by}
 
--- the registers that the next instruction of a state names; none where nothing is fetched
+-- the registers that the next instruction of a state names; none if nothing is fetched
 abbrev pub named_at : State → List ℕ
 named_at s =
     if is_running s.status then (if s.pc % 4 == 0 then named_by (reading_of (number_at s.memory s.pc 4)) else []) else []

@@ -127,7 +127,7 @@ destination (Remu i) = i.rd
 destination Ecall = argument_register
 destination i = 0
 
--- a register, where a test says so
+-- a register, if a test says so
 abbrev pub kept : Bool → ℕ → List ℕ
 kept test r = if test then r ∷ [] else []
 

@@ -2,7 +2,7 @@
 -- have the input in memory, and 3 offers it to a call.
 use Rattle.std.specs.Prelude.{ℕ, ◌-◌, ◌^◌, ◌==◌, List, slice_index_or, Option, Some, None, if◌then◌else◌}
 
--- a byte of an input by its number, and ffffffff where it has no such byte
+-- a byte of an input by its number, and ffffffff if it has no such byte
 abbrev pub byte_or_ones : List ℕ → ℕ → ℕ
 byte_or_ones input k = slice_index_or input k (2 ^ 32 - 1)
 

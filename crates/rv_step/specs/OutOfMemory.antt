@@ -1,4 +1,4 @@
--- To believe, where a step is out of memory: the steps for which memory has to be taken.
+-- To believe, of a step that is out of memory: the steps for which memory has to be taken.
 use Rattle.std.specs.Prelude.{◌≡◌, ◌/◌, ◌%◌, Some, true}
 use Rattle.rd_base.specs.Status.{is_running}
 use Rattle.rv_decode.specs.Reading.{reading_of}

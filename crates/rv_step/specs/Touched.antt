@@ -19,7 +19,7 @@ abbrev pub touched_by : State → Option Instr → Option ℕ
 touched_by s (Some i) = stored_page (effect_at s i)
 touched_by s None = None
 
--- the page that the step from a state stores to, where it stores
+-- the page that the step from a state stores to, if it stores
 unfoldable pub touched : State → Option ℕ
 touched s =
     if is_running s.status

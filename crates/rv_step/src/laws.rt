@@ -19,9 +19,9 @@ use mem_plain::{laying_bytes, memories_are_their_bytes};
 use rd_base::registers_are_32;
 
 /// The two parts of a step are the step, for every state and instruction (`step`): what `need` names is read or
-/// written, and `finish` does the rest, with the number that was read, or with any where none was.
+/// written, and `finish` does the rest, with the number that was read, or with any if none was.
 ///
-/// The same for whoever reads memory in another way, where no input is offered (`any_reader`): by what is needed, the effect
+/// The same for whoever reads memory in another way, if no input is offered (`any_reader`): by what is needed, the effect
 /// of an instruction reads nothing or that one number and leaves memory as it is, or it is that store, or that trap. What is
 /// read or written is 1, 2 or 4 bytes at a multiple of their number (`aligned`). And for whoever reads memory and offers the
 /// input in another way, in each version (`any_offer`): the effect is what `finish` makes of the number that is needed.
@@ -74,7 +74,7 @@ pub fn runs_keep_the_input()
     ensures input { (s : State) (n : ℕ) → (state_at s n).input ≡ s.input }
 {}
 
-/// A step changes no byte outside the page that `touched` names (`elsewhere`), and no memory where it names none
+/// A step changes no byte outside the page that `touched` names (`elsewhere`), and no memory if it names none
 /// (`kept`). The page is below 2^20 (`below`).
 pub fn one_page_changes()
     ensures kept { (s : State) → touched s ≡ None → (step s).memory ≡ s.memory }

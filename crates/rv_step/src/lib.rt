@@ -2,7 +2,7 @@
 //! 2 and 7).
 //!
 //! The layers above may rely on this: `step` is the definition of the step, and tells the page that it stored to;
-//! `advance` is so many of them; where it is out of memory it made fewer. Both keep the output's chain by the digester that is
+//! `advance` makes as many of them as are asked, or fewer if it runs out of memory. Both keep the output's chain by the digester that is
 //! handed to them, and `Machine::new` begins it for every digester. `need` says from registers alone which one number of
 //! memory an instruction reads or writes, or which byte of the input it reads, and `finish` changes registers and pc and says
 //! what is left to do; that both together are the step, whoever holds memory and the input, is `two_parts_are_the_step`, and

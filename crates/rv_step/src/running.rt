@@ -8,7 +8,7 @@ use crate::stepping::step;
 use digest_core::Digester;
 use rd_base::Memory;
 
-/// So many steps, which keep the chain by the digester `d`. A machine that has stopped stays as it is. An `Err` is out
+/// This many steps, which keep the chain by the digester `d`. A machine that has stopped stays as it is. An `Err` is out
 /// of memory in one of the steps: fewer were made, and the machine stands before that one, for which memory has to be taken.
 pub fn advance<D: Digester>(machine: &mut Machine, d: &D, steps: u64) -> Result<(), Memory>
     requires { IsChained D.digest_of machine.old }

@@ -30,7 +30,7 @@ fn number(mem: &PlainMem, addr: u32, width: u8) -> u32
     }
 }
 
-/// The byte of an input with a number, and `ffffffff` where it has no such byte.
+/// The byte of an input with a number, and `ffffffff` if it has no such byte.
 fn input_byte(input: &[u8], index: u32) -> u32
     ensures { result ≡ byte_or_ones input.now index }
 {
@@ -126,7 +126,7 @@ fn carry_out<D: Digester>(
 /// `touches` would have named it before. A machine that has stopped stays as it is. One whose `pc` isn't a multiple
 /// of 4, whose word is no instruction or whose instruction can't be carried out traps, which changes the status
 /// alone. The machine's chain is its output's by the digester `d`, before and after. An `Err` is out of memory, and
-/// changes nothing; it comes only where the step stores to a page in which every byte is 0, or puts out a byte.
+/// changes nothing; it comes only if the step stores to a page in which every byte is 0, or puts out a byte.
 #[inline(always)]
 pub fn step<D: Digester>(machine: &mut Machine, d: &D) -> Result<Option<u32>, Memory>
     requires { IsChained D.digest_of machine.old }

@@ -39,6 +39,6 @@ word_of_row distances None text = Err UnknownMnemonic
 abbrev pub word_of_statement : Distances → List ℕ → Result ℕ FaultKind
 word_of_statement distances text = if is_empty (first_word text) then Err OtherForm else word_of_row distances (row_named (first_word text)) (after_first_word text)
 
--- the word of a line, where it has one
+-- the word of a line, if it has one
 unfoldable pub word_in : Distances → List ℕ → Result (Option ℕ) FaultKind
 word_in distances text = if is_empty text then Ok None else (word_of_statement distances text >>= λ w. Ok (Some w))

@@ -4,7 +4,7 @@ use Rattle.rv_text.specs.Operands.{slots_of, operands_text}
 use Rattle.rv_text.specs.Spelling.{Spelling, spelling_in}
 use Rattle.rv_text.specs.declared.form.Slot.{Slot}
 
--- a space before the operands, where there are any
+-- a space before the operands, if there are any
 abbrev pub spaced : List Slot → List ℤ → List ℕ
 spaced [] zs = []
 spaced (s ∷ slots) zs = 32 ∷ operands_text (s ∷ slots) zs

@@ -56,7 +56,7 @@ pub fn is_target(field: Field) -> bool
     matches!(field, Field::BranchTarget | Field::JumpTarget)
 }
 
-/// A number in two's complement of so many bits.
+/// A number in two's complement of this many bits.
 fn twos_complement(width: u32, value: i64) -> u32
     requires width_to { width ≤ 31 }
     requires value_fits { unsigned_abs value < 2 ^ width }

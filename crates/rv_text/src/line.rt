@@ -86,7 +86,7 @@ fn statement_word(text: &[u8], scope: &Scope<'_, '_>) -> Result<u32, FaultKind>
     }
 }
 
-/// The word of what is behind a line's label, where anything is.
+/// The word of what is behind a line's label, if anything is.
 #[tactic(auto, unfolding(crate::specs::Lines::word_in))]
 pub fn word_in(text: &[u8], scope: &Scope<'_, '_>) -> Result<Option<u32>, FaultKind>
     ensures { result ≡ the_word_in (distances_in scope.now) text.now }

@@ -27,7 +27,7 @@ fn hex_digit(digit: u32) -> char
     }
 }
 
-/// Adds so many hexadecimal digits, calling itself once for each.
+/// Adds this many hexadecimal digits, calling itself once for each.
 fn add_hex(text: &mut String, count: usize, number: u32) -> Result<(), AllocError>
     ensures { OnOk result (string_bytes text.new ≡ string_bytes text.old ++ hex_digits count number) }
 {

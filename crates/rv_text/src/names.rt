@@ -33,7 +33,7 @@ pub fn place_of(names: &Places<'_>, name: &[u8]) -> Option<u32>
     names.get(name).copied()
 }
 
-/// How far a name's place is, and `None` where it has none.
+/// How far a name's place is, and `None` if it has none.
 pub fn distance(scope: &Scope<'_, '_>, name: &[u8]) -> Option<i64>
     ensures { result ≡ distances_in scope.now name.now }
 {

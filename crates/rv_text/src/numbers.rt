@@ -58,7 +58,7 @@ fn hex_value(digits: &[u8]) -> u64
     n
 }
 
-/// The natural number that a text is in decimal, capped, and `None` where it is another text or has leading zeros.
+/// The natural number that a text is in decimal, capped, and `None` if it is another text or has leading zeros.
 fn natural(text: &[u8]) -> Option<u64>
     ensures { result ≡ option_map the_capped (natural_in text.now) }
 {
@@ -133,7 +133,7 @@ pub fn number(text: &[u8]) -> Option<i64>
     }
 }
 
-/// The number of a register, `x0` to `x31`, and `None` where the text is none of them.
+/// The number of a register, `x0` to `x31`, and `None` if the text is none of them.
 pub fn register_in(text: &[u8]) -> Option<i64>
     ensures value { result ≡ the_register_in text.now }
     ensures in_range { IfSome result (λ z. within (pos 0) (pos 31) z ≡ true) }

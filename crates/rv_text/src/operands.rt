@@ -54,7 +54,7 @@ fn target_operand(field: Field, name: &[u8], scope: &Scope<'_, '_>) -> Result<i6
     }
 }
 
-/// The value of a number, where there is one.
+/// The value of a number, if there is one.
 fn written(field: Field, number: Option<i64>) -> Result<i64, FaultKind>
     ensures value { result ≡ the_written field number }
     ensures in_range { IfOk result (λ z. the_is_in field z ≡ true) }
@@ -136,7 +136,7 @@ fn split_operand(text: &[u8]) -> (&[u8], &[u8])
     (operand, skip(rest))
 }
 
-/// What follows a mark, where it stands there.
+/// What follows a mark, if it stands there.
 fn after_mark(mark: Mark, text: &[u8]) -> Option<&[u8]>
     ensures { option_map (λ rest. rest.now) result ≡ the_after_mark mark text.now }
 {
@@ -152,7 +152,7 @@ fn after_mark(mark: Mark, text: &[u8]) -> Option<&[u8]>
     }
 }
 
-/// What follows a slot's mark, where it has one.
+/// What follows a slot's mark, if it has one.
 fn after_slot(slot: Slot, text: &[u8]) -> Option<&[u8]>
     ensures { option_map (λ rest. rest.now) result ≡ the_after_slot slot text.now }
 {

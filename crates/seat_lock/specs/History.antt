@@ -36,7 +36,7 @@ Begins {A} start whole = (rest : List A) × (whole ≡ start ++ rest)
 abbrev pub longer_of : {A : Type 0} → List A → List A → List A
 longer_of xs ys = if leb (length xs) (length ys) then ys else xs
 
--- after a turn at this place: the place stands behind the other receipts where the turn added an entry
+-- after a turn at this place: the place stands behind the other receipts if the turn added an entry
 abbrev pub with_receipt : Turn → ℕ → List ℕ → List ℕ
 with_receipt (Some entry) place receipts = receipts ++ place ∷ []
 with_receipt None place receipts = receipts

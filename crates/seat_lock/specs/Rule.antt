@@ -14,7 +14,7 @@ use Rattle.seat_lock.specs.Views.{InTurn}
 abbrev pub word_size : ℕ
 word_size = 18446744073709551616
 
--- 1 where there is something
+-- 1 if there is something
 abbrev pub weight : {A : Type 0} → Option A → ℕ
 weight (Some a) = 1
 weight None = 0

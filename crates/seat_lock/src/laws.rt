@@ -2,7 +2,7 @@
 ghost use Rattle.std.specs.Prelude.{◌≡◌, ℕ, slice_get, Some};
 ghost use Rattle.seat_lock.specs.History.{LogEntry, History, Begins, log_of};
 
-/// Where one history begins with another, so does its log.
+/// If one history begins with another, so does its log.
 #[tactic(auto, using(crate::proofs::Histories::logs_begin))]
 pub fn later_logs_begin_with_earlier_ones()
     ensures { (earlier later : History) → Begins earlier later → Begins (log_of earlier) (log_of later) }

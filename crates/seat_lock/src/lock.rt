@@ -143,7 +143,7 @@ fn act_in_turn<T: Logged, J: Job<T>>(
 impl<T: Logged> SeatLock<T> {
     /// A lock over the value, and its first seat, which has seen the value's log.
     ///
-    /// The value is dropped where there is no memory.
+    /// The value is dropped if there is no memory.
     pub fn new(alloc: Global, value: T) -> Result<(SeatLock<T>, Seat<T>), Memory>
     where
         T: Drop,

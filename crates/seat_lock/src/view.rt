@@ -5,7 +5,7 @@
 //! | split | word 0, loaded | the first seat has one more out; the new view has seen the same |
 //! | join | word 0, loaded | the first seat takes the longer list and the other's receipts and has one fewer out; the other view is spent |
 //! | draw a ticket | word 0, raised | the view gains its number |
-//! | look at the number served | word 1, loaded | the view learns it; where it is its ticket, the turn begins and the slot is lent |
+//! | look at the number served | word 1, loaded | the view learns it; if it is its ticket, the turn begins and the slot is lent |
 //! | take the value, give it back | slot 0, exchanged | no view changes |
 //! | end a turn with an entry, or without one | word 1, raised | the view loses its ticket and has seen the turn, with a receipt for the entry; the slot is at home again |
 use crate::logged::Logged;

@@ -23,7 +23,7 @@ abbrev pub HasRegisters : State → Option (List ℕ) → Type 0
 HasRegisters s (Some xs) = ((s.version == 1) ≡ false) × (xs ≡ s.regs)
 HasRegisters s None = (s.version == 1) ≡ true
 
--- the nodes of a tree that is shared, where there is one
+-- the nodes of a tree that is shared, if there is one
 abbrev pub shared_nodes : Option (Arc (List Digest32) Global) → Option (List Digest32)
 shared_nodes (Some shared) = Some (arc_value shared)
 shared_nodes None = None

@@ -34,7 +34,7 @@ fn follow<D: Digester>(
     tree.refresh(mem)
 }
 
-/// The tree of a machine's registers, where its version has one.
+/// The tree of a machine's registers, if its version has one.
 fn registers_of<D: Digester>(d: D, machine: &Machine) -> Option<RegTree<D>>
     ensures { HasRegisters (state_of machine.now) result }
 {
@@ -209,7 +209,7 @@ impl<D: Digester> Committed<D> {
         )
     }
 
-    /// The path of a register, from `x0` to `x31`, where the version is above 1.
+    /// The path of a register, from `x0` to `x31`, if the version is above 1.
     pub fn register_path(&self, reg: u8) -> RegPath
         requires reg { reg < 32 }
         requires version { self.now.version ≢ 1 }

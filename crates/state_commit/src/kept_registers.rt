@@ -30,7 +30,7 @@ impl<D: Digester> Model for KeptRegisters<D> {
 }
 
 impl<D: Digester> KeptRegisters<D> {
-    /// The digest of registers in a version, with their tree where the version has one.
+    /// The digest of registers in a version, with their tree if the version has one.
     pub fn new(d: D, version: u8, regs: &Regs) -> Self
         ensures { result ≡ version }
     {
@@ -48,7 +48,7 @@ impl<D: Digester> KeptRegisters<D> {
         }
     }
 
-    /// The digest of registers, with their tree kept from now on.
+    /// The digest of registers. From version 2 on the tree that is kept is theirs from now on.
     pub fn digest(&mut self, regs: &Regs) -> Digest32
         ensures value { result.0 ≡ registers_digest D.digest_of self.old regs.now }
         ensures version { self.new ≡ self.old }

@@ -72,7 +72,7 @@ pub fn root_of_parts<D: Digester>(
     parts_root(d, storage, registers, &machine.ctl)
 }
 
-/// The root of the input that a state's root has in a version of the commitment: 32 zeros where it has none.
+/// The root of the input that a state's root has in a version of the commitment: 32 zeros if it has none.
 fn input_part<D: Digester>(d: D, version: u8, input: &[u8]) -> Digest32
     ensures { version ≡ 3 → result.0 ≡ inputs.input_root D.digest_of input.now }
 {

@@ -28,7 +28,7 @@ fn page_part<D: Digester>(d: D, mem: &PlainMem, level: u8, k: u32) -> Digest32
     d.digest(node_text(&left, &right).as_slice())
 }
 
-/// Whether one of so many pages, from the first one on, holds a byte other than 0.
+/// Whether one of the `width` pages from `first` on holds a byte other than 0.
 fn is_some_used(mem: &PlainMem, first: u32, width: u32) -> bool
     requires first { first < 2 ^ 20 }
     requires width { width ≤ 2 ^ 20 }
@@ -40,7 +40,7 @@ fn is_some_used(mem: &PlainMem, first: u32, width: u32) -> bool
     }
 }
 
-/// The node that stands so many levels above the pages' roots, over `width` pages. A subtree of zeros is not entered.
+/// The node that stands this many levels above the pages' roots, over `width` pages. A subtree of zeros is not entered.
 fn upper_part<D: Digester>(
     d: D,
     mem: &PlainMem,

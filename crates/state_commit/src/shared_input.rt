@@ -15,7 +15,7 @@ use std::sync::Arc;
 /// The tree of a machine's input in version 3, which is built once and shared: the states of a run have one input, and so have the
 /// runs of one machine, whatever is tampered with. Versions 1 and 2 have none.
 ///
-/// Contracts see it as the nodes of the tree, where there is one; of which state's input it is the tree `HasInput` says.
+/// Contracts see it as the nodes of the tree, if there is one; of which state's input it is the tree `HasInput` says.
 #[derive(Drop)]
 pub struct SharedInput<D: Digester> {
     tree: Option<Arc<InputTree<D>>>,
@@ -35,7 +35,7 @@ impl<D: Digester> SharedInput<D> {
     ghost use Rattle.merkle_nodes.specs.Opening.{IsPath};
     ghost use Rattle.state_trees.specs.InputTree.{input_leaf, input_root};
 
-    /// The tree of a machine's input, where its version has one. It has 2 MiB. An `Err` is out of memory.
+    /// The tree of a machine's input, if its version has one. It has 2 MiB. An `Err` is out of memory.
     pub fn of(alloc: Global, d: D, machine: &Machine) -> Result<Self, Memory>
         ensures { IfOk result (HasInput D.digest_of (state_of machine.now)) }
     {
@@ -70,7 +70,7 @@ impl<D: Digester> SharedInput<D> {
         }
     }
 
-    /// The path of a chunk of the input, by the chunk's index below 2^15, where the version is 3.
+    /// The path of a chunk of the input, by the chunk's index below 2^15, if the version is 3.
     pub fn path(&self, chunk: u32) -> InPath
         requires { chunk < 2 ^ 15 }
         ensures { (s : State) → HasInput D.digest_of s self.now → s.version ≡ 3 → IsPath D.digest_of (input_leaf s.input) 15 chunk result.0 }

@@ -120,14 +120,14 @@ fn root_in(nodes: &[Digest32]) -> Digest32
     nodes[1]
 }
 
-/// So many places of a heap. An `Err` is out of memory.
+/// This many places of a heap. An `Err` is out of memory.
 fn empty_places(alloc: Global, places: usize) -> Result<Vec<Digest32>, Memory>
     ensures { IfOk result (λ v. length v.items ≡ places) }
 {
     Ok(vec![in alloc; Digest32::ZERO; places]?)
 }
 
-/// So many marks, none of which is set. An `Err` is out of memory.
+/// This many marks, none of which is set. An `Err` is out of memory.
 fn no_marks(alloc: Global, places: usize) -> Result<Vec<bool>, Memory>
     ensures len { IfOk result (λ v. length v.items ≡ places) }
     ensures none { IfOk result (λ v. (i : ℕ) → is_marked v.items i ≡ false) }

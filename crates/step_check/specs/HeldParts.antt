@@ -8,7 +8,7 @@ use Rattle.step_check.specs.declared.carrying.Parts.{Parts}
 abbrev pub held_in : Parts → Held
 held_in parts = record { mem = parts.mem.0; regs = parts.regs; ctl = parts.ctl }
 
--- how many link strings an effect digests: one where it puts a byte
+-- how many link strings an effect digests: one if it puts a byte
 abbrev pub links_of_effect : Effect → ℕ
 links_of_effect (Put byte) = 1
 links_of_effect e = 0

@@ -18,7 +18,7 @@ abbrev pub refused : Refusal → StepCheck
 refused shape = check.WrongShape
 refused opening = check.NotOpen
 
--- the answer by tests, each with the refusal where it is the first that fails
+-- the answer by tests, each with the refusal if it is the first that fails
 abbrev pub answer : List (Refusal × Bool) → Digest32 → StepCheck
 answer [] root = check.Leads root
 answer (t ∷ ts) root = if t.1 then answer ts root else refused t.0
@@ -47,7 +47,7 @@ tests digest version a facts =
 unfoldable pub checked : (List ℕ → List ℕ) → ℕ → Digest32 → Facts → StepCheck
 checked digest version a facts = answer (tests digest version a facts) (record { 0 = root_next digest facts })
 
--- a counter after tests, each with its digests, up to the first that fails; and after so many ticks more where none does
+-- a counter after tests, each with its digests, up to the first that fails; and after this many ticks more if none does
 abbrev pub ticked : List (Refusal × Bool) → List ℕ → ℕ → ℕ → ℕ
 ticked (t ∷ ts) (n ∷ ns) more old = if t.1 then ticked ts ns more (old + n) else old + n
 ticked ts ns more old = old + more

@@ -90,7 +90,7 @@ fn with_number(chunk: [u8; 32], at: usize, width: u8, value: u32) -> [u8; 32]
 }
 
 /// The root of memory after a number was stored: its chunk, changed, climbed with the same siblings, by 28 digests. It
-/// stays where no chunk is there.
+/// stays if no chunk is there.
 fn stored<D: Digester, L: Ledger>(
     d: D,
     operand: &Option<Opening>,
@@ -116,7 +116,7 @@ fn stored<D: Digester, L: Ledger>(
     }
 }
 
-/// A byte of the opened chunk of the input, and 0 where none is there.
+/// A byte of the opened chunk of the input, and 0 if none is there.
 fn byte_in(input: &Option<InOpening>, k: u32) -> u32
     ensures { result ≡ facts.byte_in input.now k }
 {
@@ -126,7 +126,7 @@ fn byte_in(input: &Option<InOpening>, k: u32) -> u32
     }
 }
 
-/// A byte of the input as far as it is shown, and all ones where the input has no such byte.
+/// A byte of the input as far as it is shown, and all ones if the input has no such byte.
 fn byte_shown(tree: &Option<HeldInput>, input: &Option<InOpening>, k: u32) -> u32
     ensures { result ≡ facts.byte_shown tree.now input.now k }
 {

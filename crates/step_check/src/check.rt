@@ -28,7 +28,7 @@ pub enum StepCheck {
     Leads(Digest32),
     /// Its parts don't open the root, or a chunk or a register doesn't open the root of its tree.
     NotOpen,
-    /// It is of another version, or an opening is missing, or is there where none is called for.
+    /// It is of another version, or an opening is missing, or one is there that isn't called for.
     WrongShape,
 }
 
@@ -144,8 +144,8 @@ fn check_facts<D: Digester, L: Ledger>(
 /// (`not_open`, `wrong_shape`).
 ///
 /// `steps` ticks once for each digest and once for the step of the machine, which is read off the code and not proved: at most 91, 101 or
-/// 103 times, by the version (`few`), and at most 36, 57 or 69 times where there is no data chunk (`alone`). Where it leads, it ticks
-/// exactly as often as its openings and its step take (`exactly`). Where it refuses, it ticks exactly as often as the conditions take up
+/// 103 times, by the version (`few`), and at most 36, 57 or 69 times if there is no data chunk (`alone`). If it leads, it ticks
+/// exactly as often as its openings and its step take (`exactly`). If it refuses, it ticks exactly as often as the conditions take up
 /// to the first that fails, and for those of shape not at all: for the root all strings of the parts are digested, and for openings all
 /// their ways up, be the first of them wrong or the last (`counted`).
 pub fn check_step<D: Digester, L: Ledger>(

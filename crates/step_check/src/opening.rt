@@ -55,7 +55,7 @@ pub(crate) fn climb_chunk<D: Digester, L: Ledger>(
     )
 }
 
-/// Whether a chunk climbs to a root, where it is there and called for.
+/// Whether a chunk climbs to a root, if it is there and called for.
 pub(crate) fn chunk_climbs<D: Digester, L: Ledger>(
     d: D,
     root: &Digest32,
@@ -135,7 +135,7 @@ pub(crate) fn registers_climb<D: Digester, L: Ledger>(
     }
 }
 
-/// Whether a chunk of the input climbs to the root of the input, where it is there and called for.
+/// Whether a chunk of the input climbs to the root of the input, if it is there and called for.
 pub(crate) fn input_climbs<D: Digester, L: Ledger>(
     d: D,
     tree: &Option<HeldInput>,

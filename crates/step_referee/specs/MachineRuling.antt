@@ -24,7 +24,7 @@ root_led check.WrongShape = None
 unfoldable pub leads_in : (List ℕ → List ℕ) → ℕ → Digest32 → Proof → Option Digest32
 leads_in digest version from proof = if is_in_range proof then root_led (checked digest version from (facts_of proof)) else None
 
--- claims are sound where they agree with themselves; a proof leads where its conditions for the version hold; and collisions are of strings
+-- claims are sound if they agree with themselves; a proof leads if its conditions for the version hold; and collisions are of strings
 -- that claims or proofs open, all by one digest function
 abbrev pub machine_ruling : (List ℕ → List ℕ) → ℕ → Ruling
 machine_ruling digest version = record {

@@ -37,7 +37,7 @@ fn texts_of_rounds_in_more_parts_are_confirmed(rt: HostRuntime) -> Result<(), Fa
     Ok(())
 }
 
-/// Two roots aren't taken as given where three are asked.
+/// Two roots aren't taken as given if three are asked.
 #[test]
 fn a_list_of_another_length_is_not_given(rt: HostRuntime) -> Result<(), Fail> {
     let alloc = rt.alloc();

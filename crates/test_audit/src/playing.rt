@@ -16,7 +16,7 @@ const BOUND: u64 = 8;
 /// More turns than any of these matches has.
 const TURNS: u32 = 64;
 
-/// The full text of a match of these players, by bisection; empty where it isn't over.
+/// The full text of a match of these players, by bisection; empty if it isn't over.
 pub(crate) fn full_of<R: Threads + Sync>(
     rt: &R,
     alloc: Global,
@@ -30,7 +30,7 @@ pub(crate) fn full_of<R: Threads + Sync>(
     full_in_parts(rt, alloc, players, patience, 2)
 }
 
-/// The full text of a match of these players, of which a round cuts its interval in so many parts; empty where it isn't over.
+/// The full text of a match of these players, of which a round cuts its interval in this many parts; empty if it isn't over.
 pub(crate) fn full_in_parts<R: Threads + Sync>(
     rt: &R,
     alloc: Global,

@@ -51,7 +51,7 @@ fn disputes_stand_in_their_order_each_once(rt: HostRuntime) -> Result<(), Fail> 
     Ok(())
 }
 
-/// The claims of one match before the rounds of another: where nobody disputes these claims, the rounds come after the end. Where the
+/// The claims of one match before the rounds of another: if nobody disputes these claims, the rounds come after the end. If the
 /// same numbers are asked, the text is that of a third match.
 #[test]
 fn the_claims_of_one_match_and_the_rounds_of_another(rt: HostRuntime) -> Result<(), Fail> {

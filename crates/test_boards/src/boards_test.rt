@@ -111,7 +111,7 @@ fn claim<R: Threads + Wait + Sync>(
     }
 }
 
-// What one of two players is asked, and then its pass on its claim is answered, where it passes at first.
+// What one of two players is asked, and then its pass on its claim is answered, if it passes at first.
 fn ask_and_pass<R: Wait>(
     rt: &R,
     board: &ToyBoard,

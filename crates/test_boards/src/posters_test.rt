@@ -127,7 +127,7 @@ fn are_moves(posts: [u32; 3], moves: [u32; 3], posters: u32) -> bool {
 
 /// However many posters there are, the match is the one that is played alone: 23 entries, and one record. They make no move beside
 /// those of it, and one poster makes each: the liar a claim and four answers, the late one a pass and an answer on each of seven
-/// questions, and the silent one a claim, an answer and two passes. Of several posters one may end early, where it waits long.
+/// questions, and the silent one a claim, an answer and two passes. Of several posters one may end early, if it waits long.
 #[test]
 fn all_numbers_of_posters_give_one_match(rt: HostRuntime) -> Result<(), Fail> {
     for posters in [1, 2, 3, 16] {
@@ -152,7 +152,7 @@ fn two_hundred_plays_give_one_record(rt: HostRuntime) -> Result<(), Fail> {
     Ok(())
 }
 
-/// An answerer that finds no memory ends its poster; what is left is played alone. Where it never finds memory again, there is
+/// An answerer that finds no memory ends its poster; what is left is played alone. If it never finds memory again, there is
 /// no book.
 #[test]
 fn an_answerer_without_memory_ends_its_poster(rt: HostRuntime) -> Result<(), Fail> {

@@ -170,7 +170,7 @@ const STAKES: [Row; 8] = [
     ),
 ];
 
-/// Keys that may be missing are tested where they are there: the fan after the patience, then the stake, then the provers.
+/// Keys that may be missing are tested if they are there: the fan after the patience, then the stake, then the provers.
 #[test]
 fn fan_and_stake_have_their_types_and_ranges(rt: HostRuntime) -> Result<(), Fail> {
     let alloc = rt.alloc();
@@ -251,7 +251,7 @@ fn a_prover_that_is_not_known_is_named_by_its_number(rt: HostRuntime) -> Result<
     assert_faults(&rt, rt.alloc(), BASE, "[{}]", &PROVERS)
 }
 
-/// A part of the case; what takes its place: a start, a piece so many times, and an end; and the fault.
+/// A part of the case; what takes its place: a start, a piece this many times, and an end; and the fault.
 type LongRow = (
     &'static str,
     &'static str,

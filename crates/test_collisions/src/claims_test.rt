@@ -17,7 +17,7 @@ const SECOND: &str =
 /// How many liars there are.
 const LIARS: u32 = 257;
 
-/// So many liars play one match.
+/// This many liars play one match.
 const GROUP: u32 = 16;
 
 /// The provers of one match: the liars of this group.

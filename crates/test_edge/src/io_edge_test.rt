@@ -12,7 +12,7 @@ const TEXT: &[u8] = b"hello, world";
 /// What a scripted device does in one call.
 #[derive(Clone, Copy, Debug)]
 enum Turn {
-    /// It moves at most so many bytes.
+    /// It moves at most this many bytes.
     Moves(usize),
     Fails(ErrorKind),
 }

@@ -44,7 +44,7 @@ fn liar_is_bisected() -> &'static [u8] {
         accept running output\n"
 }
 
-/// The text of a match of these players over 8 steps without patience, with this fan; empty where it isn't over.
+/// The text of a match of these players over 8 steps without patience, with this fan; empty if it isn't over.
 fn full_of<R: Threads + Sync>(
     rt: &R,
     alloc: Global,
@@ -96,10 +96,10 @@ fn are_alike(one: &[u8], other: &[u8]) -> bool {
     one == other
 }
 
-/// A move in short: dispute, round, prover, and the first byte of the answer's root, 255 where it is spent and 254 where it has none.
+/// A move in short: dispute, round, prover, and the first byte of the answer's root, 255 if it is spent and 254 if it has none.
 type Short = (u32, u32, u32, u8);
 
-/// The first byte of the last of these roots, 254 where there is none.
+/// The first byte of the last of these roots, 254 if there is none.
 fn last_mark(roots: &[Digest32]) -> u8 {
     match roots {
         [.., last] => last.0[0],

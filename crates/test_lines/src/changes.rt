@@ -95,7 +95,7 @@ fn add_answers<R: Threads + Wait + Sync>(
 }
 
 /// The audit's answers to the texts that a source has, one behind the other, with one line changed. A text begins with its head.
-/// `Memory` where they can't be read, too.
+/// `Memory` if they can't be read, too.
 pub fn answers_to_changes<R: Threads + Wait + Sync, S: Source>(
     rt: &R,
     alloc: Global,

@@ -56,7 +56,7 @@ impl Worker<u32, Item> for Server {
     }
 }
 
-// So many items, each at its home.
+// This many items, each at its home.
 fn items_at_home(alloc: Global, count: u32) -> Result<Vec<Item>, AllocError>
     ensures { IfOk result (λ items. length items.items ≡ count) }
 {

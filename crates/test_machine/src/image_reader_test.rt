@@ -213,7 +213,7 @@ fn a_flat_file_is_laid_at_the_base(rt: HostRuntime) -> Result<(), Fail> {
     Ok(())
 }
 
-/// So many zeros. No clause says so, since the proofs of a test would compute a list of that length.
+/// This many zeros. No clause says so, since the proofs of a test would compute a list of that length.
 fn zeros(alloc: Global, count: usize) -> Result<Vec<u8>, AllocError> {
     vec![in alloc; 0u8; count]
 }

@@ -154,7 +154,7 @@ fn a_tape_has_at_most_4096_answers(rt: HostRuntime) -> Result<(), Fail> {
     Ok(())
 }
 
-/// An answer of a tape in short: dispute, round, and the first byte of its first root, 255 where it has none.
+/// An answer of a tape in short: dispute, round, and the first byte of its first root, 255 if it has none.
 type Short = (u32, u32, u8);
 
 /// The first byte of the first root that an answer gives.

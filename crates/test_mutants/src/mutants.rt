@@ -11,12 +11,12 @@ const MOST: usize = 1_048_576;
 /// How many mutants there are.
 const MUTANTS: usize = 240;
 
-/// So many of them are at the first bytes, one each, and then up to `AT_ENDS` at the last ones, from the end on.
+/// This many of them are at the first bytes, one each, and then up to `AT_ENDS` at the last ones, from the end on.
 const AT_START: usize = 90;
 
 const AT_ENDS: usize = 120;
 
-/// The others are so many bytes apart, round the text.
+/// The others are this many bytes apart, round the text.
 const STRIDE: usize = 7_919;
 
 /// What a byte is changed to, in turn.
@@ -69,7 +69,7 @@ fn line_of(alloc: Global, bytes: &[u8]) -> Result<String, Memory> {
     }
 }
 
-/// A line for each mutant of the text that a source has. None for a text of fewer than 120 bytes; `Memory` where it can't be read, too.
+/// A line for each mutant of the text that a source has. None for a text of fewer than 120 bytes; `Memory` if it can't be read, too.
 pub fn lines_of_mutants<S: Source>(alloc: Global, source: &mut S) -> Result<String, Memory> {
     let mut lines = String::new(alloc);
     let Ok(text) = read_all(alloc, source, MOST) else {

@@ -117,7 +117,7 @@ fn shown_of(first: RegOpening, second: RegOpening, shown: Shown) -> RegOpening {
     }
 }
 
-/// The opened registers of a changed proof, at most three, of the plain proof's; none where it hasn't two.
+/// The opened registers of a changed proof, at most three, of the plain proof's; none if it hasn't two.
 pub(crate) fn changed_registers(opened: &[RegOpening], shown: &[Shown]) -> RegOpenings {
     let mut named = RegOpenings::new();
     let [first, second] = opened else {

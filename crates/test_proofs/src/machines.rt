@@ -26,7 +26,7 @@ pub(crate) fn machine_of<R: Threads + Sync>(
     Committed::new(rt, alloc, Sha256, machine)
 }
 
-/// The same after so many steps.
+/// The same after this many steps.
 pub(crate) fn machine_after<R: Threads + Sync>(
     rt: &R,
     alloc: Global,

@@ -224,7 +224,7 @@ fn proofs_open_the_chunk_of_the_input_that_is_read(rt: HostRuntime) -> Result<()
     Ok(())
 }
 
-/// How many bytes the wire form of the plain proof has, of a machine of a version after so many steps of a program.
+/// How many bytes the wire form of the plain proof has, of a machine of a version after this many steps of a program.
 fn length_after<R: Threads + Sync>(
     rt: &R,
     alloc: Global,

@@ -35,7 +35,7 @@ const NOT_OPEN: StepCheck = StepCheck::NotOpen;
 
 const WRONG_SHAPE: StepCheck = StepCheck::WrongShape;
 
-/// The root of a machine of a version after so many steps of a program, its plain proof, and the next root.
+/// The root of a machine of a version after some steps of a program, its plain proof, and the next root.
 type Plain = (Digest32, Proof, Digest32);
 
 /// The machine that is about to carry out the store of `STORES`, which is its third step.
@@ -47,7 +47,7 @@ fn plain_store<R: Threads + Sync>(rt: &R, alloc: Global, version: u8) -> Result<
     Ok((root, proof, committed.step()?.root()))
 }
 
-/// The machine of version 3 after so many steps of `READS` over one byte of input.
+/// The machine of version 3 after this many steps of `READS` over one byte of input.
 fn plain_reading<R: Threads + Sync>(rt: &R, alloc: Global, steps: u32) -> Result<Plain, Fail> {
     let committed = machine_after(rt, alloc, 3, READS, b"A", steps)?;
     let (root, proof) = (committed.root(), make_proof(&committed));
@@ -353,8 +353,7 @@ fn another_length_or_root_of_the_input_opens_no_root(rt: HostRuntime) -> Result<
     Ok(())
 }
 
-/// A chunk of the input isn't to be there where no byte of the input is read: before the call, and where the call asks for a byte behind
-/// the end.
+/// A chunk of the input must not be there if no byte of the input is read: before the call, and at a call for a byte behind the end.
 #[test]
 fn inputs_that_are_not_read_are_refused(rt: HostRuntime) -> Result<(), Fail> {
     let (_, read, _) = plain_reading(&rt, rt.alloc(), 2)?;

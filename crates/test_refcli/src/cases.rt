@@ -1,6 +1,6 @@
 use std::alloc::{AllocError, Global};
 
-/// The text so many times.
+/// The text this many times.
 pub fn repeated(alloc: Global, text: &str, count: u32) -> Result<String, AllocError> {
     let mut all = String::new(alloc);
     for _ in 0..count {
@@ -9,7 +9,7 @@ pub fn repeated(alloc: Global, text: &str, count: u32) -> Result<String, AllocEr
     Ok(all)
 }
 
-/// The text with spaces after it, so that it has so many bytes.
+/// The text with spaces after it, so that it has this many bytes.
 pub fn spaced(text: Vec<u8>, length: usize) -> Result<Vec<u8>, AllocError> {
     let mut text = text;
     for _ in text.len()..length {

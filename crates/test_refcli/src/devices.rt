@@ -82,7 +82,7 @@ fn add_call<R: Threads + Wait + Sync>(
     add_end(alloc, lines, &source, &sink)
 }
 
-// The program's text where its arguments can't be read. Its exit code can't be looked at.
+// The program's text if its arguments can't be read. Its exit code can't be looked at.
 fn process_unreadable<R: Threads + Wait + Sync>(
     rt: &R,
     alloc: Global,

@@ -40,7 +40,7 @@ fn run_failing<R: Threads + Wait + Sync>(
     })
 }
 
-/// Adds a line for a run with a call that fails, with the text that the sink holds then; or, where no call failed, that there are fewer.
+/// Adds a line for a run with a call that fails, with the text that the sink holds then; or, if no call failed, that there are fewer.
 fn add_run(
     alloc: Global,
     lines: &mut String,

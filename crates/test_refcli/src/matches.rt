@@ -19,7 +19,7 @@ const LATE: &str = "{\"manner\":{\"kind\":\"late\",\"passes\":100}}";
 /// A prover that passes a hundred and one times, and a comma.
 const SPENT: &str = "{\"manner\":{\"kind\":\"late\",\"passes\":101}},";
 
-/// A case of so many provers of one script, and one after them.
+/// A case of this many provers of one script, and one after them.
 fn case_of_provers(
     alloc: Global,
     bound: u32,

@@ -42,7 +42,7 @@ fn parts_of(row: &str) -> Option<(&str, &str, &str)> {
     Some((name, command, text))
 }
 
-/// What comes of the rows that a source has, one a line. `Memory` where they can't be read, too.
+/// What comes of the rows that a source has, one a line. `Memory` if they can't be read, too.
 pub fn lines_of_rows<R: Threads + Wait + Sync, S: Source>(
     rt: &R,
     alloc: Global,

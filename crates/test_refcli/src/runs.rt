@@ -6,18 +6,18 @@ use std::alloc::{AllocError, Global};
 use std::sync::Wait;
 use std::thread::Threads;
 
-/// A case of so many bytes, most of them spaces.
+/// A case of this many bytes, most of them spaces.
 fn case_of_length(alloc: Global, length: usize) -> Result<Vec<u8>, AllocError> {
     spaced(case_of(alloc, flat(ANSWER, 8), "{}")?, length)
 }
 
-/// A case whose image has so many bytes, none of them an instruction.
+/// A case whose image has this many bytes, none of them an instruction.
 fn case_of_image(alloc: Global, length: u32) -> Result<Vec<u8>, AllocError> {
     let image = repeated(alloc, "01", length)?;
     case_of(alloc, flat(image.as_str(), 16_777_216), "{}")
 }
 
-/// A case with so many bytes of input.
+/// A case with this many bytes of input.
 fn case_of_input(alloc: Global, length: u32) -> Result<Vec<u8>, AllocError> {
     let input = repeated(alloc, "07", length)?;
     let mut parts = flat(INPUT, 16);

@@ -258,7 +258,7 @@ fn a_hundred_pages_have_the_roots_of_their_steps(rt: HostRuntime) -> Result<(), 
 /// jal x0, 0: it runs for ever
 const STAYS: [u8; 4] = [0x6f, 0, 0, 0];
 
-/// A machine that is about to carry out STAYS, and whose memory holds a byte other than 0 in so many pages, at least one.
+/// A machine that is about to carry out STAYS, and whose memory holds a byte other than 0 in this many pages, at least one.
 fn staying(alloc: Global, pages: u32) -> Result<Machine, Memory>
     ensures { IfOk result (λ m. (digest : List ℕ → List ℕ) → IsChained digest m) }
 {

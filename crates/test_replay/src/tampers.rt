@@ -5,7 +5,7 @@ pub fn flip(step: u32, addr: u32, mask: u8) -> Tamper {
     Tamper::Flip { step, addr, mask }
 }
 
-/// A register that is set before a step; no tamper where there is no register of this number.
+/// A register that is set before a step; no tamper if there is no register of this number.
 pub fn register(step: u32, reg: u8, value: u32) -> Tamper {
     match RegisterNumber::new(reg) {
         Some(reg) => Tamper::Register { step, reg, value },
@@ -13,7 +13,7 @@ pub fn register(step: u32, reg: u8, value: u32) -> Tamper {
     }
 }
 
-/// An end after so many steps.
+/// An end after this many steps.
 pub fn early(steps: u32) -> Tamper {
     Tamper::Early { steps }
 }

@@ -397,7 +397,7 @@ fn digests_of_machine_with_the_tree<R: Threads + Sync>(
     Ok(made.load(Ordering::SeqCst))
 }
 
-/// The 33 digests of the tree of an input of 33 bytes aren't made again where the tree is at hand.
+/// The 33 digests of the tree of an input of 33 bytes aren't made again if the tree is at hand.
 #[test]
 fn the_tree_of_the_input_is_made_once_for_all_states(rt: HostRuntime) -> Result<(), Fail> {
     let input = &[7; 33];

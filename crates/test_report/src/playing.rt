@@ -128,7 +128,7 @@ fn played<R: Threads + Sync>(
     Ok(game)
 }
 
-/// The prover whose claim is accepted; 0 where none is.
+/// The prover whose claim is accepted; 0 if none is.
 fn accepted(verdict: &Verdict) -> u32 {
     match verdict {
         Verdict::Accept(p) => *p,
@@ -136,8 +136,8 @@ fn accepted(verdict: &Verdict) -> u32 {
     }
 }
 
-/// The report of a match of these players, of whom there are 1 to 16, and whose claim is accepted, 0 where none is. The report is
-/// empty where there is no match on such terms, and where it isn't over.
+/// The report of a match of these players, of whom there are 1 to 16, and whose claim is accepted, 0 if none is. The report is
+/// empty if there is no match on such terms, and if it isn't over.
 pub(crate) fn report_of<R: Threads + Sync>(
     rt: &R,
     alloc: Global,

@@ -378,7 +378,7 @@ const PARTS: [(Player, u64, u32, Wrong, &str); 6] = [
     ),
 ];
 
-/// A round of a larger fan shows its interval, its parts and which one is kept, also where it has only two parts.
+/// A round of a larger fan shows its interval, its parts and which one is kept, also if it has only two parts.
 #[test]
 fn each_round_of_several_parts_has_its_line(rt: HostRuntime) -> Result<(), Fail> {
     for (liar, bound, fan, wrong, want) in PARTS {

@@ -274,7 +274,7 @@ fn claim_of(output: ClaimOutput) -> Answer {
 }
 
 /// What was answered: of a root how it begins, of several how many there are and how the first and the last begin, of a proof of
-/// version 1 what x5 and x6 hold in it, of one of version 2 or 3 what the opened registers hold, and 0 where there is none, of a
+/// version 1 what x5 and x6 hold in it, of one of version 2 or 3 what the opened registers hold, and 0 if there is none, of a
 /// claim the first byte of its output.
 #[derive(Clone, Copy, PartialEq, Eq)]
 enum Heard {
@@ -300,7 +300,7 @@ fn value_of(opened: Option<&RegOpening>) -> u32 {
     }
 }
 
-/// What the opened registers hold, and 0 where there is none.
+/// What the opened registers hold, and 0 if there is none.
 fn values_of(named: &RegOpenings) -> [u32; 3] {
     let named = named.as_slice();
     [
@@ -380,7 +380,7 @@ fn answer_of<R: Threads + Sync, A: Answerer>(
     answerer.answer(rt, question, passes)
 }
 
-/// Whether the answer is the wanted one, and `waits` tells where it is a pass of the manner.
+/// Whether the answer is the wanted one, and `waits` tells whether it is a pass of the manner.
 fn answers_so<R: Threads + Sync>(
     rt: &R,
     alloc: Global,
@@ -411,7 +411,7 @@ fn is_pass_of_the_manner(want: Heard, gives: Gives) -> bool {
     }
 }
 
-/// How many rows come before the first one that isn't answered so: all of them, where each is.
+/// How many rows come before the first one that isn't answered so: all of them, if each is.
 fn answered<R: Threads + Sync>(
     rt: &R,
     alloc: Global,
@@ -435,7 +435,7 @@ const UNCHANGED: [Row; 2] = [
 
 const AT_ONCE: [Row; 1] = [(Gives::Root, (1, 1), Kind::Root(4), 0, TRUE_ROOT)];
 
-/// So many passes on each question, whatever its round, and then the answer.
+/// Three passes on each question, whatever its round, and then the answer.
 const AFTER_THREE: [Row; 5] = [
     (Gives::Root, (1, 1), Kind::Root(4), 0, Heard::Pass),
     (Gives::Root, (1, 1), Kind::Root(4), 2, Heard::Pass),

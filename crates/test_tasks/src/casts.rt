@@ -15,7 +15,7 @@ use toy_game::{Cast, Player, SILENT, Seated, ToyJudge, root};
 
 pub(crate) type ToyBooks = Books<ToyJudge, Cast>;
 
-/// So many of these players, and then silent ones.
+/// A cast of `count` players: these three and then silent ones, as far as it goes.
 pub(crate) fn cast_of(first: [Player; 3], count: u32) -> Cast
     ensures { result.count ≡ count }
 {
@@ -76,7 +76,7 @@ pub(crate) fn seats_of(alloc: Global, casts: &[Cast]) -> Result<Vec<Seated>, Mem
     Ok(seats)
 }
 
-/// The books of these casts, which so many posters played.
+/// The books of these casts, which this many posters played.
 pub(crate) fn played<G: TaskGate + Sync, R: Threads + Wait + Sync>(
     rt: &R,
     alloc: Global,

@@ -44,7 +44,7 @@ impl TaskGate for Counting {
 
 /// Tasks of 23, of 1 and of 4 entries, the longest with a lying, a late and a silent prover, and the last with two silent ones. Each
 /// ends as it ends alone, however many posters there are. One poster posts each entry: it doesn't end with its first task's end, as
-/// what it leaves is played past the gate. Of several posters one may end early, where it waits long.
+/// what it leaves is played past the gate. Of several posters one may end early, if it waits long.
 #[test]
 fn tasks_end_at_different_times(rt: HostRuntime) -> Result<(), Fail> {
     let casts = [

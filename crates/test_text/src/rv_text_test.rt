@@ -206,7 +206,7 @@ fn blanks_comments_labels_and_numbers_are_read(rt: HostRuntime) -> Result<(), Fa
     Ok(())
 }
 
-/// A branch over so many words to a name behind them, or back over them to a name before them.
+/// A branch over this many words to a name behind them, or back over them to a name before them.
 fn branch_over(alloc: Global, words: usize, back: bool) -> Result<Vec<u8>, Fail> {
     let mut text = Vec::new(alloc);
     text.extend_from_slice(if back {
@@ -244,7 +244,7 @@ fn a_branch_to_a_name_reaches_as_far_as_its_offset(rt: HostRuntime) -> Result<()
     Ok(())
 }
 
-/// A program with its words, and its listing where that isn't the program itself.
+/// A program with its words, and its listing if that isn't the program itself.
 #[test]
 fn a_program_is_assembled_and_listed_with_offsets_in_place_of_names(
     rt: HostRuntime,

@@ -6,7 +6,7 @@ use std::alloc::{AllocError, Global};
 use std::process::Abort;
 use std::test::Fail;
 
-/// So many bytes of one value.
+/// This many bytes of one value.
 pub(crate) type Run = (u8, usize);
 
 /// Runs, one behind another.
@@ -20,7 +20,7 @@ pub(crate) fn laid_out(alloc: Global, runs: &[Run]) -> Result<Vec<u8>, AllocErro
     Ok(bytes)
 }
 
-/// The number of the rule that the bytes break: 0 where they are an answer, 6 where there is no memory.
+/// The number of the rule that the bytes break: 0 if they are an answer, 6 if there is no memory.
 pub(crate) fn broken_rule(alloc: Global, bytes: &[u8]) -> u32 {
     match decode(alloc, bytes) {
         Ok(_) => 0,

@@ -56,7 +56,7 @@ move_in bytes = do
   s ← settled_in rest
   Ok (record { qid = record { dispute = dispute.0; round = round.0 }; prover = prover.0; settled = s })
 
--- THE VERDICT: `accept STATE output`, with a space and bytes where there are any, `none left` or `collision HEX HEX`
+-- THE VERDICT: `accept STATE output`, with a space and bytes if there are any, `none left` or `collision HEX HEX`
 
 abbrev pub coded : (ℕ → Status) → ℕ × List ℕ → Result (Status × List ℕ) LineFault
 coded status code = Ok (status code.0, code.1)

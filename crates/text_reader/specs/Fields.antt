@@ -15,7 +15,7 @@ use Rattle.text_reader.specs.declared.fault.LineFault.TheVariants.{NoForm}
 abbrev pub Read : Type 0 → Type 0
 Read A = Result (A × List ℕ) LineFault
 
--- what stands behind a word, where the bytes begin with it
+-- what stands behind a word, if the bytes begin with it
 abbrev pub after : List ℕ → List ℕ → Option (List ℕ)
 after [] bytes = Some bytes
 after (w ∷ ws) [] = None

@@ -27,7 +27,7 @@ pub record IsHeadInLimits (h : Head) : Type 0 where
   pub length : length h.start.0 ≡ 32
   pub bytes : AreBytes h.start.0
 
--- a move of one of so many provers
+-- a move of one of `provers` provers
 pub record IsMoveInLimits (provers : ℕ) (m : TextMove) : Type 0 where
   pub dispute : m.qid.dispute < 2 ^ 32
   pub round : m.qid.round < 2 ^ 32

@@ -23,7 +23,7 @@ ReadsExactly = (bytes : List ℕ) (x : FullText) → (read_text bytes ≡ Ok x) 
 abbrev pub AlikeIsEqual : Type 0
 AlikeIsEqual = (one other : List ℕ) (x : FullText) → read_text one ≡ Ok x → read_text other ≡ Ok x → one ≡ other
 
--- the full text of a record and a verdict is read as their parts, where these are within the limits
+-- the full text of a record and a verdict is read as their parts, if these are within the limits
 abbrev pub ReadsRecordsBack : Type 0
 ReadsRecordsBack =
     (head : Head) (r : Record) (v : Verdict) (s : Stated) → stated_of r.claims v ≡ Some s → IsInLimits (parts_of head r s) →
@@ -50,7 +50,7 @@ pub record IsReadBack (rules : Rules) (head : Head) (r : Record) : Type 0 where
   pub in_limits : IsInLimits (parts_of head r stated)
   pub read : read_text (full_text head r (verdict_of rules r)) ≡ Ok (parts_of head r stated)
 
--- the full text of each match is read back, where its answers have wire forms
+-- the full text of each match is read back, if its answers have wire forms
 abbrev pub MatchesAreReadBack : Type 0
 MatchesAreReadBack =
     (rules : Rules) (xs : List Post) (head : Head) → ArePlayable rules → IsHeadOf rules head → IsHeadInLimits head →

@@ -29,12 +29,12 @@ abbrev pub head_with : Result HeadNumbers LineFault → Result Head TextFault
 head_with (Err e) = Err BadHead
 head_with (Ok h) = if are_in_limits h then Ok (head_of h) else Err (OutOfRange 1)
 
--- LATER LINES, of so many provers: moves, and then the verdict, with whose line feed the text ends. What was read, or the first fault.
+-- LATER LINES, of this many provers: moves, and then the verdict, with whose line feed the text ends. What was read, or the first fault.
 
 abbrev pub Later : Type 0
 Later = Result (List TextMove × Stated) TextFault
 
--- is a number one of a prover's, of whom there are so many
+-- whether a number is that of one of `provers` provers
 abbrev pub is_prover : ℕ → ℕ → Bool
 is_prover provers p = nat_le 1 p && nat_le p provers
 

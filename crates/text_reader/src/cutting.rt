@@ -2,7 +2,7 @@ ghost use Rattle.std.specs.Prelude.{◌≡◌, ◌<◌, length, IfSome};
 ghost use Rattle.std.specs.Option.{option_map};
 ghost use Rattle.text_reader.specs.TextLines.{cut_at};
 
-/// What stands before the first byte of this value, and what behind it. `None` where there is none.
+/// What stands before the first byte of this value, and what behind it. `None` if there is none.
 #[tactic(auto, using(crate::proofs::LineLemmas::cuts))]
 pub(crate) fn cut_at(bytes: &[u8], value: u8) -> Option<(&[u8], &[u8])>
     ensures is { option_map (λ x. (x.0.now, x.1.now)) result ≡ cut_at value bytes.now }

@@ -14,7 +14,7 @@ use text_types::DigestName;
 /// The least number that needs more than 32 bits.
 const TOO_LARGE: u64 = 4_294_967_296;
 
-/// What stands behind a word, where the bytes begin with it.
+/// What stands behind a word, if the bytes begin with it.
 pub(crate) fn after<'a>(bytes: &'a [u8], word: &[u8]) -> Option<&'a [u8]>
     ensures { option_copied result ≡ after word.now bytes.now }
 {

@@ -19,7 +19,7 @@ pub fn reading_is_the_inverse_of_writing()
     spelled_in_bytes();
 }
 
-/// The full text of a record and a verdict is read as their parts, where these are within the limits (`records`). Those of a
+/// The full text of a record and a verdict is read as their parts, if these are within the limits (`records`). Those of a
 /// match are, whatever was posted (`matches`): its answers have wire forms by a clause of `full`.
 pub fn a_full_text_is_read_back()
     ensures records { ReadsRecordsBack }

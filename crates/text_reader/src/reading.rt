@@ -37,7 +37,7 @@ fn end(
     }
 }
 
-/// The lines but the first, of a match of so many provers.
+/// The lines but the first, of a match of this many provers.
 #[tactic(auto, using(crate::proofs::ReadLemmas::reading))]
 fn read_later(
     alloc: Global,

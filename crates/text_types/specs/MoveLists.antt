@@ -10,7 +10,7 @@ use Rattle.text_types.specs.declared.text.TextMove.{TextMove}
 abbrev pub qid_of : ℕ → ℕ → Qid
 qid_of dispute round = record { dispute = dispute; round = round }
 
--- what a prover's answer to the question of this number is settled as, where it is
+-- what a prover's answer to the question of this number is settled as, if it is
 abbrev pub move_if : Qid → ℕ → Option Settled → List TextMove
 move_if qid p (Some s) = record { qid = qid; prover = p; settled = s } ∷ []
 move_if qid p None = []

@@ -14,7 +14,7 @@ abbrev pub settled_at : List (Option Settled) → ℕ → Option (Option Settled
 settled_at claims zero = None
 settled_at claims (suc before) = slice_get claims before
 
--- the claim, where one was given
+-- the claim, if one was given
 abbrev pub given_claim : Option (Option Settled) → Option Claim
 given_claim (Some s) = claim_in s
 given_claim None = None

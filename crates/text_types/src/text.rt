@@ -87,7 +87,7 @@ pub struct FullText {
     pub stated: Stated,
 }
 
-/// What is settled of a prover's claim, by its number from 1; `None` where no prover has the number.
+/// What is settled of a prover's claim, by its number from 1; `None` if no prover has the number.
 pub fn settled_at(claims: &[Option<Settled>], number: u32) -> Option<&Option<Settled>>
     ensures { option_copied result ≡ settled_at claims.now number }
 {

@@ -15,7 +15,7 @@ use Rattle.tournament.specs.Moves.{MatchState, begun, passes_of}
 use Rattle.tournament.specs.Posting.{Post, record_after}
 use Rattle.tournament.specs.Journals.{turn_on, turns, Legal, answers_of}
 
--- what the round after so many is asked over: one that went on, or the last
+-- what the round after this many is asked over: one that went on, or the last
 abbrev pub kind_in : ℕ → Interval → List Round → ℕ → Option Kind
 kind_in fan place [] zero = Some (kind_over fan place.lo place.hi)
 kind_in fan place [] (suc k) = None
@@ -44,7 +44,7 @@ AskedByTheCase =
     Legal rules says ps (begun rules) → 0 < p → open_question rules (turns rules says ps (begun rules)).record_ p ≡ Some q →
     asked rules (bracket rules (answers_of rules says)) p q.qid ≡ Some q.kind
 
--- an interval of the run that is cut in so many parts: 2 to 16, and no more than it has steps
+-- an interval of the run that is cut in this many parts: 2 to 16, and no more than it has steps
 pub record IsCut (bound lo hi parts : ℕ) : Type 0 where
   pub parted : 1 < parts
   pub few_parts : parts ≤ 16

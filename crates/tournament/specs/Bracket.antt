@@ -177,7 +177,7 @@ all_closed (d ∷ ds) = is_closed d && all_closed ds
 abbrev pub is_complete : Record → Bool
 is_complete t = all_there t.claims && all_closed t.disputes
 
--- SETTLING: the open question of a prover is settled, and the next stage begins where it is due
+-- SETTLING: the open question of a prover is settled, and the next stage begins if it is due
 
 abbrev pub settled_in : Rules → ℕ → Settled → List Bisection → List Bisection
 settled_in rules p s [] = []

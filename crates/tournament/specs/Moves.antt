@@ -18,7 +18,7 @@ begun rules = record { record_ = nothing_settled rules; passed = replicate rules
 abbrev pub passes_of : MatchState → ℕ → ℕ
 passes_of st p = slice_index st.passed (p - 1)
 
--- what a move settles after so many passes: an answer settles, and a pass beyond the patience
+-- what a move settles after this many passes: an answer settles, and a pass beyond the patience
 abbrev pub settled_by : Rules → Question → ℕ → Option Answer → Option Settled
 settled_by rules q passes (Some a) = Some (judged rules.ruling q.kind a)
 settled_by rules q passes None = if nat_lt passes rules.patience then None else Some Spent

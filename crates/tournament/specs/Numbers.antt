@@ -6,11 +6,11 @@ use Rattle.bisect_game.specs.Bisection.{Bisection}
 use Rattle.tournament.specs.Bracket.{Record}
 use Rattle.tournament.specs.Posting.{Post, record_after}
 
--- a prover's number, of so many
+-- the number of one of `provers` provers
 abbrev pub IsProver : ℕ → ℕ → Type 0
 IsProver provers p = (1 ≤ p) × (p ≤ provers)
 
--- disputes of provers, of whom there are so many, the first dispute of which has this number
+-- disputes of `provers` provers, the first of which has the number n, and each later one the next
 abbrev pub AreNumbered : ℕ → ℕ → List Bisection → Type 0
 AreNumbered provers n [] = Unit {0}
 AreNumbered provers n (d ∷ ds) = ((d.number ≡ n) × (IsProver provers d.first × IsProver provers d.second)) × AreNumbered provers (n + 1) ds

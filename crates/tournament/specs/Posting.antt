@@ -42,7 +42,7 @@ abbrev pub reply_on : Rules → MatchState → ℕ → Qid → Option Answer →
 reply_on rules st p qid m None = reply.Stale None
 reply_on rules st p qid m (Some q) = if same_qid q.qid qid then reply_by (settled_by rules q (passes_of st p) m) else reply.Stale (Some q.qid)
 
--- stale where the question isn't the prover's open one, which the reply carries; spent at the pass after the patience;
+-- stale if the question isn't the prover's open one, which the reply carries; spent at the pass after the patience;
 -- faulty at an answer that does not fit; else taken
 abbrev pub reply_to : Rules → MatchState → ℕ → Qid → Option Answer → Reply
 reply_to rules st p qid m = reply_on rules st p qid m (open_question rules st.record_ p)

@@ -12,7 +12,7 @@ use Rattle.tournament.specs.Posting.{posted, Post, record_after}
 use Rattle.tournament.specs.Theorem.{AreTrue}
 use Rattle.tournament.specs.Truthful.{IsSafe}
 
--- a true move on a question after so many passes on it: the true answer, or one more pass within the patience
+-- a true move on a question after this many passes on it: the true answer, or one more pass within the patience
 abbrev pub IsTrueMove : Rules → Truth → Question → ℕ → Option Answer → Type 0
 IsTrueMove rules t q passes (Some a) = IsTrueAnswer t q.kind a
 IsTrueMove rules t q passes None = passes < rules.patience

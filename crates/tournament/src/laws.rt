@@ -31,7 +31,7 @@ pub fn truthful_provers_stay()
     bisection_laws();
 }
 
-/// The verdict is right: where such a prover is there and nothing is open, a claim is accepted that is the true one, or
+/// The verdict is right: if such a prover is there and nothing is open, a claim is accepted that is the true one, or
 /// the verdict is two different strings of one digest that answers of the record open.
 pub fn the_verdict_is_right()
     ensures { VerdictIsRight }

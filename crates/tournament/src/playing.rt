@@ -22,7 +22,7 @@ use rd_base::{Digest32, Memory, Qid, same_qid};
 use std::alloc::Global;
 use std::marker::Model;
 
-/// So many counts of passes, all 0.
+/// This many counts of passes, all 0.
 fn no_passes(alloc: Global, many: usize) -> Result<Vec<u32>, Memory>
     ensures { IfOk result (λ v. v.items ≡ replicate many 0) }
 {
@@ -59,8 +59,8 @@ impl<J: Judge + Drop> Model for Match<J> {
 }
 
 impl<J: Judge + Drop> Match<J> {
-    /// A match that begins, of so many provers (1 to 65,536), over `bound` steps (1 to 4,294,967,295) from the root `start`, of which
-    /// a round cuts its interval in `fan` parts (2 to 16), with so many passes allowed on a question. It takes the memory of the
+    /// A match that begins, of `provers` provers (1 to 65,536), over `bound` steps (1 to 4,294,967,295) from the root `start`, of which
+    /// a round cuts its interval in `fan` parts (2 to 16), with `patience` passes allowed on a question. It takes the memory of the
     /// whole match. An `Err` is out of memory.
     pub fn new(
         alloc: Global,
@@ -165,7 +165,7 @@ impl<J: Judge + Drop> Match<J> {
         self.passed[p as usize - 1] += 1;
     }
 
-    /// What a prover is asked is settled, and the next stage begins where it is due.
+    /// What a prover is asked is settled, and the next stage begins if it is due.
     fn settle(&mut self, p: u32, settled: Settled)
         requires some { 0 < p }
         requires few { p ≤ self.old.1.provers }
@@ -243,7 +243,7 @@ impl<J: Judge + Drop> Match<J> {
     }
 
     /// The dispute theorem, whoever posted what: a prover whose settled answers so far are all given and true stays (`stay`),
-    /// and where there is one the verdict of a match that is over is right (`verdict`).
+    /// and if there is one the verdict of a match that is over is right (`verdict`).
     pub fn keeps_true_provers(&self)
         ensures stay { let rules = rules_of (J.ruling self.now.0) self.now.1 in (t : Truth) (p : ℕ) → IsRun rules t → 0 < p → AreTrue rules t p self.now.2.record_ → Stays rules t p self.now.2.record_ }
         ensures verdict { let rules = rules_of (J.ruling self.now.0) self.now.1 in (t : Truth) (p : ℕ) → IsRun rules t → 0 < p → AreTrue rules t p self.now.2.record_ → is_complete self.now.2.record_ ≡ true → IsRightVerdict rules t self.now.2.record_ (verdict_of rules self.now.2.record_) }

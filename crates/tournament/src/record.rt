@@ -27,7 +27,7 @@ impl Model for Record {
     ghost invariant = { λ r. vec_len r.claims ≤ vec_capacity r.disputes + 1 };
 }
 
-/// So many claims of which none is settled.
+/// This many claims of which none is settled.
 fn no_claims(alloc: Global, many: usize) -> Result<Vec<Option<Settled>>, Memory>
     ensures { IfOk result (λ v. v.items ≡ replicate many None) }
 {
@@ -39,7 +39,7 @@ fn no_claims(alloc: Global, many: usize) -> Result<Vec<Option<Settled>>, Memory>
 }
 
 impl Record {
-    /// A record of so many provers in which nothing is settled, with room for every dispute that can come.
+    /// A record of this many provers in which nothing is settled, with room for every dispute that can come.
     pub(crate) fn new(alloc: Global, provers: usize) -> Result<Record, Memory>
         requires { 0 < provers }
         ensures { IfOk result (λ r. r ≡ record { claims = replicate provers None; disputes = [] }) }
@@ -50,7 +50,7 @@ impl Record {
         })
     }
 
-    /// What each prover's claim was settled as, by number; `None` where it isn't yet.
+    /// What each prover's claim was settled as, by number; `None` if it isn't yet.
     pub fn claims(&self) -> &[Option<Settled>]
         ensures { result.now ≡ self.now.claims }
     {

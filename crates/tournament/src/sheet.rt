@@ -52,7 +52,7 @@ fn other_from(live: &[(u32, Digest32)], i: usize, root: &Digest32) -> Option<usi
     }
 }
 
-/// The rooms of so many disputes.
+/// The rooms of this many disputes.
 #[tactic(auto, using(crate::proofs::keeping::KeepingLemmas::rooms_more))]
 fn rooms_for(alloc: Global, bound: u64, fan: u32, many: usize) -> Result<Vec<Room>, Memory>
     requires steps { 0 < bound }
@@ -102,7 +102,8 @@ impl Sheet {
         self.record_.push(Dispute::new(room, stage, number, self.setup.start, first, second));
     }
 
-    /// Opens the disputes of a stage, of at most so many pairs.
+    /// Opens the disputes of a stage: takes the first prover of `live`, opens its dispute with the next one of another root, if there is
+    /// one, and goes on with the others in the same way; `left` first provers at most.
     fn open_pairs(&mut self, stage: u32, left: u32, live: &mut Vec<(u32, Digest32)>)
         requires few { length self.old.record_.disputes + length (side_pairs left live.old.items) < self.old.setup.provers }
         requires stage { stage ≤ length self.old.record_.disputes + 1 }
@@ -141,7 +142,7 @@ impl Sheet {
         last_stage(self.record_.disputes()) + 1
     }
 
-    /// Opens the next stage where it is due.
+    /// Opens the next stage if it is due.
     fn open_due<J: Judge>(&mut self, judge: &J, live: &mut Vec<(u32, Digest32)>)
         requires few { length (stage_opened (rules_of (J.ruling (J.names judge.now)) self.old.setup) self.old.record_).disputes < self.old.setup.provers }
         requires room { self.old.setup.provers ≤ vec_capacity live.old }
@@ -165,7 +166,7 @@ impl Sheet {
         self.open_pairs(stage, provers, live);
     }
 
-    /// What a prover is asked is settled, and the next stage opens where it is due.
+    /// What a prover is asked is settled, and the next stage opens if it is due.
     pub(crate) fn settle<J: Judge>(
         &mut self,
         judge: &J,

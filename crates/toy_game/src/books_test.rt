@@ -133,7 +133,7 @@ fn the_largest_book_takes_its_room_at_opening(rt: HostRuntime) -> Result<(), Fai
     Ok(())
 }
 
-/// What a prover is asked; what its pass on its claim is answered, where it passes there or the match goes on without it; and how many
+/// What a prover is asked; what its pass on its claim is answered, if it passes there or the match goes on without it; and how many
 /// entries there are then.
 fn asked_and_passed(book: &mut Book<ToyJudge, Cast>, p: u32) -> (Asked, Option<Replied>, usize)
     requires some { 0 < p }

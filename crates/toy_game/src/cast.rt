@@ -93,7 +93,7 @@ pub(crate) fn given(alloc: Global, player: &Player, kind: Kind) -> Result<Answer
     }
 }
 
-/// Whether a player passes on a question after so many passes.
+/// Whether a player passes on a question after this many passes.
 pub(crate) fn passes_now(player: &Player, question: &Question, passes: u32) -> bool
     ensures { result ≡ is_none (answers player.now question.now passes) }
 {

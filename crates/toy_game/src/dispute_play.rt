@@ -11,7 +11,7 @@ use std::alloc::Global;
 /// The most rounds below a bound of 2^32, with the proof round.
 const MOST_ROUNDS: u32 = 33;
 
-/// What a player's question is settled as, with a patience of 0. `None` where it has none.
+/// What a player's question is settled as, with a patience of 0. `None` if it has none.
 fn settled_by(
     alloc: Global,
     dispute: &Dispute,
@@ -75,7 +75,7 @@ fn play_round(
     move_side(alloc, dispute, later.0, later.1)
 }
 
-/// Dispute 7, played to its end. Where bit k of `order` is set, the second side settles first in round k, counted from 0.
+/// Dispute 7, played to its end. If bit k of `order` is set, the second side settles first in round k, counted from 0.
 pub(crate) fn played(
     alloc: Global,
     bound: u64,

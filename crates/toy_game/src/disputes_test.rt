@@ -106,7 +106,7 @@ fn rounds_against(alloc: Global, bound: u64, from: u64) -> Result<usize, Memory>
     Ok(dispute.rounds().len())
 }
 
-/// How many rounds of a dispute went on, where the second side lies from step 1 on, and where it lies from the last step on.
+/// How many rounds of a dispute went on, if the second side lies from step 1 on, and if it lies from the last step on.
 fn rounds_down_and_up(alloc: Global, bound: u64) -> Result<(usize, usize), Memory>
     requires some { 0 < bound }
     requires short { bound < 2 ^ 32 }

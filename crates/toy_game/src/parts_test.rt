@@ -35,7 +35,7 @@ fn cuts_by_hand(rt: HostRuntime) -> Result<(), Fail> {
     Ok(())
 }
 
-/// The intervals of the rounds that went on, where the second side lies from a step on, and the step of the proof round.
+/// The intervals of the rounds that went on, if the second side lies from a step on, and the step of the proof round.
 fn intervals(
     alloc: Global,
     bound: u64,
@@ -184,7 +184,7 @@ fn the_largest_bound_is_searched_with_each_fan(rt: HostRuntime) -> Result<(), Fa
     Ok(())
 }
 
-/// How the answer of a truthful player to a question of this kind is taken where the roots at the cuts of 8 steps in 4 parts are asked.
+/// How the answer of a truthful player to a question of this kind is taken if the roots at the cuts of 8 steps in 4 parts are asked.
 fn reply_to(alloc: Global, kind: Kind) -> Result<Replied, Memory> {
     let first = Qid {
         dispute: 1,

@@ -21,6 +21,6 @@ NothingIsSaidAgainstTheTruthful = (rules : Rules) (t : Truth) (p : ℕ) (r : Rec
 abbrev pub parts_of : Head → Record → Stated → FullText
 parts_of head r s = record { head = head; moves = moves_of r; stated = s }
 
--- the full text of a record is that of its parts, where the verdict is stated
+-- the full text of a record is that of its parts, if the verdict is stated
 abbrev pub FullTextIsThatOfItsParts : Type 0
 FullTextIsThatOfItsParts = (head : Head) (r : Record) (v : Verdict) (s : Stated) → stated_of r.claims v ≡ Some s → full_text head r v ≡ text_of (parts_of head r s)

@@ -105,7 +105,7 @@ abbrev pub lines_of_rounds : Bisection → ℕ → List Round → List (Option L
 lines_of_rounds d number [] = []
 lines_of_rounds d number (r ∷ rs) = Some (line_of_round d number r.lo r.hi r.first r.second) ∷ lines_of_rounds d (number + 1) rs
 
--- the proof round: a side's proof is refuted where the side is out
+-- the proof round: a side's proof is refuted if the side is out
 abbrev pub line_of_step : Bisection → Option Close → Settled → Settled → Option Line
 line_of_step d (Some c) a b = Some (step_line d.place.lo (said_in d (said_word_of_proof (is_put_out First (Some c)) a) (said_word_of_proof (is_put_out Second (Some c)) b)))
 line_of_step d None a b = None

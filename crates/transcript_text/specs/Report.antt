@@ -11,7 +11,7 @@ use Rattle.transcript_text.specs.Lines.{Said, Parted, Line, claim_line, out_line
 use Rattle.text_types.specs.Digest.{digest_text}
 use Rattle.text_types.specs.declared.text.Head.{Head}
 
--- a space and the bytes, where there are any
+-- a space and the bytes, if there are any
 abbrev pub output_text : List ℕ → List ℕ
 output_text [] = []
 output_text (byte ∷ bytes) = codes " " ++ encode_lower (byte ∷ bytes)

@@ -5,7 +5,7 @@ use rd_base::{Memory, Status};
 use std::alloc::{AllocError, Global};
 use std::fmt::Write;
 
-/// Adds a status and an output, in hexadecimal where it isn't empty.
+/// Adds a status and an output, in hexadecimal if it isn't empty.
 pub(crate) fn add_answer(
     text: &mut String,
     alloc: Global,

@@ -70,7 +70,7 @@ fn add_parted(
     write!(text, " {hi} by {parts}")
 }
 
-/// Adds which of so many parts is kept, counted from 1, and ends the line.
+/// Adds which of this many parts is kept, counted from 1, and ends the line.
 fn add_kept(
     text: &mut String,
     parts: u32,
@@ -152,7 +152,7 @@ fn is_put_out(side: Side, close: &Close) -> bool
     }
 }
 
-/// Adds the line of the proof round, where the dispute has closed.
+/// Adds the line of the proof round, if the dispute has closed.
 fn add_step(
     text: &mut String,
     dispute: &Dispute,
@@ -171,7 +171,7 @@ fn add_step(
     add_said(text, dispute, of_first, of_second)
 }
 
-/// Adds the line of the last round, where both sides are settled.
+/// Adds the line of the last round, if both sides are settled.
 fn add_last(text: &mut String, dispute: &Dispute) -> Result<(), AllocError>
     ensures { OnOk result (string_bytes text.new ≡ string_bytes text.old ++ text_if_there (line_of_last dispute.now dispute.now.by_first dispute.now.by_second)) }
 {
@@ -189,7 +189,7 @@ fn add_last(text: &mut String, dispute: &Dispute) -> Result<(), AllocError>
     add_round(text, dispute, number, lo, hi, first, second)
 }
 
-/// Adds the line of a stage, where it isn't that of the dispute before.
+/// Adds the line of a stage, if it isn't that of the dispute before.
 fn add_stage(text: &mut String, before: u32, stage: u32) -> Result<(), AllocError>
     ensures { OnOk result (string_bytes text.new ≡ string_bytes text.old ++ text_if_there (line_of_stage before stage)) }
 {

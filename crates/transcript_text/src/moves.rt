@@ -53,7 +53,7 @@ fn add_asked(text: &mut String, dispute: u32, round: usize, prover: usize) -> Re
     write!(text, "move {dispute} {round} p{prover} ")
 }
 
-/// Adds the line of a move, where the question is settled.
+/// Adds the line of a move, if the question is settled.
 fn add_move(
     text: &mut String,
     alloc: Global,

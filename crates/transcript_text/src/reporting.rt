@@ -116,7 +116,7 @@ pub(crate) fn add_verdict(
     }
 }
 
-/// The line of a verdict, by what each prover's claim was settled as; it is empty where an accepted claim wasn't given. An `Err`
+/// The line of a verdict, by what each prover's claim was settled as; it is empty if an accepted claim wasn't given. An `Err`
 /// is out of memory.
 pub fn verdict_line(
     alloc: Global,

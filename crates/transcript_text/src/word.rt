@@ -7,7 +7,7 @@ use std::fmt;
 /// What a report calls an answer of a prover.
 #[derive(Clone, Copy, Debug, PartialEq, Eq)]
 pub enum Word {
-    /// An answer of the kind that was asked, where no proof was.
+    /// An answer of the kind that was asked, which isn't a proof.
     Given,
     /// An answer of another kind, or an unsound claim.
     Faulty,

@@ -11,6 +11,6 @@ unfoldable pub draw : ℕ → ℕ → ℕ
 draw seed zero = seed
 draw seed (suc k) = next_draw (draw seed k)
 
--- so many values of a function: at 0, 1 and on
+-- this many values of a function: at 0, 1 and on
 unfoldable pub first_values : {X : Type 0} → ℕ → (ℕ → X) → List X
 first_values n f = map f (range_with_len 0 n)
