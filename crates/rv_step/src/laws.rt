@@ -14,7 +14,7 @@ ghost use Rattle.rv_step.specs.Named.{named, named_by, destination, AreRegisters
 ghost use Rattle.rv_step.specs.Alike.{with_registers, Shows, StepAlike, ChangesNamed};
 
 use crate::machine::Machine;
-use crate::valid::{bytes_are_small, codes_are_words, registers_are_words};
+use crate::valid::{bytes_are_small, codes_are_words};
 use mem_plain::{laying_bytes, memories_are_their_bytes};
 use rd_base::registers_are_32;
 
@@ -107,7 +107,6 @@ pub fn machines_are_valid(machine: &Machine)
     ensures { IsValid (state_of machine.now) }
 {
     registers_are_32(&machine.regs);
-    registers_are_words(&machine.regs);
     codes_are_words(&machine.ctl.status);
     bytes_are_small(&machine.output);
     bytes_are_small(&machine.input);

@@ -1,4 +1,4 @@
-//! The machine: RV32IM and its two environment calls, one step at a time (RISC-V Unprivileged ISA 20191213, chapters
+//! The machine: RV32IM and its three environment calls, one step at a time (RISC-V Unprivileged ISA 20191213, chapters
 //! 2 and 7).
 //!
 //! The layers above may rely on this: `step` is the definition of the step, and tells the page that it stored to;

@@ -1,18 +1,8 @@
 //! What the fields of a machine are by their types.
-ghost use Rattle.std.specs.Prelude.{◌^◌, ◌<◌, ℕ, slice_index};
+ghost use Rattle.std.specs.Prelude.{◌<◌, ℕ, slice_index};
 ghost use Rattle.rv_step.specs.Valid.{HasWordCode};
 
-use rd_base::{Regs, Status, registers_are_32};
-
-/// Each register holds a word.
-pub fn registers_are_words(regs: &Regs)
-    ensures { (r : ℕ) → slice_index regs.now r < 2 ^ 32 }
-{
-    registers_are_32(regs);
-    'registers: for r in 0..32 {
-        let _word = regs.get(r);
-    }
-}
+use rd_base::Status;
 
 /// The code of a status is a word.
 pub fn codes_are_words(status: &Status)

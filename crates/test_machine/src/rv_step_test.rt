@@ -364,7 +364,7 @@ fn loads_extend_what_they_read(rt: HostRuntime) {
 }
 
 /// A machine of a version at the start of an image of few bytes, which lies at 0x10000, with few bytes of input.
-fn machine_in(alloc: Global, version: u8, image: &[u8], input: &[u8]) -> Result<Machine, Memory>
+fn machine_in(alloc: Global, version: u32, image: &[u8], input: &[u8]) -> Result<Machine, Memory>
     requires version { (1 ≤ version) × (version ≤ 3) }
     requires image { length image.now ≤ 64 }
     requires input { length input.now ≤ 64 }
