@@ -13,13 +13,15 @@
 //!
 //! The other laws are in `laws`: that a step reads the registers alone that its instruction names and changes at most one of
 //! them, which bytes a step leaves, that a stopped state stays and output only grows, that a run keeps version and input, and
-//! that each machine's state is valid and steps keep it so.
+//! that each machine's state is valid and steps keep it so. `arithmetic_laws` has the manual's sentences on arithmetic, of all words:
+//! sums, products, divisions, shifts, extensions, and that what was stored is loaded.
 //!
 //! Read `specs/Effect.antt` first, which says what each instruction does, and `specs/Step.antt`, which makes a step of
 //! that. Then read `stepping`.
 #![tactic(auto)]
 
 mod arithmetic;
+mod arithmetic_laws;
 mod asked;
 mod effect;
 mod laws;
@@ -30,6 +32,10 @@ mod stepping;
 mod touching;
 mod valid;
 
+pub use arithmetic_laws::{
+    dividends_come_back, extensions_keep_bits, products_have_two_words, shifts_move_bits,
+    stores_are_loaded, sums_are_of_values, words_are_their_bits,
+};
 pub use asked::{Need, Outcome};
 pub use effect::{ILLEGAL_INSTRUCTION, MISALIGNED_JUMP};
 pub use laws::{
