@@ -3,7 +3,8 @@
 //! A `Digester` is a digest function that its type alone names: whatever value of the type is asked, the digest is
 //! `digest_of` the bytes. Every definition above this crate takes that function as its argument, and no clause
 //! anywhere assumes that a digest is hard to find or to repeat. `Sha256` is the one of FIPS 180-4, by the definition of
-//! `sha2`; `Weak8` is its first byte alone, for matches in which two strings have one digest.
+//! `sha2`; `Weak8` is its first byte alone, for matches in which two strings have one digest. A `Counted` is a digest function that
+//! counts each of its digests.
 //!
 //! The layers above may rely on this: each kind of string has one definition in `specs/Text.antt` and one function
 //! here that makes it, without memory; each kind has its length, no string is of two kinds (`specs/Kinds.antt`), and a string
@@ -12,12 +13,14 @@
 #![tactic(auto)]
 
 mod chain;
+mod counted;
 mod digester;
 mod laws;
 mod ranges;
 mod text;
 
 pub use chain::link;
+pub use counted::Counted;
 pub use digester::{Digester, Sha256, Weak8};
 pub use laws::{chain_grows, kinds_have_lengths, texts_determine_their_parts};
 pub use ranges::{codes_fit, digests_are_32_bytes};

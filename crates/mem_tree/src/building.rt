@@ -6,7 +6,7 @@ ghost use Rattle.mem_tree.specs.Tree.{kept_of, page_at, AllMade, IsJoinedBut, is
 
 use crate::kept::{Nodes, PageTree};
 use crate::page::page_tree_after;
-use digest_core::{Digester, leaf_text};
+use digest_core::{Counted, Digester, leaf_text};
 use mem_plain::PlainMem;
 use merkle_nodes::fill_empty_nodes;
 use rayon::prelude::*;
@@ -32,8 +32,8 @@ fn used_pages(alloc: Global, mem: &PlainMem) -> Result<Vec<u32>, Memory>
 }
 
 /// What `page_tree_after` gives for a page of which nothing was kept, with a counter of its own. An `Err` is out of memory.
-fn counted_page_tree<D: Digester, L: Ledger>(
-    d: D,
+fn counted_page_tree<C: Counted, L: Ledger>(
+    c: C,
     alloc: Global,
     empties: &[Digest32],
     mem: &PlainMem,
@@ -45,11 +45,11 @@ fn counted_page_tree<D: Digester, L: Ledger>(
     requires one { L.parts ≡ 1 }
     requires page { page < 2 ^ 20 }
     requires levels { length empties.now ≡ 28 }
-    requires empty { AreEmpty D.digest_of empties.now }
-    ensures { IfOk result (λ a. IsPageTree D.digest_of a.0 mem.now page) }
+    requires empty { AreEmpty C.digest_of empties.now }
+    ensures { IfOk result (λ a. IsPageTree C.digest_of a.0 mem.now page) }
 {
     let mut steps = Steps::<L>::new(blank);
-    page_tree_after(d, alloc, empties, None, mem, page, &mut steps)
+    page_tree_after(c, alloc, empties, None, mem, page, &mut steps)
 }
 
 /// The subtree of a page, uncounted. An `Err` is out of memory.

@@ -7,9 +7,9 @@ ghost use Rattle.mem_tree.specs.Costs.{changed_chunks, needs, page_changes, page
 
 use crate::kept::{Nodes, PageTree};
 use crate::page::{page_tree_after, root_of};
-use digest_core::{Digester, node_text};
+use digest_core::{Counted, node_text};
 use mem_plain::PlainMem;
-use merkle_nodes::{digest_counted, renewals_are_few};
+use merkle_nodes::renewals_are_few;
 use rd_base::{Digest32, Memory, Steps};
 use std::alloc::Global;
 use std::collections::BTreeSet;
@@ -112,17 +112,17 @@ impl Nodes {
     }
 
     /// The node over nodes 2 * k and 2 * k + 1 of a level, with a step for its digest; or `None`, with none, if neither is kept.
-    fn joined<D: Digester, L: Ledger>(
+    fn joined<C: Counted, L: Ledger>(
         &self,
-        d: D,
+        c: C,
         above: u8,
         k: u32,
         steps: &mut Steps<L>,
     ) -> Option<Digest32>
         requires level { above < 20 }
         requires place { k < 2 ^ 20 }
-        requires empty { AreEmpty D.digest_of self.now.empties }
-        ensures node { kept_or result (digest_at self.now.empties (7 + (above + 1))) ≡ D.digest_of
+        requires empty { AreEmpty C.digest_of self.now.empties }
+        ensures node { kept_or result (digest_at self.now.empties (7 + (above + 1))) ≡ C.digest_of
             (node_string (node_above (kept_of self.now) above (2 * k)) (node_above (kept_of self.now) above (2 * k + 1))) }
         ensures kept { is_some result ≡ (is_some (upper_at (kept_of self.now) above (2 * k)) || is_some (upper_at (kept_of self.now) above (2 * k + 1))) }
         ensures counted { is_some result ≡ true → steps.new ≡ steps.old + 1 }
@@ -136,21 +136,21 @@ impl Nodes {
         }
         let left = self.upper_node(above, 2 * k);
         let right = self.upper_node(above, 2 * k + 1);
-        Some(digest_counted(d, &node_text(&left, &right), steps))
+        Some(c.digest(&node_text(&left, &right), steps))
     }
 
     /// Puts a page's root into its place and joins the nodes above it anew, with a step for each: 20 if there is a root. An
     /// `Err` is out of memory, and leaves all nodes that don't stand above the page.
-    fn raise<D: Digester, L: Ledger>(
+    fn raise<C: Counted, L: Ledger>(
         &mut self,
-        d: D,
+        c: C,
         page: u32,
         root: Option<Digest32>,
         steps: &mut Steps<L>,
     ) -> Result<(), Memory>
         requires page { page < 2 ^ 20 }
-        requires empty { AreEmpty D.digest_of self.old.empties }
-        ensures raised { OnOk result (IsRaised D.digest_of (kept_of self.new) page root 20) }
+        requires empty { AreEmpty C.digest_of self.old.empties }
+        ensures raised { OnOk result (IsRaised C.digest_of (kept_of self.new) page root 20) }
         ensures elsewhere { (n k : ℕ) → (20 < n) ⊎ (k ≢ page / 2 ^ n) → upper_at (kept_of self.new) n k ≡ upper_at (kept_of self.old) n k }
         ensures pages { self.new.pages ≡ self.old.pages }
         ensures empties { self.new.empties ≡ self.old.empties }
@@ -162,7 +162,7 @@ impl Nodes {
         let mut k = page;
         'levels: for above in 0..UPPER_LEVELS {
             k /= 2;
-            let node = self.joined(d, above, k, steps);
+            let node = self.joined(c, above, k, steps);
             self.put_upper(above + 1, k, node)?;
         }
         Ok(())
@@ -170,23 +170,23 @@ impl Nodes {
 
     /// Puts a page's subtree into its place, with a step for each node above it that is joined anew. An `Err` is out of
     /// memory, and leaves all nodes that stand neither in nor above the page.
-    pub(crate) fn place<D: Digester, L: Ledger>(
+    pub(crate) fn place<C: Counted, L: Ledger>(
         &mut self,
-        d: D,
+        c: C,
         page: u32,
         tree: Option<PageTree>,
         steps: &mut Steps<L>,
     ) -> Result<(), Memory>
         requires page { page < 2 ^ 20 }
-        requires empty { AreEmpty D.digest_of self.old.empties }
-        ensures joined { OnOk result ((stale left : List ℕ) → IsJoinedBut D.digest_of (kept_of self.old) stale →
+        requires empty { AreEmpty C.digest_of self.old.empties }
+        ensures joined { OnOk result ((stale left : List ℕ) → IsJoinedBut C.digest_of (kept_of self.old) stale →
             ((p : ℕ) → p ≢ page → is_among left p ≡ false → is_among stale p ≡ false) →
-            IsJoinedBut D.digest_of (kept_of self.new) left) }
-        ensures kept { (stale : List ℕ) → IsJoinedBut D.digest_of (kept_of self.old) stale →
-            is_among stale page ≡ true → IsJoinedBut D.digest_of (kept_of self.new) stale }
+            IsJoinedBut C.digest_of (kept_of self.new) left) }
+        ensures kept { (stale : List ℕ) → IsJoinedBut C.digest_of (kept_of self.old) stale →
+            is_among stale page ≡ true → IsJoinedBut C.digest_of (kept_of self.new) stale }
         ensures here { OnOk result (page_at (kept_of self.new) page ≡ tree) }
         ensures elsewhere { (p : ℕ) → p ≢ page → page_at (kept_of self.new) p ≡ page_at (kept_of self.old) p }
-        ensures made { AllMade D.digest_of (kept_of self.old) → IsMadeTree D.digest_of tree → AllMade D.digest_of (kept_of self.new) }
+        ensures made { AllMade C.digest_of (kept_of self.old) → IsMadeTree C.digest_of tree → AllMade C.digest_of (kept_of self.new) }
         ensures empties { self.new.empties ≡ self.old.empties }
         ensures counted { OnOk result (is_some tree ≡ true → steps.new ≡ steps.old + 20) }
         ensures steps { steps.new ≤ steps.old + 20 }
@@ -194,15 +194,15 @@ impl Nodes {
     {
         let root = root_of(&tree);
         self.put_page(page, tree)?;
-        self.raise(d, page, root, steps)?;
+        self.raise(c, page, root, steps)?;
         Ok(())
     }
 
     /// Makes a page and the nodes above it those of a memory, with a step for each digest; a page that hasn't changed takes none,
     /// unless an earlier refresh failed. An `Err` is out of memory, and leaves all nodes that stand neither in nor above the page.
-    fn renew_page<D: Digester, L: Ledger>(
+    fn renew_page<C: Counted, L: Ledger>(
         &mut self,
-        d: D,
+        c: C,
         alloc: Global,
         page: u32,
         failed: bool,
@@ -210,17 +210,17 @@ impl Nodes {
         steps: &mut Steps<L>,
     ) -> Result<(), Memory>
         requires page { page < 2 ^ 20 }
-        requires empty { AreEmpty D.digest_of self.old.empties }
-        requires made { AllMade D.digest_of (kept_of self.old) }
+        requires empty { AreEmpty C.digest_of self.old.empties }
+        requires made { AllMade C.digest_of (kept_of self.old) }
         ensures page { OnOk result (IsPageOf (page_at (kept_of self.new) page) mem.now page) }
         ensures elsewhere { (p : ℕ) → p ≢ page → page_at (kept_of self.new) p ≡ page_at (kept_of self.old) p }
-        ensures made { AllMade D.digest_of (kept_of self.new) }
-        ensures whole { OnOk result (IsJoinedBut D.digest_of (kept_of self.old) [] → IsJoinedBut D.digest_of (kept_of self.new) []) }
-        ensures fresh { OnOk result (failed ≡ true → (stale left : List ℕ) → IsJoinedBut D.digest_of (kept_of self.old) stale →
+        ensures made { AllMade C.digest_of (kept_of self.new) }
+        ensures whole { OnOk result (IsJoinedBut C.digest_of (kept_of self.old) [] → IsJoinedBut C.digest_of (kept_of self.new) []) }
+        ensures fresh { OnOk result (failed ≡ true → (stale left : List ℕ) → IsJoinedBut C.digest_of (kept_of self.old) stale →
             ((p : ℕ) → p ≢ page → is_among left p ≡ false → is_among stale p ≡ false) →
-            IsJoinedBut D.digest_of (kept_of self.new) left) }
-        ensures kept { (stale : List ℕ) → IsJoinedBut D.digest_of (kept_of self.old) stale →
-            is_among stale page ≡ true → IsJoinedBut D.digest_of (kept_of self.new) stale }
+            IsJoinedBut C.digest_of (kept_of self.new) left) }
+        ensures kept { (stale : List ℕ) → IsJoinedBut C.digest_of (kept_of self.old) stale →
+            is_among stale page ≡ true → IsJoinedBut C.digest_of (kept_of self.new) stale }
         ensures empties { self.new.empties ≡ self.old.empties }
         ensures steps { steps.new ≤ steps.old + 275 }
         ensures few { failed ≡ false → steps.new ≤ steps.old + 28 * page_changes (page_at (kept_of self.old) page) mem.now page }
@@ -229,9 +229,9 @@ impl Nodes {
     {
         renewals_are_few();
         let before = self.take_page(page);
-        let (tree, changed) = page_tree_after(d, alloc, &self.empties, before, mem, page, steps)?;
+        let (tree, changed) = page_tree_after(c, alloc, &self.empties, before, mem, page, steps)?;
         if changed || failed {
-            self.place(d, page, tree, steps)?;
+            self.place(c, page, tree, steps)?;
             return Ok(());
         }
         self.put_page(page, tree)?;
@@ -241,9 +241,9 @@ impl Nodes {
     /// Makes the touched pages and the nodes above them those of a memory, with a step for each digest. Each page that hasn't
     /// changed takes none, unless an earlier refresh failed. An `Err` is out of memory, and leaves all nodes that stand neither in
     /// nor above a touched page.
-    pub(crate) fn refresh<D: Digester, L: Ledger>(
+    pub(crate) fn refresh<C: Counted, L: Ledger>(
         &mut self,
-        d: D,
+        c: C,
         alloc: Global,
         touched: &BTreeSet<u32>,
         failed: bool,
@@ -251,16 +251,16 @@ impl Nodes {
         steps: &mut Steps<L>,
     ) -> Result<(), Memory>
         requires pages { (p : ℕ) → is_among touched.now.keys p ≡ true → p < 2 ^ 20 }
-        requires empty { AreEmpty D.digest_of self.old.empties }
-        requires made { AllMade D.digest_of (kept_of self.old) }
-        requires joined { IsJoinedBut D.digest_of (kept_of self.old) touched.now.keys }
-        requires whole { failed ≡ false → IsJoinedBut D.digest_of (kept_of self.old) [] }
+        requires empty { AreEmpty C.digest_of self.old.empties }
+        requires made { AllMade C.digest_of (kept_of self.old) }
+        requires joined { IsJoinedBut C.digest_of (kept_of self.old) touched.now.keys }
+        requires whole { failed ≡ false → IsJoinedBut C.digest_of (kept_of self.old) [] }
         ensures pages { OnOk result (((p : ℕ) → is_among touched.now.keys p ≡ false → IsPageOf (page_at (kept_of self.old) p) mem.now p) →
             (p : ℕ) → IsPageOf (page_at (kept_of self.new) p) mem.now p) }
         ensures others { (p : ℕ) → is_among touched.now.keys p ≡ false → page_at (kept_of self.new) p ≡ page_at (kept_of self.old) p }
-        ensures made { AllMade D.digest_of (kept_of self.new) }
-        ensures joined { IsJoinedBut D.digest_of (kept_of self.new) touched.now.keys }
-        ensures whole { OnOk result (IsJoinedBut D.digest_of (kept_of self.new) []) }
+        ensures made { AllMade C.digest_of (kept_of self.new) }
+        ensures joined { IsJoinedBut C.digest_of (kept_of self.new) touched.now.keys }
+        ensures whole { OnOk result (IsJoinedBut C.digest_of (kept_of self.new) []) }
         ensures empties { self.new.empties ≡ self.old.empties }
         ensures steps { steps.new ≤ steps.old + 275 * length touched.now.keys }
         ensures few { failed ≡ false → steps.new ≤ steps.old + 28 * changed_chunks (kept_of self.old) mem.now touched.now.keys }
@@ -269,7 +269,7 @@ impl Nodes {
         ensures some { OnErr result (0 < length touched.now.keys) }
     {
         'pages: for page in touched.iter() {
-            self.renew_page(d, alloc, *page, failed, mem, steps)?;
+            self.renew_page(c, alloc, *page, failed, mem, steps)?;
         }
         Ok(())
     }

@@ -8,11 +8,9 @@ ghost use Rattle.mem_tree.specs.Tree.{IsRoot};
 ghost use Rattle.mem_tree.specs.Costs.{are_different, differs, has_changed, page_renewals};
 
 use crate::kept::PageTree;
-use digest_core::{Digester, leaf_text};
+use digest_core::{Counted, leaf_text};
 use mem_plain::PlainMem;
-use merkle_nodes::{
-    digest_counted, fill_empty_heap, renew_nodes, renewals_are_few, renewals_are_marked,
-};
+use merkle_nodes::{fill_empty_heap, renew_nodes, renewals_are_few, renewals_are_marked};
 use rd_base::{Digest32, Memory, Steps};
 use std::alloc::Global;
 use std::sync::ledger::Ledger;
@@ -53,8 +51,8 @@ fn is_same(chunk: &[u8; 32], other: &[u8; 32]) -> bool
 }
 
 /// Digests those leaves of a page anew whose chunks have changed, with a step for each, and marks them.
-fn renew_leaves<D: Digester, L: Ledger>(
-    d: D,
+fn renew_leaves<C: Counted, L: Ledger>(
+    c: C,
     nodes: &mut [Digest32],
     chunks: &mut [[u8; 32]],
     marks: &mut [bool],
@@ -66,9 +64,9 @@ fn renew_leaves<D: Digester, L: Ledger>(
     requires len { length nodes.old ≡ 256 }
     requires parts { length chunks.old ≡ 128 }
     requires marks { length marks.old ≡ 256 }
-    requires leaves { HasLeaves D.digest_of nodes.old 128 (leaf_of chunks.old) 128 }
+    requires leaves { HasLeaves C.digest_of nodes.old 128 (leaf_of chunks.old) 128 }
     requires unmarked { (i : ℕ) → is_marked marks.old i ≡ false }
-    ensures leaves { HasLeaves D.digest_of nodes.new 128 (leaf_of chunks.new) 128 }
+    ensures leaves { HasLeaves C.digest_of nodes.new 128 (leaf_of chunks.new) 128 }
     ensures chunks { (j : ℕ) → j < 128 → chunk_in chunks.new j ≡ page_chunk mem.now page j }
     ensures kept { (i : ℕ) → is_marked marks.new i ≡ false → digest_at nodes.new i ≡ digest_at nodes.old i }
     ensures low { (i : ℕ) → i < 128 → is_marked marks.new i ≡ false }
@@ -78,7 +76,7 @@ fn renew_leaves<D: Digester, L: Ledger>(
     'chunks: for j in 0..PAGE_CHUNKS {
         let chunk = chunk_of(mem, page, j);
         if !is_same(&chunks[j], &chunk) {
-            let leaf = digest_counted(d, &leaf_text(&chunk), steps);
+            let leaf = c.digest(&leaf_text(&chunk), steps);
             nodes[PAGE_CHUNKS + j] = leaf;
             chunks[j] = chunk;
             marks[PAGE_CHUNKS + j] = true;
@@ -95,8 +93,8 @@ fn no_marks() -> [bool; 256]
 
 /// Makes a heap and the chunks beside it those of a page, with a step for each changed chunk and each node above one, and tells
 /// whether some chunk has changed.
-fn renew<D: Digester, L: Ledger>(
-    d: D,
+fn renew<C: Counted, L: Ledger>(
+    c: C,
     nodes: &mut [Digest32],
     chunks: &mut [[u8; 32]],
     mem: &PlainMem,
@@ -105,8 +103,8 @@ fn renew<D: Digester, L: Ledger>(
 ) -> bool
     requires page { page < 2 ^ 20 }
     requires parts { length chunks.old ≡ 128 }
-    requires heap { IsHeap D.digest_of nodes.old 7 (leaf_of chunks.old) }
-    ensures heap { IsHeap D.digest_of nodes.new 7 (leaf_of chunks.new) }
+    requires heap { IsHeap C.digest_of nodes.old 7 (leaf_of chunks.old) }
+    ensures heap { IsHeap C.digest_of nodes.new 7 (leaf_of chunks.new) }
     ensures chunks { (j : ℕ) → j < 128 → chunk_in chunks.new j ≡ page_chunk mem.now page j }
     ensures changed { result ≡ is_changed (λ j. are_different (chunk_in chunks.old j) (page_chunk mem.now page j)) 7 0 }
     ensures same { result ≡ false → digest_at nodes.new 1 ≡ digest_at nodes.old 1 }
@@ -114,22 +112,22 @@ fn renew<D: Digester, L: Ledger>(
 {
     renewals_are_marked();
     let mut marks = no_marks();
-    renew_leaves(d, nodes, chunks, &mut marks, mem, page, steps);
-    renew_nodes(d, nodes, &mut marks, PAGE_CHUNKS, steps);
+    renew_leaves(c, nodes, chunks, &mut marks, mem, page, steps);
+    renew_nodes(c, nodes, &mut marks, PAGE_CHUNKS, steps);
     marks[1]
 }
 
 /// The subtree of a page from an earlier one, and whether some chunk has changed.
-fn renewed<D: Digester, L: Ledger>(
-    d: D,
+fn renewed<C: Counted, L: Ledger>(
+    c: C,
     tree: PageTree,
     mem: &PlainMem,
     page: u32,
     steps: &mut Steps<L>,
 ) -> (PageTree, bool)
     requires page { page < 2 ^ 20 }
-    requires heap { IsHeap D.digest_of tree.nodes.items 7 (leaf_of tree.chunks.items) }
-    ensures heap { IsHeap D.digest_of result.0.nodes.items 7 (leaf_of result.0.chunks.items) }
+    requires heap { IsHeap C.digest_of tree.nodes.items 7 (leaf_of tree.chunks.items) }
+    ensures heap { IsHeap C.digest_of result.0.nodes.items 7 (leaf_of result.0.chunks.items) }
     ensures chunks { (j : ℕ) → j < 128 → chunk_in result.0.chunks.items j ≡ page_chunk mem.now page j }
     ensures changed { result.1 ≡ has_changed (Some tree) mem.now page }
     ensures same { result.1 ≡ false → digest_at result.0.nodes.items 1 ≡ digest_at tree.nodes.items 1 }
@@ -139,7 +137,7 @@ fn renewed<D: Digester, L: Ledger>(
         mut nodes,
         mut chunks,
     } = tree;
-    let changed = renew(d, &mut nodes, &mut chunks, mem, page, steps);
+    let changed = renew(c, &mut nodes, &mut chunks, mem, page, steps);
     (PageTree { nodes, chunks }, changed)
 }
 
@@ -171,8 +169,8 @@ fn zeros(alloc: Global, empties: &[Digest32]) -> Result<PageTree, Memory>
 /// The subtree of a page from the one that was kept, or none if every byte of the page is 0, and whether some chunk differs
 /// from what was kept; with a step for each changed chunk and each node above one, if the page isn't empty. An `Err` is out of
 /// memory, and comes only if none was kept.
-pub(crate) fn page_tree_after<D: Digester, L: Ledger>(
-    d: D,
+pub(crate) fn page_tree_after<C: Counted, L: Ledger>(
+    c: C,
     alloc: Global,
     empties: &[Digest32],
     before: Option<PageTree>,
@@ -182,9 +180,9 @@ pub(crate) fn page_tree_after<D: Digester, L: Ledger>(
 ) -> Result<(Option<PageTree>, bool), Memory>
     requires page { page < 2 ^ 20 }
     requires levels { length empties.now ≡ 28 }
-    requires empty { AreEmpty D.digest_of empties.now }
-    requires made { IsMadeTree D.digest_of before }
-    ensures tree { IfOk result (λ r. IsPageTree D.digest_of r.0 mem.now page) }
+    requires empty { AreEmpty C.digest_of empties.now }
+    requires made { IsMadeTree C.digest_of before }
+    ensures tree { IfOk result (λ r. IsPageTree C.digest_of r.0 mem.now page) }
     ensures changed { IfOk result (λ r. r.1 ≡ has_changed before mem.now page) }
     ensures same { IfOk result (λ r. r.1 ≡ false → (empty : List ℕ) → heap_node r.0 1 empty ≡ heap_node before 1 empty) }
     ensures there { IfOk result (λ r. r.1 ≡ false → is_some r.0 ≡ is_some before) }
@@ -197,11 +195,11 @@ pub(crate) fn page_tree_after<D: Digester, L: Ledger>(
     }
     match before {
         Some(tree) => {
-            let (tree, changed) = renewed(d, tree, mem, page, steps);
+            let (tree, changed) = renewed(c, tree, mem, page, steps);
             Ok((Some(tree), changed))
         }
         None => {
-            let (tree, changed) = renewed(d, zeros(alloc, empties)?, mem, page, steps);
+            let (tree, changed) = renewed(c, zeros(alloc, empties)?, mem, page, steps);
             Ok((Some(tree), changed))
         }
     }

@@ -2,7 +2,7 @@ ghost use Rattle.std.specs.Prelude.{◌≡◌, ◌+◌, length};
 ghost use Rattle.merkle_nodes.specs.Node.{digest_at};
 ghost use Rattle.merkle_nodes.specs.Opening.{joined, opened};
 
-use digest_core::{Digester, node_text};
+use digest_core::{Counted, Digester, node_text};
 use rd_base::{Digest32, OpenText, Steps};
 use std::marker::Brand;
 use std::sync::ledger::{Blank, Ledger};
@@ -19,43 +19,42 @@ pub fn joined_text(bit: u32, child: &Digest32, sibling: &Digest32) -> OpenText
 }
 
 /// The digest of a string, which is counted as one step.
-pub fn digest_counted<D: Digester, L: Ledger>(
-    d: D,
+pub fn digest_counted<C: Counted, L: Ledger>(
+    c: C,
     text: &OpenText,
     steps: &mut Steps<L>,
 ) -> Digest32
-    ensures digest { result.0 ≡ D.digest_of text.now }
+    ensures digest { result.0 ≡ C.digest_of text.now }
     ensures steps { steps.new ≡ steps.old + 1 }
 {
-    steps.tick();
-    d.digest(text.as_slice())
+    c.digest(text, steps)
 }
 
 /// The digest at the top of a path, from the string of the leaf up: a level for each sibling, the leaf's sibling first.
 /// Bit l of `index` is 0 if the path stands on the left at level l. It counts one step for each digest.
-pub fn climb_counted<D: Digester, L: Ledger>(
-    d: D,
+pub fn climb_counted<C: Counted, L: Ledger>(
+    c: C,
     index: u32,
     leaf: &OpenText,
     siblings: &[Digest32],
     steps: &mut Steps<L>,
 ) -> Digest32
-    ensures digest { result.0 ≡ D.digest_of
-        (opened D.digest_of leaf.now (digest_at siblings.now) (length siblings.now) index) }
+    ensures digest { result.0 ≡ C.digest_of
+        (opened C.digest_of leaf.now (digest_at siblings.now) (length siblings.now) index) }
     ensures steps { steps.new ≡ steps.old + 1 + length siblings.now }
 {
-    let mut digest = digest_counted(d, leaf, steps);
+    let mut digest = c.digest(leaf, steps);
     let mut k = index;
     'levels: for sibling in siblings {
         let text = joined_text(k % 2, &digest, sibling);
-        digest = digest_counted(d, &text, steps);
+        digest = c.digest(&text, steps);
         k /= 2;
     }
     digest
 }
 
-fn climb_in<D: Digester, L: Ledger>(
-    d: D,
+fn climb_in<C: Counted, L: Ledger>(
+    c: C,
     index: u32,
     leaf: &OpenText,
     siblings: &[Digest32],
@@ -64,11 +63,11 @@ fn climb_in<D: Digester, L: Ledger>(
     requires name { blank.name ≡ L.name }
     requires parts { blank.parts ≡ L.parts }
     requires one { L.parts ≡ 1 }
-    ensures { result.0 ≡ D.digest_of
-        (opened D.digest_of leaf.now (digest_at siblings.now) (length siblings.now) index) }
+    ensures { result.0 ≡ C.digest_of
+        (opened C.digest_of leaf.now (digest_at siblings.now) (length siblings.now) index) }
 {
     let mut steps = Steps::<L>::new(blank);
-    climb_counted(d, index, leaf, siblings, &mut steps)
+    climb_counted(c, index, leaf, siblings, &mut steps)
 }
 
 /// What `climb_counted` gives, uncounted.

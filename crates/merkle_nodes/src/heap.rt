@@ -5,8 +5,7 @@ ghost use Rattle.merkle_nodes.specs.Heap.{AreJoined, IsHeap, IsJoinedAt, is_mark
 ghost use Rattle.merkle_nodes.specs.Renewals.{how_many};
 ghost use Rattle.merkle_nodes.specs.Opening.{IsPath};
 
-use crate::climbing::digest_counted;
-use digest_core::{Digester, node_text};
+use digest_core::{Counted, Digester, node_text};
 use rd_base::{Digest32, OpenText, Steps};
 use std::sync::ledger::Ledger;
 
@@ -51,8 +50,8 @@ pub fn fill_empty_heap(empties: &[Digest32], nodes: &mut [Digest32], levels: u32
 
 /// Digests the nodes of a heap anew that stand above marked places, and marks them, with a step for each. Every other node
 /// above the leaves is the digest of the two below it, so that each is in the end.
-pub fn renew_nodes<D: Digester, L: Ledger>(
-    d: D,
+pub fn renew_nodes<C: Counted, L: Ledger>(
+    c: C,
     nodes: &mut [Digest32],
     marks: &mut [bool],
     width: usize,
@@ -62,9 +61,9 @@ pub fn renew_nodes<D: Digester, L: Ledger>(
     requires len { length nodes.old ≡ 2 * width }
     requires marks { length marks.old ≡ 2 * width }
     requires pending { (i : ℕ) → 1 ≤ i → i < width → is_marked marks.old (2 * i) ≡ false → is_marked marks.old (2 * i + 1) ≡ false →
-        IsJoinedAt D.digest_of nodes.old i }
+        IsJoinedAt C.digest_of nodes.old i }
     requires unmarked { (i : ℕ) → i < width → is_marked marks.old i ≡ false }
-    ensures joined { AreJoined D.digest_of nodes.new width 1 }
+    ensures joined { AreJoined C.digest_of nodes.new width 1 }
     ensures leaves { (i : ℕ) → width ≤ i → digest_at nodes.new i ≡ digest_at nodes.old i }
     ensures kept { (i : ℕ) → is_marked marks.new i ≡ false → digest_at nodes.new i ≡ digest_at nodes.old i }
     ensures above { (i : ℕ) → 1 ≤ i → i < width → is_marked marks.new i ≡ (is_marked marks.new (2 * i) || is_marked marks.new (2 * i + 1)) }
@@ -75,7 +74,7 @@ pub fn renew_nodes<D: Digester, L: Ledger>(
         let i = width - k;
         if marks[2 * i] || marks[2 * i + 1] {
             let text = node_text(&nodes[2 * i], &nodes[2 * i + 1]);
-            let node = digest_counted(d, &text, steps);
+            let node = c.digest(&text, steps);
             nodes[i] = node;
             marks[i] = true;
         }

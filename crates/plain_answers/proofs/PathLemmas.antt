@@ -11,8 +11,8 @@ use Rattle.mem_plain.specs.Contents.{Contents, chunk_at}
 use Rattle.merkle_nodes.specs.Node.{node, beside}
 use Rattle.merkle_nodes.specs.Opening.{IsPath}
 use Rattle.mem_tree.specs.Memory.{memory_leaf}
-use Rattle.state_trees.specs.RegisterTree.{register_leaf}
-use Rattle.state_trees.specs.InputTree.{input_chunk, input_leaf}
+use Rattle.mem_tree.specs.RegisterTree.{register_leaf}
+use Rattle.mem_tree.specs.InputTree.{input_chunk, input_leaf}
 use Rattle.proof_facts.specs.OpenedChunk.{siblings_of, opening_of}
 use Rattle.proof_facts.specs.PlainProof.{register_siblings, register_opening, input_siblings, input_opening_of}
 

@@ -12,8 +12,8 @@ use Rattle.rv_step.specs.State.{State}
 use Rattle.rv_step.specs.declared.asked.Need.{Need}
 use Rattle.rv_step.specs.declared.asked.Need.TheVariants as need
 use Rattle.state_commit.specs.StateRoot.{ctl_of, memory_digest, registers_digest}
-use Rattle.state_trees.specs.RegisterTree.{registers_root}
-use Rattle.state_trees.specs.InputTree.{input_root}
+use Rattle.mem_tree.specs.RegisterTree.{registers_root}
+use Rattle.mem_tree.specs.InputTree.{input_root}
 use Rattle.proof_facts.specs.OpenedChunk.{opening_at, fetch_of_state}
 use Rattle.proof_facts.specs.Facts.{byte_needed}
 use Rattle.proof_facts.specs.PlainProof.{register_opening, input_opening_at, plain_proof, plain_proof_1, plain_proof_2, plain_proof_3}

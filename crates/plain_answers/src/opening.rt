@@ -5,12 +5,12 @@ ghost use Rattle.proof_facts.specs.OpenedChunk as memory;
 ghost use Rattle.proof_facts.specs.PlainProof as parts;
 
 use digest_core::Digester;
+use mem_tree::input_chunk;
 use rd_base::{
     InOpening, Opening, RegOpening, RegOpenings, paths_have_5_levels, paths_have_15_levels,
     paths_have_27_levels,
 };
 use state_commit::Committed;
-use state_trees::input_chunk;
 
 /// The chunk of memory that holds an address, with its path.
 fn opening_of<D: Digester>(committed: &Committed<D>, addr: u32) -> Opening

@@ -24,7 +24,7 @@ use Rattle.rv_step.specs.declared.effect.Effect.TheVariants.{Write, Jump, Branch
 use Rattle.rv_step.specs.declared.asked.Need.{Need}
 use Rattle.rv_step.specs.declared.asked.Need.TheVariants as need
 use Rattle.state_commit.specs.StateRoot.{ctl_of}
-use Rattle.state_trees.specs.InputTree.{input_root}
+use Rattle.mem_tree.specs.InputTree.{input_root}
 use Rattle.proof_facts.specs.Held.{held_of, held_after, number_shown, path_text, chunk_with}
 use Rattle.proof_facts.specs.Called.{address_needed, fetch_address, fetched_in}
 use Rattle.proof_facts.specs.OpenedChunk.{IsShown, IsShownAt, fetched_at, fetch_of_state}

@@ -20,8 +20,8 @@ use Rattle.rv_step.specs.Step.{step}
 use Rattle.rv_step.specs.Valid.{IsValid}
 use Rattle.rv_step.specs.declared.asked.Need.{Need}
 use Rattle.state_commit.specs.StateRoot.{ctl_of, memory_digest, registers_digest, storage_digest, root_in}
-use Rattle.state_trees.specs.InputTree.{input_root}
-use Rattle.state_trees.specs.RegisterTree.{registers_root}
+use Rattle.mem_tree.specs.InputTree.{input_root}
+use Rattle.mem_tree.specs.RegisterTree.{registers_root}
 use Rattle.proof_facts.specs.Held.{Held, held_of}
 use Rattle.proof_facts.specs.Called.{fetch_address, fetched_in, address_needed}
 use Rattle.proof_facts.specs.OpenedChunk.{IsShownAt, fetched_at, fetch_of_state}

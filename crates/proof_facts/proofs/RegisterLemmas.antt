@@ -10,7 +10,7 @@ use Rattle.merkle_nodes.specs.Opening.{opened}
 use Rattle.rv_step.specs.Alike.{is_among}
 use Rattle.rv_step.specs.Effect.{x}
 use Rattle.rv_step.specs.Named.{AreRegisters}
-use Rattle.state_trees.specs.RegisterTree.{register_leaf, registers_root}
+use Rattle.mem_tree.specs.RegisterTree.{register_leaf, registers_root}
 use Rattle.proof_facts.specs.Facts.{file_of, values_of}
 use Rattle.proof_facts.specs.Next.{root_changed}
 use Rattle.proof_facts.specs.Shown.{AreShown}

@@ -34,8 +34,8 @@ use Rattle.rv_step.specs.declared.asked.Need.TheVariants as need
 use Rattle.state_commit.specs.StateRoot.{ctl_of, memory_digest, registers_digest, storage_of, storage_digest, text_in, root_in}
 use Rattle.state_commit.specs.Strings.{IsStringIn}
 use Rattle.state_commit.specs.Strings.IsStringIn.{is_state, is_control, is_memory, is_registers, is_register, is_storage, is_input}
-use Rattle.state_trees.specs.RegisterTree.{register_leaf, register_node, registers_root}
-use Rattle.state_trees.specs.InputTree.{input_chunk, input_leaf, input_node, input_root}
+use Rattle.mem_tree.specs.RegisterTree.{register_leaf, register_node, registers_root}
+use Rattle.mem_tree.specs.InputTree.{input_chunk, input_leaf, input_node, input_root}
 use Rattle.proof_facts.specs.Called.{fetch_address, fetched_in, address_needed}
 use Rattle.proof_facts.specs.OpenedChunk.{IsShownAt, opening_at, siblings_of, fetched_at, fetch_of_state}
 use Rattle.proof_facts.specs.Conditions.{AllHold, LeadsFrom, conditions}

@@ -19,8 +19,8 @@ use Rattle.merkle_nodes.specs.Split.{IsSplit}
 use Rattle.merkle_nodes.specs.TreeStrings.{IsTreeString}
 use Rattle.mem_tree.specs.Memory.{memory_leaf, memory_node}
 use Rattle.rv_step.specs.Named.{AreRegisters}
-use Rattle.state_trees.specs.RegisterTree.{register_leaf, registers_root}
-use Rattle.state_trees.specs.InputTree.{input_leaf, input_root}
+use Rattle.mem_tree.specs.RegisterTree.{register_leaf, registers_root}
+use Rattle.mem_tree.specs.InputTree.{input_leaf, input_root}
 use Rattle.proof_facts.specs.Opened.{texts_from}
 use Rattle.proof_facts.specs.OpenedChunk.{IsShownAt}
 use Rattle.proof_facts.specs.LawsBelow.{TreeLaws}

@@ -16,7 +16,7 @@ use Rattle.rv_step.specs.Offer.{offered}
 use Rattle.rv_step.specs.Parts.{needed_in, finished, Finishes, IsAligned}
 use Rattle.rv_step.specs.State.{State}
 use Rattle.rv_step.specs.Step.{step}
-use Rattle.state_trees.specs.InputTree.{input_chunk}
+use Rattle.mem_tree.specs.InputTree.{input_chunk}
 
 -- what a step rests on
 pub record StepLaws : Type 0 where

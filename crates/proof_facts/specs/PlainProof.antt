@@ -13,8 +13,8 @@ use Rattle.merkle_nodes.specs.Node.{beside}
 use Rattle.rv_step.specs.Alike.{named_at}
 use Rattle.rv_step.specs.State.{State}
 use Rattle.state_commit.specs.StateRoot.{ctl_of, memory_digest}
-use Rattle.state_trees.specs.RegisterTree.{register_node, registers_root}
-use Rattle.state_trees.specs.InputTree.{input_chunk, input_node, input_root}
+use Rattle.mem_tree.specs.RegisterTree.{register_node, registers_root}
+use Rattle.mem_tree.specs.InputTree.{input_chunk, input_node, input_root}
 use Rattle.proof_facts.specs.OpenedChunk.{opening_at, fetch_of_state}
 use Rattle.proof_facts.specs.Shown.{operand_of_state, input_of_state}
 

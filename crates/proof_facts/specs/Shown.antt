@@ -9,8 +9,8 @@ use Rattle.rv_step.specs.Alike.{named_at}
 use Rattle.rv_step.specs.State.{State}
 use Rattle.rv_step.specs.declared.asked.Need.{Need}
 use Rattle.state_commit.specs.StateRoot.{ctl_of, memory_digest}
-use Rattle.state_trees.specs.RegisterTree.{register_leaf, registers_root}
-use Rattle.state_trees.specs.InputTree.{input_chunk, input_leaf, input_root}
+use Rattle.mem_tree.specs.RegisterTree.{register_leaf, registers_root}
+use Rattle.mem_tree.specs.InputTree.{input_chunk, input_leaf, input_root}
 use Rattle.proof_facts.specs.Called.{address_needed}
 use Rattle.proof_facts.specs.OpenedChunk.{IsShownAt, fetched_at, fetch_of_state}
 use Rattle.proof_facts.specs.Facts.{needed_by, byte_needed}

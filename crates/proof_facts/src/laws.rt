@@ -20,7 +20,7 @@ ghost use Rattle.proof_facts.specs.declared.facts.Facts.{Facts};
 
 use digest_core::chain_grows;
 use mem_plain::numbers_lie_in_chunks;
-use mem_tree::memory_nodes;
+use mem_tree::{input_bytes_lie_in_chunks, memory_nodes};
 use merkle_nodes::{
     changed_leaves_climb_with_old_siblings, nodes_depend_on_leaves_below, paths_climb_to_nodes,
     paths_open_strings_of_the_tree,
@@ -29,7 +29,6 @@ use rv_step::{
     effects_read_named_registers, names_are_registers, runs_keep_the_input,
     steps_read_named_registers, two_parts_are_the_step,
 };
-use state_trees::input_bytes_lie_in_chunks;
 
 /// The laws of the crates below that those of this crate rest on.
 fn laws_below()

@@ -3,7 +3,7 @@ use Rattle.std.specs.Prelude.{◌≡◌, ℕ, List, map, min}
 use Rattle.rd_base.specs.declared.digest.Digest32.{Digest32}
 use Rattle.rv_step.specs.State.{State}
 use Rattle.state_commit.specs.StateRoot.{root_in}
-use Rattle.state_trees.specs.InputTree.{input_root}
+use Rattle.mem_tree.specs.InputTree.{input_root}
 use Rattle.checkpoint_run.specs.Recorded.{Recorded, state_of_step}
 
 -- the root of a state, in the version of the commitment that the state has

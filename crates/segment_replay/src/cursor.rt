@@ -12,11 +12,10 @@ use checkpoint_run::{
 };
 use digest_core::Digester;
 use mem_plain::PlainMem;
-use mem_tree::MemTree;
+use mem_tree::{MemTree, input_root};
 use rd_base::{Digest32, Memory};
 use rv_step::Machine;
 use state_commit::{INPUT_TREE, KeptRegisters, root_of_parts};
-use state_trees::input_root;
 use std::alloc::Global;
 use std::thread::Threads;
 

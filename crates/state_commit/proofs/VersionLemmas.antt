@@ -2,7 +2,7 @@
 use Rattle.std.proofs.Common.{◌≡◌, ℕ, eqb, List, Option, Some, None, sym, ap, ◌∙◌, subst}
 use Rattle.rd_base.specs.declared.digest.Digest32.{Digest32}
 use Rattle.rv_step.specs.State.{State}
-use Rattle.state_trees.specs.InputTree.{IsInputTree}
+use Rattle.mem_tree.specs.InputTree.{IsInputTree}
 use Rattle.state_commit.specs.Committing.{HasTreeFor, HasRegisters, HasInput}
 
 -- a state's tree of registers is there as its version has one

@@ -7,7 +7,7 @@ use Rattle.rd_base.specs.declared.digest.Digest32.{Digest32}
 use Rattle.mem_tree.specs.Tree.{Tree, IsTreeOf}
 use Rattle.rv_step.specs.declared.machine.Machine.{Machine}
 use Rattle.rv_step.specs.State.{State, IsChained}
-use Rattle.state_trees.specs.InputTree.{IsInputTree}
+use Rattle.mem_tree.specs.InputTree.{IsInputTree}
 
 -- the machine's chain is that of its output, and the tree is that of its memory, with no page touched
 abbrev pub IsCommitted : (List ℕ → List ℕ) → Machine → Tree → Type 0

@@ -8,8 +8,8 @@ use Rattle.digest_core.specs.Chain.{chain_of}
 use Rattle.mem_tree.specs.Memory.{memory_node}
 use Rattle.out_chain.specs.Root.{parts_text}
 use Rattle.rv_step.specs.State.{State}
-use Rattle.state_trees.specs.RegisterTree.{registers_root}
-use Rattle.state_trees.specs.InputTree.{input_root}
+use Rattle.mem_tree.specs.RegisterTree.{registers_root}
+use Rattle.mem_tree.specs.InputTree.{input_root}
 
 -- the control fields of a state: of its output they have the length, modulo 2^64, and the chain
 abbrev pub ctl_of : (List ℕ → List ℕ) → State → Ctl

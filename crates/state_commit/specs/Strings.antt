@@ -7,8 +7,8 @@ use Rattle.out_chain.specs.Root.{control_text_of}
 use Rattle.out_chain.specs.Collision.{links_of}
 use Rattle.rv_step.specs.State.{State}
 use Rattle.state_commit.specs.StateRoot.{ctl_of, storage_of, text_in}
-use Rattle.state_trees.specs.RegisterTree.{register_leaf}
-use Rattle.state_trees.specs.InputTree.{input_leaf}
+use Rattle.mem_tree.specs.RegisterTree.{register_leaf}
+use Rattle.mem_tree.specs.InputTree.{input_leaf}
 
 -- x is a string of a state: its state string or control string; a leaf or node string of its memory; a link string of its output;
 -- in version 1 its registers string, and from version 2 on a leaf or node string of its registers; in version 3 its storage string,

@@ -8,10 +8,9 @@ use crate::root::{WHOLE_REGISTERS, root_of_parts};
 use crate::shared_input::SharedInput;
 use digest_core::{Digester, registers_text};
 use mem_plain::PlainMem;
-use mem_tree::MemTree;
+use mem_tree::{MemTree, RegTree};
 use rd_base::{Digest32, Memory, RegPath};
 use rv_step::{Machine, one_page_changes, runs_keep_the_input, step, touches};
-use state_trees::RegTree;
 use std::alloc::Global;
 use std::marker::Model;
 use std::thread::Threads;
@@ -91,7 +90,7 @@ impl<D: Digester> Committed<D> {
     ghost use Rattle.rv_step.specs.Step.{step as step_of};
     ghost use Rattle.merkle_nodes.specs.Opening.{IsPath};
     ghost use Rattle.state_commit.specs.StateRoot.{registers_digest, root_in};
-    ghost use Rattle.state_trees.specs.RegisterTree.{register_leaf};
+    ghost use Rattle.mem_tree.specs.RegisterTree.{register_leaf};
 
     /// A machine with the trees of its version, which are built from scratch. The machine's chain is that of its output, by this
     /// digester. An `Err` is out of memory, and drops the machine.

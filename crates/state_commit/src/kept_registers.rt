@@ -3,8 +3,8 @@ ghost use Rattle.state_commit.specs.StateRoot.{registers_digest};
 
 use crate::root::WHOLE_REGISTERS;
 use digest_core::{Digester, registers_text};
+use mem_tree::RegTree;
 use rd_base::{Digest32, Regs};
-use state_trees::RegTree;
 use std::marker::Model;
 
 /// The digest of registers in a version of the commitment. From version 2 on the tree is kept of those for which it was asked last,

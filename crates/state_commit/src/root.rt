@@ -4,15 +4,15 @@ ghost use Rattle.digest_core.specs.Text.{storage_text as text_of_storage};
 ghost use Rattle.rv_step.specs.State.{state_of, IsChained};
 ghost use Rattle.state_commit.specs.StateRoot as state;
 ghost use Rattle.state_commit.specs.Committing.{HasInput};
-ghost use Rattle.state_trees.specs.InputTree as inputs;
+ghost use Rattle.mem_tree.specs.InputTree as inputs;
 
 use crate::scratch::memory_root;
 use crate::shared_input::SharedInput;
 use digest_core::{Digester, registers_text, storage_text};
+use mem_tree::{RegTree, input_root};
 use out_chain::parts_root;
 use rd_base::{Digest32, Regs};
 use rv_step::Machine;
-use state_trees::{RegTree, input_root};
 
 /// The version of the commitment in which the registers are digested as one string.
 pub const WHOLE_REGISTERS: u8 = 1;

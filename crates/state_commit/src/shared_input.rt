@@ -5,9 +5,9 @@ ghost use Rattle.state_commit.specs.Committing.{HasInput};
 
 use crate::root::INPUT_TREE;
 use digest_core::Digester;
+use mem_tree::InputTree;
 use rd_base::{Digest32, InPath, Memory};
 use rv_step::Machine;
-use state_trees::InputTree;
 use std::alloc::Global;
 use std::marker::Model;
 use std::sync::Arc;
@@ -33,7 +33,7 @@ impl<D: Digester> Model for SharedInput<D> {
 
 impl<D: Digester> SharedInput<D> {
     ghost use Rattle.merkle_nodes.specs.Opening.{IsPath};
-    ghost use Rattle.state_trees.specs.InputTree.{input_leaf, input_root};
+    ghost use Rattle.mem_tree.specs.InputTree.{input_leaf, input_root};
 
     /// The tree of a machine's input, if its version has one. It has 2 MiB. An `Err` is out of memory.
     pub fn of(alloc: Global, d: D, machine: &Machine) -> Result<Self, Memory>

@@ -17,8 +17,8 @@ use Rattle.rv_step.specs.Alike.{named_at}
 use Rattle.rv_step.specs.State.{State}
 use Rattle.rv_step.specs.Valid.{IsValid, HasWordCode}
 use Rattle.state_commit.specs.StateRoot.{ctl_of, memory_digest}
-use Rattle.state_trees.specs.RegisterTree.{register_node, registers_root}
-use Rattle.state_trees.specs.InputTree.{input_chunk, input_node, input_root}
+use Rattle.mem_tree.specs.RegisterTree.{register_node, registers_root}
+use Rattle.mem_tree.specs.InputTree.{input_chunk, input_node, input_root}
 use Rattle.proof_facts.specs.InRange.{are_digests, are_words, is_opening_in_range, is_ctl_in_range, is_input_in_range, are_openings_in_range, are_registers_in_range, is_tree_in_range, are_facts_in_range, is_in_range}
 use Rattle.proof_facts.specs.OpenedChunk.{siblings_of, opening_at, fetch_of_state}
 use Rattle.proof_facts.specs.RangeLaws.{words_are, digests_are}

@@ -19,7 +19,7 @@ use Rattle.rv_step.specs.Valid.{IsValid}
 use Rattle.rv_step.specs.declared.effect.Effect.{Effect}
 use Rattle.rv_step.specs.declared.effect.Effect.TheVariants.{Write, Jump, Branch, Next, Store, Put, Exit, Trap}
 use Rattle.state_commit.specs.StateRoot.{ctl_of, memory_digest, registers_digest, storage_of, storage_digest, root_in}
-use Rattle.state_trees.specs.RegisterTree.{registers_root}
+use Rattle.mem_tree.specs.RegisterTree.{registers_root}
 use Rattle.proof_facts.specs.Conditions.{LeadsFrom}
 use Rattle.proof_facts.specs.Facts.{facts_of}
 use Rattle.proof_facts.specs.PlainProof.{plain_proof}

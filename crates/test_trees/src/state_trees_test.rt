@@ -1,7 +1,7 @@
 use digest_core::{Digester, Sha256, leaf_text, register_text, storage_text};
+use mem_tree::{InputTree, RegTree, input_chunk, input_root};
 use merkle_nodes::climb;
 use rd_base::{Digest32, Regs};
-use state_trees::{InputTree, RegTree, input_chunk, input_root};
 use std::alloc::Global;
 use std::sync::atomic::{AtomicU64, Ordering};
 use std::test::Fail;

@@ -11,7 +11,7 @@ returns-then-not-is_used-clause-tree g c = record { made = tt; page_of = unused-
 
 pub returns-then-not-is_used-clause-changed : goal.returns-then-not-is_used-clause-changed
 returns-then-not-is_used-clause-changed g c =
-    c.is_some.ensures ∙ was-kept c.renewals_are_few.ensures.root c.renewals_are_few.ensures.some c.args.mem.now c.args.page g.D.Digester.digest_of c.args.before c.requires.made
+    c.is_some.ensures ∙ was-kept c.renewals_are_few.ensures.root c.renewals_are_few.ensures.some c.args.mem.now c.args.page g.C.Counted.digest_of c.args.before c.requires.made
     (λ used. true≢false (sym (c.is_used.ensures.1 used) ∙ c.if-not-is_used.true))
 
 pub returns-then-not-is_used-clause-steps : goal.returns-then-not-is_used-clause-steps
@@ -29,7 +29,7 @@ returns-in-Some-clause-tree g c =
     let tree = c.renewed-tree.result.0 in
     let used = c.is_used.ensures.0 c.if-not-is_used.false in
     let chunks = c.renewed-tree.ensures.chunks in
-    record { made = record { heap = c.renewed-tree.ensures.heap; some = used-some tree m page used chunks }; page_of = used-page g.D.Digester.digest_of tree m page used chunks }
+    record { made = record { heap = c.renewed-tree.ensures.heap; some = used-some tree m page used chunks }; page_of = used-page g.C.Counted.digest_of tree m page used chunks }
 
 pub returns-in-Some-clause-steps : goal.returns-in-Some-clause-steps
 returns-in-Some-clause-steps g c =
@@ -47,7 +47,7 @@ returns-in_ok-zeros-in-None-clause-tree g c =
     let tree = c.renewed-tree-in-None.result.0 in
     let used = c.is_used.ensures.0 c.if-not-is_used.false in
     let chunks = c.renewed-tree-in-None.ensures.chunks in
-    record { made = record { heap = c.renewed-tree-in-None.ensures.heap; some = used-some tree m page used chunks }; page_of = used-page g.D.Digester.digest_of tree m page used chunks }
+    record { made = record { heap = c.renewed-tree-in-None.ensures.heap; some = used-some tree m page used chunks }; page_of = used-page g.C.Counted.digest_of tree m page used chunks }
 
 pub returns-in_ok-zeros-in-None-clause-changed : goal.returns-in_ok-zeros-in-None-clause-changed
 returns-in_ok-zeros-in-None-clause-changed g c =

@@ -8,12 +8,12 @@ use Rattle.merkle_nodes.proofs.heap.renew_nodes.Goals as goal
 pub nodes-init : goal.nodes-init
 nodes-init g c =
     let from : c.args.width + 1 - 1 ≡ c.args.width = omega arith in
-    subst (IsRenewing g.D.Digester.digest_of c.args.nodes.now c.args.marks.now c.args.width c.args.steps.now c.args.nodes.now c.args.marks.now c.args.steps.now) (sym from)
-    (renewing-first g.D.Digester.digest_of c.args.nodes.now c.args.marks.now c.args.width c.args.steps.now c.requires.len c.requires.marks c.requires.pending c.requires.unmarked)
+    subst (IsRenewing g.C.Counted.digest_of c.args.nodes.now c.args.marks.now c.args.width c.args.steps.now c.args.nodes.now c.args.marks.now c.args.steps.now) (sym from)
+    (renewing-first g.C.Counted.digest_of c.args.nodes.now c.args.marks.now c.args.width c.args.steps.now c.requires.len c.requires.marks c.requires.pending c.requires.unmarked)
 
 pub nodes-preserved : goal.nodes-preserved
 nodes-preserved g c =
-    let digest = g.D.Digester.digest_of in
+    let digest = g.C.Counted.digest_of in
     let width = c.args.width in
     let place = width - c.nodes.k in
     let down : width + 1 - (c.nodes.k + 1) ≡ place = omega arith in
@@ -27,8 +27,8 @@ nodes-preserved g c =
     elim c.if-marks-i.branch [
       | then-marks-i w ↦
           let set : IsRenewing digest old first width start c.if-marks-i.nodes c.if-marks-i.marks c.if-marks-i.steps place =
-          rw (w.nodes-is, w.marks-is, w.steps-is, w.digest_counted-node.ensures.steps) (renewing-set digest old first width start nodes marks c.nodes.steps place (omega (arith, c.nodes-test.true)) (omega (arith, c.nodes.auto.k)) is
-          w.digest_counted-node.result (w.digest_counted-node.ensures.digest ∙ ap digest w.node_text-text.ensures)
+          rw (w.nodes-is, w.marks-is, w.steps-is, w.digest-node.ensures.steps) (renewing-set digest old first width start nodes marks c.nodes.steps place (omega (arith, c.nodes-test.true)) (omega (arith, c.nodes.auto.k)) is
+          w.digest-node.result (w.digest-node.ensures.digest ∙ ap digest w.node_text-text.ensures)
           (elim w.then-marks-i.branch [
             | then-marks-i-via-then-marks-i v ↦ or_left (is_marked marks (2 * place)) (is_marked marks (2 * place + 1)) v.if-marks-i.true
             | then-marks-i-via-else-marks-i+then-marks-i-2 v ↦ or_right (is_marked marks (2 * place)) (is_marked marks (2 * place + 1)) v.if-marks-i-2.true
@@ -41,10 +41,10 @@ nodes-preserved g c =
     ]
 
 pub returns-clause-joined : goal.returns-clause-joined
-returns-clause-joined g c = renewed-joined g.D.Digester.digest_of c.args.nodes.now c.args.marks.now c.args.width c.args.steps.now c.nodes.nodes c.nodes.marks c.nodes.steps _ (omega (arith, c.nodes-test.false, c.nodes.auto.k-end, c.requires.some)) c.nodes.invariant
+returns-clause-joined g c = renewed-joined g.C.Counted.digest_of c.args.nodes.now c.args.marks.now c.args.width c.args.steps.now c.nodes.nodes c.nodes.marks c.nodes.steps _ (omega (arith, c.nodes-test.false, c.nodes.auto.k-end, c.requires.some)) c.nodes.invariant
 
 pub returns-clause-above : goal.returns-clause-above
-returns-clause-above g c = renewed-above g.D.Digester.digest_of c.args.nodes.now c.args.marks.now c.args.width c.args.steps.now c.nodes.nodes c.nodes.marks c.nodes.steps _ (omega (arith, c.nodes-test.false, c.nodes.auto.k-end, c.requires.some)) c.nodes.invariant
+returns-clause-above g c = renewed-above g.C.Counted.digest_of c.args.nodes.now c.args.marks.now c.args.width c.args.steps.now c.nodes.nodes c.nodes.marks c.nodes.steps _ (omega (arith, c.nodes-test.false, c.nodes.auto.k-end, c.requires.some)) c.nodes.invariant
 
 pub returns-clause-steps : goal.returns-clause-steps
-returns-clause-steps g c = renewed-made g.D.Digester.digest_of c.args.nodes.now c.args.marks.now c.args.width c.args.steps.now c.nodes.nodes c.nodes.marks c.nodes.steps _ (omega (arith, c.nodes-test.false, c.nodes.auto.k-end, c.requires.some)) c.nodes.invariant
+returns-clause-steps g c = renewed-made g.C.Counted.digest_of c.args.nodes.now c.args.marks.now c.args.width c.args.steps.now c.nodes.nodes c.nodes.marks c.nodes.steps _ (omega (arith, c.nodes-test.false, c.nodes.auto.k-end, c.requires.some)) c.nodes.invariant

@@ -1,7 +1,7 @@
 use Rattle.std.proofs.Common.{ℕ, List, ◌/◌, ap, ◌∙◌}
 use Rattle.rd_base.specs.declared.opened.InOpening.{InOpening}
 use Rattle.rv_step.specs.State.{State}
-use Rattle.state_trees.specs.InputTree.{input_chunk}
+use Rattle.mem_tree.specs.InputTree.{input_chunk}
 use Rattle.plain_answers.proofs.PathLemmas.{input-is}
 use Rattle.plain_answers.proofs.opening.input_opening_of.Goals as goal
 

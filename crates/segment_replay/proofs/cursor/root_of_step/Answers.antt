@@ -1,7 +1,7 @@
 use Rattle.std.proofs.Common.{◌≡◌, ℕ, sym, ap, ◌∙◌}
 use Rattle.rv_step.specs.State.{State}
 use Rattle.state_commit.specs.StateRoot.{registers_digest}
-use Rattle.state_trees.specs.InputTree.{input_root}
+use Rattle.mem_tree.specs.InputTree.{input_root}
 use Rattle.segment_replay.specs.Roots.{own_root}
 use Rattle.segment_replay.proofs.cursor.root_of_step.Goals as goal
 

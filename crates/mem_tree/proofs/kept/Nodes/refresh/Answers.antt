@@ -15,11 +15,11 @@ renew_page-requires-clause-page g c =
     c.requires.pages c.in-Some.page.now (c.pages.invariant.among c.in-Some.page.now (subst (λ l. is_among l c.in-Some.page.now ≡ true) (sym c.in-Some.ensures.steps) (among-head c.in-Some.page.now c.next.new.self)))
 
 pub renew_page-requires-clause-empty : goal.renew_page-requires-clause-empty
-renew_page-requires-clause-empty g c = subst (AreEmpty g.D.Digester.digest_of) (sym c.pages.invariant.empties) c.requires.empty
+renew_page-requires-clause-empty g c = subst (AreEmpty g.C.Counted.digest_of) (sym c.pages.invariant.empties) c.requires.empty
 
 pub pages-preserved : goal.pages-preserved
 pages-preserved g c =
-    let digest = g.D.Digester.digest_of in
+    let digest = g.C.Counted.digest_of in
     let m = c.args.mem.now in
     let page = c.in-Some.page.now in
     let rest = c.next.new.self in
@@ -60,7 +60,7 @@ pages-preserved g c =
 
 pub pages-init : goal.pages-init
 pages-init g c =
-    let digest = g.D.Digester.digest_of in
+    let digest = g.C.Counted.digest_of in
     let eq = c.into_iter-page-iterator.ensures.into_iter_gives ∙ c.iter-page-items.ensures.rest in
     let nodes = kept_of c.args.self.now in
     let m = c.args.mem.now in

@@ -16,10 +16,10 @@ invariant-pages g l = record {
       (p : ℕ) → is_among l.page-iterator p ≡ false → IsPageOf (page_at (kept_of l.self) p) l.mem p;
   others : (p : ℕ) → is_among l.touched.keys p ≡ false → page_at (kept_of l.self) p ≡ page_at (kept_of l.fn.self) p;
   left : (p : ℕ) → is_among l.page-iterator p ≡ true → page_at (kept_of l.self) p ≡ page_at (kept_of l.fn.self) p;
-  made : AllMade g.D.Digester.digest_of (kept_of l.self);
-  joined : IsJoinedBut g.D.Digester.digest_of (kept_of l.self) l.touched.keys;
-  fresh : l.failed ≡ true → IsJoinedBut g.D.Digester.digest_of (kept_of l.self) l.page-iterator;
-  whole : l.failed ≡ false → IsJoinedBut g.D.Digester.digest_of (kept_of l.self) [];
+  made : AllMade g.C.Counted.digest_of (kept_of l.self);
+  joined : IsJoinedBut g.C.Counted.digest_of (kept_of l.self) l.touched.keys;
+  fresh : l.failed ≡ true → IsJoinedBut g.C.Counted.digest_of (kept_of l.self) l.page-iterator;
+  whole : l.failed ≡ false → IsJoinedBut g.C.Counted.digest_of (kept_of l.self) [];
   empties : l.self.empties ≡ l.fn.self.empties;
   steps : l.steps + 275 * length l.page-iterator ≤ l.initial.steps + 275 * length l.touched.keys;
   few : l.failed ≡ false → l.steps + 28 * changed_chunks (kept_of l.fn.self) l.mem l.page-iterator ≤ l.initial.steps + 28 * changed_chunks (kept_of l.fn.self) l.mem l.touched.keys;

@@ -15,40 +15,40 @@ at-least None start mid end made needs all moved is more most some none = let ze
 
 pub returns-in_err-tree-clause-kept : goal.returns-in_err-tree-clause-kept
 returns-in_err-tree-clause-kept g c = λ stale.
-    stays-joined g.D.Digester.digest_of (kept_of c.args.self.now) (kept_of c.take_page-before.new.self) c.args.page c.take_page-before.ensures.empties c.take_page-before.ensures.elsewhere
+    stays-joined g.C.Counted.digest_of (kept_of c.args.self.now) (kept_of c.take_page-before.new.self) c.args.page c.take_page-before.ensures.empties c.take_page-before.ensures.elsewhere
     (λ n k apart. upper-same c.take_page-before.new.self c.args.self.now c.take_page-before.ensures.upper n k) stale
 
 pub returns-in_err-tree-clause-made : goal.returns-in_err-tree-clause-made
 returns-in_err-tree-clause-made g c =
-    let digest = g.D.Digester.digest_of in
+    let digest = g.C.Counted.digest_of in
     made-put digest (kept_of c.args.self.now) (kept_of c.take_page-before.new.self) c.args.page c.take_page-before.ensures.empties c.take_page-before.ensures.elsewhere
     (λ n k apart. upper-same c.take_page-before.new.self c.args.self.now c.take_page-before.ensures.upper n k) (subst (IsMadeTree digest) (sym c.take_page-before.ensures.here) tt) c.requires.made
 
 pub returns-in_err-place-clause-kept : goal.returns-in_err-place-clause-kept
 returns-in_err-place-clause-kept g c = λ stale before is.
-    c.place.ensures.kept stale (stays-joined g.D.Digester.digest_of (kept_of c.args.self.now) (kept_of c.take_page-before.new.self) c.args.page c.take_page-before.ensures.empties c.take_page-before.ensures.elsewhere
+    c.place.ensures.kept stale (stays-joined g.C.Counted.digest_of (kept_of c.args.self.now) (kept_of c.take_page-before.new.self) c.args.page c.take_page-before.ensures.empties c.take_page-before.ensures.elsewhere
     (λ n k apart. upper-same c.take_page-before.new.self c.args.self.now c.take_page-before.ensures.upper n k) stale before is) is
 
 pub returns-in_err-place-clause-made : goal.returns-in_err-place-clause-made
 returns-in_err-place-clause-made g c =
-    let digest = g.D.Digester.digest_of in
+    let digest = g.C.Counted.digest_of in
     c.place.ensures.made (made-put digest (kept_of c.args.self.now) (kept_of c.take_page-before.new.self) c.args.page c.take_page-before.ensures.empties c.take_page-before.ensures.elsewhere
     (λ n k apart. upper-same c.take_page-before.new.self c.args.self.now c.take_page-before.ensures.upper n k) (subst (IsMadeTree digest) (sym c.take_page-before.ensures.here) tt) c.requires.made) c.in_ok-tree.ensures.tree.made
 
 pub returns-then-changed-clause-made : goal.returns-then-changed-clause-made
 returns-then-changed-clause-made g c =
-    let digest = g.D.Digester.digest_of in
+    let digest = g.C.Counted.digest_of in
     c.place.ensures.made (made-put digest (kept_of c.args.self.now) (kept_of c.take_page-before.new.self) c.args.page c.take_page-before.ensures.empties c.take_page-before.ensures.elsewhere
     (λ n k apart. upper-same c.take_page-before.new.self c.args.self.now c.take_page-before.ensures.upper n k) (subst (IsMadeTree digest) (sym c.take_page-before.ensures.here) tt) c.requires.made) c.in_ok-tree.ensures.tree.made
 
 pub returns-then-changed-clause-kept : goal.returns-then-changed-clause-kept
 returns-then-changed-clause-kept g c = λ stale before is.
-    c.place.ensures.kept stale (stays-joined g.D.Digester.digest_of (kept_of c.args.self.now) (kept_of c.take_page-before.new.self) c.args.page c.take_page-before.ensures.empties c.take_page-before.ensures.elsewhere
+    c.place.ensures.kept stale (stays-joined g.C.Counted.digest_of (kept_of c.args.self.now) (kept_of c.take_page-before.new.self) c.args.page c.take_page-before.ensures.empties c.take_page-before.ensures.elsewhere
     (λ n k apart. upper-same c.take_page-before.new.self c.args.self.now c.take_page-before.ensures.upper n k) stale before is) is
 
 pub returns-then-changed-clause-whole : goal.returns-then-changed-clause-whole
 returns-then-changed-clause-whole g c = λ before.
-    let digest = g.D.Digester.digest_of in
+    let digest = g.C.Counted.digest_of in
     let page = c.args.page in
     let stale : List ℕ = page ∷ [] in
     c.in_ok-place.ensures.joined stale [] (stays-joined digest (kept_of c.args.self.now) (kept_of c.take_page-before.new.self) page c.take_page-before.ensures.empties c.take_page-before.ensures.elsewhere
@@ -57,7 +57,7 @@ returns-then-changed-clause-whole g c = λ before.
 
 pub returns-then-changed-clause-fresh : goal.returns-then-changed-clause-fresh
 returns-then-changed-clause-fresh g c = λ failed stale left before tells.
-    let digest = g.D.Digester.digest_of in
+    let digest = g.C.Counted.digest_of in
     let page = c.args.page in
     c.in_ok-place.ensures.joined (page ∷ stale) left (stays-joined digest (kept_of c.args.self.now) (kept_of c.take_page-before.new.self) page c.take_page-before.ensures.empties c.take_page-before.ensures.elsewhere
     (λ n k apart. upper-same c.take_page-before.new.self c.args.self.now c.take_page-before.ensures.upper n k) (page ∷ stale)
@@ -85,7 +85,7 @@ returns-clause-whole g c = λ before.
     let new = kept_of c.put_page.new.self in
     let here = c.in_ok-put_page.ensures.here in
     let was = c.take_page-before.ensures.taken in
-    back-joined g.D.Digester.digest_of old new page (c.put_page.ensures.empties ∙ c.take_page-before.ensures.empties)
+    back-joined g.C.Counted.digest_of old new page (c.put_page.ensures.empties ∙ c.take_page-before.ensures.empties)
     (λ n k. upper-same c.put_page.new.self c.take_page-before.new.self c.put_page.ensures.upper n k ∙ upper-same c.take_page-before.new.self c.args.self.now c.take_page-before.ensures.upper n k)
     (λ p apart. c.put_page.ensures.elsewhere p apart ∙ c.take_page-before.ensures.elsewhere p apart)
     (λ empty. ap (λ (o : Option PageTree). heap_node o 1 empty) here ∙ (c.in_ok-tree.ensures.same c.if-changed.false empty ∙ ap (λ (o : Option PageTree). heap_node o 1 empty) was))
@@ -94,7 +94,7 @@ returns-clause-whole g c = λ before.
 
 pub returns-in_err-put_page-clause-made : goal.returns-in_err-put_page-clause-made
 returns-in_err-put_page-clause-made g c =
-    let digest = g.D.Digester.digest_of in
+    let digest = g.C.Counted.digest_of in
     made-put digest (kept_of c.take_page-before.new.self) (kept_of c.put_page.new.self) c.args.page c.put_page.ensures.empties c.put_page.ensures.elsewhere
     (λ n k apart. upper-same c.put_page.new.self c.take_page-before.new.self c.put_page.ensures.upper n k) (subst (IsMadeTree digest) (sym (c.in_err-put_page.ensures.err ∙ c.take_page-before.ensures.here)) tt)
     (made-put digest (kept_of c.args.self.now) (kept_of c.take_page-before.new.self) c.args.page c.take_page-before.ensures.empties c.take_page-before.ensures.elsewhere
@@ -102,7 +102,7 @@ returns-in_err-put_page-clause-made g c =
 
 pub returns-in_err-put_page-clause-kept : goal.returns-in_err-put_page-clause-kept
 returns-in_err-put_page-clause-kept g c = λ stale before is.
-    let digest = g.D.Digester.digest_of in
+    let digest = g.C.Counted.digest_of in
     stays-joined digest (kept_of c.take_page-before.new.self) (kept_of c.put_page.new.self) c.args.page c.put_page.ensures.empties c.put_page.ensures.elsewhere
     (λ n k apart. upper-same c.put_page.new.self c.take_page-before.new.self c.put_page.ensures.upper n k) stale
     (stays-joined digest (kept_of c.args.self.now) (kept_of c.take_page-before.new.self) c.args.page c.take_page-before.ensures.empties c.take_page-before.ensures.elsewhere
@@ -110,7 +110,7 @@ returns-in_err-put_page-clause-kept g c = λ stale before is.
 
 pub returns-clause-made : goal.returns-clause-made
 returns-clause-made g c =
-    let digest = g.D.Digester.digest_of in
+    let digest = g.C.Counted.digest_of in
     made-put digest (kept_of c.take_page-before.new.self) (kept_of c.put_page.new.self) c.args.page c.put_page.ensures.empties c.put_page.ensures.elsewhere
     (λ n k apart. upper-same c.put_page.new.self c.take_page-before.new.self c.put_page.ensures.upper n k) (subst (IsMadeTree digest) (sym c.in_ok-put_page.ensures.here) c.in_ok-tree.ensures.tree.made)
     (made-put digest (kept_of c.args.self.now) (kept_of c.take_page-before.new.self) c.args.page c.take_page-before.ensures.empties c.take_page-before.ensures.elsewhere
@@ -118,7 +118,7 @@ returns-clause-made g c =
 
 pub returns-clause-kept : goal.returns-clause-kept
 returns-clause-kept g c = λ stale before is.
-    let digest = g.D.Digester.digest_of in
+    let digest = g.C.Counted.digest_of in
     stays-joined digest (kept_of c.take_page-before.new.self) (kept_of c.put_page.new.self) c.args.page c.put_page.ensures.empties c.put_page.ensures.elsewhere
     (λ n k apart. upper-same c.put_page.new.self c.take_page-before.new.self c.put_page.ensures.upper n k) stale
     (stays-joined digest (kept_of c.args.self.now) (kept_of c.take_page-before.new.self) c.args.page c.take_page-before.ensures.empties c.take_page-before.ensures.elsewhere

@@ -1,0 +1,52 @@
+//! The root of an input from scratch, without memory.
+ghost use Rattle.std.specs.Prelude.{◌≡◌, ℕ, ◌-◌, ◌≤◌, ◌<◌, ◌^◌, length, replicate};
+ghost use Rattle.digest_core.specs.Text.{leaf_text as text_of_leaf};
+ghost use Rattle.merkle_nodes.specs.Node.{digest_at, empty_node};
+ghost use Rattle.mem_tree.specs.InputTree as tree;
+
+use crate::input_tree::input_chunk;
+use digest_core::{Digester, leaf_text, node_text};
+use merkle_nodes::{fill_empty_nodes, node_equations, nodes_over_one_string_are_empty};
+use rd_base::Digest32;
+
+/// How many levels of nodes the tree of an input has, the leaves' and the root's included.
+const LEVELS: usize = 16;
+
+/// A node of the tree of an input, over the `width` chunks from `first` on. A subtree behind the input's end is not entered.
+fn part<D: Digester>(
+    d: D,
+    input: &[u8],
+    empties: &[Digest32],
+    level: u8,
+    width: u32,
+    k: u32,
+) -> Digest32
+    requires len { length empties.now ≡ 16 }
+    requires empties { (l : ℕ) → l < 16 → digest_at empties.now l ≡ empty_node D.digest_of (text_of_leaf (replicate 32 0)) l }
+    requires level { level ≤ 15 }
+    requires width { width ≡ 2 ^ level }
+    requires below { k < 2 ^ (15 - level) }
+    ensures { result.0 ≡ tree.input_node D.digest_of input.now level k }
+{
+    node_equations();
+    nodes_over_one_string_are_empty();
+    if input.len() <= 32 * (k * width) as usize {
+        return empties[level as usize];
+    }
+    if level == 0 {
+        return d.digest(leaf_text(&input_chunk(input, k as usize)).as_slice());
+    }
+    let left = part(d, input, empties, level - 1, width / 2, 2 * k);
+    let right = part(d, input, empties, level - 1, width / 2, 2 * k + 1);
+    d.digest(node_text(&left, &right).as_slice())
+}
+
+/// The root of an input of at most 1,048,576 bytes, from scratch: it digests each of its chunks and the nodes above them. It takes
+/// no memory.
+pub fn input_root<D: Digester>(d: D, input: &[u8]) -> Digest32
+    ensures { result.0 ≡ tree.input_root D.digest_of input.now }
+{
+    let mut empties = [Digest32::ZERO; LEVELS];
+    fill_empty_nodes(d, &leaf_text(&[0; 32]), &mut empties);
+    part(d, input, &empties, 15, 32_768, 0)
+}

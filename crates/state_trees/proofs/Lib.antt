@@ -1,3 +1,0 @@
-pub mod RenewingLemmas
-pub mod LeafLemmas
-pub mod ScratchLemmas

@@ -1,5 +1,0 @@
-use Rattle.state_trees.proofs.LeafLemmas.{chunk-size, chunk-byte}
-use Rattle.state_trees.proofs.laws.input_bytes_lie_in_chunks.Goals as goal
-
-pub returns : goal.returns
-returns c = record { size = chunk-size; byte = chunk-byte }

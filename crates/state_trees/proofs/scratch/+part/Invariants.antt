@@ -1,4 +1,0 @@
-use Rattle.state_trees.proofs.scratch.+part.Given as goal
-
-abbrev pub decreases-part : goal.decreases-part
-decreases-part g l = l.level

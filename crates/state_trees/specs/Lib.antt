@@ -1,2 +1,0 @@
-pub mod RegisterTree
-pub mod InputTree
