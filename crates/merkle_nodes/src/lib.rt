@@ -21,4 +21,4 @@ pub use laws::{
     paths_climb_to_nodes, paths_show_the_tree_or_split, renewals_are_few, renewals_are_marked,
     two_paths_agree_or_split,
 };
-pub use strings::paths_open_strings_of_the_tree;
+pub use strings::{paths_open_strings_of_the_tree, roots_bind_trees};

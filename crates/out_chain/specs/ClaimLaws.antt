@@ -1,5 +1,5 @@
 -- Derived: what holds of sound claims and of their collisions. `claims_of_one_root` has the same as clauses.
-use Rattle.std.proofs.Common.{◌≡◌, ◌≢◌, ℕ, suc, ◌^◌, ◌<◌, List, [], ◌∷◌, ◌++◌, length, replicate, Some, None, Bool, true, false, ◌&&◌, not, eqb, ltb, refl, sym, ap, ◌∙◌, subst, arith, true≢false, Contains}
+use Rattle.std.proofs.Common.{◌≡◌, ◌≢◌, ◌⊎◌, inl, inr, ℕ, suc, ◌^◌, ◌<◌, List, [], ◌∷◌, ◌++◌, length, replicate, Option, Some, None, Bool, true, false, ◌&&◌, not, eqb, ltb, refl, sym, ap, ◌∙◌, subst, arith, true≢false, Contains}
 use Rattle.std.specs.Prelude.{bytes_eq, if◌then◌else◌}
 use Rattle.std.proofs.lemmas.Slice.Eq.{bytes_eq-Decides}
 use Rattle.std.proofs.lemmas.Bool.Decides.{Decides-eqb, Decides-ltb}
@@ -11,7 +11,7 @@ use Rattle.digest_core.specs.Chain.{chain_after, chain_of}
 use Rattle.out_chain.specs.declared.checking.ClaimCheck.TheVariants.{Sound, WrongLength, WrongChain}
 use Rattle.out_chain.specs.Root.{control_text_of, claim_text, root_of_claim}
 use Rattle.out_chain.specs.Soundness.{claim_check, says_sound, is_claim_in_range, is_sound}
-use Rattle.out_chain.specs.Collision.{links_after, links_of, opened_by_claim, collides, first_collision, claim_collision, IsClaimCollision}
+use Rattle.out_chain.specs.Collision.{links_after, links_of, opened_by_claim, collides, first_collision, claim_collision, IsClaimCollision, LinksSplit}
 
 -- the test for a collision, both ways
 pub collides-true : (digest : List ℕ → List ℕ) (x y : List ℕ) → collides digest x y ≡ true → (x ≢ y) × (digest x ≡ digest y)
@@ -92,6 +92,18 @@ links-collide digest is_digest (x ∷ xs) (y ∷ ys) c d sizes lengths chains no
     let parts = append_parts c d (x ∷ []) (y ∷ []) sizes text.1 in
     let byte = cons_parts x y [] [] parts.1 in
     (parts.0, cc)
+
+-- outputs of one length and one chain are one, or links of them collide
+pub outputs_bound : (digest : List ℕ → List ℕ) → ((bytes : List ℕ) → length (digest bytes) ≡ 32) → (output other : List ℕ) → length output ≡ length other
+    → chain_of digest output ≡ chain_of digest other → (output ≡ other) ⊎ LinksSplit digest output other
+unfolding chain_of links_of
+outputs_bound digest is_digest output other lengths chains = go (first_collision digest (links_of digest output) (links_of digest other)) refl
+  where
+    go : (found : Option (List ℕ × List ℕ)) → first_collision digest (links_of digest output) (links_of digest other) ≡ found → (output ≡ other) ⊎ LinksSplit digest output other
+    go None none = inl (links-collide digest is_digest output other (replicate 32 0) (replicate 32 0) refl lengths chains none).1
+    go (Some pair) some =
+        let are = first-collides digest (links_of digest output) (links_of digest other) pair some in
+        inr (record { first = pair.0; second = pair.1; of_first = are.2; of_second = are.3; differ = are.0; one_digest = are.1 })
 
 -- what a sound claim has
 record IsSoundClaim (digest : List ℕ → List ℕ) (claim : Claim) : Type 0 where

@@ -41,3 +41,12 @@ pub record IsClaimCollision (digest : List ℕ → List ℕ) (first second : Cla
   pub one_digest : digest pair.0 ≡ digest pair.1
   pub first_opened : Contains (opened_by_claim digest first) pair.0
   pub second_opened : Contains (opened_by_claim digest second) pair.1
+
+-- a link string of one output and a different link string of another one have one digest
+pub record LinksSplit (digest : List ℕ → List ℕ) (output other : List ℕ) : Type 0 where
+  pub first : List ℕ
+  pub second : List ℕ
+  pub of_first : Contains (links_of digest output) first
+  pub of_second : Contains (links_of digest other) second
+  pub differ : first ≢ second
+  pub one_digest : digest first ≡ digest second

@@ -1,7 +1,9 @@
+//! The first two different strings with one digest that two claims open.
 ghost use Rattle.std.specs.Prelude.{◌≡◌, ◌&&◌, ◌∷◌, not, bytes_eq};
 ghost use Rattle.out_chain.specs.Root.{control_text_of};
 ghost use Rattle.out_chain.specs.Collision as collision;
 
+use crate::root::parts_text;
 use digest_core::{Digester, control_text, link_text};
 use rd_base::{Claim, Digest32, OpenText, same_digest};
 
@@ -54,4 +56,28 @@ pub fn collision_below<D: Digester>(
         return Some((x, y));
     }
     link_collision(d, first.output.as_slice(), second.output.as_slice())
+}
+
+/// The collision of two claims of one root: the first two different strings with one digest that they open, their state strings first.
+/// It is `None` if the roots differ, or if the claims are equal; of sound claims only then (`claims_of_one_root`). The first string is
+/// opened by the first claim, the second by the second. It takes no memory.
+#[tactic(auto, unfolding(crate::specs::Collision::claim_collision, crate::specs::Collision::first_collision))]
+pub fn claim_collision<D: Digester>(
+    d: D,
+    first: &Claim,
+    second: &Claim,
+) -> Option<(OpenText, OpenText)>
+    ensures { result ≡ collision.claim_collision D.digest_of first.now second.now }
+{
+    let x = parts_text(d, first.mem, first.regs, &first.ctl);
+    let y = parts_text(d, second.mem, second.regs, &second.ctl);
+    let of_x = d.digest(x.as_slice());
+    let of_y = d.digest(y.as_slice());
+    if !same_digest(&of_x, &of_y) {
+        return None;
+    }
+    if x.as_slice() != y.as_slice() {
+        return Some((x, y));
+    }
+    collision_below(d, first, second)
 }

@@ -1,11 +1,10 @@
 //! The chain of an output, the state string and the root of a state's parts, and claims checked and compared.
 //!
-//! The layers above may rely on this: `chain_of`, `parts_text` and `parts_root` give what their definitions
+//! The layers above may rely on this: `chain_of`, `parts_text`, `parts_root` and `root_of_claim` return what their definitions
 //! say (`digest_core`'s `Chain`, and `specs/Root.antt`); `check_claim` says whether a claim agrees with itself
-//! (`specs/Soundness.antt`); `collision_below` is the first pair of different strings with one digest among those that
-//! two claims open below their state strings (`specs/Collision.antt`). Two sound claims of one root that differ have such a pair there, or
-//! in their state strings (`laws`). None of these calls takes memory. Read `specs/Root.antt` and `specs/Collision.antt` first, then
-//! `checking`.
+//! (`specs/Soundness.antt`); `claim_collision` is the first pair of different strings with one digest among those that two claims
+//! of one root open (`specs/Collision.antt`). Two sound claims of one root that differ have such a pair (`laws`). None of these calls
+//! takes memory. Read `specs/Root.antt` and `specs/Collision.antt` first, then `checking`.
 #![tactic(auto)]
 
 mod checking;
@@ -14,6 +13,6 @@ mod laws;
 mod root;
 
 pub use checking::{ClaimCheck, chain_of, check_claim};
-pub use colliding::{collides, collision_below};
-pub use laws::claims_of_one_root;
-pub use root::{parts_root, parts_text};
+pub use colliding::{claim_collision, collides, collision_below};
+pub use laws::{chains_bind_outputs, claims_of_one_root};
+pub use root::{parts_root, parts_text, root_of_claim};

@@ -1,4 +1,4 @@
-use Rattle.std.proofs.Common.{◌≡◌, ◌+◌, ◌-◌, ◌*◌, true, false, ap, ◌∙◌, subst, sym, arith}
+use Rattle.std.proofs.Common.{◌≡◌, ◌+◌, ◌-◌, ◌*◌, ap, ◌∙◌, subst, sym, arith}
 use Rattle.std.proofs.lemmas.Bool.{or_left, or_right}
 use Rattle.merkle_nodes.specs.Heap.{is_marked}
 use Rattle.merkle_nodes.proofs.RenewingLemmas.{IsRenewing, renewing-first, renewing-set, renewing-stay, renewed-joined, renewed-above, renewed-made}
