@@ -1,3 +1,4 @@
+//! Digest functions.
 ghost use Rattle.std.specs.Prelude.{◌≡◌, ◌<◌, ℕ, List, ◌∷◌, length, replicate, slice_index};
 ghost use Rattle.sha2.specs.Sha256.{sha256};
 ghost use Rattle.sha2.proofs.Facts256.{length-sha256};
@@ -24,7 +25,7 @@ pub trait Digester: Copy {
     ghost is_bytes: { (bytes : List ℕ) (k : ℕ) → slice_index (digest_of bytes) k < 256 };
 }
 
-/// SHA-256 (FIPS 180-4, section 6.2).
+/// SHA-256 (FIPS 180-4, section 6.2). It has the digests of the standard's examples (`sha256_has_the_digests_of_the_standard`).
 #[derive(Clone, Copy, Debug)]
 pub struct Sha256;
 

@@ -1,5 +1,6 @@
 //! Laws of the definitions, each of them the contract of a function that does nothing.
-ghost use Rattle.std.specs.Prelude.{◌≡◌, ◌≢◌, ℕ, ◌^◌, ◌<◌, List, [], ◌∷◌, ◌++◌, length, replicate, slice_index};
+ghost use Rattle.std.specs.Prelude.{◌≡◌, ◌≢◌, ℕ, ◌^◌, ◌<◌, List, [], ◌∷◌, ◌++◌, codes, length, replicate, slice_index};
+ghost use Rattle.sha2.specs.Sha256.{sha256};
 ghost use Rattle.rd_base.specs.declared.status.Status.{Status};
 ghost use Rattle.digest_core.specs.Text.{leaf_text, node_text, registers_text, control_text, status_code, state_text, link_text, noise_text, register_text, storage_text};
 ghost use Rattle.digest_core.specs.Kinds.{Kind, IsOfKind, size_of};
@@ -43,4 +44,17 @@ pub fn chain_grows()
         chain_of digest (output ++ byte ∷ []) ≡ digest (link_text (chain_of digest output) byte) }
     ensures length { (digest : List ℕ → List ℕ) → ((bytes : List ℕ) → length (digest bytes) ≡ 32) →
         (output : List ℕ) → length (chain_of digest output) ≡ 32 }
+{}
+
+/// The definition that `Sha256` has gives the digests of the standard's examples (FIPS 180-4): of three bytes, which one block holds
+/// (`one_block`), and of 56 bytes, whose padding takes a second block (`two_blocks`). The toolchain's crate `sha2` proves both of it, as
+/// `digest_of_abc_256` and `digest_of_two_blocks_256` of its file `proofs/Facts256.antt`, and there that its constants are the first
+/// bits of the roots of primes (`round_constants-cube_roots`, `initial_hash_256-square_roots`).
+pub fn sha256_has_the_digests_of_the_standard()
+    ensures one_block { sha256 (codes "abc") ≡
+        0xBA ∷ 0x78 ∷ 0x16 ∷ 0xBF ∷ 0x8F ∷ 0x01 ∷ 0xCF ∷ 0xEA ∷ 0x41 ∷ 0x41 ∷ 0x40 ∷ 0xDE ∷ 0x5D ∷ 0xAE ∷ 0x22 ∷ 0x23 ∷
+        0xB0 ∷ 0x03 ∷ 0x61 ∷ 0xA3 ∷ 0x96 ∷ 0x17 ∷ 0x7A ∷ 0x9C ∷ 0xB4 ∷ 0x10 ∷ 0xFF ∷ 0x61 ∷ 0xF2 ∷ 0x00 ∷ 0x15 ∷ 0xAD ∷ [] }
+    ensures two_blocks { sha256 (codes "abcdbcdecdefdefgefghfghighijhijkijkljklmklmnlmnomnopnopq") ≡
+        0x24 ∷ 0x8D ∷ 0x6A ∷ 0x61 ∷ 0xD2 ∷ 0x06 ∷ 0x38 ∷ 0xB8 ∷ 0xE5 ∷ 0xC0 ∷ 0x26 ∷ 0x93 ∷ 0x0C ∷ 0x3E ∷ 0x60 ∷ 0x39 ∷
+        0xA3 ∷ 0x3C ∷ 0xE4 ∷ 0x59 ∷ 0x64 ∷ 0xFF ∷ 0x21 ∷ 0x67 ∷ 0xF6 ∷ 0xEC ∷ 0xED ∷ 0xD4 ∷ 0x19 ∷ 0xDB ∷ 0x06 ∷ 0xC1 ∷ [] }
 {}

@@ -22,7 +22,10 @@ mod text;
 pub use chain::link;
 pub use counted::Counted;
 pub use digester::{Digester, Sha256, Weak8};
-pub use laws::{chain_grows, kinds_have_lengths, texts_determine_their_parts};
+pub use laws::{
+    chain_grows, kinds_have_lengths, sha256_has_the_digests_of_the_standard,
+    texts_determine_their_parts,
+};
 pub use ranges::{codes_fit, digests_are_32_bytes};
 pub use text::{
     control_text, leaf_text, link_text, node_text, noise_text, register_text, registers_text,

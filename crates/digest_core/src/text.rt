@@ -1,3 +1,4 @@
+//! The strings that are digested.
 ghost use Rattle.std.specs.Prelude.{◌≡◌, ◌+◌, ◌≤◌, ◌++◌, length};
 ghost use Rattle.byteorder.specs.Endian.{little_bytes};
 ghost use Rattle.digest_core.specs.Text as text;
@@ -119,7 +120,7 @@ pub fn state_text(memory: &Digest32, registers: &Digest32, control: &Digest32) -
     string
 }
 
-/// The string of a link of the chain, from the chain before and the byte that is put out: 34 bytes.
+/// The string of a link of the chain, from the chain before and the byte of output: 34 bytes.
 pub fn link_text(chain: &Digest32, byte: u8) -> OpenText
     ensures { result ≡ text.link_text chain.now.0 byte }
 {
