@@ -6,7 +6,7 @@ ghost use Rattle.std.specs.Prelude.{◌≤◌};
 use bisect_game::Judge;
 use digest_core::Sha256;
 use mem_plain::PlainMem;
-use plain_answers::make_proof;
+use open_proof::make_proof;
 use rd_base::Memory;
 use rv_step::Machine;
 use state_commit::Committed;

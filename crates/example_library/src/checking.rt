@@ -1,13 +1,13 @@
 ghost use Rattle.std.specs.Prelude.{◌≡◌, ◌↔◌};
 ghost use Rattle.rd_base.specs.declared.digest.Digest32.{Digest32};
-ghost use Rattle.proof_facts.specs.Conditions.{LeadsFrom};
-ghost use Rattle.proof_facts.specs.Facts.{facts_of};
+ghost use Rattle.open_proof.specs.Conditions.{LeadsFrom};
+ghost use Rattle.open_proof.specs.Facts.{facts_of};
 
 use digest_core::Digester;
 use rd_base::{Digest32, Proof, Steps};
 use std::marker::Brand;
 use std::sync::ledger::{Blank, Ledger};
-use step_check::{StepCheck, check_step};
+use step_referee::{StepCheck, check_step};
 
 fn check_in<D: Digester, L: Ledger>(d: D, root: Digest32, proof: &Proof, blank: Blank) -> StepCheck
     requires name { blank.name ≡ L.name }

@@ -14,17 +14,17 @@ use Rattle.merkle_nodes.specs.Node.{digest_at}
 use Rattle.merkle_nodes.specs.Opening.{joined, opened}
 use Rattle.out_chain.specs.Collision.{links_after, links_of, opened_by_claim}
 use Rattle.out_chain.specs.Root.{control_text_of, claim_text}
-use Rattle.proof_facts.specs.Called.{fetch_address}
-use Rattle.proof_facts.specs.Opened.{texts_from}
-use Rattle.proof_facts.specs.Facts.{facts_of, named_called, operand_called, input_called}
-use Rattle.proof_facts.specs.Next.{storage_texts, storage_held, registers_held, text_before}
-use Rattle.proof_facts.specs.Openings.{chunk_way, chunk_ways, register_way, each_way, register_ways, input_way, input_ways, fetch_ways, named_ways, operand_ways, read_ways}
-use Rattle.proof_facts.specs.Strings.{registers_texts, opened_by_facts}
-use Rattle.proof_facts.specs.Ways.{Way, way_texts, ways_texts}
-use Rattle.proof_facts.specs.declared.facts.Facts.{Facts}
-use Rattle.proof_facts.specs.declared.facts.HeldInput.{HeldInput}
-use Rattle.proof_facts.specs.declared.facts.HeldRegisters.{HeldRegisters}
-use Rattle.proof_facts.specs.declared.facts.HeldRegisters.TheVariants.{Whole, Opened}
+use Rattle.open_proof.specs.Called.{fetch_address}
+use Rattle.open_proof.specs.Opened.{texts_from}
+use Rattle.open_proof.specs.Facts.{facts_of, named_called, operand_called, input_called}
+use Rattle.open_proof.specs.Next.{storage_texts, storage_held, registers_held, text_before}
+use Rattle.open_proof.specs.Openings.{chunk_way, chunk_ways, register_way, each_way, register_ways, input_way, input_ways, fetch_ways, named_ways, operand_ways, read_ways}
+use Rattle.open_proof.specs.Strings.{registers_texts, opened_by_facts}
+use Rattle.open_proof.specs.Ways.{Way, way_texts, ways_texts}
+use Rattle.open_proof.specs.declared.facts.Facts.{Facts}
+use Rattle.open_proof.specs.declared.facts.HeldInput.{HeldInput}
+use Rattle.open_proof.specs.declared.facts.HeldRegisters.{HeldRegisters}
+use Rattle.open_proof.specs.declared.facts.HeldRegisters.TheVariants.{Whole, Opened}
 use Rattle.proof_wire.specs.Wire.{digest, registers, claim, optional, opening, register_opening, input_opening, proof_form}
 use Rattle.text_reader.specs.InLimits.{IsString}
 use Rattle.machine_audit.proofs.StringLemmas.{IsBlock, block-zeros, leaf-string, node-string, registers-string, control-string, state-string, link-string, register-string, storage-string, AreStrings, strings-both}

@@ -23,10 +23,10 @@ use Rattle.mem_plain.specs.Contents.{Contents, chunk_at, number_at}
 use Rattle.mem_plain.specs.Page.{number_in}
 use Rattle.rv_step.specs.Alike.{named_at}
 use Rattle.rv_step.specs.Named.{named_by}
-use Rattle.proof_facts.specs.Called.{fetched_in}
-use Rattle.proof_facts.specs.OpenedChunk.{opening_at, fetched_at, fetch_of_state}
-use Rattle.proof_facts.specs.PlainProof.{register_opening, plain_proof, plain_proof_1, plain_proof_2, plain_proof_3}
-use Rattle.proof_facts.specs.Shown.{word_of_state}
+use Rattle.open_proof.specs.Called.{fetched_in}
+use Rattle.open_proof.specs.OpenedChunk.{opening_at, fetched_at, fetch_of_state}
+use Rattle.open_proof.specs.PlainProof.{register_opening, plain_proof, plain_proof_1, plain_proof_2, plain_proof_3}
+use Rattle.open_proof.specs.Shown.{word_of_state}
 use Rattle.checkpoint_run.specs.TamperedRun.{run_at}
 use Rattle.prover_script.specs.Manners.{with_opened, with_shown, with_forgery, with_roots, noise, asks_roots}
 use Rattle.prover_run.specs.CaseScripts.{script_says}

@@ -5,8 +5,8 @@ use Rattle.rd_base.specs.declared.digest.Digest32.{Digest32}
 use Rattle.rd_base.specs.declared.answer.Answer.{Answer}
 use Rattle.rd_base.specs.declared.answer.Answer.TheVariants as answer
 use Rattle.rv_step.specs.State.{State}
-use Rattle.proof_facts.specs.PlainProof.{plain_proof}
-use Rattle.plain_answers.specs.PlainClaim.{plain_claim}
+use Rattle.open_proof.specs.PlainProof.{plain_proof}
+use Rattle.open_proof.specs.PlainClaim.{plain_claim}
 use Rattle.segment_replay.specs.Roots.{own_root}
 use Rattle.bisect_game.specs.declared.question.Kind.{Kind}
 use Rattle.bisect_game.specs.declared.question.Kind.TheVariants as kind

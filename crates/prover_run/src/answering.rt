@@ -8,7 +8,7 @@ ghost use Rattle.prover_run.specs.Plain as plain;
 ghost use Rattle.prover_run.specs.Prover.{Prover, IsRunOf, AreKept, run_of, root_of};
 
 use bisect_game::{Kind, steps_asked};
-use plain_answers::{make_claim, make_proof};
+use open_proof::{make_claim, make_proof};
 use rd_base::{Answer, Boxed, Digest32, Memory, RootList};
 use segment_replay::{KeptRun, Replays};
 use std::alloc::Global;

@@ -16,7 +16,7 @@ ghost use Rattle.prover_run.specs.Growing.{OutputGrowsSlowly};
 
 use checkpoint_run::tampered_runs;
 use mem_plain::numbers_lie_in_chunks;
-use proof_facts::states_name_registers;
+use open_proof::states_name_registers;
 
 /// A run puts out one byte a step at most, whatever the tamper.
 pub fn outputs_grow_slowly()

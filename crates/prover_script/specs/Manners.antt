@@ -16,7 +16,7 @@ use Rattle.digest_core.specs.Text.{noise_text}
 use Rattle.bisect_game.specs.declared.question.Kind.{Kind}
 use Rattle.bisect_game.specs.declared.question.Kind.TheVariants as kind
 use Rattle.bisect_game.specs.declared.question.Question.{Question}
-use Rattle.proof_facts.specs.Facts.{facts_of, named_called}
+use Rattle.open_proof.specs.Facts.{facts_of, named_called}
 
 -- what one prover answers to a question after this many passes on it; None is a pass
 abbrev pub Behaviour : Type 0

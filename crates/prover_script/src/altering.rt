@@ -1,12 +1,12 @@
 //! What manners make of an answer.
 ghost use Rattle.std.specs.Prelude.{◌≡◌, ◌≤◌, ◌+◌, ◌++◌, IfOk, length, map};
-ghost use Rattle.proof_facts.specs.Facts as facts;
+ghost use Rattle.open_proof.specs.Facts as facts;
 ghost use Rattle.prover_script.specs.Manners as manners;
 ghost use Rattle.prover_script.specs.Manners.{with_output, with_shown, with_forgery, noise, with_roots};
 
 use bisect_game::Kind;
 use digest_core::{Digester, noise_text};
-use proof_facts::{Names, called_by, facts_of};
+use open_proof::{Names, called_by, facts_of};
 use rd_base::{
     Answer, Boxed, Claim, ClaimOutput, Digest32, Memory, Proof, Qid, RegOpening, RegOpenings,
     RegisterNumber, RootList,

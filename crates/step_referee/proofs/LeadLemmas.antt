@@ -3,13 +3,13 @@ use Rattle.std.proofs.Common.{◌≡◌, ◌↔◌, ℕ, List, Option, Some, Non
 use Rattle.std.specs.Prelude.{if◌then◌else◌}
 use Rattle.rd_base.specs.declared.digest.Digest32.{Digest32}
 use Rattle.rd_base.specs.declared.proof.Proof.{Proof}
-use Rattle.proof_facts.specs.Conditions.{LeadsFrom}
-use Rattle.proof_facts.specs.Facts.{facts_of}
-use Rattle.proof_facts.specs.InRange.{is_in_range}
-use Rattle.proof_facts.specs.declared.facts.Facts.{Facts}
-use Rattle.step_check.specs.Tests.{checked}
-use Rattle.step_check.specs.declared.check.StepCheck.{StepCheck}
-use Rattle.step_check.specs.declared.check.StepCheck.TheVariants as check
+use Rattle.open_proof.specs.Conditions.{LeadsFrom}
+use Rattle.open_proof.specs.Facts.{facts_of}
+use Rattle.open_proof.specs.InRange.{is_in_range}
+use Rattle.open_proof.specs.declared.facts.Facts.{Facts}
+use Rattle.step_referee.specs.Tests.{checked}
+use Rattle.step_referee.specs.declared.check.StepCheck.{StepCheck}
+use Rattle.step_referee.specs.declared.check.StepCheck.TheVariants as check
 use Rattle.step_referee.specs.MachineRuling.{root_led, leads_in}
 
 -- two checks that say alike when a proof leads say alike where to

@@ -1,3 +1,5 @@
+pub mod CarryLemmas
+pub mod BoundLemmas
 pub mod LeadLemmas
 pub mod RangeLemmas
 pub mod TruthLemmas

@@ -19,13 +19,13 @@ use Rattle.rv_step.specs.Valid.{IsValid, HasWordCode}
 use Rattle.state_commit.specs.StateRoot.{ctl_of, memory_digest}
 use Rattle.mem_tree.specs.RegisterTree.{register_node, registers_root}
 use Rattle.mem_tree.specs.InputTree.{input_chunk, input_node, input_root}
-use Rattle.proof_facts.specs.InRange.{are_digests, are_words, is_opening_in_range, is_ctl_in_range, is_input_in_range, are_openings_in_range, are_registers_in_range, is_tree_in_range, are_facts_in_range, is_in_range}
-use Rattle.proof_facts.specs.OpenedChunk.{siblings_of, opening_at, fetch_of_state}
-use Rattle.proof_facts.specs.RangeLaws.{words_are, digests_are}
-use Rattle.proof_facts.specs.Facts.{facts_of}
-use Rattle.proof_facts.specs.PlainProof.{register_siblings, register_opening, input_siblings, input_opening_at, plain_proof, plain_proof_1, plain_proof_2, plain_proof_3}
-use Rattle.proof_facts.specs.Shown.{operand_of_state, input_of_state}
-use Rattle.proof_facts.specs.declared.facts.Facts.{Facts}
+use Rattle.open_proof.specs.InRange.{are_digests, are_words, is_opening_in_range, is_ctl_in_range, is_input_in_range, are_openings_in_range, are_registers_in_range, is_tree_in_range, are_facts_in_range, is_in_range}
+use Rattle.open_proof.specs.OpenedChunk.{siblings_of, opening_at, fetch_of_state}
+use Rattle.open_proof.specs.RangeLaws.{words_are, digests_are}
+use Rattle.open_proof.specs.Facts.{facts_of}
+use Rattle.open_proof.specs.PlainProof.{register_siblings, register_opening, input_siblings, input_opening_at, plain_proof, plain_proof_1, plain_proof_2, plain_proof_3}
+use Rattle.open_proof.specs.Shown.{operand_of_state, input_of_state}
+use Rattle.open_proof.specs.declared.facts.Facts.{Facts}
 
 is-true : (x y : ℕ) → x ≡ y → eqb x y ≡ true
 is-true x y same = (Decides-eqb x y).1 same

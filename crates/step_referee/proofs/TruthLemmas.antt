@@ -20,10 +20,10 @@ use Rattle.rv_step.specs.declared.effect.Effect.{Effect}
 use Rattle.rv_step.specs.declared.effect.Effect.TheVariants.{Write, Jump, Branch, Next, Store, Put, Exit, Trap}
 use Rattle.state_commit.specs.StateRoot.{ctl_of, memory_digest, registers_digest, storage_of, storage_digest, root_in}
 use Rattle.mem_tree.specs.RegisterTree.{registers_root}
-use Rattle.proof_facts.specs.Conditions.{LeadsFrom}
-use Rattle.proof_facts.specs.Facts.{facts_of}
-use Rattle.proof_facts.specs.PlainProof.{plain_proof}
-use Rattle.plain_answers.specs.PlainClaim.{plain_claim}
+use Rattle.open_proof.specs.Conditions.{LeadsFrom}
+use Rattle.open_proof.specs.Facts.{facts_of}
+use Rattle.open_proof.specs.PlainProof.{plain_proof}
+use Rattle.open_proof.specs.PlainClaim.{plain_claim}
 use Rattle.bisect_game.specs.Ruling.{Ruling}
 use Rattle.bisect_game.specs.Rules.{Rules}
 use Rattle.bisect_game.specs.Truth.{IsRun}

@@ -5,16 +5,16 @@ use Rattle.rd_base.specs.declared.digest.Digest32.{Digest32}
 use Rattle.rd_base.specs.declared.proof.Proof.{Proof}
 use Rattle.bisect_game.specs.Ruling.{IsFair, IsCollision}
 use Rattle.out_chain.specs.ClaimLaws.{claims_without_collision, claims_collide, no_collision_of_two_roots, no_collision_of_equal}
-use Rattle.proof_facts.specs.Conditions.{LeadsFrom}
-use Rattle.proof_facts.specs.Facts.{facts_of}
-use Rattle.proof_facts.specs.InRange.{is_in_range}
-use Rattle.proof_facts.specs.Strings.{opened_by_facts}
-use Rattle.step_check.specs.Tests.{checked}
-use Rattle.step_check.specs.TestLaws.{checked-leads}
-use Rattle.step_check.specs.declared.check.StepCheck.{StepCheck}
-use Rattle.step_check.specs.declared.check.StepCheck.TheVariants as check
-use Rattle.proof_collision.specs.Collision.{step_collision}
-use Rattle.proof_collision.specs.CollisionLaws.{proofs_apart, proofs_collide}
+use Rattle.open_proof.specs.Conditions.{LeadsFrom}
+use Rattle.open_proof.specs.Facts.{facts_of}
+use Rattle.open_proof.specs.InRange.{is_in_range}
+use Rattle.open_proof.specs.Strings.{opened_by_facts}
+use Rattle.step_referee.specs.Tests.{checked}
+use Rattle.step_referee.specs.TestLaws.{checked-leads}
+use Rattle.step_referee.specs.declared.check.StepCheck.{StepCheck}
+use Rattle.step_referee.specs.declared.check.StepCheck.TheVariants as check
+use Rattle.open_proof.specs.Collision.{step_collision}
+use Rattle.open_proof.specs.CollisionLaws.{proofs_apart, proofs_collide}
 use Rattle.step_referee.specs.MachineRuling.{root_led, leads_in, machine_ruling}
 
 led : (r : StepCheck) (b : Digest32) → root_led r ≡ Some b → r ≡ check.Leads b

@@ -6,13 +6,13 @@ use Rattle.bisect_game.specs.Ruling.{Ruling}
 use Rattle.out_chain.specs.Root.{root_of_claim}
 use Rattle.out_chain.specs.Soundness.{is_sound}
 use Rattle.out_chain.specs.Collision.{claim_collision, opened_by_claim}
-use Rattle.proof_facts.specs.Facts.{facts_of}
-use Rattle.proof_facts.specs.InRange.{is_in_range}
-use Rattle.proof_facts.specs.Strings.{opened_by_facts}
-use Rattle.step_check.specs.Tests.{checked}
-use Rattle.step_check.specs.declared.check.StepCheck.{StepCheck}
-use Rattle.step_check.specs.declared.check.StepCheck.TheVariants as check
-use Rattle.proof_collision.specs.Collision.{step_collision}
+use Rattle.open_proof.specs.Facts.{facts_of}
+use Rattle.open_proof.specs.InRange.{is_in_range}
+use Rattle.open_proof.specs.Strings.{opened_by_facts}
+use Rattle.step_referee.specs.Tests.{checked}
+use Rattle.step_referee.specs.declared.check.StepCheck.{StepCheck}
+use Rattle.step_referee.specs.declared.check.StepCheck.TheVariants as check
+use Rattle.open_proof.specs.Collision.{step_collision}
 
 -- the root to which a check says that a proof leads
 abbrev pub root_led : StepCheck → Option Digest32

@@ -1,8 +1,8 @@
 -- To believe: what a run of the machine is to the game.
 use Rattle.std.specs.Prelude.{ℕ, List}
 use Rattle.bisect_game.specs.Truth.{Truth}
-use Rattle.plain_answers.specs.PlainClaim.{plain_claim}
-use Rattle.proof_facts.specs.PlainProof.{plain_proof}
+use Rattle.open_proof.specs.PlainClaim.{plain_claim}
+use Rattle.open_proof.specs.PlainProof.{plain_proof}
 use Rattle.rv_step.specs.State.{State}
 use Rattle.rv_step.specs.Step.{state_at}
 use Rattle.state_commit.specs.StateRoot.{root_in}

@@ -1,19 +1,19 @@
 ghost use Rattle.std.specs.Prelude.{◌≡◌, ◌↔◌};
 ghost use Rattle.rd_base.specs.declared.digest.Digest32.{Digest32};
-ghost use Rattle.proof_facts.specs.Conditions.{LeadsFrom};
-ghost use Rattle.proof_facts.specs.Facts as facts_of_proof;
-ghost use Rattle.step_check.specs.declared.check.StepCheck.TheVariants as StepCheck;
+ghost use Rattle.open_proof.specs.Conditions.{LeadsFrom};
+ghost use Rattle.open_proof.specs.Facts as facts_of_proof;
+ghost use Rattle.step_referee.specs.declared.check.StepCheck.TheVariants as StepCheck;
 ghost use Rattle.step_referee.specs.MachineRuling.{machine_ruling};
 ghost use Rattle.step_referee.specs.MachineFair.{machine_ruling_is_fair};
 
 use bisect_game::Judge;
 use digest_core::Digester;
 use out_chain::{check_claim, collision_below, parts_text};
-use proof_facts::proofs_are_in_range;
+use open_proof::proofs_are_in_range;
 use rd_base::{Claim, Digest32, OpenText, Proof, Steps, same_digest};
 use std::marker::Brand;
 use std::sync::ledger::{Blank, Ledger};
-use step_check::{StepCheck, check_step, leading_is_decided};
+use crate::check::{StepCheck, check_step, leading_is_decided};
 
 /// What the check says of a proof, with a counter of its own.
 fn checked<D: Digester, L: Ledger>(
@@ -111,6 +111,6 @@ impl<D: Digester> Judge for MachineJudge<D> {
         first: &Proof,
         second: &Proof,
     ) -> Option<(OpenText, OpenText)> {
-        proof_collision::step_collision(self.digester, self.version, from, first, second)
+        open_proof::step_collision(self.digester, self.version, from, first, second)
     }
 }

@@ -7,14 +7,14 @@ ghost use Rattle.rv_step.specs.Valid.{IsValid};
 ghost use Rattle.state_commit.specs.StateRoot.{root_in};
 ghost use Rattle.bisect_game.specs.Rules.{Rules};
 ghost use Rattle.bisect_game.specs.Truth.{IsRun};
-ghost use Rattle.proof_facts.specs.Conditions.{LeadsFrom};
-ghost use Rattle.proof_facts.specs.Facts.{facts_of};
-ghost use Rattle.proof_facts.specs.InRange.{is_in_range};
+ghost use Rattle.open_proof.specs.Conditions.{LeadsFrom};
+ghost use Rattle.open_proof.specs.Facts.{facts_of};
+ghost use Rattle.open_proof.specs.InRange.{is_in_range};
 ghost use Rattle.step_referee.specs.MachineRuling.{leads_in, machine_ruling};
 ghost use Rattle.step_referee.specs.MachineTruth.{machine_truth};
 
 use digest_core::{Digester, chain_grows};
-use proof_facts::plain_proofs_lead;
+use open_proof::plain_proofs_lead;
 use rv_step::{runs_keep_the_input, steps_keep_valid_states};
 
 /// By the judge of a version a proof leads from a root to another if and only if it is in the ranges of its types, as each proof that a

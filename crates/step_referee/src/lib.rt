@@ -1,12 +1,19 @@
-//! The judge that the game calls to decide about claims and proofs of the machine, in each version of the commitment.
+//! The referee of one step, and the judge that the game calls to decide about claims and proofs, in every version of the commitment.
 //!
-//! The layers above may rely on this: `MachineJudge` decides by `specs/MachineRuling.antt`, which keeps the laws of a judge; a proof leads
-//! by it if and only if its conditions hold (`judged_leading_is_exact`); and a run of the machine is a true run for it
-//! (`machine_runs_are_true`). No call takes memory. Read `specs/MachineRuling.antt` and `specs/MachineTruth.antt`, then `judge`.
+//! - `check`: whether a proof of one step leads from a root, and to which. `check_step` says exactly when a proof leads (`open_proof`,
+//!   `LeadsFrom`), and if it leads nowhere, which of its conditions fails first; the counter ticks at most 91, 101 or 103 times, by the version,
+//!   and exactly as often as `specs/Ticks.antt` says: for the digests of the conditions up to the first that fails, and, if a proof
+//!   leads, for its step too. That no digest is made without a tick is read off the code, not proved.
+//! - `judge`: `MachineJudge` decides by `specs/MachineRuling.antt`, which keeps the laws of a judge; a proof leads by it if and only if its
+//!   conditions hold (`judged_leading_is_exact`); and a run of the machine is a true run for it (`machine_runs_are_true`).
+//!
+//! No call takes memory. Read `check` first, then `specs/MachineRuling.antt`, `specs/MachineTruth.antt` and `judge`.
 #![tactic(auto)]
 
+mod check;
 mod judge;
 mod laws;
 
+pub use check::{StepCheck, check_step, leading_is_decided};
 pub use judge::{MachineJudge, MachineNames};
 pub use laws::{judged_leading_is_exact, machine_runs_are_true};

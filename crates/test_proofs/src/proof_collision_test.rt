@@ -5,7 +5,7 @@ use digest_core::{
     Digester, Sha256, control_text, leaf_text, node_text, register_text, registers_text,
     storage_text,
 };
-use proof_collision::step_collision;
+use open_proof::step_collision;
 use rd_base::{
     Ctl, Digest32, InOpening, InPath, OpenText, Opening, Path, Proof, RegOpening, RegPath, Regs,
     Status, StepProof, StepProof2, StepProof3,

@@ -5,7 +5,7 @@ use crate::changed::{Change, Shown, changed, changed_input, changed_opening, cha
 use crate::machines::machine_after;
 use crate::programs::{PUTS, READS, STORES};
 use digest_core::Sha256;
-use plain_answers::make_proof;
+use open_proof::make_proof;
 use rd_base::{
     Digest32, InOpening, Opening, Proof, RegOpenings, Status, StepProof, StepProof2, StepProof3,
     Steps,
@@ -15,7 +15,7 @@ use std::marker::Brand;
 use std::sync::ledger::{Blank, Ledger};
 use std::test::Fail;
 use std::thread::Threads;
-use step_check::{StepCheck, check_step};
+use step_referee::{StepCheck, check_step};
 
 fn checked_in<L: Ledger>(version: u8, a: Digest32, proof: &Proof, blank: Blank) -> StepCheck
     requires name { blank.name ≡ L.name }

@@ -5,7 +5,7 @@ use crate::machines::{machine_after, machine_of};
 use crate::programs::{ALL, DIVIDES, JUMPS, PUTS, READS, STORES};
 use bisect_game::Judge;
 use digest_core::Sha256;
-use plain_answers::{make_claim, make_proof};
+use open_proof::{make_claim, make_proof};
 use rd_base::{Claim, ClaimOutput, Memory};
 use state_commit::Committed;
 use std::alloc::Global;

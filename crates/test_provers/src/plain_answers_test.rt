@@ -6,7 +6,7 @@ use digest_core::{Digester, Sha256, leaf_text, register_text, storage_text};
 use mem_plain::PlainMem;
 use merkle_nodes::climb;
 use out_chain::{ClaimCheck, check_claim, parts_root};
-use plain_answers::{make_claim, make_proof};
+use open_proof::{make_claim, make_proof};
 use proof_wire::encode;
 use rd_base::{
     Answer, Boxed, Claim, Digest32, InOpening, Memory, Opening, Proof, RegOpening, StepProof3,

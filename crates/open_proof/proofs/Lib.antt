@@ -1,0 +1,9 @@
+pub mod HeldLemmas
+pub mod RegisterLemmas
+pub mod LeadLemmas
+pub mod WayLemmas
+pub mod TruthLemmas
+pub mod CalledLemmas
+pub mod PathLemmas
+pub mod WholeLemmas
+pub mod CodeLemmas

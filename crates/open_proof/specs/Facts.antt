@@ -1,0 +1,94 @@
+-- To believe: what a proof of each version holds, and for what its parts call. The definitions above these speak of what is held and
+-- know no version: a version adds how the registers and the input are held.
+use Rattle.std.specs.Prelude.{ℕ, ◌/◌, ◌%◌, ◌^◌, ◌-◌, nat_lt, List, [], ◌∷◌, map, slice_index, Option, Some, None, if◌then◌else◌}
+use Rattle.rd_base.specs.Regs.{no_registers_set, with_register}
+use Rattle.rd_base.specs.declared.opened.InOpening.{InOpening}
+use Rattle.rd_base.specs.declared.opened.RegOpening.{RegOpening}
+use Rattle.rd_base.specs.declared.proof.Proof.{Proof}
+use Rattle.rd_base.specs.declared.proof.Proof.TheVariants.{V1, V2, V3}
+use Rattle.rv_decode.specs.declared.instr.Instr.{Instr}
+use Rattle.rv_step.specs.Named.{named_by}
+use Rattle.rv_step.specs.Offer.{offered}
+use Rattle.rv_step.specs.Parts.{needed_in}
+use Rattle.rv_step.specs.declared.asked.Need.{Need}
+use Rattle.rv_step.specs.declared.asked.Need.TheVariants as need
+use Rattle.open_proof.specs.Called.{fetch_address, fetched_in, address_needed}
+use Rattle.open_proof.specs.declared.facts.Facts.{Facts}
+use Rattle.open_proof.specs.declared.facts.HeldInput.{HeldInput}
+use Rattle.open_proof.specs.declared.facts.HeldRegisters.{HeldRegisters}
+use Rattle.open_proof.specs.declared.facts.HeldRegisters.TheVariants.{Whole, Opened}
+
+-- what a proof holds
+abbrev pub facts_of : Proof → Facts
+facts_of (V1 p) = record { version = 1; mem = p.mem; input_tree = None; regs = Whole p.regs; ctl = p.ctl; fetch = p.fetch; operand = p.operand; input = None }
+facts_of (V2 p) = record { version = 2; mem = p.mem; input_tree = None; regs = Opened p.regs p.named; ctl = p.ctl; fetch = p.fetch; operand = p.operand; input = None }
+facts_of (V3 p) = record {
+  version = 3;
+  mem = p.mem;
+  input_tree = Some (record { len = p.input_len; root = p.input_root });
+  regs = Opened p.regs p.named;
+  ctl = p.ctl;
+  fetch = p.fetch;
+  operand = p.operand;
+  input = p.input;
+}
+
+-- the instruction that is fetched, and the registers that it names
+abbrev pub fetched : Facts → Option Instr
+fetched facts = fetched_in facts.fetch (fetch_address facts.ctl)
+
+abbrev pub named_called : Facts → List ℕ
+named_called facts = named_by (fetched facts)
+
+-- the register file in which these registers hold these values, and all others 0
+abbrev pub file_of : List ℕ → List ℕ → List ℕ
+file_of (r ∷ rs) (v ∷ vs) = with_register (file_of rs vs) r v
+file_of rs vs = no_registers_set
+
+abbrev pub values_of : List RegOpening → List ℕ
+values_of os = map (λ (o : RegOpening). o.value) os
+
+-- the register file that is shown: all registers, or those that are opened, by the numbers that are named
+abbrev pub file_shown : List ℕ → HeldRegisters → List ℕ
+file_shown rs (Whole xs) = xs
+file_shown rs (Opened root named) = file_of rs (values_of named)
+
+abbrev pub file_of_facts : Facts → List ℕ
+file_of_facts facts = file_shown (named_called facts) facts.regs
+
+-- the input is offered to the step if it is a tree, as in version 3, and else it isn't, as in version 1
+abbrev pub offering : Option HeldInput → ℕ
+offering (Some t) = 3
+offering None = 1
+
+-- what the instruction needs of memory or of the input
+abbrev pub needed_by : Option HeldInput → List ℕ → Option Instr → Need
+needed_by tree xs (Some i) = needed_in (offering tree) xs i
+needed_by tree xs None = need.Nothing
+
+abbrev pub needed_of : Facts → Need
+needed_of facts = needed_by facts.input_tree (file_of_facts facts) (fetched facts)
+
+-- the address of the data for which it calls, and the number of the input's byte, if the input has that byte
+abbrev pub operand_called : Facts → Option ℕ
+operand_called facts = address_needed (needed_of facts)
+
+abbrev pub byte_needed : Option HeldInput → Need → Option ℕ
+byte_needed (Some t) (need.Input k) = if nat_lt k t.len then Some k else None
+byte_needed tree n = None
+
+abbrev pub input_called : Facts → Option ℕ
+input_called facts = byte_needed facts.input_tree (needed_of facts)
+
+-- the input as far as it is shown: the bytes of the opened chunk, and ffffffff behind the input's end
+abbrev pub byte_in : Option InOpening → ℕ → ℕ
+byte_in (Some o) k = slice_index o.chunk (k % 32)
+byte_in None k = 0
+
+abbrev pub byte_shown : Option HeldInput → Option InOpening → ℕ → ℕ
+byte_shown (Some t) input k = if nat_lt k t.len then byte_in input k else 2 ^ 32 - 1
+byte_shown None input k = 2 ^ 32 - 1
+
+-- what is offered of it to the step
+abbrev pub offer_shown : Option HeldInput → Option InOpening → Option (ℕ → ℕ)
+offer_shown tree input = offered (offering tree) (byte_shown tree input)

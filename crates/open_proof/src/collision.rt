@@ -1,0 +1,266 @@
+//! Collisions of two proofs of one step: two different strings of one digest, one opened by each.
+ghost use Rattle.std.specs.Prelude.{◌≡◌, [], ◌∷◌};
+ghost use Rattle.out_chain.specs.Root.{control_text_of};
+ghost use Rattle.out_chain.specs.Collision.{first_collision};
+ghost use Rattle.open_proof.specs.Facts as facts;
+ghost use Rattle.open_proof.specs.Next as next;
+ghost use Rattle.open_proof.specs.Openings as openings;
+ghost use Rattle.open_proof.specs.Strings.{registers_texts};
+ghost use Rattle.open_proof.specs.Collision as collision;
+
+mod laws;
+mod walking;
+
+pub use laws::proofs_from_one_root;
+
+use crate::collision::walking::{chunk_collision, each_collision, input_collision, text_collision};
+use digest_core::{Digester, control_text, registers_text, state_text, storage_text};
+use crate::facts::{Called, Facts, HeldInput, HeldRegisters, called_by, facts_of, fetch_address};
+use rd_base::{Ctl, Digest32, InOpening, OpenText, Proof};
+
+/// The digest of what is stored: the root of memory, or the digest of the storage string.
+fn storage_held<D: Digester>(d: D, tree: &Option<HeldInput>, mem: &Digest32) -> Digest32
+    ensures { result.0 ≡ next.storage_held D.digest_of tree.now mem.now.0 }
+{
+    match tree {
+        Some(tree) => d.digest(storage_text(mem, tree.len, &tree.root).as_slice()),
+        None => *mem,
+    }
+}
+
+/// The digest of the registers: that of their string, or the root that is held.
+fn registers_held<D: Digester>(d: D, regs: &HeldRegisters) -> Digest32
+    ensures { result.0 ≡ next.registers_held D.digest_of regs.now }
+{
+    match regs {
+        HeldRegisters::Whole(regs) => d.digest(registers_text(regs).as_slice()),
+        HeldRegisters::Opened(root, _named) => *root,
+    }
+}
+
+/// The state string that a proof's parts make.
+fn text_before<D: Digester>(d: D, facts: &Facts) -> OpenText
+    ensures { result ≡ next.text_before D.digest_of facts.now }
+{
+    let storage = storage_held(d, &facts.input_tree, &facts.mem);
+    let registers = registers_held(d, &facts.regs);
+    let control = d.digest(control_text(&facts.ctl).as_slice());
+    state_text(&storage, &registers, &control)
+}
+
+/// The state strings of two proofs, if they differ and have one digest.
+fn state_collision<D: Digester>(d: D, x: &Facts, y: &Facts) -> Option<(OpenText, OpenText)>
+    ensures { result ≡ first_collision D.digest_of (next.text_before D.digest_of x.now ∷ []) (next.text_before D.digest_of y.now ∷ []) }
+{
+    text_collision(d, text_before(d, x), text_before(d, y))
+}
+
+/// The storage strings, if both have one.
+#[tactic(auto, using(crate::proofs::CodeLemmas::collision_without, crate::proofs::CodeLemmas::collision_of_none))]
+fn storage_collision<D: Digester>(
+    d: D,
+    x: &Option<HeldInput>,
+    x_mem: &Digest32,
+    y: &Option<HeldInput>,
+    y_mem: &Digest32,
+) -> Option<(OpenText, OpenText)>
+    ensures { result ≡ first_collision D.digest_of (next.storage_texts x.now x_mem.now.0) (next.storage_texts y.now y_mem.now.0) }
+{
+    match x {
+        Some(t) => match y {
+            Some(u) => text_collision(
+                d,
+                storage_text(x_mem, t.len, &t.root),
+                storage_text(y_mem, u.len, &u.root),
+            ),
+            None => None,
+        },
+        None => None,
+    }
+}
+
+/// The registers strings, if both have one.
+#[tactic(auto, using(crate::proofs::CodeLemmas::collision_without, crate::proofs::CodeLemmas::collision_of_none))]
+fn registers_collision<D: Digester>(
+    d: D,
+    x: &HeldRegisters,
+    y: &HeldRegisters,
+) -> Option<(OpenText, OpenText)>
+    ensures { result ≡ first_collision D.digest_of (registers_texts x.now) (registers_texts y.now) }
+{
+    match x {
+        HeldRegisters::Whole(xs) => match y {
+            HeldRegisters::Whole(ys) => text_collision(d, registers_text(xs), registers_text(ys)),
+            HeldRegisters::Opened(_root, _named) => None,
+        },
+        HeldRegisters::Opened(_root, _named) => None,
+    }
+}
+
+/// The control strings.
+fn control_collision<D: Digester>(d: D, x: &Ctl, y: &Ctl) -> Option<(OpenText, OpenText)>
+    ensures { result ≡ first_collision D.digest_of (control_text_of x.now ∷ []) (control_text_of y.now ∷ []) }
+{
+    text_collision(d, control_text(x), control_text(y))
+}
+
+/// The first two different strings of one digest on the ways of opened registers, by their names.
+#[tactic(auto, using(crate::proofs::CodeLemmas::ways_without))]
+fn named_collision<D: Digester>(
+    d: D,
+    rs: &[u8],
+    x: &HeldRegisters,
+    qs: &[u8],
+    y: &HeldRegisters,
+) -> Option<(OpenText, OpenText)>
+    ensures { result ≡ collision.ways_collision D.digest_of (openings.register_ways rs.now x.now) (openings.register_ways qs.now y.now) }
+{
+    match x {
+        HeldRegisters::Opened(_root, os) => match y {
+            HeldRegisters::Opened(_other, ps) => {
+                each_collision(d, rs, os.as_slice(), qs, ps.as_slice())
+            }
+            HeldRegisters::Whole(_ys) => None,
+        },
+        HeldRegisters::Whole(_xs) => None,
+    }
+}
+
+/// The same of chunks of the input, if both have the input as a tree.
+fn read_collision<D: Digester>(
+    d: D,
+    tree: &Option<HeldInput>,
+    x: &Option<InOpening>,
+    x_byte: Option<u32>,
+    other: &Option<HeldInput>,
+    y: &Option<InOpening>,
+    y_byte: Option<u32>,
+) -> Option<(OpenText, OpenText)>
+    ensures { result ≡ collision.ways_collision D.digest_of (openings.input_ways tree.now x.now x_byte) (openings.input_ways other.now y.now y_byte) }
+{
+    match tree {
+        Some(_t) => match other {
+            Some(_u) => input_collision(d, x, x_byte, y, y_byte),
+            None => None,
+        },
+        None => None,
+    }
+}
+
+/// The first two different strings of one digest among those of the parts.
+fn part_collision<D: Digester>(d: D, x: &Facts, y: &Facts) -> Option<(OpenText, OpenText)>
+    ensures { result ≡ collision.parts_collision D.digest_of x.now y.now }
+{
+    let state = state_collision(d, x, y);
+    if state.is_some() {
+        return state;
+    }
+    let storage = storage_collision(d, &x.input_tree, &x.mem, &y.input_tree, &y.mem);
+    if storage.is_some() {
+        return storage;
+    }
+    let registers = registers_collision(d, &x.regs, &y.regs);
+    if registers.is_some() {
+        return registers;
+    }
+    control_collision(d, &x.ctl, &y.ctl)
+}
+
+/// The first two different strings of one digest among those of the ways.
+fn way_collision<D: Digester>(
+    d: D,
+    x: &Facts,
+    x_called: &Called,
+    y: &Facts,
+    y_called: &Called,
+) -> Option<(OpenText, OpenText)>
+    requires x_names { x_called.now.names ≡ facts.named_called x.now }
+    requires x_operand { x_called.now.operand ≡ facts.operand_called x.now }
+    requires x_input { x_called.now.input ≡ facts.input_called x.now }
+    requires y_names { y_called.now.names ≡ facts.named_called y.now }
+    requires y_operand { y_called.now.operand ≡ facts.operand_called y.now }
+    requires y_input { y_called.now.input ≡ facts.input_called y.now }
+    ensures { result ≡ collision.all_ways_collision D.digest_of x.now y.now }
+{
+    let fetch = chunk_collision(
+        d,
+        &x.fetch,
+        fetch_address(&x.ctl),
+        &y.fetch,
+        fetch_address(&y.ctl),
+    );
+    if fetch.is_some() {
+        return fetch;
+    }
+    let named = named_collision(
+        d,
+        x_called.names.as_slice(),
+        &x.regs,
+        y_called.names.as_slice(),
+        &y.regs,
+    );
+    if named.is_some() {
+        return named;
+    }
+    let operand = chunk_collision(
+        d,
+        &x.operand,
+        x_called.operand,
+        &y.operand,
+        y_called.operand,
+    );
+    if operand.is_some() {
+        return operand;
+    }
+    read_collision(
+        d,
+        &x.input_tree,
+        &x.input,
+        x_called.input,
+        &y.input_tree,
+        &y.input,
+        y_called.input,
+    )
+}
+
+/// The first two different strings of one digest that two proofs open.
+fn opened_collision<D: Digester>(d: D, x: &Facts, y: &Facts) -> Option<(OpenText, OpenText)>
+    ensures { result ≡ collision.opened_collision D.digest_of x.now y.now }
+{
+    let parts = part_collision(d, x, y);
+    if parts.is_some() {
+        return parts;
+    }
+    way_collision(d, x, &called_by(x), y, &called_by(y))
+}
+
+/// Whether a proof is of a version and its parts open a root.
+fn opens_in<D: Digester>(d: D, version: u8, a: &Digest32, facts: &Facts) -> bool
+    ensures { result ≡ collision.opens_in D.digest_of version a.now facts.now }
+{
+    facts.version == version && a.0 == d.digest(text_before(d, facts).as_slice()).0
+}
+
+/// Two different strings of one digest, the first opened by the first proof, the second by the second, of two proofs of a version that
+/// open the root `a`: the first such pair in the order state string, storage string, registers string, control string, then the strings of
+/// the fetched chunk, of the opened registers, of the chunk of data and of the chunk of the input, each from the leaf string up.
+///
+/// `None` if a proof is of another version or doesn't open `a`. Of two proofs that lead from `a` it comes if and only if the proofs
+/// are equal (`proofs_from_one_root`).
+#[tactic(auto, unfolding(crate::specs::Collision::step_collision))]
+pub fn step_collision<D: Digester>(
+    d: D,
+    version: u8,
+    a: Digest32,
+    first: &Proof,
+    second: &Proof,
+) -> Option<(OpenText, OpenText)>
+    ensures { result ≡ collision.step_collision D.digest_of version a (facts.facts_of first.now) (facts.facts_of second.now) }
+{
+    let x = facts_of(first);
+    let y = facts_of(second);
+    if opens_in(d, version, &a, &x) && opens_in(d, version, &a, &y) {
+        return opened_collision(d, &x, &y);
+    }
+    None
+}

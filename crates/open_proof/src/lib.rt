@@ -1,0 +1,29 @@
+//! What a proof of one step is, how it is made, and the collisions of two of them, in every version of the commitment.
+//!
+//! - `facts`: what a proof holds, opens and leads to. The three versions have one set of definitions: `Facts` is made of any proof, and
+//!   everything above speaks of it alone. A proof's conditions are a list in their order, each with the refusal that it is
+//!   (`specs/Conditions.antt`); what it opens are ways up to the roots of trees (`specs/Openings.antt`), of which one walk of any number
+//!   of levels serves memory, registers and input.
+//! - `proving`: the two answers that are true of a state, its claim and the plain proof of its step, in the version of the state.
+//! - `collision`: two different proofs that lead from one root open two different strings of one digest, which `step_collision` finds.
+//!
+//! The layers above may rely on this: the step on what is held of a state (`specs/Held.antt`) depends on the opened parts alone and is
+//! the step of the machine (`shown_states_lead`); each proof that a program holds is in the ranges of its types (`proofs_are_in_range`);
+//! `make_proof` gives the plain proof of a state, which leads from the root of the state to the root of the next (`plain_proofs_lead`); what
+//! `step_collision` gives is a pair of different strings of one digest, the first opened by the first proof, the second by the second,
+//! and it gives none if and only if the proofs are equal (`proofs_from_one_root`). Only a claim takes memory, for its output. Read
+//! `specs/Held.antt`, `specs/Facts.antt`, `specs/Next.antt` and `specs/Conditions.antt`, then `facts`, `proving` and `specs/Collision.antt`.
+#![tactic(auto)]
+
+mod collision;
+mod facts;
+mod proving;
+
+pub use collision::{proofs_from_one_root, step_collision};
+pub use facts::{
+    Called, Facts, HeldInput, HeldRegisters, Names, address_needed, byte_needed, called_by,
+    facts_of, fetch_address, fetched_in, file_shown, named_by, needed_by, number_shown, offering,
+    plain_proofs_lead, proofs_are_in_range, proofs_lead_to_the_next_state, shown_states_lead,
+    states_name_registers,
+};
+pub use proving::{make_claim, make_proof};

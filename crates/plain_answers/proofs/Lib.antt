@@ -1,3 +1,0 @@
-pub mod CalledLemmas
-pub mod PathLemmas
-pub mod WholeLemmas

@@ -1,2 +1,0 @@
-pub use Rattle.proof_facts.specs.PlainProof
-pub mod PlainClaim

@@ -1,8 +1,0 @@
-use Rattle.proof_collision.proofs.CodeLemmas.{there-is, there-next}
-use Rattle.proof_collision.proofs.colliding.opened_collision.Goals as goal
-
-pub returns-then-is_some : goal.returns-then-is_some
-returns-then-is_some g c = there-is c.part_collision-parts.result _ _ c.part_collision-parts.ensures c.if-is_some.ensures
-
-pub returns : goal.returns
-returns g c = there-next c.part_collision-parts.result _ _ c.way_collision.result c.part_collision-parts.ensures c.if-is_some.ensures c.way_collision.ensures

@@ -1,2 +1,0 @@
-pub mod Collision
-pub mod CollisionLaws

@@ -1,5 +1,0 @@
-use Rattle.proof_facts.proofs.LeadLemmas.{shown-leads}
-use Rattle.proof_facts.proofs.laws.shown_states_lead.Goals as goal
-
-pub returns : goal.returns
-returns c = λ digest facts s valid shows. shown-leads c.laws_below.ensures.steps c.laws_below.ensures.registers c.laws_below.ensures.trees digest s valid facts shows

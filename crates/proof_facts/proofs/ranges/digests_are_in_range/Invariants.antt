@@ -1,6 +1,0 @@
-use Rattle.std.proofs.Common.{◌≡◌, ◌<◌, ℕ, length}
-use Rattle.merkle_nodes.specs.Node.{digest_at}
-use Rattle.proof_facts.proofs.ranges.digests_are_in_range.Given as goal
-
-abbrev pub invariant-digests : goal.invariant-digests
-invariant-digests l = (k : ℕ) → k < l.i → length (digest_at l.digests k) ≡ 32

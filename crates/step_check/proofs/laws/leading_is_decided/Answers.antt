@@ -1,5 +1,0 @@
-use Rattle.step_check.specs.TestLaws.{checked-leads}
-use Rattle.step_check.proofs.laws.leading_is_decided.Goals as goal
-
-pub returns : goal.returns
-returns c = λ digest version a b facts. checked-leads digest version a facts b

@@ -1,4 +1,0 @@
-pub mod HeldParts
-pub mod Ticks
-pub mod Tests
-pub mod TestLaws

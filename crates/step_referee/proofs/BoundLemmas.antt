@@ -1,0 +1,326 @@
+-- How often a check ticks at most.
+use Rattle.std.proofs.Common.{◌≡◌, ℕ, ◌+◌, ◌*◌, ◌%◌, ◌≤◌, List, [], ◌∷◌, ◌++◌, length, Option, Some, None, is_some, eqb, cond, Bool, true, false, true≢false, not, ◌&&◌, refl, sym, ap, ◌∙◌, arith, length-append}
+use Rattle.std.proofs.lemmas.Bool.{eq-eqb}
+use Rattle.rd_base.specs.Status.{is_running}
+use Rattle.rd_base.specs.declared.digest.Digest32.{Digest32}
+use Rattle.rd_base.specs.declared.opened.Opening.{Opening}
+use Rattle.rd_base.specs.declared.opened.InOpening.{InOpening}
+use Rattle.rd_base.specs.declared.opened.RegOpening.{RegOpening}
+use Rattle.rd_base.specs.declared.proof.Proof.{Proof}
+use Rattle.rd_base.specs.declared.proof.Proof.TheVariants.{V1, V2, V3}
+use Rattle.rv_decode.specs.Reading.{reading_of}
+use Rattle.rv_decode.specs.declared.instr.Instr.{Instr}
+use Rattle.rv_decode.specs.declared.instr.Instr.TheVariants.{Lb, Lh, Lw, Lbu, Lhu, Sb, Sh, Sw, Ecall}
+use Rattle.rv_step.specs.Effect.{effect_with, x}
+use Rattle.rv_step.specs.Named.{first_source, second_source, destination, kept, once, named, named_by}
+use Rattle.rv_step.specs.Parts.{needed_in}
+use Rattle.rv_step.specs.Step.{regs_after}
+use Rattle.rv_step.specs.declared.asked.Need.TheVariants as need
+use Rattle.rv_step.specs.declared.effect.Effect.{Effect}
+use Rattle.rv_step.specs.declared.effect.Effect.TheVariants.{Write, Jump, Branch, Next, Store, Put, Exit, Trap}
+use Rattle.open_proof.specs.Held.{Held, held_after, number_shown}
+use Rattle.open_proof.specs.Called.{address_needed, fetch_address}
+use Rattle.open_proof.specs.Facts.{facts_of, fetched, named_called, file_of_facts, needed_by, operand_called, byte_needed, input_called, offering, offer_shown}
+use Rattle.open_proof.specs.Next.{after_word, step_held, held_shown}
+use Rattle.open_proof.specs.Openings.{chunk_ways, each_way, input_ways}
+use Rattle.open_proof.specs.Ways.{ways_digests}
+use Rattle.open_proof.specs.declared.facts.Facts.{Facts}
+use Rattle.open_proof.specs.declared.facts.HeldInput.{HeldInput}
+use Rattle.step_referee.specs.Ticks.{chunk_count, digests_of_effect, digests_of_word, digests_on, changed_digests, opening_digests, ticks_of, most_ticks, most_alone}
+use Rattle.step_referee.specs.declared.check.StepCheck.{StepCheck}
+use Rattle.step_referee.specs.declared.check.StepCheck.TheVariants as check
+
+one-chunk : (o : Option Opening) → chunk_count o ≤ 1
+one-chunk (Some o) = omega arith
+one-chunk None = omega arith
+
+no-chunk : (o : Option Opening) → is_some o ≡ false → chunk_count o ≡ 0
+no-chunk (Some o) is = absurd (true≢false is)
+no-chunk None is = refl
+
+-- 1 where a chunk of the input is there
+input_count : Option InOpening → ℕ
+input_count (Some o) = 1
+input_count None = 0
+
+one-input : (o : Option InOpening) → input_count o ≤ 1
+unfolding input_count
+one-input (Some o) = omega arith
+one-input None = omega arith
+
+-- what the ways take
+chunk-few : (root : List ℕ) (o : Option Opening) (address : Option ℕ) → ways_digests (chunk_ways root o address) ≤ 28 * chunk_count o
+chunk-few root (Some o) (Some addr) = omega arith
+chunk-few root (Some o) None = omega arith
+chunk-few root None address = omega arith
+
+each-few : (root rs : List ℕ) (os : List RegOpening) → ways_digests (each_way root rs os) ≤ 6 * length rs
+each-few root [] os = omega arith
+each-few root (r ∷ rs) [] = omega arith
+each-few root (r ∷ rs) (o ∷ os) = let rest = each-few root rs os in omega arith
+
+input-few : (tree : Option HeldInput) (o : Option InOpening) (byte : Option ℕ) → ways_digests (input_ways tree o byte) ≤ 16 * input_count o
+unfolding input_count
+input-few (Some t) (Some o) (Some k) = omega arith
+input-few (Some t) (Some o) None = omega arith
+input-few (Some t) None byte = omega arith
+input-few None (Some o) byte = omega arith
+input-few None None byte = omega arith
+
+-- at most one opened register has changed, and none where nothing did
+changed-few : (rs : List ℕ) (os : List RegOpening) (xs ys : List ℕ) → changed_digests rs os xs ys ≤ 6
+changed-few [] os xs ys = omega arith
+changed-few (r ∷ rs) [] xs ys = omega arith
+changed-few (r ∷ rs) (o ∷ os) xs ys =
+    elim (eqb (x xs r) (x ys r)) as (λ b. cond b (changed_digests rs os xs ys) 6 ≤ 6) [
+      | true ↦ changed-few rs os xs ys
+      | false ↦ omega arith
+    ]
+
+changed-none : (rs : List ℕ) (os : List RegOpening) (xs : List ℕ) → changed_digests rs os xs xs ≡ 0
+changed-none [] os xs = refl
+changed-none (r ∷ rs) [] xs = refl
+changed-none (r ∷ rs) (o ∷ os) xs = rw (eq-eqb (x xs r) (x xs r) refl) (changed-none rs os xs)
+
+module _ (digest : List ℕ → List ℕ) (operand : Option Opening) (offer : Option (ℕ → ℕ)) (rs : List ℕ) (os : List RegOpening) where
+  -- a step stores, or puts a byte, or changes a register
+  effect-cost : (xs : List ℕ) (pc : ℕ) (e : Effect) → digests_of_effect operand e + changed_digests rs os xs (regs_after xs pc e) ≤ 6 + 22 * chunk_count operand
+  effect-cost xs pc (Write rd value) = let few = changed-few rs os xs (regs_after xs pc (Write rd value)) in omega arith
+  effect-cost xs pc (Jump rd target) = let few = changed-few rs os xs (regs_after xs pc (Jump rd target)) in omega arith
+  effect-cost xs pc (Branch target) = let none = changed-none rs os xs in omega arith
+  effect-cost xs pc Next = let none = changed-none rs os xs in omega arith
+  effect-cost xs pc (Store addr width value) = let none = changed-none rs os xs in let one = one-chunk operand in omega arith
+  effect-cost xs pc (Put byte) = let none = changed-none rs os xs in omega arith
+  effect-cost xs pc (Exit code) = let none = changed-none rs os xs in omega arith
+  effect-cost xs pc (Trap code) = let none = changed-none rs os xs in omega arith
+
+  step-cost : (fetch : Option Opening) (p : Held) → digests_on fetch operand offer p + changed_digests rs os p.regs (step_held digest fetch operand offer p).regs ≤ 6 + 22 * chunk_count operand
+  unfolding digests_on step_held
+  step-cost fetch p = go (is_running p.ctl.status) (eqb (p.ctl.pc % 4) 0) (reading_of (number_shown fetch p.ctl.pc 4))
+    where
+      go : (r b : Bool) (o : Option Instr) → cond r (cond b (digests_of_word operand offer p o) 0) 0
+          + changed_digests rs os p.regs (cond r (cond b (after_word digest operand offer p o) (held_after digest operand p (Trap 0))) p).regs ≤ 6 + 22 * chunk_count operand
+      go true true (Some i) = effect-cost p.regs p.ctl.pc (effect_with offer p.regs p.ctl.pc (number_shown operand) i)
+      go true true None = let none = changed-none rs os p.regs in omega arith
+      go true false o = let none = changed-none rs os p.regs in omega arith
+      go false b o = let none = changed-none rs os p.regs in omega arith
+
+-- the step alone
+effect-digests : (operand : Option Opening) (e : Effect) → digests_of_effect operand e ≤ 1 + 27 * chunk_count operand
+effect-digests operand (Store addr width value) = let one = one-chunk operand in omega arith
+effect-digests operand (Put byte) = omega arith
+effect-digests operand e = omega arith
+
+step-digests : (fetch operand : Option Opening) (offer : Option (ℕ → ℕ)) (p : Held) → digests_on fetch operand offer p ≤ 1 + 27 * chunk_count operand
+unfolding digests_on
+step-digests fetch operand offer p = go (is_running p.ctl.status) (eqb (p.ctl.pc % 4) 0) (reading_of (number_shown fetch p.ctl.pc 4))
+  where
+    go : (r b : Bool) (o : Option Instr) → cond r (cond b (digests_of_word operand offer p o) 0) 0 ≤ 1 + 27 * chunk_count operand
+    go true true (Some i) = effect-digests operand (effect_with offer p.regs p.ctl.pc (number_shown operand) i)
+    go true true None = omega arith
+    go true false o = omega arith
+    go false b o = omega arith
+
+-- how many registers are named
+kept-length : (t : Bool) (r : ℕ) → length (kept t r) ≤ 1
+kept-length true r = omega arith
+kept-length false r = omega arith
+
+once-length : (a b c : ℕ) → length (once a b c) ≤ 3
+once-length a b c =
+    let first = kept-length (not (eqb a 0)) a in
+    let second = kept-length (not (eqb b 0) && not (eqb b a)) b in
+    let third = kept-length (not (eqb c 0) && not (eqb c a) && not (eqb c b)) c in
+    let inner = length-append (kept (not (eqb b 0) && not (eqb b a)) b) (kept (not (eqb c 0) && not (eqb c a) && not (eqb c b)) c) in
+    let outer = length-append (kept (not (eqb a 0)) a) (kept (not (eqb b 0) && not (eqb b a)) b ++ kept (not (eqb c 0) && not (eqb c a) && not (eqb c b)) c) in
+    omega arith
+
+once-second : (a c : ℕ) → length (once a 0 c) ≤ 2
+once-second a c =
+    let first = kept-length (not (eqb a 0)) a in
+    let third = kept-length (not (eqb c 0) && not (eqb c a) && not (eqb c 0)) c in
+    let outer = length-append (kept (not (eqb a 0)) a) (kept (not (eqb c 0) && not (eqb c a) && not (eqb c 0)) c) in
+    omega arith
+
+once-last : (a b : ℕ) → length (once a b 0) ≤ 2
+once-last a b =
+    let first = kept-length (not (eqb a 0)) a in
+    let second = kept-length (not (eqb b 0) && not (eqb b a)) b in
+    let inner = length-append (kept (not (eqb b 0) && not (eqb b a)) b) [] in
+    let outer = length-append (kept (not (eqb a 0)) a) (kept (not (eqb b 0) && not (eqb b a)) b ++ []) in
+    omega arith
+
+named-few : (o : Option Instr) → length (named_by o) ≤ 3
+unfolding named
+named-few None = omega arith
+named-few (Some i) = once-length (first_source i) (second_source i) (destination i)
+
+-- an instruction that reads or writes memory names two
+call-address : (version number argument : ℕ) → address_needed (cond (eqb number 2) (cond (eqb version 3) (need.Input argument) (need.Trap 8)) need.Nothing) ≡ None
+call-address version number argument = go (eqb number 2) (eqb version 3)
+  where
+    go : (a b : Bool) → address_needed (cond a (cond b (need.Input argument) (need.Trap 8)) need.Nothing) ≡ None
+    go true true = refl
+    go true false = refl
+    go false b = refl
+
+access-two : (version : ℕ) (xs : List ℕ) (i : Instr) → is_some (address_needed (needed_in version xs i)) ≡ true → length (named i) ≤ 2
+unfolding named needed_in first_source second_source destination
+access-two version xs (Lb i) called = once-second i.rs1 i.rd
+access-two version xs (Lh i) called = once-second i.rs1 i.rd
+access-two version xs (Lw i) called = once-second i.rs1 i.rd
+access-two version xs (Lbu i) called = once-second i.rs1 i.rd
+access-two version xs (Lhu i) called = once-second i.rs1 i.rd
+access-two version xs (Sb i) called = once-last i.rs1 i.rs2
+access-two version xs (Sh i) called = once-last i.rs1 i.rs2
+access-two version xs (Sw i) called = once-last i.rs1 i.rs2
+access-two version xs Ecall called = absurd (true≢false (sym called ∙ ap is_some (call-address version (x xs 17) (x xs 10))))
+access-two version xs i called = absurd (true≢false (sym called))
+
+operand-two : (tree : Option HeldInput) (xs : List ℕ) (o : Option Instr) → is_some (address_needed (needed_by tree xs o)) ≡ true → length (named_by o) ≤ 2
+operand-two tree xs None called = absurd (true≢false (sym called))
+operand-two tree xs (Some i) called = access-two (offering tree) xs i called
+
+-- one that reads the input names two, and calls for no chunk of memory
+load-reads-none : (t : HeldInput) (b : Bool) (addr width code : ℕ) → byte_needed (Some t) (cond b (need.Load addr width) (need.Trap code)) ≡ None
+load-reads-none t true addr width code = refl
+load-reads-none t false addr width code = refl
+
+store-reads-none : (t : HeldInput) (b : Bool) (addr width value code : ℕ) → byte_needed (Some t) (cond b (need.Store addr width value) (need.Trap code)) ≡ None
+store-reads-none t true addr width value code = refl
+store-reads-none t false addr width value code = refl
+
+none-called : {A : Type 0} (o : Option ℕ) → o ≡ None → is_some o ≡ true → A
+none-called o none called = absurd (true≢false (sym called ∙ ap is_some none))
+
+read-two : (t : HeldInput) (xs : List ℕ) (i : Instr) → is_some (byte_needed (Some t) (needed_in 3 xs i)) ≡ true → (length (named i) ≤ 2) × (address_needed (needed_in 3 xs i) ≡ None)
+unfolding named needed_in first_source second_source destination
+read-two t xs (Lb i) called = none-called _ (load-reads-none t _ _ _ _) called
+read-two t xs (Lh i) called = none-called _ (load-reads-none t _ _ _ _) called
+read-two t xs (Lw i) called = none-called _ (load-reads-none t _ _ _ _) called
+read-two t xs (Lbu i) called = none-called _ (load-reads-none t _ _ _ _) called
+read-two t xs (Lhu i) called = none-called _ (load-reads-none t _ _ _ _) called
+read-two t xs (Sb i) called = none-called _ (store-reads-none t _ _ _ _ _) called
+read-two t xs (Sh i) called = none-called _ (store-reads-none t _ _ _ _ _) called
+read-two t xs (Sw i) called = none-called _ (store-reads-none t _ _ _ _ _) called
+read-two t xs Ecall called = (omega arith, call-address 3 (x xs 17) (x xs 10))
+read-two t xs i called = absurd (true≢false (sym called))
+
+input-two : (tree : Option HeldInput) (xs : List ℕ) (o : Option Instr) → is_some (byte_needed tree (needed_by tree xs o)) ≡ true → (length (named_by o) ≤ 2) × (address_needed (needed_by tree xs o) ≡ None)
+input-two None xs o called = absurd (true≢false (sym called))
+input-two (Some t) xs None called = absurd (true≢false (sym called))
+input-two (Some t) xs (Some i) called = read-two t xs i called
+
+-- a chunk of data leaves two registers
+names-chunk : (tree : Option HeldInput) (xs : List ℕ) (o : Option Instr) (operand : Option Opening) → is_some operand ≡ is_some (address_needed (needed_by tree xs o))
+    → length (named_by o) + chunk_count operand ≤ 3
+names-chunk tree xs o None shaped = let few = named-few o in omega arith
+names-chunk tree xs o (Some chunk) shaped = let two = operand-two tree xs o (sym shaped) in omega arith
+
+-- and so does a chunk of the input, beside which there is none of data
+names-input : (tree : Option HeldInput) (xs : List ℕ) (o : Option Instr) (operand : Option Opening) (input : Option InOpening) → is_some operand ≡ is_some (address_needed (needed_by tree xs o))
+    → is_some input ≡ is_some (byte_needed tree (needed_by tree xs o)) → (length (named_by o) + input_count input ≤ 3) × (input_count input + chunk_count operand ≤ 1)
+unfolding input_count
+names-input tree xs o operand None shaped read = let few = named-few o in let one = one-chunk operand in (omega arith, omega arith)
+names-input tree xs o operand (Some chunk) shaped read =
+    let both = input-two tree xs o (sym read) in
+    let two = both.0 in
+    let none = no-chunk operand (shaped ∙ ap is_some both.1) in
+    (omega arith, omega arith)
+
+-- the conditions that bound the ticks
+abbrev pub IsShaped : Facts → Type 0
+IsShaped facts = (is_some facts.operand ≡ is_some (operand_called facts)) × (is_some facts.input ≡ is_some (input_called facts))
+
+module _ (digest : List ℕ → List ℕ) where
+  abbrev Bounds : Proof → ℕ → Type 0
+  Bounds proof n = (n ≤ most_ticks proof) × (is_some (facts_of proof).operand ≡ false → n ≤ most_alone proof)
+
+  -- of one that leads
+  ticks-few : (proof : Proof) → IsShaped (facts_of proof) → Bounds proof (ticks_of digest (facts_of proof))
+  ticks-few (V1 p) shaped =
+      let facts = facts_of (V1 p) in
+      let fetch = chunk-few facts.mem.0 facts.fetch (fetch_address facts.ctl) in
+      let one = one-chunk facts.fetch in
+      let operand = chunk-few facts.mem.0 facts.operand (operand_called facts) in
+      let most = one-chunk facts.operand in
+      let step = step-digests facts.fetch facts.operand (offer_shown facts.input_tree facts.input) (held_shown facts) in
+      (omega arith, λ gone. let none = no-chunk facts.operand gone in omega arith)
+  ticks-few (V2 p) shaped =
+      let facts = facts_of (V2 p) in
+      let rs = named_called facts in
+      let fetch = chunk-few facts.mem.0 facts.fetch (fetch_address facts.ctl) in
+      let one = one-chunk facts.fetch in
+      let operand = chunk-few facts.mem.0 facts.operand (operand_called facts) in
+      let most = one-chunk facts.operand in
+      let registers = each-few p.regs.0 rs p.named in
+      let names = names-chunk facts.input_tree (file_of_facts facts) (fetched facts) facts.operand shaped.0 in
+      let step = step-cost digest facts.operand (offer_shown facts.input_tree facts.input) rs p.named facts.fetch (held_shown facts) in
+      (omega arith, λ gone. let none = no-chunk facts.operand gone in omega arith)
+  ticks-few (V3 p) shaped =
+      let facts = facts_of (V3 p) in
+      let rs = named_called facts in
+      let fetch = chunk-few facts.mem.0 facts.fetch (fetch_address facts.ctl) in
+      let one = one-chunk facts.fetch in
+      let operand = chunk-few facts.mem.0 facts.operand (operand_called facts) in
+      let most = one-chunk facts.operand in
+      let registers = each-few p.regs.0 rs p.named in
+      let read = input-few facts.input_tree facts.input (input_called facts) in
+      let names = names-chunk facts.input_tree (file_of_facts facts) (fetched facts) facts.operand shaped.0 in
+      let inputs = names-input facts.input_tree (file_of_facts facts) (fetched facts) facts.operand facts.input shaped.0 shaped.1 in
+      let left = inputs.0 in
+      let apart = inputs.1 in
+      let step = step-cost digest facts.operand (offer_shown facts.input_tree facts.input) rs p.named facts.fetch (held_shown facts) in
+      (omega arith, λ gone. let none = no-chunk facts.operand gone in omega arith)
+
+  -- of one that is refused
+  early-few : (proof : Proof) → Bounds proof (opening_digests (facts_of proof))
+  early-few (V1 p) =
+      let facts = facts_of (V1 p) in
+      let fetch = chunk-few facts.mem.0 facts.fetch (fetch_address facts.ctl) in
+      let one = one-chunk facts.fetch in
+      let operand = chunk-few facts.mem.0 facts.operand (operand_called facts) in
+      let most = one-chunk facts.operand in
+      (omega arith, λ gone. let none = no-chunk facts.operand gone in omega arith)
+  early-few (V2 p) =
+      let facts = facts_of (V2 p) in
+      let fetch = chunk-few facts.mem.0 facts.fetch (fetch_address facts.ctl) in
+      let one = one-chunk facts.fetch in
+      let operand = chunk-few facts.mem.0 facts.operand (operand_called facts) in
+      let most = one-chunk facts.operand in
+      let registers = each-few p.regs.0 (named_called facts) p.named in
+      let few = named-few (fetched facts) in
+      (omega arith, λ gone. let none = no-chunk facts.operand gone in omega arith)
+  early-few (V3 p) =
+      let facts = facts_of (V3 p) in
+      let fetch = chunk-few facts.mem.0 facts.fetch (fetch_address facts.ctl) in
+      let one = one-chunk facts.fetch in
+      let operand = chunk-few facts.mem.0 facts.operand (operand_called facts) in
+      let most = one-chunk facts.operand in
+      let registers = each-few p.regs.0 (named_called facts) p.named in
+      let few = named-few (fetched facts) in
+      let read = input-few facts.input_tree facts.input (input_called facts) in
+      let once = one-input facts.input in
+      (omega arith, λ gone. let none = no-chunk facts.operand gone in omega arith)
+
+  -- either way
+  pub bounded : (proof : Proof) (r : StepCheck) (old new : ℕ)
+      → ((b : Digest32) → r ≡ check.Leads b → (new ≡ old + ticks_of digest (facts_of proof)) × IsShaped (facts_of proof))
+      → (r ≡ check.NotOpen → new ≤ old + opening_digests (facts_of proof)) → (r ≡ check.WrongShape → new ≤ old + opening_digests (facts_of proof))
+      → (new ≤ old + most_ticks proof) × (is_some (facts_of proof).operand ≡ false → new ≤ old + most_alone proof)
+  bounded proof (check.Leads b) old new leads not_open wrong_shape =
+      let is = leads b refl in
+      let exact = is.0 in
+      let few = ticks-few proof is.1 in
+      let most = few.0 in
+      (omega arith, λ gone. let alone = few.1 gone in omega arith)
+  bounded proof check.NotOpen old new leads not_open wrong_shape =
+      let early = not_open refl in
+      let few = early-few proof in
+      let most = few.0 in
+      (omega arith, λ gone. let alone = few.1 gone in omega arith)
+  bounded proof check.WrongShape old new leads not_open wrong_shape =
+      let early = wrong_shape refl in
+      let few = early-few proof in
+      let most = few.0 in
+      (omega arith, λ gone. let alone = few.1 gone in omega arith)
