@@ -39,7 +39,7 @@ control_text pc status out_len chain =
 abbrev pub state_text : List ℕ → List ℕ → List ℕ → List ℕ
 state_text memory registers control = 4 ∷ memory ++ registers ++ control
 
--- link: 5, the chain of an output, and the byte that is put out next
+-- link: 5, the chain of an output, and the next byte of the output
 abbrev pub link_text : List ℕ → ℕ → List ℕ
 link_text chain byte = 5 ∷ chain ++ byte ∷ []
 

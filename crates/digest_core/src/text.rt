@@ -6,7 +6,7 @@ ghost use Rattle.digest_core.specs.Text as text;
 use byteorder::{ByteOrder, LittleEndian};
 use rd_base::{Ctl, Digest32, OpenText, Regs, Status, registers_are_32};
 
-// The first byte of a string tells its kind.
+// The first byte of a string says its kind.
 const LEAF: u8 = 0;
 
 const NODE: u8 = 1;

@@ -1,57 +1,13 @@
 -- The leaves of a heap are renewed, from the first one up.
-use Rattle.std.proofs.Common.{◌≡◌, ◌≢◌, ℕ, zero, suc, ◌+◌, ◌*◌, ◌<◌, ◌≤◌, ◌⊎◌, List, [], ◌∷◌, ◌++◌, Bool, true, false, true≢false, cond, length, set, replicate, take, drop, refl, sym, ap, ◌∙◌, arith, ⊎_elim, get_or-set_same, get_or-set_other}
+use Rattle.std.proofs.Common.{◌≡◌, ◌≢◌, ℕ, ◌+◌, ◌*◌, ◌<◌, ◌≤◌, ◌⊎◌, List, Bool, true, false, true≢false, length, set, refl, sym, ap, ◌∙◌, arith, ⊎_elim}
 use Rattle.std.proofs.Math.ListN.{length-set}
 use Rattle.std.proofs.lemmas.Bool.{cases_eq, cases_lt}
 use Rattle.rd_base.specs.declared.digest.Digest32.{Digest32}
 use Rattle.merkle_nodes.specs.Node.{digest_at}
 use Rattle.merkle_nodes.specs.Heap.{HasLeaves, is_marked}
 use Rattle.merkle_nodes.specs.Renewals.{how_many}
-
-pub none-marked : (n i : ℕ) → is_marked (replicate n false) i ≡ false
-none-marked zero zero = refl
-none-marked zero (suc i) = refl
-none-marked (suc n) zero = refl
-none-marked (suc n) (suc i) = none-marked n i
-
--- a slice that was written whole
-pub written-whole : {A : Type 0} (n : ℕ) (xs ys : List A) → length xs ≡ n → length ys ≡ n → take n (xs ++ drop (length xs) ys) ≡ xs
-written-whole {A} n [] [] left right = let e : n ≡ 0 = omega arith in ap (λ i. take {A = A} i []) e
-written-whole n [] (y ∷ ys) left right = absurd (omega arith)
-written-whole n (x ∷ xs) [] left right = absurd (omega arith)
-written-whole zero (x ∷ xs) (y ∷ ys) left right = absurd (omega arith)
-written-whole (suc n) (x ∷ xs) (y ∷ ys) left right = ap (λ l. x ∷ l) (written-whole n xs ys (omega arith) (omega arith))
-
--- a count over the numbers below n, and one number more
-pub many-same : (f h : ℕ → Bool) (n : ℕ) → ((k : ℕ) → k < n → f k ≡ h k) → how_many f n ≡ how_many h n
-unfolding how_many
-many-same f h zero same = refl
-many-same f h (suc n) same = ap (λ x. x + cond (f n) 1 0) (many-same f h n (λ k low. same k (omega arith))) ∙ ap (λ b. how_many h n + cond b 1 0) (same n (omega arith))
-
-many-next : (f h : ℕ → Bool) (j : ℕ) (b : Bool) → ((i : ℕ) → i < j → f i ≡ h i) → f j ≡ b → how_many f (j + 1) ≡ how_many h j + cond b 1 0
-unfolding how_many
-many-next f h j b same here =
-    let next : j + 1 ≡ suc j = omega arith in
-    ap (how_many f) next ∙ (ap (λ x. x + cond (f j) 1 0) (many-same f h j same) ∙ ap (λ t. how_many h j + cond t 1 0) here)
-
-many-zero : (f : ℕ → Bool) → how_many f 0 ≡ 0
-unfolding how_many
-many-zero f = refl
-
--- one place of a heap is written
-module _ (nodes : List Digest32) (place : ℕ) (x : Digest32) where
-  place-here : place < length nodes → digest_at (set nodes place x) place ≡ x.0
-  place-here fits = ap (λ (d : Digest32). d.0) (get_or-set_same nodes place x (record { 0 = [] }) fits)
-
-  place-elsewhere : (i : ℕ) → i ≢ place → digest_at (set nodes place x) i ≡ digest_at nodes i
-  place-elsewhere i apart = ap (λ (d : Digest32). d.0) (get_or-set_other nodes place i x (record { 0 = [] }) apart)
-
--- a mark of a list
-module _ (marks : List Bool) (place : ℕ) where
-  mark-here : place < length marks → is_marked (set marks place true) place ≡ true
-  mark-here fits = get_or-set_same marks place true false fits
-
-  mark-elsewhere : (i : ℕ) → i ≢ place → is_marked (set marks place true) i ≡ is_marked marks i
-  mark-elsewhere i apart = get_or-set_other marks place i true false apart
+use Rattle.mem_tree.proofs.CostLemmas.{many-next, many-none}
+use Rattle.mem_tree.proofs.PlaceLemmas.{place-here, place-elsewhere, mark-here, mark-elsewhere}
 
 -- what holds while they are renewed: those below j are, of a heap with `width` leaves
 pub record IsRenewing (digest : List ℕ → List ℕ) (old : List Digest32) (leaf : ℕ → List ℕ) (changed : ℕ → Bool) (width start : ℕ) (nodes : List Digest32) (marks : List Bool) (steps j : ℕ) : Type 0 where
@@ -74,7 +30,7 @@ renewing-first digest old leaf changed width start marks len all none = record {
   low = λ i low. none i;
   marks_are = λ i low. absurd (omega arith);
   unmarked = λ i from. none i;
-  made = let zero' = many-zero (λ i. is_marked marks (width + i)) in omega arith;
+  made = let zero' = many-none (λ i. is_marked marks (width + i)) 0 (λ i low. absurd (omega arith)) in omega arith;
 }
 
 module _ (digest : List ℕ → List ℕ) (old : List Digest32) (leaf : ℕ → List ℕ) (changed : ℕ → Bool) (width start : ℕ) (nodes : List Digest32) (marks : List Bool) (steps j : ℕ)

@@ -1,12 +1,12 @@
 -- The pages of a memory, and what is kept of them.
-use Rattle.std.proofs.Common.{◌≡◌, ◌≢◌, ℕ, zero, suc, ◌+◌, ◌*◌, ◌/◌, ◌%◌, ◌<◌, ◌≤◌, List, [], ◌∷◌, ◌++◌, Option, Some, None, true, false, true≢false, is_some, take, drop, length, map, replicate, refl, sym, ap, ◌∙◌, arith, ⊎_elim}
+use Rattle.std.proofs.Common.{◌≡◌, ◌≢◌, ℕ, zero, suc, ◌+◌, ◌*◌, ◌/◌, ◌%◌, ◌<◌, ◌≤◌, List, [], ◌∷◌, ◌++◌, Option, Some, None, true, false, true≢false, is_some, map, replicate, refl, sym, ap, ◌∙◌, arith, ⊎_elim}
 use Rattle.std.specs.List.{range_with_len}
 use Rattle.std.proofs.lemmas.Bool.{cases_eq}
 use Rattle.std.proofs.lemmas.List.{get_or-replicate, replicate-append-replicate}
 use Rattle.mem_plain.specs.Contents.{Contents, IsUsed, chunk_at, byte_at}
 use Rattle.rd_base.specs.declared.digest.Digest32.{Digest32}
 use Rattle.digest_core.specs.Text.{leaf_text}
-use Rattle.merkle_nodes.specs.Heap.{IsHeap, is_marked}
+use Rattle.merkle_nodes.specs.Heap.{IsHeap}
 use Rattle.mem_tree.specs.Memory.{SamePage}
 use Rattle.mem_tree.specs.Page.{IsMade, IsMadeTree, IsPageOf, chunk_in, leaf_of, page_chunk, zero_chunks}
 use Rattle.mem_tree.specs.Costs.{differs, has_changed, is_filled}
@@ -17,14 +17,6 @@ use Rattle.mem_tree.proofs.CostLemmas.{RootLaw, SomeLaw, different-same, differe
 pub page_chunk-is : (m : Contents) (page j : ℕ) → page_chunk m page j ≡ chunk_at m (128 * page + j)
 unfolding page_chunk
 page_chunk-is m page j = refl
-
--- a slice that was written whole
-pub written-whole : {A : Type 0} (n : ℕ) (xs ys : List A) → length xs ≡ n → length ys ≡ n → take n (xs ++ drop (length xs) ys) ≡ xs
-written-whole {A} n [] [] left right = let e : n ≡ 0 = omega arith in ap (λ i. take {A = A} i []) e
-written-whole n [] (y ∷ ys) left right = absurd (omega arith)
-written-whole n (x ∷ xs) [] left right = absurd (omega arith)
-written-whole zero (x ∷ xs) (y ∷ ys) left right = absurd (omega arith)
-written-whole (suc n) (x ∷ xs) (y ∷ ys) left right = ap (λ l. x ∷ l) (written-whole n xs ys (omega arith) (omega arith))
 
 pub zero-at : (j : ℕ) → j < 128 → chunk_in zero_chunks j ≡ replicate 32 0
 unfolding zero_chunks
@@ -96,12 +88,6 @@ module _ (root : RootLaw) (some : SomeLaw) (m : Contents) (page : ℕ) where
   pub was-kept : (digest : List ℕ → List ℕ) (before : Option PageTree) → IsMadeTree digest before → ¬ IsUsed m page → is_some before ≡ has_changed before m page
   was-kept digest (Some tree) made unused = sym (emptied digest tree made unused)
   was-kept digest None made unused = sym (unused-filled unused)
-
-pub none-marked : (n i : ℕ) → is_marked (replicate n false) i ≡ false
-none-marked zero zero = refl
-none-marked zero (suc i) = refl
-none-marked (suc n) zero = refl
-none-marked (suc n) (suc i) = none-marked n i
 
 -- the heap over chunks of zeros
 pub zero-heap : (digest : List ℕ → List ℕ) (nodes : List Digest32) (chunks : List (List ℕ)) → chunks ≡ zero_chunks

@@ -11,14 +11,7 @@ use Rattle.merkle_nodes.specs.Renewals.{how_many}
 use Rattle.mem_tree.specs.Page.{chunk_in, leaf_of, page_chunk}
 use Rattle.mem_tree.specs.Costs.{are_different}
 use Rattle.mem_tree.proofs.CostLemmas.{many-next, many-none}
-
--- one place of a heap is written
-module _ (nodes : List Digest32) (place : ℕ) (x : Digest32) where
-  pub place-here : place < length nodes → digest_at (set nodes place x) place ≡ x.0
-  place-here fits = ap (λ (d : Digest32). d.0) (get_or-set_same nodes place x (record { 0 = [] }) fits)
-
-  pub place-elsewhere : (i : ℕ) → i ≢ place → digest_at (set nodes place x) i ≡ digest_at nodes i
-  place-elsewhere i apart = ap (λ (d : Digest32). d.0) (get_or-set_other nodes place i x (record { 0 = [] }) apart)
+use Rattle.mem_tree.proofs.PlaceLemmas.{place-here, place-elsewhere, mark-here, mark-elsewhere}
 
 -- a chunk of a list
 module _ (chunks : List (List ℕ)) (place : ℕ) (x : List ℕ) where
@@ -27,14 +20,6 @@ module _ (chunks : List (List ℕ)) (place : ℕ) (x : List ℕ) where
 
   chunk-elsewhere : (i : ℕ) → i ≢ place → chunk_in (set chunks place x) i ≡ chunk_in chunks i
   chunk-elsewhere i apart = get_or-set_other chunks place i x [] apart
-
--- a mark of a list
-module _ (marks : List Bool) (place : ℕ) where
-  mark-here : place < length marks → is_marked (set marks place true) place ≡ true
-  mark-here fits = get_or-set_same marks place true false fits
-
-  mark-elsewhere : (i : ℕ) → i ≢ place → is_marked (set marks place true) i ≡ is_marked marks i
-  mark-elsewhere i apart = get_or-set_other marks place i true false apart
 
 -- one place more of a list whose places are a function's
 pub places-set : (f : ℕ → List ℕ) (nodes : List Digest32) (n : ℕ) (x : Digest32) → n < length nodes → x.0 ≡ f n

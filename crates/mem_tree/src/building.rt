@@ -1,3 +1,4 @@
+//! The nodes of a memory, from scratch.
 ghost use Rattle.std.specs.Prelude.{◌≡◌, ◌<◌, ◌^◌, ℕ, [], length, IfOk, All, true};
 ghost use Rattle.std.specs.List.{AllZip};
 ghost use Rattle.mem_plain.specs.Contents.{IsUsed};

@@ -1,3 +1,4 @@
+//! The tree of an input.
 ghost use Rattle.std.specs.Prelude.{◌≡◌, ℕ, ◌<◌, ◌≤◌, ◌^◌, List, false, length, replicate, slice_index, IfOk};
 ghost use Rattle.digest_core.specs.Text.{leaf_text as text_of_leaf};
 ghost use Rattle.merkle_nodes.specs.Node.{digest_at};

@@ -1,3 +1,4 @@
+//! What is kept of a tree.
 ghost use Rattle.std.specs.Prelude.{◌≡◌, length, vec_len};
 
 use rd_base::Digest32;

@@ -1,3 +1,4 @@
+//! The nodes of a tree that are kept, and how they are brought up to a memory.
 ghost use Rattle.std.specs.Prelude.{◌≡◌, ◌≢◌, ◌⊎◌, ◌+◌, ◌-◌, ◌*◌, ◌/◌, ◌≤◌, ◌<◌, ◌^◌, ◌||◌, ℕ, List, [], length, OnOk, OnErr, None, is_some, false, true};
 ghost use Rattle.digest_core.specs.Text.{node_text as node_string};
 ghost use Rattle.merkle_nodes.specs.Node.{digest_at};

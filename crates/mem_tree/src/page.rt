@@ -1,3 +1,4 @@
+//! The subtree of a page.
 ghost use Rattle.std.specs.Prelude.{◌≡◌, ◌↔◌, ◌+◌, ◌<◌, ◌^◌, ℕ, List, Some, length, vec_len, is_some, false, IfOk, OnErr, OnOk, IsTrue};
 ghost use Rattle.mem_plain.specs.Contents.{IsUsed};
 ghost use Rattle.merkle_nodes.specs.Node.{digest_at};
@@ -91,7 +92,7 @@ fn no_marks() -> [bool; 256]
     [false; HEAP_PLACES]
 }
 
-/// Makes a heap and the chunks beside it those of a page, with a step for each changed chunk and each node above one, and tells
+/// Makes a heap and the chunks beside it those of a page, with a step for each changed chunk and each node above one. The result is
 /// whether some chunk has changed.
 fn renew<C: Counted, L: Ledger>(
     c: C,

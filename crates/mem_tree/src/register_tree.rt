@@ -1,3 +1,4 @@
+//! The tree of a register file.
 ghost use Rattle.std.specs.Prelude.{◌≡◌, ℕ, ◌+◌, ◌<◌, false, length};
 ghost use Rattle.rd_base.specs.Regs.{no_registers_set};
 ghost use Rattle.merkle_nodes.specs.Node.{digest_at};

@@ -54,15 +54,15 @@ module _ (digest : List ℕ → List ℕ) (is_digest : (bytes : List ℕ) → le
     same_below (suc l) k low below meet = ⊎_elim
         (λ same.
         let halves = append_parts (node digest leaf l (2 * k)) (node digest other l (2 * k)) (node digest leaf l (2 * k + 1)) (node digest other l (2 * k + 1))
-            (node-size leaf l (2 * k) ∙ sym (node-size other l (2 * k))) (cons_parts 1 1 _ _ same).1 in
+        (node-size leaf l (2 * k) ∙ sym (node-size other l (2 * k))) (cons_parts 1 1 _ _ same).1 in
         let places = child-below n l k low below in
         ⊎_elim
-          (λ left. ⊎_elim
-            (λ right. inl (both-below l k left right))
-            (λ split. inr split)
-            (same_below l (2 * k + 1) (omega arith) places halves.1))
-          (λ split. inr split)
-          (same_below l (2 * k) (omega arith) (omega arith) halves.0))
+        (λ left. ⊎_elim
+        (λ right. inl (both-below l k left right))
+        (λ split. inr split)
+        (same_below l (2 * k + 1) (omega arith) places halves.1))
+        (λ split. inr split)
+        (same_below l (2 * k) (omega arith) (omega arith) halves.0))
         (λ split.
         let width : k < 2 ^ (n - (l + 1)) = subst (λ m. k < 2 ^ (n - m)) (omega arith) below in
         inr (record {
@@ -78,9 +78,9 @@ module _ (digest : List ℕ → List ℕ) (is_digest : (bytes : List ℕ) → le
     one_tree meet =
         let none : n - n ≡ 0 = omega arith in
         ⊎_elim
-          (λ same. inl (λ k low. same k (first k low)))
-          (λ split. inr split)
-          (same_below n 0 (omega arith) (subst (λ m. 0 < 2 ^ m) (sym none) (omega arith)) meet)
+        (λ same. inl (λ k low. same k (first k low)))
+        (λ split. inr split)
+        (same_below n 0 (omega arith) (subst (λ m. 0 < 2 ^ m) (sym none) (omega arith)) meet)
       where
         first : (k : ℕ) → k < 2 ^ n → k / 2 ^ n ≡ 0
         first k low =

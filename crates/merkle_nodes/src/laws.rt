@@ -1,3 +1,4 @@
+//! Laws of nodes, paths and heaps, each the contract of a function that does nothing.
 ghost use Rattle.std.specs.Prelude.{◌≡◌, ◌≢◌, ◌↔◌, ◌⊎◌, ℕ, suc, ◌+◌, ◌*◌, ◌-◌, ◌/◌, ◌%◌, ◌^◌, ◌<◌, ◌≤◌, ◌||◌, Bool, true, List, length};
 ghost use Rattle.digest_core.specs.Text.{node_text};
 ghost use Rattle.rd_base.specs.declared.digest.Digest32.{Digest32};

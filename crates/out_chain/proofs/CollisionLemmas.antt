@@ -47,7 +47,7 @@ pub link-end : (digest : List ℕ → List ℕ) (left right xs ys : List ℕ) (i
 link-end digest left right xs ys i over =
     collision-end digest _ _ (⊎_elim (λ within. inr (links-end digest right ys i (omega arith))) (λ beyond. inl (links-end digest left xs i beyond)) (cases_lt i (length xs)))
 
--- links that go on: what they give is what the rest gives, where these two strings do not collide
+-- where these two strings do not collide, the links give what those after them give
 pub link-goes_on : (digest : List ℕ → List ℕ) (left right xs ys x y d e : List ℕ) (i : ℕ) (test : Bool) (all : Option (List ℕ × List ℕ)) → i < length xs → i < length ys
     → x ≡ link_text left (slice_index xs i) → y ≡ link_text right (slice_index ys i) → d ≡ digest x → e ≡ digest y
     → test ≡ (not (bytes_eq x y) && bytes_eq d e) → test ≡ false

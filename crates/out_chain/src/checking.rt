@@ -1,3 +1,4 @@
+//! Chains of outputs, and claims checked against them.
 ghost use Rattle.std.specs.Prelude.{◌≡◌, true};
 ghost use Rattle.digest_core.specs.Chain as chain;
 ghost use Rattle.out_chain.specs.Soundness.{claim_check, says_sound, is_claim_in_range, is_sound};

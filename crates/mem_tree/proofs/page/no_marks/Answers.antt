@@ -1,4 +1,4 @@
-use Rattle.mem_tree.proofs.PageLemmas.{none-marked}
+use Rattle.mem_tree.proofs.PlaceLemmas.{none-marked}
 use Rattle.mem_tree.proofs.page.no_marks.Goals as goal
 
 pub returns : goal.returns

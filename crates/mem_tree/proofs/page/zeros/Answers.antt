@@ -3,7 +3,8 @@ use Rattle.digest_core.specs.Text.{leaf_text}
 use Rattle.rd_base.specs.declared.digest.Digest32.{Digest32}
 use Rattle.merkle_nodes.specs.Heap.{IsHeap}
 use Rattle.mem_tree.specs.Page.{leaf_of}
-use Rattle.mem_tree.proofs.PageLemmas.{written-whole, zero-heap}
+use Rattle.mem_tree.proofs.PageLemmas.{zero-heap}
+use Rattle.mem_tree.proofs.PlaceLemmas.{written-whole}
 use Rattle.mem_tree.proofs.page.zeros.Goals as goal
 
 pub returns-clause-heap : goal.returns-clause-heap

@@ -1,7 +1,7 @@
 use Rattle.std.proofs.Common.{◌+◌, ℕ, Bool, ◌∙◌, arith}
 use Rattle.merkle_nodes.specs.Heap.{is_marked}
 use Rattle.mem_tree.specs.RegisterTree.{differs}
-use Rattle.mem_tree.proofs.LeafRenewingLemmas.{many-same}
+use Rattle.mem_tree.proofs.CostLemmas.{many-same}
 use Rattle.mem_tree.proofs.register_tree.renew.Goals as goal
 
 pub returns-clause-steps : goal.returns-clause-steps
