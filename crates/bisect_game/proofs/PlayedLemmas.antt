@@ -2,6 +2,7 @@
 use Rattle.std.proofs.Common.{◌≡◌, ◌≢◌, ℕ, zero, suc, ◌+◌, ◌-◌, ◌<◌, ◌≤◌, ◌==◌, ◌&&◌, not, true, false, List, [], ◌∷◌, length, ◌⊎◌, inl, inr, Option, Some, None, is_some, is_none, refl, sym, ◌∙◌, ap, arith}
 use Rattle.std.proofs.lemmas.Bool.Decides.{nat_tests}
 use Rattle.std.specs.Fn.{iterate}
+use Rattle.std.specs.Option.{option_or}
 use Rattle.std.proofs.lemmas.Bool.{cases_Bool}
 use Rattle.bisect_game.specs.declared.question.Question.{Question}
 use Rattle.bisect_game.specs.declared.settled.Close.{Close}
@@ -10,7 +11,7 @@ use Rattle.bisect_game.specs.declared.settled.Side.{Side}
 use Rattle.bisect_game.specs.declared.settled.Side.TheVariants.{First, Second}
 use Rattle.bisect_game.specs.Bisection.{Bisection, prover_of, asks, closed_or, went_on, decided, advanced, advance, is_closed, question_of, settle_first, settle_second, settle_side}
 use Rattle.bisect_game.specs.Closing.{close_of}
-use Rattle.bisect_game.specs.Disputes.{Answers, dispute_of, or_else, filled, round_over, played}
+use Rattle.bisect_game.specs.Disputes.{Answers, dispute_of, filled, round_over, played}
 use Rattle.bisect_game.specs.Held.{settled_after_rounds, held, settled_one_by_one, EachIsAsked, DisputesArePlayed}
 use Rattle.bisect_game.specs.OverAnswers.{HoldsOn, Waits, IsWaiting, PlayedOverAnswers}
 use Rattle.bisect_game.specs.Laws.{IsNarrower, HasClosed}
@@ -78,14 +79,14 @@ advanced-moves ruling d (Some a) (Some b) more = inl (rounds_narrow ruling d a b
 advanced-moves ruling d (Some a) None more = inr refl
 advanced-moves ruling d None b more = inr refl
 
-or_else-twice : (a b : Option Settled) → or_else (or_else a b) b ≡ or_else a b
-or_else-twice (Some s) b = refl
-or_else-twice None (Some s) = refl
-or_else-twice None None = refl
+option_or-twice : (a b : Option Settled) → option_or (option_or a b) b ≡ option_or a b
+option_or-twice (Some s) b = refl
+option_or-twice None (Some s) = refl
+option_or-twice None None = refl
 
 filled-twice : (f : Answers) (d : Bisection) → filled f (filled f d) ≡ filled f d
 filled-twice f d =
-    rw (or_else-twice d.by_first (f d.first (question_of d)), or_else-twice d.by_second (f d.second (question_of d))) refl
+    rw (option_or-twice d.by_first (f d.first (question_of d)), option_or-twice d.by_second (f d.second (question_of d))) refl
 
 -- after a round over the answers nothing more is to be done, or the interval is narrower
 round-moves : (ruling : Ruling) (f : Answers) (d : Bisection) → 1 < d.fan →
@@ -151,17 +152,17 @@ unfolding settle_second
 steps-second ruling f d s still none is = second-by ruling f d s d.by_first still refl none is
 
 -- a dispute of which an answer was settled is played out to the same end
-played-steps : (rules : Rules) (f : Answers) (d e : Bisection) → 1 < d.fan → 0 < rules.bound → d.place.lo < d.place.hi → d.place.hi ≤ rules.bound → Steps rules.ruling f d e →
+played-steps : (rules : Rules) (f : Answers) (d e : Bisection) → 1 < d.fan → 0 < rules.setup.bound → d.place.lo < d.place.hi → d.place.hi ≤ rules.setup.bound → Steps rules.ruling f d e →
     played rules f e ≡ played rules f d
 unfolding played
-played-steps rules f d e more long some high (inl same) = iterate-same (round_over rules.ruling f) rules.bound e d long same
+played-steps rules f d e more long some high (inl same) = iterate-same (round_over rules.ruling f) rules.setup.bound e d long same
 played-steps rules f d e more long some high (inr further) =
-    ap (iterate (round_over rules.ruling f) rules.bound) further
-    ∙ (sym (iterate-out (round_over rules.ruling f) rules.bound d) ∙ enough rules.ruling f rules.bound d more some (omega (arith, high)))
+    ap (iterate (round_over rules.ruling f) rules.setup.bound) further
+    ∙ (sym (iterate-out (round_over rules.ruling f) rules.setup.bound d) ∙ enough rules.ruling f rules.setup.bound d more some (omega (arith, high)))
 
 played-closed : (rules : Rules) (f : Answers) (d : Bisection) → is_closed d ≡ true → played rules f d ≡ d
 unfolding played
-played-closed rules f d closed = iterate-fixed (round_over rules.ruling f) rules.bound d (round-closed rules.ruling f d closed)
+played-closed rules f d closed = iterate-fixed (round_over rules.ruling f) rules.setup.bound d (round-closed rules.ruling f d closed)
 
 -- an open dispute waits for a side
 
@@ -194,15 +195,15 @@ waits-side ruling Second s d = waits-second ruling s d
 
 -- over the answers that it has a dispute stays
 
-or-same : (o : Option Settled) → or_else o o ≡ o
+or-same : (o : Option Settled) → option_or o o ≡ o
 or-same (Some s) = refl
 or-same None = refl
 
 filled-same : (f : Answers) (d : Bisection) → f d.first (question_of d) ≡ d.by_first → f d.second (question_of d) ≡ d.by_second → filled f d ≡ d
 filled-same f d ea eb =
-    ap (λ (o : Option Settled). record d { by_first = or_else d.by_first o; by_second = or_else d.by_second (f d.second (question_of d)) }) ea
-    ∙ (ap (λ (o : Option Settled). record d { by_first = or_else d.by_first d.by_first; by_second = or_else d.by_second o }) eb
-    ∙ (ap (λ (o : Option Settled). record d { by_first = o; by_second = or_else d.by_second d.by_second }) (or-same d.by_first)
+    ap (λ (o : Option Settled). record d { by_first = option_or d.by_first o; by_second = option_or d.by_second (f d.second (question_of d)) }) ea
+    ∙ (ap (λ (o : Option Settled). record d { by_first = option_or d.by_first d.by_first; by_second = option_or d.by_second o }) eb
+    ∙ (ap (λ (o : Option Settled). record d { by_first = o; by_second = option_or d.by_second d.by_second }) (or-same d.by_first)
     ∙ ap (λ (o : Option Settled). record d { by_first = d.by_first; by_second = o }) (or-same d.by_second)))
 
 still-by : (ruling : Ruling) (d : Bisection) (x y : Option Settled) → Waits x y None → advanced ruling d x y ≡ d
@@ -223,7 +224,7 @@ round-same ruling f d m ea eb =
 
 played-own : (rules : Rules) (f : Answers) (d : Bisection) → IsWaiting d → f d.first (question_of d) ≡ d.by_first → f d.second (question_of d) ≡ d.by_second → played rules f d ≡ d
 unfolding played
-played-own rules f d m ea eb = iterate-fixed (round_over rules.ruling f) rules.bound d (round-same rules.ruling f d m ea eb)
+played-own rules f d m ea eb = iterate-fixed (round_over rules.ruling f) rules.setup.bound d (round-same rules.ruling f d m ea eb)
 
 -- an answer that is settled before its turn
 
@@ -232,7 +233,7 @@ asked-open None None e = (refl, refl)
 asked-open None (Some c) e = absurd (cc)
 asked-open (Some s) c e = absurd (cc)
 
-played-settled : (rules : Rules) (f : Answers) (by : Side) (s : Settled) (d : Bisection) → 1 < d.fan → 0 < rules.bound → d.place.lo < d.place.hi → d.place.hi ≤ rules.bound →
+played-settled : (rules : Rules) (f : Answers) (by : Side) (s : Settled) (d : Bisection) → 1 < d.fan → 0 < rules.setup.bound → d.place.lo < d.place.hi → d.place.hi ≤ rules.setup.bound →
     asks by d ≡ true → f (prover_of by d) (question_of d) ≡ Some s → played rules f (settle_side rules.ruling by s d) ≡ played rules f d
 played-settled rules f First s d more long some high asked is =
     let a : (d.by_first ≡ None) × (is_closed d ≡ false) = asked-open d.by_first d.close asked in
@@ -250,7 +251,7 @@ played_over_answers = record { waits = waits-side; closed = played-closed; own =
 record IsGoing (rules : Rules) (d : Bisection) : Type 0 where
   more : 1 < d.fan
   some : d.place.lo < d.place.hi
-  high : d.place.hi ≤ rules.bound
+  high : d.place.hi ≤ rules.setup.bound
   apart : d.first ≢ d.second
   waits : IsWaiting d
 
@@ -277,7 +278,7 @@ open-asked Second d asked = (asked-open d.by_second d.close asked).0
 going-side : (rules : Rules) (by : Side) (s : Settled) (d : Bisection) → asks by d ≡ true → IsGoing rules d → IsGoing rules (settle_side rules.ruling by s d)
 going-side rules by s d asked g =
     let h : HoldsOn d (settle_side rules.ruling by s d) = settled_is_held.stays rules.ruling by s d (open-asked by d asked) in
-    let p : _ × _ = place-side rules.bound rules.ruling by s d g.more g.some g.high in
+    let p : _ × _ = place-side rules.setup.bound rules.ruling by s d g.more g.some g.high in
     record {
       more = omega (arith, fan-side rules.ruling by s d, g.more);
       some = p.0;
@@ -311,7 +312,7 @@ held-at Second d e s apart h is =
     let far : (d.first == d.second) ≡ false = not-eqb d.first d.second apart in
     rw (h.number, eqb-same d.number, h.first, far, h.second, eqb-same d.second, n) is
 
-played-on : (rules : Rules) (f : Answers) (xs : List (Side × Settled)) (d : Bisection) → 0 < rules.bound → IsGoing rules d → EachIsAsked rules.ruling xs d →
+played-on : (rules : Rules) (f : Answers) (xs : List (Side × Settled)) (d : Bisection) → 0 < rules.setup.bound → IsGoing rules d → EachIsAsked rules.ruling xs d →
     ((p : ℕ) (q : Question) (s : Settled) → held (settled_one_by_one rules.ruling xs d) p q ≡ Some s → f p q ≡ Some s) →
     played rules f (settled_one_by_one rules.ruling xs d) ≡ played rules f d
 played-on rules f [] d long g asked below = refl
@@ -332,9 +333,9 @@ own-held d apart =
 
 pub disputes_are_played : DisputesArePlayed
 disputes_are_played rules stage number x y xs playable apart asked =
-    let begun : Bisection = dispute_of rules stage number x y in
-    let going : IsGoing rules (dispute_of rules stage number x y) = record { more = playable.parted; some = playable.steps; high = omega arith; apart = apart; waits = tt } in
-    let e : IsGoing rules (settled_one_by_one rules.ruling xs (dispute_of rules stage number x y)) = going-all rules xs (dispute_of rules stage number x y) asked going in
-    let own : _ × _ = own-held (settled_one_by_one rules.ruling xs (dispute_of rules stage number x y)) e.apart in
-    sym (played-own rules (held (settled_one_by_one rules.ruling xs (dispute_of rules stage number x y))) (settled_one_by_one rules.ruling xs (dispute_of rules stage number x y)) e.waits own.0 own.1)
-    ∙ played-on rules (held (settled_one_by_one rules.ruling xs (dispute_of rules stage number x y))) xs (dispute_of rules stage number x y) playable.steps going asked (λ p q s is. is)
+    let begun : Bisection = dispute_of rules.setup stage number x y in
+    let going : IsGoing rules (dispute_of rules.setup stage number x y) = record { more = playable.parted; some = playable.steps; high = omega arith; apart = apart; waits = tt } in
+    let e : IsGoing rules (settled_one_by_one rules.ruling xs (dispute_of rules.setup stage number x y)) = going-all rules xs (dispute_of rules.setup stage number x y) asked going in
+    let own : _ × _ = own-held (settled_one_by_one rules.ruling xs (dispute_of rules.setup stage number x y)) e.apart in
+    sym (played-own rules (held (settled_one_by_one rules.ruling xs (dispute_of rules.setup stage number x y))) (settled_one_by_one rules.ruling xs (dispute_of rules.setup stage number x y)) e.waits own.0 own.1)
+    ∙ played-on rules (held (settled_one_by_one rules.ruling xs (dispute_of rules.setup stage number x y))) xs (dispute_of rules.setup stage number x y) playable.steps going asked (λ p q s is. is)

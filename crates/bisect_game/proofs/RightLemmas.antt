@@ -169,7 +169,7 @@ right-by rules t d side a b (Some c) fair run e ea eb open_ i keeps truthful =
     let open_now : IsTrueSoFar t (kind_over d.fan d.place.lo d.place.hi) (own_open side d) = rw (own-ended side d c) at truthful.open_ in
     let was : IsRight t side d = keeps (record { past = truthful.past; open_ = open_now }) in
     let is : IsTrueSettled t (kind_over d.fan d.place.lo d.place.hi) (own-settled side a b) = rw (own-is side d a b ea eb) at open_now in
-    let l : d.place.lo < rules.bound = omega (arith, i.sound.some, i.sound.short) in
+    let l : d.place.lo < rules.setup.bound = omega (arith, i.sound.some, i.sound.short) in
     record {
       agreed = was.agreed;
       own = was.own;
@@ -273,7 +273,7 @@ invariant_is_kept = record { play = play-side; right = right-side }
 
 -- a proof of a side with true answers proves
 
-proved-by : (rules : Rules) (t : Truth) (fan : ℕ) (i : Interval) (own : Digest32) (o : Option Settled) → IsRun rules t → i.lo < i.hi → i.hi ≤ rules.bound →
+proved-by : (rules : Rules) (t : Truth) (fan : ℕ) (i : Interval) (own : Digest32) (o : Option Settled) → IsRun rules t → i.lo < i.hi → i.hi ≤ rules.setup.bound →
     i.agreed ≡ t.root i.lo → own ≡ t.root i.hi → IsTrueSoFar t (kind_over fan i.lo i.hi) o → IsProvedBy rules.ruling i own o
 proved-by rules t fan i own (Some (Given a)) run some short agreed mine is = λ (step : is_step i ≡ true).
     proved rules.ruling t i a own step some agreed mine (run.leads i.lo (omega (arith, some, short))) (rw step at is)

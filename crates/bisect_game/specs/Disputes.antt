@@ -1,9 +1,11 @@
 -- To believe: a dispute over answers that are settled, as far as there are any.
-use Rattle.std.specs.Prelude.{ℕ, [], Option, Some, None, if◌then◌else◌}
+use Rattle.std.specs.Prelude.{ℕ, [], Option, None, if◌then◌else◌}
 use Rattle.std.specs.Fn.{iterate}
+use Rattle.std.specs.Option.{option_or}
 use Rattle.rd_base.specs.declared.digest.Digest32.{Digest32}
 use Rattle.bisect_game.specs.declared.question.Question.{Question}
 use Rattle.bisect_game.specs.declared.settled.Settled.{Settled}
+use Rattle.bisect_game.specs.declared.setup.Setup.{Setup}
 use Rattle.bisect_game.specs.Ruling.{Ruling}
 use Rattle.bisect_game.specs.Rules.{Rules}
 use Rattle.bisect_game.specs.Bisection.{Bisection, question_of, is_closed, advance}
@@ -13,31 +15,27 @@ abbrev pub Answers : Type 0
 Answers = ℕ → Question → Option Settled
 
 -- a dispute as it begins: over the whole run, with the agreed root at step 0 and each side's claimed root at the bound
-abbrev pub dispute_of : Rules → ℕ → ℕ → ℕ × Digest32 → ℕ × Digest32 → Bisection
-dispute_of rules stage number x y =
+abbrev pub dispute_of : Setup → ℕ → ℕ → ℕ × Digest32 → ℕ × Digest32 → Bisection
+dispute_of setup stage number x y =
     record {
       stage = stage;
       number = number;
-      fan = rules.fan;
+      fan = setup.fan;
       first = x.0;
       second = y.0;
-      place = record { lo = 0; hi = rules.bound; agreed = rules.start; first = x.1; second = y.1 };
+      place = record { lo = 0; hi = setup.bound; agreed = setup.start; first = x.1; second = y.1 };
       past = [];
       by_first = None;
       by_second = None;
       close = None;
     }
 
-abbrev pub or_else : Option Settled → Option Settled → Option Settled
-or_else (Some s) t = Some s
-or_else None t = t
-
 -- what is settled of the round, with what the answers have beside it
 abbrev pub filled : Answers → Bisection → Bisection
 filled f d =
     record d {
-      by_first = or_else d.by_first (f d.first (question_of d));
-      by_second = or_else d.by_second (f d.second (question_of d));
+      by_first = option_or d.by_first (f d.first (question_of d));
+      by_second = option_or d.by_second (f d.second (question_of d));
     }
 
 -- one round over the answers
@@ -46,4 +44,4 @@ round_over ruling f d = if is_closed d then d else advance ruling (filled f d)
 
 -- a dispute over the answers, as far as they go: never more rounds than steps
 unfoldable pub played : Rules → Answers → Bisection → Bisection
-played rules f d = iterate (round_over rules.ruling f) rules.bound d
+played rules f d = iterate (round_over rules.ruling f) rules.setup.bound d

@@ -44,6 +44,6 @@ EachIsAsked ruling (x ∷ xs) d = (asks x.0 d ≡ true) × EachIsAsked ruling xs
 abbrev pub DisputesArePlayed : Type 0
 DisputesArePlayed =
     (rules : Rules) (stage number : ℕ) (x y : ℕ × Digest32) (xs : List (Side × Settled)) → ArePlayable rules → x.0 ≢ y.0 →
-    EachIsAsked rules.ruling xs (dispute_of rules stage number x y) →
-    settled_one_by_one rules.ruling xs (dispute_of rules stage number x y)
-    ≡ played rules (held (settled_one_by_one rules.ruling xs (dispute_of rules stage number x y))) (dispute_of rules stage number x y)
+    EachIsAsked rules.ruling xs (dispute_of rules.setup stage number x y) →
+    settled_one_by_one rules.ruling xs (dispute_of rules.setup stage number x y)
+    ≡ played rules (held (settled_one_by_one rules.ruling xs (dispute_of rules.setup stage number x y))) (dispute_of rules.setup stage number x y)

@@ -77,7 +77,7 @@ pub record IsDisputed (bound : ℕ) (i : Interval) : Type 0 where
 -- a dispute in play: a round cuts its interval, which is disputed, and what is settled of the last round fits what was asked
 pub record IsPlay (rules : Rules) (d : Bisection) : Type 0 where
   pub parted : 1 < d.fan
-  pub sound : IsDisputed rules.bound d.place
+  pub sound : IsDisputed rules.setup.bound d.place
   pub fit_first : IsFitSoFar rules.ruling (kind_over d.fan d.place.lo d.place.hi) d.by_first
   pub fit_second : IsFitSoFar rules.ruling (kind_over d.fan d.place.lo d.place.hi) d.by_second
 

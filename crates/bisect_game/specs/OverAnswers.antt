@@ -46,5 +46,5 @@ pub record PlayedOverAnswers : Type 0 where
   pub own : (rules : Rules) (f : Answers) (d : Bisection) → IsWaiting d → f d.first (question_of d) ≡ d.by_first → f d.second (question_of d) ≡ d.by_second → played rules f d ≡ d
   pub enough : (ruling : Ruling) (f : Answers) (n : ℕ) (d : Bisection) → 1 < d.fan → d.place.lo < d.place.hi → d.place.hi - d.place.lo ≤ n →
       round_over ruling f (iterate (round_over ruling f) n d) ≡ iterate (round_over ruling f) n d
-  pub settled : (rules : Rules) (f : Answers) (by : Side) (s : Settled) (d : Bisection) → 1 < d.fan → 0 < rules.bound → d.place.lo < d.place.hi → d.place.hi ≤ rules.bound →
+  pub settled : (rules : Rules) (f : Answers) (by : Side) (s : Settled) (d : Bisection) → 1 < d.fan → 0 < rules.setup.bound → d.place.lo < d.place.hi → d.place.hi ≤ rules.setup.bound →
       asks by d ≡ true → f (prover_of by d) (question_of d) ≡ Some s → played rules f (settle_side rules.ruling by s d) ≡ played rules f d

@@ -1,30 +1,42 @@
 -- To believe: what a match is played by, and which answers fit a question.
-use Rattle.std.specs.Prelude.{ℕ, ◌-◌, ◌<◌, ◌≤◌, ◌==◌, length, Bool, true, false, if◌then◌else◌}
-use Rattle.rd_base.specs.declared.digest.Digest32.{Digest32}
+use Rattle.std.specs.Prelude.{ℕ, ◌-◌, ◌^◌, ◌<◌, ◌≤◌, ◌==◌, length, Bool, true, false, if◌then◌else◌}
 use Rattle.rd_base.specs.declared.answer.Answer.{Answer}
 use Rattle.rd_base.specs.declared.answer.Answer.TheVariants as answer
 use Rattle.bisect_game.specs.declared.question.Kind.{Kind}
 use Rattle.bisect_game.specs.declared.question.Kind.TheVariants as kind
+use Rattle.bisect_game.specs.declared.question.Question.{Question}
 use Rattle.bisect_game.specs.declared.settled.Settled.{Settled}
 use Rattle.bisect_game.specs.declared.settled.Settled.TheVariants.{Given, Faulty}
+use Rattle.bisect_game.specs.declared.setup.Setup.{Setup}
 use Rattle.bisect_game.specs.Ruling.{Ruling}
 
--- what a match is played by: who decides, how many provers there are, the bound (the number of steps), in how many parts a round
--- cuts its interval, how many passes a question allows, and the root at step 0
+-- what a match is played by: who decides, and the numbers
 pub record Rules : Type 0 where
   pub ruling : Ruling
-  pub provers : ℕ
-  pub bound : ℕ
-  pub fan : ℕ
-  pub patience : ℕ
-  pub start : Digest32
+  pub setup : Setup
+
+abbrev pub rules_of : Ruling → Setup → Rules
+rules_of r t = record { ruling = r; setup = t }
+
+-- the numbers of a match are in their ranges: 1 to 65,536 provers, a bound of 1 to 2^32 - 1 steps, a fan of 2 to 16
+pub record AreInRange (setup : Setup) : Type 0 where
+  pub some : 0 < setup.provers
+  pub few : setup.provers ≤ 2 ^ 16
+  pub steps : 0 < setup.bound
+  pub short : setup.bound < 2 ^ 32
+  pub parted : 1 < setup.fan
+  pub few_parts : setup.fan ≤ 16
 
 -- rules by which a match can be played: somebody plays, a round cuts its interval in 2 to 16 parts, and there is a step
 pub record ArePlayable (rules : Rules) : Type 0 where
-  pub some : 0 < rules.provers
-  pub parted : 1 < rules.fan
-  pub few_parts : rules.fan ≤ 16
-  pub steps : 0 < rules.bound
+  pub some : 0 < rules.setup.provers
+  pub parted : 1 < rules.setup.fan
+  pub few_parts : rules.setup.fan ≤ 16
+  pub steps : 0 < rules.setup.bound
+
+-- each prover is first asked for its claim
+abbrev pub claim_question : Question
+claim_question = record { qid = record { dispute = 0; round = 0 }; kind = kind.Claim }
 
 -- an answer of the kind that was asked, a claim that is sound, and a root for each cut
 abbrev pub is_fit : Ruling → Kind → Answer → Bool

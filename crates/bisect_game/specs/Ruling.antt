@@ -23,19 +23,21 @@ pub record IsCollision (ruling : Ruling) (opened_first opened_second : List (Lis
   pub first_opened : Contains opened_first pair.0
   pub second_opened : Contains opened_second pair.1
 
--- the laws of a judge: two sound different claims of one root have a collision, claims of two roots and equal claims have
--- none, two proofs that lead from one root to different ones have a collision, and each pair that is called a collision is one
+-- the laws of a judge. Of two sound claims: two different ones of one root have a collision, claims of two roots and equal claims have
+-- none, and what is called their collision is one. Of two proofs that both lead from a root: if they lead to different roots they have
+-- a collision, and what is called their collision is one.
 pub record IsFair (ruling : Ruling) : Type 0 where
   pub claims_collide : (x y : Claim) → ruling.is_sound x ≡ true → ruling.is_sound y ≡ true → ruling.root_of x ≡ ruling.root_of y →
       ruling.claim_collision x y ≡ None → x ≡ y
-  pub claims_apart : (x y : Claim) → ruling.root_of x ≢ ruling.root_of y → ruling.claim_collision x y ≡ None
-  pub claims_equal : (x : Claim) → ruling.claim_collision x x ≡ None
-  pub claim_collisions : (x y : Claim) (pair : List ℕ × List ℕ) → ruling.claim_collision x y ≡ Some pair →
-      IsCollision ruling (ruling.opened_by_claim x) (ruling.opened_by_claim y) pair
+  pub claims_apart : (x y : Claim) → ruling.is_sound x ≡ true → ruling.is_sound y ≡ true → ruling.root_of x ≢ ruling.root_of y →
+      ruling.claim_collision x y ≡ None
+  pub claims_equal : (x : Claim) → ruling.is_sound x ≡ true → ruling.claim_collision x x ≡ None
+  pub claim_collisions : (x y : Claim) (pair : List ℕ × List ℕ) → ruling.is_sound x ≡ true → ruling.is_sound y ≡ true →
+      ruling.claim_collision x y ≡ Some pair → IsCollision ruling (ruling.opened_by_claim x) (ruling.opened_by_claim y) pair
   pub steps_collide : (from : Digest32) (x y : Proof) (b c : Digest32) → ruling.leads from x ≡ Some b → ruling.leads from y ≡ Some c → b ≢ c →
       (pair : List ℕ × List ℕ) × (ruling.step_collision from x y ≡ Some pair)
-  pub step_collisions : (from : Digest32) (x y : Proof) (pair : List ℕ × List ℕ) → ruling.step_collision from x y ≡ Some pair →
-      IsCollision ruling (ruling.opened_by_step x) (ruling.opened_by_step y) pair
+  pub step_collisions : (from : Digest32) (x y : Proof) (b c : Digest32) (pair : List ℕ × List ℕ) → ruling.leads from x ≡ Some b → ruling.leads from y ≡ Some c →
+      ruling.step_collision from x y ≡ Some pair → IsCollision ruling (ruling.opened_by_step x) (ruling.opened_by_step y) pair
 
 -- two digests have the same bytes
 abbrev pub same_digest : Digest32 → Digest32 → Bool

@@ -29,10 +29,10 @@ pub record Truth : Type 0 where
 -- root 0 is the match's, the proof of a step leads from its root to the next one, and the claim is sound and has the root
 -- at the bound
 pub record IsRun (rules : Rules) (truth : Truth) : Type 0 where
-  pub begins : truth.root 0 ≡ rules.start
-  pub leads : (i : ℕ) → i < rules.bound → rules.ruling.leads (truth.root i) (truth.proof i) ≡ Some (truth.root (i + 1))
+  pub begins : truth.root 0 ≡ rules.setup.start
+  pub leads : (i : ℕ) → i < rules.setup.bound → rules.ruling.leads (truth.root i) (truth.proof i) ≡ Some (truth.root (i + 1))
   pub sound : rules.ruling.is_sound truth.claim ≡ true
-  pub ends : rules.ruling.root_of truth.claim ≡ truth.root rules.bound
+  pub ends : rules.ruling.root_of truth.claim ≡ truth.root rules.setup.bound
 
 -- the true answer to what is asked
 abbrev pub IsTrueAnswer : Truth → Kind → Answer → Type 0

@@ -16,6 +16,7 @@ mod laws;
 mod question;
 mod rounds;
 mod settled;
+mod setup;
 mod steps;
 
 pub use answerer::{Answerer, Provers};
@@ -28,4 +29,5 @@ pub use laws::{
 pub use question::{Kind, Question};
 pub use rounds::{cut, kept_part, parts_of, roots_in};
 pub use settled::{Close, Interval, Round, Settled, Side};
+pub use setup::Setup;
 pub use steps::steps_asked;

@@ -1,3 +1,6 @@
+ghost use Rattle.std.specs.Prelude.{◌≡◌};
+ghost use Rattle.bisect_game.specs.Rules.{claim_question};
+
 use rd_base::Qid;
 
 /// What a prover is asked for.
@@ -27,4 +30,19 @@ pub struct Question {
     pub qid: Qid,
     /// What is asked for.
     pub kind: Kind,
+}
+
+impl Question {
+    /// The question for the claim, which each prover is asked first.
+    pub fn claim() -> Question
+        ensures { result ≡ claim_question }
+    {
+        Question {
+            qid: Qid {
+                dispute: 0,
+                round: 0,
+            },
+            kind: Kind::Claim,
+        }
+    }
 }

@@ -71,10 +71,10 @@ once-of n r (suc k) i twice =
 pub ended-is-settled-up : RecordsAreOfProvers → NobodyIsOutTwice → SidesAreTwoProvers → EndedIsSettledUp
 ended-is-settled-up of_provers twice apart rules xs playable over =
     let r : Record = record_after rules xs in
-    let i : IsOfProvers rules.provers r = of_provers rules xs in
+    let i : IsOfProvers rules.setup.provers r = of_provers rules xs in
     record {
       claims = i.claims;
       settled = (and_parts (all_there r.claims) (all_closed r.disputes) over).0;
-      sides = sides-of rules.provers 1 r.disputes i.disputes (apart rules xs playable);
-      once = λ p. once-of rules.provers r p i (twice rules xs p);
+      sides = sides-of rules.setup.provers 1 r.disputes i.disputes (apart rules xs playable);
+      once = λ p. once-of rules.setup.provers r p i (twice rules xs p);
     }

@@ -76,10 +76,10 @@ WhoStaysKeepsStake = (stake : ℕ) (rules : Rules) (t : Truth) (p : ℕ) (r : Re
 
 abbrev pub TruthfulKeepStake : Type 0
 TruthfulKeepStake =
-    (stake : ℕ) (rules : Rules) (says : Says) (t : Truth) (ps : List ℕ) (p : ℕ) → ArePlayable rules → IsFair rules.ruling → IsRun rules t → 0 < p → p ≤ rules.provers →
+    (stake : ℕ) (rules : Rules) (says : Says) (t : Truth) (ps : List ℕ) (p : ℕ) → ArePlayable rules → IsFair rules.ruling → IsRun rules t → 0 < p → p ≤ rules.setup.provers →
     IsTruthfulProver rules says t p → Legal rules says ps (begun rules) → stake ≤ balance stake (turns rules says ps (begun rules)).record_ p
 
 -- the record of each match that has ended, whatever was posted, meets the condition of `balances`
 abbrev pub EndedIsSettledUp : Type 0
 EndedIsSettledUp =
-    (rules : Rules) (xs : List Post) → ArePlayable rules → is_complete (record_after rules xs) ≡ true → IsSettledUp rules.provers (record_after rules xs)
+    (rules : Rules) (xs : List Post) → ArePlayable rules → is_complete (record_after rules xs) ≡ true → IsSettledUp rules.setup.provers (record_after rules xs)

@@ -13,7 +13,8 @@ use Rattle.bisect_game.specs.Ruling.{Ruling, same_digest}
 use Rattle.tournament.specs.OpenDisputes.{one_if, is_side, open_disputes_of}
 use Rattle.tournament.proofs.OpenedLemmas.{opened-not, opened-due}
 use Rattle.tournament.proofs.SidesLemmas.{SameSides, sides-first, sides-second}
-use Rattle.tournament.specs.Bracket.{Record, claim_question, is_out_in, claim_in, also, live_from, live, Taken, passed_over, take_other, pairs_of, pairs, last_stage, disputes_of, all_there, all_out, put_out, is_stage_due, stage_opened, nothing_settled, asks_first, asks_second, question_in, claim_missing, open_question, settled_in, put, settle}
+use Rattle.tournament.specs.Bracket.{Record, is_out_in, claim_in, also, live_from, live, Taken, passed_over, take_other, pairs_of, pairs, last_stage, disputes_of, all_there, all_out, put_out, is_stage_due, stage_opened, nothing_settled, asks_first, asks_second, question_in, claim_missing, open_question, settled_in, put, settle}
+use Rattle.bisect_game.specs.Rules.{claim_question}
 
 -- how often a prover stands in a list of live ones
 abbrev pub times : ℕ → List (ℕ × Claim) → ℕ
@@ -97,9 +98,9 @@ times-once ds p k (s ∷ ss) =
 
 -- what is true of every record of a match: a prover is in at most one open dispute, and only provers are
 pub record IsApart (rules : Rules) (p : ℕ) (t : Record) : Type 0 where
-  pub claims : length t.claims ≡ rules.provers
+  pub claims : length t.claims ≡ rules.setup.provers
   pub one : open_disputes_of p t.disputes ≤ 1
-  pub known : rules.provers < p → open_disputes_of p t.disputes ≡ 0
+  pub known : rules.setup.provers < p → open_disputes_of p t.disputes ≡ 0
   pub numbered : p ≡ 0 → open_disputes_of p t.disputes ≡ 0
 
 pub engaged-both : (p : ℕ) (ds es : List Bisection) → open_disputes_of p (ds ++ es) ≡ open_disputes_of p ds + open_disputes_of p es
@@ -126,7 +127,7 @@ apart-opened rules p t a =
           let none : open_disputes_of p t.disputes ≡ 0 = engaged-out p t.disputes outs.0 in
           let sum : open_disputes_of p (t.disputes ++ disputes_of rules (last_stage t.disputes + 1) (length t.disputes + 1) (pairs rules t)) ≡ open_disputes_of p t.disputes + open_disputes_of p (disputes_of rules (last_stage t.disputes + 1) (length t.disputes + 1) (pairs rules t)) =
           engaged-both p t.disputes (disputes_of rules (last_stage t.disputes + 1) (length t.disputes + 1) (pairs rules t)) in
-          let new : open_disputes_of p (disputes_of rules (last_stage t.disputes + 1) (length t.disputes + 1) (pairs rules t)) ≤ times p (live t) = engaged-new rules (last_stage t.disputes + 1) p rules.provers (length t.disputes + 1) (live t) in
+          let new : open_disputes_of p (disputes_of rules (last_stage t.disputes + 1) (length t.disputes + 1) (pairs rules t)) ≤ times p (live t) = engaged-new rules (last_stage t.disputes + 1) p rules.setup.provers (length t.disputes + 1) (live t) in
           rw (opened-due rules t due) (record {
             claims = a.claims;
             one = omega (arith, sum, none, new, times-once t.disputes p 1 t.claims);
@@ -196,7 +197,7 @@ none-length zero = refl
 none-length (suc n) = ap suc (none-length n)
 
 pub apart-nothing : (rules : Rules) (p : ℕ) → IsApart rules p (nothing_settled rules)
-apart-nothing rules p = record { claims = none-length rules.provers; one = omega arith; known = λ past. refl; numbered = λ zero_. refl }
+apart-nothing rules p = record { claims = none-length rules.setup.provers; one = omega arith; known = λ past. refl; numbered = λ zero_. refl }
 
 -- who is asked in a dispute is in an open one
 
@@ -225,15 +226,15 @@ has-claim (s ∷ ss) zero e = omega arith
 has-claim (s ∷ ss) (suc k) e = omega (arith, has-claim ss k e)
 
 prover-by : (rules : Rules) (p : ℕ) (q : Question) (t : Record) (b : Bool) → claim_missing (slice_get t.claims (p - 1)) ≡ b → 0 < p → IsApart rules p t →
-    (if b then Some claim_question else question_in p t.disputes) ≡ Some q → p ≤ rules.provers
+    (if b then Some claim_question else question_in p t.disputes) ≡ Some q → p ≤ rules.setup.provers
 prover-by rules p q t true eb some a e = omega (arith, has-claim t.claims (p - 1) eb, a.claims)
 prover-by rules p q t false eb some a e =
-    elim (cases_Bool (nat_le p rules.provers)) [
+    elim (cases_Bool (nat_le p rules.setup.provers)) [
       | inl le ↦ grind (arith, nat_tests)
-      | inr gt ↦ let past : rules.provers < p = grind (arith, nat_tests) in absurd (omega (arith, a.known past, engaged-asked p q t.disputes e))
+      | inr gt ↦ let past : rules.setup.provers < p = grind (arith, nat_tests) in absurd (omega (arith, a.known past, engaged-asked p q t.disputes e))
     ]
 
-pub is-prover : (rules : Rules) (p : ℕ) (q : Question) (t : Record) → 0 < p → IsApart rules p t → open_question rules t p ≡ Some q → p ≤ rules.provers
+pub is-prover : (rules : Rules) (p : ℕ) (q : Question) (t : Record) → 0 < p → IsApart rules p t → open_question rules t p ≡ Some q → p ≤ rules.setup.provers
 is-prover rules p q t some a e = prover-by rules p q t (claim_missing (slice_get t.claims (p - 1))) refl some a e
 
 -- the open question stays while another prover is settled

@@ -34,7 +34,7 @@ fit-spent r k s false e = let same : Spent ≡ s = cc in rw (← same) tt
 
 fit-settled : (rules : Rules) (q : Question) (n : ℕ) (m : Option Answer) (s : Settled) → settled_by rules q n m ≡ Some s → IsFit rules.ruling q.kind s
 fit-settled rules q n (Some a) s e = let same : judged rules.ruling q.kind a ≡ s = cc in rw (← same) (fit-judged rules.ruling q.kind a (is_fit rules.ruling q.kind a) refl)
-fit-settled rules q n None s e = fit-spent rules.ruling q.kind s (nat_lt n rules.patience) e
+fit-settled rules q n None s e = fit-spent rules.ruling q.kind s (nat_lt n rules.setup.patience) e
 
 -- a record to which some list that fits comes
 pub record IsSettled (rules : Rules) (t : Record) : Type 0 where

@@ -20,10 +20,10 @@ RoundsWithin bound (r ∷ rs) = ((r.lo < r.hi) × (r.hi ≤ bound)) × RoundsWit
 
 -- a dispute of a match: its fan is the match's, and it stands at such an interval, after such rounds
 pub record IsWithin (rules : Rules) (d : Bisection) : Type 0 where
-  pub fanned : d.fan ≡ rules.fan
+  pub fanned : d.fan ≡ rules.setup.fan
   pub some : d.place.lo < d.place.hi
-  pub high : d.place.hi ≤ rules.bound
-  pub past : RoundsWithin rules.bound d.past
+  pub high : d.place.hi ≤ rules.setup.bound
+  pub past : RoundsWithin rules.setup.bound d.past
 
 module _ (laws : BisectionLaws) where
   rounds-last : (bound : ℕ) (rs : List Round) (r : Round) → RoundsWithin bound rs → r.lo < r.hi → r.hi ≤ bound → RoundsWithin bound (rs ++ r ∷ [])
@@ -39,21 +39,21 @@ module _ (laws : BisectionLaws) where
   within-decided rules d a b None w m =
       record {
         fanned = w.fanned;
-        some = (place-moved rules.bound d (went_on d a b) m w.some w.high).0;
-        high = (place-moved rules.bound d (went_on d a b) m w.some w.high).1;
-        past = rounds-last rules.bound d.past (record { lo = d.place.lo; hi = d.place.hi; first = a; second = b }) w.past w.some w.high;
+        some = (place-moved rules.setup.bound d (went_on d a b) m w.some w.high).0;
+        high = (place-moved rules.setup.bound d (went_on d a b) m w.some w.high).1;
+        past = rounds-last rules.setup.bound d.past (record { lo = d.place.lo; hi = d.place.hi; first = a; second = b }) w.past w.some w.high;
       }
 
-  pub within-advanced : (rules : Rules) (d : Bisection) (a b : Option Settled) → 1 < rules.fan → IsWithin rules d → IsWithin rules (advanced rules.ruling d a b)
+  pub within-advanced : (rules : Rules) (d : Bisection) (a b : Option Settled) → 1 < rules.setup.fan → IsWithin rules d → IsWithin rules (advanced rules.ruling d a b)
   unfolding decided
   within-advanced rules d (Some a) (Some b) more w = within-decided rules d a b (close_of rules.ruling d.place a b) w (laws.narrow rules.ruling d a b (omega (arith, more, w.fanned)))
   within-advanced rules d (Some a) None more w = w
   within-advanced rules d None b more w = w
 
-  pub within-first : (rules : Rules) (s : Settled) (d : Bisection) → 1 < rules.fan → IsWithin rules d → IsWithin rules (settle_first rules.ruling s d)
+  pub within-first : (rules : Rules) (s : Settled) (d : Bisection) → 1 < rules.setup.fan → IsWithin rules d → IsWithin rules (settle_first rules.ruling s d)
   unfolding settle_first
   within-first rules s d more w = within-advanced rules (record d { by_first = Some s }) (Some s) d.by_second more (record { fanned = w.fanned; some = w.some; high = w.high; past = w.past })
 
-  pub within-second : (rules : Rules) (s : Settled) (d : Bisection) → 1 < rules.fan → IsWithin rules d → IsWithin rules (settle_second rules.ruling s d)
+  pub within-second : (rules : Rules) (s : Settled) (d : Bisection) → 1 < rules.setup.fan → IsWithin rules d → IsWithin rules (settle_second rules.ruling s d)
   unfolding settle_second
   within-second rules s d more w = within-advanced rules (record d { by_second = Some s }) d.by_first (Some s) more (record { fanned = w.fanned; some = w.some; high = w.high; past = w.past })

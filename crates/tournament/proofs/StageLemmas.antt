@@ -8,12 +8,14 @@ use Rattle.bisect_game.specs.declared.settled.Settled.{Settled}
 use Rattle.bisect_game.specs.declared.settled.Close.{Close}
 use Rattle.bisect_game.specs.declared.settled.Side.TheVariants.{First, Second}
 use Rattle.bisect_game.specs.Bisection.{Bisection, is_closed, question_of, settle_first, settle_second}
-use Rattle.bisect_game.specs.Disputes.{Answers, played, or_else}
+use Rattle.bisect_game.specs.Disputes.{Answers, played}
+use Rattle.std.specs.Option.{option_or}
 use Rattle.bisect_game.specs.Rules.{Rules}
 use Rattle.tournament.proofs.OpenedLemmas.{opened-not, opened-due, opened-twice}
 use Rattle.tournament.proofs.ReachLemmas.{Reaches, reach_back, reach_one}
 use Rattle.tournament.proofs.RoundLemmas.{IsWithin, within-first, within-second}
-use Rattle.tournament.specs.Bracket.{Record, claim_question, pairs, last_stage, disputes_of, all_there, all_out, put_out, is_stage_due, stage_opened, claims_over, carried, stage_over, nothing_settled, asks_first, asks_second, question_in, claim_missing, open_question, settled_in, put, settle, is_complete, all_closed}
+use Rattle.tournament.specs.Bracket.{Record, pairs, last_stage, disputes_of, all_there, all_out, put_out, is_stage_due, stage_opened, claims_over, carried, stage_over, nothing_settled, asks_first, asks_second, question_in, claim_missing, open_question, settled_in, put, settle, is_complete, all_closed}
+use Rattle.bisect_game.specs.Rules.{claim_question}
 use Rattle.tournament.specs.Settling.{after, Fits, OneRecord}
 use Rattle.bisect_game.specs.Laws.{BisectionLaws}
 
@@ -53,7 +55,7 @@ module _ (laws : BisectionLaws) where
   claims-put f p zero s (Some t ∷ ss) e is = absurd (cc)
   claims-put f p (suc k) s (o ∷ ss) e is =
       let at : f (p + 1 + k) claim_question ≡ Some s = ap (λ (n : ℕ). f n claim_question) (omega arith) ∙ is in
-      ap (λ (rest : List (Option Settled)). or_else o (f p claim_question) ∷ rest) (claims-put f (p + 1) k s ss e at)
+      ap (λ (rest : List (Option Settled)). option_or o (f p claim_question) ∷ rest) (claims-put f (p + 1) k s ss e at)
 
   -- disputes
 
@@ -98,7 +100,7 @@ module _ (laws : BisectionLaws) where
       ap (λ (z : Bisection). z ∷ map (played rules f) ds) (h2 refl (ap (f p) same ∙ is))
   put-choice rules f p s q d ds false false e is h1 h2 rest = ap (λ (zs : List Bisection). played rules f d ∷ zs) (rest e)
 
-  played-put : (rules : Rules) (f : Answers) (p : ℕ) (s : Settled) (q : Question) (ds : List Bisection) → 1 < rules.fan → 0 < rules.bound → AllWithin rules ds →
+  played-put : (rules : Rules) (f : Answers) (p : ℕ) (s : Settled) (q : Question) (ds : List Bisection) → 1 < rules.setup.fan → 0 < rules.setup.bound → AllWithin rules ds →
       question_in p ds ≡ Some q → f p q ≡ Some s → map (played rules f) (settled_in rules p s ds) ≡ map (played rules f) ds
   played-put rules f p s q [] more long w e is = absurd (cc)
   played-put rules f p s q (d ∷ ds) more long w e is =
@@ -115,14 +117,14 @@ module _ (laws : BisectionLaws) where
 
   -- the intervals stay those of the match
 
-  within-choice : (rules : Rules) (p : ℕ) (s : Settled) (d : Bisection) (ds : List Bisection) (x y : Bool) → 1 < rules.fan → IsWithin rules d → AllWithin rules ds →
+  within-choice : (rules : Rules) (p : ℕ) (s : Settled) (d : Bisection) (ds : List Bisection) (x y : Bool) → 1 < rules.setup.fan → IsWithin rules d → AllWithin rules ds →
       AllWithin rules (settled_in rules p s ds) →
       AllWithin rules (if x then settle_first rules.ruling s d ∷ ds else if y then settle_second rules.ruling s d ∷ ds else d ∷ settled_in rules p s ds)
   within-choice rules p s d ds true y more w ws rest = ((within-first laws) rules s d more w, ws)
   within-choice rules p s d ds false true more w ws rest = ((within-second laws) rules s d more w, ws)
   within-choice rules p s d ds false false more w ws rest = (w, rest)
 
-  within-settled : (rules : Rules) (p : ℕ) (s : Settled) (ds : List Bisection) → 1 < rules.fan → AllWithin rules ds → AllWithin rules (settled_in rules p s ds)
+  within-settled : (rules : Rules) (p : ℕ) (s : Settled) (ds : List Bisection) → 1 < rules.setup.fan → AllWithin rules ds → AllWithin rules (settled_in rules p s ds)
   within-settled rules p s [] more w = tt
   within-settled rules p s (d ∷ ds) more w =
       within-choice rules p s d ds (asks_first p d) (asks_second p d) more w.0 w.1 (within-settled rules p s ds more w.1)
@@ -131,11 +133,11 @@ module _ (laws : BisectionLaws) where
   within-both rules [] es w v = v
   within-both rules (d ∷ ds) es w v = (w.0, within-both rules ds es w.1 v)
 
-  within-new : (rules : Rules) (g : ℕ) (n : ℕ) (ps : List ((ℕ × Claim) × (ℕ × Claim))) → 0 < rules.bound → AllWithin rules (disputes_of rules g n ps)
+  within-new : (rules : Rules) (g : ℕ) (n : ℕ) (ps : List ((ℕ × Claim) × (ℕ × Claim))) → 0 < rules.setup.bound → AllWithin rules (disputes_of rules g n ps)
   within-new rules g n [] long = tt
   within-new rules g n (p ∷ ps) long = (record { fanned = refl; some = long; high = omega arith; past = tt }, within-new rules g (n + 1) ps long)
 
-  pub within-opened : (rules : Rules) (t : Record) → 0 < rules.bound → AllWithin rules t.disputes → AllWithin rules (stage_opened rules t).disputes
+  pub within-opened : (rules : Rules) (t : Record) → 0 < rules.setup.bound → AllWithin rules t.disputes → AllWithin rules (stage_opened rules t).disputes
   within-opened rules t long w =
       elim (cases_Bool (is_stage_due rules t)) [
         | inl due ↦ rw (opened-due rules t due) (within-both rules t.disputes _ w (within-new rules (last_stage t.disputes + 1) (length t.disputes + 1) (pairs rules t) long))
@@ -149,7 +151,7 @@ module _ (laws : BisectionLaws) where
 
   -- a settled answer that is one of these is carried on to the same
   carried-by : (rules : Rules) (f : Answers) (p k : ℕ) (s : Settled) (q : Question) (t : Record) (b : Bool) → p ≡ 1 + k → claim_missing (slice_get t.claims k) ≡ b →
-      1 < rules.fan → 0 < rules.bound → AllWithin rules t.disputes →
+      1 < rules.setup.fan → 0 < rules.setup.bound → AllWithin rules t.disputes →
       (if b then Some claim_question else question_in p t.disputes) ≡ Some q → f p q ≡ Some s →
       carried rules f (if b then record t { claims = slice_set t.claims k (Some s) } else record t { disputes = settled_in rules p s t.disputes }) ≡ carried rules f t
   unfolding carried
@@ -160,17 +162,17 @@ module _ (laws : BisectionLaws) where
   carried-by rules f p k s q t false place missing more long w e is = rw (played-put rules f p s q t.disputes more long w e is) refl
 
   carried-put : (rules : Rules) (f : Answers) (p : ℕ) (s : Settled) (q : Question) (t : Record) → 0 < p →
-      1 < rules.fan → 0 < rules.bound → AllWithin rules t.disputes → open_question rules t p ≡ Some q → f p q ≡ Some s →
+      1 < rules.setup.fan → 0 < rules.setup.bound → AllWithin rules t.disputes → open_question rules t p ≡ Some q → f p q ≡ Some s →
       carried rules f (put rules p s t) ≡ carried rules f t
   carried-put rules f p s q t numbered more long w e is =
       carried-by rules f p (p - 1) s q t (claim_missing (slice_get t.claims (p - 1))) (omega arith) refl more long w e is
 
-  within-put : (rules : Rules) (p : ℕ) (s : Settled) (t : Record) (b : Bool) → 1 < rules.fan → AllWithin rules t.disputes →
+  within-put : (rules : Rules) (p : ℕ) (s : Settled) (t : Record) (b : Bool) → 1 < rules.setup.fan → AllWithin rules t.disputes →
       AllWithin rules (if b then record t { claims = slice_set t.claims (p - 1) (Some s) } else record t { disputes = settled_in rules p s t.disputes }).disputes
   within-put rules p s t true more w = w
   within-put rules p s t false more w = within-settled rules p s t.disputes more w
 
-  pub played-settle : (rules : Rules) (p : ℕ) (s : Settled) (t : Record) → 1 < rules.fan → 0 < rules.bound → IsPlayed rules t → IsPlayed rules (settle rules p s t)
+  pub played-settle : (rules : Rules) (p : ℕ) (s : Settled) (t : Record) → 1 < rules.setup.fan → 0 < rules.setup.bound → IsPlayed rules t → IsPlayed rules (settle rules p s t)
   unfolding settle
   played-settle rules p s t more long i =
       record {
@@ -179,7 +181,7 @@ module _ (laws : BisectionLaws) where
       }
 
   -- the answers are carried on to the same stage
-  pub steps-settle : (rules : Rules) (f : Answers) (p : ℕ) (s : Settled) (q : Question) (t : Record) → 0 < p → 1 < rules.fan → 0 < rules.bound → IsPlayed rules t →
+  pub steps-settle : (rules : Rules) (f : Answers) (p : ℕ) (s : Settled) (q : Question) (t : Record) → 0 < p → 1 < rules.setup.fan → 0 < rules.setup.bound → IsPlayed rules t →
       open_question rules t p ≡ Some q → f p q ≡ Some s →
       (stage_over rules f (settle rules p s t) ≡ stage_over rules f t) ⊎ (settle rules p s t ≡ stage_over rules f t)
   unfolding settle
@@ -200,7 +202,7 @@ module _ (laws : BisectionLaws) where
       ap (stage_opened rules) (carried-due rules f t two.0 two.1) ∙ i.rests
 
   -- every complete list comes to what the stages over the answers come to
-  pub ends : (rules : Rules) (f : Answers) (es : List (ℕ × Settled)) (t : Record) → 1 < rules.fan → 0 < rules.bound → IsPlayed rules t →
+  pub ends : (rules : Rules) (f : Answers) (es : List (ℕ × Settled)) (t : Record) → 1 < rules.setup.fan → 0 < rules.setup.bound → IsPlayed rules t →
       Fits rules f es t → is_complete (after rules es t) ≡ true → Ends rules f t (after rules es t)
   ends rules f [] t more long i fits c = record { fixed = complete-fixed rules f t i c; reaches = (0, refl) }
   ends rules f (e ∷ es) t more long i fits c =
@@ -216,18 +218,18 @@ module _ (laws : BisectionLaws) where
   nothing-due rules zero some = absurd (omega arith)
   nothing-due rules (suc n) some = refl
 
-  pub played-nothing : (rules : Rules) → 0 < rules.provers → IsPlayed rules (nothing_settled rules)
+  pub played-nothing : (rules : Rules) → 0 < rules.setup.provers → IsPlayed rules (nothing_settled rules)
   played-nothing rules some =
       record {
         within = tt;
-        rests = opened-not rules (nothing_settled rules) (rw (nothing-due rules rules.provers some) refl);
+        rests = opened-not rules (nothing_settled rules) (rw (nothing-due rules rules.setup.provers some) refl);
       }
 
   pub one_record : OneRecord
   one_record rules f es gs playable fe fg ce cg =
-      let some : 0 < rules.provers = playable.some in
-      let more : 1 < rules.fan = playable.parted in
-      let long : 0 < rules.bound = playable.steps in
+      let some : 0 < rules.setup.provers = playable.some in
+      let more : 1 < rules.setup.fan = playable.parted in
+      let long : 0 < rules.setup.bound = playable.steps in
       let i : IsPlayed rules (nothing_settled rules) = played-nothing rules some in
       let x : Ends rules f (nothing_settled rules) (after rules es (nothing_settled rules)) = ends rules f es (nothing_settled rules) more long i fe ce in
       let y : Ends rules f (nothing_settled rules) (after rules gs (nothing_settled rules)) = ends rules f gs (nothing_settled rules) more long i fg cg in

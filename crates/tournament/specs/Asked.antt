@@ -63,13 +63,13 @@ IsWithinBound bound (kind.Proof i) = i < bound
 abbrev pub OpenIsWithinBound : Type 0
 OpenIsWithinBound =
     (rules : Rules) (xs : List Post) (p : ℕ) (q : Question) → ArePlayable rules →
-    open_question rules (record_after rules xs) p ≡ Some q → IsWithinBound rules.bound q.kind
+    open_question rules (record_after rules xs) p ≡ Some q → IsWithinBound rules.setup.bound q.kind
 
 -- and so is what a match asks under any number, over any answers
 abbrev pub AskedIsWithinBound : Type 0
 AskedIsWithinBound =
     (rules : Rules) (f : Answers) (p : ℕ) (qid : Qid) (k : Kind) → ArePlayable rules →
-    asked rules (bracket rules f) p qid ≡ Some k → IsWithinBound rules.bound k
+    asked rules (bracket rules f) p qid ≡ Some k → IsWithinBound rules.setup.bound k
 
 -- an open question and its passes stay while another prover moves
 abbrev pub QuestionsStay : Type 0

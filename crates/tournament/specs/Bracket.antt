@@ -1,10 +1,11 @@
 -- To believe: a match. First the claims, then stages of disputes, then the verdict.
 use Rattle.std.specs.Prelude.{ℕ, zero, suc, ◌+◌, ◌-◌, max, Bool, true, false, ◌&&◌, ◌||◌, ◌==◌, List, [], ◌∷◌, ◌++◌, length, map, replicate, slice_get, slice_set, Option, Some, None, is_some, is_none, if◌then◌else◌}
 use Rattle.std.specs.Fn.{iterate}
+use Rattle.std.specs.List.{list_all, list_any}
+use Rattle.std.specs.Option.{option_or}
 use Rattle.rd_base.specs.declared.digest.Digest32.{Digest32}
 use Rattle.rd_base.specs.declared.claim.Claim.{Claim}
 use Rattle.rd_base.specs.declared.answer.Answer.TheVariants as answer
-use Rattle.bisect_game.specs.declared.question.Kind.TheVariants as kind
 use Rattle.bisect_game.specs.declared.question.Question.{Question}
 use Rattle.bisect_game.specs.declared.settled.Settled.{Settled}
 use Rattle.bisect_game.specs.declared.settled.Settled.TheVariants.{Given}
@@ -12,9 +13,9 @@ use Rattle.bisect_game.specs.declared.settled.Close.{Close}
 use Rattle.bisect_game.specs.declared.settled.Close.TheVariants as close
 use Rattle.bisect_game.specs.declared.settled.Side.TheVariants.{First, Second}
 use Rattle.bisect_game.specs.Ruling.{Ruling, same_digest}
-use Rattle.bisect_game.specs.Rules.{Rules}
+use Rattle.bisect_game.specs.Rules.{Rules, claim_question}
 use Rattle.bisect_game.specs.Bisection.{Bisection, question_of, is_closed, asks, settle_first, settle_second}
-use Rattle.bisect_game.specs.Disputes.{Answers, played, dispute_of, or_else}
+use Rattle.bisect_game.specs.Disputes.{Answers, played, dispute_of}
 use Rattle.tournament.specs.declared.verdict.Verdict.{Verdict}
 use Rattle.tournament.specs.declared.verdict.Verdict.TheVariants.{Accept, NoneLeft, Collision}
 
@@ -25,11 +26,7 @@ pub record Record : Type 0 where
 
 -- nothing is settled yet
 abbrev pub nothing_settled : Rules → Record
-nothing_settled rules = record { claims = replicate rules.provers None; disputes = [] }
-
--- each prover is first asked for its claim
-abbrev pub claim_question : Question
-claim_question = record { qid = record { dispute = 0; round = 0 }; kind = kind.Claim }
+nothing_settled rules = record { claims = replicate rules.setup.provers None; disputes = [] }
 
 -- THE LIVE: a prover is out whose claim was faulty or spent, or whom a dispute has put out
 
@@ -39,8 +36,7 @@ is_out_by d (Some (close.Collision s t)) p = false
 is_out_by d None p = false
 
 abbrev pub is_out_in : List Bisection → ℕ → Bool
-is_out_in [] p = false
-is_out_in (d ∷ ds) p = is_out_by d d.close p || is_out_in ds p
+is_out_in ds p = list_any (λ d. is_out_by d d.close p) ds
 
 abbrev pub claim_in : Option Settled → Option Claim
 claim_in (Some (Given (answer.Claim c))) = Some c
@@ -60,17 +56,13 @@ live t = live_from t.disputes 1 t.claims
 
 -- COLLISIONS OF CLAIMS: the least pair, the lower prover first
 
-abbrev pub first_of : Option (List ℕ × List ℕ) → Option (List ℕ × List ℕ) → Option (List ℕ × List ℕ)
-first_of (Some pair) t = Some pair
-first_of None t = t
-
 abbrev pub collision_with : Ruling → Claim → List (ℕ × Claim) → Option (List ℕ × List ℕ)
 collision_with r c [] = None
-collision_with r c (x ∷ xs) = first_of (r.claim_collision c x.1) (collision_with r c xs)
+collision_with r c (x ∷ xs) = option_or (r.claim_collision c x.1) (collision_with r c xs)
 
 abbrev pub claims_collision : Ruling → List (ℕ × Claim) → Option (List ℕ × List ℕ)
 claims_collision r [] = None
-claims_collision r (x ∷ xs) = first_of (collision_with r x.1 xs) (claims_collision r xs)
+claims_collision r (x ∷ xs) = option_or (collision_with r x.1 xs) (claims_collision r xs)
 
 -- PAIRS: each unpaired one with the lowest later unpaired one of another root
 
@@ -93,7 +85,7 @@ pairs_of r (suc n) [] = []
 pairs_of r (suc n) (x ∷ xs) = elim (take_other r (r.root_of x.1) xs) [ None ↦ pairs_of r n xs | Some t ↦ (x, t.0) ∷ pairs_of r n t.1 ]
 
 abbrev pub pairs : Rules → Record → List ((ℕ × Claim) × (ℕ × Claim))
-pairs rules t = pairs_of rules.ruling rules.provers (live t)
+pairs rules t = pairs_of rules.ruling rules.setup.provers (live t)
 
 -- STAGES: a dispute for each pair, numbered on through the match
 
@@ -103,15 +95,14 @@ side_of r x = (x.0, r.root_of x.1)
 abbrev pub disputes_of : Rules → ℕ → ℕ → List ((ℕ × Claim) × (ℕ × Claim)) → List Bisection
 disputes_of rules stage number [] = []
 disputes_of rules stage number (p ∷ ps) =
-    dispute_of rules stage number (side_of rules.ruling p.0) (side_of rules.ruling p.1) ∷ disputes_of rules stage (number + 1) ps
+    dispute_of rules.setup stage number (side_of rules.ruling p.0) (side_of rules.ruling p.1) ∷ disputes_of rules stage (number + 1) ps
 
 abbrev pub last_stage : List Bisection → ℕ
 last_stage [] = 0
 last_stage (d ∷ ds) = max d.stage (last_stage ds)
 
 abbrev pub all_there : List (Option Settled) → Bool
-all_there [] = true
-all_there (s ∷ ss) = is_some s && all_there ss
+all_there ss = list_all is_some ss
 
 abbrev pub put_out : Option Close → Bool
 put_out (Some (close.Out a b)) = true
@@ -120,8 +111,7 @@ put_out None = false
 
 -- each dispute has closed, none by a collision
 abbrev pub all_out : List Bisection → Bool
-all_out [] = true
-all_out (d ∷ ds) = put_out d.close && all_out ds
+all_out ds = list_all (λ d. put_out d.close) ds
 
 -- the next stage may begin: each claim is settled and none collide, and each dispute has closed, none by a collision
 abbrev pub is_stage_due : Rules → Record → Bool
@@ -136,7 +126,7 @@ stage_opened rules t =
 
 abbrev pub claims_over : Answers → ℕ → List (Option Settled) → List (Option Settled)
 claims_over f p [] = []
-claims_over f p (s ∷ ss) = or_else s (f p claim_question) ∷ claims_over f (p + 1) ss
+claims_over f p (s ∷ ss) = option_or s (f p claim_question) ∷ claims_over f (p + 1) ss
 
 -- claims and disputes over the answers, as far as they go
 unfoldable pub carried : Rules → Answers → Record → Record
@@ -146,7 +136,7 @@ abbrev pub stage_over : Rules → Answers → Record → Record
 stage_over rules f t = stage_opened rules (carried rules f t)
 
 unfoldable pub bracket : Rules → Answers → Record
-bracket rules f = iterate (stage_over rules f) rules.provers (nothing_settled rules)
+bracket rules f = iterate (stage_over rules f) rules.setup.provers (nothing_settled rules)
 
 -- OPEN QUESTIONS: a prover has at most one
 
@@ -170,8 +160,7 @@ open_question rules t p =
     if claim_missing (slice_get t.claims (p - 1)) then Some claim_question else question_in p t.disputes
 
 abbrev pub all_closed : List Bisection → Bool
-all_closed [] = true
-all_closed (d ∷ ds) = is_closed d && all_closed ds
+all_closed ds = list_all is_closed ds
 
 -- nothing is open
 abbrev pub is_complete : Record → Bool
@@ -204,7 +193,7 @@ collided None = None
 
 abbrev pub disputes_collision : List Bisection → Option (List ℕ × List ℕ)
 disputes_collision [] = None
-disputes_collision (d ∷ ds) = first_of (collided d.close) (disputes_collision ds)
+disputes_collision (d ∷ ds) = option_or (collided d.close) (disputes_collision ds)
 
 abbrev pub lowest : List (ℕ × Claim) → Verdict
 lowest [] = NoneLeft
@@ -215,4 +204,4 @@ or_lowest (Some pair) xs = Collision (pair.0) (pair.1)
 or_lowest None xs = lowest xs
 
 abbrev pub verdict_of : Rules → Record → Verdict
-verdict_of rules t = or_lowest (first_of (claims_collision rules.ruling (live_from [] 1 t.claims)) (disputes_collision t.disputes)) (live t)
+verdict_of rules t = or_lowest (option_or (claims_collision rules.ruling (live_from [] 1 t.claims)) (disputes_collision t.disputes)) (live t)

@@ -45,7 +45,7 @@ settled_after rules says p q zero n = said rules q (says p q n) Spent
 settled_after rules says p q (suc left) n = said rules q (says p q n) (settled_after rules says p q left (n + 1))
 
 unfoldable pub answers_of : Rules → Says → Answers
-answers_of rules says p q = Some (settled_after rules says p q rules.patience 0)
+answers_of rules says p q = Some (settled_after rules says p q rules.setup.patience 0)
 
 -- order does not matter: every two complete legal lists of moves of one case come to one record
 abbrev pub OrderDoesNotMatter : Type 0

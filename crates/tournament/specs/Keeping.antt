@@ -1,5 +1,5 @@
 -- Derived: a match as it is kept in memory, with room for all of it.
-use Rattle.std.specs.Prelude.{◌≡◌, ℕ, zero, suc, ◌+◌, ◌^◌, ◌<◌, ◌≤◌, Bool, List, [], ◌∷◌, ◌++◌, length, Option, Some, None, if◌then◌else◌}
+use Rattle.std.specs.Prelude.{◌≡◌, ℕ, zero, suc, ◌+◌, ◌<◌, ◌≤◌, Bool, List, [], ◌∷◌, ◌++◌, length, Option, Some, None, if◌then◌else◌}
 use Rattle.rd_base.specs.declared.digest.Digest32.{Digest32}
 use Rattle.rd_base.specs.declared.claim.Claim.{Claim}
 use Rattle.rd_base.specs.declared.answer.Answer.{Answer}
@@ -8,12 +8,13 @@ use Rattle.bisect_game.specs.declared.settled.Settled.{Settled}
 use Rattle.bisect_game.specs.declared.settled.Side.{Side}
 use Rattle.bisect_game.specs.declared.settled.Side.TheVariants.{First, Second}
 use Rattle.bisect_game.specs.Ruling.{Ruling, same_digest}
-use Rattle.bisect_game.specs.Rules.{Rules}
+use Rattle.bisect_game.specs.Disputes.{dispute_of}
+use Rattle.bisect_game.specs.Rules.{Rules, AreInRange, rules_of}
 use Rattle.bisect_game.specs.Bisection.{Bisection}
-use Rattle.tournament.specs.declared.setup.Setup.{Setup}
+use Rattle.bisect_game.specs.declared.setup.Setup.{Setup}
 use Rattle.tournament.specs.Bracket.{Record, side_of, asks_first, asks_second, last_stage, open_question}
 use Rattle.tournament.specs.Moves.{MatchState, begun, passes_of, settled_by}
-use Rattle.tournament.specs.Posting.{rules_of, Post, after_posts}
+use Rattle.tournament.specs.Posting.{Post, after_posts}
 
 -- the side of a prover that has an open question
 abbrev pub asks_of : Side → ℕ → Bisection → Bool
@@ -52,24 +53,9 @@ abbrev pub other_from : ℕ → Digest32 → List (ℕ × Digest32) → Option �
 other_from i root [] = None
 other_from i root (x ∷ xs) = if same_digest x.1 root then other_from (i + 1) root xs else Some i
 
-abbrev pub dispute_at : Setup → ℕ → ℕ → ℕ × Digest32 → ℕ × Digest32 → Bisection
-dispute_at t stage number x y =
-    record {
-      stage = stage;
-      number = number;
-      fan = t.fan;
-      first = x.0;
-      second = y.0;
-      place = record { lo = 0; hi = t.bound; agreed = t.start; first = x.1; second = y.1 };
-      past = [];
-      by_first = None;
-      by_second = None;
-      close = None;
-    }
-
 abbrev pub disputes_over : Setup → ℕ → ℕ → List ((ℕ × Digest32) × (ℕ × Digest32)) → List Bisection
 disputes_over t g k [] = []
-disputes_over t g k (p ∷ ps) = dispute_at t g k p.0 p.1 ∷ disputes_over t g (k + 1) ps
+disputes_over t g k (p ∷ ps) = dispute_of t g k p.0 p.1 ∷ disputes_over t g (k + 1) ps
 
 abbrev pub and_also : Record → List Bisection → Record
 and_also r ds = record r { disputes = r.disputes ++ ds }
@@ -80,21 +66,16 @@ pub record Sheet : Type 0 where
   pub record_ : Record
 
 -- each room is one for a dispute of the match
-abbrev pub AllRooms : ℕ → ℕ → List (ℕ × ℕ) → Type 0
-AllRooms bound fan [] = Unit {0}
-AllRooms bound fan (r ∷ rs) = (r ≡ (bound, fan)) × AllRooms bound fan rs
+abbrev pub AllRooms : Setup → List (ℕ × ℕ) → Type 0
+AllRooms t [] = Unit {0}
+AllRooms t (r ∷ rs) = (r ≡ (t.bound, t.fan)) × AllRooms t rs
 
 -- a sheet has room for each dispute that can come
 pub record IsSheet (t : Setup) (r : Record) (rooms : List (ℕ × ℕ)) (free : ℕ) : Type 0 where
-  pub some : 0 < t.provers
-  pub few : t.provers ≤ 2 ^ 16
-  pub steps : 0 < t.bound
-  pub short : t.bound < 2 ^ 32
-  pub parted : 1 < t.fan
-  pub few_parts : t.fan ≤ 16
+  pub ranges : AreInRange t
   pub claims_ : length r.claims ≡ t.provers
   pub stages : last_stage r.disputes ≤ length r.disputes
-  pub rooms_ : AllRooms t.bound t.fan rooms
+  pub rooms_ : AllRooms t rooms
   pub room : length r.disputes + free + 1 ≡ t.provers
 
 -- some posts, in some order, come to the state
@@ -109,10 +90,7 @@ pub record IsMove (rules : Rules) (st : MatchState) (p : ℕ) (o : Option Settle
   pub settles : settled_by rules question (passes_of st p) answer ≡ o
 
 pub record IsMatch (r : Ruling) (s : Sheet) (passed : List ℕ) (room : ℕ) : Type 0 where
-  pub some : 0 < s.setup.provers
-  pub steps : 0 < s.setup.bound
-  pub parted : 1 < s.setup.fan
-  pub few_parts : s.setup.fan ≤ 16
+  pub ranges : AreInRange s.setup
   pub counts : length passed ≡ s.setup.provers
   pub reached : IsReached (rules_of r s.setup) (record { record_ = s.record_; passed = passed })
   pub room_ : s.setup.provers ≤ room

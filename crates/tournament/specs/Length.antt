@@ -1,6 +1,7 @@
 -- To believe: how many moves a match has at most.
 use Rattle.std.specs.Prelude.{ℕ, ◌+◌, ◌-◌, ◌*◌, ◌^◌, ◌<◌, ◌≤◌, List, length}
 use Rattle.bisect_game.specs.Says.{Says}
+use Rattle.bisect_game.specs.declared.setup.Setup.{Setup}
 use Rattle.bisect_game.specs.Rules.{Rules, ArePlayable}
 use Rattle.tournament.specs.Moves.{begun}
 use Rattle.tournament.specs.Journals.{Legal}
@@ -11,13 +12,13 @@ pub record IsMost (fan bound k : ℕ) : Type 0 where
   pub most : (j : ℕ) → fan ^ j < fan * bound → j ≤ k
 
 -- a question takes a move for each pass and one more, and there are a claim of each prover and two questions a round
-abbrev pub most_entries : Rules → ℕ → ℕ
-most_entries rules k = (rules.patience + 1) * (rules.provers + 2 * (rules.provers - 1) * (k + 1))
+abbrev pub most_entries : Setup → ℕ → ℕ
+most_entries setup k = (setup.patience + 1) * (setup.provers + 2 * (setup.provers - 1) * (k + 1))
 
 abbrev pub SpareIsEnough : Type 0
 SpareIsEnough =
-    (rules : Rules) (says : Says) (ps : List ℕ) (k : ℕ) → ArePlayable rules → IsMost rules.fan rules.bound k →
-    Legal rules says ps (begun rules) → length ps ≤ most_entries rules k
+    (rules : Rules) (says : Says) (ps : List ℕ) (k : ℕ) → ArePlayable rules → IsMost rules.setup.fan rules.setup.bound k →
+    Legal rules says ps (begun rules) → length ps ≤ most_entries rules.setup k
 
 -- each fan and each bound has a most number
 abbrev pub ThereIsAMost : Type 0

@@ -1,6 +1,7 @@
 pub mod Bracket
 pub mod Settling
 pub mod Moves
+pub mod Match
 pub mod Posting
 pub mod Fitting
 pub mod Journals
@@ -14,3 +15,5 @@ pub mod TrueMoves
 pub mod Keeping
 pub mod Numbers
 pub mod Outs
+pub mod Collisions
+pub mod Rulings

@@ -13,7 +13,7 @@ pub record MatchState : Type 0 where
   pub passed : List ℕ
 
 abbrev pub begun : Rules → MatchState
-begun rules = record { record_ = nothing_settled rules; passed = replicate rules.provers 0 }
+begun rules = record { record_ = nothing_settled rules; passed = replicate rules.setup.provers 0 }
 
 abbrev pub passes_of : MatchState → ℕ → ℕ
 passes_of st p = slice_index st.passed (p - 1)
@@ -21,7 +21,7 @@ passes_of st p = slice_index st.passed (p - 1)
 -- what a move settles after this many passes: an answer settles, and a pass beyond the patience
 abbrev pub settled_by : Rules → Question → ℕ → Option Answer → Option Settled
 settled_by rules q passes (Some a) = Some (judged rules.ruling q.kind a)
-settled_by rules q passes None = if nat_lt passes rules.patience then None else Some Spent
+settled_by rules q passes None = if nat_lt passes rules.setup.patience then None else Some Spent
 
 -- a pass that settles nothing is counted, and a settled question is followed by one without passes
 abbrev pub moved : Rules → MatchState → ℕ → Option Settled → MatchState

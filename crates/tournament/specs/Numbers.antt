@@ -21,7 +21,7 @@ pub record IsOfProvers (provers : ℕ) (r : Record) : Type 0 where
   pub disputes : AreNumbered provers 1 r.disputes
 
 abbrev pub RecordsAreOfProvers : Type 0
-RecordsAreOfProvers = (rules : Rules) (xs : List Post) → IsOfProvers rules.provers (record_after rules xs)
+RecordsAreOfProvers = (rules : Rules) (xs : List Post) → IsOfProvers rules.setup.provers (record_after rules xs)
 
 -- and each dispute cuts its intervals in as many parts as the rules say
 abbrev pub AllHaveFan : ℕ → List Bisection → Type 0
@@ -29,4 +29,4 @@ AllHaveFan fan [] = Unit {0}
 AllHaveFan fan (d ∷ ds) = (d.fan ≡ fan) × AllHaveFan fan ds
 
 abbrev pub DisputesHaveTheFan : Type 0
-DisputesHaveTheFan = (rules : Rules) (xs : List Post) → ArePlayable rules → AllHaveFan rules.fan (record_after rules xs).disputes
+DisputesHaveTheFan = (rules : Rules) (xs : List Post) → ArePlayable rules → AllHaveFan rules.setup.fan (record_after rules xs).disputes

@@ -6,19 +6,13 @@ use Rattle.rd_base.specs.Questions.{same_qid}
 use Rattle.bisect_game.specs.declared.question.Question.{Question}
 use Rattle.bisect_game.specs.declared.settled.Settled.{Settled}
 use Rattle.bisect_game.specs.declared.settled.Settled.TheVariants as settled
-use Rattle.bisect_game.specs.Ruling.{Ruling}
 use Rattle.bisect_game.specs.Rules.{Rules, ArePlayable}
-use Rattle.tournament.specs.declared.setup.Setup.{Setup}
 use Rattle.tournament.specs.declared.posting.Move.{Move}
 use Rattle.tournament.specs.declared.posting.Move.TheVariants.{Pass, Give}
 use Rattle.tournament.specs.declared.posting.Reply.{Reply}
 use Rattle.tournament.specs.declared.posting.Reply.TheVariants as reply
 use Rattle.tournament.specs.Bracket.{Record, open_question, is_complete}
 use Rattle.tournament.specs.Moves.{MatchState, begun, passes_of, settled_by, moved}
-
--- what a match is played by: a judge, and the numbers
-abbrev pub rules_of : Ruling → Setup → Rules
-rules_of r t = record { ruling = r; provers = t.provers; bound = t.bound; fan = t.fan; patience = t.patience; start = t.start }
 
 abbrev pub answer_of : Move → Option Answer
 answer_of Pass = None
@@ -73,4 +67,4 @@ record_after rules xs = (after_posts rules xs (begun rules)).record_
 abbrev pub NobodyAskedIsOver : Type 0
 NobodyAskedIsOver =
     (rules : Rules) (xs : List Post) → ArePlayable rules →
-    ((p : ℕ) → 0 < p → p ≤ rules.provers → open_question rules (record_after rules xs) p ≡ None) ↔ (is_complete (record_after rules xs) ≡ true)
+    ((p : ℕ) → 0 < p → p ≤ rules.setup.provers → open_question rules (record_after rules xs) p ≡ None) ↔ (is_complete (record_after rules xs) ≡ true)

@@ -121,11 +121,11 @@ VerdictIsRight =
 
 -- m provers play at most m - 1 disputes
 abbrev pub FewDisputes : Type 0
-FewDisputes = (rules : Rules) (xs : List Post) → 0 < rules.provers → length (record_after rules xs).disputes < rules.provers
+FewDisputes = (rules : Rules) (xs : List Post) → 0 < rules.setup.provers → length (record_after rules xs).disputes < rules.setup.provers
 
 -- k bisection rounds with F^k < F * N for rounds of F parts, and at most one proof round
 pub record IsShort (rules : Rules) (d : Bisection) : Type 0 where
-  pub bisections : rules.fan ^ rounds_of d < rules.fan * rules.bound
+  pub bisections : rules.setup.fan ^ rounds_of d < rules.setup.fan * rules.setup.bound
   pub proofs : proof_rounds_of d ≤ 1
 
 abbrev pub AllShort : Rules → List Bisection → Type 0

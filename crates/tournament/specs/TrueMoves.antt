@@ -15,7 +15,7 @@ use Rattle.tournament.specs.Truthful.{IsSafe}
 -- a true move on a question after this many passes on it: the true answer, or one more pass within the patience
 abbrev pub IsTrueMove : Rules → Truth → Question → ℕ → Option Answer → Type 0
 IsTrueMove rules t q passes (Some a) = IsTrueAnswer t q.kind a
-IsTrueMove rules t q passes None = passes < rules.patience
+IsTrueMove rules t q passes None = passes < rules.setup.patience
 
 -- if a post is this prover's and on its open question, its move is true. The posts of others are free, and so are its own on
 -- any other question, which are stale.
@@ -31,11 +31,11 @@ MovesTruly rules t p st (x ∷ xs) = IsTruePost rules t p st x × MovesTruly rul
 -- so its settled answers so far are given and true
 abbrev pub TrueMovesAreTrueAnswers : Type 0
 TrueMovesAreTrueAnswers =
-    (rules : Rules) (t : Truth) (xs : List Post) (p : ℕ) → IsRun rules t → 0 < p → p ≤ rules.provers →
+    (rules : Rules) (t : Truth) (xs : List Post) (p : ℕ) → IsRun rules t → 0 < p → p ≤ rules.setup.provers →
     MovesTruly rules t p (begun rules) xs → AreTrue rules t p (record_after rules xs)
 
 -- and it is safe
 abbrev pub TrueMovesAreSafe : Type 0
 TrueMovesAreSafe =
-    (rules : Rules) (t : Truth) (xs : List Post) (p : ℕ) → ArePlayable rules → IsFair rules.ruling → IsRun rules t → 0 < p → p ≤ rules.provers →
+    (rules : Rules) (t : Truth) (xs : List Post) (p : ℕ) → ArePlayable rules → IsFair rules.ruling → IsRun rules t → 0 < p → p ≤ rules.setup.provers →
     MovesTruly rules t p (begun rules) xs → IsSafe rules t p (record_after rules xs)

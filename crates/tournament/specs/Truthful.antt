@@ -24,7 +24,7 @@ pub record AnswersTruly (says : Says) (patience : ℕ) (t : Truth) (p : ℕ) (q 
 -- it does so on each question that the record of the case asks it
 abbrev pub IsTruthfulProver : Rules → Says → Truth → ℕ → Type 0
 IsTruthfulProver rules says t p =
-    (q : Question) → asked rules (bracket rules (answers_of rules says)) p q.qid ≡ Some q.kind → AnswersTruly says rules.patience t p q
+    (q : Question) → asked rules (bracket rules (answers_of rules says)) p q.qid ≡ Some q.kind → AnswersTruly says rules.setup.patience t p q
 
 -- its settled answers so far are given and true, it stays, and once nothing is open it is live and the verdict is right
 pub record IsSafe (rules : Rules) (t : Truth) (p : ℕ) (r : Record) : Type 0 where
@@ -36,5 +36,5 @@ pub record IsSafe (rules : Rules) (t : Truth) (p : ℕ) (r : Record) : Type 0 wh
 -- whoever moves in whatever order, a truthful prover is safe
 abbrev pub TruthfulProversAreSafe : Type 0
 TruthfulProversAreSafe =
-    (rules : Rules) (says : Says) (t : Truth) (ps : List ℕ) (p : ℕ) → ArePlayable rules → IsFair rules.ruling → IsRun rules t → 0 < p → p ≤ rules.provers →
+    (rules : Rules) (says : Says) (t : Truth) (ps : List ℕ) (p : ℕ) → ArePlayable rules → IsFair rules.ruling → IsRun rules t → 0 < p → p ≤ rules.setup.provers →
     IsTruthfulProver rules says t p → Legal rules says ps (begun rules) → IsSafe rules t p (turns rules says ps (begun rules)).record_

@@ -10,6 +10,8 @@ ghost use Rattle.tournament.specs.Numbers.{RecordsAreOfProvers, DisputesHaveTheF
 ghost use Rattle.tournament.specs.Outs.{NobodyIsOutTwice, TheLiveAreListed};
 ghost use Rattle.tournament.specs.Truthful.{TruthfulProversAreSafe};
 ghost use Rattle.tournament.specs.TrueMoves.{TrueMovesAreTrueAnswers, TrueMovesAreSafe};
+ghost use Rattle.tournament.specs.Collisions.{NoCollisionIfNonePair, CollisionIsOfLeastPair};
+ghost use Rattle.tournament.specs.Rulings.{RulingsAreFew};
 ghost use Rattle.tournament.specs.Asked.{AskedByTheCase, OpenIsWithinBound, AskedIsWithinBound, QuestionsStay};
 
 use bisect_game::bisection_laws;
@@ -39,6 +41,13 @@ pub fn the_verdict_is_right()
     bisection_laws();
 }
 
+/// Over a judge that keeps its laws, and whatever was posted, the claims have no collision if and only if no two provers gave
+/// claims that differ and have one root (`none`). Else their collision is that of the least such pair (`least`).
+pub fn claims_collide_as_they_differ()
+    ensures none { NoCollisionIfNonePair }
+    ensures least { CollisionIsOfLeastPair }
+{}
+
 /// True moves are true answers: whatever others post, and whatever it posts on questions that aren't its open one, a prover that
 /// passes within the patience on its open questions, or gives the true answers, has only true settled answers (`answers`). So
 /// it is not put out, and once nothing is open it is live and the verdict is right (`safe`).
@@ -59,10 +68,12 @@ pub fn truthful_provers_are_safe()
 }
 
 /// Few rounds: whatever is posted, m provers play at most m - 1 disputes, and a dispute has k bisection rounds with
-/// `F^k < F * N` for rounds of F parts and the bound N, and at most one proof round.
+/// `F^k < F * N` for rounds of F parts and the bound N, and at most one proof round. So the judge rules where a proof leads
+/// `2 (m - 1)` times at most (`rulings`).
 pub fn a_match_has_few_disputes_and_rounds()
     ensures disputes { FewDisputes }
     ensures rounds { FewRounds }
+    ensures rulings { RulingsAreFew }
 {
     bisection_laws();
 }

@@ -12,13 +12,12 @@ mod playing;
 mod posting;
 mod reading;
 mod record;
-mod setup;
 mod sheet;
 mod verdict;
 
 pub use laws::{
     a_match_has_few_disputes_and_rounds, a_number_names_one_question, a_record_is_of_its_provers,
-    a_record_is_the_bracket_over_its_answers, nobody_asked_means_over, nobody_is_put_out_twice,
+    a_record_is_the_bracket_over_its_answers, claims_collide_as_they_differ, nobody_asked_means_over, nobody_is_put_out_twice,
     one_record_of_a_case, open_disputes_share_no_prover, open_questions_stay,
     order_does_not_matter, posts_settle_what_fits, questions_are_within_the_bound, spare_is_enough,
     the_live_are_listed, the_verdict_is_right, there_is_a_most_number_of_rounds,
@@ -27,5 +26,4 @@ pub use laws::{
 pub use playing::Match;
 pub use posting::{Move, Reply, is_pass, move_of};
 pub use record::Record;
-pub use setup::Setup;
 pub use verdict::Verdict;

@@ -1,10 +1,13 @@
-ghost use Rattle.std.specs.Prelude.{◌≡◌, ◌↔◌, ℕ, ◌+◌, ◌<◌, ◌≤◌, ◌^◌, true, List, length, Some, None, IfOk, replicate, if◌then◌else◌};
+ghost use Rattle.std.specs.Prelude.{◌≡◌, ◌↔◌, ℕ, ◌+◌, ◌-◌, ◌*◌, ◌<◌, ◌≤◌, ◌^◌, true, List, length, Some, None, IfOk, replicate, if◌then◌else◌};
 ghost use Rattle.bisect_game.specs.Truth.{Truth, IsRun};
-ghost use Rattle.tournament.specs.declared.setup.Setup.{Setup};
+ghost use Rattle.bisect_game.specs.declared.setup.Setup.{Setup};
 ghost use Rattle.tournament.specs.Bracket.{open_question, is_complete, verdict_of};
 ghost use Rattle.tournament.specs.Moves.{passes_of, settled_by, moved, begun};
-ghost use Rattle.tournament.specs.Posting.{rules_of, answer_of, posted, reply_by, reply_to, passes_on, Post, after_posts};
+ghost use Rattle.tournament.specs.Posting.{answer_of, posted, reply_by, reply_to, passes_on, Post, after_posts};
+ghost use Rattle.bisect_game.specs.Rules.{AreInRange, rules_of};
+ghost use Rattle.tournament.specs.Match.{rules_in};
 ghost use Rattle.tournament.specs.Keeping.{IsMove};
+ghost use Rattle.tournament.specs.Rulings.{rulings_of};
 ghost use Rattle.tournament.specs.Theorem.{AreTrue, Stays, IsRightVerdict, AllShort};
 
 use crate::laws::{
@@ -14,10 +17,9 @@ use crate::laws::{
 use crate::posting::{Move, Reply, judged, reply_by};
 use crate::reading::{all_closed, all_there, question_in};
 use crate::record::Record;
-use crate::setup::Setup;
 use crate::sheet::Sheet;
 use crate::verdict::Verdict;
-use bisect_game::{Judge, Kind, Question, Settled};
+use bisect_game::{Judge, Question, Settled, Setup};
 use rd_base::{Digest32, Memory, Qid, same_qid};
 use std::alloc::Global;
 use std::marker::Model;
@@ -35,8 +37,8 @@ fn no_passes(alloc: Global, many: usize) -> Result<Vec<u32>, Memory>
 
 /// A match before a judge. Once it was made, no call of it takes memory.
 ///
-/// Contracts see the judge's names, the numbers by which it is played, and its state: the record and the passes on each
-/// open question.
+/// Contracts see the judge's names, the numbers by which it is played, and its state (`specs/Match.antt`): the record and the
+/// passes on each open question.
 #[derive(Drop)]
 pub struct Match<J: Judge + Drop> {
     judge: J,
@@ -47,13 +49,12 @@ pub struct Match<J: Judge + Drop> {
 
 impl<J: Judge + Drop> Model for Match<J> {
     ghost use Rattle.std.specs.Prelude.{vec_capacity};
-    ghost use Rattle.tournament.specs.declared.setup.Setup.{Setup};
-    ghost use Rattle.tournament.specs.Moves.{MatchState};
+    ghost use Rattle.tournament.specs.Match.{MatchOf};
     ghost use Rattle.tournament.specs.Keeping.{IsMatch};
 
-    ghost Value = { J.Names × Setup × MatchState };
+    ghost Value = { MatchOf J.Names };
 
-    ghost view = { λ m. (J.names m.judge, m.sheet.setup, record { record_ = m.sheet.record_; passed = m.passed.items }) };
+    ghost view = { λ m. record { judge = J.names m.judge; setup = m.sheet.setup; game = record { record_ = m.sheet.record_; passed = m.passed.items } } };
 
     ghost invariant = { λ m. IsMatch (J.ruling (J.names m.judge)) m.sheet m.passed.items (vec_capacity m.live) };
 }
@@ -77,7 +78,7 @@ impl<J: Judge + Drop> Match<J> {
         requires short { bound < 2 ^ 32 }
         requires parted { 1 < fan }
         requires few_parts { fan ≤ 16 }
-        ensures { let setup : Setup = record { provers = provers; bound = bound; fan = fan; patience = patience; start = start } in IfOk result (λ m. m ≡ (J.names judge, setup, begun (rules_of (J.ruling (J.names judge)) setup))) }
+        ensures { let setup : Setup = record { provers = provers; bound = bound; fan = fan; patience = patience; start = start } in IfOk result (λ m. m ≡ record { judge = J.names judge; setup = setup; game = begun (rules_of (J.ruling (J.names judge)) setup) }) }
     {
         let setup = Setup {
             provers,
@@ -96,14 +97,15 @@ impl<J: Judge + Drop> Match<J> {
 
     /// The numbers by which it is played.
     pub fn setup(&self) -> Setup
-        ensures { result ≡ self.now.1 }
+        ensures is { result ≡ self.now.setup }
+        ensures ranges { AreInRange result }
     {
-        self.sheet.setup
+        self.sheet.setup()
     }
 
     /// Whether it is over: nothing is open.
     pub fn is_over(&self) -> bool
-        ensures { result ≡ is_complete self.now.2.record_ }
+        ensures { result ≡ is_complete self.now.game.record_ }
     {
         let record = &self.sheet.record_;
         all_there(record.claims()) && all_closed(record.disputes())
@@ -111,7 +113,7 @@ impl<J: Judge + Drop> Match<J> {
 
     /// The verdict; `None` if and only if a question is open.
     pub fn verdict(&self) -> Option<Verdict>
-        ensures { result ≡ (if is_complete self.now.2.record_ then Some (verdict_of (rules_of (J.ruling self.now.0) self.now.1) self.now.2.record_) else None) }
+        ensures { result ≡ (if is_complete self.now.game.record_ then Some (verdict_of (rules_in J.ruling self.now) self.now.game.record_) else None) }
     {
         if self.is_over() {
             Some(self.sheet.verdict(&self.judge))
@@ -123,18 +125,12 @@ impl<J: Judge + Drop> Match<J> {
     /// The open question of a prover, from 1 to their count; `None` if and only if it has none.
     pub fn question(&self, p: u32) -> Option<Question>
         requires some { 0 < p }
-        requires few { p ≤ self.now.1.provers }
-        ensures { result ≡ open_question (rules_of (J.ruling self.now.0) self.now.1) self.now.2.record_ p }
+        requires few { p ≤ self.now.setup.provers }
+        ensures { result ≡ open_question (rules_in J.ruling self.now) self.now.game.record_ p }
     {
         let record = &self.sheet.record_;
         if record.claims()[p as usize - 1].is_none() {
-            return Some(Question {
-                qid: Qid {
-                    dispute: 0,
-                    round: 0,
-                },
-                kind: Kind::Claim,
-            });
+            return Some(Question::claim());
         }
         question_in(record.disputes(), p)
     }
@@ -142,8 +138,8 @@ impl<J: Judge + Drop> Match<J> {
     /// How often a prover has passed on its open question; 0 without one.
     pub fn passes(&self, p: u32) -> u32
         requires some { 0 < p }
-        requires few { p ≤ self.now.1.provers }
-        ensures { result ≡ passes_on (rules_of (J.ruling self.now.0) self.now.1) self.now.2 p }
+        requires few { p ≤ self.now.setup.provers }
+        ensures { result ≡ passes_on (rules_in J.ruling self.now) self.now.game p }
     {
         if self.question(p).is_some() {
             self.passed[p as usize - 1]
@@ -155,12 +151,12 @@ impl<J: Judge + Drop> Match<J> {
     /// Counts a pass.
     fn count_pass(&mut self, p: u32)
         requires some { 0 < p }
-        requires few { p ≤ self.old.1.provers }
-        requires room { passes_of self.old.2 p + 1 < 2 ^ 32 }
-        requires moves { IsMove (rules_of (J.ruling self.old.0) self.old.1) self.old.2 p None }
-        ensures names { self.new.0 ≡ self.old.0 }
-        ensures setup { self.new.1 ≡ self.old.1 }
-        ensures state { self.new.2 ≡ moved (rules_of (J.ruling self.old.0) self.old.1) self.old.2 p None }
+        requires few { p ≤ self.old.setup.provers }
+        requires room { passes_of self.old.game p + 1 < 2 ^ 32 }
+        requires moves { IsMove (rules_in J.ruling self.old) self.old.game p None }
+        ensures names { self.new.judge ≡ self.old.judge }
+        ensures setup { self.new.setup ≡ self.old.setup }
+        ensures state { self.new.game ≡ moved (rules_in J.ruling self.old) self.old.game p None }
     {
         self.passed[p as usize - 1] += 1;
     }
@@ -168,11 +164,11 @@ impl<J: Judge + Drop> Match<J> {
     /// What a prover is asked is settled, and the next stage begins if it is due.
     fn settle(&mut self, p: u32, settled: Settled)
         requires some { 0 < p }
-        requires few { p ≤ self.old.1.provers }
-        requires moves { IsMove (rules_of (J.ruling self.old.0) self.old.1) self.old.2 p (Some settled) }
-        ensures names { self.new.0 ≡ self.old.0 }
-        ensures setup { self.new.1 ≡ self.old.1 }
-        ensures state { self.new.2 ≡ moved (rules_of (J.ruling self.old.0) self.old.1) self.old.2 p (Some settled) }
+        requires few { p ≤ self.old.setup.provers }
+        requires moves { IsMove (rules_in J.ruling self.old) self.old.game p (Some settled) }
+        ensures names { self.new.judge ≡ self.old.judge }
+        ensures setup { self.new.setup ≡ self.old.setup }
+        ensures state { self.new.game ≡ moved (rules_in J.ruling self.old) self.old.game p (Some settled) }
     {
         self.passed[p as usize - 1] = 0;
         let Match {
@@ -187,12 +183,12 @@ impl<J: Judge + Drop> Match<J> {
     /// A move on the open question.
     fn take(&mut self, p: u32, question: Question, turn: Move) -> Reply
         requires some { 0 < p }
-        requires few { p ≤ self.old.1.provers }
-        requires asked { open_question (rules_of (J.ruling self.old.0) self.old.1) self.old.2.record_ p ≡ Some question }
-        ensures names { self.new.0 ≡ self.old.0 }
-        ensures setup { self.new.1 ≡ self.old.1 }
-        ensures state { let rules = rules_of (J.ruling self.old.0) self.old.1 in self.new.2 ≡ moved rules self.old.2 p (settled_by rules question (passes_of self.old.2 p) (answer_of turn)) }
-        ensures reply { let rules = rules_of (J.ruling self.old.0) self.old.1 in result ≡ reply_by (settled_by rules question (passes_of self.old.2 p) (answer_of turn)) }
+        requires few { p ≤ self.old.setup.provers }
+        requires asked { open_question (rules_in J.ruling self.old) self.old.game.record_ p ≡ Some question }
+        ensures names { self.new.judge ≡ self.old.judge }
+        ensures setup { self.new.setup ≡ self.old.setup }
+        ensures state { let rules = rules_in J.ruling self.old in self.new.game ≡ moved rules self.old.game p (settled_by rules question (passes_of self.old.game p) (answer_of turn)) }
+        ensures reply { let rules = rules_in J.ruling self.old in result ≡ reply_by (settled_by rules question (passes_of self.old.game p) (answer_of turn)) }
     {
         match turn {
             Move::Give(answer) => {
@@ -220,11 +216,11 @@ impl<J: Judge + Drop> Match<J> {
     /// asked, a list of another length than the cuts, or an unsound claim.
     pub fn post(&mut self, p: u32, qid: Qid, turn: Move) -> Reply
         requires some { 0 < p }
-        requires few { p ≤ self.old.1.provers }
-        ensures names { self.new.0 ≡ self.old.0 }
-        ensures setup { self.new.1 ≡ self.old.1 }
-        ensures state { self.new.2 ≡ posted (rules_of (J.ruling self.old.0) self.old.1) self.old.2 p qid (answer_of turn) }
-        ensures reply { result ≡ reply_to (rules_of (J.ruling self.old.0) self.old.1) self.old.2 p qid (answer_of turn) }
+        requires few { p ≤ self.old.setup.provers }
+        ensures names { self.new.judge ≡ self.old.judge }
+        ensures setup { self.new.setup ≡ self.old.setup }
+        ensures state { self.new.game ≡ posted (rules_in J.ruling self.old) self.old.game p qid (answer_of turn) }
+        ensures reply { result ≡ reply_to (rules_in J.ruling self.old) self.old.game p qid (answer_of turn) }
     {
         let Some(question) = self.question(p) else {
             return Reply::Stale(None);
@@ -237,7 +233,7 @@ impl<J: Judge + Drop> Match<J> {
 
     /// Its state is that after some posts: the laws over lists of posts hold of it.
     pub fn is_after_posts(&self)
-        ensures { (xs : List Post) × (after_posts (rules_of (J.ruling self.now.0) self.now.1) xs (begun (rules_of (J.ruling self.now.0) self.now.1)) ≡ self.now.2) }
+        ensures { (xs : List Post) × (after_posts (rules_in J.ruling self.now) xs (begun (rules_in J.ruling self.now)) ≡ self.now.game) }
     {
         let _ = &self.live;
     }
@@ -245,8 +241,8 @@ impl<J: Judge + Drop> Match<J> {
     /// The dispute theorem, whoever posted what: a prover whose settled answers so far are all given and true stays (`stay`),
     /// and if there is one the verdict of a match that is over is right (`verdict`).
     pub fn keeps_true_provers(&self)
-        ensures stay { let rules = rules_of (J.ruling self.now.0) self.now.1 in (t : Truth) (p : ℕ) → IsRun rules t → 0 < p → AreTrue rules t p self.now.2.record_ → Stays rules t p self.now.2.record_ }
-        ensures verdict { let rules = rules_of (J.ruling self.now.0) self.now.1 in (t : Truth) (p : ℕ) → IsRun rules t → 0 < p → AreTrue rules t p self.now.2.record_ → is_complete self.now.2.record_ ≡ true → IsRightVerdict rules t self.now.2.record_ (verdict_of rules self.now.2.record_) }
+        ensures stay { let rules = rules_in J.ruling self.now in (t : Truth) (p : ℕ) → IsRun rules t → 0 < p → AreTrue rules t p self.now.game.record_ → Stays rules t p self.now.game.record_ }
+        ensures verdict { let rules = rules_in J.ruling self.now in (t : Truth) (p : ℕ) → IsRun rules t → 0 < p → AreTrue rules t p self.now.game.record_ → is_complete self.now.game.record_ ≡ true → IsRightVerdict rules t self.now.game.record_ (verdict_of rules self.now.game.record_) }
     {
         truthful_provers_stay();
         the_verdict_is_right();
@@ -254,10 +250,11 @@ impl<J: Judge + Drop> Match<J> {
     }
 
     /// Few rounds: fewer disputes than provers, and in each k bisection rounds with `F^k < F * N` for rounds of F parts and the
-    /// bound N, and at most one proof round.
+    /// bound N, and at most one proof round. So the judge rules at most twice a dispute where a proof leads.
     pub fn has_few_disputes_and_rounds(&self)
-        ensures disputes { length self.now.2.record_.disputes < self.now.1.provers }
-        ensures rounds { AllShort (rules_of (J.ruling self.now.0) self.now.1) self.now.2.record_.disputes }
+        ensures disputes { length self.now.game.record_.disputes < self.now.setup.provers }
+        ensures rounds { AllShort (rules_in J.ruling self.now) self.now.game.record_.disputes }
+        ensures rulings { rulings_of self.now.game.record_.disputes ≤ 2 * (self.now.setup.provers - 1) }
     {
         a_match_has_few_disputes_and_rounds();
         let _ = &self.live;
@@ -265,7 +262,7 @@ impl<J: Judge + Drop> Match<J> {
 
     /// Nobody is asked if and only if it is over.
     pub fn asks_nobody_once_over(&self)
-        ensures { let rules = rules_of (J.ruling self.now.0) self.now.1 in ((p : ℕ) → 0 < p → p ≤ rules.provers → open_question rules self.now.2.record_ p ≡ None) ↔ (is_complete self.now.2.record_ ≡ true) }
+        ensures { let rules = rules_in J.ruling self.now in ((p : ℕ) → 0 < p → p ≤ rules.setup.provers → open_question rules self.now.game.record_ p ≡ None) ↔ (is_complete self.now.game.record_ ≡ true) }
     {
         nobody_asked_means_over();
         let _ = &self.live;
@@ -273,14 +270,14 @@ impl<J: Judge + Drop> Match<J> {
 
     /// What is settled so far.
     pub fn record(&self) -> &Record
-        ensures { result.now ≡ self.now.2.record_ }
+        ensures { result.now ≡ self.now.game.record_ }
     {
         &self.sheet.record_
     }
 
     /// What was settled. It takes no memory.
     pub fn into_record(self) -> Record
-        ensures { result ≡ self.2.record_ }
+        ensures { result ≡ self.game.record_ }
     {
         let Match { sheet, .. } = self;
         let Sheet { record_, .. } = sheet;

@@ -1,7 +1,7 @@
 ghost use Rattle.std.specs.Prelude.{◌≡◌, ◌+◌, ◌-◌, ◌<◌, ◌≤◌, ◌∷◌, [], length, slice_set, Some, None, IfOk, replicate};
 ghost use Rattle.tournament.specs.Bracket.{put};
 ghost use Rattle.tournament.specs.Keeping.{and_also};
-ghost use Rattle.tournament.specs.Posting.{rules_of};
+ghost use Rattle.bisect_game.specs.Rules.{rules_of};
 
 use crate::reading::asked_from;
 use bisect_game::{Dispute, Judge, Settled};

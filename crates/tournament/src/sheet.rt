@@ -1,15 +1,15 @@
 ghost use Rattle.std.specs.Prelude.{◌≡◌, ◌+◌, ◌<◌, ◌≤◌, ◌^◌, ◌∷◌, [], length, vec_len, vec_capacity, None, IfSome, IfOk, replicate};
 ghost use Rattle.tournament.specs.Bracket.{put, is_stage_due, last_stage, stage_opened, verdict_of};
-ghost use Rattle.tournament.specs.Keeping.{Sheet, other_from, side_pairs, dispute_at, disputes_over, and_also, AllRooms};
-ghost use Rattle.tournament.specs.Posting.{rules_of};
+ghost use Rattle.tournament.specs.Keeping.{Sheet, other_from, side_pairs, disputes_over, and_also, AllRooms};
+ghost use Rattle.bisect_game.specs.Disputes.{dispute_of};
+ghost use Rattle.bisect_game.specs.Rules.{AreInRange, rules_of};
 
 use crate::reading::{
     all_out, all_there, claims_collision, disputes_collision, fill_live, last_stage, lowest,
 };
 use crate::record::Record;
-use crate::setup::Setup;
 use crate::verdict::Verdict;
-use bisect_game::{Dispute, Judge, Room, Settled};
+use bisect_game::{Dispute, Judge, Room, Settled, Setup};
 use rd_base::{Digest32, Memory, same_digest};
 use std::alloc::Global;
 use std::marker::Model;
@@ -52,19 +52,16 @@ fn other_from(live: &[(u32, Digest32)], i: usize, root: &Digest32) -> Option<usi
     }
 }
 
-/// The rooms of this many disputes.
+/// The rooms of this many disputes. An `Err` is out of memory.
 #[tactic(auto, using(crate::proofs::keeping::KeepingLemmas::rooms_more))]
-fn rooms_for(alloc: Global, bound: u64, fan: u32, many: usize) -> Result<Vec<Room>, Memory>
-    requires steps { 0 < bound }
-    requires short { bound < 2 ^ 32 }
-    requires parted { 1 < fan }
-    requires few_parts { fan ≤ 16 }
+fn rooms_for(alloc: Global, setup: Setup, many: usize) -> Result<Vec<Room>, Memory>
+    requires ranges { AreInRange setup }
     ensures len { IfOk result (λ v. vec_len v ≡ many) }
-    ensures rooms { IfOk result (λ v. AllRooms bound fan v.items) }
+    ensures rooms { IfOk result (λ v. AllRooms setup v.items) }
 {
     let mut rooms = Vec::with_capacity(alloc, many)?;
     for _ in 0..many {
-        rooms.push(Room::new(alloc, bound, fan)?)?;
+        rooms.push(Room::new(alloc, setup.bound, setup.fan)?)?;
     }
     Ok(rooms)
 }
@@ -72,20 +69,23 @@ fn rooms_for(alloc: Global, bound: u64, fan: u32, many: usize) -> Result<Vec<Roo
 impl Sheet {
     /// A sheet on which nothing is settled, with room for the whole match.
     pub(crate) fn new(alloc: Global, setup: Setup) -> Result<Sheet, Memory>
-        requires some { 0 < setup.provers }
-        requires few { setup.provers ≤ 2 ^ 16 }
-        requires steps { 0 < setup.bound }
-        requires short { setup.bound < 2 ^ 32 }
-        requires parted { 1 < setup.fan }
-        requires few_parts { setup.fan ≤ 16 }
+        requires ranges { AreInRange setup }
         ensures { IfOk result (λ s. s ≡ record { setup = setup; record_ = record { claims = replicate setup.provers None; disputes = [] } }) }
     {
         let provers = setup.provers as usize;
         Ok(Sheet {
             setup,
             record_: Record::new(alloc, provers)?,
-            rooms: rooms_for(alloc, setup.bound, setup.fan, provers - 1)?,
+            rooms: rooms_for(alloc, setup, provers - 1)?,
         })
+    }
+
+    /// The numbers by which it is played.
+    pub(crate) fn setup(&self) -> Setup
+        ensures is { result ≡ self.now.setup }
+        ensures ranges { AreInRange result }
+    {
+        self.setup
     }
 
     /// Opens one dispute.
@@ -93,7 +93,7 @@ impl Sheet {
         requires few { length self.old.record_.disputes + 1 < self.old.setup.provers }
         requires stage { stage ≤ length self.old.record_.disputes + 1 }
         ensures setup { self.new.setup ≡ self.old.setup }
-        ensures record_ { self.new.record_ ≡ and_also self.old.record_ (dispute_at self.old.setup stage (length self.old.record_.disputes + 1) first second ∷ []) }
+        ensures record_ { self.new.record_ ≡ and_also self.old.record_ (dispute_of self.old.setup stage (length self.old.record_.disputes + 1) first second ∷ []) }
     {
         let Some(room) = self.rooms.pop() else {
             unreachable!()

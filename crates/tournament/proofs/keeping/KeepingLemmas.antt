@@ -3,7 +3,7 @@ use Rattle.std.proofs.Common.{◌≡◌, ℕ, zero, suc, ◌+◌, ◌-◌, ◌<�
 use Rattle.std.specs.List.{remove}
 use Rattle.std.proofs.lemmas.Bool.{and_parts}
 use Rattle.rd_base.specs.declared.digest.Digest32.{Digest32}
-use Rattle.tournament.specs.declared.setup.Setup.{Setup}
+use Rattle.bisect_game.specs.declared.setup.Setup.{Setup}
 use Rattle.rd_base.specs.declared.claim.Claim.{Claim}
 use Rattle.bisect_game.specs.declared.settled.Settled.{Settled}
 use Rattle.bisect_game.specs.declared.settled.Side.{Side}
@@ -14,8 +14,9 @@ use Rattle.bisect_game.specs.Ruling.{Ruling, same_digest}
 use Rattle.tournament.proofs.OpenedLemmas.{opened-due}
 use Rattle.tournament.proofs.SidesLemmas.{SameSides, sides-first, sides-second}
 use Rattle.tournament.specs.Bracket.{Record, last_stage, Taken, passed_over, take_other, pairs_of, side_of, disputes_of, asks_first, asks_second, settled_in, live, live_from, is_stage_due, stage_opened, put, claim_missing}
-use Rattle.tournament.specs.Keeping.{asks_of, asked_from, sides, Taking, going_by, take_side, side_pairs, other_from, dispute_at, disputes_over, and_also, AllRooms, IsSheet}
-use Rattle.tournament.specs.Posting.{rules_of}
+use Rattle.tournament.specs.Keeping.{asks_of, asked_from, sides, Taking, going_by, take_side, side_pairs, other_from, disputes_over, and_also, AllRooms, IsSheet}
+use Rattle.bisect_game.specs.Disputes.{dispute_of}
+use Rattle.bisect_game.specs.Rules.{rules_of}
 
 -- stages and rooms
 
@@ -32,26 +33,21 @@ pub stage-kept : (ruling : Ruling) (by : Side) (s : Settled) (d : Bisection) →
 stage-kept ruling First s d = let k : SameSides d (settle_first ruling s d) = sides-first ruling s d in k.stage
 stage-kept ruling Second s d = let k : SameSides d (settle_second ruling s d) = sides-second ruling s d in k.stage
 
-rooms-last : (bound fan : ℕ) (rs : List (ℕ × ℕ)) (r : ℕ × ℕ) → AllRooms bound fan (rs ++ r ∷ []) → AllRooms bound fan rs × (r ≡ (bound, fan))
-rooms-last bound fan [] r a = (tt, a.0)
-rooms-last bound fan (q ∷ rs) r a = let rest : AllRooms bound fan rs × (r ≡ (bound, fan)) = rooms-last bound fan rs r a.1 in ((a.0, rest.0), rest.1)
+rooms-last : (t : Setup) (rs : List (ℕ × ℕ)) (r : ℕ × ℕ) → AllRooms t (rs ++ r ∷ []) → AllRooms t rs × (r ≡ (t.bound, t.fan))
+rooms-last t [] r a = (tt, a.0)
+rooms-last t (q ∷ rs) r a = let rest : AllRooms t rs × (r ≡ (t.bound, t.fan)) = rooms-last t rs r a.1 in ((a.0, rest.0), rest.1)
 
 pub sheet-room : (t : Setup) (r : Record) (free : ℕ) (rooms rest : List (ℕ × ℕ)) (room : ℕ × ℕ) → IsSheet t r rooms free → rooms ≡ rest ++ room ∷ [] → room ≡ (t.bound, t.fan)
-sheet-room t r free rooms rest room i e = let a : AllRooms t.bound t.fan rest × (room ≡ (t.bound, t.fan)) = rooms-last t.bound t.fan rest room (rw e at i.rooms_) in a.1
+sheet-room t r free rooms rest room i e = let a : AllRooms t rest × (room ≡ (t.bound, t.fan)) = rooms-last t rest room (rw e at i.rooms_) in a.1
 
 pub sheet-opened : (t : Setup) (r w : Record) (free less stage number : ℕ) (rooms rest : List (ℕ × ℕ)) (room : ℕ × ℕ) (x y : ℕ × Digest32) (d : Bisection) → IsSheet t r rooms free →
     rooms ≡ rest ++ room ∷ [] → w ≡ and_also r (d ∷ []) → d.stage ≡ stage → stage ≤ length r.disputes + 1 → less + 1 ≡ free → IsSheet t w rest less
 sheet-opened t r w free less stage number rooms rest room x y d i er ew es few el =
-    let a : AllRooms t.bound t.fan rest × (room ≡ (t.bound, t.fan)) = rooms-last t.bound t.fan rest room (rw er at i.rooms_) in
+    let a : AllRooms t rest × (room ≡ (t.bound, t.fan)) = rooms-last t rest room (rw er at i.rooms_) in
     let n : length w.disputes ≡ length r.disputes + 1 = ap (λ (z : Record). length z.disputes) ew ∙ length-append r.disputes (d ∷ []) in
     let g : last_stage w.disputes ≡ max (last_stage r.disputes) (max d.stage 0) = ap (λ (z : Record). last_stage z.disputes) ew ∙ stages-append r.disputes (d ∷ []) in
     record {
-      some = i.some;
-      few = i.few;
-      steps = i.steps;
-      short = i.short;
-      parted = i.parted;
-      few_parts = i.few_parts;
+      ranges = i.ranges;
       claims_ = ap (λ (z : Record). length z.claims) ew ∙ i.claims_;
       stages = omega (arith, g, n, es, few, i.stages);
       rooms_ = a.0;
@@ -62,9 +58,9 @@ sheet-opened t r w free less stage number rooms rest room x y d i er ew es few e
 
 pub one-opened : (t : Setup) (r w : Record) (stage number : ℕ) (room : ℕ × ℕ) (x y : ℕ × Digest32) (d : Bisection) → w ≡ and_also r (d ∷ []) → number ≡ length r.disputes + 1 → room ≡ (t.bound, t.fan) →
     d ≡ record { stage = stage; number = number; fan = room.1; first = x.0; second = y.0; place = record { lo = 0; hi = room.0; agreed = t.start; first = x.1; second = y.1 }; past = []; by_first = None; by_second = None; close = None } →
-    w ≡ and_also r (dispute_at t stage (length r.disputes + 1) x y ∷ [])
+    w ≡ and_also r (dispute_of t stage (length r.disputes + 1) x y ∷ [])
 one-opened t r w stage number room x y d ew en er ed =
-    let same : d ≡ dispute_at t stage (length r.disputes + 1) x y = ed ∙ rw (er, en) refl in
+    let same : d ≡ dispute_of t stage (length r.disputes + 1) x y = ed ∙ rw (er, en) refl in
     rw (ew, same) refl
 
 -- where a prover is asked, it is settled
@@ -164,14 +160,9 @@ claims-length (s ∷ ss) (suc k) o = ap suc (claims-length ss k o)
 
 sheet-by : (rules : Rules) (t : Setup) (r : Record) (rooms : List (ℕ × ℕ)) (free p : ℕ) (s : Settled) (b : Bool) → IsSheet t r rooms free →
     IsSheet t (if b then record r { claims = slice_set r.claims (p - 1) (Some s) } else record r { disputes = settled_in rules p s r.disputes }) rooms free
-sheet-by rules t r rooms free p s true i = record { some = i.some; few = i.few; steps = i.steps; short = i.short; parted = i.parted; few_parts = i.few_parts; claims_ = claims-length r.claims (p - 1) (Some s) ∙ i.claims_; stages = i.stages; rooms_ = i.rooms_; room = i.room }
+sheet-by rules t r rooms free p s true i = record { ranges = i.ranges; claims_ = claims-length r.claims (p - 1) (Some s) ∙ i.claims_; stages = i.stages; rooms_ = i.rooms_; room = i.room }
 sheet-by rules t r rooms free p s false i = record {
-  some = i.some;
-  few = i.few;
-  steps = i.steps;
-  short = i.short;
-  parted = i.parted;
-  few_parts = i.few_parts;
+  ranges = i.ranges;
   claims_ = i.claims_;
   stages = rw (stage-settled rules p s r.disputes, many-settled rules p s r.disputes) i.stages;
   rooms_ = i.rooms_;
@@ -234,10 +225,10 @@ pairs-some (suc n) i (z ∷ zs) new rest x y some many ex en e ey er =
     let tz : take_side z.1 zs ≡ Some (y, rest) = ap (λ (w : ℕ × Digest32). take_side w.1 zs) (sym xz) ∙ (ap (take_side x.1) (sym nz) ∙ (t ∙ rw (← ey, er) refl)) in
     rw (l, xz) (ap (λ (o : Taking). elim o [ None ↦ side_pairs n zs | Some u ↦ (z, u.0) ∷ side_pairs n u.1 ]) tz)
 
-pub pairs-opened : (t : Setup) (g : ℕ) (r s u : Record) (x y : ℕ × Digest32) (ps qs : List ((ℕ × Digest32) × (ℕ × Digest32))) → s ≡ and_also r (dispute_at t g (length r.disputes + 1) x y ∷ []) →
+pub pairs-opened : (t : Setup) (g : ℕ) (r s u : Record) (x y : ℕ × Digest32) (ps qs : List ((ℕ × Digest32) × (ℕ × Digest32))) → s ≡ and_also r (dispute_of t g (length r.disputes + 1) x y ∷ []) →
     u ≡ and_also s (disputes_over t g (length s.disputes + 1) ps) → qs ≡ (x, y) ∷ ps → u ≡ and_also r (disputes_over t g (length r.disputes + 1) qs)
 pairs-opened t g r s u x y ps qs es eu eq =
-    let n : length s.disputes ≡ length r.disputes + 1 = ap (λ (z : Record). length z.disputes) es ∙ length-append r.disputes (dispute_at t g (length r.disputes + 1) x y ∷ []) in
+    let n : length s.disputes ≡ length r.disputes + 1 = ap (λ (z : Record). length z.disputes) es ∙ length-append r.disputes (dispute_of t g (length r.disputes + 1) x y ∷ []) in
     rw (eu, n, es, eq, append_assoc) refl
 
 -- the pairs of live provers are those of their sides
@@ -265,7 +256,7 @@ over-by : (r : Ruling) (t : Setup) (g n k : ℕ) (x : ℕ × Claim) (xs : List (
     disputes_over t g k (elim v [ None ↦ side_pairs n (sides r xs) | Some w ↦ (side_of r x, w.0) ∷ side_pairs n w.1 ])
 over-by r t g n k x xs None v e rest = rest k xs ∙ ap (λ (o : Taking). disputes_over t g k (elim o [ None ↦ side_pairs n (sides r xs) | Some w ↦ (side_of r x, w.0) ∷ side_pairs n w.1 ])) (sym e)
 over-by r t g n k x xs (Some u) v e rest =
-    ap (λ (ds : List Bisection). dispute_at t g k (side_of r x) (side_of r u.0) ∷ ds) (rest (k + 1) u.1)
+    ap (λ (ds : List Bisection). dispute_of t g k (side_of r x) (side_of r u.0) ∷ ds) (rest (k + 1) u.1)
     ∙ ap (λ (o : Taking). disputes_over t g k (elim o [ None ↦ side_pairs n (sides r xs) | Some w ↦ (side_of r x, w.0) ∷ side_pairs n w.1 ])) (sym e)
 
 pub over-sides : (r : Ruling) (t : Setup) (g n k : ℕ) (xs : List (ℕ × Claim)) → disputes_of (rules_of r t) g k (pairs_of r n xs) ≡ disputes_over t g k (side_pairs n (sides r xs))
@@ -330,6 +321,6 @@ pub filled-live : (r : Ruling) (rec : Record) (hs gs : List Bisection) (cs bs : 
     xs ≡ zs ++ sides r (live_from gs 1 bs) → xs ≡ sides r (live rec)
 filled-live r rec hs gs cs bs xs zs ed ec ea eb ez e = rw (ed, ec) (rw (ez, ea, eb) at e)
 
-pub rooms_more : (bound fan : ℕ) (rs : List (ℕ × ℕ)) (r : ℕ × ℕ) → AllRooms bound fan rs → r ≡ (bound, fan) → AllRooms bound fan (rs ++ r ∷ [])
-rooms_more bound fan [] r a e = (e, tt)
-rooms_more bound fan (q ∷ rs) r a e = (a.0, rooms_more bound fan rs r a.1 e)
+pub rooms_more : (t : Setup) (rs : List (ℕ × ℕ)) (r : ℕ × ℕ) → AllRooms t rs → r ≡ (t.bound, t.fan) → AllRooms t (rs ++ r ∷ [])
+rooms_more t [] r a e = (e, tt)
+rooms_more t (q ∷ rs) r a e = (a.0, rooms_more t rs r a.1 e)

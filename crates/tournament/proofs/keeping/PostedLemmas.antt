@@ -1,5 +1,5 @@
 -- A match as it is kept.
-use Rattle.std.proofs.Common.{◌≡◌, ◌↔◌, ℕ, zero, suc, ◌+◌, ◌-◌, ◌<◌, ◌≤◌, ◌==◌, Bool, true, if◌then◌else◌, List, [], ◌∷◌, ◌++◌, length, slice_index, slice_index_or, slice_set, Option, Some, None, refl, ◌∙◌, ap, arith}
+use Rattle.std.proofs.Common.{◌≡◌, ◌↔◌, ℕ, zero, suc, ◌+◌, ◌-◌, ◌*◌, ◌<◌, ◌≤◌, ◌==◌, Bool, true, if◌then◌else◌, List, [], ◌∷◌, ◌++◌, length, slice_index, slice_index_or, slice_set, Option, Some, None, refl, ◌∙◌, ap, arith}
 use Rattle.std.proofs.lemmas.Bool.Decides.{nat_tests}
 use Rattle.rd_base.specs.declared.answer.Qid.{Qid}
 use Rattle.bisect_game.specs.declared.settled.Settled.{Settled}
@@ -12,7 +12,9 @@ use Rattle.tournament.specs.Bracket.{Record, open_question, stage_opened, put, s
 use Rattle.tournament.specs.Keeping.{Sheet, IsReached, IsMove, IsMatch}
 use Rattle.tournament.specs.Moves.{MatchState, begun, passes_of, settled_by, moved}
 use Rattle.rd_base.specs.Questions.{same_qid}
-use Rattle.tournament.specs.Posting.{rules_of, posted, posted_on, Post, after_posts, record_after, NobodyAskedIsOver}
+use Rattle.tournament.specs.Posting.{posted, posted_on, Post, after_posts, record_after, NobodyAskedIsOver}
+use Rattle.bisect_game.specs.Rules.{rules_of}
+use Rattle.tournament.specs.Rulings.{rulings_of, RulingsAreFew}
 use Rattle.tournament.specs.Theorem.{AreTrue, Stays, TruthfulStay, IsRightVerdict, VerdictIsRight, FewDisputes, AllShort, FewRounds}
 
 -- a move on the open question is a post
@@ -42,7 +44,7 @@ reached-move rules st p o some r m = (
 
 -- a match that was reached has few disputes after one answer more
 
-settled-few : (rules : Rules) (p : ℕ) (s : Settled) (t : Record) → 0 < rules.provers → IsSettled rules t → length (settle rules p s t).disputes < rules.provers
+settled-few : (rules : Rules) (p : ℕ) (s : Settled) (t : Record) → 0 < rules.setup.provers → IsSettled rules t → length (settle rules p s t).disputes < rules.setup.provers
 settled-few rules p s t some i =
     rw (after-last rules i.list p s (nothing_settled rules), i.comes) at (few_disputes rules (i.list ++ (p, s) ∷ []) some)
 
@@ -56,7 +58,7 @@ settle-is rules p s t = refl
 pub put-few : (r : Ruling) (v : Sheet) (passed : List ℕ) (room p : ℕ) (s : Settled) → IsMatch r v passed room →
     length (stage_opened (rules_of r v.setup) (put (rules_of r v.setup) p s v.record_)).disputes < v.setup.provers
 put-few r v passed room p s m =
-    rw (settle-is (rules_of r v.setup) p s v.record_) (settled-few (rules_of r v.setup) p s v.record_ m.some (reached-settled (rules_of r v.setup) _ m.reached))
+    rw (settle-is (rules_of r v.setup) p s v.record_) (settled-few (rules_of r v.setup) p s v.record_ m.ranges.some (reached-settled (rules_of r v.setup) _ m.reached))
 
 count-length : (xs : List ℕ) (k v : ℕ) → length (slice_set xs k v) ≡ length xs
 count-length [] k v = refl
@@ -68,10 +70,7 @@ pub match-settled : (r : Ruling) (v w : Sheet) (passed : List ℕ) (room wide p 
 match-settled r v w passed room wide p s some move m wt fr ew =
     let wr : w.record_ ≡ settle (rules_of r v.setup) p s v.record_ = fr ∙ settle-is (rules_of r v.setup) p s v.record_ in
     record {
-      some = rw wt m.some;
-      steps = rw wt m.steps;
-      parted = rw wt m.parted;
-      few_parts = rw wt m.few_parts;
+      ranges = rw wt m.ranges;
       counts = rw wt (count-length passed (p - 1) 0 ∙ m.counts);
       reached = rw (wt, wr) (reached-move (rules_of r v.setup) (record { record_ = v.record_; passed = passed }) p (Some s) some m.reached move);
       room_ = rw (wt, ew) m.room_;
@@ -87,10 +86,7 @@ pub match-passed : (r : Ruling) (v : Sheet) (passed : List ℕ) (room p n : ℕ)
 match-passed r v passed room p n some few move is m =
     let same : n ≡ slice_index passed (p - 1) = is ∙ index-same passed (p - 1) n (omega (arith, some, few, m.counts)) in
     record {
-      some = m.some;
-      steps = m.steps;
-      parted = m.parted;
-      few_parts = m.few_parts;
+      ranges = m.ranges;
       counts = count-length passed (p - 1) (n + 1) ∙ m.counts;
       reached = rw same (reached-move (rules_of r v.setup) (record { record_ = v.record_; passed = passed }) p None some m.reached move);
       room_ = m.room_;
@@ -99,7 +95,7 @@ match-passed r v passed room p n some few move is m =
 -- what the laws over lists of posts say of a match
 
 match-playable : (r : Ruling) (s : Sheet) (passed : List ℕ) (room : ℕ) → IsMatch r s passed room → ArePlayable (rules_of r s.setup)
-match-playable r s passed room m = record { some = m.some; parted = m.parted; few_parts = m.few_parts; steps = m.steps }
+match-playable r s passed room m = record { some = m.ranges.some; parted = m.ranges.parted; few_parts = m.ranges.few_parts; steps = m.ranges.steps }
 
 match-record : (r : Ruling) (s : Sheet) (passed : List ℕ) (room : ℕ) (m : IsMatch r s passed room) → record_after (rules_of r s.setup) m.reached.0 ≡ s.record_
 match-record r s passed room m = ap (λ (st : MatchState). st.record_) m.reached.1
@@ -118,10 +114,13 @@ match-verdict right r s passed room m fair t p run some true_ complete =
     rw same at (right (rules_of r s.setup) t m.reached.0 p (match-playable r s passed room m) fair run some (rw (← same) at true_) (rw (← same) at complete))
 
 pub match-disputes : FewDisputes → (r : Ruling) (s : Sheet) (passed : List ℕ) (room : ℕ) → IsMatch r s passed room → length s.record_.disputes < s.setup.provers
-match-disputes few r s passed room m = rw (match-record r s passed room m) at (few (rules_of r s.setup) m.reached.0 m.some)
+match-disputes few r s passed room m = rw (match-record r s passed room m) at (few (rules_of r s.setup) m.reached.0 m.ranges.some)
 
 pub match-rounds : FewRounds → (r : Ruling) (s : Sheet) (passed : List ℕ) (room : ℕ) → IsMatch r s passed room → AllShort (rules_of r s.setup) s.record_.disputes
 match-rounds few r s passed room m = rw (match-record r s passed room m) at (few (rules_of r s.setup) m.reached.0 (match-playable r s passed room m))
+
+pub match-rulings : RulingsAreFew → (r : Ruling) (s : Sheet) (passed : List ℕ) (room : ℕ) → IsMatch r s passed room → rulings_of s.record_.disputes ≤ 2 * (s.setup.provers - 1)
+match-rulings few r s passed room m = rw (match-record r s passed room m) at (few (rules_of r s.setup) m.reached.0 (match-playable r s passed room m))
 
 pub match-over : NobodyAskedIsOver → (r : Ruling) (s : Sheet) (passed : List ℕ) (room : ℕ) → IsMatch r s passed room →
     ((p : ℕ) → 0 < p → p ≤ s.setup.provers → open_question (rules_of r s.setup) s.record_ p ≡ None) ↔ (is_complete s.record_ ≡ true)

@@ -186,24 +186,24 @@ pub record IsStaged (rules : Rules) (t : Record) : Type 0 where
   pub now : List Bisection
   pub parts : t.disputes ≡ past ++ now
   pub over : all_out past ≡ true
-  pub sides : SidesOf (pairs_of rules.ruling rules.provers (live_from past 1 t.claims)) now
-  pub few : length past + length (live_from past 1 t.claims) ≤ rules.provers
+  pub sides : SidesOf (pairs_of rules.ruling rules.setup.provers (live_from past 1 t.claims)) now
+  pub few : length past + length (live_from past 1 t.claims) ≤ rules.setup.provers
   pub some : 0 < length now
 
 pub record IsCounted (rules : Rules) (t : Record) : Type 0 where
-  pub claims : length t.claims ≡ rules.provers
+  pub claims : length t.claims ≡ rules.setup.provers
   pub honest : AllHonest t.disputes
   pub staged : (t.disputes ≡ []) ⊎ IsStaged rules t
 
 -- so there are fewer disputes than provers
-fewer-by : (rules : Rules) (t : Record) → 0 < rules.provers → (t.disputes ≡ []) ⊎ IsStaged rules t → length t.disputes < rules.provers
+fewer-by : (rules : Rules) (t : Record) → 0 < rules.setup.provers → (t.disputes ≡ []) ⊎ IsStaged rules t → length t.disputes < rules.setup.provers
 fewer-by rules t some (inl none) = rw none some
 fewer-by rules t some (inr s) =
-    let n : length s.now ≡ length (pairs_of rules.ruling rules.provers (live_from s.past 1 t.claims)) = sides-length _ s.now s.sides in
-    let f : FewPairs (λ p. true) (live_from s.past 1 t.claims) (pairs_of rules.ruling rules.provers (live_from s.past 1 t.claims)) = few-pairs rules.ruling (λ p. true) rules.provers (live_from s.past 1 t.claims) in
+    let n : length s.now ≡ length (pairs_of rules.ruling rules.setup.provers (live_from s.past 1 t.claims)) = sides-length _ s.now s.sides in
+    let f : FewPairs (λ p. true) (live_from s.past 1 t.claims) (pairs_of rules.ruling rules.setup.provers (live_from s.past 1 t.claims)) = few-pairs rules.ruling (λ p. true) rules.setup.provers (live_from s.past 1 t.claims) in
     rw (s.parts, length-append s.past s.now) (omega (arith, n, f.half, s.few, s.some))
 
-pub fewer : (rules : Rules) (t : Record) → 0 < rules.provers → IsCounted rules t → length t.disputes < rules.provers
+pub fewer : (rules : Rules) (t : Record) → 0 < rules.setup.provers → IsCounted rules t → length t.disputes < rules.setup.provers
 fewer rules t some c = fewer-by rules t some c.staged
 
 -- a settled answer
@@ -257,14 +257,14 @@ honest-second [] es h = h
 honest-second (d ∷ ds) es h = honest-second ds es h.1
 
 next-few : (rules : Rules) (t : Record) → all_out t.disputes ≡ true → IsCounted rules t → (t.disputes ≡ []) ⊎ IsStaged rules t →
-    length t.disputes + length (live_from t.disputes 1 t.claims) ≤ rules.provers
+    length t.disputes + length (live_from t.disputes 1 t.claims) ≤ rules.setup.provers
 next-few rules t outs c (inl none) = rw none (omega (arith, live-few [] 1 t.claims, c.claims))
 next-few rules t outs c (inr s) =
     let o : all_out s.now ≡ true = out-second s.past s.now (rw s.parts at outs) in
     let h : AllHonest s.now = honest-second s.past s.now (rw s.parts at c.honest) in
-    let n : length s.now ≡ length (pairs_of rules.ruling rules.provers (live_from s.past 1 t.claims)) = sides-length _ s.now s.sides in
-    let f : FewPairs (is_out_in s.now) (live_from s.past 1 t.claims) (pairs_of rules.ruling rules.provers (live_from s.past 1 t.claims)) = few-pairs rules.ruling (is_out_in s.now) rules.provers (live_from s.past 1 t.claims) in
-    let one : OneOut (is_out_in s.now) (pairs_of rules.ruling rules.provers (live_from s.past 1 t.claims)) = stage-out _ s.now s.sides o h in
+    let n : length s.now ≡ length (pairs_of rules.ruling rules.setup.provers (live_from s.past 1 t.claims)) = sides-length _ s.now s.sides in
+    let f : FewPairs (is_out_in s.now) (live_from s.past 1 t.claims) (pairs_of rules.ruling rules.setup.provers (live_from s.past 1 t.claims)) = few-pairs rules.ruling (is_out_in s.now) rules.setup.provers (live_from s.past 1 t.claims) in
+    let one : OneOut (is_out_in s.now) (pairs_of rules.ruling rules.setup.provers (live_from s.past 1 t.claims)) = stage-out _ s.now s.sides o h in
     rw (s.parts, length-append s.past s.now, live-append s.past s.now 1 t.claims) (omega (arith, n, f.rest one, s.few))
 
 staged-next : (rules : Rules) (t : Record) → (q : Pair) (ps : List Pair) → pairs rules t ≡ q ∷ ps → all_out t.disputes ≡ true → IsCounted rules t →
@@ -422,9 +422,9 @@ none-length zero = refl
 none-length (suc n) = ap suc (none-length n)
 
 pub ordered-nothing : (rules : Rules) → IsOrdered rules (nothing_settled rules)
-ordered-nothing rules = record { counted = record { claims = none-length rules.provers; honest = tt; staged = inl refl }; first = λ _. refl }
+ordered-nothing rules = record { counted = record { claims = none-length rules.setup.provers; honest = tt; staged = inl refl }; first = λ _. refl }
 
-pub few_disputes : (rules : Rules) (es : List (ℕ × Settled)) → 0 < rules.provers → length (after rules es (nothing_settled rules)).disputes < rules.provers
+pub few_disputes : (rules : Rules) (es : List (ℕ × Settled)) → 0 < rules.setup.provers → length (after rules es (nothing_settled rules)).disputes < rules.setup.provers
 few_disputes rules es some =
     let o : IsOrdered rules (after rules es (nothing_settled rules)) = ordered-after rules es (nothing_settled rules) (ordered-nothing rules) in
     fewer rules (after rules es (nothing_settled rules)) some o.counted

@@ -16,7 +16,8 @@ use Rattle.tournament.proofs.order.JournalLemmas.{IsCount, AreCounts, counts-beg
 use Rattle.tournament.specs.OpenDisputes.{one_if}
 use Rattle.tournament.proofs.OnceLemmas.{IsOpen, opens, is-prover, not-eqb, is-eqb}
 use Rattle.tournament.proofs.OpenedLemmas.{opened-not, opened-due}
-use Rattle.tournament.specs.Bracket.{Record, claim_question, pairs, last_stage, disputes_of, is_stage_due, stage_opened, asks_first, asks_second, question_in, claim_missing, open_question, settled_in, put, settle}
+use Rattle.tournament.specs.Bracket.{Record, pairs, last_stage, disputes_of, is_stage_due, stage_opened, asks_first, asks_second, question_in, claim_missing, open_question, settled_in, put, settle}
+use Rattle.bisect_game.specs.Rules.{claim_question}
 use Rattle.tournament.specs.Journals.{turn, turns}
 use Rattle.tournament.specs.Length.{IsMost, most_entries, SpareIsEnough}
 use Rattle.tournament.specs.Moves.{MatchState, begun, passes_of, settled_by, moved}
@@ -67,8 +68,8 @@ pub record IsSpent (rules : Rules) (says : Says) (n : ℕ) (st : MatchState) : T
   pub counts : AreCounts rules says st
   pub few : AllFew rules st.record_.disputes
   pub ordered : IsOrdered rules st.record_
-  pub length_ : length st.passed ≡ rules.provers
-  pub entries : n ≤ (rules.patience + 1) * settled_count st.record_ + total st.passed
+  pub length_ : length st.passed ≡ rules.setup.provers
+  pub entries : n ≤ (rules.setup.patience + 1) * settled_count st.record_ + total st.passed
 
 module _ (laws : BisectionLaws) where
   -- how much is settled, and how much is awaited
@@ -154,7 +155,7 @@ module _ (laws : BisectionLaws) where
   one-side None true = omega arith
   one-side None false = omega arith
 
-  few-rounds : (rules : Rules) (k : ℕ) (ds : List Bisection) → IsMost rules.fan rules.bound k → AllFew rules ds → answered ds + awaited ds ≤ (2 * (k + 1)) * length ds
+  few-rounds : (rules : Rules) (k : ℕ) (ds : List Bisection) → IsMost rules.setup.fan rules.setup.bound k → AllFew rules ds → answered ds + awaited ds ≤ (2 * (k + 1)) * length ds
   few-rounds rules k [] m h = omega arith
   few-rounds rules k (d ∷ ds) m h =
       omega (arith, m.most (length d.past) (rw h.0.fanned at h.0.few.asked), one-side d.by_first (not (is_closed d)), one-side d.by_second (not (is_closed d)), few-rounds rules k ds m h.1)
@@ -239,28 +240,28 @@ module _ (laws : BisectionLaws) where
       total-few most (k + 1) g xs ss (omega arith) (λ i. let e : k + suc i ≡ k + 1 + i = omega arith in rw e at (few (suc i))) in
       total-more most x (total xs) (one_if (claim_missing (Some s))) (one_if (is_none s)) (g k) (missing ss) (over (k + 1) (length ss) g) (is-missing s) here rest
 
-  few-by : (rules : Rules) (p n : ℕ) (q : Question) (t : Record) (b : Bool) → n ≤ rules.patience →
-      (if b then Some claim_question else question_in p t.disputes) ≡ Some q → n ≤ rules.patience * (one_if b + asking t.disputes p)
+  few-by : (rules : Rules) (p n : ℕ) (q : Question) (t : Record) (b : Bool) → n ≤ rules.setup.patience →
+      (if b then Some claim_question else question_in p t.disputes) ≡ Some q → n ≤ rules.setup.patience * (one_if b + asking t.disputes p)
   few-by rules p n q t true le e =
-      let one : rules.patience * 1 ≤ rules.patience * (1 + asking t.disputes p) = mul-le-mul_left rules.patience (omega arith) in
+      let one : rules.setup.patience * 1 ≤ rules.setup.patience * (1 + asking t.disputes p) = mul-le-mul_left rules.setup.patience (omega arith) in
       omega (arith, one)
   few-by rules p n q t false le e =
-      let one : rules.patience * 1 ≤ rules.patience * (0 + asking t.disputes p) = mul-le-mul_left rules.patience (omega (arith, asking-asked p q t.disputes e)) in
+      let one : rules.setup.patience * 1 ≤ rules.setup.patience * (0 + asking t.disputes p) = mul-le-mul_left rules.setup.patience (omega (arith, asking-asked p q t.disputes e)) in
       omega (arith, one)
 
   few-at : (rules : Rules) (says : Says) (st : MatchState) (p : ℕ) → (passes_of st p ≡ 0) ⊎ ((q : Question) × (open_question rules st.record_ p ≡ Some q) × IsCount rules says p q (passes_of st p)) →
-      passes_of st p ≤ rules.patience * (one_if (claim_missing (slice_get st.record_.claims (p - 1))) + asking st.record_.disputes p)
+      passes_of st p ≤ rules.setup.patience * (one_if (claim_missing (slice_get st.record_.claims (p - 1))) + asking st.record_.disputes p)
   few-at rules says st p (inl none) = omega arith
   few-at rules says st p (inr (q, e, c)) = few-by rules p (passes_of st p) q st.record_ (claim_missing (slice_get st.record_.claims (p - 1))) c.few e
 
   few-passes : (rules : Rules) (says : Says) (st : MatchState) → length st.passed ≡ length st.record_.claims → AreCounts rules says st →
-      total st.passed ≤ rules.patience * (missing st.record_.claims + awaited st.record_.disputes)
+      total st.passed ≤ rules.setup.patience * (missing st.record_.claims + awaited st.record_.disputes)
   few-passes rules says st same cs =
-      let t : total st.passed ≤ rules.patience * (missing st.record_.claims + over 1 (length st.record_.claims) (asking st.record_.disputes)) =
-      total-few rules.patience 1 (asking st.record_.disputes) st.passed st.record_.claims same
+      let t : total st.passed ≤ rules.setup.patience * (missing st.record_.claims + over 1 (length st.record_.claims) (asking st.record_.disputes)) =
+      total-few rules.setup.patience 1 (asking st.record_.disputes) st.passed st.record_.claims same
       (λ i. let at : 1 + i - 1 ≡ i = omega arith in rw at at (few-at rules says st (1 + i) (cs.counts (1 + i) (omega arith)))) in
-      let o : rules.patience * (missing st.record_.claims + over 1 (length st.record_.claims) (asking st.record_.disputes)) ≤ rules.patience * (missing st.record_.claims + awaited st.record_.disputes) =
-      mul-le-mul_left rules.patience (omega (arith, over-asking 1 (length st.record_.claims) st.record_.disputes)) in
+      let o : rules.setup.patience * (missing st.record_.claims + over 1 (length st.record_.claims) (asking st.record_.disputes)) ≤ rules.setup.patience * (missing st.record_.claims + awaited st.record_.disputes) =
+      mul-le-mul_left rules.setup.patience (omega (arith, over-asking 1 (length st.record_.claims) st.record_.disputes)) in
       omega (arith, t, o)
 
   -- what a journal of so many entries comes to
@@ -270,15 +271,15 @@ module _ (laws : BisectionLaws) where
       let m : (patience + 1) * (a + 1) ≤ (patience + 1) * b = mul-le-mul_left (patience + 1) more in
       omega (arith, m)
 
-  entries-moved : (rules : Rules) (n p : ℕ) (q : Question) (st : MatchState) (o : Option Settled) → p - 1 < length st.passed → passes_of st p ≤ rules.patience → open_question rules st.record_ p ≡ Some q →
-      n ≤ (rules.patience + 1) * settled_count st.record_ + total st.passed →
-      suc n ≤ (rules.patience + 1) * settled_count (moved rules st p o).record_ + total (moved rules st p o).passed
+  entries-moved : (rules : Rules) (n p : ℕ) (q : Question) (st : MatchState) (o : Option Settled) → p - 1 < length st.passed → passes_of st p ≤ rules.setup.patience → open_question rules st.record_ p ≡ Some q →
+      n ≤ (rules.setup.patience + 1) * settled_count st.record_ + total st.passed →
+      suc n ≤ (rules.setup.patience + 1) * settled_count (moved rules st p o).record_ + total (moved rules st p o).passed
   entries-moved rules n p q st None lt few e le = omega (arith, total-set st.passed (p - 1) (passes_of st p + 1) lt)
   entries-moved rules n p q st (Some s) lt few e le =
-      spent-settled rules.patience n (settled_count st.record_) (settled_count (settle rules p s st.record_)) (total st.passed) (total (slice_set st.passed (p - 1) 0)) (passes_of st p) le
+      spent-settled rules.setup.patience n (settled_count st.record_) (settled_count (settle rules p s st.record_)) (total st.passed) (total (slice_set st.passed (p - 1) 0)) (passes_of st p) le
       (count-settle rules p s q st.record_ e) (omega (arith, total-set st.passed (p - 1) 0 lt)) few
 
-  few-moved : (rules : Rules) (p : ℕ) (st : MatchState) (o : Option Settled) → 1 < rules.fan → 0 < rules.bound → AllFew rules st.record_.disputes → AllFew rules (moved rules st p o).record_.disputes
+  few-moved : (rules : Rules) (p : ℕ) (st : MatchState) (o : Option Settled) → 1 < rules.setup.fan → 0 < rules.setup.bound → AllFew rules st.record_.disputes → AllFew rules (moved rules st p o).record_.disputes
   few-moved rules p st None more long h = h
   few-moved rules p st (Some s) more long h = (few-settle laws) rules p s st.record_ more long h
 
@@ -290,12 +291,12 @@ module _ (laws : BisectionLaws) where
   length-moved rules p st None = nat-length st.passed (p - 1) (passes_of st p + 1)
   length-moved rules p st (Some s) = nat-length st.passed (p - 1) 0
 
-  pub spent-turn : (rules : Rules) (says : Says) → 1 < rules.fan → 0 < rules.bound → (n : ℕ) (st : MatchState) (p : ℕ) (q : Question) → 0 < p → open_question rules st.record_ p ≡ Some q →
+  pub spent-turn : (rules : Rules) (says : Says) → 1 < rules.setup.fan → 0 < rules.setup.bound → (n : ℕ) (st : MatchState) (p : ℕ) (q : Question) → 0 < p → open_question rules st.record_ p ≡ Some q →
       IsSpent rules says n st → IsSpent rules says (suc n) (turn rules says st p q)
   spent-turn rules says more long n st p q some asked i =
       let o : Option Settled = settled_by rules q (passes_of st p) (says p q (passes_of st p)) in
       let c : IsCount rules says p q (passes_of st p) = (count-by laws) rules says st p q asked (i.counts.counts p some) in
-      let le : p ≤ rules.provers = is-prover rules p q st.record_ some (i.counts.apart p) asked in
+      let le : p ≤ rules.setup.provers = is-prover rules p q st.record_ some (i.counts.apart p) asked in
       record {
         counts = (counts-turn laws) rules says st p q (turn rules says st p q) ((turned laws) rules says st p q some asked i.counts);
         few = few-moved rules p st (settled_by rules q (passes_of st p) (says p q (passes_of st p))) more long i.few;
@@ -313,7 +314,7 @@ module _ (laws : BisectionLaws) where
     counts = (counts-begun laws) rules says;
     few = tt;
     ordered = ordered-nothing rules;
-    length_ = count-length rules.provers;
+    length_ = count-length rules.setup.provers;
     entries = omega arith;
   }
 
@@ -325,9 +326,9 @@ module _ (laws : BisectionLaws) where
       let e : (p + 1) * (m + (2 * (k + 1)) * (m - 1)) ≡ (p + 1) * (m + 2 * (m - 1) * (k + 1)) = ap (λ (z : ℕ). (p + 1) * (m + z)) (omega arith) in
       omega (arith, le, few, u, e)
 
-  pub spent-few : (rules : Rules) (says : Says) (n k : ℕ) (st : MatchState) → 0 < rules.provers → IsMost rules.fan rules.bound k → IsSpent rules says n st → n ≤ most_entries rules k
+  pub spent-few : (rules : Rules) (says : Says) (n k : ℕ) (st : MatchState) → 0 < rules.setup.provers → IsMost rules.setup.fan rules.setup.bound k → IsSpent rules says n st → n ≤ most_entries rules.setup k
   spent-few rules says n k st some m i =
-      enough-by n rules.patience rules.provers k (length st.record_.disputes) (missing st.record_.claims) (there st.record_.claims) (answered st.record_.disputes) (awaited st.record_.disputes) (total st.passed)
+      enough-by n rules.setup.patience rules.setup.provers k (length st.record_.disputes) (missing st.record_.claims) (there st.record_.claims) (answered st.record_.disputes) (awaited st.record_.disputes) (total st.passed)
       i.entries
       (few-passes rules says st (i.length_ ∙ sym i.ordered.counted.claims) i.counts)
       (there-missing st.record_.claims ∙ i.ordered.counted.claims)
@@ -336,9 +337,9 @@ module _ (laws : BisectionLaws) where
 
   pub spare_is_enough : SpareIsEnough
   spare_is_enough rules says ps k playable m legal =
-      let some : 0 < rules.provers = playable.some in
-      let more : 1 < rules.fan = playable.parted in
-      let long : 0 < rules.bound = playable.steps in
+      let some : 0 < rules.setup.provers = playable.some in
+      let more : 1 < rules.setup.fan = playable.parted in
+      let long : 0 < rules.setup.bound = playable.steps in
       let i : IsSpent rules says (0 + length ps) (turns rules says ps (begun rules)) =
       (turns-keep laws) rules says (IsSpent rules says) (spent-turn rules says more long) ps 0 (begun rules) legal (spent-begun rules says) in
       let e : 0 + length ps ≡ length ps = omega arith in

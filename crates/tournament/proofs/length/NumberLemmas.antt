@@ -121,19 +121,19 @@ numbered-both : (m n : ℕ) (ds es : List Bisection) → AreNumbered m n ds → 
 numbered-both m n [] es a b = let e : n + 0 ≡ n = omega arith in rw e at b
 numbered-both m n (d ∷ ds) es a b = let e : n + suc (length ds) ≡ n + 1 + length ds = omega arith in (a.0, numbered-both m (n + 1) ds es a.1 (rw e at b))
 
-opened-provers : (rules : Rules) (t : Record) → IsOfProvers rules.provers t → IsOfProvers rules.provers (stage_opened rules t)
+opened-provers : (rules : Rules) (t : Record) → IsOfProvers rules.setup.provers t → IsOfProvers rules.setup.provers (stage_opened rules t)
 unfolding stage_opened
 opened-provers rules t i = by (is_stage_due rules t)
   where
-    by : (due : Bool) → IsOfProvers rules.provers (if due then record t { disputes = t.disputes ++ disputes_of rules (last_stage t.disputes + 1) (length t.disputes + 1) (pairs rules t) } else t)
+    by : (due : Bool) → IsOfProvers rules.setup.provers (if due then record t { disputes = t.disputes ++ disputes_of rules (last_stage t.disputes + 1) (length t.disputes + 1) (pairs rules t) } else t)
     by false = i
     by true =
-        let count : length t.claims ≡ rules.provers = i.claims in
-        let are : AllProvers rules.provers (live t) = live-provers rules.provers 1 t.disputes t.claims (omega arith) (omega (arith, count)) in
+        let count : length t.claims ≡ rules.setup.provers = i.claims in
+        let are : AllProvers rules.setup.provers (live t) = live-provers rules.setup.provers 1 t.disputes t.claims (omega arith) (omega (arith, count)) in
         let next : length t.disputes + 1 ≡ 1 + length t.disputes = omega arith in
-        let fresh : AreNumbered rules.provers (length t.disputes + 1) (disputes_of rules (last_stage t.disputes + 1) (length t.disputes + 1) (pairs rules t)) =
-        numbered-pairs rules rules.provers (last_stage t.disputes + 1) (length t.disputes + 1) (pairs rules t) (pairs-provers rules.provers rules.ruling rules.provers (live t) are) in
-        record { claims = i.claims; disputes = numbered-both rules.provers 1 t.disputes _ i.disputes (rw (sym next) fresh) }
+        let fresh : AreNumbered rules.setup.provers (length t.disputes + 1) (disputes_of rules (last_stage t.disputes + 1) (length t.disputes + 1) (pairs rules t)) =
+        numbered-pairs rules rules.setup.provers (last_stage t.disputes + 1) (length t.disputes + 1) (pairs rules t) (pairs-provers rules.setup.provers rules.ruling rules.setup.provers (live t) are) in
+        record { claims = i.claims; disputes = numbered-both rules.setup.provers 1 t.disputes _ i.disputes (rw (sym next) fresh) }
 
 -- settling
 
@@ -142,18 +142,18 @@ set-length [] k o = refl
 set-length (s ∷ ss) zero o = refl
 set-length (s ∷ ss) (suc k) o = ap suc (set-length ss k o)
 
-put-provers : (rules : Rules) (p : ℕ) (s : Settled) (t : Record) → IsOfProvers rules.provers t → IsOfProvers rules.provers (put rules p s t)
+put-provers : (rules : Rules) (p : ℕ) (s : Settled) (t : Record) → IsOfProvers rules.setup.provers t → IsOfProvers rules.setup.provers (put rules p s t)
 put-provers rules p s t i = by (claim_missing (slice_get t.claims (p - 1)))
   where
-    by : (missing : Bool) → IsOfProvers rules.provers (if missing then record t { claims = slice_set t.claims (p - 1) (Some s) } else record t { disputes = settled_in rules p s t.disputes })
+    by : (missing : Bool) → IsOfProvers rules.setup.provers (if missing then record t { claims = slice_set t.claims (p - 1) (Some s) } else record t { disputes = settled_in rules p s t.disputes })
     by true = record { claims = set-length t.claims (p - 1) (Some s) ∙ i.claims; disputes = i.disputes }
-    by false = record { claims = i.claims; disputes = numbered-settled rules rules.provers 1 p s t.disputes i.disputes }
+    by false = record { claims = i.claims; disputes = numbered-settled rules rules.setup.provers 1 p s t.disputes i.disputes }
 
-settle-provers : (rules : Rules) (p : ℕ) (s : Settled) (t : Record) → IsOfProvers rules.provers t → IsOfProvers rules.provers (settle rules p s t)
+settle-provers : (rules : Rules) (p : ℕ) (s : Settled) (t : Record) → IsOfProvers rules.setup.provers t → IsOfProvers rules.setup.provers (settle rules p s t)
 unfolding settle
 settle-provers rules p s t i = opened-provers rules (put rules p s t) (put-provers rules p s t i)
 
-after-provers : (rules : Rules) (es : List (ℕ × Settled)) (t : Record) → IsOfProvers rules.provers t → IsOfProvers rules.provers (after rules es t)
+after-provers : (rules : Rules) (es : List (ℕ × Settled)) (t : Record) → IsOfProvers rules.setup.provers t → IsOfProvers rules.setup.provers (after rules es t)
 after-provers rules [] t i = i
 after-provers rules (e ∷ es) t i = after-provers rules es (settle rules e.0 e.1 t) (settle-provers rules e.0 e.1 t i)
 
@@ -164,4 +164,4 @@ replicate-length (suc n) o = ap suc (replicate-length n o)
 pub records-are-of-provers : PostsSettle → RecordsAreOfProvers
 records-are-of-provers settles rules xs =
     let s = settles rules xs in
-    subst (IsOfProvers rules.provers) s.2 (after-provers rules s.0 (nothing_settled rules) (record { claims = replicate-length rules.provers None; disputes = tt }))
+    subst (IsOfProvers rules.setup.provers) s.2 (after-provers rules s.0 (nothing_settled rules) (record { claims = replicate-length rules.setup.provers None; disputes = tt }))

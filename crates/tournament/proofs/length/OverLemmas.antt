@@ -10,7 +10,8 @@ use Rattle.bisect_game.specs.Bisection.{Bisection, is_closed, question_of, settl
 use Rattle.bisect_game.specs.Rules.{Rules}
 use Rattle.tournament.proofs.OnceLemmas.{IsApart, apart-nothing, apart-settle, engaged-asked, is-prover}
 use Rattle.tournament.proofs.OpenedLemmas.{opened-not, opened-due}
-use Rattle.tournament.specs.Bracket.{Record, claim_question, pairs, last_stage, disputes_of, is_stage_due, stage_opened, nothing_settled, asks_first, asks_second, question_in, claim_missing, open_question, settled_in, put, settle, all_there, all_closed, is_complete}
+use Rattle.tournament.specs.Bracket.{Record, pairs, last_stage, disputes_of, is_stage_due, stage_opened, nothing_settled, asks_first, asks_second, question_in, claim_missing, open_question, settled_in, put, settle, all_there, all_closed, is_complete}
+use Rattle.bisect_game.specs.Rules.{claim_question}
 use Rattle.tournament.specs.Settling.{after}
 use Rattle.bisect_game.specs.OverAnswers.{Waits, IsWaiting}
 use Rattle.bisect_game.specs.declared.settled.Side.TheVariants.{First, Second}
@@ -118,11 +119,11 @@ module _ (laws : BisectionLaws) where
   there-at (Some s ∷ ss) zero e = refl
   there-at (Some s ∷ ss) (suc k) e = there-at ss k e
 
-  some-none : (p : ℕ) (rules : Rules) (t : Record) (q : Question) → ((r : ℕ) → IsApart rules r t) → ((r : ℕ) → 0 < r → r ≤ rules.provers → open_question rules t r ≡ None) → 0 < p → open_question rules t p ≡ Some q → ⊥
+  some-none : (p : ℕ) (rules : Rules) (t : Record) (q : Question) → ((r : ℕ) → IsApart rules r t) → ((r : ℕ) → 0 < r → r ≤ rules.setup.provers → open_question rules t r ≡ None) → 0 < p → open_question rules t p ≡ Some q → ⊥
   some-none p rules t q apart none some e =
       let z : open_question rules t p ≡ None = none p some (is-prover rules p q t some (apart p) e) in absurd (cc)
 
-  pub complete-is : (rules : Rules) (t : Record) → ((p : ℕ) → IsApart rules p t) → AllMove t.disputes → ((p : ℕ) → 0 < p → p ≤ rules.provers → open_question rules t p ≡ None) → is_complete t ≡ true
+  pub complete-is : (rules : Rules) (t : Record) → ((p : ℕ) → IsApart rules p t) → AllMove t.disputes → ((p : ℕ) → 0 < p → p ≤ rules.setup.provers → open_question rules t p ≡ None) → is_complete t ≡ true
   complete-is rules t apart moves none =
       elim (cases_Bool (all_there t.claims)) [
         | inr part ↦
@@ -170,7 +171,7 @@ module _ (laws : BisectionLaws) where
       rw (there-at t.claims (p - 1) two.0) (closed-none p t.disputes two.1)
 
   pub over-after : (rules : Rules) (es : List (ℕ × Settled)) →
-      ((p : ℕ) → 0 < p → p ≤ rules.provers → open_question rules (after rules es (nothing_settled rules)) p ≡ None) ↔ (is_complete (after rules es (nothing_settled rules)) ≡ true)
+      ((p : ℕ) → 0 < p → p ≤ rules.setup.provers → open_question rules (after rules es (nothing_settled rules)) p ≡ None) ↔ (is_complete (after rules es (nothing_settled rules)) ≡ true)
   over-after rules es = (
     (λ none. complete-is rules (after rules es (nothing_settled rules)) (λ p. apart-after rules p es (nothing_settled rules) (apart-nothing rules p)) (moves-after rules es (nothing_settled rules) tt) none),
     (λ over p some le. complete-none rules (after rules es (nothing_settled rules)) p over),

@@ -25,7 +25,8 @@ use Rattle.tournament.proofs.SidesLemmas.{round-closed, round-open}
 use Rattle.tournament.proofs.StageLemmas.{IsPlayed, played-settle, played-nothing, steps-settle}
 use Rattle.tournament.proofs.order.StagedLemmas.{bracket-fixed}
 use Rattle.tournament.specs.Asked.{kind_in, kind_of, asked_in, asked, AskedByTheCase, QuestionsStay}
-use Rattle.tournament.specs.Bracket.{Record, claim_question, pairs, last_stage, disputes_of, is_stage_due, stage_opened, carried, stage_over, bracket, asks_first, asks_second, question_in, claim_missing, open_question, settled_in, put, settle}
+use Rattle.tournament.specs.Bracket.{Record, pairs, last_stage, disputes_of, is_stage_due, stage_opened, carried, stage_over, bracket, asks_first, asks_second, question_in, claim_missing, open_question, settled_in, put, settle}
+use Rattle.bisect_game.specs.Rules.{claim_question}
 use Rattle.tournament.specs.Journals.{turn, turn_on, turns, answers_of}
 use Rattle.tournament.specs.Moves.{MatchState, begun, passes_of, settled_by, moved}
 use Rattle.bisect_game.specs.Laws.{BisectionLaws}
@@ -118,7 +119,7 @@ module _ (laws : BisectionLaws) where
   all-played : (rules : Rules) (f : Answers) (ds : List Bisection) → AllGoOn ds (map (played rules f) ds)
   unfolding played
   all-played rules f [] = tt
-  all-played rules f (d ∷ ds) = (on-rounds rules.ruling f rules.bound d, all-played rules f ds)
+  all-played rules f (d ∷ ds) = (on-rounds rules.ruling f rules.setup.bound d, all-played rules f ds)
 
   all-opened : (rules : Rules) (t : Record) → AllGoOn t.disputes (stage_opened rules t).disputes
   all-opened rules t =
@@ -275,7 +276,7 @@ module _ (laws : BisectionLaws) where
   reach_on h x y z (inr e) fixed (zero, r) = (zero, e ∙ (ap h r ∙ fixed))
   reach_on h x y z (inr e) fixed (suc n, r) = (n, ap (iterate h n) e ∙ r)
 
-  way-by : (rules : Rules) (says : Says) (n : ℕ) (st u : MatchState) (p : ℕ) (q : Question) → 0 < rules.provers → 1 < rules.fan → 0 < rules.bound → 0 < p → open_question rules st.record_ p ≡ Some q →
+  way-by : (rules : Rules) (says : Says) (n : ℕ) (st u : MatchState) (p : ℕ) (q : Question) → 0 < rules.setup.provers → 1 < rules.setup.fan → 0 < rules.setup.bound → 0 < p → open_question rules st.record_ p ≡ Some q →
       Turned rules says st p q u → IsOnWay rules says n st → IsOnWay rules says (suc n) u
   way-by rules says n st u p q some more long numbered asked (Passed same cs) i =
       record { counts = cs; played = rw same i.played; numbered = rw same i.numbered; reaches = rw same i.reaches }
@@ -290,11 +291,11 @@ module _ (laws : BisectionLaws) where
             ((bracket-fixed laws) rules (answers_of rules says) some more long) i.reaches);
       }
 
-  pub way-begun : (rules : Rules) (says : Says) → 0 < rules.provers → IsOnWay rules says 0 (begun rules)
+  pub way-begun : (rules : Rules) (says : Says) → 0 < rules.setup.provers → IsOnWay rules says 0 (begun rules)
   unfolding bracket
-  way-begun rules says some = record { counts = (counts-begun laws) rules says; played = (played-nothing laws) rules some; numbered = tt; reaches = (rules.provers, refl) }
+  way-begun rules says some = record { counts = (counts-begun laws) rules says; played = (played-nothing laws) rules some; numbered = tt; reaches = (rules.setup.provers, refl) }
 
-  pub way-turn : (rules : Rules) (says : Says) → 0 < rules.provers → 1 < rules.fan → 0 < rules.bound → (n : ℕ) (st : MatchState) (p : ℕ) (q : Question) → 0 < p → open_question rules st.record_ p ≡ Some q →
+  pub way-turn : (rules : Rules) (says : Says) → 0 < rules.setup.provers → 1 < rules.setup.fan → 0 < rules.setup.bound → (n : ℕ) (st : MatchState) (p : ℕ) (q : Question) → 0 < p → open_question rules st.record_ p ≡ Some q →
       IsOnWay rules says n st → IsOnWay rules says (suc n) (turn rules says st p q)
   way-turn rules says some more long n st p q numbered asked i =
       way-by rules says n st (turn rules says st p q) p q some more long numbered asked ((turned laws) rules says st p q numbered asked i.counts) i
@@ -309,9 +310,9 @@ module _ (laws : BisectionLaws) where
 
   pub asked_by_the_case : AskedByTheCase
   asked_by_the_case rules says ps p q playable legal numbered e =
-      let some : 0 < rules.provers = playable.some in
-      let more : 1 < rules.fan = playable.parted in
-      let long : 0 < rules.bound = playable.steps in
+      let some : 0 < rules.setup.provers = playable.some in
+      let more : 1 < rules.setup.fan = playable.parted in
+      let long : 0 < rules.setup.bound = playable.steps in
       let i : IsOnWay rules says (0 + length ps) (turns rules says ps (begun rules)) =
       (turns-keep laws) rules says (IsOnWay rules says) (way-turn rules says some more long) ps 0 (begun rules) legal (way-begun rules says some) in
       way-asked rules says (0 + length ps) (turns rules says ps (begun rules)) p q i e

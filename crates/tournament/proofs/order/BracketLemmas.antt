@@ -7,7 +7,8 @@ use Rattle.bisect_game.specs.declared.question.Question.{Question}
 use Rattle.rd_base.specs.declared.claim.Claim.{Claim}
 use Rattle.bisect_game.specs.declared.settled.Settled.{Settled}
 use Rattle.bisect_game.specs.Bisection.{Bisection, is_closed}
-use Rattle.bisect_game.specs.Disputes.{Answers, filled, round_over, played, or_else}
+use Rattle.bisect_game.specs.Disputes.{Answers, filled, round_over, played}
+use Rattle.std.specs.Option.{option_or}
 use Rattle.bisect_game.specs.Rules.{Rules}
 use Rattle.bisect_game.specs.Says.{Says}
 use Rattle.tournament.proofs.length.CountLemmas.{IsOrdered, ordered-settle, ordered-nothing, fewer}
@@ -17,7 +18,8 @@ use Rattle.tournament.proofs.ReachLemmas.{iterate-fixed, reach_one}
 use Rattle.tournament.proofs.RoundLemmas.{IsWithin, within-advanced}
 use Rattle.tournament.proofs.SidesLemmas.{round-closed, round-open}
 use Rattle.tournament.proofs.StageLemmas.{AllWithin, within-opened, Ends, played-nothing}
-use Rattle.tournament.specs.Bracket.{Record, claim_question, pairs, last_stage, disputes_of, is_stage_due, stage_opened, claims_over, carried, stage_over, nothing_settled, bracket, open_question}
+use Rattle.tournament.specs.Bracket.{Record, pairs, last_stage, disputes_of, is_stage_due, stage_opened, claims_over, carried, stage_over, nothing_settled, bracket, open_question}
+use Rattle.bisect_game.specs.Rules.{claim_question}
 use Rattle.tournament.specs.Journals.{turn_on, turns, answers_of, RecordOfCase}
 use Rattle.tournament.specs.Moves.{MatchState, begun, passes_of, settled_by, moved}
 use Rattle.bisect_game.specs.Laws.{BisectionLaws}
@@ -28,25 +30,25 @@ Grows rules f t = (stage_over rules f (stage_over rules f t) ≡ stage_over rule
 module _ (laws : BisectionLaws) where
   -- intervals stay within
 
-  within-round : (rules : Rules) (f : Answers) (d : Bisection) → 1 < rules.fan → IsWithin rules d → IsWithin rules (round_over rules.ruling f d)
+  within-round : (rules : Rules) (f : Answers) (d : Bisection) → 1 < rules.setup.fan → IsWithin rules d → IsWithin rules (round_over rules.ruling f d)
   within-round rules f d more w =
       elim (cases_Bool (is_closed d)) [
         | inl closed ↦ rw (round-closed rules.ruling f d closed) w
         | inr still ↦ rw (round-open rules.ruling f d still) ((within-advanced laws) rules (filled f d) (filled f d).by_first (filled f d).by_second more (record { fanned = w.fanned; some = w.some; high = w.high; past = w.past }))
       ]
 
-  within-rounds : (rules : Rules) (f : Answers) (n : ℕ) (d : Bisection) → 1 < rules.fan → IsWithin rules d → IsWithin rules (iterate (round_over rules.ruling f) n d)
+  within-rounds : (rules : Rules) (f : Answers) (n : ℕ) (d : Bisection) → 1 < rules.setup.fan → IsWithin rules d → IsWithin rules (iterate (round_over rules.ruling f) n d)
   within-rounds rules f zero d more w = w
   within-rounds rules f (suc n) d more w = within-rounds rules f n (round_over rules.ruling f d) more (within-round rules f d more w)
 
-  within-played : (rules : Rules) (f : Answers) (ds : List Bisection) → 1 < rules.fan → AllWithin rules ds → AllWithin rules (map (played rules f) ds)
+  within-played : (rules : Rules) (f : Answers) (ds : List Bisection) → 1 < rules.setup.fan → AllWithin rules ds → AllWithin rules (map (played rules f) ds)
   unfolding played
   within-played rules f [] more w = tt
-  within-played rules f (d ∷ ds) more w = (within-rounds rules f rules.bound d more w.0, within-played rules f ds more w.1)
+  within-played rules f (d ∷ ds) more w = (within-rounds rules f rules.setup.bound d more w.0, within-played rules f ds more w.1)
 
   -- what is carried on is carried on no further
 
-  or-none : (o : Option Settled) → or_else o o ≡ o
+  or-none : (o : Option Settled) → option_or o o ≡ o
   or-none (Some s) = refl
   or-none None = refl
 
@@ -55,22 +57,22 @@ module _ (laws : BisectionLaws) where
   claims-twice f p (Some s ∷ ss) = ap (λ (zs : List (Option Settled)). Some s ∷ zs) (claims-twice f (p + 1) ss)
   claims-twice f p (None ∷ ss) = rw (or-none (f p claim_question), claims-twice f (p + 1) ss) refl
 
-  played-twice : (rules : Rules) (f : Answers) (ds : List Bisection) → 1 < rules.fan → AllWithin rules ds → map (played rules f) (map (played rules f) ds) ≡ map (played rules f) ds
+  played-twice : (rules : Rules) (f : Answers) (ds : List Bisection) → 1 < rules.setup.fan → AllWithin rules ds → map (played rules f) (map (played rules f) ds) ≡ map (played rules f) ds
   unfolding played
   played-twice rules f [] more w = refl
   played-twice rules f (d ∷ ds) more w =
-      let e : round_over rules.ruling f (iterate (round_over rules.ruling f) rules.bound d) ≡ iterate (round_over rules.ruling f) rules.bound d = laws.played.enough rules.ruling f rules.bound d (omega (arith, more, w.0.fanned)) w.0.some (omega (arith, w.0.high)) in
-      rw (iterate-fixed (round_over rules.ruling f) rules.bound (iterate (round_over rules.ruling f) rules.bound d) e, played-twice rules f ds more w.1) refl
+      let e : round_over rules.ruling f (iterate (round_over rules.ruling f) rules.setup.bound d) ≡ iterate (round_over rules.ruling f) rules.setup.bound d = laws.played.enough rules.ruling f rules.setup.bound d (omega (arith, more, w.0.fanned)) w.0.some (omega (arith, w.0.high)) in
+      rw (iterate-fixed (round_over rules.ruling f) rules.setup.bound (iterate (round_over rules.ruling f) rules.setup.bound d) e, played-twice rules f ds more w.1) refl
 
-  carried-twice : (rules : Rules) (f : Answers) (t : Record) → 1 < rules.fan → AllWithin rules t.disputes → carried rules f (carried rules f t) ≡ carried rules f t
+  carried-twice : (rules : Rules) (f : Answers) (t : Record) → 1 < rules.setup.fan → AllWithin rules t.disputes → carried rules f (carried rules f t) ≡ carried rules f t
   unfolding carried
   carried-twice rules f t more w = rw (claims-twice f 1 t.claims, played-twice rules f t.disputes more w) refl
 
-  within-stage : (rules : Rules) (f : Answers) (t : Record) → 1 < rules.fan → 0 < rules.bound → AllWithin rules t.disputes → AllWithin rules (stage_over rules f t).disputes
+  within-stage : (rules : Rules) (f : Answers) (t : Record) → 1 < rules.setup.fan → 0 < rules.setup.bound → AllWithin rules t.disputes → AllWithin rules (stage_over rules f t).disputes
   unfolding carried
   within-stage rules f t more long w = (within-opened laws) rules (carried rules f t) long (within-played rules f t.disputes more w)
 
-  pub within-stages : (rules : Rules) (f : Answers) (n : ℕ) (t : Record) → 1 < rules.fan → 0 < rules.bound → AllWithin rules t.disputes → AllWithin rules (iterate (stage_over rules f) n t).disputes
+  pub within-stages : (rules : Rules) (f : Answers) (n : ℕ) (t : Record) → 1 < rules.setup.fan → 0 < rules.setup.bound → AllWithin rules t.disputes → AllWithin rules (iterate (stage_over rules f) n t).disputes
   within-stages rules f zero t more long w = w
   within-stages rules f (suc n) t more long w = within-stages rules f n (stage_over rules f t) more long (within-stage rules f t more long w)
 
@@ -88,12 +90,12 @@ module _ (laws : BisectionLaws) where
   new-length rules g n [] = refl
   new-length rules g n (p ∷ ps) = ap suc (new-length rules g (n + 1) ps)
 
-  still : (rules : Rules) (f : Answers) (t : Record) → 1 < rules.fan → AllWithin rules t.disputes → stage_opened rules (carried rules f t) ≡ carried rules f t →
+  still : (rules : Rules) (f : Answers) (t : Record) → 1 < rules.setup.fan → AllWithin rules t.disputes → stage_opened rules (carried rules f t) ≡ carried rules f t →
       stage_over rules f (stage_over rules f t) ≡ stage_over rules f t
   still rules f t more w e =
       ap (λ (u : Record). stage_opened rules (carried rules f u)) e ∙ ap (stage_opened rules) (carried-twice rules f t more w)
 
-  grows-by : (rules : Rules) (f : Answers) (t : Record) (ps : List ((ℕ × Claim) × (ℕ × Claim))) → 1 < rules.fan → AllWithin rules t.disputes → is_stage_due rules (carried rules f t) ≡ true →
+  grows-by : (rules : Rules) (f : Answers) (t : Record) (ps : List ((ℕ × Claim) × (ℕ × Claim))) → 1 < rules.setup.fan → AllWithin rules t.disputes → is_stage_due rules (carried rules f t) ≡ true →
       pairs rules (carried rules f t) ≡ ps → Grows rules f t
   grows-by rules f t [] more w due e =
       inl (still rules f t more w (opened-due rules (carried rules f t) due ∙ rw (e, append-nil) refl))
@@ -103,27 +105,27 @@ module _ (laws : BisectionLaws) where
       let k : length (pairs rules (carried rules f t)) ≡ suc (length ps) = ap length e in
       inr (omega (arith, n, k, carried-length rules f t))
 
-  grows : (rules : Rules) (f : Answers) (t : Record) → 1 < rules.fan → AllWithin rules t.disputes → Grows rules f t
+  grows : (rules : Rules) (f : Answers) (t : Record) → 1 < rules.setup.fan → AllWithin rules t.disputes → Grows rules f t
   grows rules f t more w =
       elim (cases_Bool (is_stage_due rules (carried rules f t))) [
         | inl due ↦ grows-by rules f t (pairs rules (carried rules f t)) more w due refl
         | inr not_due ↦ inl (still rules f t more w (opened-not rules (carried rules f t) not_due))
       ]
 
-  longer : (rules : Rules) (f : Answers) (t : Record) → 1 < rules.fan → AllWithin rules t.disputes → length t.disputes ≤ length (stage_over rules f t).disputes
+  longer : (rules : Rules) (f : Answers) (t : Record) → 1 < rules.setup.fan → AllWithin rules t.disputes → length t.disputes ≤ length (stage_over rules f t).disputes
   longer rules f t more w =
       elim (cases_Bool (is_stage_due rules (carried rules f t))) [
         | inl due ↦ rw (opened-due rules (carried rules f t) due, length-append (carried rules f t).disputes _, carried-length rules f t) (omega arith)
         | inr not_due ↦ rw (opened-not rules (carried rules f t) not_due, carried-length rules f t) (omega arith)
       ]
 
-  longer-all : (rules : Rules) (f : Answers) (n : ℕ) (t : Record) → 1 < rules.fan → 0 < rules.bound → AllWithin rules t.disputes → length t.disputes ≤ length (iterate (stage_over rules f) n t).disputes
+  longer-all : (rules : Rules) (f : Answers) (n : ℕ) (t : Record) → 1 < rules.setup.fan → 0 < rules.setup.bound → AllWithin rules t.disputes → length t.disputes ≤ length (iterate (stage_over rules f) n t).disputes
   longer-all rules f zero t more long w = omega arith
   longer-all rules f (suc n) t more long w =
       omega (arith, longer rules f t more w, longer-all rules f n (stage_over rules f t) more long (within-stage rules f t more long w))
 
   -- after so many stages either nothing changes any more, or there are so many disputes
-  pub reach-fixed : (rules : Rules) (f : Answers) (n : ℕ) (t : Record) → 1 < rules.fan → 0 < rules.bound → AllWithin rules t.disputes →
+  pub reach-fixed : (rules : Rules) (f : Answers) (n : ℕ) (t : Record) → 1 < rules.setup.fan → 0 < rules.setup.bound → AllWithin rules t.disputes →
       (stage_over rules f (iterate (stage_over rules f) n t) ≡ iterate (stage_over rules f) n t) ⊎ (length t.disputes + n ≤ length (iterate (stage_over rules f) n t).disputes)
   reach-fixed rules f zero t more long w = inr (omega arith)
   reach-fixed rules f (suc n) t more long w =
@@ -142,28 +144,28 @@ module _ (laws : BisectionLaws) where
   iterate-add h (suc n) m x = let e : suc n + m ≡ suc (n + m) = omega arith in ap (λ (k : ℕ). iterate h k x) e ∙ iterate-add h n m (h x)
 
   -- a record with fewer disputes than provers, at which the stages end, is the bracket's
-  pub bracket-is : (rules : Rules) (f : Answers) (z : Record) → 1 < rules.fan → 0 < rules.bound → Ends rules f (nothing_settled rules) z → length z.disputes < rules.provers →
+  pub bracket-is : (rules : Rules) (f : Answers) (z : Record) → 1 < rules.setup.fan → 0 < rules.setup.bound → Ends rules f (nothing_settled rules) z → length z.disputes < rules.setup.provers →
       z ≡ bracket rules f
   unfolding bracket
   bracket-is rules f z more long e few =
       let n : ℕ = e.reaches.0 in
       let t : Record = nothing_settled rules in
-      elim (reach-fixed rules f rules.provers (nothing_settled rules) more long tt) [
-        | inl fixed ↦ reach_one (stage_over rules f) e.reaches.0 rules.provers (nothing_settled rules) z _ e.fixed fixed e.reaches.1 refl
+      elim (reach-fixed rules f rules.setup.provers (nothing_settled rules) more long tt) [
+        | inl fixed ↦ reach_one (stage_over rules f) e.reaches.0 rules.setup.provers (nothing_settled rules) z _ e.fixed fixed e.reaches.1 refl
         | inr many ↦
-            elim (cases_Bool (nat_le rules.provers e.reaches.0)) [
+            elim (cases_Bool (nat_le rules.setup.provers e.reaches.0)) [
               | inl le ↦
-                  let q : e.reaches.0 ≡ rules.provers + (e.reaches.0 - rules.provers) = grind (arith, nat_tests) in
-                  let further : length (iterate (stage_over rules f) rules.provers (nothing_settled rules)).disputes ≤ length (iterate (stage_over rules f) (e.reaches.0 - rules.provers) (iterate (stage_over rules f) rules.provers (nothing_settled rules))).disputes =
-                  longer-all rules f (e.reaches.0 - rules.provers) (iterate (stage_over rules f) rules.provers (nothing_settled rules)) more long (within-stages rules f rules.provers (nothing_settled rules) more long tt) in
-                  let same : iterate (stage_over rules f) (e.reaches.0 - rules.provers) (iterate (stage_over rules f) rules.provers (nothing_settled rules)) ≡ z =
-                  sym (iterate-add (stage_over rules f) rules.provers (e.reaches.0 - rules.provers) (nothing_settled rules)) ∙ (ap (λ (k : ℕ). iterate (stage_over rules f) k (nothing_settled rules)) (sym q) ∙ e.reaches.1) in
-                  let l : length (iterate (stage_over rules f) (e.reaches.0 - rules.provers) (iterate (stage_over rules f) rules.provers (nothing_settled rules))).disputes ≡ length z.disputes = ap (λ (u : Record). length u.disputes) same in
+                  let q : e.reaches.0 ≡ rules.setup.provers + (e.reaches.0 - rules.setup.provers) = grind (arith, nat_tests) in
+                  let further : length (iterate (stage_over rules f) rules.setup.provers (nothing_settled rules)).disputes ≤ length (iterate (stage_over rules f) (e.reaches.0 - rules.setup.provers) (iterate (stage_over rules f) rules.setup.provers (nothing_settled rules))).disputes =
+                  longer-all rules f (e.reaches.0 - rules.setup.provers) (iterate (stage_over rules f) rules.setup.provers (nothing_settled rules)) more long (within-stages rules f rules.setup.provers (nothing_settled rules) more long tt) in
+                  let same : iterate (stage_over rules f) (e.reaches.0 - rules.setup.provers) (iterate (stage_over rules f) rules.setup.provers (nothing_settled rules)) ≡ z =
+                  sym (iterate-add (stage_over rules f) rules.setup.provers (e.reaches.0 - rules.setup.provers) (nothing_settled rules)) ∙ (ap (λ (k : ℕ). iterate (stage_over rules f) k (nothing_settled rules)) (sym q) ∙ e.reaches.1) in
+                  let l : length (iterate (stage_over rules f) (e.reaches.0 - rules.setup.provers) (iterate (stage_over rules f) rules.setup.provers (nothing_settled rules))).disputes ≡ length z.disputes = ap (λ (u : Record). length u.disputes) same in
                   absurd (omega (arith, further, l, many, few))
               | inr gt ↦
-                  let q : rules.provers ≡ e.reaches.0 + (rules.provers - e.reaches.0) = grind (arith, nat_tests) in
-                  sym (ap (λ (k : ℕ). iterate (stage_over rules f) k (nothing_settled rules)) q ∙ (iterate-add (stage_over rules f) e.reaches.0 (rules.provers - e.reaches.0) (nothing_settled rules)
-                  ∙ (ap (iterate (stage_over rules f) (rules.provers - e.reaches.0)) e.reaches.1 ∙ iterate-fixed (stage_over rules f) (rules.provers - e.reaches.0) z e.fixed)))
+                  let q : rules.setup.provers ≡ e.reaches.0 + (rules.setup.provers - e.reaches.0) = grind (arith, nat_tests) in
+                  sym (ap (λ (k : ℕ). iterate (stage_over rules f) k (nothing_settled rules)) q ∙ (iterate-add (stage_over rules f) e.reaches.0 (rules.setup.provers - e.reaches.0) (nothing_settled rules)
+                  ∙ (ap (iterate (stage_over rules f) (rules.setup.provers - e.reaches.0)) e.reaches.1 ∙ iterate-fixed (stage_over rules f) (rules.setup.provers - e.reaches.0) z e.fixed)))
             ]
       ]
 
@@ -183,9 +185,9 @@ module _ (laws : BisectionLaws) where
 
   pub record_of_case : RecordOfCase
   record_of_case rules says ps playable legal c =
-      let some : 0 < rules.provers = playable.some in
-      let more : 1 < rules.fan = playable.parted in
-      let long : 0 < rules.bound = playable.steps in
+      let some : 0 < rules.setup.provers = playable.some in
+      let more : 1 < rules.setup.fan = playable.parted in
+      let long : 0 < rules.setup.bound = playable.steps in
       let e : Ends rules (answers_of rules says) (nothing_settled rules) (turns rules says ps (begun rules)).record_ =
       (ends-journal laws) rules says ps (begun rules) more long ((played-nothing laws) rules some) ((counts-begun laws) rules says) legal c in
       let o : IsOrdered rules (turns rules says ps (begun rules)).record_ = ordered-turns rules says ps (begun rules) (ordered-nothing rules) in

@@ -18,8 +18,8 @@ use Rattle.bisect_game.specs.Laws.{BisectionLaws}
 
 -- so many passes on a question, and what is settled of it is still to come
 pub record IsCount (rules : Rules) (says : Says) (p : ℕ) (q : Question) (n : ℕ) : Type 0 where
-  pub few : n ≤ rules.patience
-  pub rest : settled_after rules says p q (rules.patience - n) n ≡ settled_after rules says p q rules.patience 0
+  pub few : n ≤ rules.setup.patience
+  pub rest : settled_after rules says p q (rules.setup.patience - n) n ≡ settled_after rules says p q rules.setup.patience 0
 
 -- a prover has passed on no question, or so often on its open one
 abbrev pub IsCountIn : Rules → Says → MatchState → ℕ → Type 0
@@ -41,11 +41,11 @@ module _ (laws : BisectionLaws) where
   no-passes : (rules : Rules) (says : Says) (p : ℕ) (q : Question) → IsCount rules says p q 0
   no-passes rules says p q = record { few = omega arith; rest = ap (λ (n : ℕ). settled_after rules says p q n 0) (omega arith) }
 
-  one-more : (rules : Rules) (says : Says) (p : ℕ) (q : Question) (n left : ℕ) → rules.patience - n ≡ suc left → says p q n ≡ None → IsCount rules says p q n → IsCount rules says p q (n + 1)
+  one-more : (rules : Rules) (says : Says) (p : ℕ) (q : Question) (n left : ℕ) → rules.setup.patience - n ≡ suc left → says p q n ≡ None → IsCount rules says p q n → IsCount rules says p q (n + 1)
   unfolding settled_after
   one-more rules says p q n left e none c =
-      let l : rules.patience - (n + 1) ≡ left = omega arith in
-      let r : settled_after rules says p q (suc left) n ≡ settled_after rules says p q rules.patience 0 = ap (λ (m : ℕ). settled_after rules says p q m n) (sym e) ∙ c.rest in
+      let l : rules.setup.patience - (n + 1) ≡ left = omega arith in
+      let r : settled_after rules says p q (suc left) n ≡ settled_after rules says p q rules.setup.patience 0 = ap (λ (m : ℕ). settled_after rules says p q m n) (sym e) ∙ c.rest in
       record { few = omega arith; rest = rw (l) (rw none at r) }
 
   none-yet : (n k : ℕ) → slice_index (replicate n 0) k ≡ 0
@@ -54,7 +54,7 @@ module _ (laws : BisectionLaws) where
   none-yet (suc n) (suc k) = none-yet n k
 
   pub counts-begun : (rules : Rules) (says : Says) → AreCounts rules says (begun rules)
-  counts-begun rules says = record { counts = λ p some. inl (none-yet rules.provers (p - 1)); apart = apart-nothing rules }
+  counts-begun rules says = record { counts = λ p some. inl (none-yet rules.setup.provers (p - 1)); apart = apart-nothing rules }
 
   pub at-set : (xs : List ℕ) (k v : ℕ) → (slice_index (slice_set xs k v) k ≡ v) ⊎ (slice_index (slice_set xs k v) k ≡ 0)
   at-set [] k v = inr refl
@@ -124,22 +124,22 @@ module _ (laws : BisectionLaws) where
   unfolding settled_after
   settled-spent rules says p q left n z e = rw (z, e) refl
 
-  turned-by : (rules : Rules) (says : Says) (st : MatchState) (p : ℕ) (q : Question) (n : ℕ) (o : Option Answer) (b : Bool) → 0 < p → n ≡ passes_of st p → says p q n ≡ o → nat_lt n rules.patience ≡ b →
+  turned-by : (rules : Rules) (says : Says) (st : MatchState) (p : ℕ) (q : Question) (n : ℕ) (o : Option Answer) (b : Bool) → 0 < p → n ≡ passes_of st p → says p q n ≡ o → nat_lt n rules.setup.patience ≡ b →
       open_question rules st.record_ p ≡ Some q → AreCounts rules says st → IsCount rules says p q n →
       Turned rules says st p q (moved rules st p (elim o [ Some a ↦ settled_by rules q n (Some a) | None ↦ if b then None else Some Spent ]))
   unfolding answers_of
   turned-by rules says st p q n (Some a) b some is e lt asked cs c =
-      Settles _ refl (counts-settled rules says st p _ some cs) (ap Some (sym c.rest ∙ settled-now rules says p q (rules.patience - n) n a e))
+      Settles _ refl (counts-settled rules says st p _ some cs) (ap Some (sym c.rest ∙ settled-now rules says p q (rules.setup.patience - n) n a e))
   turned-by rules says st p q n None true some is e lt asked cs c =
-      let left : rules.patience - n ≡ suc (rules.patience - n - 1) = grind (arith, nat_tests) in
-      let further : IsCount rules says p q (passes_of st p + 1) = rw is at (one-more rules says p q n (rules.patience - n - 1) left e c) in
+      let left : rules.setup.patience - n ≡ suc (rules.setup.patience - n - 1) = grind (arith, nat_tests) in
+      let further : IsCount rules says p q (passes_of st p + 1) = rw is at (one-more rules says p q n (rules.setup.patience - n - 1) left e c) in
       Passed refl (counts-passed rules says st p q some asked cs further)
   turned-by rules says st p q n None false some is e lt asked cs c =
-      let left : rules.patience - n ≡ 0 = grind (arith, nat_tests) in
-      Settles Spent refl (counts-settled rules says st p Spent some cs) (ap Some (sym c.rest ∙ settled-spent rules says p q (rules.patience - n) n left e))
+      let left : rules.setup.patience - n ≡ 0 = grind (arith, nat_tests) in
+      Settles Spent refl (counts-settled rules says st p Spent some cs) (ap Some (sym c.rest ∙ settled-spent rules says p q (rules.setup.patience - n) n left e))
 
   by-cases : (rules : Rules) (q : Question) (n : ℕ) (o : Option Answer) →
-      elim o [ Some a ↦ settled_by rules q n (Some a) | None ↦ if nat_lt n rules.patience then None else Some Spent ] ≡ settled_by rules q n o
+      elim o [ Some a ↦ settled_by rules q n (Some a) | None ↦ if nat_lt n rules.setup.patience then None else Some Spent ] ≡ settled_by rules q n o
   by-cases rules q n (Some a) = refl
   by-cases rules q n None = refl
 
@@ -147,7 +147,7 @@ module _ (laws : BisectionLaws) where
       Turned rules says st p q (turn rules says st p q)
   turned rules says st p q some asked cs =
       rw (← by-cases rules q (passes_of st p) (says p q (passes_of st p)))
-      (turned-by rules says st p q (passes_of st p) (says p q (passes_of st p)) (nat_lt (passes_of st p) rules.patience) some refl refl refl asked cs (count-by rules says st p q asked (cs.counts p some)))
+      (turned-by rules says st p q (passes_of st p) (says p q (passes_of st p)) (nat_lt (passes_of st p) rules.setup.patience) some refl refl refl asked cs (count-by rules says st p q asked (cs.counts p some)))
 
   -- what each turn keeps, a legal journal keeps
   pub turns-keep : (rules : Rules) (says : Says) (I : ℕ → MatchState → Type 0) →
@@ -168,7 +168,7 @@ module _ (laws : BisectionLaws) where
 
   -- every complete legal journal comes to what the stages over the settled answers come to
 
-  ends-after : (rules : Rules) (says : Says) (st u : MatchState) (p : ℕ) (q : Question) (z : Record) → 0 < p → 1 < rules.fan → 0 < rules.bound → IsPlayed rules st.record_ →
+  ends-after : (rules : Rules) (says : Says) (st u : MatchState) (p : ℕ) (q : Question) (z : Record) → 0 < p → 1 < rules.setup.fan → 0 < rules.setup.bound → IsPlayed rules st.record_ →
       open_question rules st.record_ p ≡ Some q → Turned rules says st p q u →
       (IsPlayed rules u.record_ → AreCounts rules says u → Ends rules (answers_of rules says) u.record_ z) →
       Ends rules (answers_of rules says) st.record_ z
@@ -183,7 +183,7 @@ module _ (laws : BisectionLaws) where
             ((steps-settle laws) rules (answers_of rules says) p s q st.record_ some more long i asked is) e.fixed e.reaches;
       }
 
-  pub ends-journal : (rules : Rules) (says : Says) (ps : List ℕ) (st : MatchState) → 1 < rules.fan → 0 < rules.bound → IsPlayed rules st.record_ → AreCounts rules says st →
+  pub ends-journal : (rules : Rules) (says : Says) (ps : List ℕ) (st : MatchState) → 1 < rules.setup.fan → 0 < rules.setup.bound → IsPlayed rules st.record_ → AreCounts rules says st →
       Legal rules says ps st → is_complete (turns rules says ps st).record_ ≡ true → Ends rules (answers_of rules says) st.record_ (turns rules says ps st).record_
   ends-journal rules says [] st more long i cs legal c = record { fixed = (complete-fixed laws) rules (answers_of rules says) st.record_ i c; reaches = (0, refl) }
   ends-journal rules says (p ∷ ps) st more long i cs legal c =
@@ -201,9 +201,9 @@ module _ (laws : BisectionLaws) where
 
   pub order_does_not_matter : OrderDoesNotMatter
   order_does_not_matter rules says ps qs playable lp lq cp cq =
-      let some : 0 < rules.provers = playable.some in
-      let more : 1 < rules.fan = playable.parted in
-      let long : 0 < rules.bound = playable.steps in
+      let some : 0 < rules.setup.provers = playable.some in
+      let more : 1 < rules.setup.fan = playable.parted in
+      let long : 0 < rules.setup.bound = playable.steps in
       let i : IsPlayed rules (nothing_settled rules) = (played-nothing laws) rules some in
       let x : Ends rules (answers_of rules says) (nothing_settled rules) (turns rules says ps (begun rules)).record_ =
       ends-journal rules says ps (begun rules) more long i (counts-begun rules says) lp cp in

@@ -10,13 +10,15 @@ use Rattle.bisect_game.specs.declared.settled.Settled.{Settled}
 use Rattle.bisect_game.specs.declared.settled.Settled.TheVariants.{Given}
 use Rattle.bisect_game.specs.declared.settled.Side.TheVariants.{First, Second}
 use Rattle.bisect_game.specs.Bisection.{Bisection, question_of, settle_first, settle_second}
-use Rattle.bisect_game.specs.Disputes.{Answers, or_else, played}
+use Rattle.bisect_game.specs.Disputes.{Answers, played}
+use Rattle.std.specs.Option.{option_or}
 use Rattle.bisect_game.specs.Held.{settled_after_rounds, settled_in_round}
 use Rattle.bisect_game.specs.OverAnswers.{HoldsOn}
 use Rattle.bisect_game.specs.Laws.{BisectionLaws}
 use Rattle.bisect_game.specs.Rules.{Rules, ArePlayable}
 use Rattle.bisect_game.specs.Ruling.{Ruling}
-use Rattle.tournament.specs.Bracket.{Record, claim_question, live, pairs, last_stage, disputes_of, is_stage_due, stage_opened, claims_over, carried, stage_over, nothing_settled, asks_first, asks_second, question_in, claim_missing, open_question, settled_in, put, settle, bracket}
+use Rattle.tournament.specs.Bracket.{Record, live, pairs, last_stage, disputes_of, is_stage_due, stage_opened, claims_over, carried, stage_over, nothing_settled, asks_first, asks_second, question_in, claim_missing, open_question, settled_in, put, settle, bracket}
+use Rattle.bisect_game.specs.Rules.{claim_question}
 use Rattle.tournament.specs.Settling.{after, Fits}
 use Rattle.tournament.specs.Posting.{record_after}
 use Rattle.tournament.specs.Fitting.{AllFit}
@@ -216,7 +218,7 @@ module _ (laws : BisectionLaws) where
 
   -- over its own answers a record stays
 
-  or-same : (o : Option Settled) → or_else o o ≡ o
+  or-same : (o : Option Settled) → option_or o o ≡ o
   or-same (Some s) = refl
   or-same None = refl
 
@@ -309,7 +311,7 @@ module _ (laws : BisectionLaws) where
         | inl due ↦
             rw (opened-due rules t due) (apart-both t.disputes _ a
             (apart-new rules (last_stage t.disputes + 1) (length t.disputes + 1) t.claims (pairs rules t)
-            ((pairs-right laws) rules.ruling t.claims rules.provers (live t) ((live-right laws) t.claims t.disputes 0 t.claims (λ i. ap (slice_get t.claims) (omega arith))))))
+            ((pairs-right laws) rules.ruling t.claims rules.setup.provers (live t) ((live-right laws) t.claims t.disputes 0 t.claims (λ i. ap (slice_get t.claims) (omega arith))))))
         | inr not_due ↦ rw (opened-not rules t not_due) a
       ]
 
@@ -317,20 +319,20 @@ module _ (laws : BisectionLaws) where
   unfolding settle
   apart-settle rules p s t a = apart-opened rules (put rules p s t) (apart-put rules p s t (claim_missing (slice_get t.claims (p - 1))) a)
 
-  kept-settle : (rules : Rules) (p : ℕ) (s : Settled) (t : Record) → 1 < rules.fan → 0 < rules.bound → IsApartIn rules t → IsApartIn rules (settle rules p s t)
+  kept-settle : (rules : Rules) (p : ℕ) (s : Settled) (t : Record) → 1 < rules.setup.fan → 0 < rules.setup.bound → IsApartIn rules t → IsApartIn rules (settle rules p s t)
   kept-settle rules p s t more long i = record {
     apart = apart-settle rules p s t i.apart;
     numbered = (numbered-settle laws) rules p s t i.numbered;
     played = (played-settle laws) rules p s t more long i.played;
   }
 
-  kept-after : (rules : Rules) (es : List (ℕ × Settled)) (t : Record) → 1 < rules.fan → 0 < rules.bound → IsApartIn rules t → IsApartIn rules (after rules es t)
+  kept-after : (rules : Rules) (es : List (ℕ × Settled)) (t : Record) → 1 < rules.setup.fan → 0 < rules.setup.bound → IsApartIn rules t → IsApartIn rules (after rules es t)
   kept-after rules [] t more long i = i
   kept-after rules (e ∷ es) t more long i = kept-after rules es (settle rules e.0 e.1 t) more long (kept-settle rules e.0 e.1 t more long i)
 
   -- the answers that it holds at the end are those that were settled
 
-  fits-own : (rules : Rules) (f : Answers) (es : List (ℕ × Settled)) (t : Record) → 1 < rules.fan → 0 < rules.bound → IsApartIn rules t → AllFit rules es t →
+  fits-own : (rules : Rules) (f : Answers) (es : List (ℕ × Settled)) (t : Record) → 1 < rules.setup.fan → 0 < rules.setup.bound → IsApartIn rules t → AllFit rules es t →
       ((p : ℕ) (q : Question) (s : Settled) → answers_in (after rules es t) p q ≡ Some s → f p q ≡ Some s) → Fits rules f es t
   fits-own rules f [] t more long i fit below = tt
   fits-own rules f (e ∷ es) t more long i fit below = (
@@ -345,7 +347,7 @@ module _ (laws : BisectionLaws) where
     fits-own rules f es (settle rules e.0 e.1 t) more long (kept-settle rules e.0 e.1 t more long i) fit.1 below,
   )
 
-  ends-own : (rules : Rules) (f : Answers) (es : List (ℕ × Settled)) (t : Record) → 1 < rules.fan → 0 < rules.bound → IsPlayed rules t →
+  ends-own : (rules : Rules) (f : Answers) (es : List (ℕ × Settled)) (t : Record) → 1 < rules.setup.fan → 0 < rules.setup.bound → IsPlayed rules t →
       Fits rules f es t → stage_over rules f (after rules es t) ≡ after rules es t → Ends rules f t (after rules es t)
   ends-own rules f [] t more long i fits fixed = record { fixed = fixed; reaches = (0, refl) }
   ends-own rules f (e ∷ es) t more long i fits fixed =
@@ -359,9 +361,9 @@ module _ (laws : BisectionLaws) where
   bracket-own : (rules : Rules) (es : List (ℕ × Settled)) → ArePlayable rules → AllFit rules es (nothing_settled rules) →
       after rules es (nothing_settled rules) ≡ bracket rules (answers_in (after rules es (nothing_settled rules)))
   bracket-own rules es playable fit =
-      let some : 0 < rules.provers = playable.some in
-      let more : 1 < rules.fan = playable.parted in
-      let long : 0 < rules.bound = playable.steps in
+      let some : 0 < rules.setup.provers = playable.some in
+      let more : 1 < rules.setup.fan = playable.parted in
+      let long : 0 < rules.setup.bound = playable.steps in
       let begun : IsApartIn rules (nothing_settled rules) = record { apart = tt; numbered = tt; played = (played-nothing laws) rules some } in
       let i : IsApartIn rules (after rules es (nothing_settled rules)) = kept-after rules es (nothing_settled rules) more long begun in
       let same : carried rules (answers_in (after rules es (nothing_settled rules))) (after rules es (nothing_settled rules)) ≡ after rules es (nothing_settled rules) =

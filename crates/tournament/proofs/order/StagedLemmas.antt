@@ -24,7 +24,7 @@ module _ (laws : BisectionLaws) where
 
   pub sides-played : (rules : Rules) (f : Answers) (d : Bisection) → SameSides d (played rules f d)
   unfolding played
-  sides-played rules f d = sides-rounds rules.ruling f rules.bound d
+  sides-played rules f d = sides-rounds rules.ruling f rules.setup.bound d
 
   honest-round : (ruling : Ruling) (f : Answers) (d : Bisection) → IsHonest d.close → IsHonest (round_over ruling f d).close
   honest-round ruling f d h =
@@ -40,7 +40,7 @@ module _ (laws : BisectionLaws) where
   honest-played : (rules : Rules) (f : Answers) (ds : List Bisection) → AllHonest ds → AllHonest (map (played rules f) ds)
   unfolding played
   honest-played rules f [] h = tt
-  honest-played rules f (d ∷ ds) h = (honest-rounds rules.ruling f rules.bound d h.0, honest-played rules f ds h.1)
+  honest-played rules f (d ∷ ds) h = (honest-rounds rules.ruling f rules.setup.bound d h.0, honest-played rules f ds h.1)
 
   sides-all : (rules : Rules) (f : Answers) (ps : List Pair) (ds : List Bisection) → SidesOf ps ds → SidesOf ps (map (played rules f) ds)
   sides-all rules f [] [] i = tt
@@ -100,11 +100,11 @@ module _ (laws : BisectionLaws) where
   ordered-stages rules f zero t o = o
   ordered-stages rules f (suc n) t o = ordered-stages rules f n (stage_over rules f t) (ordered-opened rules (carried rules f t) (ordered-carried rules f t o))
 
-  pub bracket-fixed : (rules : Rules) (f : Answers) → 0 < rules.provers → 1 < rules.fan → 0 < rules.bound → stage_over rules f (bracket rules f) ≡ bracket rules f
+  pub bracket-fixed : (rules : Rules) (f : Answers) → 0 < rules.setup.provers → 1 < rules.setup.fan → 0 < rules.setup.bound → stage_over rules f (bracket rules f) ≡ bracket rules f
   unfolding bracket
   bracket-fixed rules f some more long =
-      let o : IsOrdered rules (iterate (stage_over rules f) rules.provers (nothing_settled rules)) = ordered-stages rules f rules.provers (nothing_settled rules) (ordered-nothing rules) in
-      elim ((reach-fixed laws) rules f rules.provers (nothing_settled rules) more long tt) [
+      let o : IsOrdered rules (iterate (stage_over rules f) rules.setup.provers (nothing_settled rules)) = ordered-stages rules f rules.setup.provers (nothing_settled rules) (ordered-nothing rules) in
+      elim ((reach-fixed laws) rules f rules.setup.provers (nothing_settled rules) more long tt) [
         | inl fixed ↦ fixed
-        | inr many ↦ absurd (omega (arith, many, fewer rules (iterate (stage_over rules f) rules.provers (nothing_settled rules)) some o.counted))
+        | inr many ↦ absurd (omega (arith, many, fewer rules (iterate (stage_over rules f) rules.setup.provers (nothing_settled rules)) some o.counted))
       ]

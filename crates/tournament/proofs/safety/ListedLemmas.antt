@@ -12,7 +12,7 @@ use Rattle.tournament.specs.Theorem.{is_out_by_claim}
 use Rattle.tournament.proofs.safety.LiveLemmas.{IsIn, live-in, in-contains}
 
 -- a claim that counts was given
-claim-given : (s : Option Settled) (c : Claim) → claim_in s ≡ Some c → s ≡ Some (Given (answer.Claim c))
+pub claim-given : (s : Option Settled) (c : Claim) → claim_in s ≡ Some c → s ≡ Some (Given (answer.Claim c))
 claim-given None c e = absurd (cc)
 claim-given (Some Spent) c e = absurd (cc)
 claim-given (Some (Faulty a)) c e = absurd (cc)

@@ -17,11 +17,13 @@ use Rattle.bisect_game.specs.Laws.{IsPlay, KeepsRight}
 use Rattle.bisect_game.specs.Rules.{Rules, ArePlayable}
 use Rattle.bisect_game.specs.Ruling.{Ruling, IsFair, same_digest}
 use Rattle.bisect_game.specs.Truth.{Truth, IsRun, IsFit, IsFitSoFar, IsRight, is_put_out}
+use Rattle.tournament.proofs.safety.ClaimLemmas.{FitClaims, fit-none, fit-set, fit-asked}
 use Rattle.tournament.proofs.safety.LiveLemmas.{live-contains}
 use Rattle.tournament.proofs.OpenedLemmas.{opened-not, opened-due}
 use Rattle.tournament.proofs.ReachLemmas.{same-not}
 use Rattle.tournament.proofs.SidesLemmas.{SameSides, sides-first, sides-second}
-use Rattle.tournament.specs.Bracket.{Record, claim_question, is_out_by, is_out_in, claim_in, also, live_from, live, Taken, passed_over, take_other, pairs_of, pairs, last_stage, disputes_of, all_there, is_stage_due, stage_opened, nothing_settled, asks_first, asks_second, question_in, claim_missing, open_question, settled_in, put, settle, is_complete}
+use Rattle.tournament.specs.Bracket.{Record, is_out_by, is_out_in, claim_in, also, live_from, live, Taken, passed_over, take_other, pairs_of, pairs, last_stage, disputes_of, all_there, is_stage_due, stage_opened, nothing_settled, asks_first, asks_second, question_in, claim_missing, open_question, settled_in, put, settle, is_complete}
+use Rattle.bisect_game.specs.Rules.{claim_question}
 use Rattle.tournament.specs.Settling.{after}
 use Rattle.tournament.specs.Fitting.{MaySettle, AllFit}
 use Rattle.tournament.specs.Theorem.{Stays, is_out_by_claim, HasTrueClaimSoFar, HasTrueClaim, TrueIn, AllTrueIn, AreTrue, RightIn, AllRightIn, AllProvedIn}
@@ -67,10 +69,6 @@ record IsTaken (r : Ruling) (claims : List (Option Settled)) (root : Digest32) (
 abbrev TakenRight : Ruling → List (Option Settled) → Digest32 → Taken → Type 0
 TakenRight r claims root None = Unit {0}
 TakenRight r claims root (Some t) = IsTaken r claims root t
-
-abbrev pub FitClaims : Ruling → List (Option Settled) → Type 0
-FitClaims r [] = Unit {0}
-FitClaims r (s ∷ ss) = IsFitSoFar r kind.Claim s × FitClaims r ss
 
 -- what every record of a match keeps
 pub record IsKept (rules : Rules) (t : Truth) (p : ℕ) (r : Record) : Type 0 where
@@ -176,13 +174,13 @@ module _ (laws : BisectionLaws) where
   -- new disputes are good
 
   true-root : (rules : Rules) (t : Truth) (claims : List (Option Settled)) (p : ℕ) (x : ℕ × Claim) → IsRun rules t → HasClaim claims x → x.0 ≡ p → HasTrueClaim t claims p →
-      rules.ruling.root_of x.1 ≡ t.root rules.bound
+      rules.ruling.root_of x.1 ≡ t.root rules.setup.bound
   true-root rules t claims p x run h same claim =
       let at : slice_get claims (p - 1) ≡ Some (Some (Given (answer.Claim x.1))) = ap (λ (n : ℕ). slice_get claims (n - 1)) (sym same) ∙ h.is in
       let c : x.1 ≡ t.claim = cc in
       ap rules.ruling.root_of c ∙ run.ends
 
-  good-new : (rules : Rules) (g : ℕ) (t : Truth) (claims : List (Option Settled)) (p n : ℕ) (ps : List ((ℕ × Claim) × (ℕ × Claim))) → 1 < rules.fan → 0 < rules.bound → IsRun rules t →
+  good-new : (rules : Rules) (g : ℕ) (t : Truth) (claims : List (Option Settled)) (p n : ℕ) (ps : List ((ℕ × Claim) × (ℕ × Claim))) → 1 < rules.setup.fan → 0 < rules.setup.bound → IsRun rules t →
       AllPaired rules.ruling claims ps → AllGood rules t claims p (disputes_of rules g n ps)
   good-new rules g t claims p n [] more long run h = tt
   good-new rules g t claims p n (x ∷ ps) more long run h = (
@@ -195,15 +193,6 @@ module _ (laws : BisectionLaws) where
   )
 
   -- claims that fit
-
-  fit-none : (r : Ruling) (n : ℕ) → FitClaims r (replicate n None)
-  fit-none r zero = tt
-  fit-none r (suc n) = (tt, fit-none r n)
-
-  fit-set : (r : Ruling) (ss : List (Option Settled)) (k : ℕ) (s : Settled) → FitClaims r ss → IsFit r kind.Claim s → FitClaims r (slice_set ss k (Some s))
-  fit-set r [] k s f g = tt
-  fit-set r (o ∷ ss) zero s f g = (g, f.1)
-  fit-set r (o ∷ ss) (suc k) s f g = (f.0, fit-set r ss k s f.1 g)
 
   missing-there : (ss : List (Option Settled)) (k : ℕ) → claim_missing (slice_get ss k) ≡ true → all_there ss ≡ false
   missing-there [] k e = absurd (cc)
@@ -228,26 +217,21 @@ module _ (laws : BisectionLaws) where
         fit = k.fit;
       }
 
-  kept-opened : (rules : Rules) (t : Truth) (p : ℕ) (r : Record) → 1 < rules.fan → 0 < rules.bound → IsRun rules t → IsKept rules t p r → IsKept rules t p (stage_opened rules r)
+  kept-opened : (rules : Rules) (t : Truth) (p : ℕ) (r : Record) → 1 < rules.setup.fan → 0 < rules.setup.bound → IsRun rules t → IsKept rules t p r → IsKept rules t p (stage_opened rules r)
   kept-opened rules t p r more long run k =
       elim (cases_Bool (is_stage_due rules r)) [
         | inl due ↦
             let there : all_there r.claims ≡ true = (and_parts _ _ due).0 in
             rw (opened-due rules r due) (record {
               good = good-both rules t r.claims p r.disputes _ k.good
-                  (good-new rules (last_stage r.disputes + 1) t r.claims p (length r.disputes + 1) (pairs rules r) more long run (pairs-right rules.ruling r.claims rules.provers (live r) (live-right r.claims r.disputes 0 r.claims (λ i. ap (slice_get r.claims) (omega arith)))));
+                  (good-new rules (last_stage r.disputes + 1) t r.claims p (length r.disputes + 1) (pairs rules r) more long run (pairs-right rules.ruling r.claims rules.setup.provers (live r) (live-right r.claims r.disputes 0 r.claims (λ i. ap (slice_get r.claims) (omega arith)))));
               begun = λ (missing : all_there r.claims ≡ false). cc;
               fit = k.fit;
             })
         | inr not_due ↦ rw (opened-not rules r not_due) k
       ]
 
-  fit-asked : (rules : Rules) (r : Record) (p : ℕ) (s : Settled) → MaySettle rules r p s → (q : Question) → open_question rules r p ≡ Some q → IsFit rules.ruling q.kind s
-  fit-asked rules r p s m q e =
-      let one : m.question ≡ q = let both_ : ◌≡◌ {A = Option Question} (Some m.question) (Some q) = sym m.asked ∙ e in cc in
-      rw (← one) m.fits
-
-  kept-after : (rules : Rules) (t : Truth) (p : ℕ) (es : List (ℕ × Settled)) (r : Record) → 1 < rules.fan → 0 < rules.bound → IsFair rules.ruling → IsRun rules t →
+  kept-after : (rules : Rules) (t : Truth) (p : ℕ) (es : List (ℕ × Settled)) (r : Record) → 1 < rules.setup.fan → 0 < rules.setup.bound → IsFair rules.ruling → IsRun rules t →
       AllFit rules es r → IsKept rules t p r → IsKept rules t p (after rules es r)
   unfolding settle
   kept-after rules t p [] r more long fair run fit k = k
@@ -293,10 +277,10 @@ module _ (laws : BisectionLaws) where
       (λ e. let r : IsRight t Second d = here.second (eqb-is d.second p e) in r.stays) in
       (rw (no, rest.0) refl, (here, rest.1))
 
-  pub kept-start : (rules : Rules) (t : Truth) (p : ℕ) (es : List (ℕ × Settled)) → 1 < rules.fan → 0 < rules.bound → IsFair rules.ruling → IsRun rules t → AllFit rules es (nothing_settled rules) →
+  pub kept-start : (rules : Rules) (t : Truth) (p : ℕ) (es : List (ℕ × Settled)) → 1 < rules.setup.fan → 0 < rules.setup.bound → IsFair rules.ruling → IsRun rules t → AllFit rules es (nothing_settled rules) →
       IsKept rules t p (after rules es (nothing_settled rules))
   kept-start rules t p es more long fair run fit =
-      kept-after rules t p es (nothing_settled rules) more long fair run fit (record { good = tt; begun = λ _. refl; fit = fit-none rules.ruling rules.provers })
+      kept-after rules t p es (nothing_settled rules) more long fair run fit (record { good = tt; begun = λ _. refl; fit = fit-none rules.ruling rules.setup.provers })
 
   proved-all : (rules : Rules) (t : Truth) (claims : List (Option Settled)) (p : ℕ) (ds : List Bisection) → IsRun rules t → AllGood rules t claims p ds → AllTrueIn rules t p ds → AllRightIn t p ds → AllProvedIn rules p ds
   proved-all rules t claims p [] run g true_ right = tt
@@ -327,8 +311,8 @@ module _ (laws : BisectionLaws) where
   pub settled_stay : (rules : Rules) (t : Truth) (es : List (ℕ × Settled)) (p : ℕ) → ArePlayable rules → IsFair rules.ruling → IsRun rules t → 0 < p →
       AllFit rules es (nothing_settled rules) → AreTrue rules t p (after rules es (nothing_settled rules)) → Stays rules t p (after rules es (nothing_settled rules))
   settled_stay rules t es p playable fair run numbered fit true_ =
-      let more : 1 < rules.fan = playable.parted in
-      let long : 0 < rules.bound = playable.steps in
+      let more : 1 < rules.setup.fan = playable.parted in
+      let long : 0 < rules.setup.bound = playable.steps in
       let k : IsKept rules t p (after rules es (nothing_settled rules)) = kept-start rules t p es more long fair run fit in
       elim true_.claim [
         | inl missing ↦ stays-none rules t p (after rules es (nothing_settled rules)) numbered run k true_.claim true_.disputes (k.begun (missing-there (after rules es (nothing_settled rules)).claims (p - 1) (ap claim_missing missing)))

@@ -1,8 +1,12 @@
 -- The dispute theorem over lists of posts.
+use Rattle.std.proofs.Common.{ℕ, zero, suc, ◌-◌, ◌*◌, ◌<◌, ◌≤◌, List, [], ◌∷◌, length, arith}
+use Rattle.bisect_game.specs.Bisection.{Bisection}
 use Rattle.bisect_game.specs.Laws.{BisectionLaws}
+use Rattle.bisect_game.specs.Rules.{Rules}
 use Rattle.tournament.specs.Numbers.{DisputesHaveTheFan}
 use Rattle.tournament.specs.Posting.{record_after, NobodyAskedIsOver}
-use Rattle.tournament.specs.Theorem.{TruthfulStay, VerdictIsRight, FewDisputes, FewRounds}
+use Rattle.tournament.specs.Rulings.{rulings_of, RulingsAreFew}
+use Rattle.tournament.specs.Theorem.{AllShort, TruthfulStay, VerdictIsRight, FewDisputes, FewRounds}
 use Rattle.tournament.proofs.length.CountLemmas.{few_disputes}
 use Rattle.tournament.proofs.length.FewLemmas.{few_rounds, have_the_fan}
 use Rattle.tournament.proofs.safety.MatchLemmas.{settled_stay}
@@ -14,6 +18,13 @@ pub few_disputes_of_posts : FewDisputes
 few_disputes_of_posts rules xs some =
     let i : IsSettled rules (record_after rules xs) = settled-begun rules xs in
     rw i.comes at (few_disputes rules i.list some)
+
+rulings-by : (rules : Rules) (n : ℕ) (ds : List Bisection) → length ds ≤ n → AllShort rules ds → rulings_of ds ≤ 2 * n
+rulings-by rules n [] few short = omega arith
+rulings-by rules zero (d ∷ ds) few short = absurd (omega arith)
+rulings-by rules (suc n) (d ∷ ds) few short =
+    let rest : rulings_of ds ≤ 2 * n = rulings-by rules n ds (omega (arith, few)) short.1 in
+    omega (arith, rest, short.0.proofs)
 
 module _ (laws : BisectionLaws) where
   pub truthful_stay : TruthfulStay
@@ -40,3 +51,8 @@ module _ (laws : BisectionLaws) where
   disputes_have_the_fan rules xs playable =
       let i : IsSettled rules (record_after rules xs) = settled-begun rules xs in
       rw i.comes at ((have_the_fan laws) rules i.list playable)
+
+  pub rulings_are_few : RulingsAreFew
+  rulings_are_few rules xs playable =
+      let few : length (record_after rules xs).disputes < rules.setup.provers = few_disputes_of_posts rules xs playable.some in
+      rulings-by rules (rules.setup.provers - 1) (record_after rules xs).disputes (omega (arith, few)) (few_rounds_of_posts rules xs playable)

@@ -31,8 +31,8 @@ module _ (laws : BisectionLaws) where
       let same : judged rules.ruling q.kind a ≡ s = cc in
       rw (← same) (judged-true laws.fits rules.ruling t q.kind a run.sound is)
   move-settles rules t q passes None s run is e =
-      let yes : nat_lt passes rules.patience ≡ true = grind (arith, nat_tests) in
-      absurd (none-spent s (nat_lt passes rules.patience) yes e)
+      let yes : nat_lt passes rules.setup.patience ≡ true = grind (arith, nat_tests) in
+      absurd (none-spent s (nat_lt passes rules.setup.patience) yes e)
 
   moved-true : (rules : Rules) (t : Truth) (p other : ℕ) (q : Question) (o : Option Settled) (st : MatchState) → 0 < p → 0 < other → open_question rules st.record_ other ≡ Some q →
       ((s : Settled) → o ≡ Some s → other ≡ p → IsTrueSettled t q.kind s) → AreTrue rules t p st.record_ → AreTrue rules t p (moved rules st other o).record_
@@ -61,7 +61,7 @@ module _ (laws : BisectionLaws) where
 
   pub true_moves_are_true_answers : TrueMovesAreTrueAnswers
   true_moves_are_true_answers rules t xs p run some within own =
-      posts-true rules t p xs (begun rules) run some own (record { claim = inl (none-yet rules.provers (p - 1) None (omega (arith, some, within))); disputes = tt })
+      posts-true rules t p xs (begun rules) run some own (record { claim = inl (none-yet rules.setup.provers (p - 1) None (omega (arith, some, within))); disputes = tt })
 
   pub true_moves_are_safe : TrueMovesAreSafe
   true_moves_are_safe rules t xs p playable fair run some within own =

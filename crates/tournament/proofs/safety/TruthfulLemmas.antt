@@ -21,7 +21,8 @@ use Rattle.bisect_game.specs.Closing.{close_of}
 use Rattle.bisect_game.specs.Bisection.{Bisection, kind_over, question_of, closed_with, went_on, closed_or, decided, advanced, settle_first, settle_second}
 use Rattle.bisect_game.specs.Truth.{Truth, IsRun, IsTrueAnswer, IsTrueSettled, IsFit, AllTrue, IsTruthful, own_answer, own_open}
 use Rattle.bisect_game.specs.Laws.{BisectionLaws, TrueAnswersFit}
-use Rattle.tournament.specs.Bracket.{Record, claim_question, claim_missing, asks_first, asks_second, question_in, open_question, disputes_of, last_stage, pairs, is_stage_due, stage_opened, settled_in, put, settle, nothing_settled, bracket}
+use Rattle.tournament.specs.Bracket.{Record, claim_missing, asks_first, asks_second, question_in, open_question, disputes_of, last_stage, pairs, is_stage_due, stage_opened, settled_in, put, settle, nothing_settled, bracket}
+use Rattle.bisect_game.specs.Rules.{claim_question}
 use Rattle.tournament.specs.Settling.{after}
 use Rattle.tournament.specs.Moves.{MatchState, begun}
 use Rattle.tournament.specs.Journals.{turn, turns, said, settled_after, answers_of}
@@ -206,7 +207,7 @@ true-settle rules t p other s q r some far e own h = true-opened rules t p (put 
 pub judged-true : TrueAnswersFit → (r : Ruling) (t : Truth) (k : Kind) (a : Answer) → r.is_sound t.claim ≡ true → IsTrueAnswer t k a → IsTrueSettled t k (judged r k a)
 judged-true fits r t k a sound is = rw (fits r t k a sound is) is
 
-settled-true : TrueAnswersFit → (rules : Rules) (says : Says) (t : Truth) (p : ℕ) (q : Question) (a : AnswersTruly says rules.patience t p q) (left n : ℕ) → rules.ruling.is_sound t.claim ≡ true → n ≤ a.passes → a.passes ≤ n + left →
+settled-true : TrueAnswersFit → (rules : Rules) (says : Says) (t : Truth) (p : ℕ) (q : Question) (a : AnswersTruly says rules.setup.patience t p q) (left n : ℕ) → rules.ruling.is_sound t.claim ≡ true → n ≤ a.passes → a.passes ≤ n + left →
     IsTrueSettled t q.kind (settled_after rules says p q left n)
 unfolding settled_after
 settled-true fits rules says t p q a zero n sound low high =
@@ -221,11 +222,11 @@ settled-true fits rules says t p q a (suc left) n sound low high =
           rw (a.passing n before) (settled-true fits rules says t p q a left (n + 1) sound (omega arith) (omega arith))
     ]
 
-answers-true : TrueAnswersFit → (rules : Rules) (says : Says) (t : Truth) (p : ℕ) (q : Question) (s : Settled) → AnswersTruly says rules.patience t p q → rules.ruling.is_sound t.claim ≡ true → answers_of rules says p q ≡ Some s → IsTrueSettled t q.kind s
+answers-true : TrueAnswersFit → (rules : Rules) (says : Says) (t : Truth) (p : ℕ) (q : Question) (s : Settled) → AnswersTruly says rules.setup.patience t p q → rules.ruling.is_sound t.claim ≡ true → answers_of rules says p q ≡ Some s → IsTrueSettled t q.kind s
 unfolding answers_of
 answers-true fits rules says t p q s a sound e =
-    let same : settled_after rules says p q rules.patience 0 ≡ s = cc in
-    rw (← same) (settled-true fits rules says t p q a rules.patience 0 sound (omega arith) (omega (arith, a.few)))
+    let same : settled_after rules says p q rules.setup.patience 0 ≡ s = cc in
+    rw (← same) (settled-true fits rules says t p q a rules.setup.patience 0 sound (omega arith) (omega (arith, a.few)))
 
 -- what a legal list of moves keeps
 
@@ -240,7 +241,7 @@ fit-after rules says p q (suc left) n = fit-said rules q (says p q n) _ (fit-aft
 
 fit-answers : (rules : Rules) (says : Says) (p : ℕ) (q : Question) (s : Settled) → answers_of rules says p q ≡ Some s → IsFit rules.ruling q.kind s
 unfolding answers_of
-fit-answers rules says p q s e = let same : settled_after rules says p q rules.patience 0 ≡ s = cc in rw (← same) (fit-after rules says p q rules.patience 0)
+fit-answers rules says p q s e = let same : settled_after rules says p q rules.setup.patience 0 ≡ s = cc in rw (← same) (fit-after rules says p q rules.setup.patience 0)
 
 pub none-yet : (n k : ℕ) (o : Option Settled) → k < n → slice_get (replicate n o) k ≡ Some o
 none-yet zero k o lt = absurd (omega arith)
@@ -255,10 +256,10 @@ record IsTold (rules : Rules) (says : Says) (t : Truth) (p n : ℕ) (st : MatchS
   reaches : after rules settled (nothing_settled rules) ≡ st.record_
 
 module _ (laws : BisectionLaws) where
-  told-begun : (rules : Rules) (says : Says) (t : Truth) (p : ℕ) → 0 < rules.provers → 0 < p → p ≤ rules.provers → IsTold rules says t p 0 (begun rules)
+  told-begun : (rules : Rules) (says : Says) (t : Truth) (p : ℕ) → 0 < rules.setup.provers → 0 < p → p ≤ rules.setup.provers → IsTold rules says t p 0 (begun rules)
   told-begun rules says t p some low high = record {
     way = (way-begun laws) rules says some;
-    answers = record { claim = inl (none-yet rules.provers (p - 1) None (omega (arith, low, high))); disputes = tt };
+    answers = record { claim = inl (none-yet rules.setup.provers (p - 1) None (omega (arith, low, high))); disputes = tt };
     settled = [];
     fit = tt;
     reaches = refl;
@@ -285,7 +286,7 @@ module _ (laws : BisectionLaws) where
         reaches = after-last rules i.settled other s (nothing_settled rules) ∙ (ap (settle rules other s) i.reaches ∙ sym same);
       }
 
-  told-turn : (rules : Rules) (says : Says) (t : Truth) (p : ℕ) → 0 < rules.provers → 1 < rules.fan → 0 < rules.bound → 0 < p → IsRun rules t → IsTruthfulProver rules says t p →
+  told-turn : (rules : Rules) (says : Says) (t : Truth) (p : ℕ) → 0 < rules.setup.provers → 1 < rules.setup.fan → 0 < rules.setup.bound → 0 < p → IsRun rules t → IsTruthfulProver rules says t p →
       (n : ℕ) (st : MatchState) (other : ℕ) (q : Question) → 0 < other → open_question rules st.record_ other ≡ Some q → IsTold rules says t p n st → IsTold rules says t p (suc n) (turn rules says st other q)
   told-turn rules says t p some more long numbered run truthful n st other q far asked_ i =
       told-by rules says t p other n q st (turn rules says st other q) numbered far run truthful asked_ ((way-turn laws) rules says some more long n st other q far asked_ i.way)
@@ -293,7 +294,7 @@ module _ (laws : BisectionLaws) where
 
   pub truthful_provers_are_safe : TruthfulProversAreSafe
   truthful_provers_are_safe rules says t ps p playable fair run numbered within truthful legal =
-      let more : 1 < rules.fan = playable.parted in
+      let more : 1 < rules.setup.fan = playable.parted in
       let i : IsTold rules says t p (0 + length ps) (turns rules says ps (begun rules)) =
       (turns-keep laws) rules says (IsTold rules says t p) (told-turn rules says t p playable.some more playable.steps numbered run truthful) ps 0 (begun rules) legal (told-begun rules says t p playable.some numbered within) in
       let stays : Stays rules t p (turns rules says ps (begun rules)).record_ = rw i.reaches at ((settled_stay laws) rules t i.settled p playable fair run numbered i.fit (rw (← i.reaches) at i.answers)) in

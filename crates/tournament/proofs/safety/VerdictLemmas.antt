@@ -12,16 +12,18 @@ use Rattle.bisect_game.specs.declared.settled.Close.{Close}
 use Rattle.bisect_game.specs.declared.settled.Close.TheVariants.{Out, Collision}
 use Rattle.tournament.specs.declared.verdict.Verdict.TheVariants.{Collision}
 use Rattle.bisect_game.specs.Bisection.{Bisection, is_closed, settle_first, settle_second, closed_or, closed_with, went_on, decided, advanced}
-use Rattle.bisect_game.specs.Closing.{both_proved, closed_by, close_of, is_out, is_step}
+use Rattle.bisect_game.specs.Closing.{both_proved, closed_by, close_of, is_out, is_root, is_step}
 use Rattle.bisect_game.specs.Rules.{Rules, ArePlayable}
 use Rattle.bisect_game.specs.Ruling.{Ruling, IsFair, IsCollision, same_digest}
 use Rattle.bisect_game.specs.Truth.{Truth, IsRun}
+use Rattle.tournament.proofs.safety.ClaimLemmas.{FitClaims, fit-at, first-none}
 use Rattle.tournament.proofs.safety.LiveLemmas.{IsIn, live-in}
-use Rattle.tournament.proofs.safety.MatchLemmas.{HasClaim, AllClaim, live-right, settled_stay, claim-there, IsKept, kept-start, FitClaims}
+use Rattle.tournament.proofs.safety.MatchLemmas.{HasClaim, AllClaim, live-right, settled_stay, claim-there, IsKept, kept-start}
 use Rattle.tournament.proofs.OpenedLemmas.{opened-not, opened-due, opened-twice}
 use Rattle.tournament.proofs.ReachLemmas.{same-is}
 use Rattle.tournament.proofs.StageLemmas.{IsPlayed, played-nothing}
-use Rattle.tournament.specs.Bracket.{Record, is_out_in, claim_in, also, live_from, live, first_of, collision_with, claims_collision, Taken, passed_over, take_other, pairs_of, pairs, last_stage, disputes_of, all_there, all_out, put_out, all_closed, is_stage_due, stage_opened, nothing_settled, asks_first, asks_second, claim_missing, settled_in, put, settle, is_complete, collided, disputes_collision, lowest, or_lowest, verdict_of}
+use Rattle.tournament.specs.Bracket.{Record, is_out_in, claim_in, also, live_from, live, collision_with, claims_collision, Taken, passed_over, take_other, pairs_of, pairs, last_stage, disputes_of, all_there, all_out, put_out, all_closed, is_stage_due, stage_opened, nothing_settled, asks_first, asks_second, claim_missing, settled_in, put, settle, is_complete, collided, disputes_collision, lowest, or_lowest, verdict_of}
+use Rattle.std.specs.Option.{option_or}
 use Rattle.tournament.specs.Settling.{after}
 use Rattle.tournament.specs.Fitting.{AllFit}
 use Rattle.tournament.specs.Theorem.{HasTrueClaim, AreTrue, Stays, IsInClaims, IsInDisputes, IsCollisionIn, IsRightVerdict}
@@ -46,24 +48,40 @@ AllMet r (d ∷ ds) = IsMet r d d.close × AllMet r ds
 module _ (laws : BisectionLaws) where
   -- a collision of a dispute is that of its proofs
 
-  met-out : (r : Ruling) (d : Bisection) (agreed : Digest32) (one other : Proof) (o : Option (List ℕ × List ℕ)) → IsFair r → r.step_collision agreed one other ≡ o →
+  led : (step proved : Bool) → (step && not proved) ≡ false → step ≡ true → proved ≡ true
+  led true true e s = refl
+  led true false e s = absurd (cc)
+  led false proved e s = absurd (cc)
+
+  root-led : (own : Digest32) (o : Option Digest32) → is_root own o ≡ true → (b : Digest32) × (o ≡ Some b)
+  root-led own (Some b) e = (b, refl)
+  root-led own None e = absurd (cc)
+
+  met-out : (r : Ruling) (d : Bisection) (agreed : Digest32) (one other : Proof) (b c : Digest32) (o : Option (List ℕ × List ℕ)) → IsFair r → r.leads agreed one ≡ Some b → r.leads agreed other ≡ Some c → r.step_collision agreed one other ≡ o →
       d.by_first ≡ Some (Given (answer.Step one)) → d.by_second ≡ Some (Given (answer.Step other)) → IsMet r d (Some (closed_by o))
-  met-out r d agreed one other (Some pair) fair e ea eb = record { one = one; other = other; by_one = ea; by_other = eb; collision_with = fair.step_collisions agreed one other pair e }
-  met-out r d agreed one other None fair e ea eb = tt
+  met-out r d agreed one other b c (Some pair) fair lb lc e ea eb =
+      record { one = one; other = other; by_one = ea; by_other = eb; collision_with = fair.step_collisions agreed one other b c pair lb lc e }
+  met-out r d agreed one other b c None fair lb lc e ea eb = tt
 
-  met-meeting : (r : Ruling) (d : Bisection) (agreed : Digest32) (a b : Settled) → IsFair r → d.by_first ≡ Some a → d.by_second ≡ Some b → IsMet r d (Some (both_proved r agreed a b))
-  met-meeting r d agreed (Given (answer.Step one)) (Given (answer.Step other)) fair ea eb = met-out r d agreed one other (r.step_collision agreed one other) fair refl ea eb
-  met-meeting r d agreed _ _ fair ea eb = tt
+  -- nobody is out in a proof round, so both proofs lead
+  met-meeting : (r : Ruling) (d : Bisection) (a b : Settled) → IsFair r → d.by_first ≡ Some a → d.by_second ≡ Some b → is_out r d.place d.place.first a ≡ false → is_out r d.place d.place.second b ≡ false → is_step d.place ≡ true →
+      IsMet r d (Some (both_proved r d.place.agreed a b))
+  met-meeting r d (Given (answer.Step one)) (Given (answer.Step other)) fair ea eb na nb step =
+      let first : (x : Digest32) × (r.leads d.place.agreed one ≡ Some x) = root-led d.place.first (r.leads d.place.agreed one) (led (is_step d.place) (is_root d.place.first (r.leads d.place.agreed one)) na step) in
+      let second : (x : Digest32) × (r.leads d.place.agreed other ≡ Some x) = root-led d.place.second (r.leads d.place.agreed other) (led (is_step d.place) (is_root d.place.second (r.leads d.place.agreed other)) nb step) in
+      met-out r d d.place.agreed one other first.0 second.0 (r.step_collision d.place.agreed one other) fair first.1 second.1 refl ea eb
+  met-meeting r d _ _ fair ea eb na nb step = tt
 
-  met-close : (r : Ruling) (d : Bisection) (x y z : Bool) (m c : Close) → (if x || y then Some (Out x y) else if z then Some m else None) ≡ Some c → IsMet r d (Some m) → IsMet r d (Some c)
+  met-close : (r : Ruling) (d : Bisection) (x y z : Bool) (m c : Close) → (if x || y then Some (Out x y) else if z then Some m else None) ≡ Some c → (x ≡ false → y ≡ false → z ≡ true → IsMet r d (Some m)) → IsMet r d (Some c)
   met-close r d true y z m c e h = let same : Out true y ≡ c = cc in rw (← same) tt
   met-close r d false true z m c e h = let same : Out false true ≡ c = cc in rw (← same) tt
-  met-close r d false false true m c e h = let same : m ≡ c = cc in rw (← same) h
+  met-close r d false false true m c e h = let same : m ≡ c = cc in rw (← same) (h refl refl refl)
   met-close r d false false false m c e h = absurd (cc)
 
   met-of : (r : Ruling) (d : Bisection) (a b : Settled) (c : Close) → IsFair r → close_of r d.place a b ≡ Some c → d.by_first ≡ Some a → d.by_second ≡ Some b → IsMet r d (Some c)
   unfolding close_of
-  met-of r d a b c fair e ea eb = met-close r d (is_out r d.place d.place.first a) (is_out r d.place d.place.second b) (is_step d.place) (both_proved r d.place.agreed a b) c e (met-meeting r d d.place.agreed a b fair ea eb)
+  met-of r d a b c fair e ea eb =
+      met-close r d (is_out r d.place d.place.first a) (is_out r d.place d.place.second b) (is_step d.place) (both_proved r d.place.agreed a b) c e (λ na nb step. met-meeting r d a b fair ea eb na nb step)
 
   met-moved : (r : Ruling) (d e : Bisection) (c : Option Close) → e.by_first ≡ d.by_first → e.by_second ≡ d.by_second → IsMet r d c → IsMet r e c
   met-moved r d e (Some (Collision s u)) ea eb h = record { one = h.one; other = h.other; by_one = ea ∙ h.by_one; by_other = eb ∙ h.by_other; collision_with = h.collision_with }
@@ -132,7 +150,7 @@ module _ (laws : BisectionLaws) where
 
   -- so the collision of the disputes is one of the record
 
-  collision-by : (rules : Rules) (r : Record) (d : Bisection) (ds : List Bisection) (pair : List ℕ × List ℕ) (c : Option Close) → first_of (collided c) (disputes_collision ds) ≡ Some pair → IsMet rules.ruling d c →
+  collision-by : (rules : Rules) (r : Record) (d : Bisection) (ds : List Bisection) (pair : List ℕ × List ℕ) (c : Option Close) → option_or (collided c) (disputes_collision ds) ≡ Some pair → IsMet rules.ruling d c →
       ((a : Answer) → IsInDisputes a (d ∷ ds) → IsInDisputes a r.disputes) → (disputes_collision ds ≡ Some pair → IsCollisionIn rules r pair) → IsCollisionIn rules r pair
   collision-by rules r d ds pair (Some (Collision s u)) e h sub rest =
       let same : (s, u) ≡ pair = cc in
@@ -159,43 +177,40 @@ module _ (laws : BisectionLaws) where
   in-claims a (s ∷ ss) zero e = let same : s ≡ Some (Given a) = cc in inl same
   in-claims a (s ∷ ss) (suc k) e = inr (in-claims a ss k e)
 
-  meets-choice : (rules : Rules) (r : Record) (x y : ℕ × Claim) (ys : List (ℕ × Claim)) (pair : List ℕ × List ℕ) (o : Option (List ℕ × List ℕ)) → IsFair rules.ruling → HasClaim r.claims x → HasClaim r.claims y →
-      rules.ruling.claim_collision x.1 y.1 ≡ o → first_of o (collision_with rules.ruling x.1 ys) ≡ Some pair → (collision_with rules.ruling x.1 ys ≡ Some pair → IsCollisionIn rules r pair) → IsCollisionIn rules r pair
-  meets-choice rules r x y ys pair (Some p) fair hx hy em e rest =
+  meets-choice : (rules : Rules) (r : Record) (x y : ℕ × Claim) (ys : List (ℕ × Claim)) (pair : List ℕ × List ℕ) (o : Option (List ℕ × List ℕ)) → IsFair rules.ruling → FitClaims rules.ruling r.claims → HasClaim r.claims x → HasClaim r.claims y →
+      rules.ruling.claim_collision x.1 y.1 ≡ o → option_or o (collision_with rules.ruling x.1 ys) ≡ Some pair → (collision_with rules.ruling x.1 ys ≡ Some pair → IsCollisionIn rules r pair) → IsCollisionIn rules r pair
+  meets-choice rules r x y ys pair (Some p) fair fit hx hy em e rest =
       let same : rules.ruling.claim_collision x.1 y.1 ≡ Some pair = cc in
       record {
         first = answer.Claim x.1;
         second = answer.Claim y.1;
         first_in = inl (in-claims (answer.Claim x.1) r.claims (x.0 - 1) hx.is);
         second_in = inl (in-claims (answer.Claim y.1) r.claims (y.0 - 1) hy.is);
-        collision = fair.claim_collisions x.1 y.1 pair same;
+        collision =
+            fair.claim_collisions x.1 y.1 pair (fit-at rules.ruling r.claims (x.0 - 1) x.1 fit hx.is) (fit-at rules.ruling r.claims (y.0 - 1) y.1 fit hy.is) same;
       }
-  meets-choice rules r x y ys pair None fair hx hy em e rest = rest e
+  meets-choice rules r x y ys pair None fair fit hx hy em e rest = rest e
 
-  meets-collision : (rules : Rules) (r : Record) (x : ℕ × Claim) (ys : List (ℕ × Claim)) (pair : List ℕ × List ℕ) → IsFair rules.ruling → HasClaim r.claims x → AllClaim r.claims ys →
+  meets-collision : (rules : Rules) (r : Record) (x : ℕ × Claim) (ys : List (ℕ × Claim)) (pair : List ℕ × List ℕ) → IsFair rules.ruling → FitClaims rules.ruling r.claims → HasClaim r.claims x → AllClaim r.claims ys →
       collision_with rules.ruling x.1 ys ≡ Some pair → IsCollisionIn rules r pair
-  meets-collision rules r x [] pair fair hx h e = absurd (cc)
-  meets-collision rules r x (y ∷ ys) pair fair hx h e =
-      meets-choice rules r x y ys pair (rules.ruling.claim_collision x.1 y.1) fair hx h.0 refl e (λ further. meets-collision rules r x ys pair fair hx h.1 further)
+  meets-collision rules r x [] pair fair fit hx h e = absurd (cc)
+  meets-collision rules r x (y ∷ ys) pair fair fit hx h e =
+      meets-choice rules r x y ys pair (rules.ruling.claim_collision x.1 y.1) fair fit hx h.0 refl e (λ further. meets-collision rules r x ys pair fair fit hx h.1 further)
 
-  claims-choice : (rules : Rules) (r : Record) (x : ℕ × Claim) (xs : List (ℕ × Claim)) (pair : List ℕ × List ℕ) (o : Option (List ℕ × List ℕ)) → collision_with rules.ruling x.1 xs ≡ o → first_of o (claims_collision rules.ruling xs) ≡ Some pair →
+  claims-choice : (rules : Rules) (r : Record) (x : ℕ × Claim) (xs : List (ℕ × Claim)) (pair : List ℕ × List ℕ) (o : Option (List ℕ × List ℕ)) → collision_with rules.ruling x.1 xs ≡ o → option_or o (claims_collision rules.ruling xs) ≡ Some pair →
       (collision_with rules.ruling x.1 xs ≡ Some pair → IsCollisionIn rules r pair) → (claims_collision rules.ruling xs ≡ Some pair → IsCollisionIn rules r pair) → IsCollisionIn rules r pair
   claims-choice rules r x xs pair (Some p) em e here rest = let same : collision_with rules.ruling x.1 xs ≡ Some pair = cc in here same
   claims-choice rules r x xs pair None em e here rest = rest e
 
-  claims-collision : (rules : Rules) (r : Record) (xs : List (ℕ × Claim)) (pair : List ℕ × List ℕ) → IsFair rules.ruling → AllClaim r.claims xs → claims_collision rules.ruling xs ≡ Some pair → IsCollisionIn rules r pair
-  claims-collision rules r [] pair fair h e = absurd (cc)
-  claims-collision rules r (x ∷ xs) pair fair h e =
+  claims-collision : (rules : Rules) (r : Record) (xs : List (ℕ × Claim)) (pair : List ℕ × List ℕ) → IsFair rules.ruling → FitClaims rules.ruling r.claims → AllClaim r.claims xs → claims_collision rules.ruling xs ≡ Some pair → IsCollisionIn rules r pair
+  claims-collision rules r [] pair fair fit h e = absurd (cc)
+  claims-collision rules r (x ∷ xs) pair fair fit h e =
       claims-choice rules r x xs pair (collision_with rules.ruling x.1 xs) refl e
-      (λ here. meets-collision rules r x xs pair fair h.0 h.1 here) (λ further. claims-collision rules r xs pair fair h.1 further)
+      (λ here. meets-collision rules r x xs pair fair fit h.0 h.1 here) (λ further. claims-collision rules r xs pair fair fit h.1 further)
 
   -- without a collision of the claims, live ones of one root are the same
 
-  first-none : (a b : Option (List ℕ × List ℕ)) → first_of a b ≡ None → (a ≡ None) × (b ≡ None)
-  first-none (Some pair) b e = absurd (cc)
-  first-none None b e = (refl, e)
-
-  both-none : (a b : Option (List ℕ × List ℕ)) → a ≡ None → b ≡ None → first_of a b ≡ None
+  both-none : (a b : Option (List ℕ × List ℕ)) → a ≡ None → b ≡ None → option_or a b ≡ None
   both-none a b ea eb = rw ea eb
 
   meets-none : (r : Ruling) (x : Claim) (p : ℕ) (c : Claim) (ys : List (ℕ × Claim)) → collision_with r x ys ≡ None → IsIn p c ys → r.claim_collision x c ≡ None
@@ -253,22 +268,17 @@ module _ (laws : BisectionLaws) where
   no-pairs r zero x xs some e = absurd (omega arith)
   no-pairs r (suc n) x xs some e = no-pairs-by r n x xs (take_other r (r.root_of x.1) xs) e
 
-  fit-at : (r : Ruling) (ss : List (Option Settled)) (k : ℕ) (c : Claim) → FitClaims r ss → slice_get ss k ≡ Some (Some (Given (answer.Claim c))) → r.is_sound c ≡ true
-  fit-at r [] k c f e = absurd (cc)
-  fit-at r (s ∷ ss) zero c f e = let same : s ≡ Some (Given (answer.Claim c)) = cc in rw same at f.0
-  fit-at r (s ∷ ss) (suc k) c f e = fit-at r ss k c f.1 e
-
   -- the lowest live one has the true claim
 
-  lowest-right : (rules : Rules) (t : Truth) (r : Record) (p : ℕ) (xs : List (ℕ × Claim)) → IsFair rules.ruling → 0 < rules.provers → FitClaims rules.ruling r.claims → AllClaim r.claims xs →
-      rules.ruling.is_sound t.claim ≡ true → IsIn p t.claim xs → claims_collision rules.ruling xs ≡ None → pairs_of rules.ruling rules.provers xs ≡ [] → IsRightVerdict rules t r (lowest xs)
+  lowest-right : (rules : Rules) (t : Truth) (r : Record) (p : ℕ) (xs : List (ℕ × Claim)) → IsFair rules.ruling → 0 < rules.setup.provers → FitClaims rules.ruling r.claims → AllClaim r.claims xs →
+      rules.ruling.is_sound t.claim ≡ true → IsIn p t.claim xs → claims_collision rules.ruling xs ≡ None → pairs_of rules.ruling rules.setup.provers xs ≡ [] → IsRightVerdict rules t r (lowest xs)
   lowest-right rules t r p [] fair some fit h sound i none over = absurd i
   lowest-right rules t r p (x ∷ xs) fair some fit h sound i none over =
       let c : x.1 ≡ t.claim = elim i [
         | inl same ↦ ap (λ (z : ℕ × Claim). z.1) same
         | inr further ↦
             fair.claims_collide x.1 t.claim (fit-at rules.ruling r.claims (x.0 - 1) x.1 fit h.0.is) sound
-            (sym (other-none rules.ruling (rules.ruling.root_of x.1) p t.claim xs (no-pairs rules.ruling rules.provers x xs some over) further))
+            (sym (other-none rules.ruling (rules.ruling.root_of x.1) p t.claim xs (no-pairs rules.ruling rules.setup.provers x xs some over) further))
             (meets-none rules.ruling x.1 p t.claim xs (first-none (collision_with rules.ruling x.1 xs) (claims_collision rules.ruling xs) none).0 further)
       ] in
       rw c at h.0.is
@@ -302,14 +312,14 @@ module _ (laws : BisectionLaws) where
   rests-after rules [] r e = e
   rests-after rules (x ∷ es) r e = rests-after rules es (settle rules x.0 x.1 r) (opened-twice rules (put rules x.0 x.1 r))
 
-  rests-nothing : (rules : Rules) → 0 < rules.provers → stage_opened rules (nothing_settled rules) ≡ nothing_settled rules
+  rests-nothing : (rules : Rules) → 0 < rules.setup.provers → stage_opened rules (nothing_settled rules) ≡ nothing_settled rules
   rests-nothing rules some = let i : IsPlayed rules (nothing_settled rules) = (played-nothing laws) rules some in i.rests
 
-  verdict-by : (rules : Rules) (t : Truth) (r : Record) (p : ℕ) (a b : Option (List ℕ × List ℕ)) → 0 < rules.provers → IsFair rules.ruling → IsRun rules t → 0 < p → IsKept rules t p r → AllMet rules.ruling r.disputes →
+  verdict-by : (rules : Rules) (t : Truth) (r : Record) (p : ℕ) (a b : Option (List ℕ × List ℕ)) → 0 < rules.setup.provers → IsFair rules.ruling → IsRun rules t → 0 < p → IsKept rules t p r → AllMet rules.ruling r.disputes →
       stage_opened rules r ≡ r → is_complete r ≡ true → HasTrueClaim t r.claims p → is_out_in r.disputes p ≡ false →
-      claims_collision rules.ruling (live_from [] 1 r.claims) ≡ a → disputes_collision r.disputes ≡ b → IsRightVerdict rules t r (or_lowest (first_of a b) (live r))
+      claims_collision rules.ruling (live_from [] 1 r.claims) ≡ a → disputes_collision r.disputes ≡ b → IsRightVerdict rules t r (or_lowest (option_or a b) (live r))
   verdict-by rules t r p (Some pair) b some fair run numbered k m rests c claim stays ea eb =
-      claims-collision rules r (live_from [] 1 r.claims) pair fair ((live-right laws) r.claims [] 0 r.claims (λ i. ap (slice_get r.claims) (omega arith))) ea
+      claims-collision rules r (live_from [] 1 r.claims) pair fair k.fit ((live-right laws) r.claims [] 0 r.claims (λ i. ap (slice_get r.claims) (omega arith))) ea
   verdict-by rules t r p None (Some pair) some fair run numbered k m rests c claim stays ea eb =
       dispute-collision rules r r.disputes pair eb m (λ a i. i)
   verdict-by rules t r p None None some fair run numbered k m rests c claim stays ea eb =
@@ -325,9 +335,9 @@ module _ (laws : BisectionLaws) where
       AllFit rules es (nothing_settled rules) → AreTrue rules t p (after rules es (nothing_settled rules)) → is_complete (after rules es (nothing_settled rules)) ≡ true →
       IsRightVerdict rules t (after rules es (nothing_settled rules)) (verdict_of rules (after rules es (nothing_settled rules)))
   settled_right rules t es p playable fair run numbered fit true_ c =
-      let some : 0 < rules.provers = playable.some in
-      let more : 1 < rules.fan = playable.parted in
-      let long : 0 < rules.bound = playable.steps in
+      let some : 0 < rules.setup.provers = playable.some in
+      let more : 1 < rules.setup.fan = playable.parted in
+      let long : 0 < rules.setup.bound = playable.steps in
       let s : Stays rules t p (after rules es (nothing_settled rules)) = (settled_stay laws) rules t es p playable fair run numbered fit true_ in
       verdict-by rules t (after rules es (nothing_settled rules)) p _ _ some fair run numbered ((kept-start laws) rules t p es more long fair run fit)
       (met-after rules es (nothing_settled rules) fair tt) (rests-after rules es (nothing_settled rules) (rests-nothing rules some)) c ((claim-there laws) t p (after rules es (nothing_settled rules)) c true_.claim) s.not_out refl refl

@@ -3,4 +3,4 @@ use Rattle.tournament.specs.Keeping.{AllRooms}
 use Rattle.tournament.proofs.sheet.rooms_for.Given as goal
 
 abbrev pub invariant-loop : goal.invariant-loop
-invariant-loop l = (vec_len l.rooms ≡ l.counter) × AllRooms l.bound l.fan l.rooms.items
+invariant-loop l = (vec_len l.rooms ≡ l.counter) × AllRooms l.setup l.rooms.items

@@ -1,7 +1,7 @@
 use Rattle.std.proofs.Common.{ap, ◌-◌, ◌∙◌, slice_set}
 use Rattle.tournament.specs.Bracket.{Record}
 use Rattle.tournament.specs.Moves.{MatchState}
-use Rattle.tournament.specs.Posting.{rules_of}
+use Rattle.bisect_game.specs.Rules.{rules_of}
 use Rattle.tournament.proofs.keeping.PostedLemmas.{settle-is, put-few, match-settled}
 use Rattle.tournament.proofs.playing.Match.settle.Goals as goal
 

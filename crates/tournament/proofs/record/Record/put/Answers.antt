@@ -1,7 +1,6 @@
 use Rattle.std.proofs.Common.{sym, ap, arith, []}
-use Rattle.bisect_game.specs.Rules.{Rules}
 use Rattle.tournament.specs.Bracket.{Record}
-use Rattle.tournament.specs.Posting.{rules_of}
+use Rattle.bisect_game.specs.Rules.{Rules, rules_of}
 use Rattle.tournament.proofs.keeping.KeepingLemmas.{asked-within, asked-asks, put-there, put-nowhere}
 use Rattle.tournament.proofs.record.Record.put.Goals as goal
 
@@ -11,7 +10,7 @@ index_mut-requires g c =
 
 pub settle-requires : goal.settle-requires
 settle-requires g c =
-    let rules : Rules = record { ruling = g.J.Judge.ruling (g.J.Judge.names c.args.judge.now); provers = 1; bound = 1; fan = 2; patience = 0; start = record { 0 = [] } } in
+    let rules : Rules = rules_of (g.J.Judge.ruling (g.J.Judge.names c.args.judge.now)) (record { provers = 1; bound = 1; fan = 2; patience = 0; start = record { 0 = [] } }) in
     asked-asks rules c.args.p c.in-Some.i c.args.settled c.in-Some.side _ c.self.inside.disputes.items c.index_mut.result.now c.as_slice.ensures.value (sym c.in-Some.ensures) c.index_mut.ensures.value
 
 pub returns-in-Some : goal.returns-in-Some

@@ -1,6 +1,7 @@
 use Rattle.std.proofs.Common.{◌≡◌, ◌∙◌, refl, ap, arith, suc, length, ◌+◌, ◌-◌, ◌∷◌, [], Some, None, length-append}
 use Rattle.tournament.specs.Bracket.{Record}
-use Rattle.tournament.specs.Keeping.{other_from, side_pairs, dispute_at}
+use Rattle.bisect_game.specs.Disputes.{dispute_of}
+use Rattle.tournament.specs.Keeping.{other_from, side_pairs}
 use Rattle.tournament.proofs.keeping.KeepingLemmas.{pairs-none, pairs-some, pairs-opened}
 use Rattle.tournament.proofs.sheet.Sheet.+open_pairs.Goals as goal
 
@@ -29,7 +30,7 @@ open_pairs-requires-in-Some t c =
     c.remove-first.ensures.value c.remove-first.ensures.items e c.remove-second.ensures.value c.remove-second.ensures.items in
     let n : length (side_pairs c.args.left c.args.live.now.items) ≡ suc (length (side_pairs (c.args.left - 1) c.remove-second.new.self.items)) = ap (λ ps. length ps) p in
     let m : length c.open_one.new.self.record_.disputes ≡ length c.args.self.now.record_.disputes + 1 =
-    ap (λ (r : Record). length r.disputes) c.open_one.ensures.record_ ∙ length-append c.args.self.now.record_.disputes (dispute_at c.args.self.now.setup c.args.stage (length c.args.self.now.record_.disputes + 1) c.remove-first.result c.remove-second.result ∷ []) in
+    ap (λ (r : Record). length r.disputes) c.open_one.ensures.record_ ∙ length-append c.args.self.now.record_.disputes (dispute_of c.args.self.now.setup c.args.stage (length c.args.self.now.record_.disputes + 1) c.remove-first.result c.remove-second.result ∷ []) in
     let q : c.open_one.new.self.setup.provers ≡ c.args.self.now.setup.provers = rw c.open_one.ensures.setup refl in
     (omega (arith, c.decreases, c.if-left-eq0.false), (omega (arith, n, m, q, c.requires.few), omega (arith, m, c.requires.stage)))
 

@@ -1,7 +1,7 @@
 use Rattle.std.proofs.Common.{◌≡◌, ◌∙◌, sym, ap, true}
 use Rattle.tournament.specs.Bracket.{live, is_stage_due}
 use Rattle.tournament.specs.Keeping.{Sheet, sides}
-use Rattle.tournament.specs.Posting.{rules_of}
+use Rattle.bisect_game.specs.Rules.{rules_of}
 use Rattle.tournament.proofs.OpenedLemmas.{opened-not}
 use Rattle.tournament.proofs.keeping.KeepingLemmas.{stage-is, stage-few, filled-live}
 use Rattle.tournament.proofs.sheet.Sheet.open_due.Goals as goal

@@ -1,4 +1,4 @@
-use Rattle.tournament.specs.Posting.{rules_of}
+use Rattle.bisect_game.specs.Rules.{rules_of}
 use Rattle.tournament.proofs.keeping.KeepingLemmas.{sheet-put}
 use Rattle.tournament.proofs.sheet.Sheet.settle.Goals as goal
 
