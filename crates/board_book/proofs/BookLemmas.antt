@@ -1,5 +1,5 @@
 -- A book as it is kept.
-use Rattle.std.proofs.Common.{◌≡◌, ◌↔◌, ℕ, zero, suc, ◌+◌, ◌-◌, ◌*◌, ◌^◌, ◌<◌, ◌≤◌, nat_le, Bool, true, false, ◌==◌, if◌then◌else◌, List, [], ◌∷◌, ◌++◌, length, slice_index_or, slice_set, inl, inr, Option, Some, None, is_none, refl, sym, ◌∙◌, ap, arith, add-one, length-append, append_assoc}
+use Rattle.std.proofs.Common.{◌≡◌, ◌↔◌, ℕ, zero, suc, ◌+◌, ◌*◌, ◌^◌, ◌<◌, ◌≤◌, nat_le, Bool, true, false, ◌==◌, if◌then◌else◌, List, [], ◌∷◌, ◌++◌, length, slice_index_or, slice_set, inl, inr, Option, Some, None, is_none, refl, sym, ◌∙◌, ap, arith, add-one, length-append, append_assoc}
 use Rattle.std.proofs.lemmas.Bool.Decides.{nat_tests}
 use Rattle.std.proofs.Math.Nat.{mul-le-mul_left, pow-succ', pow-le-pow_left, pow-le-pow_right}
 use Rattle.std.proofs.Math.Pow.{pow_mono}
@@ -15,9 +15,10 @@ use Rattle.tournament.specs.Bracket.{open_question, is_complete, bracket}
 use Rattle.tournament.specs.Moves.{MatchState, begun, passes_of, settled_by, moved}
 use Rattle.tournament.specs.Journals.{turn, turn_on, turns, IsAskedOf, Legal, answers_of, RecordOfCase}
 use Rattle.tournament.specs.Length.{IsMost, most_entries, SpareIsEnough}
-use Rattle.tournament.specs.declared.setup.Setup.{Setup}
+use Rattle.bisect_game.specs.declared.setup.Setup.{Setup}
 use Rattle.rd_base.specs.Questions.{same_qid}
-use Rattle.tournament.specs.Posting.{rules_of, posted, posted_on, reply_by, reply_on, reply_to}
+use Rattle.tournament.specs.Posting.{posted, posted_on, reply_by, reply_on, reply_to}
+use Rattle.bisect_game.specs.Rules.{rules_of}
 use Rattle.tournament.specs.Asked.{asked, AskedByTheCase}
 use Rattle.tournament.specs.Truthful.{IsTruthfulProver, IsSafe, TruthfulProversAreSafe}
 use Rattle.bisect_game.specs.Truth.{Truth, IsRun}
@@ -72,7 +73,7 @@ who-length (e ∷ es) = ap suc (who-length es)
 
 pub book-few : SpareIsEnough → (rules : Rules) (says : Says) (count : ℕ) (es : List Entry) (st : MatchState) (room capacity : ℕ) → IsBook rules says count es st room capacity → length es ≤ room
 book-few enough rules says count es st room capacity b =
-    let few : length (who es) ≤ most_entries rules b.most.0 = enough rules says (who es) b.most.0 b.playable b.most.1 (journal-legal rules says es (begun rules) b.legal) in
+    let few : length (who es) ≤ most_entries rules.setup b.most.0 = enough rules says (who es) b.most.0 b.playable b.most.1 (journal-legal rules says es (begun rules) b.legal) in
     omega (arith, few, who-length es, b.most.2)
 
 -- an entry more
@@ -151,17 +152,17 @@ legal-last : (rules : Rules) (says : Says) (ps : List ℕ) (p : ℕ) (st : Match
 legal-last rules says [] p st l a = (a, tt)
 legal-last rules says (q ∷ ps) p st l a = (l.0, legal-last rules says ps p _ l.1 a)
 
-full-none : SpareIsEnough → (rules : Rules) (says : Says) (count : ℕ) (es : List Entry) (st : MatchState) (room capacity k p : ℕ) (o : Option Question) → IsBook rules says count es st room capacity → IsMost rules.fan rules.bound k → length es ≡ most_entries rules k → 0 < p →
+full-none : SpareIsEnough → (rules : Rules) (says : Says) (count : ℕ) (es : List Entry) (st : MatchState) (room capacity k p : ℕ) (o : Option Question) → IsBook rules says count es st room capacity → IsMost rules.setup.fan rules.setup.bound k → length es ≡ most_entries rules.setup k → 0 < p →
     open_question rules st.record_ p ≡ o → o ≡ None
 full-none enough rules says count es st room capacity k p None b m full some e = refl
 full-none enough rules says count es st room capacity k p (Some q) b m full some e =
     let asked : IsAskedOf rules (turns rules says (who es) (begun rules)) p = rw b.state (record { question = q; numbered = some; asked = e }) in
     let legal : Legal rules says (who es ++ p ∷ []) (begun rules) = legal-last rules says (who es) p (begun rules) (journal-legal rules says es (begun rules) b.legal) asked in
-    let few : length (who es ++ p ∷ []) ≤ most_entries rules k = enough rules says (who es ++ p ∷ []) k b.playable m legal in
+    let few : length (who es ++ p ∷ []) ≤ most_entries rules.setup k = enough rules says (who es ++ p ∷ []) k b.playable m legal in
     absurd (omega (arith, few, length-append (who es) (p ∷ []), who-length es, full))
 
-pub book-full : SpareIsEnough → (rules : Rules) (says : Says) (count : ℕ) (es : List Entry) (st : MatchState) (room capacity k : ℕ) → IsBook rules says count es st room capacity → IsMost rules.fan rules.bound k → length es ≡ most_entries rules k →
-    ((p : ℕ) → 0 < p → p ≤ rules.provers → open_question rules st.record_ p ≡ None) ↔ (is_complete st.record_ ≡ true) → is_complete st.record_ ≡ true
+pub book-full : SpareIsEnough → (rules : Rules) (says : Says) (count : ℕ) (es : List Entry) (st : MatchState) (room capacity k : ℕ) → IsBook rules says count es st room capacity → IsMost rules.setup.fan rules.setup.bound k → length es ≡ most_entries rules.setup k →
+    ((p : ℕ) → 0 < p → p ≤ rules.setup.provers → open_question rules st.record_ p ≡ None) ↔ (is_complete st.record_ ≡ true) → is_complete st.record_ ≡ true
 book-full enough rules says count es st room capacity k b m full over =
     over.0 (λ p some le. full-none enough rules says count es st room capacity k p (open_question rules st.record_ p) b m full some refl)
 
@@ -200,7 +201,7 @@ book-asks by rules says count es st room capacity b p q some e =
     by rules says (who es) p q b.playable legal some (rw (← b.state) at e)
 
 pub book-safe : TruthfulProversAreSafe → (rules : Rules) (says : Says) (count : ℕ) (es : List Entry) (st : MatchState) (room capacity : ℕ) → IsBook rules says count es st room capacity → IsFair rules.ruling →
-    (t : Truth) (p : ℕ) → IsRun rules t → 0 < p → p ≤ rules.provers → IsTruthfulProver rules says t p → IsSafe rules t p st.record_
+    (t : Truth) (p : ℕ) → IsRun rules t → 0 < p → p ≤ rules.setup.provers → IsTruthfulProver rules says t p → IsSafe rules t p st.record_
 book-safe safe rules says count es st room capacity b fair t p run low high truthful =
     let legal : Legal rules says (who es) (begun rules) = journal-legal rules says es (begun rules) b.legal in
     rw b.state at (safe rules says t (who es) p b.playable fair run low high truthful legal)
@@ -208,7 +209,7 @@ book-safe safe rules says count es st room capacity b fair t p run low high trut
 -- the empty book
 
 pub book-begun : (ruling : Ruling) (t : Setup) (says : Says) (count : ℕ) (es : List Entry) (room capacity : ℕ) → 0 < count → count ≤ 16 → 0 < t.bound → 1 < t.fan → t.fan ≤ 16 → t.provers ≡ count → es ≡ [] → room < 2 ^ 32 →
-    ((k : ℕ) × IsMost t.fan t.bound k × (room ≡ (t.patience + 1) * (t.provers + 2 * (t.provers - 1) * (k + 1)))) → room ≤ capacity →
+    ((k : ℕ) × IsMost t.fan t.bound k × (room ≡ most_entries t k)) → room ≤ capacity →
     IsBook (rules_of ruling t) says count es (begun (rules_of ruling t)) room capacity
 book-begun ruling t says count es room capacity some sixteen steps parted few many none small most fits = record {
   playable = record { some = omega (arith, many, some); parted = parted; few_parts = few; steps = steps };

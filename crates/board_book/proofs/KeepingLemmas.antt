@@ -10,16 +10,17 @@ use Rattle.std.specs.List.{All}
 use Rattle.std.proofs.lemmas.List.Elements.{All-head, All-tail, All-get_or}
 use Rattle.bisect_game.specs.Says.{Says}
 use Rattle.bisect_game.specs.Ruling.{Ruling}
-use Rattle.tournament.specs.declared.setup.Setup.{Setup}
+use Rattle.bisect_game.specs.declared.setup.Setup.{Setup}
 use Rattle.tournament.specs.Moves.{MatchState, begun}
 use Rattle.tournament.specs.Journals.{turns}
-use Rattle.tournament.specs.Length.{IsMost}
-use Rattle.tournament.specs.Posting.{rules_of}
+use Rattle.tournament.specs.Length.{IsMost, most_entries}
+use Rattle.bisect_game.specs.Rules.{rules_of}
+use Rattle.board_book.specs.declared.opening.Opening.{Opening}
 use Rattle.board_book.specs.declared.entry.Entry.{Entry}
 use Rattle.board_book.specs.Entries.{IsJournal, who, is_stale, noted}
 use Rattle.board_book.specs.Tasks.{Task, task_of, numbered, Games, begun_game, games_of, IsTaskJournal, games_after, entries_of, BookOf, of_task, tasks_of, openings, noted_for}
 use Rattle.board_book.specs.Alone.{played}
-use Rattle.board_book.specs.Keeping.{most_of, all_entries, HasRoom, AreKept, Grows, AreNumbered}
+use Rattle.board_book.specs.Keeping.{all_entries, HasRoom, AreKept, Grows, AreNumbered}
 use Rattle.board_book.proofs.AloneLemmas.{alone, journals_join, block_is_legal, entries_join, entries_of_block, entries_of_others, journal_rest}
 
 -- numbers and places
@@ -71,130 +72,130 @@ most_is_one : (fan bound j k : ℕ) → IsMost fan bound j → IsMost fan bound 
 most_is_one fan bound j k a b = let low : j ≤ k = b.most j a.few in let high : k ≤ j = a.most k b.few in omega (arith, low, high)
 
 module _ {N M : Type 0} where
-  total_set : (bs : List (BookOf N M)) (i : ℕ) (b c : BookOf N M) → slice_get bs i ≡ Some b → all_entries (set bs i c) + length b.1 ≡ all_entries bs + length c.1
+  total_set : (bs : List (BookOf N M)) (i : ℕ) (b c : BookOf N M) → slice_get bs i ≡ Some b → all_entries (set bs i c) + length b.journal ≡ all_entries bs + length c.journal
   total_set [] i b c e = absurd (none-some b e)
   total_set (x ∷ bs) zero b c e =
-      let n : length x.1 ≡ length b.1 = ap (λ (y : BookOf N M). length y.1) (same_Some x b e) in omega (arith, n)
-  total_set (x ∷ bs) (suc i) b c e = let n : all_entries (set bs i c) + length b.1 ≡ all_entries bs + length c.1 = total_set bs i b c e in omega (arith, n)
+      let n : length x.journal ≡ length b.journal = ap (λ (y : BookOf N M). length y.journal) (same_Some x b e) in omega (arith, n)
+  total_set (x ∷ bs) (suc i) b c e = let n : all_entries (set bs i c) + length b.journal ≡ all_entries bs + length c.journal = total_set bs i b c e in omega (arith, n)
 
   pub within_room : (bs : List (BookOf N M)) (n : ℕ) → HasRoom bs n → all_entries bs ≤ n
   within_room [] n r = omega arith
-  within_room (b ∷ bs) n r = let few : length b.1 ≤ most_of b.0.2 r.0 = r.2 in let is : n ≡ most_of b.0.2 r.0 + r.3.0 = r.3.1 in let rest : all_entries bs ≤ r.3.0 = within_room bs r.3.0 r.3.2 in
+  within_room (b ∷ bs) n r = let few : length b.journal ≤ most_entries b.opening.setup r.0 = r.2 in let is : n ≡ most_entries b.opening.setup r.0 + r.3.0 = r.3.1 in let rest : all_entries bs ≤ r.3.0 = within_room bs r.3.0 r.3.2 in
       omega (arith, few, is, rest)
 
-  room_set : (bs : List (BookOf N M)) (i n : ℕ) (b c : BookOf N M) → slice_get bs i ≡ Some b → c.0 ≡ b.0 → (k : ℕ) → IsMost c.0.2.fan c.0.2.bound k → length c.1 ≤ most_of c.0.2 k → HasRoom bs n → HasRoom (set bs i c) n
+  room_set : (bs : List (BookOf N M)) (i n : ℕ) (b c : BookOf N M) → slice_get bs i ≡ Some b → c.opening ≡ b.opening → (k : ℕ) → IsMost c.opening.setup.fan c.opening.setup.bound k → length c.journal ≤ most_entries c.opening.setup k → HasRoom bs n → HasRoom (set bs i c) n
   room_set [] i n b c e same k most few r = absurd (none-some b e)
   room_set (x ∷ bs) zero n b c e same k most few r =
-      let opening : x.0 ≡ c.0 = ap (λ (y : BookOf N M). y.0) (same_Some x b e) ∙ sym same in
-      let setup : x.0.2 ≡ c.0.2 = ap (λ (o : N × M × Setup). o.2) opening in
-      let there : IsMost c.0.2.fan c.0.2.bound r.0 = subst (λ (s : Setup). IsMost s.fan s.bound r.0) setup r.1 in
-      let one : k ≡ r.0 = most_is_one c.0.2.fan c.0.2.bound k r.0 most there in
-      let size : most_of x.0.2 r.0 ≡ most_of c.0.2 r.0 = ap (λ (s : Setup). most_of s r.0) setup in
-      (r.0, there, subst (λ (j : ℕ). length c.1 ≤ most_of c.0.2 j) one few, (r.3.0, r.3.1 ∙ ap (λ (m : ℕ). m + r.3.0) size, r.3.2))
+      let opening : x.opening ≡ c.opening = ap (λ (y : BookOf N M). y.opening) (same_Some x b e) ∙ sym same in
+      let setup : x.opening.setup ≡ c.opening.setup = ap (λ (o : Opening N M). o.setup) opening in
+      let there : IsMost c.opening.setup.fan c.opening.setup.bound r.0 = subst (λ (s : Setup). IsMost s.fan s.bound r.0) setup r.1 in
+      let one : k ≡ r.0 = most_is_one c.opening.setup.fan c.opening.setup.bound k r.0 most there in
+      let size : most_entries x.opening.setup r.0 ≡ most_entries c.opening.setup r.0 = ap (λ (s : Setup). most_entries s r.0) setup in
+      (r.0, there, subst (λ (j : ℕ). length c.journal ≤ most_entries c.opening.setup j) one few, (r.3.0, r.3.1 ∙ ap (λ (m : ℕ). m + r.3.0) size, r.3.2))
   room_set (x ∷ bs) (suc i) n b c e same k most few r = (r.0, r.1, r.2, (r.3.0, r.3.1, room_set bs i r.3.0 b c e same k most few r.3.2))
 
-  pub opening_there : (bs : List (BookOf N M)) (t : ℕ) (b : BookOf N M) → numbered bs t ≡ Some b → slice_get (openings bs) (t - 1) ≡ Some b.0
-  opening_there bs t b there = at_place (openings bs) t b.0 (numbered_map (λ (c : BookOf N M). c.0) bs t b there)
+  pub opening_there : (bs : List (BookOf N M)) (t : ℕ) (b : BookOf N M) → numbered bs t ≡ Some b → slice_get (openings bs) (t - 1) ≡ Some b.opening
+  opening_there bs t b there = at_place (openings bs) t b.opening (numbered_map (λ (c : BookOf N M). c.opening) bs t b there)
 
   -- the task and the game of a book
-  pub task_there : (ruling : N → Ruling) (says : M → Says) (bs : List (BookOf N M)) (t : ℕ) (b : BookOf N M) → numbered bs t ≡ Some b → numbered (tasks_of ruling says (openings bs)) t ≡ Some (task_of ruling says b.0)
-  task_there ruling says bs t b there = numbered_map (task_of ruling says) (openings bs) t b.0 (numbered_map (λ (c : BookOf N M). c.0) bs t b there)
+  pub task_there : (ruling : N → Ruling) (says : M → Says) (bs : List (BookOf N M)) (t : ℕ) (b : BookOf N M) → numbered bs t ≡ Some b → numbered (tasks_of ruling says (openings bs)) t ≡ Some (task_of ruling says b.opening)
+  task_there ruling says bs t b there = numbered_map (task_of ruling says) (openings bs) t b.opening (numbered_map (λ (c : BookOf N M). c.opening) bs t b there)
 
   pub are_numbered : (ruling : N → Ruling) (says : M → Says) → AreNumbered ruling says
   are_numbered ruling says = record {
-    book = λ bs t b there. numbered_map (λ (c : BookOf N M). c.0) bs t b there;
+    book = λ bs t b there. numbered_map (λ (c : BookOf N M). c.opening) bs t b there;
     opening = λ heads t h there. numbered_map (task_of ruling says) heads t h there;
     task = λ heads t k there. (is_positive (tasks_of ruling says heads) t k there, few heads t k there);
   }
     where
-      few : (heads : List (N × M × Setup)) (t : ℕ) (k : Task) → numbered (tasks_of ruling says heads) t ≡ Some k → t ≤ length heads
+      few : (heads : List (Opening N M)) (t : ℕ) (k : Task) → numbered (tasks_of ruling says heads) t ≡ Some k → t ≤ length heads
       few heads t k there =
           let some : 0 < t = is_positive (tasks_of ruling says heads) t k there in
           let within : t - 1 < length (tasks_of ruling says heads) = slice_get_within (tasks_of ruling says heads) (t - 1) k (at_place (tasks_of ruling says heads) t k there) in
           let long : length (tasks_of ruling says heads) ≡ length heads = length-map heads (task_of ruling says) in
           omega (arith, some, within, long)
 
-  game_there : (ruling : N → Ruling) (says : M → Says) (bs : List (BookOf N M)) (t : ℕ) (b : BookOf N M) → numbered bs t ≡ Some b → games_of (tasks_of ruling says (openings bs)) t ≡ Some (begun_game (task_of ruling says b.0))
+  game_there : (ruling : N → Ruling) (says : M → Says) (bs : List (BookOf N M)) (t : ℕ) (b : BookOf N M) → numbered bs t ≡ Some b → games_of (tasks_of ruling says (openings bs)) t ≡ Some (begun_game (task_of ruling says b.opening))
   game_there ruling says bs t b there = ap (option_map begun_game) (task_there ruling says bs t b there)
 
   -- one book has grown
   pub kept_grown : (ruling : N → Ruling) (says : M → Says) (bs : List (BookOf N M)) (journal : List (ℕ × Entry)) (capacity t : ℕ) (b c : BookOf N M) → AreKept ruling says bs journal capacity → numbered bs t ≡ Some b → Grows ruling says b c →
-      AreKept ruling says (set bs (t - 1) c) (journal ++ of_task t (drop (length b.1) c.1)) capacity
+      AreKept ruling says (set bs (t - 1) c) (journal ++ of_task t (drop (length b.journal) c.journal)) capacity
   kept_grown ruling says bs journal capacity t b c kept there grows =
-      let es : List Entry = drop (length b.1) c.1 in
-      let k : Task = task_of ruling says b.0 in
+      let es : List Entry = drop (length b.journal) c.journal in
+      let k : Task = task_of ruling says b.opening in
       let games : Games = games_of (tasks_of ruling says (openings bs)) in
       let here : slice_get bs (t - 1) ≡ Some b = at_place bs t b there in
       let some : 0 < t = is_positive bs t b there in
-      let heads : openings (set bs (t - 1) c) ≡ openings bs = map_set_same (λ (x : BookOf N M). x.0) bs (t - 1) b c here grows.opening in
-      let own : entries_of t journal ≡ b.1 = kept.own t b there in
-      let now : games_after journal games t ≡ Some (played b.1 (begun_game k)) =
+      let heads : openings (set bs (t - 1) c) ≡ openings bs = map_set_same (λ (x : BookOf N M). x.opening) bs (t - 1) b c here grows.opening in
+      let own : entries_of t journal ≡ b.journal = kept.own t b there in
+      let now : games_after journal games t ≡ Some (played b.journal (begun_game k)) =
       (alone journal games t (begun_game k) kept.legal (game_there ruling says bs t b there)).1 ∙ ap (λ (fs : List Entry). Some (played fs (begun_game k))) own in
-      let whole : IsJournal k.rules k.says (b.1 ++ es) (begun k.rules) = subst (λ (fs : List Entry). IsJournal k.rules k.says fs (begun k.rules)) grows.journal
-      (subst (λ (o : N × M × Setup). IsJournal (rules_of (ruling o.0) o.2) (says o.1) c.1 (begun (rules_of (ruling o.0) o.2))) grows.opening grows.legal) in
-      let rest : IsJournal k.rules k.says es (turns k.rules k.says (who b.1) (begun k.rules)) = journal_rest k.rules k.says b.1 es (begun k.rules) whole in
+      let whole : IsJournal k.rules k.says (b.journal ++ es) (begun k.rules) = subst (λ (fs : List Entry). IsJournal k.rules k.says fs (begun k.rules)) grows.journal
+      (subst (λ (o : Opening N M). IsJournal (rules_of (ruling o.judge) o.setup) (says o.provers) c.journal (begun (rules_of (ruling o.judge) o.setup))) grows.opening grows.legal) in
+      let rest : IsJournal k.rules k.says es (turns k.rules k.says (who b.journal) (begun k.rules)) = journal_rest k.rules k.says b.journal es (begun k.rules) whole in
       let legal : IsTaskJournal (journal ++ of_task t es) games =
-      journals_join journal (of_task t es) games kept.legal (block_is_legal t es (games_after journal games) (played b.1 (begun_game k)) now rest) in
-      let long : length c.1 ≡ length b.1 + length es = ap length grows.journal ∙ length-append b.1 es in
-      let total : all_entries (set bs (t - 1) c) + length b.1 ≡ all_entries bs + length c.1 = total_set bs (t - 1) b c here in
+      journals_join journal (of_task t es) games kept.legal (block_is_legal t es (games_after journal games) (played b.journal (begun_game k)) now rest) in
+      let long : length c.journal ≡ length b.journal + length es = ap length grows.journal ∙ length-append b.journal es in
+      let total : all_entries (set bs (t - 1) c) + length b.journal ≡ all_entries bs + length c.journal = total_set bs (t - 1) b c here in
       let added : length (journal ++ of_task t es) ≡ length journal + length es = length-append journal (of_task t es) ∙ ap (λ (n : ℕ). length journal + n) (length-map es (λ (e : Entry). (t, e))) in
       let before : length journal ≡ all_entries bs = kept.counted in
       let many : length (set bs (t - 1) c) ≡ length bs = length-set bs (t - 1) c in
       record {
         some = subst (λ (n : ℕ). 0 < n) (sym many) kept.some;
         eight = subst (λ (n : ℕ). n ≤ 8) (sym many) kept.eight;
-        legal = subst (λ (hs : List (N × M × Setup)). IsTaskJournal (journal ++ of_task t es) (games_of (tasks_of ruling says hs))) (sym heads) legal;
+        legal = subst (λ (hs : List (Opening N M)). IsTaskJournal (journal ++ of_task t es) (games_of (tasks_of ruling says hs))) (sym heads) legal;
         own = λ u d is. own_after u d (is_positive (set bs (t - 1) c) u d is) some here (at_place (set bs (t - 1) c) u d is) own;
         counted = omega (arith, long, total, added, before);
         room = room_set bs (t - 1) capacity b c here grows.opening grows.few.0 grows.few.1 grows.few.2 kept.room;
       }
     where
-      own_after : (u : ℕ) (d : BookOf N M) → 0 < u → 0 < t → slice_get bs (t - 1) ≡ Some b → slice_get (set bs (t - 1) c) (u - 1) ≡ Some d → entries_of t journal ≡ b.1 → entries_of u (journal ++ of_task t (drop (length b.1) c.1)) ≡ d.1
+      own_after : (u : ℕ) (d : BookOf N M) → 0 < u → 0 < t → slice_get bs (t - 1) ≡ Some b → slice_get (set bs (t - 1) c) (u - 1) ≡ Some d → entries_of t journal ≡ b.journal → entries_of u (journal ++ of_task t (drop (length b.journal) c.journal)) ≡ d.journal
       own_after u d low some here is own =
-          let es : List Entry = drop (length b.1) c.1 in
+          let es : List Entry = drop (length b.journal) c.journal in
           elim (cases_eq u t) [
             | inl e ↦
                 let place : u - 1 ≡ t - 1 = ap (λ (n : ℕ). n - 1) e in
                 let same : c ≡ d = same_Some c d (sym (get_set_same bs (t - 1) b c here) ∙ (ap (slice_get (set bs (t - 1) c)) (sym place) ∙ is)) in
-                ap (λ (n : ℕ). entries_of n (journal ++ of_task t es)) e ∙ (entries_join t journal (of_task t es) ∙ (ap (λ (fs : List Entry). fs ++ entries_of t (of_task t es)) own ∙ (ap (λ (fs : List Entry). b.1 ++ fs) (entries_of_block t es) ∙ (sym grows.journal ∙ ap (λ (x : BookOf N M). x.1) same))))
+                ap (λ (n : ℕ). entries_of n (journal ++ of_task t es)) e ∙ (entries_join t journal (of_task t es) ∙ (ap (λ (fs : List Entry). fs ++ entries_of t (of_task t es)) own ∙ (ap (λ (fs : List Entry). b.journal ++ fs) (entries_of_block t es) ∙ (sym grows.journal ∙ ap (λ (x : BookOf N M). x.journal) same))))
             | inr never ↦
                 let apart : u - 1 ≡ t - 1 → ⊥ = λ z. never (omega (arith, z, low, some)) in
                 let there_before : numbered bs u ≡ Some d = numbered_at bs u d low (sym (get_set_other bs (t - 1) (u - 1) c apart) ∙ is) in
                 entries_join u journal (of_task t es) ∙ (ap (λ (fs : List Entry). entries_of u journal ++ fs) (entries_of_others u t es never) ∙ (append-nil (entries_of u journal) ∙ kept.own u d there_before))
           ]
 
-  none_yet : (bs : List (BookOf N M)) → All (λ (b : BookOf N M). b.1 ≡ []) bs → all_entries bs ≡ 0
+  none_yet : (bs : List (BookOf N M)) → All (λ (b : BookOf N M). b.journal ≡ []) bs → all_entries bs ≡ 0
   none_yet [] all = refl
   none_yet (b ∷ bs) all =
-      let first : b.1 ≡ [] = All-head (λ (c : BookOf N M). c.1 ≡ []) b bs all in
-      let n : length b.1 ≡ 0 = ap length first in
-      let rest : all_entries bs ≡ 0 = none_yet bs (All-tail (λ (c : BookOf N M). c.1 ≡ []) b bs all) in
+      let first : b.journal ≡ [] = All-head (λ (c : BookOf N M). c.journal ≡ []) b bs all in
+      let n : length b.journal ≡ 0 = ap length first in
+      let rest : all_entries bs ≡ 0 = none_yet bs (All-tail (λ (c : BookOf N M). c.journal ≡ []) b bs all) in
       omega (arith, n, rest)
 
   -- books without entries
-  pub kept_empty : (ruling : N → Ruling) (says : M → Says) (bs : List (BookOf N M)) (capacity : ℕ) → 0 < length bs → length bs ≤ 8 → All (λ (b : BookOf N M). b.1 ≡ []) bs → HasRoom bs capacity → AreKept ruling says bs [] capacity
+  pub kept_empty : (ruling : N → Ruling) (says : M → Says) (bs : List (BookOf N M)) (capacity : ℕ) → 0 < length bs → length bs ≤ 8 → All (λ (b : BookOf N M). b.journal ≡ []) bs → HasRoom bs capacity → AreKept ruling says bs [] capacity
   kept_empty ruling says bs capacity some eight all room = record {
     some = some;
     eight = eight;
     legal = tt;
-    own = λ t b e. sym (all_at (λ (c : BookOf N M). c.1 ≡ []) bs t b all e);
+    own = λ t b e. sym (all_at (λ (c : BookOf N M). c.journal ≡ []) bs t b all e);
     counted = sym (none_yet bs all);
     room = room;
   }
 
   -- room for a book more
-  pub room_more : (bs : List (BookOf N M)) (n k : ℕ) (b : BookOf N M) → HasRoom bs n → IsMost b.0.2.fan b.0.2.bound k → length b.1 ≤ most_of b.0.2 k → HasRoom (bs ++ b ∷ []) (n + most_of b.0.2 k)
+  pub room_more : (bs : List (BookOf N M)) (n k : ℕ) (b : BookOf N M) → HasRoom bs n → IsMost b.opening.setup.fan b.opening.setup.bound k → length b.journal ≤ most_entries b.opening.setup k → HasRoom (bs ++ b ∷ []) (n + most_entries b.opening.setup k)
   room_more [] n k b r most few = (k, most, few, (n, omega arith, tt))
-  room_more (c ∷ bs) n k b r most few = let is : n ≡ most_of c.0.2 r.0 + r.3.0 = r.3.1 in
-      (r.0, r.1, r.2, (r.3.0 + most_of b.0.2 k, omega (arith, is), room_more bs r.3.0 k b r.3.2 most few))
+  room_more (c ∷ bs) n k b r most few = let is : n ≡ most_entries c.opening.setup r.0 + r.3.0 = r.3.1 in
+      (r.0, r.1, r.2, (r.3.0 + most_entries b.opening.setup k, omega (arith, is), room_more bs r.3.0 k b r.3.2 most few))
 
   -- one book, with the entries that it has
-  pub kept_one : (ruling : N → Ruling) (says : M → Says) (b : BookOf N M) (capacity : ℕ) → HasRoom (b ∷ []) capacity → IsJournal (rules_of (ruling b.0.0) b.0.2) (says b.0.1) b.1 (begun (rules_of (ruling b.0.0) b.0.2)) →
-      AreKept ruling says (b ∷ []) (of_task 1 b.1) capacity
+  pub kept_one : (ruling : N → Ruling) (says : M → Says) (b : BookOf N M) (capacity : ℕ) → HasRoom (b ∷ []) capacity → IsJournal (rules_of (ruling b.opening.judge) b.opening.setup) (says b.opening.provers) b.journal (begun (rules_of (ruling b.opening.judge) b.opening.setup)) →
+      AreKept ruling says (b ∷ []) (of_task 1 b.journal) capacity
   kept_one ruling says b capacity room legal =
-      let e : BookOf N M = (b.0, [], b.2) in
+      let e : BookOf N M = record { opening = b.opening; journal = []; game = b.game } in
       let empty : AreKept ruling says (e ∷ []) [] capacity = kept_empty ruling says (e ∷ []) capacity (omega arith) (omega arith)
-      (Rattle.std.proofs.lemmas.List.Elements.All-cons (λ (c : BookOf N M). c.1 ≡ []) e [] refl (Rattle.std.proofs.lemmas.List.Elements.All-nil (λ (c : BookOf N M). c.1 ≡ []))) (room.0, room.1, omega arith, room.3) in
+      (Rattle.std.proofs.lemmas.List.Elements.All-cons (λ (c : BookOf N M). c.journal ≡ []) e [] refl (Rattle.std.proofs.lemmas.List.Elements.All-nil (λ (c : BookOf N M). c.journal ≡ []))) (room.0, room.1, omega arith, room.3) in
       kept_grown ruling says (e ∷ []) [] capacity 1 e b empty refl (record { opening = refl; journal = refl; legal = legal; few = (room.0, room.1, room.2) })
 
 -- a journal that has become longer
@@ -230,8 +231,8 @@ pub record GrewAt {N M : Type 0} (ruling : N → Ruling) (says : M → Says) (bs
   pub some : 0 < t
   pub few : t ≤ length bs
   pub lent : b ≡ get_or bs (t - 1) b
-  pub old : before ≡ b.1
-  pub new : after ≡ c.1
+  pub old : before ≡ b.journal
+  pub new : after ≡ c.journal
   pub grows : Grows ruling says b c
 
 module _ {N M : Type 0} (ruling : N → Ruling) (says : M → Says) (bs : List (BookOf N M)) (t : ℕ) (b c : BookOf N M) (before after : List Entry) (g : GrewAt ruling says bs t b c before after) where
@@ -241,9 +242,9 @@ module _ {N M : Type 0} (ruling : N → Ruling) (says : M → Says) (bs : List (
   pub grew_kept : (journal journal_after : List (ℕ × Entry)) (capacity capacity_after : ℕ) → AreKept ruling says bs journal capacity → journal_after ≡ journal ++ of_task t (drop (length before) after) → capacity_after ≡ capacity →
       AreKept ruling says (set bs (t - 1) c) journal_after capacity_after
   grew_kept journal journal_after capacity capacity_after kept items cap =
-      let now : journal_after ≡ journal ++ of_task t (drop (length b.1) c.1) = items ∙ ap₂ (λ (u v : List Entry). journal ++ of_task t (drop (length u) v)) g.old g.new in
+      let now : journal_after ≡ journal ++ of_task t (drop (length b.journal) c.journal) = items ∙ ap₂ (λ (u v : List Entry). journal ++ of_task t (drop (length u) v)) g.old g.new in
       subst (λ (j : List (ℕ × Entry)). AreKept ruling says (set bs (t - 1) c) j capacity_after) (sym now)
-      (subst (λ (n : ℕ). AreKept ruling says (set bs (t - 1) c) (journal ++ of_task t (drop (length b.1) c.1)) n) (sym cap) (kept_grown ruling says bs journal capacity t b c kept grew_there g.grows))
+      (subst (λ (n : ℕ). AreKept ruling says (set bs (t - 1) c) (journal ++ of_task t (drop (length b.journal) c.journal)) n) (sym cap) (kept_grown ruling says bs journal capacity t b c kept grew_there g.grows))
 
   pub grew_room : (journal : List (ℕ × Entry)) (capacity : ℕ) → AreKept ruling says bs journal capacity → length journal + (length after - length before) ≤ capacity
   grew_room journal capacity kept =
@@ -255,30 +256,30 @@ module _ {N M : Type 0} (ruling : N → Ruling) (says : M → Says) (bs : List (
       let rest : length es ≡ length after - length before = length-drop (length before) after in
       omega (arith, all, sum, parts, rest)
 
-  pub grew_noted : (journal journal_after : List (ℕ × Entry)) (e : Entry) → journal_after ≡ journal ++ of_task t (drop (length before) after) → c.1 ≡ noted b.1 e → journal_after ≡ noted_for t journal e
-  grew_noted journal journal_after e items is = items ∙ (ap₂ (λ (u v : List Entry). journal ++ of_task t (drop (length u) v)) g.old g.new ∙ noted_by_post t b.1 c.1 e journal is)
+  pub grew_noted : (journal journal_after : List (ℕ × Entry)) (e : Entry) → journal_after ≡ journal ++ of_task t (drop (length before) after) → c.journal ≡ noted b.journal e → journal_after ≡ noted_for t journal e
+  grew_noted journal journal_after e items is = items ∙ (ap₂ (λ (u v : List Entry). journal ++ of_task t (drop (length u) v)) g.old g.new ∙ noted_by_post t b.journal c.journal e journal is)
 
-pub book_is : {N M : Type 0} (c b : BookOf N M) (es : List Entry) (st : MatchState) → c.0 ≡ b.0 → c.1 ≡ es → c.2 ≡ st → c ≡ (b.0, es, st)
-book_is c b es st e0 e1 e2 = ap₂ (λ (o : _) (j : List Entry). (o, j, c.2)) e0 e1 ∙ ap (λ (s : MatchState). (b.0, es, s)) e2
+pub book_is : {N M : Type 0} (c b : BookOf N M) (es : List Entry) (st : MatchState) → c.opening ≡ b.opening → c.journal ≡ es → c.game ≡ st → c ≡ record b { journal = es; game = st }
+book_is c b es st e0 e1 e2 = λ i. record { opening = e0 i; journal = e1 i; game = e2 i }
 
 module _ {N M : Type 0} where
   -- the room of one book more
-  pub room_step : (bs : List (BookOf N M)) (i n m : ℕ) (b : BookOf N M) → i < length bs → b ≡ get_or bs i b → HasRoom (take i bs) n → ((k : ℕ) × IsMost b.0.2.fan b.0.2.bound k × (length b.1 ≤ most_of b.0.2 k) × (m ≡ n + most_of b.0.2 k)) → HasRoom (take (i + 1) bs) m
+  pub room_step : (bs : List (BookOf N M)) (i n m : ℕ) (b : BookOf N M) → i < length bs → b ≡ get_or bs i b → HasRoom (take i bs) n → ((k : ℕ) × IsMost b.opening.setup.fan b.opening.setup.bound k × (length b.journal ≤ most_entries b.opening.setup k) × (m ≡ n + most_entries b.opening.setup k)) → HasRoom (take (i + 1) bs) m
   room_step bs i n m b within e r f =
       let here : take (i + 1) bs ≡ take i bs ++ b ∷ [] = take_more bs i b within ∙ ap (λ (x : BookOf N M). take i bs ++ x ∷ []) (sym e) in
       subst (λ (l : List (BookOf N M)). HasRoom l m) (sym here) (subst (HasRoom (take i bs ++ b ∷ [])) (sym f.3) (room_more (take i bs) n f.0 b r f.1 f.2))
 
-  pub one_kept : (ruling : N → Ruling) (says : M → Says) (b x : BookOf N M) (items : List (BookOf N M)) (journal after : List (ℕ × Entry)) (entries : List Entry) (capacity after_capacity : ℕ) → items ≡ b ∷ [] → x ≡ get_or items 0 x → entries ≡ x.1 → journal ≡ [] →
-      after ≡ journal ++ of_task 1 (drop 0 entries) → after_capacity ≡ capacity → HasRoom items capacity → IsJournal (rules_of (ruling b.0.0) b.0.2) (says b.0.1) b.1 (begun (rules_of (ruling b.0.0) b.0.2)) → AreKept ruling says items after after_capacity
+  pub one_kept : (ruling : N → Ruling) (says : M → Says) (b x : BookOf N M) (items : List (BookOf N M)) (journal after : List (ℕ × Entry)) (entries : List Entry) (capacity after_capacity : ℕ) → items ≡ b ∷ [] → x ≡ get_or items 0 x → entries ≡ x.journal → journal ≡ [] →
+      after ≡ journal ++ of_task 1 (drop 0 entries) → after_capacity ≡ capacity → HasRoom items capacity → IsJournal (rules_of (ruling b.opening.judge) b.opening.setup) (says b.opening.provers) b.journal (begun (rules_of (ruling b.opening.judge) b.opening.setup)) → AreKept ruling says items after after_capacity
   one_kept ruling says b x items journal after entries capacity after_capacity is read old none noted cap room legal =
       let here : x ≡ b = read ∙ ap (λ (l : List (BookOf N M)). get_or l 0 x) is in
-      let now : after ≡ of_task 1 b.1 = noted ∙ ap₂ (λ (j : List (ℕ × Entry)) (l : List Entry). j ++ of_task 1 l) none (old ∙ ap (λ (y : BookOf N M). y.1) here) in
-      let kept : AreKept ruling says (b ∷ []) (of_task 1 b.1) capacity = kept_one ruling says b capacity (subst (λ (l : List (BookOf N M)). HasRoom l capacity) is room) legal in
-      subst (λ (l : List (BookOf N M)). AreKept ruling says l after after_capacity) (sym is) (subst (λ (j : List (ℕ × Entry)). AreKept ruling says (b ∷ []) j after_capacity) (sym now) (subst (λ (n : ℕ). AreKept ruling says (b ∷ []) (of_task 1 b.1) n) (sym cap) kept))
+      let now : after ≡ of_task 1 b.journal = noted ∙ ap₂ (λ (j : List (ℕ × Entry)) (l : List Entry). j ++ of_task 1 l) none (old ∙ ap (λ (y : BookOf N M). y.journal) here) in
+      let kept : AreKept ruling says (b ∷ []) (of_task 1 b.journal) capacity = kept_one ruling says b capacity (subst (λ (l : List (BookOf N M)). HasRoom l capacity) is room) legal in
+      subst (λ (l : List (BookOf N M)). AreKept ruling says l after after_capacity) (sym is) (subst (λ (j : List (ℕ × Entry)). AreKept ruling says (b ∷ []) j after_capacity) (sym now) (subst (λ (n : ℕ). AreKept ruling says (b ∷ []) (of_task 1 b.journal) n) (sym cap) kept))
 
   -- one of the books is another, of the same opening
-  pub heads_same : (bs : List (BookOf N M)) (t : ℕ) (b c : BookOf N M) → numbered bs t ≡ Some b → c.0 ≡ b.0 → openings (set bs (t - 1) c) ≡ openings bs
-  heads_same bs t b c there same = map_set_same (λ (x : BookOf N M). x.0) bs (t - 1) b c (at_place bs t b there) same
+  pub heads_same : (bs : List (BookOf N M)) (t : ℕ) (b c : BookOf N M) → numbered bs t ≡ Some b → c.opening ≡ b.opening → openings (set bs (t - 1) c) ≡ openings bs
+  heads_same bs t b c there same = map_set_same (λ (x : BookOf N M). x.opening) bs (t - 1) b c (at_place bs t b there) same
 
   -- what holds of the first books, and of the next one once it is put there
   pub done_more : (P : BookOf N M → Type 0) (bs : List (BookOf N M)) (i : ℕ) (b c : BookOf N M) → slice_get bs i ≡ Some b → P c → ((k : ℕ) (d : BookOf N M) → k < i → slice_get bs k ≡ Some d → P d) → (k : ℕ) (d : BookOf N M) → k < i + 1 → slice_get (set bs i c) k ≡ Some d → P d

@@ -8,7 +8,7 @@ use Rattle.std.proofs.lemmas.List.{length_push}
 use Rattle.bisect_game.specs.Ruling.{Ruling}
 use Rattle.bisect_game.specs.Says.{Says}
 use Rattle.board_book.specs.declared.entry.Entry.{Entry}
-use Rattle.board_book.specs.Tasks.{Task, task_of, numbered, Games, begun_game, games_of, turned, after_entry, IsTaskJournal, entries_of, BookOf, of_task, tasks_of, openings}
+use Rattle.board_book.specs.Tasks.{Task, task_of, numbered, Games, begun_game, games_of, turned, after_entry, IsTaskJournal, entries_of, BookOf, BooksOf, of_task, tasks_of, openings}
 use Rattle.board_book.specs.Keeping.{AreKept}
 
 -- the last of a list of one
@@ -46,14 +46,15 @@ no_other k t never = elim (cases_Bool (t == 0)) [
 
 -- the journal of a single task
 single_journal : {N M : Type 0} (ruling : N → Ruling) (says : M → Says) (bs : List (BookOf N M)) (journal : List (ℕ × Entry)) (b : BookOf N M) → bs ≡ b ∷ [] → IsTaskJournal journal (games_of (tasks_of ruling says (openings bs))) →
-    ((t : ℕ) (c : BookOf N M) → numbered bs t ≡ Some c → entries_of t journal ≡ c.1) → journal ≡ of_task 1 b.1
+    ((t : ℕ) (c : BookOf N M) → numbered bs t ≡ Some c → entries_of t journal ≡ c.journal) → journal ≡ of_task 1 b.journal
 single_journal {N} {M} ruling says bs journal b is legal own =
-    let here : IsTaskJournal journal (games_of (task_of ruling says b.0 ∷ [])) = subst (λ (l : List (BookOf N M)). IsTaskJournal journal (games_of (tasks_of ruling says (openings l)))) is legal in
-    let mine : entries_of 1 journal ≡ b.1 = own 1 b (ap (λ (l : List (BookOf N M)). numbered l 1) is) in
-    only_one journal (games_of (task_of ruling says b.0 ∷ [])) (λ t never. no_other (task_of ruling says b.0) t never) here ∙ ap (of_task 1) mine
+    let here : IsTaskJournal journal (games_of (task_of ruling says b.opening ∷ [])) = subst (λ (l : List (BookOf N M)). IsTaskJournal journal (games_of (tasks_of ruling says (openings l)))) is legal in
+    let mine : entries_of 1 journal ≡ b.journal = own 1 b (ap (λ (l : List (BookOf N M)). numbered l 1) is) in
+    only_one journal (games_of (task_of ruling says b.opening ∷ [])) (λ t never. no_other (task_of ruling says b.opening) t never) here ∙ ap (of_task 1) mine
 
 pub only_book : {N M : Type 0} (ruling : N → Ruling) (says : M → Says) (bs rest : List (BookOf N M)) (journal : List (ℕ × Entry)) (capacity : ℕ) (b : BookOf N M) → AreKept ruling says bs journal capacity → length bs ≡ 1 → bs ≡ rest ++ b ∷ [] →
-    ◌≡◌ {A = List (BookOf N M) × List (ℕ × Entry)} (bs, journal) (b ∷ [], of_task 1 b.1)
+    ◌≡◌ {A = BooksOf N M} (record { books = bs; journal = journal }) (record { books = b ∷ []; journal = of_task 1 b.journal })
 only_book {N} {M} ruling says bs rest journal capacity b kept one last =
     let is : bs ≡ b ∷ [] = alone_in bs rest b one last in
-    ap₂ (λ (l : List (BookOf N M)) (xs : List (ℕ × Entry)). (l, xs)) is (single_journal ruling says bs journal b is kept.legal kept.own)
+    let same : journal ≡ of_task 1 b.journal = single_journal ruling says bs journal b is kept.legal kept.own in
+    λ i. record { books = is i; journal = same i }

@@ -1,64 +1,59 @@
 -- Derived: one book and many as they are kept, what a move, or the end of a match, does to one of them, and what stands at a number.
-use Rattle.std.specs.Prelude.{◌≡◌, ℕ, ◌+◌, ◌-◌, ◌*◌, ◌<◌, ◌≤◌, List, [], ◌∷◌, ◌++◌, length, drop, Some, ◌^◌, map, Option}
+use Rattle.std.specs.Prelude.{◌≡◌, ℕ, ◌+◌, ◌<◌, ◌≤◌, List, [], ◌∷◌, ◌++◌, length, drop, Some, ◌^◌, map, Option}
 use Rattle.bisect_game.specs.Says.{Says, AnswerAs}
 use Rattle.bisect_game.specs.Ruling.{Ruling}
-use Rattle.tournament.specs.declared.setup.Setup.{Setup}
 use Rattle.tournament.specs.Moves.{begun, MatchState}
 use Rattle.tournament.specs.Length.{IsMost, most_entries}
-use Rattle.tournament.specs.Posting.{rules_of}
 use Rattle.board_book.specs.declared.entry.Entry.{Entry}
+use Rattle.board_book.specs.declared.opening.Opening.{Opening}
 use Rattle.board_book.specs.Entries.{IsJournal, state_after}
 use Rattle.board_book.specs.Tasks.{BookOf, openings, tasks_of, numbered, games_of, IsTaskJournal, entries_of, Task, task_of, of_task, sayings_from}
-use Rattle.bisect_game.specs.Rules.{Rules, ArePlayable}
+use Rattle.bisect_game.specs.Rules.{Rules, ArePlayable, rules_of}
 use Rattle.rd_base.specs.declared.answer.Answer.{Answer}
 use Rattle.bisect_game.specs.declared.question.Question.{Question}
 
 -- a book as it is kept: its journal is legal, the match is its state, and there is room for each entry that can come
 pub record IsBook (rules : Rules) (says : Says) (count : ℕ) (es : List Entry) (st : MatchState) (room capacity : ℕ) : Type 0 where
   pub playable : ArePlayable rules
-  pub counted : rules.provers ≡ count
+  pub counted : rules.setup.provers ≡ count
   pub few : count ≤ 16
   pub legal : IsJournal rules says es (begun rules)
   pub state : state_after rules says es ≡ st
-  pub most : (k : ℕ) × IsMost rules.fan rules.bound k × (room ≡ most_entries rules k)
+  pub most : (k : ℕ) × IsMost rules.setup.fan rules.setup.bound k × (room ≡ most_entries rules.setup k)
   pub small : room < 2 ^ 32
   pub capacity_ : room ≤ capacity
-
--- the most entries of a match in which a dispute has at most k bisection rounds
-abbrev pub most_of : Setup → ℕ → ℕ
-most_of s k = (s.patience + 1) * (s.provers + 2 * (s.provers - 1) * (k + 1))
 
 module _ {N M : Type 0} where
   -- how many entries there are in all journals together
   abbrev pub all_entries : List (BookOf N M) → ℕ
   all_entries [] = 0
-  all_entries (b ∷ bs) = length b.1 + all_entries bs
+  all_entries (b ∷ bs) = length b.journal + all_entries bs
 
   -- there is room for n entries, which are all that can come, of all books together
   abbrev pub HasRoom : List (BookOf N M) → ℕ → Type 0
   HasRoom [] n = Unit {0}
-  HasRoom (b ∷ bs) n = (k : ℕ) × IsMost b.0.2.fan b.0.2.bound k × (length b.1 ≤ most_of b.0.2 k) × ((m : ℕ) × (n ≡ most_of b.0.2 k + m) × HasRoom bs m)
+  HasRoom (b ∷ bs) n = (k : ℕ) × IsMost b.opening.setup.fan b.opening.setup.bound k × (length b.journal ≤ most_entries b.opening.setup k) × ((m : ℕ) × (n ≡ most_entries b.opening.setup k + m) × HasRoom bs m)
 
   pub record AreKept (ruling : N → Ruling) (says : M → Says) (books : List (BookOf N M)) (journal : List (ℕ × Entry)) (capacity : ℕ) : Type 0 where
     pub some : 0 < length books
     pub eight : length books ≤ 8
     pub legal : IsTaskJournal journal (games_of (tasks_of ruling says (openings books)))
-    pub own : (t : ℕ) (b : BookOf N M) → numbered books t ≡ Some b → entries_of t journal ≡ b.1
+    pub own : (t : ℕ) (b : BookOf N M) → numbered books t ≡ Some b → entries_of t journal ≡ b.journal
     pub counted : length journal ≡ all_entries books
     pub room : HasRoom books capacity
 
   -- a book whose journal has become longer
   pub record Grows (ruling : N → Ruling) (says : M → Says) (before after : BookOf N M) : Type 0 where
-    pub opening : after.0 ≡ before.0
-    pub journal : after.1 ≡ before.1 ++ drop (length before.1) after.1
-    pub legal : IsJournal (rules_of (ruling after.0.0) after.0.2) (says after.0.1) after.1 (begun (rules_of (ruling after.0.0) after.0.2))
-    pub few : (k : ℕ) × IsMost after.0.2.fan after.0.2.bound k × (length after.1 ≤ most_of after.0.2 k)
+    pub opening : after.opening ≡ before.opening
+    pub journal : after.journal ≡ before.journal ++ drop (length before.journal) after.journal
+    pub legal : IsJournal (rules_of (ruling after.opening.judge) after.opening.setup) (says after.opening.provers) after.journal (begun (rules_of (ruling after.opening.judge) after.opening.setup))
+    pub few : (k : ℕ) × IsMost after.opening.setup.fan after.opening.setup.bound k × (length after.journal ≤ most_entries after.opening.setup k)
 
 -- an opening has the number of its book, and a task the number of its opening, from 1 to their count
 pub record AreNumbered {N M : Type 0} (ruling : N → Ruling) (says : M → Says) : Type 0 where
-  pub book : (books : List (BookOf N M)) (t : ℕ) (b : BookOf N M) → numbered books t ≡ Some b → numbered (openings books) t ≡ Some b.0
-  pub opening : (heads : List (N × M × Setup)) (t : ℕ) (h : N × M × Setup) → numbered heads t ≡ Some h → numbered (tasks_of ruling says heads) t ≡ Some (task_of ruling says h)
-  pub task : (heads : List (N × M × Setup)) (t : ℕ) (k : Task) → numbered (tasks_of ruling says heads) t ≡ Some k → (0 < t) × (t ≤ length heads)
+  pub book : (books : List (BookOf N M)) (t : ℕ) (b : BookOf N M) → numbered books t ≡ Some b → numbered (openings books) t ≡ Some b.opening
+  pub opening : (heads : List (Opening N M)) (t : ℕ) (h : Opening N M) → numbered heads t ≡ Some h → numbered (tasks_of ruling says heads) t ≡ Some (task_of ruling says h)
+  pub task : (heads : List (Opening N M)) (t : ℕ) (k : Task) → numbered (tasks_of ruling says heads) t ≡ Some k → (0 < t) × (t ≤ length heads)
 
 -- the entries of a task are told from those of others, block by block
 pub record AreToldApart : Type 0 where

@@ -4,13 +4,14 @@ use Rattle.std.specs.Prelude.{◌≡◌, ℕ, ◌-◌, ◌==◌, List, [], ◌�
 use Rattle.std.specs.Option.{option_map}
 use Rattle.bisect_game.specs.Says.{Says}
 use Rattle.bisect_game.specs.Ruling.{Ruling}
-use Rattle.bisect_game.specs.Rules.{Rules}
-use Rattle.tournament.specs.declared.setup.Setup.{Setup}
+use Rattle.bisect_game.specs.Rules.{Rules, rules_of}
 use Rattle.tournament.specs.Bracket.{open_question}
+use Rattle.tournament.specs.Match.{MatchOf}
 use Rattle.tournament.specs.Moves.{MatchState, begun}
 use Rattle.tournament.specs.Journals.{turn_on}
-use Rattle.tournament.specs.Posting.{rules_of, posted, reply_to}
+use Rattle.tournament.specs.Posting.{posted, reply_to}
 use Rattle.board_book.specs.declared.entry.Entry.{Entry}
+use Rattle.board_book.specs.declared.opening.Opening.{Opening}
 use Rattle.board_book.specs.Entries.{IsEntry, is_stale, noted}
 use Rattle.rd_base.specs.declared.answer.Answer.{Answer}
 use Rattle.rd_base.specs.declared.answer.Qid.{Qid}
@@ -22,21 +23,32 @@ pub record Task : Type 0 where
   pub rules : Rules
   pub says : Says
 
--- the task of an opening: the names of judge and provers, and the numbers of the match
-abbrev pub task_of : {N M : Type 0} → (N → Ruling) → (M → Says) → N × M × Setup → Task
-task_of ruling says opening = record { rules = rules_of (ruling opening.0) opening.2; says = says opening.1 }
+-- the task of an opening, if the names of judges and provers fix what these decide and say
+abbrev pub task_of : {N M : Type 0} → (N → Ruling) → (M → Says) → Opening N M → Task
+task_of ruling says opening = record { rules = rules_of (ruling opening.judge) opening.setup; says = says opening.provers }
 
 -- what contracts see of a book: its opening, its journal and the state of its match
-abbrev pub BookOf : Type 0 → Type 0 → Type 0
-BookOf N M = (N × M × Setup) × (List Entry) × MatchState
+pub record BookOf (N M : Type 0) : Type 0 where
+  pub opening : Opening N M
+  pub journal : List Entry
+  pub game : MatchState
+
+-- what contracts see of the books of many tasks: each book, and the journal of all, with the task of each entry
+pub record BooksOf (N M : Type 0) : Type 0 where
+  pub books : List (BookOf N M)
+  pub journal : List (ℕ × Entry)
+
+-- the match of a book
+abbrev pub match_of : {N M : Type 0} → BookOf N M → MatchOf N
+match_of b = record { judge = b.opening.judge; setup = b.opening.setup; game = b.game }
 
 module _ {N M : Type 0} where
   -- the openings of books
-  abbrev pub openings : List (BookOf N M) → List (N × M × Setup)
-  openings = map (λ (b : BookOf N M). b.0)
+  abbrev pub openings : List (BookOf N M) → List (Opening N M)
+  openings = map (λ (b : BookOf N M). b.opening)
 
   -- their tasks
-  abbrev pub tasks_of : (N → Ruling) → (M → Says) → List (N × M × Setup) → List Task
+  abbrev pub tasks_of : (N → Ruling) → (M → Says) → List (Opening N M) → List Task
   tasks_of ruling says = map (task_of ruling says)
 
 -- the element of a number, of a list that is counted from 1; None if there is none
@@ -99,9 +111,9 @@ noted_for t xs e = if is_stale e.reply then xs else xs ++ (t, e) ∷ []
 pub record PostedTo {N M : Type 0} (ruling : N → Ruling) (books : List (BookOf N M)) (journal : List (ℕ × Entry)) (t p : ℕ) (qid : Qid) (m : Option Answer) (reply : Reply) (books_after : List (BookOf N M)) (journal_after : List (ℕ × Entry)) : Type 0 where
   pub book : BookOf N M
   pub there : numbered books t ≡ Some book
-  pub replied : reply ≡ reply_to (rules_of (ruling book.0.0) book.0.2) book.2 p qid m
+  pub replied : reply ≡ reply_to (rules_of (ruling book.opening.judge) book.opening.setup) book.game p qid m
   pub notes : journal_after ≡ noted_for t journal (record { p = p; qid = qid; pass = is_none m; reply = reply })
-  pub others : books_after ≡ set books (t - 1) (book.0, noted book.1 (record { p = p; qid = qid; pass = is_none m; reply = reply }), posted (rules_of (ruling book.0.0) book.0.2) book.2 p qid m)
+  pub others : books_after ≡ set books (t - 1) (record book { journal = noted book.journal (record { p = p; qid = qid; pass = is_none m; reply = reply }); game = posted (rules_of (ruling book.opening.judge) book.opening.setup) book.game p qid m })
 
 -- WHO ANSWERS. Provers are numbered from 0 through all tasks, in order of the tasks
 
@@ -111,6 +123,6 @@ sayings_from says p zero = []
 sayings_from says p (suc n) = says p ∷ sayings_from says (p + 1) n
 
 -- what the provers of all tasks say
-abbrev pub sayings : {N M : Type 0} → (M → Says) → List (N × M × Setup) → List (Question → ℕ → Option Answer)
+abbrev pub sayings : {N M : Type 0} → (M → Says) → List (Opening N M) → List (Question → ℕ → Option Answer)
 sayings says [] = []
-sayings says (h ∷ hs) = sayings_from (says h.1) 1 h.2.provers ++ sayings says hs
+sayings says (h ∷ hs) = sayings_from (says h.provers) 1 h.setup.provers ++ sayings says hs

@@ -1,29 +1,31 @@
 ghost use denote.Param.Send.{IsSync};
-ghost use Rattle.std.specs.Prelude.{◌≡◌, ◌+◌, ◌<◌, ◌≤◌, ◌^◌, ◌∷◌, ◌++◌, [], ℕ, List, Some, IfOk, IfErr, IfSome, IfNone, length, true, is_none};
+ghost use Rattle.std.specs.Prelude.{◌≡◌, ◌+◌, ◌<◌, ◌≤◌, ◌^◌, ◌∷◌, ◌++◌, [], ℕ, List, Some, None, if◌then◌else◌, IfOk, IfErr, IfSome, IfNone, length, true, is_none};
 ghost use Rattle.bisect_game.specs.declared.question.Question.{Question};
-ghost use Rattle.tournament.specs.declared.setup.Setup.{Setup};
-ghost use Rattle.tournament.specs.Bracket.{open_question, is_complete, bracket};
+ghost use Rattle.bisect_game.specs.declared.setup.Setup.{Setup};
+ghost use Rattle.tournament.specs.Bracket.{open_question, is_complete, bracket, verdict_of};
 ghost use Rattle.tournament.specs.Moves.{passes_of, begun};
 ghost use Rattle.tournament.specs.Journals.{answers_of};
 ghost use Rattle.rd_base.specs.Questions.{same_qid};
-ghost use Rattle.tournament.specs.Posting.{rules_of, answer_of, posted, reply_to};
+ghost use Rattle.tournament.specs.Posting.{answer_of, posted, reply_to};
+ghost use Rattle.bisect_game.specs.Rules.{rules_of};
 ghost use Rattle.bisect_game.specs.Says.{AnswerAs};
 ghost use Rattle.bisect_game.specs.Truth.{Truth, IsRun};
 ghost use Rattle.tournament.specs.Asked.{asked};
 ghost use Rattle.tournament.specs.Truthful.{IsTruthfulProver, IsSafe};
 ghost use Rattle.tournament.specs.Length.{IsMost, most_entries};
 ghost use Rattle.board_book.specs.declared.entry.Entry.{Entry};
+ghost use Rattle.board_book.specs.Tasks.{match_of};
 ghost use Rattle.board_book.specs.Entries.{IsJournal, state_after, noted, is_stale, ask_on, waits_on};
 
 use crate::entry::{Ask, Entry};
 use crate::room::most_entries;
-use bisect_game::{Answerer, Judge, Provers, Question};
+use bisect_game::{Answerer, Judge, Provers, Question, Setup};
 use rd_base::{Digest32, Memory, Qid};
 use std::alloc::Global;
 use std::marker::Model;
 use std::thread::Threads;
 use tournament::{
-    Match, Move, Reply, Setup, a_number_names_one_question, is_pass, move_of, one_record_of_a_case,
+    Match, Move, Record, Reply, Verdict, a_number_names_one_question, is_pass, move_of, one_record_of_a_case,
     spare_is_enough, truthful_provers_are_safe,
 };
 
@@ -34,10 +36,19 @@ fn is_stale(reply: Reply) -> bool
     matches!(reply, Reply::Stale(_))
 }
 
+/// A prover with an open question.
+#[derive(Clone, Copy)]
+struct Asked {
+    /// The number of the prover, from 1.
+    p: u32,
+    question: Question,
+    /// Its passes on the question.
+    passes: u32,
+}
+
 /// A match with its journal and its provers.
 ///
-/// Contracts see its opening (the judge's names, the provers' names, and the numbers of the match), its journal, and the
-/// state of the match. No call changes the opening.
+/// Contracts see its opening, its journal, and the state of the match. No call changes the opening.
 #[derive(Drop)]
 pub struct Book<J: Judge + Drop, P: Provers + Drop> {
     game: Match<J>,
@@ -47,18 +58,16 @@ pub struct Book<J: Judge + Drop, P: Provers + Drop> {
 }
 
 impl<J: Judge + Drop, P: Provers + Drop> Model for Book<J, P> {
-    ghost use Rattle.std.specs.Prelude.{vec_capacity, List};
-    ghost use Rattle.tournament.specs.declared.setup.Setup.{Setup};
-    ghost use Rattle.tournament.specs.Moves.{MatchState};
-    ghost use Rattle.tournament.specs.Posting.{rules_of};
-    ghost use Rattle.board_book.specs.declared.entry.Entry.{Entry};
+    ghost use Rattle.std.specs.Prelude.{vec_capacity};
+    ghost use Rattle.tournament.specs.Match.{rules_in};
     ghost use Rattle.board_book.specs.Keeping.{IsBook};
+    ghost use Rattle.board_book.specs.Tasks.{BookOf};
 
-    ghost Value = { (J.Names × P.Names × Setup) × (List Entry) × MatchState };
+    ghost Value = { BookOf J.Names P.Names };
 
-    ghost view = { λ b. ((b.game.0, P.names b.provers, b.game.1), b.journal.items, b.game.2) };
+    ghost view = { λ b. record { opening = record { judge = b.game.judge; provers = P.names b.provers; setup = b.game.setup }; journal = b.journal.items; game = b.game.game } };
 
-    ghost invariant = { λ b. IsBook (rules_of (J.ruling b.game.0) b.game.1) (P.says (P.names b.provers)) (P.many (P.names b.provers)) b.journal.items b.game.2 b.room (vec_capacity b.journal) };
+    ghost invariant = { λ b. IsBook (rules_in J.ruling b.game) (P.says (P.names b.provers)) (P.many (P.names b.provers)) b.journal.items b.game.game b.room (vec_capacity b.journal) };
 }
 
 impl<J: Judge + Drop, P: Provers + Drop> Book<J, P> {
@@ -81,7 +90,7 @@ impl<J: Judge + Drop, P: Provers + Drop> Book<J, P> {
         requires parted { 1 < fan }
         requires few_parts { fan ≤ 16 }
         requires patience { patience ≤ 100 }
-        ensures { let setup : Setup = record { provers = P.many (P.names provers); bound = bound; fan = fan; patience = patience; start = start } in IfOk result (λ b. b ≡ ((J.names judge, P.names provers, setup), [], begun (rules_of (J.ruling (J.names judge)) setup))) }
+        ensures { let setup : Setup = record { provers = P.many (P.names provers); bound = bound; fan = fan; patience = patience; start = start } in IfOk result (λ b. b ≡ record { opening = record { judge = J.names judge; provers = P.names provers; setup = setup }; journal = []; game = begun (rules_of (J.ruling (J.names judge)) setup) }) }
     {
         let setup = Setup {
             provers: provers.count(),
@@ -101,16 +110,16 @@ impl<J: Judge + Drop, P: Provers + Drop> Book<J, P> {
 
     /// The match.
     pub fn game(&self) -> &Match<J>
-        ensures value { result.now ≡ (self.now.0.0, self.now.0.2, self.now.2) }
-        ensures few { self.now.0.2.provers ≤ 16 }
+        ensures value { result.now ≡ match_of self.now }
+        ensures few { self.now.opening.setup.provers ≤ 16 }
     {
         &self.game
     }
 
     /// The match, without the journal and the provers. It takes no memory.
     pub fn into_game(self) -> Match<J>
-        ensures value { result ≡ (self.0.0, self.0.2, self.2) }
-        ensures few { self.0.2.provers ≤ 16 }
+        ensures value { result ≡ match_of self }
+        ensures few { self.opening.setup.provers ≤ 16 }
     {
         let Book { game, .. } = self;
         game
@@ -118,17 +127,38 @@ impl<J: Judge + Drop, P: Provers + Drop> Book<J, P> {
 
     /// The posts that weren't stale, in their order.
     pub fn journal(&self) -> &[Entry]
-        ensures { result.now ≡ self.now.1 }
+        ensures { result.now ≡ self.now.journal }
     {
         self.journal.as_slice()
+    }
+
+    /// The verdict; `None` if and only if a question is open.
+    pub fn verdict(&self) -> Option<Verdict>
+        ensures { result ≡ (if is_complete self.now.game.record_ then Some (verdict_of (rules_of (J.ruling self.now.opening.judge) self.now.opening.setup) self.now.game.record_) else None) }
+    {
+        self.game.verdict()
+    }
+
+    /// What is settled so far.
+    pub fn record(&self) -> &Record
+        ensures { result.now ≡ self.now.game.record_ }
+    {
+        self.game.record()
+    }
+
+    /// What was settled. It takes no memory.
+    pub fn into_record(self) -> Record
+        ensures { result ≡ self.game.record_ }
+    {
+        self.into_game().into_record()
     }
 
     /// What prover `p`, from 1 to their count, is asked: `Nothing` if and only if it has no open question and the match goes
     /// on, `Over` if and only if it has none and the match has ended.
     pub fn ask(&self, p: u32) -> Ask
         requires some { 0 < p }
-        requires few { p ≤ self.now.0.2.provers }
-        ensures { result ≡ ask_on self.now.2 p (open_question (rules_of (J.ruling self.now.0.0) self.now.0.2) self.now.2.record_ p) }
+        requires few { p ≤ self.now.opening.setup.provers }
+        ensures { result ≡ ask_on self.now.game p (open_question (rules_of (J.ruling self.now.opening.judge) self.now.opening.setup) self.now.game.record_ p) }
     {
         match self.game.question(p) {
             Some(question) => Ask::Question(question, self.game.passes(p)),
@@ -145,27 +175,36 @@ impl<J: Judge + Drop, P: Provers + Drop> Book<J, P> {
     /// Whether prover `p`, from 1 to their count, has an open question on which it passes now.
     pub fn waits(&self, p: u32) -> bool
         requires some { 0 < p }
-        requires few { p ≤ self.now.0.2.provers }
-        ensures { result ≡ waits_on (P.says self.now.0.1) self.now.2 p (open_question (rules_of (J.ruling self.now.0.0) self.now.0.2) self.now.2.record_ p) }
+        requires few { p ≤ self.now.opening.setup.provers }
+        ensures { result ≡ waits_on (P.says self.now.opening.provers) self.now.game p (open_question (rules_of (J.ruling self.now.opening.judge) self.now.opening.setup) self.now.game.record_ p) }
     {
         match self.game.question(p) {
-            Some(question) => self.provers.waits(p, &question, self.game.passes(p)),
+            Some(question) => self.passes_on(p, &question, self.game.passes(p)),
             None => false,
         }
     }
 
+    /// Whether prover `p`, from 1 to their count, passes on the question after this many passes.
+    pub fn passes_on(&self, p: u32, question: &Question, passes: u32) -> bool
+        requires some { 0 < p }
+        requires few { p ≤ self.now.opening.setup.provers }
+        ensures { result ≡ is_none (P.says self.now.opening.provers p question.now passes) }
+    {
+        self.provers.waits(p, question, passes)
+    }
+
     /// The journal is legal, and the match is its state.
     pub fn is_legal(&self)
-        ensures legal { let rules = rules_of (J.ruling self.now.0.0) self.now.0.2 in IsJournal rules (P.says self.now.0.1) self.now.1 (begun rules) }
-        ensures state { let rules = rules_of (J.ruling self.now.0.0) self.now.0.2 in state_after rules (P.says self.now.0.1) self.now.1 ≡ self.now.2 }
+        ensures legal { let rules = rules_of (J.ruling self.now.opening.judge) self.now.opening.setup in IsJournal rules (P.says self.now.opening.provers) self.now.journal (begun rules) }
+        ensures state { let rules = rules_of (J.ruling self.now.opening.judge) self.now.opening.setup in state_after rules (P.says self.now.opening.provers) self.now.journal ≡ self.now.game }
     {
         let _ = &self.room;
     }
 
     /// The most entries that a legal journal can have. The book has memory for them.
     pub fn room(&self) -> u64
-        ensures most { let rules = rules_of (J.ruling self.now.0.0) self.now.0.2 in (k : ℕ) × IsMost rules.fan rules.bound k × (result ≡ most_entries rules k) }
-        ensures holds { length self.now.1 ≤ result }
+        ensures most { let rules = rules_of (J.ruling self.now.opening.judge) self.now.opening.setup in (k : ℕ) × IsMost rules.setup.fan rules.setup.bound k × (result ≡ most_entries rules.setup k) }
+        ensures holds { length self.now.journal ≤ result }
         ensures few { result < 2 ^ 32 }
     {
         spare_is_enough();
@@ -174,7 +213,7 @@ impl<J: Judge + Drop, P: Provers + Drop> Book<J, P> {
 
     /// How many entries can come at most: together with the journal they are the most that a legal journal can have.
     pub fn spare(&self) -> u64
-        ensures { let rules = rules_of (J.ruling self.now.0.0) self.now.0.2 in (k : ℕ) × IsMost rules.fan rules.bound k × (result + length self.now.1 ≡ most_entries rules k) }
+        ensures { let rules = rules_of (J.ruling self.now.opening.judge) self.now.opening.setup in (k : ℕ) × IsMost rules.setup.fan rules.setup.bound k × (result + length self.now.journal ≡ most_entries rules.setup k) }
     {
         spare_is_enough();
         self.room - self.journal.len() as u64
@@ -184,12 +223,12 @@ impl<J: Judge + Drop, P: Provers + Drop> Book<J, P> {
     /// It takes no memory. The journal is longer by exactly this entry, or as it was if the reply is `Stale`.
     pub fn post(&mut self, p: u32, qid: Qid, turn: Move) -> Reply
         requires some { 0 < p }
-        requires few { p ≤ self.old.0.2.provers }
-        requires says { (q : Question) → open_question (rules_of (J.ruling self.old.0.0) self.old.0.2) self.old.2.record_ p ≡ Some q → same_qid q.qid qid ≡ true → answer_of turn ≡ P.says self.old.0.1 p q (passes_of self.old.2 p) }
-        ensures opening { self.new.0 ≡ self.old.0 }
-        ensures journal { self.new.1 ≡ noted self.old.1 (record { p = p; qid = qid; pass = is_none (answer_of turn); reply = result }) }
-        ensures state { self.new.2 ≡ posted (rules_of (J.ruling self.old.0.0) self.old.0.2) self.old.2 p qid (answer_of turn) }
-        ensures reply { result ≡ reply_to (rules_of (J.ruling self.old.0.0) self.old.0.2) self.old.2 p qid (answer_of turn) }
+        requires few { p ≤ self.old.opening.setup.provers }
+        requires says { (q : Question) → open_question (rules_of (J.ruling self.old.opening.judge) self.old.opening.setup) self.old.game.record_ p ≡ Some q → same_qid q.qid qid ≡ true → answer_of turn ≡ P.says self.old.opening.provers p q (passes_of self.old.game p) }
+        ensures opening { self.new.opening ≡ self.old.opening }
+        ensures journal { self.new.journal ≡ noted self.old.journal (record { p = p; qid = qid; pass = is_none (answer_of turn); reply = result }) }
+        ensures state { self.new.game ≡ posted (rules_of (J.ruling self.old.opening.judge) self.old.opening.setup) self.old.game p qid (answer_of turn) }
+        ensures reply { result ≡ reply_to (rules_of (J.ruling self.old.opening.judge) self.old.opening.setup) self.old.game p qid (answer_of turn) }
     {
         spare_is_enough();
         let pass = is_pass(&turn);
@@ -206,14 +245,19 @@ impl<J: Judge + Drop, P: Provers + Drop> Book<J, P> {
     }
 
     /// The lowest prover with an open question, with that question and its passes.
-    fn next_asked(&self) -> Option<(u32, Question, u32)>
-        ensures found { IfSome result (λ x. (0 < x.0) × (x.0 ≤ self.now.0.2.provers) × (open_question (rules_of (J.ruling self.now.0.0) self.now.0.2) self.now.2.record_ x.0 ≡ Some x.1) × (x.2 ≡ passes_of self.now.2 x.0)) }
-        ensures none { IfNone result (is_complete self.now.2.record_ ≡ true) }
+    fn next_asked(&self) -> Option<Asked>
+        ensures found { IfSome result (λ x. (0 < x.p) × (x.p ≤ self.now.opening.setup.provers) × (open_question (rules_of (J.ruling self.now.opening.judge) self.now.opening.setup) self.now.game.record_ x.p ≡ Some x.question) × (x.passes ≡ passes_of self.now.game x.p)) }
+        ensures none { IfNone result (is_complete self.now.game.record_ ≡ true) }
     {
         let provers = self.game.setup().provers;
         for i in 0..provers {
             if let Some(question) = self.game.question(i + 1) {
-                return Some((i + 1, question, self.game.passes(i + 1)));
+                let passes = self.game.passes(i + 1);
+                return Some(Asked {
+                    p: i + 1,
+                    question,
+                    passes,
+                });
             }
         }
         self.game.asks_nobody_once_over();
@@ -224,24 +268,22 @@ impl<J: Judge + Drop, P: Provers + Drop> Book<J, P> {
     fn serve<R: Threads + Sync, A: Answerer>(
         &mut self,
         rt: &R,
-        p: u32,
-        question: Question,
-        passes: u32,
+        asked: Asked,
         answerer: &mut A,
     ) -> Result<(), Memory>
         requires sync { IsSync R.row }
-        requires some { 0 < p }
-        requires few { p ≤ self.old.0.2.provers }
-        requires asked { open_question (rules_of (J.ruling self.old.0.0) self.old.0.2) self.old.2.record_ p ≡ Some question }
-        requires passes { passes ≡ passes_of self.old.2 p }
-        requires says { A.answers answerer.old ≡ P.says self.old.0.1 p }
-        ensures opening { self.new.0 ≡ self.old.0 }
+        requires some { 0 < asked.p }
+        requires few { asked.p ≤ self.old.opening.setup.provers }
+        requires asked { open_question (rules_of (J.ruling self.old.opening.judge) self.old.opening.setup) self.old.game.record_ asked.p ≡ Some asked.question }
+        requires passes { asked.passes ≡ passes_of self.old.game asked.p }
+        requires says { A.answers answerer.old ≡ P.says self.old.opening.provers asked.p }
+        ensures opening { self.new.opening ≡ self.old.opening }
         ensures keeps { A.answers answerer.new ≡ A.answers answerer.old }
-        ensures longer { IfOk result (λ _. (e : Entry) × (self.new.1 ≡ self.old.1 ++ e ∷ [])) }
+        ensures longer { IfOk result (λ _. (e : Entry) × (self.new.journal ≡ self.old.journal ++ e ∷ [])) }
         ensures same { IfErr result (λ _. self.new ≡ self.old) }
     {
-        let answer = answerer.answer(rt, &question, passes)?;
-        self.post(p, question.qid, move_of(answer));
+        let answer = answerer.answer(rt, &asked.question, asked.passes)?;
+        self.post(asked.p, asked.question.qid, move_of(answer));
         Ok(())
     }
 
@@ -253,19 +295,19 @@ impl<J: Judge + Drop, P: Provers + Drop> Book<J, P> {
         answerers: &mut [A],
     ) -> Result<(), Memory>
         requires sync { IsSync R.row }
-        requires count { length answerers.old ≡ self.old.0.2.provers }
-        requires says { AnswerAs A.answers (P.says self.old.0.1) 1 answerers.old }
-        ensures opening { self.new.0 ≡ self.old.0 }
-        ensures keeps { AnswerAs A.answers (P.says self.old.0.1) 1 answerers.new }
-        ensures prefix { (es : List Entry) × (self.new.1 ≡ self.old.1 ++ es) }
-        ensures complete { IfOk result (λ _. is_complete self.new.2.record_ ≡ true) }
+        requires count { length answerers.old ≡ self.old.opening.setup.provers }
+        requires says { AnswerAs A.answers (P.says self.old.opening.provers) 1 answerers.old }
+        ensures opening { self.new.opening ≡ self.old.opening }
+        ensures keeps { AnswerAs A.answers (P.says self.old.opening.provers) 1 answerers.new }
+        ensures prefix { (es : List Entry) × (self.new.journal ≡ self.old.journal ++ es) }
+        ensures complete { IfOk result (λ _. is_complete self.new.game.record_ ≡ true) }
     {
         let left = self.spare();
         for _ in 0..left {
-            let Some((p, question, passes)) = self.next_asked() else {
+            let Some(asked) = self.next_asked() else {
                 return Ok(());
             };
-            self.serve(rt, p, question, passes, &mut answerers[p as usize - 1])?;
+            self.serve(rt, asked, &mut answerers[asked.p as usize - 1])?;
         }
         self.is_full();
         Ok(())
@@ -273,8 +315,8 @@ impl<J: Judge + Drop, P: Provers + Drop> Book<J, P> {
 
     /// If the journal is as long as it can be, the match is over.
     fn is_full(&self)
-        requires { let rules = rules_of (J.ruling self.now.0.0) self.now.0.2 in (k : ℕ) × IsMost rules.fan rules.bound k × (length self.now.1 ≡ most_entries rules k) }
-        ensures { is_complete self.now.2.record_ ≡ true }
+        requires { let rules = rules_of (J.ruling self.now.opening.judge) self.now.opening.setup in (k : ℕ) × IsMost rules.setup.fan rules.setup.bound k × (length self.now.journal ≡ most_entries rules.setup k) }
+        ensures { is_complete self.now.game.record_ ≡ true }
     {
         spare_is_enough();
         self.game.asks_nobody_once_over();
@@ -283,7 +325,7 @@ impl<J: Judge + Drop, P: Provers + Drop> Book<J, P> {
     /// Order does not matter: once the match is over its record is that of the case, the bracket over what each question is
     /// settled as by what the provers say.
     pub fn has_the_record_of_the_case(&self)
-        ensures { let rules = rules_of (J.ruling self.now.0.0) self.now.0.2 in is_complete self.now.2.record_ ≡ true → self.now.2.record_ ≡ bracket rules (answers_of rules (P.says self.now.0.1)) }
+        ensures { let rules = rules_of (J.ruling self.now.opening.judge) self.now.opening.setup in is_complete self.now.game.record_ ≡ true → self.now.game.record_ ≡ bracket rules (answers_of rules (P.says self.now.opening.provers)) }
     {
         one_record_of_a_case();
         let _ = &self.room;
@@ -291,7 +333,7 @@ impl<J: Judge + Drop, P: Provers + Drop> Book<J, P> {
 
     /// A number names one question: an open question is the one that the record of the case asks its prover under its number.
     pub fn asks_what_the_case_asks(&self)
-        ensures { let rules = rules_of (J.ruling self.now.0.0) self.now.0.2 in (p : ℕ) (q : Question) → 0 < p → open_question rules self.now.2.record_ p ≡ Some q → asked rules (bracket rules (answers_of rules (P.says self.now.0.1))) p q.qid ≡ Some q.kind }
+        ensures { let rules = rules_of (J.ruling self.now.opening.judge) self.now.opening.setup in (p : ℕ) (q : Question) → 0 < p → open_question rules self.now.game.record_ p ≡ Some q → asked rules (bracket rules (answers_of rules (P.says self.now.opening.provers))) p q.qid ≡ Some q.kind }
     {
         a_number_names_one_question();
         let _ = &self.room;
@@ -300,7 +342,7 @@ impl<J: Judge + Drop, P: Provers + Drop> Book<J, P> {
     /// The dispute theorem: a prover that answers truly within its patience each question that the record of the case asks it
     /// stays, its settled answers are given and true, and once the match is over it is live and the verdict is right.
     pub fn keeps_truthful_provers(&self)
-        ensures { let rules = rules_of (J.ruling self.now.0.0) self.now.0.2 in (t : Truth) (p : ℕ) → IsRun rules t → 0 < p → p ≤ self.now.0.2.provers → IsTruthfulProver rules (P.says self.now.0.1) t p → IsSafe rules t p self.now.2.record_ }
+        ensures { let rules = rules_of (J.ruling self.now.opening.judge) self.now.opening.setup in (t : Truth) (p : ℕ) → IsRun rules t → 0 < p → p ≤ self.now.opening.setup.provers → IsTruthfulProver rules (P.says self.now.opening.provers) t p → IsSafe rules t p self.now.game.record_ }
     {
         truthful_provers_are_safe();
         let _ = &self.room;

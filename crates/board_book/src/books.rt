@@ -7,13 +7,15 @@ ghost use Rattle.bisect_game.specs.Says.{AnswerAs};
 ghost use Rattle.tournament.specs.Bracket.{open_question, is_complete};
 ghost use Rattle.tournament.specs.Moves.{passes_of};
 ghost use Rattle.rd_base.specs.Questions.{same_qid};
-ghost use Rattle.tournament.specs.Posting.{rules_of, answer_of};
+ghost use Rattle.tournament.specs.Posting.{answer_of};
+ghost use Rattle.bisect_game.specs.Rules.{rules_of};
 ghost use Rattle.board_book.specs.declared.entry.Entry.{Entry};
+ghost use Rattle.board_book.specs.Entries.{ask_on};
 ghost use Rattle.board_book.specs.Tasks.{numbered, games_of, IsTaskJournal, entries_of, BookOf, of_task, openings, tasks_of, sayings, PostedTo};
 ghost use Rattle.board_book.specs.Keeping.{HasRoom};
 
 use crate::book::Book;
-use crate::entry::Entry;
+use crate::entry::{Ask, Entry};
 use bisect_game::{Answerer, Judge, Provers};
 use rd_base::{Memory, Qid};
 use std::alloc::Global;
@@ -31,14 +33,13 @@ pub struct Books<J: Judge + Drop, P: Provers + Drop> {
 }
 
 impl<J: Judge + Drop, P: Provers + Drop> Model for Books<J, P> {
-    ghost use Rattle.std.specs.Prelude.{ℕ, vec_capacity, List};
-    ghost use Rattle.board_book.specs.declared.entry.Entry.{Entry};
-    ghost use Rattle.board_book.specs.Tasks.{BookOf};
+    ghost use Rattle.std.specs.Prelude.{vec_capacity};
+    ghost use Rattle.board_book.specs.Tasks.{BooksOf};
     ghost use Rattle.board_book.specs.Keeping.{AreKept};
 
-    ghost Value = { List (BookOf J.Names P.Names) × List (ℕ × Entry) };
+    ghost Value = { BooksOf J.Names P.Names };
 
-    ghost view = { λ b. (b.books.items, b.journal.items) };
+    ghost view = { λ b. record { books = b.books.items; journal = b.journal.items } };
 
     ghost invariant = { λ b. AreKept J.ruling P.says b.books.items b.journal.items (vec_capacity b.journal) };
 }
@@ -73,8 +74,8 @@ impl<J: Judge + Drop, P: Provers + Drop> Books<J, P> {
     pub fn open(alloc: Global, books: Vec<Book<J, P>>) -> Result<Books<J, P>, Memory>
         requires some { 0 < length books.items }
         requires few { length books.items ≤ 8 }
-        requires empty { All (λ b. b.1 ≡ []) books.items }
-        ensures { IfOk result (λ made. made ≡ (books.items, [])) }
+        requires empty { All (λ b. b.journal ≡ []) books.items }
+        ensures { IfOk result (λ made. made ≡ record { books = books.items; journal = [] }) }
     {
         let room = room_of(books.as_slice());
         let journal = Vec::with_capacity(alloc, room as usize)?;
@@ -84,7 +85,7 @@ impl<J: Judge + Drop, P: Provers + Drop> Books<J, P> {
     /// The book of one task, with the entries that it has. It takes the memory of the joint journal. An `Err` is out of memory; the book
     /// is then dropped.
     pub fn one(alloc: Global, book: Book<J, P>) -> Result<Books<J, P>, Memory>
-        ensures { IfOk result (λ made. made ≡ (book ∷ [], of_task 1 book.1)) }
+        ensures { IfOk result (λ made. made ≡ record { books = book ∷ []; journal = of_task 1 book.journal }) }
     {
         book.is_legal();
         let mut books = Vec::with_capacity(alloc, 1)?;
@@ -98,30 +99,42 @@ impl<J: Judge + Drop, P: Provers + Drop> Books<J, P> {
     /// The book of task `t`, from 1 to their count.
     pub fn book(&self, t: u32) -> &Book<J, P>
         requires some { 0 < t }
-        requires few { t ≤ length self.now.0 }
-        ensures { numbered self.now.0 t ≡ Some result.now }
+        requires few { t ≤ length self.now.books }
+        ensures { numbered self.now.books t ≡ Some result.now }
     {
         &self.books[t as usize - 1]
     }
 
+    /// What prover `p` of task `t` is asked: `Nothing` if and only if it has no open question and its match goes on, `Over` if and only
+    /// if it has none and its match has ended.
+    pub fn ask(&self, t: u32, p: u32) -> Ask
+        requires task { 0 < t }
+        requires tasks { t ≤ length self.now.books }
+        requires some { 0 < p }
+        requires few { (b : BookOf J.Names P.Names) → numbered self.now.books t ≡ Some b → p ≤ b.opening.setup.provers }
+        ensures { (b : BookOf J.Names P.Names) → numbered self.now.books t ≡ Some b → result ≡ ask_on b.game p (open_question (rules_of (J.ruling b.opening.judge) b.opening.setup) b.game.record_ p) }
+    {
+        self.book(t).ask(p)
+    }
+
     /// How many tasks there are.
     pub fn count(&self) -> u32
-        ensures value { result ≡ length self.now.0 }
-        ensures few { length self.now.0 ≤ 8 }
+        ensures value { result ≡ length self.now.books }
+        ensures few { length self.now.books ≤ 8 }
     {
         self.books.len() as u32
     }
 
     /// The posts that weren't stale, of all tasks in their order, each with its task.
     pub fn journal(&self) -> &[(u32, Entry)]
-        ensures { result.now ≡ self.now.1 }
+        ensures { result.now ≡ self.now.journal }
     {
         self.journal.as_slice()
     }
 
     /// The books, in order of the tasks. It takes no memory.
     pub fn into_list(self) -> Vec<Book<J, P>>
-        ensures { result.items ≡ self.0 }
+        ensures { result.items ≡ self.books }
     {
         let Books { books, .. } = self;
         books
@@ -129,8 +142,8 @@ impl<J: Judge + Drop, P: Provers + Drop> Books<J, P> {
 
     /// The book of the only task, whose journal is that of all. It takes no memory.
     pub fn into_one(self) -> Book<J, P>
-        requires one { length self.0 ≡ 1 }
-        ensures { self ≡ (result ∷ [], of_task 1 result.1) }
+        requires one { length self.books ≡ 1 }
+        ensures { self ≡ record { books = result ∷ []; journal = of_task 1 result.journal } }
     {
         let Books { mut books, .. } = self;
         match books.pop() {
@@ -141,9 +154,9 @@ impl<J: Judge + Drop, P: Provers + Drop> Books<J, P> {
 
     /// The journal is legal, and the entries of each task are the journal of its book.
     pub fn is_legal(&self)
-        ensures some { 0 < length self.now.0 }
-        ensures legal { IsTaskJournal self.now.1 (games_of (tasks_of J.ruling P.says (openings self.now.0))) }
-        ensures own { (t : ℕ) (b : BookOf J.Names P.Names) → numbered self.now.0 t ≡ Some b → entries_of t self.now.1 ≡ b.1 }
+        ensures some { 0 < length self.now.books }
+        ensures legal { IsTaskJournal self.now.journal (games_of (tasks_of J.ruling P.says (openings self.now.books))) }
+        ensures own { (t : ℕ) (b : BookOf J.Names P.Names) → numbered self.now.books t ≡ Some b → entries_of t self.now.journal ≡ b.journal }
     {
         let _ = &self.journal;
     }
@@ -152,12 +165,12 @@ impl<J: Judge + Drop, P: Provers + Drop> Books<J, P> {
     /// It takes no memory. The journal is longer by exactly this entry, or as it was if the reply is `Stale`; the other books stay.
     pub fn post(&mut self, t: u32, p: u32, qid: Qid, turn: Move) -> Reply
         requires task { 0 < t }
-        requires tasks { t ≤ length self.old.0 }
+        requires tasks { t ≤ length self.old.books }
         requires some { 0 < p }
-        requires few { (b : BookOf J.Names P.Names) → numbered self.old.0 t ≡ Some b → p ≤ b.0.2.provers }
-        requires says { (b : BookOf J.Names P.Names) → numbered self.old.0 t ≡ Some b → (q : Question) → open_question (rules_of (J.ruling b.0.0) b.0.2) b.2.record_ p ≡ Some q → same_qid q.qid qid ≡ true → answer_of turn ≡ P.says b.0.1 p q (passes_of b.2 p) }
-        ensures openings { openings self.new.0 ≡ openings self.old.0 }
-        ensures posts { PostedTo J.ruling self.old.0 self.old.1 t p qid (answer_of turn) result self.new.0 self.new.1 }
+        requires few { (b : BookOf J.Names P.Names) → numbered self.old.books t ≡ Some b → p ≤ b.opening.setup.provers }
+        requires says { (b : BookOf J.Names P.Names) → numbered self.old.books t ≡ Some b → (q : Question) → open_question (rules_of (J.ruling b.opening.judge) b.opening.setup) b.game.record_ p ≡ Some q → same_qid q.qid qid ≡ true → answer_of turn ≡ P.says b.opening.provers p q (passes_of b.game p) }
+        ensures openings { openings self.new.books ≡ openings self.old.books }
+        ensures posts { PostedTo J.ruling self.old.books self.old.journal t p qid (answer_of turn) result self.new.books self.new.journal }
     {
         let book = &mut self.books[t as usize - 1];
         let before = book.journal().len();
@@ -177,12 +190,12 @@ impl<J: Judge + Drop, P: Provers + Drop> Books<J, P> {
     ) -> Result<(), Memory>
         requires sync { IsSync R.row }
         requires task { 0 < t }
-        requires tasks { t ≤ length self.old.0 }
-        requires count { (b : BookOf J.Names P.Names) → numbered self.old.0 t ≡ Some b → length answerers.old ≡ b.0.2.provers }
-        requires says { (b : BookOf J.Names P.Names) → numbered self.old.0 t ≡ Some b → AnswerAs A.answers (P.says b.0.1) 1 answerers.old }
-        ensures keeps { (b : BookOf J.Names P.Names) → numbered self.old.0 t ≡ Some b → AnswerAs A.answers (P.says b.0.1) 1 answerers.new }
-        ensures books { (b : BookOf J.Names P.Names) × (numbered self.old.0 t ≡ Some b) × ((c : BookOf J.Names P.Names) × (c.0 ≡ b.0) × (self.new.0 ≡ set self.old.0 (t - 1) c) × IfOk result (λ _. is_complete c.2.record_ ≡ true)) }
-        ensures prefix { (xs : List (ℕ × Entry)) × (self.new.1 ≡ self.old.1 ++ xs) }
+        requires tasks { t ≤ length self.old.books }
+        requires count { (b : BookOf J.Names P.Names) → numbered self.old.books t ≡ Some b → length answerers.old ≡ b.opening.setup.provers }
+        requires says { (b : BookOf J.Names P.Names) → numbered self.old.books t ≡ Some b → AnswerAs A.answers (P.says b.opening.provers) 1 answerers.old }
+        ensures keeps { (b : BookOf J.Names P.Names) → numbered self.old.books t ≡ Some b → AnswerAs A.answers (P.says b.opening.provers) 1 answerers.new }
+        ensures books { (b : BookOf J.Names P.Names) × (numbered self.old.books t ≡ Some b) × ((c : BookOf J.Names P.Names) × (c.opening ≡ b.opening) × (self.new.books ≡ set self.old.books (t - 1) c) × IfOk result (λ _. is_complete c.game.record_ ≡ true)) }
+        ensures prefix { (xs : List (ℕ × Entry)) × (self.new.journal ≡ self.old.journal ++ xs) }
     {
         let book = &mut self.books[t as usize - 1];
         let before = book.journal().len();
@@ -203,13 +216,13 @@ impl<J: Judge + Drop, P: Provers + Drop> Books<J, P> {
     ) -> Result<usize, Memory>
         requires sync { IsSync R.row }
         requires task { 0 < t }
-        requires tasks { t ≤ length self.old.0 }
-        requires says { map A.answers answerers.old ≡ sayings P.says (openings self.old.0) }
-        requires from { from ≡ length (sayings P.says (take (t - 1) (openings self.old.0))) }
-        ensures next { IfOk result (λ next. next ≡ length (sayings P.says (take t (openings self.old.0)))) }
+        requires tasks { t ≤ length self.old.books }
+        requires says { map A.answers answerers.old ≡ sayings P.says (openings self.old.books) }
+        requires from { from ≡ length (sayings P.says (take (t - 1) (openings self.old.books))) }
+        ensures next { IfOk result (λ next. next ≡ length (sayings P.says (take t (openings self.old.books)))) }
         ensures keeps { map A.answers answerers.new ≡ map A.answers answerers.old }
-        ensures books { (b : BookOf J.Names P.Names) × (numbered self.old.0 t ≡ Some b) × ((c : BookOf J.Names P.Names) × (c.0 ≡ b.0) × (self.new.0 ≡ set self.old.0 (t - 1) c) × IfOk result (λ _. is_complete c.2.record_ ≡ true)) }
-        ensures prefix { (xs : List (ℕ × Entry)) × (self.new.1 ≡ self.old.1 ++ xs) }
+        ensures books { (b : BookOf J.Names P.Names) × (numbered self.old.books t ≡ Some b) × ((c : BookOf J.Names P.Names) × (c.opening ≡ b.opening) × (self.new.books ≡ set self.old.books (t - 1) c) × IfOk result (λ _. is_complete c.game.record_ ≡ true)) }
+        ensures prefix { (xs : List (ℕ × Entry)) × (self.new.journal ≡ self.old.journal ++ xs) }
     {
         let provers = self.book(t).game().setup().provers as usize;
         let (_, rest) = answerers.split_at_mut(from);
@@ -226,11 +239,11 @@ impl<J: Judge + Drop, P: Provers + Drop> Books<J, P> {
         answerers: &mut [A],
     ) -> Result<(), Memory>
         requires sync { IsSync R.row }
-        requires says { map A.answers answerers.old ≡ sayings P.says (openings self.old.0) }
-        ensures openings { openings self.new.0 ≡ openings self.old.0 }
+        requires says { map A.answers answerers.old ≡ sayings P.says (openings self.old.books) }
+        ensures openings { openings self.new.books ≡ openings self.old.books }
         ensures keeps { map A.answers answerers.new ≡ map A.answers answerers.old }
-        ensures prefix { (xs : List (ℕ × Entry)) × (self.new.1 ≡ self.old.1 ++ xs) }
-        ensures complete { IfOk result (λ _. All (λ b. is_complete b.2.record_ ≡ true) self.new.0) }
+        ensures prefix { (xs : List (ℕ × Entry)) × (self.new.journal ≡ self.old.journal ++ xs) }
+        ensures complete { IfOk result (λ _. All (λ b. is_complete b.game.record_ ≡ true) self.new.books) }
     {
         let mut from = 0;
         for i in 0..self.count() {

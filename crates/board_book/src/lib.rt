@@ -10,13 +10,14 @@
 //! of that task's own book (`Books::is_legal`). Each task is alone: its entries are a legal journal of it, and fix what it asks, what a
 //! post is answered and its record (`tasks_are_alone`). The memory of all tasks is taken at the opening.
 //!
-//! Read `entry` first, then `book`, `specs/Tasks.antt`, `specs/Alone.antt` and `books`.
+//! Read `opening` and `entry` first, then `book`, `specs/Tasks.antt`, `specs/Alone.antt` and `books`.
 #![tactic(auto)]
 
 mod book;
 mod books;
 mod entry;
 mod laws;
+mod opening;
 mod room;
 
 pub use book::Book;
@@ -25,3 +26,4 @@ pub use entry::{Ask, Entry};
 pub use laws::{
     answerers_say_in_order, entries_are_told_apart, tasks_are_alone, tasks_are_numbered,
 };
+pub use opening::Opening;

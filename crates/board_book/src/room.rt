@@ -1,7 +1,7 @@
 ghost use Rattle.std.specs.Prelude.{◌≡◌, ◌+◌, ◌-◌, ◌*◌, ◌<◌, ◌≤◌, ◌^◌};
-ghost use Rattle.tournament.specs.Length.{IsMost};
+ghost use Rattle.tournament.specs.Length.{IsMost, most_entries};
 
-use tournament::Setup;
+use bisect_game::Setup;
 
 /// The most bisection rounds of a dispute: the greatest k with `F^k < F * N`, for rounds of F parts and the bound N.
 fn most_rounds(bound: u64, fan: u32) -> u64
@@ -29,7 +29,7 @@ fn entries_for(setup: Setup, rounds: u64) -> u64
     requires patience { setup.patience ≤ 100 }
     requires rounds { rounds < 36 }
     ensures few { result < 2 ^ 32 }
-    ensures value { result ≡ (setup.patience + 1) * (setup.provers + 2 * (setup.provers - 1) * (rounds + 1)) }
+    ensures value { result ≡ most_entries setup rounds }
 {
     let provers = u64::from(setup.provers);
     (u64::from(setup.patience) + 1) * (provers + 2 * (provers - 1) * (rounds + 1))
@@ -45,7 +45,7 @@ pub(crate) fn most_entries(setup: Setup) -> u64
     requires few_parts { setup.fan ≤ 16 }
     requires patience { setup.patience ≤ 100 }
     ensures few { result < 2 ^ 32 }
-    ensures most { (k : _) × IsMost setup.fan setup.bound k × (result ≡ (setup.patience + 1) * (setup.provers + 2 * (setup.provers - 1) * (k + 1))) }
+    ensures most { (k : _) × IsMost setup.fan setup.bound k × (result ≡ most_entries setup k) }
 {
     entries_for(setup, most_rounds(setup.bound, setup.fan))
 }

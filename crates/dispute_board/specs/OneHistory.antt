@@ -84,7 +84,7 @@ MayPostFor tasks t p qid m = (task : Task) → numbered tasks t ≡ Some task �
 
 -- there is a task of this number, and it has a prover of that number
 abbrev pub IsThere : List Task → ℕ → ℕ → Type 0
-IsThere tasks t p = (task : Task) × (numbered tasks t ≡ Some task) × (0 < p) × (p ≤ task.rules.provers)
+IsThere tasks t p = (task : Task) × (numbered tasks t ≡ Some task) × (0 < p) × (p ≤ task.rules.setup.provers)
 
 -- the board's reply: if the prover has an open question and says the move after the passes that stand there, the one of the
 -- book; if it says something else there, or has no question, stale, with the open one

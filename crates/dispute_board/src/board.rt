@@ -3,8 +3,9 @@ ghost use Rattle.std.specs.Prelude.{◌≡◌, ◌+◌, ◌^◌, ◌<◌, ◌≤
 ghost use Rattle.std.specs.List.{All};
 ghost use Rattle.seat_lock.specs.History.{log_of, Begins, NoneTwice};
 ghost use Rattle.seat_lock.specs.Seats.{first_seat, after_split, split_off, after_join};
-ghost use Rattle.tournament.specs.declared.setup.Setup.{Setup};
-ghost use Rattle.tournament.specs.Posting.{rules_of, answer_of};
+ghost use Rattle.board_book.specs.declared.opening.Opening.{Opening};
+ghost use Rattle.tournament.specs.Posting.{answer_of};
+ghost use Rattle.bisect_game.specs.Rules.{rules_of};
 ghost use Rattle.board_book.specs.Tasks.{task_of, of_task};
 ghost use Rattle.dispute_board.specs.OneHistory.{log_of_journal, MayPost, AsksOnBoard, PostsOnBoard};
 
@@ -42,11 +43,11 @@ pub struct Seat<J: Judge + Drop, P: Provers + Drop> {
 }
 
 impl<J: Judge + Drop, P: Provers + Drop> Model for Seat<J, P> {
-    ghost use Rattle.tournament.specs.declared.setup.Setup.{Setup};
+    ghost use Rattle.board_book.specs.declared.opening.Opening.{Opening};
     ghost use Rattle.seat_lock.specs.Seats.{Known};
     ghost use Rattle.dispute_board.specs.OneTask.{of_one, HasOneTask};
 
-    ghost Value = { Known (J.Names × P.Names × Setup) };
+    ghost Value = { Known (Opening J.Names P.Names) };
 
     ghost view = { λ seat. of_one seat.tasks };
 
@@ -57,7 +58,7 @@ impl<J: Judge + Drop, P: Provers + Drop> Board<J, P> {
     /// A board over the book, and its first seat, which has seen the book's journal. An `Err` is out of memory; the book is then
     /// dropped.
     pub fn new(alloc: Global, book: Book<J, P>) -> Result<(Board<J, P>, Seat<J, P>), Memory>
-        ensures { IfOk result (λ made. made.1 ≡ first_seat made.0 book.0 (log_of_journal (of_task 1 book.1))) }
+        ensures { IfOk result (λ made. made.1 ≡ first_seat made.0 book.opening (log_of_journal (of_task 1 book.journal))) }
     {
         let (tasks, seat) = TaskBoard::new(alloc, Books::one(alloc, book)?)?;
         Ok((Board { tasks }, Seat { tasks: seat }))
@@ -68,8 +69,8 @@ impl<J: Judge + Drop, P: Provers + Drop> Board<J, P> {
     pub fn ask<R: Wait>(&self, rt: &R, seat: &mut Seat<J, P>, p: u32) -> Ask
         requires lock { seat.old.lock ≡ self.now }
         requires some { 0 < p }
-        requires few { (head : J.Names × P.Names × Setup) × (seat.old.head ≡ Some head) × (p ≤ head.2.provers) }
-        ensures { (head : J.Names × P.Names × Setup) × (seat.old.head ≡ Some head) × AsksOnBoard (task_of J.ruling P.says head ∷ []) seat.old 1 p result seat.new }
+        requires few { (head : Opening J.Names P.Names) × (seat.old.head ≡ Some head) × (p ≤ head.setup.provers) }
+        ensures { (head : Opening J.Names P.Names) × (seat.old.head ≡ Some head) × AsksOnBoard (task_of J.ruling P.says head ∷ []) seat.old 1 p result seat.new }
     {
         self.tasks.ask(rt, &mut seat.tasks, 1, p)
     }
@@ -89,9 +90,9 @@ impl<J: Judge + Drop, P: Provers + Drop> Board<J, P> {
     ) -> Posted
         requires lock { seat.old.lock ≡ self.now }
         requires some { 0 < p }
-        requires few { (head : J.Names × P.Names × Setup) × (seat.old.head ≡ Some head) × (p ≤ head.2.provers) }
-        requires may { (head : J.Names × P.Names × Setup) → seat.old.head ≡ Some head → MayPost (rules_of (J.ruling head.0) head.2) (P.says head.1) p qid (answer_of turn) }
-        ensures { (head : J.Names × P.Names × Setup) × (seat.old.head ≡ Some head) × PostsOnBoard (task_of J.ruling P.says head ∷ []) seat.old 1 p qid (answer_of turn) result seat.new }
+        requires few { (head : Opening J.Names P.Names) × (seat.old.head ≡ Some head) × (p ≤ head.setup.provers) }
+        requires may { (head : Opening J.Names P.Names) → seat.old.head ≡ Some head → MayPost (rules_of (J.ruling head.judge) head.setup) (P.says head.provers) p qid (answer_of turn) }
+        ensures { (head : Opening J.Names P.Names) × (seat.old.head ≡ Some head) × PostsOnBoard (task_of J.ruling P.says head ∷ []) seat.old 1 p qid (answer_of turn) result seat.new }
     {
         self.tasks.post(rt, &mut seat.tasks, 1, p, qid, turn)
     }
@@ -105,7 +106,7 @@ impl<J: Judge + Drop, P: Provers + Drop> Board<J, P> {
         ensures other { result ≡ split_off seat.old result.number }
     {
         Seat {
-            tasks: self.tasks.lock().split(&mut seat.tasks),
+            tasks: self.tasks.split(&mut seat.tasks),
         }
     }
 
@@ -115,7 +116,7 @@ impl<J: Judge + Drop, P: Provers + Drop> Board<J, P> {
         requires first { seat.old.number ≡ 0 }
         ensures { seat.new ≡ after_join seat.old other }
     {
-        self.tasks.lock().join(&mut seat.tasks, other.tasks);
+        self.tasks.join(&mut seat.tasks, other.tasks);
     }
 
     /// The book, once every seat that was split off is joined in again. Its opening is that of the seat, and its journal begins with
@@ -124,10 +125,10 @@ impl<J: Judge + Drop, P: Provers + Drop> Board<J, P> {
         requires lock { seat.lock ≡ self }
         requires first { seat.number ≡ 0 }
         requires none_out { seat.out ≡ 0 }
-        ensures opening { seat.head ≡ Some result.0 }
-        ensures journal { Begins (log_of seat.seen) (log_of_journal (of_task 1 result.1)) }
-        ensures joined { All (λ seen. Begins (log_of seen) (log_of_journal (of_task 1 result.1))) seat.joined }
-        ensures receipts { NoneTwice seat.receipts × All (λ place. place < length result.1) seat.receipts }
+        ensures opening { seat.head ≡ Some result.opening }
+        ensures journal { Begins (log_of seat.seen) (log_of_journal (of_task 1 result.journal)) }
+        ensures joined { All (λ seen. Begins (log_of seen) (log_of_journal (of_task 1 result.journal))) seat.joined }
+        ensures receipts { NoneTwice seat.receipts × All (λ place. place < length result.journal) seat.receipts }
     {
         let Board { tasks } = self;
         let Seat { tasks: seat } = seat;

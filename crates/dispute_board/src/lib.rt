@@ -17,4 +17,4 @@ mod turns;
 pub use board::{Board, Seat};
 pub use laws::{logs_tell_journals, what_is_said_may_be_posted};
 pub use task_board::{TaskBoard, TaskSeat};
-pub use turns::{Locked, Posted};
+pub use turns::Posted;

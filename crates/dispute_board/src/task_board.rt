@@ -1,9 +1,9 @@
 //! The board of many tasks, and its seats.
-ghost use Rattle.std.specs.Prelude.{◌≡◌, ◌<◌, length, List, Some, IfOk};
+ghost use Rattle.std.specs.Prelude.{◌≡◌, ◌+◌, ◌^◌, ◌<◌, length, List, Some, IfOk};
 ghost use Rattle.std.specs.List.{All};
 ghost use Rattle.seat_lock.specs.History.{log_of, Begins, NoneTwice};
-ghost use Rattle.seat_lock.specs.Seats.{first_seat};
-ghost use Rattle.tournament.specs.declared.setup.Setup.{Setup};
+ghost use Rattle.seat_lock.specs.Seats.{first_seat, after_split, split_off, after_join};
+ghost use Rattle.board_book.specs.declared.opening.Opening.{Opening};
 ghost use Rattle.tournament.specs.Posting.{answer_of};
 ghost use Rattle.board_book.specs.Tasks.{openings, tasks_of};
 ghost use Rattle.dispute_board.specs.OneHistory.{log_of_journal, MayPostFor, IsThere, AsksOnBoard, PostsOnBoard};
@@ -45,7 +45,7 @@ impl<J: Judge + Drop, P: Provers + Drop> TaskBoard<J, P> {
         alloc: Global,
         books: Books<J, P>,
     ) -> Result<(TaskBoard<J, P>, TaskSeat<J, P>), Memory>
-        ensures { IfOk result (λ made. made.1 ≡ first_seat made.0 (openings books.0) (log_of_journal books.1)) }
+        ensures { IfOk result (λ made. made.1 ≡ first_seat made.0 (openings books.books) (log_of_journal books.journal)) }
     {
         let (lock, seat) = SeatLock::new(alloc, Locked { books })?;
         Ok((TaskBoard { lock }, seat))
@@ -55,8 +55,8 @@ impl<J: Judge + Drop, P: Provers + Drop> TaskBoard<J, P> {
     /// which the task's own entries decide.
     pub fn ask<R: Wait>(&self, rt: &R, seat: &mut TaskSeat<J, P>, t: u32, p: u32) -> Ask
         requires lock { seat.old.lock ≡ self.now }
-        requires there { (heads : List (J.Names × P.Names × Setup)) → seat.old.head ≡ Some heads → IsThere (tasks_of J.ruling P.says heads) t p }
-        ensures { (heads : List (J.Names × P.Names × Setup)) × (seat.old.head ≡ Some heads) × AsksOnBoard (tasks_of J.ruling P.says heads) seat.old t p result seat.new }
+        requires there { (heads : List (Opening J.Names P.Names)) → seat.old.head ≡ Some heads → IsThere (tasks_of J.ruling P.says heads) t p }
+        ensures { (heads : List (Opening J.Names P.Names)) × (seat.old.head ≡ Some heads) × AsksOnBoard (tasks_of J.ruling P.says heads) seat.old t p result seat.new }
     {
         self.lock.with_turn(rt, seat, Asking { t, p })
     }
@@ -76,18 +76,31 @@ impl<J: Judge + Drop, P: Provers + Drop> TaskBoard<J, P> {
         turn: Move,
     ) -> Posted
         requires lock { seat.old.lock ≡ self.now }
-        requires there { (heads : List (J.Names × P.Names × Setup)) → seat.old.head ≡ Some heads → IsThere (tasks_of J.ruling P.says heads) t p }
-        requires may { (heads : List (J.Names × P.Names × Setup)) → seat.old.head ≡ Some heads → MayPostFor (tasks_of J.ruling P.says heads) t p qid (answer_of turn) }
-        ensures { (heads : List (J.Names × P.Names × Setup)) × (seat.old.head ≡ Some heads) × PostsOnBoard (tasks_of J.ruling P.says heads) seat.old t p qid (answer_of turn) result seat.new }
+        requires there { (heads : List (Opening J.Names P.Names)) → seat.old.head ≡ Some heads → IsThere (tasks_of J.ruling P.says heads) t p }
+        requires may { (heads : List (Opening J.Names P.Names)) → seat.old.head ≡ Some heads → MayPostFor (tasks_of J.ruling P.says heads) t p qid (answer_of turn) }
+        ensures { (heads : List (Opening J.Names P.Names)) × (seat.old.head ≡ Some heads) × PostsOnBoard (tasks_of J.ruling P.says heads) seat.old t p qid (answer_of turn) result seat.new }
     {
         self.lock.with_turn(rt, seat, Posting { t, p, qid, turn })
     }
 
-    /// The lock that the books stand under. Its `split` and `join` split seats off the first one and join them in again.
-    pub fn lock(&self) -> &SeatLock<Locked<J, P>>
-        ensures { result.now ≡ self.now }
+    /// Splits a seat off the first one. It has seen the same and has no receipts. It takes no memory.
+    pub fn split(&self, seat: &mut TaskSeat<J, P>) -> TaskSeat<J, P>
+        requires lock { seat.old.lock ≡ self.now }
+        requires first { seat.old.number ≡ 0 }
+        requires few { seat.old.out + 2 < 2 ^ 64 }
+        ensures first { seat.new ≡ after_split seat.old }
+        ensures other { result ≡ split_off seat.old result.number }
     {
-        &self.lock
+        self.lock.split(seat)
+    }
+
+    /// Joins a seat that was split off into the first one, which takes its receipts behind its own.
+    pub fn join(&self, seat: &mut TaskSeat<J, P>, other: TaskSeat<J, P>)
+        requires lock { (seat.old.lock ≡ self.now) × (other.lock ≡ self.now) }
+        requires first { seat.old.number ≡ 0 }
+        ensures { seat.new ≡ after_join seat.old other }
+    {
+        self.lock.join(seat, other);
     }
 
     /// The books, once every seat that was split off is joined in again. Their openings are those of the seat, and their journal begins
@@ -97,10 +110,10 @@ impl<J: Judge + Drop, P: Provers + Drop> TaskBoard<J, P> {
         requires lock { seat.lock ≡ self }
         requires first { seat.number ≡ 0 }
         requires none_out { seat.out ≡ 0 }
-        ensures openings { seat.head ≡ Some (openings result.0) }
-        ensures journal { Begins (log_of seat.seen) (log_of_journal result.1) }
-        ensures joined { All (λ seen. Begins (log_of seen) (log_of_journal result.1)) seat.joined }
-        ensures receipts { NoneTwice seat.receipts × All (λ place. place < length result.1) seat.receipts }
+        ensures openings { seat.head ≡ Some (openings result.books) }
+        ensures journal { Begins (log_of seat.seen) (log_of_journal result.journal) }
+        ensures joined { All (λ seen. Begins (log_of seen) (log_of_journal result.journal)) seat.joined }
+        ensures receipts { NoneTwice seat.receipts × All (λ place. place < length result.journal) seat.receipts }
     {
         let TaskBoard { lock } = self;
         let Locked { books } = lock.close(seat);

@@ -1,20 +1,21 @@
 //! What is done to the books in a turn: a question, or a post.
-ghost use Rattle.std.specs.Prelude.{◌≡◌, ◌<◌, ◌≤◌, Some};
+ghost use Rattle.std.specs.Prelude.{◌≡◌, ◌<◌, ◌≤◌};
 ghost use Rattle.tournament.specs.Bracket.{open_question};
-ghost use Rattle.tournament.specs.Posting.{rules_of, answer_of};
-ghost use Rattle.bisect_game.specs.declared.question.Question.{Question};
+ghost use Rattle.tournament.specs.Posting.{answer_of};
+ghost use Rattle.bisect_game.specs.Rules.{rules_of};
 ghost use Rattle.board_book.specs.Tasks.{openings, tasks_of};
 ghost use Rattle.dispute_board.specs.OneHistory.{MayPostFor, IsThere, receipt_of};
-ghost use Rattle.dispute_board.specs.Turns.{Asks, Posts, is_due, undue};
+ghost use Rattle.dispute_board.specs.Turns.{Asks, Posts, undue};
 
 use bisect_game::{Judge, Provers};
-use board_book::{Ask, Book, Books, tasks_are_numbered};
+use board_book::{Ask, Book, Books, Opening, tasks_are_numbered};
 use rd_base::Qid;
 use seat_lock::{Job, Logged};
 use std::collections::LinkedList;
-use tournament::{Move, Reply, Setup, is_pass};
+use tournament::{Move, Reply, is_pass};
 
-/// The books of all tasks under a lock. Their head is the list of their openings, and their log is the journal of all.
+/// The books of all tasks under a lock. Their head is the list of their openings, and their log is the journal of all. No other crate
+/// can name it, so that none does anything else in a turn than ask or post.
 #[derive(Drop)]
 pub struct Locked<J: Judge + Drop, P: Provers + Drop> {
     pub books: Books<J, P>,
@@ -24,12 +25,12 @@ impl<J: Judge + Drop, P: Provers + Drop> Logged for Locked<J, P> {
     ghost use Rattle.board_book.specs.Tasks.{openings};
     ghost use Rattle.dispute_board.specs.OneHistory.{log_of_journal};
 
-    // Contracts alone see a head: this type names the list of the openings.
-    type Head = LinkedList<(J::Names, P::Names, Setup)>;
+    // Contracts alone see a head, and see this type as the plain list of the openings.
+    type Head = LinkedList<Opening<J::Names, P::Names>>;
 
-    ghost log = { λ locked. log_of_journal locked.books.1 };
+    ghost log = { λ locked. log_of_journal locked.books.journal };
 
-    ghost head = { λ locked. openings locked.books.0 };
+    ghost head = { λ locked. openings locked.books.books };
 }
 
 /// What the board answers to a post.
@@ -57,7 +58,7 @@ impl<J: Judge + Drop, P: Provers + Drop> Job<Locked<J, P>> for Asking {
 
     ghost fits = { λ job heads. IsThere (tasks_of J.ruling P.says heads) job.t job.p };
 
-    ghost does = { λ job found left ask. (left ≡ found) × Asks (tasks_of J.ruling P.says (openings found.books.0)) found.books.1 job.t job.p ask };
+    ghost does = { λ job found left ask. (left ≡ found) × Asks (tasks_of J.ruling P.says (openings found.books.books)) found.books.journal job.t job.p ask };
 
     fn act(self, locked: &mut Locked<J, P>) -> Ask {
         let books = &locked.books;
@@ -79,7 +80,7 @@ pub struct Posting {
     pub turn: Move,
 }
 
-// The receipt of a post at this place.
+/// The receipt of a post at this place.
 fn receipt_for(reply: Reply, place: u64) -> Option<u64>
     ensures { result ≡ receipt_of reply place }
 {
@@ -89,29 +90,18 @@ fn receipt_for(reply: Reply, place: u64) -> Option<u64>
     }
 }
 
-// Whether the move is due on the open question: the prover passes there now exactly as the move does.
-fn is_due<J: Judge + Drop, P: Provers + Drop>(book: &Book<J, P>, post: &Posting) -> bool
-    requires some { 0 < post.now.p }
-    requires few { post.now.p ≤ book.now.0.2.provers }
-    ensures { (q : Question) → open_question (rules_of (J.ruling book.now.0.0) book.now.0.2) book.now.2.record_ post.now.p ≡ Some q → result ≡ is_due (P.says book.now.0.1) book.now.2 post.now.p (answer_of post.now.turn) q }
-{
-    let waits = book.waits(post.p);
-    if is_pass(&post.turn) { waits } else { !waits }
-}
-
-// The number of the open question, if the move isn't due on it.
+/// The number of the open question if the move isn't due on it: if the prover passes there now and the move is no pass, or the other
+/// way round.
 fn undue_on<J: Judge + Drop, P: Provers + Drop>(book: &Book<J, P>, post: &Posting) -> Option<Qid>
     requires some { 0 < post.now.p }
-    requires few { post.now.p ≤ book.now.0.2.provers }
-    ensures { result ≡ undue (P.says book.now.0.1) book.now.2 post.now.p (answer_of post.now.turn) (open_question (rules_of (J.ruling book.now.0.0) book.now.0.2) book.now.2.record_ post.now.p) }
+    requires few { post.now.p ≤ book.now.opening.setup.provers }
+    ensures { result ≡ undue (P.says book.now.opening.provers) book.now.game post.now.p (answer_of post.now.turn) (open_question (rules_of (J.ruling book.now.opening.judge) book.now.opening.setup) book.now.game.record_ post.now.p) }
 {
     match book.ask(post.p) {
-        Ask::Question(question, _) => {
-            if is_due(book, post) {
-                None
-            } else {
-                Some(question.qid)
-            }
+        Ask::Question(question, passes) => {
+            let waits = book.passes_on(post.p, &question, passes);
+            let due = if is_pass(&post.turn) { waits } else { !waits };
+            if due { None } else { Some(question.qid) }
         }
         _ => None,
     }
@@ -128,7 +118,7 @@ impl<J: Judge + Drop, P: Provers + Drop> Job<Locked<J, P>> for Posting {
 
     ghost fits = { λ job heads. IsThere (tasks_of J.ruling P.says heads) job.t job.p × MayPostFor (tasks_of J.ruling P.says heads) job.t job.p job.qid (answer_of job.turn) };
 
-    ghost does = { λ job found left posted. (openings left.books.0 ≡ openings found.books.0) × Posts (tasks_of J.ruling P.says (openings found.books.0)) found.books.1 job.t job.p job.qid (answer_of job.turn) posted left.books.1 };
+    ghost does = { λ job found left posted. (openings left.books.books ≡ openings found.books.books) × Posts (tasks_of J.ruling P.says (openings found.books.books)) found.books.journal job.t job.p job.qid (answer_of job.turn) posted left.books.journal };
 
     fn act(self, locked: &mut Locked<J, P>) -> Posted {
         let books = &mut locked.books;
