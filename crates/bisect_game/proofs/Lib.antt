@@ -7,3 +7,5 @@ pub mod DisputeLemmas
 pub mod HalvesLemmas
 pub mod HeldLemmas
 pub mod PlayedLemmas
+pub mod KeptPartLemmas
+pub mod PartingLemmas

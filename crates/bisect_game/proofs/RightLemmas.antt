@@ -84,16 +84,16 @@ stays-closed r i a b c side fair differ e out =
     close-by side (is_out r i i.first a) (is_out r i i.second b) (is_step i) (both_proved r i.agreed a b) c e
     (λ step ea eb. meeting-collides r i a b side fair differ step ea eb) out
 
-record NoneOut (x y : Bool) : Type 0 where
-  first : x ≡ false
-  second : y ≡ false
+pub record NoneOut (x y : Bool) : Type 0 where
+  pub first : x ≡ false
+  pub second : y ≡ false
 
 none-by : (x y z : Bool) (m : Close) → (if x || y then Some (Out x y) else if z then Some m else None) ≡ None → NoneOut x y
 none-by true y z m e = absurd (cc)
 none-by false true z m e = absurd (cc)
 none-by false false z m e = record { first = refl; second = refl }
 
-none-out : (r : Ruling) (i : Interval) (a b : Settled) → close_of r i a b ≡ None → NoneOut (is_out r i i.first a) (is_out r i i.second b)
+pub none-out : (r : Ruling) (i : Interval) (a b : Settled) → close_of r i a b ≡ None → NoneOut (is_out r i i.first a) (is_out r i i.second b)
 unfolding close_of
 none-out r i a b e = none-by _ _ (is_step i) (both_proved r i.agreed a b) e
 
@@ -124,7 +124,7 @@ play-advanced rules d None b ea eb i = i
 
 -- a side of a dispute that is right so long as its answers are true
 
-true-last : (t : Truth) (fan : ℕ) (side : Side) (rs : List Round) (r : Round) → AllTrue t fan side (rs ++ r ∷ []) →
+pub true-last : (t : Truth) (fan : ℕ) (side : Side) (rs : List Round) (r : Round) → AllTrue t fan side (rs ++ r ∷ []) →
     AllTrue t fan side rs × IsTrueSettled t (kind_over fan r.lo r.hi) (own_answer side r)
 true-last t fan side [] r all = (tt, all.0)
 true-last t fan side (s ∷ rs) r all =
@@ -196,7 +196,7 @@ right-advanced rules t d side None b fair run ea eb open_ i keeps = keeps
 
 -- a settled answer keeps a dispute in play, and each side right
 
-none-closed : (c : Option Close) → is_some c ≡ false → c ≡ None
+pub none-closed : (c : Option Close) → is_some c ≡ false → c ≡ None
 none-closed None e = refl
 none-closed (Some c) e = absurd (cc)
 
@@ -249,7 +249,7 @@ right-second rules t s d side fair run still none fit g keeps =
 
 -- the two sides as one
 
-asks-first : (o : Option Settled) (c : Option Close) → is_none o && not (is_some c) ≡ true → (o ≡ None) × (is_some c ≡ false)
+pub asks-first : (o : Option Settled) (c : Option Close) → is_none o && not (is_some c) ≡ true → (o ≡ None) × (is_some c ≡ false)
 asks-first None None e = (refl, refl)
 asks-first None (Some c) e = absurd (cc)
 asks-first (Some s) c e = absurd (cc)

@@ -99,7 +99,7 @@ kept-first t fan i a b more long some is h =
     in record { agreed = k.0; own = k.1 }
 
 -- agreed roots: those of the first side are those of the second
-same-front : (a other : Digest32) (xs ys : List Digest32) (j : ℕ) → j ≤ agreeing xs ys → get_or (a ∷ xs) j other ≡ get_or (a ∷ ys) j other
+pub same-front : (a other : Digest32) (xs ys : List Digest32) (j : ℕ) → j ≤ agreeing xs ys → get_or (a ∷ xs) j other ≡ get_or (a ∷ ys) j other
 same-front a other xs ys zero le = refl
 same-front a other [] [] (suc j) le = refl
 same-front a other [] (y ∷ ys) (suc j) le = absurd (omega arith)
@@ -178,7 +178,7 @@ fit-by r lo hi fan false (answer.Claim c) e more wide is = absurd (cc)
 fit-by r lo hi fan false (answer.Step p) e more wide is = absurd (cc)
 
 -- a settled answer of a round that goes on has as many roots as there are cuts
-fit-length : (r : Ruling) (fan : ℕ) (i : Interval) (own : Digest32) (s : Settled) → 1 < fan → is_step i ≡ false → is_out r i own s ≡ false → IsFit r (kind_over fan i.lo i.hi) s →
+pub fit-length : (r : Ruling) (fan : ℕ) (i : Interval) (own : Digest32) (s : Settled) → 1 < fan → is_step i ≡ false → is_out r i own s ≡ false → IsFit r (kind_over fan i.lo i.hi) s →
     length (roots_of s) ≡ min fan (i.hi - i.lo) - 1
 fit-length r fan i own (Given a) more long stays fit = fit-by r i.lo i.hi fan (fan == 2) a refl more (grind (arith, nat_tests)) (rw long at fit)
 fit-length r fan i own (Faulty a) more long stays fit = absurd (cc)

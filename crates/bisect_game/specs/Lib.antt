@@ -8,4 +8,6 @@ pub mod Truth
 pub mod Held
 pub mod OverAnswers
 pub mod Laws
+pub mod KeptPart
+pub mod Parting
 pub mod Narrowing

@@ -1,4 +1,7 @@
+//! What every dispute keeps, each law the contract of a function that does nothing.
 ghost use Rattle.bisect_game.specs.Held.{DisputesArePlayed};
+ghost use Rattle.bisect_game.specs.KeptPart.{KeptPartIsFirstThatDiffers};
+ghost use Rattle.bisect_game.specs.Parting.{RunsPartWhereTheyEnd, LieIsRefutedAtItsStep, EarlyEndIsRefuted};
 ghost use Rattle.bisect_game.specs.Laws.{BisectionLaws, CutsDivide, FanStays, HalvesAreBisection, OneCutFewer, OrderOfSidesIsFree};
 
 /// What every dispute keeps, whatever is settled: a round closes it or narrows its interval, and the proof round closes it;
@@ -30,6 +33,23 @@ pub fn the_fan_stays()
 /// equal the interval above it is kept, and if they differ the one below.
 pub fn halves_are_bisection()
     ensures { HalvesAreBisection }
+{}
+
+/// The part that a round keeps, for every fan: the two sides gave the same root at each cut up to its beginning, which is the agreed root
+/// from then on, and at its end the roots that they gave differ.
+pub fn the_kept_part_is_the_first_that_differs()
+    ensures { KeptPartIsFirstThatDiffers }
+{}
+
+/// A dispute between two runs ends where they part, be they true or not: if each answer of a side is that of its run, the dispute closes at
+/// a step before which the runs have one root and behind which they have two, by their proofs of that step (`ends`). So if one run is
+/// true and the other leaves it at step s, the other side alone is out in the proof of step s - 1, or the dispute closes by a
+/// collision (`lie`). A run that stops early at step s is refuted at step s, or at a later one before which the true run has come back to
+/// the root of step s, or there is a collision (`early`).
+pub fn disputes_end_where_runs_part()
+    ensures ends { RunsPartWhereTheyEnd }
+    ensures lie { LieIsRefutedAtItsStep }
+    ensures early { EarlyEndIsRefuted }
 {}
 
 /// The order in which the two sides of a round settle changes nothing.

@@ -23,8 +23,9 @@ pub use answerer::{Answerer, Provers};
 pub use dispute::{Dispute, Room};
 pub use judge::Judge;
 pub use laws::{
-    bisection_laws, cuts_divide, disputes_are_played_over_their_answers, halves_are_bisection,
-    one_cut_fewer_than_parts, sides_settle_in_any_order, the_fan_stays,
+    bisection_laws, cuts_divide, disputes_are_played_over_their_answers,
+    disputes_end_where_runs_part, halves_are_bisection, one_cut_fewer_than_parts,
+    sides_settle_in_any_order, the_fan_stays, the_kept_part_is_the_first_that_differs,
 };
 pub use question::{Kind, Question};
 pub use rounds::{cut, kept_part, parts_of, roots_in};
