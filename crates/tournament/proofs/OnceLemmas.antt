@@ -21,7 +21,7 @@ abbrev pub times : ℕ → List (ℕ × Claim) → ℕ
 times p [] = 0
 times p (x ∷ xs) = one_if (x.0 == p) + times p xs
 
-abbrev TakenTimes : ℕ → List (ℕ × Claim) → Taken → Type 0
+abbrev pub TakenTimes : ℕ → List (ℕ × Claim) → Taken → Type 0
 TakenTimes p xs None = Unit {0}
 TakenTimes p xs (Some t) = times p xs ≡ one_if (t.0.0 == p) + times p t.1
 
@@ -33,11 +33,11 @@ times-choice : (p : ℕ) (x : ℕ × Claim) (xs : List (ℕ × Claim)) (t : Take
 times-choice p x xs t true c = times-passed p x xs t c
 times-choice p x xs t false c = refl
 
-times-taken : (r : Ruling) (p : ℕ) (root : Digest32) (xs : List (ℕ × Claim)) → TakenTimes p xs (take_other r root xs)
+pub times-taken : (r : Ruling) (p : ℕ) (root : Digest32) (xs : List (ℕ × Claim)) → TakenTimes p xs (take_other r root xs)
 times-taken r p root [] = tt
 times-taken r p root (x ∷ xs) = times-choice p x xs (take_other r root xs) (same_digest (r.root_of x.1) root) (times-taken r p root xs)
 
-touch : (a b : Bool) → one_if ((a || b) && true) ≤ one_if a + one_if b
+pub touch : (a b : Bool) → one_if ((a || b) && true) ≤ one_if a + one_if b
 touch true b = omega arith
 touch false true = omega arith
 touch false false = omega arith
@@ -83,7 +83,7 @@ times-above ds p k [] le = refl
 times-above ds p k (s ∷ ss) le =
     omega (arith, times-live p k (claim_in s) (live_from ds (k + 1) ss) (is_out_in ds k), times-above ds p (k + 1) ss (omega arith), one-not k p (λ e. omega arith))
 
-times-once : (ds : List Bisection) (p k : ℕ) (ss : List (Option Settled)) → times p (live_from ds k ss) ≤ 1
+pub times-once : (ds : List Bisection) (p k : ℕ) (ss : List (Option Settled)) → times p (live_from ds k ss) ≤ 1
 times-once ds p k [] = omega arith
 times-once ds p k (s ∷ ss) =
     elim (cases_Bool (k == p)) [

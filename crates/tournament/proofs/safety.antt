@@ -9,3 +9,7 @@ pub mod TheoremLemmas
 pub mod TrueMoveLemmas
 pub mod OutLemmas
 pub mod ListedLemmas
+pub mod PairLemmas
+pub mod SurvivorLemmas
+pub mod UndecidedLemmas
+pub mod LieLemmas

@@ -9,6 +9,7 @@ use Rattle.bisect_game.specs.Rules.{Rules, ArePlayable, judged}
 use Rattle.bisect_game.specs.Disputes.{Answers}
 use Rattle.tournament.specs.Bracket.{open_question, is_complete, bracket}
 use Rattle.tournament.specs.Moves.{MatchState, begun, passes_of, settled_by, moved}
+use Rattle.tournament.specs.Posting.{Post, after_posts}
 
 -- a prover moves as it says, on its open question
 abbrev pub turn : Rules → Says → MatchState → ℕ → Question → MatchState
@@ -61,3 +62,9 @@ RecordOfCase =
     (rules : Rules) (says : Says) (ps : List ℕ) → ArePlayable rules →
     Legal rules says ps (begun rules) → is_complete (turns rules says ps (begun rules)).record_ ≡ true →
     (turns rules says ps (begun rules)).record_ ≡ bracket rules (answers_of rules says)
+
+-- it is a list of posts, too: what holds after all posts holds after it
+abbrev pub LegalListsArePosts : Type 0
+LegalListsArePosts =
+    (rules : Rules) (says : Says) (ps : List ℕ) → Legal rules says ps (begun rules) →
+    (xs : List Post) × (after_posts rules xs (begun rules) ≡ turns rules says ps (begun rules))

@@ -10,6 +10,10 @@ pub mod Asked
 pub mod OpenDisputes
 pub mod SoFar
 pub mod Length
+pub mod FewPosts
+pub mod Undecided
+pub mod Survivors
+pub mod Lies
 pub mod Truthful
 pub mod TrueMoves
 pub mod Keeping

@@ -1,10 +1,15 @@
+//! The theorem of a match, each part the contract of a function that does nothing.
 ghost use Rattle.tournament.specs.Settling.{OneRecord};
 ghost use Rattle.tournament.specs.Fitting.{PostsSettle};
 ghost use Rattle.tournament.specs.Posting.{NobodyAskedIsOver};
 ghost use Rattle.tournament.specs.Theorem.{TruthfulStay, VerdictIsRight, FewDisputes, FewRounds};
-ghost use Rattle.tournament.specs.Journals.{OrderDoesNotMatter, RecordOfCase};
+ghost use Rattle.tournament.specs.Journals.{OrderDoesNotMatter, RecordOfCase, LegalListsArePosts};
 ghost use Rattle.tournament.specs.OpenDisputes.{OpenDisputesShareNoProver, SidesAreTwoProvers};
 ghost use Rattle.tournament.specs.SoFar.{RecordIsBracket};
+ghost use Rattle.tournament.specs.FewPosts.{FewQuestions, QuestionsCost, PostsByQuestions, FewPostsOfEach, FewPosts, FewStages, NeverStuck, OpenIsNotStale, FullIsOver};
+ghost use Rattle.tournament.specs.Undecided.{DisputesPutOutOrCollide, CollisionsPutOutNobody, OneIsUndecided};
+ghost use Rattle.tournament.specs.Survivors.{SurvivorsAgree, SidesHaveTwoRoots, OneRootNeverMeets, TruthfulNeverMeet};
+ghost use Rattle.tournament.specs.Lies.{PostsOfARun, ScriptsOfARun, DisputesEndWhereRunsPart, LiesAreFound, LiesOfScriptsAreFound};
 ghost use Rattle.tournament.specs.Length.{SpareIsEnough, ThereIsAMost};
 ghost use Rattle.tournament.specs.Numbers.{RecordsAreOfProvers, DisputesHaveTheFan};
 ghost use Rattle.tournament.specs.Outs.{NobodyIsOutTwice, TheLiveAreListed};
@@ -14,7 +19,7 @@ ghost use Rattle.tournament.specs.Collisions.{NoCollisionIfNonePair, CollisionIs
 ghost use Rattle.tournament.specs.Rulings.{RulingsAreFew};
 ghost use Rattle.tournament.specs.Asked.{AskedByTheCase, OpenIsWithinBound, AskedIsWithinBound, QuestionsStay};
 
-use bisect_game::bisection_laws;
+use bisect_game::{bisection_laws, disputes_end_where_runs_part};
 
 /// Every list of posts, by anybody and with any contents, settles a list of answers of which each that was taken as given
 /// fits what was asked.
@@ -115,7 +120,7 @@ pub fn open_disputes_share_no_prover()
 pub fn spare_is_enough()
     ensures { SpareIsEnough }
 {
-    bisection_laws();
+    posts_are_few();
 }
 
 /// Each fan and each bound has a most number of bisection rounds.
@@ -172,4 +177,106 @@ pub fn nobody_asked_means_over()
     ensures { NobodyAskedIsOver }
 {
     bisection_laws();
+}
+
+/// Few questions: whatever is posted, of m provers each is asked at most `1 + (m - 1) * (k + 1)` questions, for a most number k of
+/// bisection rounds (`each`), and each dispute into which it is drawn costs it at most k + 1 of them (`cost`).
+pub fn questions_are_few()
+    ensures each { FewQuestions }
+    ensures cost { QuestionsCost }
+{
+    a_match_has_few_disputes_and_rounds();
+}
+
+/// Few posts: whoever posts whatever, all but a few posts are stale, and a stale post changes nothing. Of a prover's posts on each question
+/// that it has been asked, at most one for each pass of the patience and one more aren't stale (`by_questions`); so few of one prover
+/// aren't (`of_each`), and of all together at most `most_entries` (`all`).
+pub fn posts_are_few()
+    ensures by_questions { PostsByQuestions }
+    ensures of_each { FewPostsOfEach }
+    ensures all { FewPosts }
+{
+    a_match_has_few_disputes_and_rounds();
+    questions_are_few();
+    a_record_is_of_its_provers();
+    open_disputes_share_no_prover();
+}
+
+/// Few stages: whatever is posted, m provers play at most m - 1 stages.
+pub fn stages_are_few()
+    ensures { FewStages }
+{
+    a_match_has_few_disputes_and_rounds();
+}
+
+/// Never stuck: in a match that isn't over somebody has an open question (`asked`), and no post on an open question is stale, be it a
+/// pass or any answer (`open_`).
+pub fn matches_are_never_stuck()
+    ensures asked { NeverStuck }
+    ensures open_ { OpenIsNotStale }
+{
+    nobody_asked_means_over();
+}
+
+/// Full means over: once `most_entries` posts weren't stale, a match is over. So whoever posts a pass for each prover that is late
+/// ends every match.
+pub fn a_full_match_is_over()
+    ensures { FullIsOver }
+{
+    posts_are_few();
+    matches_are_never_stuck();
+}
+
+/// Survivors agree: once a match is over and a claim is accepted, every live prover has that claim, and whoever gave another one is out,
+/// whatever was posted and by whomever.
+pub fn survivors_agree()
+    ensures { SurvivorsAgree }
+{
+    bisection_laws();
+}
+
+/// The two sides of a dispute gave claims of two roots (`roots`), whatever was posted. So provers whose claims have one root are never
+/// paired (`one_root`), and neither are two provers with true claims (`truthful`).
+pub fn sides_have_two_roots()
+    ensures roots { SidesHaveTwoRoots }
+    ensures one_root { OneRootNeverMeets }
+    ensures truthful { TruthfulNeverMeet }
+{
+    bisection_laws();
+}
+
+/// A dispute that has closed has put out a side or has a collision, whatever was posted (`ends`). A collision puts out nobody
+/// (`collisions`), and a prover is in one dispute at most that has put out nobody (`one`).
+pub fn disputes_put_out_or_collide()
+    ensures ends { DisputesPutOutOrCollide }
+    ensures collisions { CollisionsPutOutNobody }
+    ensures one { OneIsUndecided }
+{}
+
+/// A legal list of moves by scripts is one of posts, and comes to the same state: what holds after all posts holds after it.
+pub fn legal_moves_are_posts()
+    ensures { LegalListsArePosts }
+{}
+
+/// A prover whose moves are those of a run, be it a true one or not, has the run's answers only: by posts (`posts`), and by a script
+/// (`scripts`).
+pub fn answers_are_of_their_run()
+    ensures posts { PostsOfARun }
+    ensures scripts { ScriptsOfARun }
+{
+    bisection_laws();
+}
+
+/// Lies are found where they are: whatever was posted, a dispute between two provers that each answer by a run of their own ends where the
+/// runs part (`part`). So against a prover that answers truly, one whose run leaves the true one at step s and goes on by true steps
+/// is out in the proof of step s - 1, or the dispute closes by a collision (`found`, and `scripts` of provers that answer by scripts).
+pub fn lies_are_found()
+    ensures part { DisputesEndWhereRunsPart }
+    ensures found { LiesAreFound }
+    ensures scripts { LiesOfScriptsAreFound }
+{
+    bisection_laws();
+    disputes_end_where_runs_part();
+    legal_moves_are_posts();
+    answers_are_of_their_run();
 }

@@ -1,4 +1,4 @@
-ghost use Rattle.std.specs.Prelude.{◌≡◌, ◌↔◌, ℕ, ◌+◌, ◌-◌, ◌*◌, ◌<◌, ◌≤◌, ◌^◌, true, List, length, Some, None, IfOk, replicate, if◌then◌else◌};
+ghost use Rattle.std.specs.Prelude.{◌≡◌, ◌↔◌, ℕ, ◌+◌, ◌-◌, ◌*◌, ◌<◌, ◌≤◌, ◌^◌, true, false, List, length, Some, None, IfOk, replicate, if◌then◌else◌};
 ghost use Rattle.bisect_game.specs.Truth.{Truth, IsRun};
 ghost use Rattle.bisect_game.specs.declared.setup.Setup.{Setup};
 ghost use Rattle.tournament.specs.Bracket.{open_question, is_complete, verdict_of};
@@ -9,10 +9,13 @@ ghost use Rattle.tournament.specs.Match.{rules_in};
 ghost use Rattle.tournament.specs.Keeping.{IsMove};
 ghost use Rattle.tournament.specs.Rulings.{rulings_of};
 ghost use Rattle.tournament.specs.Theorem.{AreTrue, Stays, IsRightVerdict, AllShort};
+ghost use Rattle.tournament.specs.FewPosts.{AsksSomebody};
+ghost use Rattle.tournament.specs.Survivors.{HaveOneClaim};
+ghost use Rattle.tournament.specs.declared.verdict.Verdict.TheVariants.{Accept};
 
 use crate::laws::{
-    a_match_has_few_disputes_and_rounds, nobody_asked_means_over, the_verdict_is_right,
-    truthful_provers_stay,
+    a_match_has_few_disputes_and_rounds, matches_are_never_stuck, nobody_asked_means_over,
+    survivors_agree, the_verdict_is_right, truthful_provers_stay,
 };
 use crate::posting::{Move, Reply, judged, reply_by};
 use crate::reading::{all_closed, all_there, question_in};
@@ -265,6 +268,23 @@ impl<J: Judge + Drop> Match<J> {
         ensures { let rules = rules_in J.ruling self.now in ((p : ℕ) → 0 < p → p ≤ rules.setup.provers → open_question rules self.now.game.record_ p ≡ None) ↔ (is_complete self.now.game.record_ ≡ true) }
     {
         nobody_asked_means_over();
+        let _ = &self.live;
+    }
+
+    /// It is never stuck, whoever posted what: unless it is over, a prover has an open question. A post on that isn't stale.
+    pub fn is_never_stuck(&self)
+        ensures { is_complete self.now.game.record_ ≡ false → AsksSomebody (rules_in J.ruling self.now) self.now.game.record_ }
+    {
+        matches_are_never_stuck();
+        let _ = &self.live;
+    }
+
+    /// Its survivors agree, whoever posted what: once it is over and a claim is accepted, every live prover has that claim, and whoever
+    /// gave another one is out.
+    pub fn has_survivors_that_agree(&self)
+        ensures { (n : ℕ) → is_complete self.now.game.record_ ≡ true → verdict_of (rules_in J.ruling self.now) self.now.game.record_ ≡ Accept n → HaveOneClaim self.now.game.record_ n }
+    {
+        survivors_agree();
         let _ = &self.live;
     }
 

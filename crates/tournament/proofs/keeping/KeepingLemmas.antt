@@ -20,7 +20,7 @@ use Rattle.bisect_game.specs.Rules.{rules_of}
 
 -- stages and rooms
 
-stages-append : (ds es : List Bisection) → last_stage (ds ++ es) ≡ max (last_stage ds) (last_stage es)
+pub stages-append : (ds es : List Bisection) → last_stage (ds ++ es) ≡ max (last_stage ds) (last_stage es)
 stages-append [] es = omega arith
 stages-append (d ∷ ds) es = rw (stages-append ds es) (omega arith)
 
@@ -139,7 +139,7 @@ stage-choice rules p s d ds true y e = ap (λ (n : ℕ). max n (last_stage ds)) 
 stage-choice rules p s d ds false true e = ap (λ (n : ℕ). max n (last_stage ds)) (stage-kept rules.ruling Second s d)
 stage-choice rules p s d ds false false e = ap (λ (n : ℕ). max d.stage n) e
 
-stage-settled : (rules : Rules) (p : ℕ) (s : Settled) (ds : List Bisection) → last_stage (settled_in rules p s ds) ≡ last_stage ds
+pub stage-settled : (rules : Rules) (p : ℕ) (s : Settled) (ds : List Bisection) → last_stage (settled_in rules p s ds) ≡ last_stage ds
 stage-settled rules p s [] = refl
 stage-settled rules p s (d ∷ ds) = stage-choice rules p s d ds (asks_first p d) (asks_second p d) (stage-settled rules p s ds)
 
@@ -149,7 +149,7 @@ many-choice rules p s d ds true y e = refl
 many-choice rules p s d ds false true e = refl
 many-choice rules p s d ds false false e = ap suc e
 
-many-settled : (rules : Rules) (p : ℕ) (s : Settled) (ds : List Bisection) → length (settled_in rules p s ds) ≡ length ds
+pub many-settled : (rules : Rules) (p : ℕ) (s : Settled) (ds : List Bisection) → length (settled_in rules p s ds) ≡ length ds
 many-settled rules p s [] = refl
 many-settled rules p s (d ∷ ds) = many-choice rules p s d ds (asks_first p d) (asks_second p d) (many-settled rules p s ds)
 

@@ -1,5 +1,5 @@
 -- A match as it is kept.
-use Rattle.std.proofs.Common.{◌≡◌, ◌↔◌, ℕ, zero, suc, ◌+◌, ◌-◌, ◌*◌, ◌<◌, ◌≤◌, ◌==◌, Bool, true, if◌then◌else◌, List, [], ◌∷◌, ◌++◌, length, slice_index, slice_index_or, slice_set, Option, Some, None, refl, ◌∙◌, ap, arith}
+use Rattle.std.proofs.Common.{◌≡◌, ◌↔◌, ℕ, zero, suc, ◌+◌, ◌-◌, ◌*◌, ◌<◌, ◌≤◌, ◌==◌, Bool, true, false, if◌then◌else◌, List, [], ◌∷◌, ◌++◌, length, slice_index, slice_index_or, slice_set, Option, Some, None, refl, ◌∙◌, ap, arith}
 use Rattle.std.proofs.lemmas.Bool.Decides.{nat_tests}
 use Rattle.rd_base.specs.declared.answer.Qid.{Qid}
 use Rattle.bisect_game.specs.declared.settled.Settled.{Settled}
@@ -15,6 +15,9 @@ use Rattle.rd_base.specs.Questions.{same_qid}
 use Rattle.tournament.specs.Posting.{posted, posted_on, Post, after_posts, record_after, NobodyAskedIsOver}
 use Rattle.bisect_game.specs.Rules.{rules_of}
 use Rattle.tournament.specs.Rulings.{rulings_of, RulingsAreFew}
+use Rattle.tournament.specs.FewPosts.{AsksSomebody, NeverStuck}
+use Rattle.tournament.specs.Survivors.{HaveOneClaim, SurvivorsAgree}
+use Rattle.tournament.specs.declared.verdict.Verdict.TheVariants.{Accept}
 use Rattle.tournament.specs.Theorem.{AreTrue, Stays, TruthfulStay, IsRightVerdict, VerdictIsRight, FewDisputes, AllShort, FewRounds}
 
 -- a move on the open question is a post
@@ -125,3 +128,15 @@ match-rulings few r s passed room m = rw (match-record r s passed room m) at (fe
 pub match-over : NobodyAskedIsOver → (r : Ruling) (s : Sheet) (passed : List ℕ) (room : ℕ) → IsMatch r s passed room →
     ((p : ℕ) → 0 < p → p ≤ s.setup.provers → open_question (rules_of r s.setup) s.record_ p ≡ None) ↔ (is_complete s.record_ ≡ true)
 match-over over r s passed room m = rw (match-record r s passed room m) at (over (rules_of r s.setup) m.reached.0 (match-playable r s passed room m))
+
+pub match-asks : NeverStuck → (r : Ruling) (s : Sheet) (passed : List ℕ) (room : ℕ) → IsMatch r s passed room →
+    is_complete s.record_ ≡ false → AsksSomebody (rules_of r s.setup) s.record_
+match-asks never r s passed room m open_ =
+    let same : record_after (rules_of r s.setup) m.reached.0 ≡ s.record_ = match-record r s passed room m in
+    rw same at (never (rules_of r s.setup) m.reached.0 (match-playable r s passed room m) (rw (← same) at open_))
+
+pub match-agrees : SurvivorsAgree → (r : Ruling) (s : Sheet) (passed : List ℕ) (room : ℕ) → IsMatch r s passed room → IsFair r →
+    (n : ℕ) → is_complete s.record_ ≡ true → verdict_of (rules_of r s.setup) s.record_ ≡ Accept n → HaveOneClaim s.record_ n
+match-agrees agree r s passed room m fair n over accepted =
+    let same : record_after (rules_of r s.setup) m.reached.0 ≡ s.record_ = match-record r s passed room m in
+    rw same at (agree (rules_of r s.setup) m.reached.0 n (match-playable r s passed room m) fair (rw (← same) at over) (rw (← same) at accepted))

@@ -50,7 +50,7 @@ listed-from ds (s ∷ ss) q p c i = by (is_out_in ds q) (claim_in s) refl refl (
         }
     by false (Some d) e f further (inr j) = further j
 
-contains-in : (p : ℕ) (c : Claim) (xs : List (ℕ × Claim)) → Contains xs (p, c) → IsIn p c xs
+pub contains-in : (p : ℕ) (c : Claim) (xs : List (ℕ × Claim)) → Contains xs (p, c) → IsIn p c xs
 contains-in p c [] (k, below, is) = absurd (omega (arith, below))
 contains-in p c (x ∷ xs) (zero, below, is) = inl is
 contains-in p c (x ∷ xs) (suc k, below, is) = inr (contains-in p c xs (k, omega (arith, below), is))

@@ -194,7 +194,7 @@ module _ (laws : BisectionLaws) where
 
   -- claims that fit
 
-  missing-there : (ss : List (Option Settled)) (k : ℕ) → claim_missing (slice_get ss k) ≡ true → all_there ss ≡ false
+  pub missing-there : (ss : List (Option Settled)) (k : ℕ) → claim_missing (slice_get ss k) ≡ true → all_there ss ≡ false
   missing-there [] k e = absurd (cc)
   missing-there (None ∷ ss) k e = refl
   missing-there (Some s ∷ ss) zero e = absurd (cc)

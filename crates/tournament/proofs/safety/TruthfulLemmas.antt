@@ -29,6 +29,7 @@ use Rattle.tournament.specs.Journals.{turn, turns, said, settled_after, answers_
 use Rattle.tournament.specs.Asked.{asked}
 use Rattle.tournament.specs.Fitting.{AllFit}
 use Rattle.tournament.specs.Theorem.{HasTrueClaimSoFar, TrueIn, AllTrueIn, AreTrue, Stays}
+use Rattle.tournament.specs.Lies.{ScriptsOfARun}
 use Rattle.tournament.specs.Truthful.{AnswersTruly, IsTruthfulProver, TruthfulProversAreSafe}
 use Rattle.tournament.proofs.OpenedLemmas.{opened-not, opened-due}
 use Rattle.tournament.proofs.OnceLemmas.{is-eqb}
@@ -265,14 +266,14 @@ module _ (laws : BisectionLaws) where
     reaches = refl;
   }
 
-  told-by : (rules : Rules) (says : Says) (t : Truth) (p other n : ℕ) (q : Question) (st u : MatchState) → 0 < p → 0 < other → IsRun rules t → IsTruthfulProver rules says t p → open_question rules st.record_ other ≡ Some q →
+  told-by : (rules : Rules) (says : Says) (t : Truth) (p other n : ℕ) (q : Question) (st u : MatchState) → 0 < p → 0 < other → rules.ruling.is_sound t.claim ≡ true → IsTruthfulProver rules says t p → open_question rules st.record_ other ≡ Some q →
       IsOnWay rules says (suc n) u → Turned rules says st other q u → IsTold rules says t p n st → IsTold rules says t p (suc n) u
-  told-by rules says t p other n q st u some far run truthful asked_ way (Passed same cs) i =
+  told-by rules says t p other n q st u some far sound truthful asked_ way (Passed same cs) i =
       record { way = way; answers = rw same i.answers; settled = i.settled; fit = i.fit; reaches = i.reaches ∙ sym same }
-  told-by rules says t p other n q st u some far run truthful asked_ way (Settles s same cs is) i =
+  told-by rules says t p other n q st u some far sound truthful asked_ way (Settles s same cs is) i =
       let mine : other ≡ p → IsTrueSettled t q.kind s = λ e.
       let here : asked rules (bracket rules (answers_of rules says)) p q.qid ≡ Some q.kind = rw e at ((way-asked laws) rules says n st other q i.way asked_) in
-      answers-true laws.fits rules says t p q s (truthful q here) run.sound (rw e at is) in
+      answers-true laws.fits rules says t p q s (truthful q here) sound (rw e at is) in
       record {
         way = way;
         answers = rw same (true-settle rules t p other s q st.record_ some far asked_ mine i.answers);
@@ -286,17 +287,24 @@ module _ (laws : BisectionLaws) where
         reaches = after-last rules i.settled other s (nothing_settled rules) ∙ (ap (settle rules other s) i.reaches ∙ sym same);
       }
 
-  told-turn : (rules : Rules) (says : Says) (t : Truth) (p : ℕ) → 0 < rules.setup.provers → 1 < rules.setup.fan → 0 < rules.setup.bound → 0 < p → IsRun rules t → IsTruthfulProver rules says t p →
+  told-turn : (rules : Rules) (says : Says) (t : Truth) (p : ℕ) → 0 < rules.setup.provers → 1 < rules.setup.fan → 0 < rules.setup.bound → 0 < p → rules.ruling.is_sound t.claim ≡ true → IsTruthfulProver rules says t p →
       (n : ℕ) (st : MatchState) (other : ℕ) (q : Question) → 0 < other → open_question rules st.record_ other ≡ Some q → IsTold rules says t p n st → IsTold rules says t p (suc n) (turn rules says st other q)
-  told-turn rules says t p some more long numbered run truthful n st other q far asked_ i =
-      told-by rules says t p other n q st (turn rules says st other q) numbered far run truthful asked_ ((way-turn laws) rules says some more long n st other q far asked_ i.way)
+  told-turn rules says t p some more long numbered sound truthful n st other q far asked_ i =
+      told-by rules says t p other n q st (turn rules says st other q) numbered far sound truthful asked_ ((way-turn laws) rules says some more long n st other q far asked_ i.way)
       ((turned laws) rules says st other q far asked_ i.way.counts) i
+
+  -- the answers are those of a run, be it a true one or not
+  pub scripts-of-a-run : ScriptsOfARun
+  scripts-of-a-run rules says t ps p playable sound numbered within truthful legal =
+      let i : IsTold rules says t p (0 + length ps) (turns rules says ps (begun rules)) =
+      (turns-keep laws) rules says (IsTold rules says t p) (told-turn rules says t p playable.some playable.parted playable.steps numbered sound truthful) ps 0 (begun rules) legal (told-begun rules says t p playable.some numbered within) in
+      i.answers
 
   pub truthful_provers_are_safe : TruthfulProversAreSafe
   truthful_provers_are_safe rules says t ps p playable fair run numbered within truthful legal =
       let more : 1 < rules.setup.fan = playable.parted in
       let i : IsTold rules says t p (0 + length ps) (turns rules says ps (begun rules)) =
-      (turns-keep laws) rules says (IsTold rules says t p) (told-turn rules says t p playable.some more playable.steps numbered run truthful) ps 0 (begun rules) legal (told-begun rules says t p playable.some numbered within) in
+      (turns-keep laws) rules says (IsTold rules says t p) (told-turn rules says t p playable.some more playable.steps numbered run.sound truthful) ps 0 (begun rules) legal (told-begun rules says t p playable.some numbered within) in
       let stays : Stays rules t p (turns rules says ps (begun rules)).record_ = rw i.reaches at ((settled_stay laws) rules t i.settled p playable fair run numbered i.fit (rw (← i.reaches) at i.answers)) in
       record {
         answers = i.answers;

@@ -213,7 +213,7 @@ module _ (laws : BisectionLaws) where
   both-none : (a b : Option (List ℕ × List ℕ)) → a ≡ None → b ≡ None → option_or a b ≡ None
   both-none a b ea eb = rw ea eb
 
-  meets-none : (r : Ruling) (x : Claim) (p : ℕ) (c : Claim) (ys : List (ℕ × Claim)) → collision_with r x ys ≡ None → IsIn p c ys → r.claim_collision x c ≡ None
+  pub meets-none : (r : Ruling) (x : Claim) (p : ℕ) (c : Claim) (ys : List (ℕ × Claim)) → collision_with r x ys ≡ None → IsIn p c ys → r.claim_collision x c ≡ None
   meets-none r x p c [] e i = absurd i
   meets-none r x p c (y ∷ ys) e (inl same) = let at : y.1 ≡ c = ap (λ (z : ℕ × Claim). z.1) same in rw at at (first-none (r.claim_collision x y.1) (collision_with r x ys) e).0
   meets-none r x p c (y ∷ ys) e (inr i) = meets-none r x p c ys (first-none (r.claim_collision x y.1) (collision_with r x ys) e).1 i
@@ -237,7 +237,7 @@ module _ (laws : BisectionLaws) where
   meets-sub r x ds p [] e = refl
   meets-sub r x ds p (s ∷ ss) e = meets-sub-by r x p (claim_in s) (live_from [] (p + 1) ss) (live_from ds (p + 1) ss) (is_out_in ds p) e (λ further. meets-sub r x ds (p + 1) ss further)
 
-  collide-sub : (r : Ruling) (ds : List Bisection) (p : ℕ) (ss : List (Option Settled)) → claims_collision r (live_from [] p ss) ≡ None → claims_collision r (live_from ds p ss) ≡ None
+  pub collide-sub : (r : Ruling) (ds : List Bisection) (p : ℕ) (ss : List (Option Settled)) → claims_collision r (live_from [] p ss) ≡ None → claims_collision r (live_from ds p ss) ≡ None
   collide-sub r ds p [] e = refl
   collide-sub r ds p (s ∷ ss) e =
       collide-sub-by r p (claim_in s) (live_from [] (p + 1) ss) (live_from ds (p + 1) ss) (is_out_in ds p) e
@@ -255,7 +255,7 @@ module _ (laws : BisectionLaws) where
   other-choice r root p c x xs true eb e (inr i) rest = rest (passed-none x (take_other r root xs) e) i
   other-choice r root p c x xs false eb e i rest = absurd (cc)
 
-  other-none : (r : Ruling) (root : Digest32) (p : ℕ) (c : Claim) (xs : List (ℕ × Claim)) → take_other r root xs ≡ None → IsIn p c xs → r.root_of c ≡ root
+  pub other-none : (r : Ruling) (root : Digest32) (p : ℕ) (c : Claim) (xs : List (ℕ × Claim)) → take_other r root xs ≡ None → IsIn p c xs → r.root_of c ≡ root
   other-none r root p c [] e i = absurd i
   other-none r root p c (x ∷ xs) e i = other-choice r root p c x xs (same_digest (r.root_of x.1) root) refl e i (λ further j. other-none r root p c xs further j)
 
@@ -264,7 +264,7 @@ module _ (laws : BisectionLaws) where
   no-pairs-by r n x xs None e = refl
   no-pairs-by r n x xs (Some u) e = absurd (cc)
 
-  no-pairs : (r : Ruling) (n : ℕ) (x : ℕ × Claim) (xs : List (ℕ × Claim)) → 0 < n → pairs_of r n (x ∷ xs) ≡ [] → take_other r (r.root_of x.1) xs ≡ None
+  pub no-pairs : (r : Ruling) (n : ℕ) (x : ℕ × Claim) (xs : List (ℕ × Claim)) → 0 < n → pairs_of r n (x ∷ xs) ≡ [] → take_other r (r.root_of x.1) xs ≡ None
   no-pairs r zero x xs some e = absurd (omega arith)
   no-pairs r (suc n) x xs some e = no-pairs-by r n x xs (take_other r (r.root_of x.1) xs) e
 
@@ -290,7 +290,7 @@ module _ (laws : BisectionLaws) where
   out-closed (Some (Collision s u)) e n = absurd (cc)
   out-closed None e n = absurd (cc)
 
-  all-out-by : (ds : List Bisection) → all_closed ds ≡ true → disputes_collision ds ≡ None → all_out ds ≡ true
+  pub all-out-by : (ds : List Bisection) → all_closed ds ≡ true → disputes_collision ds ≡ None → all_out ds ≡ true
   all-out-by [] e n = refl
   all-out-by (d ∷ ds) e n =
       let two : (is_closed d ≡ true) × (all_closed ds ≡ true) = and_parts (is_closed d) (all_closed ds) e in
@@ -301,18 +301,18 @@ module _ (laws : BisectionLaws) where
   new-none rules g n [] e = refl
   new-none rules g n (p ∷ ps) e = absurd (omega arith)
 
-  no-pair-left : (rules : Rules) (r : Record) → is_stage_due rules r ≡ true → stage_opened rules r ≡ r → pairs rules r ≡ []
+  pub no-pair-left : (rules : Rules) (r : Record) → is_stage_due rules r ≡ true → stage_opened rules r ≡ r → pairs rules r ≡ []
   no-pair-left rules r due rests =
       let e : record r { disputes = r.disputes ++ disputes_of rules (last_stage r.disputes + 1) (length r.disputes + 1) (pairs rules r) } ≡ r = sym (opened-due rules r due) ∙ rests in
       let l : length (r.disputes ++ disputes_of rules (last_stage r.disputes + 1) (length r.disputes + 1) (pairs rules r)) ≡ length r.disputes = ap (λ (u : Record). length u.disputes) e in
       new-none rules (last_stage r.disputes + 1) (length r.disputes + 1) (pairs rules r) (omega (arith, l, length-append r.disputes (disputes_of rules (last_stage r.disputes + 1) (length r.disputes + 1) (pairs rules r))))
 
-  rests-after : (rules : Rules) (es : List (ℕ × Settled)) (r : Record) → stage_opened rules r ≡ r → stage_opened rules (after rules es r) ≡ after rules es r
+  pub rests-after : (rules : Rules) (es : List (ℕ × Settled)) (r : Record) → stage_opened rules r ≡ r → stage_opened rules (after rules es r) ≡ after rules es r
   unfolding settle
   rests-after rules [] r e = e
   rests-after rules (x ∷ es) r e = rests-after rules es (settle rules x.0 x.1 r) (opened-twice rules (put rules x.0 x.1 r))
 
-  rests-nothing : (rules : Rules) → 0 < rules.setup.provers → stage_opened rules (nothing_settled rules) ≡ nothing_settled rules
+  pub rests-nothing : (rules : Rules) → 0 < rules.setup.provers → stage_opened rules (nothing_settled rules) ≡ nothing_settled rules
   rests-nothing rules some = let i : IsPlayed rules (nothing_settled rules) = (played-nothing laws) rules some in i.rests
 
   verdict-by : (rules : Rules) (t : Truth) (r : Record) (p : ℕ) (a b : Option (List ℕ × List ℕ)) → 0 < rules.setup.provers → IsFair rules.ruling → IsRun rules t → 0 < p → IsKept rules t p r → AllMet rules.ruling r.disputes →
