@@ -1,8 +1,10 @@
 //! The theorem of deposits, each part the contract of a function that does nothing.
 ghost use Rattle.deposits.specs.Theorem.{EventsAddTheirOwn, LedgersAreInClosedForm, RecordsAreInClosedForm, LedgersAddUp, BalancesAddUp, OrderDoesNotMatter, WhoStaysKeepsStake, TruthfulKeepStake, EndedIsSettledUp};
+ghost use Rattle.deposits.specs.ExactBalance.{WhoLivesWinsAll, OthersGainNothing, TrueMovesWinAll, TruthfulWinAll};
 
 use tournament::{
-    a_record_is_of_its_provers, nobody_is_put_out_twice, open_disputes_share_no_prover,
+    a_record_is_of_its_provers, disputes_put_out_or_collide, legal_moves_are_posts,
+    nobody_is_put_out_twice, open_disputes_share_no_prover, true_moves_are_true_answers,
     truthful_provers_are_safe,
 };
 
@@ -47,4 +49,22 @@ pub fn a_match_that_has_ended_is_settled_up()
     a_record_is_of_its_provers();
     nobody_is_put_out_twice();
     open_disputes_share_no_prover();
+}
+
+/// Who lives wins all: once a match is over, whoever posted whatever, a live prover has its own stake and one more for each of its
+/// disputes but that of a collision, of which there is one at most; the others and the pool have exactly the rest (`lives`), so
+/// that together they never end with more than the others put down (`others`). A prover whose moves are true is live at the end, and
+/// has won so (`truthful`), and so has one that answers truly by its script (`scripts`).
+pub fn who_lives_wins_all()
+    ensures lives { WhoLivesWinsAll }
+    ensures others { OthersGainNothing }
+    ensures truthful { TrueMovesWinAll }
+    ensures scripts { TruthfulWinAll }
+{
+    disputes_put_out_or_collide();
+    balances_and_pool_add_up();
+    a_match_that_has_ended_is_settled_up();
+    true_moves_are_true_answers();
+    truthful_provers_are_safe();
+    legal_moves_are_posts();
 }

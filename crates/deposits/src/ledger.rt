@@ -9,12 +9,6 @@ use rd_base::{Listed, Memory};
 use std::alloc::Global;
 use std::marker::Model;
 
-/// The largest stake.
-pub const MOST_STAKE: u64 = 1_000_000_000;
-
-/// The most provers of a match.
-pub const MOST_PROVERS: u32 = 16;
-
 /// The stakes of the provers of a match, as its events move them.
 #[derive(Drop)]
 pub struct Ledger {
@@ -58,7 +52,7 @@ fn none_out(alloc: Global, many: usize) -> Result<Vec<bool>, Memory>
 }
 
 impl Ledger {
-    /// A ledger of 1 to `MOST_PROVERS` provers, each of which has put down a stake of at most `MOST_STAKE`.
+    /// A ledger of 1 to 16 provers, each of which has put down a stake of at most 1,000,000,000.
     pub fn new(alloc: Global, provers: u32, stake: u64) -> Result<Ledger, Memory>
         requires some { 0 < provers }
         requires few { provers ≤ 16 }

@@ -14,6 +14,7 @@ pub use amounts::Balances;
 pub use laws::{
     a_match_that_has_ended_is_settled_up, balances_and_pool_add_up, balances_are_in_closed_form,
     each_event_adds_its_own_amounts, events_come_in_any_order, truthful_provers_keep_their_stakes,
+    who_lives_wins_all,
 };
-pub use ledger::{Ledger, MOST_PROVERS, MOST_STAKE};
+pub use ledger::Ledger;
 pub use settling::balances;
