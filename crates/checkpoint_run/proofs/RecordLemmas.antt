@@ -1,5 +1,5 @@
 -- Checkpoints that stand for states, while the run goes on.
-use Rattle.std.proofs.Common.{◌≡◌, ◌⊎◌, ℕ, zero, suc, ◌+◌, ◌*◌, ◌/◌, ◌<◌, ◌≤◌, List, [], ◌∷◌, ◌++◌, length, take, Option, Some, None, IfSome, inl, inr, refl, sym, ap, subst, ◌∙◌, ⊎_elim, arith, slice_get, get_or, false, length-append}
+use Rattle.std.proofs.Common.{◌≡◌, ◌⊎◌, ℕ, zero, suc, ◌+◌, ◌/◌, ◌<◌, ◌≤◌, List, [], ◌∷◌, ◌++◌, length, take, Option, Some, None, IfSome, inl, inr, refl, sym, ap, subst, ◌∙◌, ⊎_elim, arith, slice_get, get_or, false, length-append, add-zero, add-suc, ◌-◌}
 use Rattle.std.proofs.lemmas.Bool.{cases_order}
 use Rattle.std.proofs.lemmas.List.{take-append-le, take_all}
 use Rattle.std.proofs.Math.Numerals.{add-one}
@@ -14,7 +14,9 @@ use Rattle.checkpoint_run.specs.Versions.{is_among, AreBelow, IsShownBut}
 use Rattle.checkpoint_run.specs.NamedPages.{IsNamed, ArePages}
 use Rattle.checkpoint_run.specs.WrittenPages.{stored_by, flipped_by, written_by, how_many, writes}
 use Rattle.checkpoint_run.specs.Keeping.{Stands, AllStand, IsAdded, at_first, state_by}
-use Rattle.checkpoint_run.specs.UnderWay.{AllChained}
+use Rattle.rv_step.specs.declared.machine.Machine.{Machine}
+use Rattle.checkpoint_run.specs.UnderWay.{AllChained, IsKeptTo}
+use Rattle.checkpoint_run.specs.declared.recording.Kept.{Kept}
 use Rattle.checkpoint_run.specs.declared.checkpoint.Checkpoint.{Checkpoint}
 use Rattle.checkpoint_run.specs.declared.version.Version.{Version}
 
@@ -36,11 +38,11 @@ stands_on c versions added output more s stands = record {
   state = rw (take-append-le c.versions versions added stands.versions_there, take-append-le c.ctl.out_len output more stands.output_there) stands.state;
 }
 
-pub all_stand_on : (cs : List Checkpoint) (versions added : List Version) (output more : List ℕ) (run : ℕ → State) (every : ℕ) → AllStand cs versions output run every → AllStand cs (versions ++ added) (output ++ more) run every
-all_stand_on cs versions added output more run every all k = each (slice_get cs k) (all k)
+pub all_stand_on : (cs : List Checkpoint) (versions added : List Version) (output more : List ℕ) (run : ℕ → State) → AllStand cs versions output run → AllStand cs (versions ++ added) (output ++ more) run
+all_stand_on cs versions added output more run all k = each (slice_get cs k) (all k)
   where
-    each : (o : Option Checkpoint) → IfSome o (λ c. Stands c versions output (run (k * every))) → IfSome o (λ c. Stands c (versions ++ added) (output ++ more) (run (k * every)))
-    each (Some c) stands = stands_on c versions added output more (run (k * every)) stands
+    each : (o : Option Checkpoint) → IfSome o (λ c. Stands c versions output (run c.step)) → IfSome o (λ c. Stands c (versions ++ added) (output ++ more) (run c.step))
+    each (Some c) stands = stands_on c versions added output more (run c.step) stands
     each None nothing = tt
 
 -- the pages that are named in two places
@@ -110,39 +112,68 @@ noted_few tamper first at pages kept old between new start written few-1 few-2 b
     omega arith
 
 -- a checkpoint more leaves the first one
-pub at_first_on : (cs new : List Checkpoint) (c : Checkpoint) (n : ℕ) → length cs ≡ n + 1 → new ≡ cs ++ c ∷ [] → at_first new ≡ at_first cs
-at_first_on [] new c n many pushed = absurd (omega arith)
-at_first_on (x ∷ rest) new c n many pushed = ap at_first pushed
+pub at_first_on : (cs new : List Checkpoint) (c : Checkpoint) → 0 < length cs → new ≡ cs ++ c ∷ [] → at_first new ≡ at_first cs
+at_first_on [] new c some pushed = absurd (omega arith)
+at_first_on (x ∷ rest) new c some pushed = ap at_first pushed
 
 -- a property of each, after one more
-pushed : (P : ℕ → Checkpoint → Type 0) (cs : List Checkpoint) (c : Checkpoint) → ((k : ℕ) → IfSome (slice_get cs k) (P k)) → P (length cs) c → (k : ℕ) → IfSome (slice_get (cs ++ c ∷ []) k) (P k)
-pushed P cs c all last k = ⊎_elim
-    (λ same. let Q : ℕ → Type 0 = λ n. IfSome (slice_get (cs ++ c ∷ []) n) (P n) in subst Q (sym same) (let R : Option Checkpoint → Type 0 = λ o. IfSome o (P (length cs)) in subst R (sym (slice_get_seam cs c [])) last))
-    (λ other. let R : Option Checkpoint → Type 0 = λ o. IfSome o (P k) in ⊎_elim
+pushed : (P : Checkpoint → Type 0) (cs : List Checkpoint) (c : Checkpoint) → ((k : ℕ) → IfSome (slice_get cs k) P) → P c → (k : ℕ) → IfSome (slice_get (cs ++ c ∷ []) k) P
+pushed P cs c all last k = let R : Option Checkpoint → Type 0 = λ o. IfSome o P in ⊎_elim
+    (λ same. subst R (sym (ap (slice_get (cs ++ c ∷ [])) same ∙ slice_get_seam cs c [])) last)
+    (λ other. ⊎_elim
     (λ before. subst R (sym (slice_get_before cs (c ∷ []) k before)) (all k))
     (λ past. subst R (sym (slice_get_past (cs ++ c ∷ []) k (omega (arith, length-append cs (c ∷ []))))) tt)
     other)
     (cases_order k (length cs))
 
 -- a checkpoint of a machine's parts stands for the machine's state
-pub all_stand_added : (cs new : List Checkpoint) (versions : List Version) (s : State) (ctl : Ctl) (run : ℕ → State) (every : ℕ)
-    → AllStand cs versions s.output run every → (added : IsAdded cs new versions s.regs ctl s.memory) → ctl.pc ≡ s.pc → ctl.status ≡ s.status → ctl.out_len ≡ length s.output → run (length cs * every) ≡ s
-    → AllStand new versions s.output run every
-all_stand_added cs new versions s ctl run every all added pc status len here =
-    let Q : List Checkpoint → Type 0 = λ xs. AllStand xs versions s.output run every in
+pub all_stand_added : (cs new : List Checkpoint) (versions : List Version) (step : ℕ) (s : State) (ctl : Ctl) (run : ℕ → State)
+    → AllStand cs versions s.output run → (added : IsAdded cs new versions step s.regs ctl s.memory) → ctl.pc ≡ s.pc → ctl.status ≡ s.status → ctl.out_len ≡ length s.output → run step ≡ s
+    → AllStand new versions s.output run
+all_stand_added cs new versions step s ctl run all added pc status len here =
+    let Q : List Checkpoint → Type 0 = λ xs. AllStand xs versions s.output run in
     let whole : take added.checkpoint.versions versions ≡ versions = take_all added.checkpoint.versions versions (omega (arith, added.versions_are)) in
     let out : take added.checkpoint.ctl.out_len s.output ≡ s.output = take_all added.checkpoint.ctl.out_len s.output (omega (arith, ap (λ x. x.out_len) added.ctl_is, len)) in
-    subst Q (sym added.pushed) (pushed (λ k c. Stands c versions s.output (run (k * every))) cs added.checkpoint all (record {
+    subst Q (sym added.pushed) (pushed (λ c. Stands c versions s.output (run c.step)) cs added.checkpoint all (record {
       versions_there = omega (arith, added.versions_are);
       output_there = omega (arith, ap (λ x. x.out_len) added.ctl_is, len);
       state =
           let P : State → Type 0 = λ x. state_by added.checkpoint versions s.output x.version x.input ≡ x in
-          subst P (sym here) (rw (added.regs_are, ap (λ x. x.pc) added.ctl_is ∙ pc, whole, added.memory_is, ap (λ x. x.status) added.ctl_is ∙ status, out) refl);
+          subst P (sym (ap run added.step_is ∙ here)) (rw (added.regs_are, ap (λ x. x.pc) added.ctl_is ∙ pc, whole, added.memory_is, ap (λ x. x.status) added.ctl_is ∙ status, out) refl);
     }))
 
 -- the chain of a checkpoint more
-pub all_chained_added : (digest : List ℕ → List ℕ) (cs new : List Checkpoint) (versions : List Version) (regs : List ℕ) (ctl : Ctl) (memory : Contents) (run : ℕ → State) (every : ℕ)
-    → AllChained digest cs run every → IsAdded cs new versions regs ctl memory → ctl.chain.0 ≡ chain_of digest (run (length cs * every)).output → AllChained digest new run every
-all_chained_added digest cs new versions regs ctl memory run every all added chained =
-    let Q : List Checkpoint → Type 0 = λ xs. AllChained digest xs run every in
-    subst Q (sym added.pushed) (pushed (λ k c. c.ctl.chain.0 ≡ chain_of digest (run (k * every)).output) cs added.checkpoint all (ap (λ x. x.chain.0) added.ctl_is ∙ chained))
+pub all_chained_added : (digest : List ℕ → List ℕ) (cs new : List Checkpoint) (versions : List Version) (step : ℕ) (regs : List ℕ) (ctl : Ctl) (memory : Contents) (run : ℕ → State)
+    → AllChained digest cs run → IsAdded cs new versions step regs ctl memory → ctl.chain.0 ≡ chain_of digest (run step).output → AllChained digest new run
+all_chained_added digest cs new versions step regs ctl memory run all added chained =
+    let Q : List Checkpoint → Type 0 = λ xs. AllChained digest xs run in
+    subst Q (sym added.pushed) (pushed (λ c. c.ctl.chain.0 ≡ chain_of digest (run c.step).output) cs added.checkpoint all
+    (ap (λ x. x.chain.0) added.ctl_is ∙ (chained ∙ ap (λ i. chain_of digest (run i).output) (sym added.step_is))))
+
+-- as many steps later, the pages that are written are no fewer
+pub writes_more : (tamper : Tamper) (first : State) (i k : ℕ) → writes tamper first i ≤ writes tamper first (i + k)
+writes_more tamper first i zero = omega (arith, ap (writes tamper first) (add-zero i))
+writes_more tamper first i (suc k) =
+    let before = writes_more tamper first i k in
+    let next = ap (writes tamper first) (add-suc i k) in
+    omega arith
+
+-- what is kept up to a step is kept up to a later one with the same state
+pub kept_later : (digest : List ℕ → List ℕ) (tamper : Tamper) (first : State) (at later : ℕ) (machine : Machine) (kept : Kept) → at ≤ later → run_from tamper first later ≡ run_from tamper first at
+    → IsKeptTo digest tamper first at machine kept → IsKeptTo digest tamper first later machine kept
+kept_later digest tamper first at later machine kept after same k =
+    let more = writes_more tamper first at (later - at) in
+    let whole : writes tamper first (at + (later - at)) ≡ writes tamper first later = ap (writes tamper first) (omega arith) in
+    let few = k.few in
+    record {
+      state = k.state ∙ sym same;
+      chained = k.chained;
+      some = k.some;
+      pages = k.pages;
+      shown = k.shown;
+      places = k.places;
+      noted = k.noted;
+      few = omega arith;
+      each = k.each;
+      chains = k.chains;
+    }

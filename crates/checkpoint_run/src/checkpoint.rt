@@ -1,9 +1,9 @@
 //! Checkpoints of a run, and the versions of its pages: of all versions of a page that stand before a checkpoint, the last one is the page.
-ghost use Rattle.std.specs.Prelude.{◌≡◌, ℕ, ◌++◌, [], List, true, IfOk, OnOk};
+ghost use Rattle.std.specs.Prelude.{◌≡◌, ℕ, ◌*◌, ◌<◌, ◌^◌, ◌++◌, [], List, length, true, IfOk, OnOk};
 ghost use Rattle.mem_plain.specs.Contents.{IsUsed};
 ghost use Rattle.checkpoint_run.specs.Versions.{pictured, pages_of, is_among, AreBelow, IsShownBut};
 ghost use Rattle.checkpoint_run.specs.declared.version.Version.{Version};
-ghost use Rattle.checkpoint_run.specs.Keeping.{IsAdded};
+ghost use Rattle.checkpoint_run.specs.Keeping.{IsAdded, found_at};
 
 use crate::version::Version;
 use mem_plain::{PlainMem, contents_of_a_function, laying_bytes};
@@ -12,10 +12,11 @@ use rv_step::Machine;
 use std::alloc::Global;
 use std::collections::BTreeSet;
 
-/// A state of a run: its registers and control fields, and how many versions of pages stand before it. Its output is the
-/// front of the run's output.
+/// A state of a run: a step that has it, its registers and control fields, and how many versions of pages stand before it. Its output
+/// is a prefix of the run's output.
 #[derive(Drop)]
 pub struct Checkpoint {
+    pub step: u64,
     pub regs: Regs,
     pub ctl: Ctl,
     pub versions: usize,
@@ -55,9 +56,10 @@ fn add_versions(
     Ok(())
 }
 
-/// Adds the checkpoint of a machine, with one version of each page in `changed` and of no other. Outside these pages the memory is what
-/// the versions so far show. `changed` is empty then. An `Err` is out of memory.
+/// Adds the checkpoint of a step with the state of a machine, with one version of each page in `changed` and of no other. Outside these
+/// pages the memory is what the versions so far show. `changed` is empty then. An `Err` is out of memory.
 pub fn add_checkpoint(
+    step: u64,
     machine: &Machine,
     changed: &mut BTreeSet<u32>,
     versions: &mut Vec<Version>,
@@ -69,11 +71,12 @@ pub fn add_checkpoint(
     ensures shown { OnOk result (IsShownBut versions.new.items [] machine.now.mem) }
     ensures more { OnOk result ((added : List Version) × (versions.new.items ≡ versions.old.items ++ added)) }
     ensures one { OnOk result (pages_of versions.new.items ≡ pages_of versions.old.items ++ changed.old.keys) }
-    ensures added { OnOk result (IsAdded checkpoints.old.items checkpoints.new.items versions.new.items machine.now.regs machine.now.ctl machine.now.mem) }
+    ensures added { OnOk result (IsAdded checkpoints.old.items checkpoints.new.items versions.new.items step machine.now.regs machine.now.ctl machine.now.mem) }
 {
     add_versions(versions, changed, &machine.mem)?;
     changed.clear();
     checkpoints.push(Checkpoint {
+        step,
         regs: machine.regs,
         ctl: machine.ctl,
         versions: versions.len(),
@@ -81,6 +84,21 @@ pub fn add_checkpoint(
     contents_of_a_function();
     machine.mem.is_memory();
     Ok(())
+}
+
+/// The place at which the checkpoint with a number is found. Its step is below 2^64.
+pub fn place_of(checkpoints: &[Checkpoint], every: u32, checkpoint: u64) -> usize
+    requires some { 0 < length checkpoints.now }
+    requires room { checkpoint * every < 2 ^ 64 }
+    ensures place { result ≡ found_at checkpoints.now every checkpoint }
+    ensures below { result < length checkpoints.now }
+{
+    let last = (checkpoints.len() - 1).min(checkpoint as usize);
+    if checkpoints[last].step <= checkpoint * u64::from(every) {
+        last
+    } else {
+        last.saturating_sub(1)
+    }
 }
 
 /// The memory that versions stand for. It copies the last version of each page. An `Err` is out of memory.

@@ -25,4 +25,4 @@ mod version;
 pub use laws::{
     pages_of_two_places, stops_come_first, tampered_runs, tampered_runs_keep_the_input,
 };
-pub use run::{Run, machine_at, next, record_run};
+pub use run::{Run, advance, machine_at, next, record_run};

@@ -1,4 +1,4 @@
-ghost use Rattle.std.specs.Prelude.{◌≡◌, ◌+◌, ◌*◌, ◌/◌, ◌<◌, ◌≤◌, ℕ, IfOk, OnOk, List, length};
+ghost use Rattle.std.specs.Prelude.{◌≡◌, ◌+◌, ◌*◌, ◌/◌, ◌<◌, ◌≤◌, ℕ, IfOk, OnOk, OnErr, List, length};
 ghost use Rattle.mem_plain.specs.Contents.{byte_at};
 ghost use Rattle.rv_step.specs.State.{state_of, IsChained};
 ghost use Rattle.checkpoint_run.specs.TamperedRun.{tampered};
@@ -6,9 +6,9 @@ ghost use Rattle.checkpoint_run.specs.NamedPages.{IsNamed, ArePages};
 ghost use Rattle.checkpoint_run.specs.WrittenPages.{written_by};
 ghost use Rattle.checkpoint_run.specs.Recorded.{AreChained, state_of_step, still_of};
 
-use crate::checkpoint::{Checkpoint, restored};
-use crate::recording::{Recording, begin, record_to_end};
-use crate::tampering::follow;
+use crate::checkpoint::{Checkpoint, place_of, restored};
+use crate::recording::{Kept, Recording, begin, record_to_end};
+use crate::tampering::{follow, same_until};
 use crate::version::Version;
 use digest_core::Digester;
 use rd_base::{Memory, Tamper};
@@ -115,10 +115,14 @@ pub fn record_run<D: Digester>(
     let Recording {
         machine: last,
         at,
-        checkpoints,
-        versions,
+        kept,
         ..
     } = recording;
+    let Kept {
+        versions,
+        checkpoints,
+        ..
+    } = kept;
     let Machine {
         output,
         version,
@@ -148,7 +152,9 @@ pub fn machine_at(run: &Run, checkpoint: u64) -> Result<Machine, Memory>
     ensures chained { (digest : List ℕ → List ℕ) → AreChained digest run.now → IfOk result (λ m. IsChained digest m) }
 {
     runs_keep_the_input();
-    let kept = &run.checkpoints[checkpoint as usize];
+    let _still = run.still();
+    let place = place_of(&run.checkpoints, run.every, checkpoint);
+    let kept = &run.checkpoints[place];
     let mem = restored(run.alloc, &run.versions[..kept.versions])?;
     let output = Vec::from_slice(run.alloc, &run.output[..kept.ctl.out_len as usize])?;
     let input = Vec::from_slice(run.alloc, &run.input)?;
@@ -157,8 +163,8 @@ pub fn machine_at(run: &Run, checkpoint: u64) -> Result<Machine, Memory>
 
 /// Takes the machine of step `at`, which is below the bound, to the next step, counts the step, and tells the pages that were written:
 /// the page that the step stores to, and then the page in which the tamper flips a byte. No other page changes. A page goes by its
-/// number, below 2^20. It keeps the chain by the digester `d`. An `Err` is out of memory: the machine is at some state then, and need
-/// not be at the step `at`.
+/// number, below 2^20. It keeps the chain by the digester `d`. An `Err` is out of memory: `at` is as it was then, and the machine is lost,
+/// as it need not be at this step any more.
 pub fn next<D: Digester>(
     d: D,
     run: &Run,
@@ -170,6 +176,7 @@ pub fn next<D: Digester>(
     requires below { at.old < run.now.bound }
     ensures state { OnOk result (state_of machine.new ≡ state_of_step run.now (at.old + 1)) }
     ensures counted { OnOk result (at.new ≡ at.old + 1) }
+    ensures stays { OnErr result (at.new ≡ at.old) }
     ensures chained { IsChained D.digest_of machine.new }
     ensures two { IfOk result (λ pages. length pages ≡ 2) }
     ensures written { IfOk result (λ pages. pages ≡ written_by run.now.tamper at.old (state_of_step run.now at.old)) }
@@ -179,5 +186,34 @@ pub fn next<D: Digester>(
     let _bound = run.bound();
     let pages = follow(d, &run.tamper, *at, machine)?;
     *at += 1;
+    Ok(pages)
+}
+
+/// Takes the machine of step `at` towards a later step, the goal: to the next step, or at once over a stretch in which nothing happens, to
+/// the goal or to the step of the tamper if that comes first. `at` is the step to which it came. What comes back is as by `next`: the pages
+/// that were written on the way. An `Err` is out of memory: `at` is as it was then, and the machine is lost, as it need not be at this step
+/// any more.
+pub fn advance<D: Digester>(
+    d: D,
+    run: &Run,
+    goal: u64,
+    at: &mut u64,
+    machine: &mut Machine,
+) -> Result<[Option<u32>; 2], Memory>
+    requires chained { IsChained D.digest_of machine.old }
+    requires at { state_of machine.old ≡ state_of_step run.now at.old }
+    requires goal { at.old < goal }
+    ensures state { OnOk result (state_of machine.new ≡ state_of_step run.now at.new) }
+    ensures later { OnOk result (at.old < at.new) }
+    ensures within { OnOk result (at.new ≤ goal) }
+    ensures stays { OnErr result (at.new ≡ at.old) }
+    ensures chained { IsChained D.digest_of machine.new }
+    ensures two { IfOk result (λ pages. length pages ≡ 2) }
+    ensures pages { IfOk result (λ pages. ArePages pages) }
+    ensures elsewhere { IfOk result (λ pages. (q : ℕ) → ¬ IsNamed (q / 4096) pages → byte_at machine.new.mem q ≡ byte_at machine.old.mem q) }
+{
+    let from = same_until(&run.tamper, goal, *at, machine);
+    let pages = follow(d, &run.tamper, from, machine)?;
+    *at = from + 1;
     Ok(pages)
 }

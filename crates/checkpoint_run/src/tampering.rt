@@ -1,29 +1,63 @@
 //! A tamper, carried out on a machine.
-ghost use Rattle.std.specs.Prelude.{◌≡◌, ℕ, ◌+◌, ◌/◌, ◌<◌, ◌^◌, ◌∷◌, [], ◌++◌, List, IfOk, OnOk, length};
+ghost use Rattle.std.specs.Prelude.{◌≡◌, ℕ, ◌+◌, ◌/◌, ◌<◌, ◌≤◌, ◌^◌, ◌∷◌, [], ◌++◌, List, IfOk, IfSome, OnOk, length};
 ghost use Rattle.mem_plain.specs.Contents.{byte_at};
 ghost use Rattle.rv_step.specs.State.{state_of, IsChained};
-ghost use Rattle.checkpoint_run.specs.TamperedRun.{tampered, followed, next_of};
-ghost use Rattle.checkpoint_run.specs.AtRest.{rests};
+ghost use Rattle.rv_step.specs.State.{State};
+ghost use Rattle.checkpoint_run.specs.TamperedRun.{tampered, followed, next_of, run_from};
+ghost use Rattle.checkpoint_run.specs.AtRest.{ended, to_come};
 ghost use Rattle.checkpoint_run.specs.NamedPages.{IsNamed, ArePages};
 ghost use Rattle.checkpoint_run.specs.WrittenPages.{stored_by, flipped_by, written_by};
 
 use digest_core::Digester;
 use mem_plain::{PAGE_BYTES, laying_bytes};
 use rd_base::{Memory, Tamper};
-use rv_step::{Machine, one_page_changes, output_only_grows, step};
+use rv_step::{Machine, one_page_changes, output_only_grows, step, stopped_states_stay};
 
-/// Whether nothing more happens up to the bound, from the machine of step `i` on.
+/// Whether the step from the machine of step `i` changes nothing, but what the tamper does at the next one.
 #[inline(always)]
-pub fn is_at_rest(tamper: &Tamper, bound: u64, i: u64, machine: &Machine) -> bool
-    ensures { result ≡ rests tamper.now bound i (state_of machine.now) }
+pub fn has_ended(tamper: &Tamper, i: u64, machine: &Machine) -> bool
+    ensures { result ≡ ended tamper.now i (state_of machine.now) }
 {
     let stopped = !machine.ctl.status.is_running();
     match tamper {
-        Tamper::Untouched => stopped,
-        Tamper::Flip { step, .. } | Tamper::Register { step, .. } => {
-            stopped && (u64::from(*step) <= i || bound < u64::from(*step))
-        }
         Tamper::Early { steps } => stopped || u64::from(*steps) <= i,
+        _ => stopped,
+    }
+}
+
+/// The step after `i`, up to the bound, at which the tamper changes the state; `None` if there is no such step.
+pub fn tamper_to_come(tamper: &Tamper, bound: u64, i: u64) -> Option<u64>
+    ensures step { result ≡ to_come tamper.now bound i }
+    ensures small { IfSome result (λ n. n < 2 ^ 32) }
+{
+    match tamper {
+        Tamper::Flip { step, .. } | Tamper::Register { step, .. } => {
+            let step = u64::from(*step);
+            if i < step && step <= bound {
+                Some(step)
+            } else {
+                None
+            }
+        }
+        _ => None,
+    }
+}
+
+/// A step from `i` on, below the goal, up to which the state is that of the machine of step `i`: if the run has ended there, the last
+/// step before the tamper or before the goal, and else `i`.
+pub fn same_until(tamper: &Tamper, goal: u64, i: u64, machine: &Machine) -> u64
+    requires { i < goal }
+    ensures from { i ≤ result }
+    ensures below { result < goal }
+    ensures same { (first : State) → run_from tamper.now first i ≡ state_of machine.now → run_from tamper.now first result ≡ state_of machine.now }
+{
+    stopped_states_stay();
+    if !has_ended(tamper, i, machine) {
+        return i;
+    }
+    match tamper_to_come(tamper, goal, i) {
+        Some(step) => step - 1,
+        None => goal - 1,
     }
 }
 

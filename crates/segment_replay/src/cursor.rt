@@ -8,7 +8,7 @@ ghost use Rattle.segment_replay.specs.Roots.{IsInputRoot, root_at};
 ghost use Rattle.segment_replay.specs.Cursor.{IsMachineOf, IsBehind, IsFresh, HasTouched};
 
 use checkpoint_run::{
-    Run, machine_at, next, pages_of_two_places, tampered_runs, tampered_runs_keep_the_input,
+    Run, advance, machine_at, pages_of_two_places, tampered_runs, tampered_runs_keep_the_input,
 };
 use digest_core::Digester;
 use mem_plain::PlainMem;
@@ -43,15 +43,13 @@ fn machine_up_to<D: Digester>(d: D, run: &Run, goal: u64) -> Result<Machine, Mem
     requires chained { AreChained D.digest_of run.now }
     ensures { IfOk result (λ m. IsMachineOf D.digest_of run.now goal m) }
 {
-    tampered_runs();
-    let _bound = run.bound();
     let _still = run.still();
     let every = u64::from(run.every());
     let checkpoint = goal / every;
     let mut at = checkpoint * every;
     let mut machine = machine_at(run, checkpoint)?;
     'steps: while at < goal {
-        next(d, run, &mut at, &mut machine)?;
+        advance(d, run, goal, &mut at, &mut machine)?;
     }
     Ok(machine)
 }
@@ -92,23 +90,29 @@ fn touch_named<D: Digester>(tree: &mut MemTree<D>, page: Option<u32>) -> Result<
     }
 }
 
-/// The cursor at the next step, with the pages touched that were written. An `Err` is out of memory.
-fn go_on<D: Digester>(d: D, run: &Run, cursor: Cursor<D>) -> Result<Cursor<D>, Memory>
+/// The cursor at a later step, up to the goal, with the pages touched that were written: at the next step, or behind a stretch in which
+/// nothing happens. An `Err` is out of memory.
+fn go_on<D: Digester>(
+    d: D,
+    run: &Run,
+    cursor: Cursor<D>,
+    goal: u64,
+) -> Result<Cursor<D>, Memory>
     requires machine { IsMachineOf D.digest_of run.now cursor.at cursor.machine }
-    requires below { cursor.at < run.now.bound }
-    ensures at { IfOk result (λ c. c.at ≡ cursor.at + 1) }
+    requires goal { cursor.at < goal }
+    ensures later { IfOk result (λ c. cursor.at < c.at) }
+    ensures within { IfOk result (λ c. c.at ≤ goal) }
     ensures machine { IfOk result (λ c. IsMachineOf D.digest_of run.now c.at c.machine) }
     ensures tree { (old : Contents) → IsBehind D.digest_of cursor.tree old cursor.machine.mem →
         IfOk result (λ c. IsBehind D.digest_of c.tree old c.machine.mem) }
 {
     pages_of_two_places();
-    let _bound = run.bound();
     let Cursor {
         mut at,
         mut machine,
         mut tree,
     } = cursor;
-    let pages = next(d, run, &mut at, &mut machine)?;
+    let pages = advance(d, run, goal, &mut at, &mut machine)?;
     touch_named(&mut tree, pages[0])?;
     touch_named(&mut tree, pages[1])?;
     Ok(Cursor { at, machine, tree })
@@ -124,11 +128,9 @@ fn moved_on<D: Digester>(d: D, run: &Run, cursor: Cursor<D>, goal: u64) -> Resul
     ensures machine { IfOk result (λ c. IsMachineOf D.digest_of run.now goal c.machine) }
     ensures tree { IfOk result (λ c. IsFresh D.digest_of c.tree c.machine.mem) }
 {
-    tampered_runs();
-    let _bound = run.bound();
     let mut moved = cursor;
     'steps: while moved.at < goal {
-        moved = go_on(d, run, moved)?;
+        moved = go_on(d, run, moved, goal)?;
     }
     let Cursor {
         at,
@@ -151,10 +153,12 @@ fn has_pages(mem: &PlainMem, count: u64) -> bool {
     true
 }
 
-/// Whether moving a cursor with this memory on by this many steps is taken to cost less than putting a machine together from a
-/// checkpoint. No answer depends on it.
-fn is_near(mem: &PlainMem, steps: u64) -> bool {
-    steps <= STEPS_WORTH_A_CHECKPOINT || has_pages(mem, steps.div_ceil(STEPS_WORTH_A_PAGE))
+/// Whether moving a cursor with this machine on by this many steps is taken to cost less than putting a machine together from a
+/// checkpoint. A machine that has stopped goes over all of them at once. No answer depends on it.
+fn is_near(machine: &Machine, steps: u64) -> bool {
+    !machine.ctl.status.is_running()
+        || steps <= STEPS_WORTH_A_CHECKPOINT
+        || has_pages(&machine.mem, steps.div_ceil(STEPS_WORTH_A_PAGE))
 }
 
 /// A tree with each page touched that a memory has in use, beside those that were. An `Err` is out of memory.
@@ -230,7 +234,7 @@ fn cursor_at<D: Digester + Send + Sync, R: Threads + Sync>(
     let every = u64::from(run.every());
     if let Some(cursor) = at_hand {
         if cursor.at <= goal {
-            let near = is_near(&cursor.machine.mem, goal - cursor.at);
+            let near = is_near(&cursor.machine, goal - cursor.at);
             if near || goal / every == cursor.at / every {
                 return moved_on(d, run, cursor, goal);
             }

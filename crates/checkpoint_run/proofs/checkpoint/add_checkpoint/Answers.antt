@@ -6,6 +6,7 @@ pub returns-clause-added : goal.returns-clause-added
 returns-clause-added c = record {
   checkpoint = _;
   pushed = c.in_ok-push.ensures.items;
+  step_is = refl;
   regs_are = refl;
   ctl_is = refl;
   versions_are = c.len.ensures ∙ c.add_versions.new.versions.ok.0;

@@ -1,7 +1,7 @@
 use Rattle.std.proofs.Common.{◌≡◌, ℕ, ◌-◌, ◌<◌, ◌≤◌, false}
 use Rattle.rv_step.specs.State.{state_of}
 use Rattle.checkpoint_run.specs.TamperedRun.{run_from}
-use Rattle.checkpoint_run.specs.AtRest.{rests}
+use Rattle.checkpoint_run.specs.AtRest.{ended}
 use Rattle.checkpoint_run.specs.UnderWay.{IsUnderWay}
 use Rattle.checkpoint_run.proofs.recording.record_steps.Given as goal
 
@@ -9,7 +9,7 @@ abbrev pub invariant-steps : goal.invariant-steps
 invariant-steps g l = record {
   within : l.recording.at ≤ l.bound;
   under_way : IsUnderWay g.D.Digester.digest_of l.tamper (state_of l.fn.recording.machine) l.every l.recording;
-  before : (k : ℕ) → k < l.recording.at → rests l.tamper l.bound k (run_from l.tamper (state_of l.fn.recording.machine) k) ≡ false;
+  before : (k : ℕ) → k < l.recording.at → ended l.tamper k (run_from l.tamper (state_of l.fn.recording.machine) k) ≡ false;
 }
 
 abbrev pub decreases-steps : goal.decreases-steps

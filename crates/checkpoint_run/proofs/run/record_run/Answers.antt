@@ -1,4 +1,4 @@
-use Rattle.std.proofs.Common.{◌≡◌, ℕ, ◌+◌, ◌*◌, ◌≤◌, List, length, slice_get, IfSome, map, sym, ap, subst, ◌∙◌, arith}
+use Rattle.std.proofs.Common.{◌≡◌, ℕ, ◌+◌, ◌≤◌, List, length, slice_get, IfSome, map, sym, ap, subst, ◌∙◌, arith}
 use Rattle.digest_core.specs.Chain.{chain_of}
 use Rattle.rd_base.specs.declared.tamper.Tamper.{Tamper}
 use Rattle.rv_step.specs.State.{State, state_of}
@@ -6,14 +6,14 @@ use Rattle.checkpoint_run.specs.TamperedRun.{tampered, run_from, still}
 use Rattle.checkpoint_run.specs.WrittenPages.{writes}
 use Rattle.checkpoint_run.specs.UnderWay.{IsUnderWay, IsAtEnd}
 use Rattle.checkpoint_run.specs.declared.recording.Recording.{Recording}
-use Rattle.checkpoint_run.specs.Keeping.{AllStand, at_first, first_by}
+use Rattle.checkpoint_run.specs.Keeping.{AllStand, AreFound, at_first, first_by, kept_chain}
 use Rattle.checkpoint_run.proofs.RunLemmas.{kept_by, run_input, still_found}
 use Rattle.checkpoint_run.proofs.EndLemmas.{first_of, first_version, first_input, chains_of}
 use Rattle.checkpoint_run.proofs.run.record_run.Goals as goal
 
 -- the first state of a recording that is at step 0
 at_start : (digest : List ℕ → List ℕ) (tamper : Tamper) (first : State) (every : ℕ) (r : Recording) → r.at ≡ 0 → IsUnderWay digest tamper first every r → state_of r.machine ≡ first
-at_start digest tamper first every r zero way = way.state ∙ ap (run_from tamper first) zero
+at_start digest tamper first every r zero way = way.kept.state ∙ ap (run_from tamper first) zero
 
 -- where a recording ends, from the first state that is at hand
 at_end : (digest : List ℕ → List ℕ) (tamper : Tamper) (first : State) (every bound : ℕ) (r last : Recording) → r.at ≡ 0 → IsUnderWay digest tamper first every r
@@ -33,9 +33,9 @@ returns-clause-first g c =
     let last = c.record_to_end.new.recording in
     let end : IsAtEnd g.D.Digester.digest_of c.args.tamper begun c.args.every c.args.bound last = at_end g.D.Digester.digest_of c.args.tamper begun c.args.every c.args.bound c.in_ok-recording.recording last c.in_ok-recording.ensures.at
     (c.in_ok-recording.ensures.under_way g.D.Digester.digest_of c.requires.chained) c.in_ok-record_to_end.ensures in
-    let way = end.under_way in
+    let way = end.kept in
     let held = run_input (kept_by c.runs_keep_the_input.ensures.version c.runs_keep_the_input.ensures.input) c.args.tamper begun last.at in
-    first_of last.checkpoints.items last.versions.items last.machine.output.items last.machine.version last.machine.input.items (run_from c.args.tamper begun) c.args.every _ way.many way.each
+    first_of last.kept.checkpoints.items last.kept.versions.items last.machine.output.items last.machine.version last.machine.input.items (run_from c.args.tamper begun) way.some end.starts way.each
     (ap (λ s. s.version) way.state ∙ held.0) (ap (λ s. s.input) way.state ∙ held.1)
 
 pub returns-clause-chained : goal.returns-clause-chained
@@ -44,12 +44,12 @@ returns-clause-chained g c =
     let last = c.record_to_end.new.recording in
     let end : IsAtEnd g.D.Digester.digest_of c.args.tamper begun c.args.every c.args.bound last = at_end g.D.Digester.digest_of c.args.tamper begun c.args.every c.args.bound c.in_ok-recording.recording last c.in_ok-recording.ensures.at
     (c.in_ok-recording.ensures.under_way g.D.Digester.digest_of c.requires.chained) c.in_ok-record_to_end.ensures in
-    let way = end.under_way in
+    let way = end.kept in
     let held = run_input (kept_by c.runs_keep_the_input.ensures.version c.runs_keep_the_input.ensures.input) c.args.tamper begun last.at in
-    let first = first_of last.checkpoints.items last.versions.items last.machine.output.items last.machine.version last.machine.input.items (run_from c.args.tamper begun) c.args.every _ way.many way.each
+    let first = first_of last.kept.checkpoints.items last.kept.versions.items last.machine.output.items last.machine.version last.machine.input.items (run_from c.args.tamper begun) way.some end.starts way.each
     (ap (λ s. s.version) way.state ∙ held.0) (ap (λ s. s.input) way.state ∙ held.1) in
-    let P : State → Type 0 = λ s. (k : ℕ) → IfSome (slice_get (map (λ c. c.ctl.chain.0) last.checkpoints.items) k) (λ chain. chain ≡ chain_of g.D.Digester.digest_of (run_from c.args.tamper s (k * c.args.every)).output) in
-    subst P (sym first) (chains_of g.D.Digester.digest_of last.checkpoints.items (run_from c.args.tamper begun) c.args.every way.chains)
+    let P : State → Type 0 = λ s. (k : ℕ) → IfSome (slice_get (map kept_chain last.kept.checkpoints.items) k) (λ kept. kept.chain ≡ chain_of g.D.Digester.digest_of (run_from c.args.tamper s kept.step).output) in
+    subst P (sym first) (chains_of g.D.Digester.digest_of last.kept.checkpoints.items (run_from c.args.tamper begun) way.chains)
 
 pub invariant_of-result : goal.invariant_of-result
 invariant_of-result g c =
@@ -57,25 +57,28 @@ invariant_of-result g c =
     let last = c.record_to_end.new.recording in
     let end : IsAtEnd g.D.Digester.digest_of c.args.tamper begun c.args.every c.args.bound last = at_end g.D.Digester.digest_of c.args.tamper begun c.args.every c.args.bound c.in_ok-recording.recording last c.in_ok-recording.ensures.at
     (c.in_ok-recording.ensures.under_way g.D.Digester.digest_of c.requires.chained) c.in_ok-record_to_end.ensures in
-    let way = end.under_way in
+    let way = end.kept in
     let held = run_input (kept_by c.runs_keep_the_input.ensures.version c.runs_keep_the_input.ensures.input) c.args.tamper begun last.at in
     let version = last.machine.version in
     let input = last.machine.input.items in
-    let first : first_by last.checkpoints.items last.versions.items last.machine.output.items version input ≡ begun
-    = first_of last.checkpoints.items last.versions.items last.machine.output.items version input (run_from c.args.tamper begun) c.args.every _ way.many way.each
+    let first : first_by last.kept.checkpoints.items last.kept.versions.items last.machine.output.items version input ≡ begun
+    = first_of last.kept.checkpoints.items last.kept.versions.items last.machine.output.items version input (run_from c.args.tamper begun) way.some end.starts way.each
     (ap (λ s. s.version) way.state ∙ held.0) (ap (λ s. s.input) way.state ∙ held.1) in
-    let P : State → Type 0 = λ s. AllStand last.checkpoints.items last.versions.items last.machine.output.items (run_from c.args.tamper s) c.args.every in
+    let P : State → Type 0 = λ s. AllStand last.kept.checkpoints.items last.kept.versions.items last.machine.output.items (run_from c.args.tamper s) in
+    let Q : State → Type 0 = λ s. AreFound last.kept.checkpoints.items c.args.every last.at (run_from c.args.tamper s) in
     record {
       spaced = c.requires.every;
       rest = sym (still_found c.stopped_states_stay.ensures c.args.tamper begun c.args.bound last.at end.within end.before end.ends) ∙ ap (λ s. still c.args.tamper s c.args.bound) (sym first);
-      many = way.many;
+      starts = end.starts;
+      some = way.some;
+      found = subst Q (sym first) end.found;
       each = subst P (sym first) way.each;
       few =
-          let F : State → Type 0 = λ s. length last.versions.items ≤ at_first last.checkpoints.items + writes c.args.tamper s last.at in
+          let F : State → Type 0 = λ s. length last.kept.versions.items ≤ at_first last.kept.checkpoints.items + writes c.args.tamper s last.at in
           let kept = way.few in
           subst F (sym first) (omega arith);
       known = last.machine.known;
       short = omega (arith, last.machine.short, last.machine.input.ok.0);
-      version_is = first_version last.checkpoints.items last.versions.items last.machine.output.items version input;
-      input_is = first_input last.checkpoints.items last.versions.items last.machine.output.items version input;
+      version_is = first_version last.kept.checkpoints.items last.kept.versions.items last.machine.output.items version input;
+      input_is = first_input last.kept.checkpoints.items last.kept.versions.items last.machine.output.items version input;
     }

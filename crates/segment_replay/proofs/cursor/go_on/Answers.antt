@@ -14,6 +14,6 @@ returns-clause-tree g c old behind =
     let second = c.in_ok-touch_named-2.ensures in
     record {
       tree_of = second.tree old (first.tree old behind.tree_of);
-      same = same_more c.in_ok-pages.pages c.args.cursor.tree.touched c.touch_named.new.tree.touched c.touch_named-2.new.tree.touched old c.args.cursor.machine.mem c.next.new.machine.mem
+      same = same_more c.in_ok-pages.pages c.args.cursor.tree.touched c.touch_named.new.tree.touched c.touch_named-2.new.tree.touched old c.args.cursor.machine.mem c.advance.new.machine.mem
           (λ p. (c.pages_of_two_places.ensures c.in_ok-pages.pages p c.in_ok-pages.ensures.two).0) first.named first.others second.named second.others c.in_ok-pages.ensures.elsewhere behind.same;
     }

@@ -1,9 +1,8 @@
-use Rattle.std.proofs.Common.{arith}
 use Rattle.segment_replay.proofs.cursor.moved_on.Goals as goal
 
 pub steps-preserved : goal.steps-preserved
 steps-preserved g c = record {
-  until = omega (arith, c.in_ok-moved.ensures.at, c.steps-test.true);
+  until = c.in_ok-moved.ensures.within;
   machine = c.in_ok-moved.ensures.machine;
   tree = c.in_ok-moved.ensures.tree c.args.cursor.machine.mem c.steps.invariant.tree;
 }
