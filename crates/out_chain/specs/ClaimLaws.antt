@@ -1,5 +1,5 @@
 -- Derived: what holds of sound claims and of their collisions. `claims_of_one_root` has the same as clauses.
-use Rattle.std.proofs.Common.{◌≡◌, ◌≢◌, ◌⊎◌, inl, inr, ℕ, suc, ◌^◌, ◌<◌, List, [], ◌∷◌, ◌++◌, length, replicate, Option, Some, None, Bool, true, false, ◌&&◌, not, eqb, ltb, refl, sym, ap, ◌∙◌, subst, arith, true≢false, Contains}
+use Rattle.std.proofs.Common.{◌≡◌, ◌≢◌, ◌↔◌, ◌⊎◌, inl, inr, ⊎_elim, ℕ, suc, ◌^◌, ◌<◌, List, [], ◌∷◌, ◌++◌, length, replicate, Option, Some, None, Bool, true, false, ◌&&◌, not, eqb, ltb, refl, sym, ap, ◌∙◌, subst, arith, true≢false, Contains}
 use Rattle.std.specs.Prelude.{bytes_eq, if◌then◌else◌}
 use Rattle.std.proofs.lemmas.Slice.Eq.{bytes_eq-Decides}
 use Rattle.std.proofs.lemmas.Bool.Decides.{Decides-eqb, Decides-ltb}
@@ -201,3 +201,17 @@ no_collision_of_two_roots digest x y apart = go (bytes_eq (root_of_claim digest 
 
 pub no_collision_of_equal : (digest : List ℕ → List ℕ) (x : Claim) → claim_collision digest x x ≡ None
 no_collision_of_equal digest x = collision-of-one-root digest x x refl ∙ collision_of_same digest (opened_by_claim digest x)
+
+-- sound claims have none if and only if their roots differ or they are equal
+pub no_collision_exactly : (digest : List ℕ → List ℕ) → ((bytes : List ℕ) → length (digest bytes) ≡ 32) → (x y : Claim)
+    → is_sound digest x ≡ true → is_sound digest y ≡ true → (claim_collision digest x y ≡ None) ↔ ((root_of_claim digest x ≢ root_of_claim digest y) ⊎ (x ≡ y))
+no_collision_exactly digest is_digest x y x_sound y_sound =
+    (λ none. go none (bytes_eq (root_of_claim digest x) (root_of_claim digest y)) refl,
+    λ either. ⊎_elim
+      (λ apart. no_collision_of_two_roots digest x y apart)
+      (λ same. subst (λ (z : Claim). claim_collision digest x z ≡ None) same (no_collision_of_equal digest x))
+      either)
+  where
+    go : claim_collision digest x y ≡ None → (t : Bool) → bytes_eq (root_of_claim digest x) (root_of_claim digest y) ≡ t → (root_of_claim digest x ≢ root_of_claim digest y) ⊎ (x ≡ y)
+    go none true e = inr (claims_without_collision digest is_digest x y x_sound y_sound ((bytes_eq-Decides _ _).0 e) none)
+    go none false e = inl (λ same. true≢false (sym ((bytes_eq-Decides _ _).1 same) ∙ e))

@@ -1,6 +1,7 @@
 //! The first two different strings with one digest that two claims open.
-ghost use Rattle.std.specs.Prelude.{◌≡◌, ◌&&◌, ◌∷◌, not, bytes_eq};
-ghost use Rattle.out_chain.specs.Root.{control_text_of};
+ghost use Rattle.std.specs.Prelude.{◌≡◌, ◌≢◌, ◌↔◌, ◌⊎◌, ◌&&◌, ◌∷◌, not, true, None, bytes_eq};
+ghost use Rattle.out_chain.specs.Root.{control_text_of, root_of_claim};
+ghost use Rattle.out_chain.specs.Soundness.{is_sound};
 ghost use Rattle.out_chain.specs.Collision as collision;
 
 use crate::root::parts_text;
@@ -58,11 +59,9 @@ pub fn collision_below<D: Digester>(
     link_collision(d, first.output.as_slice(), second.output.as_slice())
 }
 
-/// The collision of two claims of one root: the first two different strings with one digest that they open, their state strings first.
-/// It is `None` if the roots differ, or if the claims are equal; of sound claims only then (`claims_of_one_root`). The first string is
-/// opened by the first claim, the second by the second. It takes no memory.
+/// The collision of two claims by its definition: of claims of one root their state strings first, and then what stands below them.
 #[tactic(auto, unfolding(crate::specs::Collision::claim_collision, crate::specs::Collision::first_collision))]
-pub fn claim_collision<D: Digester>(
+fn opened_collision<D: Digester>(
     d: D,
     first: &Claim,
     second: &Claim,
@@ -80,4 +79,19 @@ pub fn claim_collision<D: Digester>(
         return Some((x, y));
     }
     collision_below(d, first, second)
+}
+
+/// The collision of two claims of one root: the first two different strings with one digest that they open, their state strings first.
+/// Of sound claims it is `None` if and only if their roots differ or the claims are equal. The first string is opened by the first
+/// claim, the second by the second. It takes no memory.
+pub fn claim_collision<D: Digester>(
+    d: D,
+    first: &Claim,
+    second: &Claim,
+) -> Option<(OpenText, OpenText)>
+    ensures value { result ≡ collision.claim_collision D.digest_of first.now second.now }
+    ensures none { is_sound D.digest_of first.now ≡ true → is_sound D.digest_of second.now ≡ true →
+        (result ≡ None) ↔ ((root_of_claim D.digest_of first.now ≢ root_of_claim D.digest_of second.now) ⊎ (first.now ≡ second.now)) }
+{
+    opened_collision(d, first, second)
 }
