@@ -14,7 +14,7 @@ use command_line::Options;
 use rd_base::{Digest32, Memory};
 use rv_step::Machine;
 use segment_replay::Replays;
-use state_commit::state_root_in;
+use state_commit::state_root;
 use std::alloc::Global;
 use std::sync::Wait;
 use std::thread::Threads;
@@ -32,7 +32,7 @@ pub fn start_roots<D: Replays>(
 {
     let mut roots = Vec::with_capacity(alloc, starts.len())?;
     'starts: for start in starts {
-        roots.push(state_root_in(d, start.version, start))?;
+        roots.push(state_root(d, start.version, start))?;
     }
     Ok(roots)
 }

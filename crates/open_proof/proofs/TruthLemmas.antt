@@ -31,7 +31,7 @@ use Rattle.rv_step.specs.Step.{step}
 use Rattle.rv_step.specs.Valid.{IsValid, HasWordCode}
 use Rattle.rv_step.specs.declared.asked.Need.{Need}
 use Rattle.rv_step.specs.declared.asked.Need.TheVariants as need
-use Rattle.state_commit.specs.StateRoot.{ctl_of, memory_digest, registers_digest, storage_of, storage_digest, text_in, root_in}
+use Rattle.state_commit.specs.StateRoot.{ctl_of, memory_digest, registers_digest, storage_of, storage_digest, state_text_in, root_in}
 use Rattle.state_commit.specs.Strings.{IsStringIn}
 use Rattle.state_commit.specs.Strings.IsStringIn.{is_state, is_control, is_memory, is_registers, is_register, is_storage, is_input}
 use Rattle.mem_tree.specs.RegisterTree.{register_leaf, register_node, registers_root}
@@ -429,7 +429,7 @@ module _ (steps : StepLaws) (laws : RegisterLaws) (trees : TreeLaws) (digest : L
       inr (registers-or-split f f.regs refl held range.regs parts.1))
       inr (storage-or-split f f.input_tree refl tree range.tree range.mem parts.0))
       (λ split. inr (collision f _ _ split (among-part digest f _ (contains-head _ _)) (is_state refl)))
-      (same-or-split digest (text_before digest f) (text_in digest s.version s) roots)
+      (same-or-split digest (text_before digest f) (state_text_in digest s.version s) roots)
 
   -- the registers that are opened are those that the state's instruction names
   named-or-found : (f : Facts) (regs : HeldRegisters) → f.regs ≡ regs → HasRegisters regs → RegistersRange regs → named_called f ≡ named_at s → AreCounted (named_called f) regs → WaysOpen digest (register_ways (named_called f) regs)

@@ -1,3 +1,4 @@
+pub mod BindingLemmas
 pub mod ScratchLemmas
 pub mod StateLemmas
 pub mod VersionLemmas

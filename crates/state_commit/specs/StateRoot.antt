@@ -32,9 +32,9 @@ abbrev pub storage_digest : (List ℕ → List ℕ) → ℕ → State → List �
 storage_digest digest version s = if version == 3 then digest (storage_of digest s) else memory_digest digest s
 
 -- the state string of a state, in a version
-abbrev pub text_in : (List ℕ → List ℕ) → ℕ → State → List ℕ
-text_in digest version s = parts_text digest (storage_digest digest version s) (registers_digest digest version s.regs) (ctl_of digest s)
+abbrev pub state_text_in : (List ℕ → List ℕ) → ℕ → State → List ℕ
+state_text_in digest version s = parts_text digest (storage_digest digest version s) (registers_digest digest version s.regs) (ctl_of digest s)
 
 -- the root of a state, in a version: the digest of its state string
 abbrev pub root_in : (List ℕ → List ℕ) → ℕ → State → List ℕ
-root_in digest version s = digest (text_in digest version s)
+root_in digest version s = digest (state_text_in digest version s)

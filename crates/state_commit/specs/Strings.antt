@@ -6,7 +6,7 @@ use Rattle.mem_tree.specs.Memory.{memory_leaf}
 use Rattle.out_chain.specs.Root.{control_text_of}
 use Rattle.out_chain.specs.Collision.{links_of}
 use Rattle.rv_step.specs.State.{State}
-use Rattle.state_commit.specs.StateRoot.{ctl_of, storage_of, text_in}
+use Rattle.state_commit.specs.StateRoot.{ctl_of, storage_of, state_text_in}
 use Rattle.mem_tree.specs.RegisterTree.{register_leaf}
 use Rattle.mem_tree.specs.InputTree.{input_leaf}
 
@@ -14,7 +14,7 @@ use Rattle.mem_tree.specs.InputTree.{input_leaf}
 -- in version 1 its registers string, and from version 2 on a leaf or node string of its registers; in version 3 its storage string,
 -- and a leaf or node string of its input
 pub data IsStringIn (digest : List ℕ → List ℕ) (version : ℕ) (s : State) (x : List ℕ) : Type 0 where
-  is_state : x ≡ text_in digest version s → IsStringIn digest version s x
+  is_state : x ≡ state_text_in digest version s → IsStringIn digest version s x
   is_control : x ≡ control_text_of (ctl_of digest s) → IsStringIn digest version s x
   is_memory : IsTreeString digest (memory_leaf s.memory) 27 x → IsStringIn digest version s x
   is_link : Contains (links_of digest s.output) x → IsStringIn digest version s x

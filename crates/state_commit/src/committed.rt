@@ -1,3 +1,4 @@
+//! A machine that is kept with the trees of its commitment.
 ghost use Rattle.std.specs.Prelude.{◌≡◌, ◌≢◌, ℕ, ◌<◌, ◌/◌, ◌^◌, [], Some, IfOk, OnOk, IfSome};
 ghost use Rattle.mem_plain.specs.Contents.{Contents, byte_at};
 ghost use Rattle.mem_tree.specs.Tree.{IsTreeOf};
@@ -9,7 +10,7 @@ use crate::shared_input::SharedInput;
 use digest_core::{Digester, registers_text};
 use mem_plain::PlainMem;
 use mem_tree::{MemTree, RegTree};
-use rd_base::{Digest32, Memory, RegPath};
+use rd_base::{Digest32, Memory, Path, RegPath};
 use rv_step::{Machine, one_page_changes, runs_keep_the_input, step, touches};
 use std::alloc::Global;
 use std::marker::Model;
@@ -90,6 +91,7 @@ impl<D: Digester> Committed<D> {
     ghost use Rattle.rv_step.specs.Step.{step as step_of};
     ghost use Rattle.merkle_nodes.specs.Opening.{IsPath};
     ghost use Rattle.state_commit.specs.StateRoot.{registers_digest, root_in};
+    ghost use Rattle.mem_tree.specs.Memory.{memory_leaf};
     ghost use Rattle.mem_tree.specs.RegisterTree.{register_leaf};
 
     /// A machine with the trees of its version, which are built from scratch. The machine's chain is that of its output, by this
@@ -206,6 +208,15 @@ impl<D: Digester> Committed<D> {
             self.input.root(),
             &self.machine,
         )
+    }
+
+    /// The path of a chunk of the machine's memory, by the chunk's index below 2^27: its sibling at each level below the root, the
+    /// leaf's first.
+    pub fn path(&self, chunk: u32) -> Path
+        requires { chunk < 2 ^ 27 }
+        ensures { IsPath D.digest_of (memory_leaf self.now.memory) 27 chunk result.0 }
+    {
+        self.memory.path(chunk)
     }
 
     /// The path of a register, from `x0` to `x31`, if the version is above 1.

@@ -1,3 +1,4 @@
+//! The digests of many register files, one after the other.
 ghost use Rattle.std.specs.Prelude.{◌≡◌};
 ghost use Rattle.state_commit.specs.StateRoot.{registers_digest};
 
@@ -14,7 +15,7 @@ use std::marker::Model;
 #[derive(Drop)]
 pub struct KeptRegisters<D: Digester> {
     d: D,
-    version: u8,
+    version: u32,
     tree: Option<RegTree<D>>,
 }
 
@@ -31,7 +32,7 @@ impl<D: Digester> Model for KeptRegisters<D> {
 
 impl<D: Digester> KeptRegisters<D> {
     /// The digest of registers in a version, with their tree if the version has one.
-    pub fn new(d: D, version: u8, regs: &Regs) -> Self
+    pub fn new(d: D, version: u32, regs: &Regs) -> Self
         ensures { result ≡ version }
     {
         if version == WHOLE_REGISTERS {

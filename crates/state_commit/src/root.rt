@@ -1,5 +1,5 @@
 //! The root of a machine's state in each version of the commitment.
-ghost use Rattle.std.specs.Prelude.{◌≡◌, ◌==◌, if◌then◌else◌};
+ghost use Rattle.std.specs.Prelude.{◌≡◌, ◌==◌, replicate, if◌then◌else◌};
 ghost use Rattle.digest_core.specs.Text.{storage_text as text_of_storage};
 ghost use Rattle.rv_step.specs.State.{state_of, IsChained};
 ghost use Rattle.state_commit.specs.StateRoot as state;
@@ -15,14 +15,14 @@ use rd_base::{Digest32, Regs};
 use rv_step::Machine;
 
 /// The version of the commitment in which the registers are digested as one string.
-pub const WHOLE_REGISTERS: u8 = 1;
+pub const WHOLE_REGISTERS: u32 = 1;
 
 /// The version of the commitment in which the input is a tree.
-pub const INPUT_TREE: u8 = 3;
+pub const INPUT_TREE: u32 = 3;
 
 /// The digest of registers in a version of the commitment, from scratch: that of their string in version 1, and from version 2 on
 /// the root of their tree.
-pub fn registers_digest<D: Digester>(d: D, version: u8, regs: &Regs) -> Digest32
+pub fn registers_digest<D: Digester>(d: D, version: u32, regs: &Regs) -> Digest32
     ensures { result.0 ≡ state.registers_digest D.digest_of version regs.now }
 {
     if version == WHOLE_REGISTERS {
@@ -36,7 +36,7 @@ pub fn registers_digest<D: Digester>(d: D, version: u8, regs: &Regs) -> Digest32
 /// the root of memory alone.
 fn storage_digest<D: Digester>(
     d: D,
-    version: u8,
+    version: u32,
     memory: Digest32,
     input_len: u32,
     input: Digest32,
@@ -55,7 +55,7 @@ fn storage_digest<D: Digester>(
 /// two digests, and in version 3 by three.
 pub fn root_of_parts<D: Digester>(
     d: D,
-    version: u8,
+    version: u32,
     memory: Digest32,
     registers: Digest32,
     input: Digest32,
@@ -72,9 +72,9 @@ pub fn root_of_parts<D: Digester>(
     parts_root(d, storage, registers, &machine.ctl)
 }
 
-/// The root of the input that a state's root has in a version of the commitment: 32 zeros if it has none.
-fn input_part<D: Digester>(d: D, version: u8, input: &[u8]) -> Digest32
-    ensures { version ≡ 3 → result.0 ≡ inputs.input_root D.digest_of input.now }
+/// The root of the input that a state's root has in a version of the commitment: 32 zeros in a version that has none.
+fn input_part<D: Digester>(d: D, version: u32, input: &[u8]) -> Digest32
+    ensures { result.0 ≡ (if version == 3 then inputs.input_root D.digest_of input.now else replicate 32 0) }
 {
     if version == INPUT_TREE {
         input_root(d, input)
@@ -86,7 +86,7 @@ fn input_part<D: Digester>(d: D, version: u8, input: &[u8]) -> Digest32
 /// The root of a machine's state in a version of the commitment, from scratch: it digests each chunk of the pages that hold a byte
 /// other than 0 and the nodes above them, and, as the version has them, the registers' tree and the input's. It takes no memory. The
 /// machine's chain is that of its output, by this digester.
-pub fn state_root_in<D: Digester>(d: D, version: u8, machine: &Machine) -> Digest32
+pub fn state_root<D: Digester>(d: D, version: u32, machine: &Machine) -> Digest32
     requires { IsChained D.digest_of machine.now }
     ensures { result.0 ≡ state.root_in D.digest_of version (state_of machine.now) }
 {

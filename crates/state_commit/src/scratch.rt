@@ -1,3 +1,4 @@
+//! The root of a memory from scratch, without memory.
 ghost use Rattle.std.specs.Prelude.{◌≡◌, ℕ, ◌+◌, ◌-◌, ◌≤◌, ◌<◌, ◌^◌, length, false};
 ghost use Rattle.mem_plain.specs.Contents.{IsUsed};
 ghost use Rattle.merkle_nodes.specs.Node.{digest_at};

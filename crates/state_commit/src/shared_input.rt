@@ -1,4 +1,5 @@
-ghost use Rattle.std.specs.Prelude.{◌≡◌, ◌<◌, ◌^◌, ℕ, List, Option, IfOk};
+//! The tree of an input, which is built once and shared.
+ghost use Rattle.std.specs.Prelude.{◌≡◌, ◌≢◌, ◌<◌, ◌^◌, ℕ, List, Option, replicate, IfOk};
 ghost use Rattle.rd_base.specs.declared.digest.Digest32.{Digest32};
 ghost use Rattle.rv_step.specs.State.{State, state_of};
 ghost use Rattle.state_commit.specs.Committing.{HasInput};
@@ -60,9 +61,10 @@ impl<D: Digester> SharedInput<D> {
         }
     }
 
-    /// The root of the input in version 3, and else 32 zeros.
+    /// The root of the input in version 3, and 32 zeros below version 3.
     pub fn root(&self) -> Digest32
-        ensures { (s : State) → HasInput D.digest_of s self.now → s.version ≡ 3 → result.0 ≡ input_root D.digest_of s.input }
+        ensures root { (s : State) → HasInput D.digest_of s self.now → s.version ≡ 3 → result.0 ≡ input_root D.digest_of s.input }
+        ensures zeros { (s : State) → HasInput D.digest_of s self.now → s.version ≢ 3 → result.0 ≡ replicate 32 0 }
     {
         match &self.tree {
             Some(tree) => tree.root(),

@@ -13,7 +13,7 @@ use mem_plain::PlainMem;
 use rd_base::{Digest32, Memory, Tamper};
 use rv_step::Machine;
 use segment_replay::{KeptRun, committed_at, roots, roots_with_input, run_input_root};
-use state_commit::{SharedInput, state_root_in, state_root_with};
+use state_commit::{SharedInput, state_root, state_root_with};
 use std::alloc::Global;
 use std::sync::atomic::{AtomicU64, Ordering};
 use std::test::Fail;
@@ -75,7 +75,7 @@ fn is_root_of<R: Threads + Sync>(
 {
     let committed = committed_at(rt, alloc, Sha256, run, step)?;
     let machine = committed.machine();
-    let scratch = state_root_in(Sha256, machine.version, machine);
+    let scratch = state_root(Sha256, machine.version, machine);
     Ok(committed.root() == root && scratch == root)
 }
 
@@ -338,7 +338,7 @@ fn digests_without_the_tree<R: Threads + Sync>(
         made: &made,
     };
     let machine = machine_in(alloc, version, &TOGGLES, input)?;
-    state_root_in(counted, version, &machine);
+    state_root(counted, version, &machine);
     let root = made.swap(0, Ordering::SeqCst);
     let run = run_in(alloc, version, &TOGGLES, input, 3, Tamper::Untouched)?;
     committed_at(rt, alloc, counted, &run, 8)?;

@@ -21,7 +21,7 @@ returns g c =
       input = c.input_opening_at.result;
     } in
     let other : s.version ≢ 1 = λ one. absurd (omega (arith, one, c.requires)) in
-    whole-3 digest s p (c.root.ensures s.memory c.memory.ensures.tree) c.input_len.ensures (c.root-2.ensures s c.input.ensures c.requires)
+    whole-3 digest s p (c.root.ensures s.memory c.memory.ensures.tree) c.input_len.ensures (c.root-2.ensures.root s c.input.ensures c.requires)
     (c.registers_digest.ensures ∙ tree-digest digest s.version s.regs other) c.ctl_of.ensures
     (c.opening_at.ensures ∙ ap (opening_at digest s.memory) c.called_by-called.ensures.fetch)
     (c.named_openings.ensures ∙ ap (λ (rs : List ℕ). map (register_opening digest s.regs) rs) (c.as_slice.ensures.value ∙ c.called_by-called.ensures.names))
