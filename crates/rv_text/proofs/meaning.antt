@@ -4,3 +4,6 @@ pub mod MeaningLemmas
 pub mod LaterLemmas
 pub mod LabelLemmas
 pub mod UnknownLemmas
+pub mod CauseLemmas
+pub mod TextLemmas
+pub mod TargetLemmas

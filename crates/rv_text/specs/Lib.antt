@@ -16,3 +16,5 @@ pub mod Meaning
 pub mod Later
 pub mod Labels
 pub mod Unknown
+pub mod Causes
+pub mod LineFaults

@@ -13,6 +13,10 @@ ghost use Rattle.rv_text.specs.Assembly.{assembled, near, Pass, pass, no_names, 
 ghost use Rattle.rv_text.specs.Later.{OfName, HasUndefinedTarget, HasFarTarget};
 ghost use Rattle.rv_text.specs.Labels.{IsPlace};
 ghost use Rattle.rv_text.specs.Unknown.{HasUnknownMnemonic};
+ghost use Rattle.rv_text.specs.Causes.{HasFault, IsLeast};
+ghost use Rattle.rv_text.specs.Characters.{source_lines};
+ghost use Rattle.rv_text.specs.LineFaults.{IsAssembled, IsFaultOf};
+ghost use Rattle.rv_text.specs.declared.fault.AsmFault.{AsmFault};
 ghost use Rattle.rv_text.specs.declared.fault.FaultKind.{FaultKind};
 ghost use Rattle.rv_text.specs.declared.fault.FaultKind.TheVariants as FaultKind;
 
@@ -35,12 +39,13 @@ pub fn each_word_is_said()
     one_reading();
 }
 
-/// A text that passed before places were known has no fault later but that of the name in its target's place: nothing defines it, or its
-/// distance is out of range.
+/// A text that passed before places were known has no fault later but that of the name in its target's place (`of_name`): its distance is
+/// out of range (`far`), or else nothing defines it (`undefined`). Each comes if and only if it is so.
 pub fn only_names_fail_later()
     ensures of_name { (distances : Distances) (text : List ℕ) (w : Option ℕ) (k : FaultKind) → word_in near text ≡ Ok w → word_in distances text ≡ Err k → OfName k }
-    ensures undefined { (distances : Distances) (text : List ℕ) (w : Option ℕ) → word_in near text ≡ Ok w → word_in distances text ≡ Err FaultKind.Undefined → HasUndefinedTarget distances text }
-    ensures far { (distances : Distances) (text : List ℕ) (w : Option ℕ) → word_in near text ≡ Ok w → word_in distances text ≡ Err FaultKind.OutOfRange → HasFarTarget distances text }
+    ensures far { (distances : Distances) (text : List ℕ) (w : Option ℕ) → word_in near text ≡ Ok w → (word_in distances text ≡ Err FaultKind.OutOfRange) ↔ HasFarTarget distances text }
+    ensures undefined { (distances : Distances) (text : List ℕ) (w : Option ℕ) → word_in near text ≡ Ok w →
+        (word_in distances text ≡ Err FaultKind.Undefined) ↔ (HasUndefinedTarget distances text × ¬ HasFarTarget distances text) }
 {}
 
 /// After a first pass without a fault each label stands for the place of the next word, four bytes for each word of the lines before it, and
@@ -54,3 +59,18 @@ pub fn labels_stand_for_places()
 pub fn unknown_mnemonics_have_no_row()
     ensures { (distances : Distances) (text : List ℕ) → (word_in distances text ≡ Err FaultKind.UnknownMnemonic) ↔ HasUnknownMnemonic text }
 {}
+
+/// The fault of a statement is the one with the least number among those that it has, whatever the distances of names are.
+pub fn least_fault_counts()
+    ensures { (distances : Distances) (text : List ℕ) (k : FaultKind) → (word_in distances text ≡ Err k) ↔ IsLeast (λ j. HasFault distances text j) k }
+{}
+
+/// A text has a fault if and only if a line has one: the first such line counts, first before places are known and then by the places of
+/// names (`fault`). If it has words, no line has a fault, and each word is that of a statement, in their order: names stand for the
+/// distances from the place of the word, four bytes for each word before it (`words`).
+pub fn texts_have_words_or_a_fault()
+    ensures words { (text words : List ℕ) → assembled text ≡ Ok words → IsAssembled (source_lines text) words }
+    ensures fault { (text : List ℕ) (f : AsmFault) → (assembled text ≡ Err f) ↔ IsFaultOf (source_lines text) f }
+{
+    one_reading();
+}

@@ -5,11 +5,13 @@
 //! line, and but for running out of memory the answer is determined by the text alone; `list` gives the text `listing`. The laws tie
 //! both to the words of the instructions: a statement has a word if and only if it is how an instruction with that word is written
 //! (`each_word_is_said`), and the listing of any words is assembled to them (`listing_is_read_back`). A label's place is four bytes for
-//! each instruction before its line (`labels_stand_for_places`).
+//! each instruction before its line (`labels_stand_for_places`). Of the faults that a statement has, the one with the least number counts
+//! (`least_fault_counts`); a text has the first fault of its lines, or the words of its statements in their order
+//! (`texts_have_words_or_a_fault`).
 //!
 //! Read `specs/Lines.antt` first, from there `Rows`, `Operands`, `Fields`, `Numbers`, `Characters` and `Faults`, then `specs/Assembly.antt`;
 //! `specs/Spelling.antt` and `specs/Meaning.antt` say how an instruction is written, `specs/Listing.antt` how words are listed, and
-//! `specs/Labels.antt`, `Unknown` and `Later` belong to the laws. Of the code read `assembling` first.
+//! `specs/Labels.antt`, `Unknown`, `Later`, `Causes` and `LineFaults` belong to the laws. Of the code read `assembling` first.
 #![tactic(auto)]
 
 mod assembling;
@@ -29,7 +31,8 @@ mod row;
 pub use assembling::{MAX_ASSEMBLY_BYTES, assemble};
 pub use fault::{AsmError, AsmFault, FaultKind};
 pub use laws::{
-    each_word_is_said, labels_stand_for_places, listing_is_read_back, only_names_fail_later,
+    each_word_is_said, labels_stand_for_places, least_fault_counts, listing_is_read_back,
+    only_names_fail_later, texts_have_words_or_a_fault,
     unknown_mnemonics_have_no_row,
 };
 pub use listing::list;

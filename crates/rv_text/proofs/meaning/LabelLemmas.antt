@@ -13,20 +13,20 @@ use Rattle.rv_text.specs.declared.fault.FaultKind.{FaultKind}
 use Rattle.rv_text.specs.declared.fault.FaultKind.TheVariants.{DefinedTwice}
 
 -- ---- results
-then-ok : {A B E : Type 0} (r : Result A E) (f : A → Result B E) (y : B) → (r >>= f) ≡ Ok y → (x : A) × (r ≡ Ok x) × (f x ≡ Ok y)
+pub then-ok : {A B E : Type 0} (r : Result A E) (f : A → Result B E) (y : B) → (r >>= f) ≡ Ok y → (x : A) × (r ≡ Ok x) × (f x ≡ Ok y)
 then-ok (Ok x) f y e = (x, refl, e)
 then-ok (Err k) f y e = absurd cc
 
-mapped-ok : {A E F : Type 0} (f : E → F) (r : Result A E) (y : A) → map_fault f r ≡ Ok y → r ≡ Ok y
+pub mapped-ok : {A E F : Type 0} (f : E → F) (r : Result A E) (y : A) → map_fault f r ≡ Ok y → r ≡ Ok y
 mapped-ok f (Ok x) y e = let same : x ≡ y = cc in ap (λ z. Ok z) same
 mapped-ok f (Err k) y e = absurd cc
 
-same-ok : {A E : Type 0} (x y : A) → ◌≡◌ {A = Result A E} (Ok x) (Ok y) → x ≡ y
+pub same-ok : {A E : Type 0} (x y : A) → ◌≡◌ {A = Result A E} (Ok x) (Ok y) → x ≡ y
 same-ok x y e = cc
 
 -- ---- a label
 -- what a line does with the names: none where it has no label, and else its label is a new name
-abbrev Named : Names → Option (List ℕ) → ℕ → Names → Type 0
+abbrev pub Named : Names → Option (List ℕ) → ℕ → Names → Type 0
 Named names None place after = after ≡ names
 Named names (Some name) place after = (names name ≡ None) × (after ≡ with_name names name place)
 
@@ -47,11 +47,11 @@ with-other : (names : Names) (name : List ℕ) (place : ℕ) (other : List ℕ) 
 with-other names name place other x true same new is = let never : None ≡ Some x = sym new ∙ (ap names ((bytes_eq-Decides name other).0 same) ∙ is) in absurd cc
 with-other names name place other x false same new is = is
 
-name-kept : (names after : Names) (o : Option (List ℕ)) (place : ℕ) (name : List ℕ) (x : ℕ) → Named names o place after → names name ≡ Some x → after name ≡ Some x
+pub name-kept : (names after : Names) (o : Option (List ℕ)) (place : ℕ) (name : List ℕ) (x : ℕ) → Named names o place after → names name ≡ Some x → after name ≡ Some x
 name-kept names after None place name x h is = ap (λ (f : Names). f name) h ∙ is
 name-kept names after (Some label) place name x h is = ap (λ (f : Names). f name) h.1 ∙ with-other names label place name x (bytes_eq label name) refl h.0 is
 
-name-given : (names after : Names) (o : Option (List ℕ)) (place : ℕ) (name : List ℕ) → Named names o place after → o ≡ Some name → after name ≡ Some place
+pub name-given : (names after : Names) (o : Option (List ℕ)) (place : ℕ) (name : List ℕ) → Named names o place after → o ≡ Some name → after name ≡ Some place
 name-given names after None place name h is = absurd cc
 name-given names after (Some label) place name h is =
     let same : label ≡ name = cc in
@@ -61,12 +61,12 @@ of-label : (names : Names) (label : List ℕ) (place : ℕ) (name : List ℕ) (x
 of-label names label place name x true same is = inr (ap (λ n. Some n) ((bytes_eq-Decides label name).0 same), cc)
 of-label names label place name x false same is = inl is
 
-name-from : (names after : Names) (o : Option (List ℕ)) (place : ℕ) (name : List ℕ) (x : ℕ) → Named names o place after → after name ≡ Some x → (names name ≡ Some x) ⊎ ((o ≡ Some name) × (x ≡ place))
+pub name-from : (names after : Names) (o : Option (List ℕ)) (place : ℕ) (name : List ℕ) (x : ℕ) → Named names o place after → after name ≡ Some x → (names name ≡ Some x) ⊎ ((o ≡ Some name) × (x ≡ place))
 name-from names after None place name x h is = inl (sym (ap (λ (f : Names). f name) h) ∙ is)
 name-from names after (Some label) place name x h is = of-label names label place name x (bytes_eq label name) refl (sym (ap (λ (f : Names). f name) h.1) ∙ is)
 
 -- ---- a line
-word-place : (b : Bool) (r : Result ℕ FaultKind) (w : Option ℕ) (place : ℕ) → (if b then Ok None else (r >>= λ w. Ok (Some w))) ≡ Ok w → place_after place w ≡ place + 4 * (if not b then 1 else 0)
+pub word-place : (b : Bool) (r : Result ℕ FaultKind) (w : Option ℕ) (place : ℕ) → (if b then Ok None else (r >>= λ w. Ok (Some w))) ≡ Ok w → place_after place w ≡ place + 4 * (if not b then 1 else 0)
 word-place true r None place e = omega arith
 word-place true r (Some w) place e = absurd cc
 word-place false (Ok x) (Some w) place e = omega arith
@@ -78,11 +78,11 @@ unfolding word_in
 statement-place text w place e = word-place (is_empty text) (word_of_statement near text) w place e
 
 -- what a line that passes does
-record Passed (p : Pass) (line : List ℕ) (q : Pass) : Type 0 where
-  names : Named p.names (label_in (code_in line)) p.place q.names
-  place : q.place ≡ p.place + 4 * (if has_statement line then 1 else 0)
+pub record Passed (p : Pass) (line : List ℕ) (q : Pass) : Type 0 where
+  pub names : Named p.names (label_in (code_in line)) p.place q.names
+  pub place : q.place ≡ p.place + 4 * (if has_statement line then 1 else 0)
 
-line-passed : (p : Pass) (line : List ℕ) (q : Pass) → after_line p line ≡ Ok q → Passed p line q
+pub line-passed : (p : Pass) (line : List ℕ) (q : Pass) → after_line p line ≡ Ok q → Passed p line q
 line-passed p line q e =
     let w = then-ok (word_in near (statement_in (code_in line))) _ q e in
     let after = then-ok (with_label p.names (label_in (code_in line)) p.place) _ q w.2 in
