@@ -2,3 +2,6 @@ pub mod Answering
 pub mod Numbering
 pub mod Seats
 pub mod Workers
+pub mod Swaps
+pub mod Blocks
+pub mod ByClass

@@ -1,1 +1,5 @@
 pub mod Serving
+pub mod Classes
+pub mod ByClass
+pub mod Swaps
+pub mod Arranging

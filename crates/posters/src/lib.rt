@@ -4,13 +4,17 @@
 //! there were and whatever their threads did; so the record of each task is that of its case alone (`Book::has_the_record_of_the_case`),
 //! and no schedule shows in it. `play` does the same for one task. Each poster serves the provers of its class alone, in turns of its own
 //! seat at the board; answers are made between two turns, while others post. No clause says that two posters ran at once, or how long a
-//! poster takes. Read `playing`, then `serving`, which is what one poster does. The tests stand in
-//! `test_boards` and `test_tasks`.
+//! poster takes. Read `playing`, then `serving`, which is what one poster does; `round_robin`, over `order`, shares the provers among the
+//! posters and starts the threads, and knows nothing of boards. The tests stand in `test_boards` and `test_tasks`, those of `round_robin`
+//! in `test_locks`.
 #![tactic(auto)]
 
 mod one_task;
+mod order;
 mod playing;
+mod round_robin;
 mod serving;
 
 pub use one_task::{Gate, play};
 pub use playing::{OpenGate, Place, TaskGate, play_tasks};
+pub use round_robin::{Worker, serve_all};

@@ -1,21 +1,21 @@
 //! The matches of many tasks played by posters.
 ghost use Rattle.std.specs.Prelude.{◌≡◌, ℕ, ◌<◌, ◌≤◌, ◌++◌, [], List, All, true, map, length, IfOk};
 ghost use Rattle.tournament.specs.Bracket.{is_complete};
-ghost use Rattle.round_robin.specs.Classes.{HaveClasses};
+ghost use Rattle.posters.specs.Classes.{HaveClasses};
 ghost use Rattle.board_book.specs.declared.entry.Entry.{Entry};
 ghost use Rattle.seat_lock.specs.History.{log_of};
 ghost use Rattle.board_book.specs.Tasks.{openings, sayings};
 ghost use Rattle.posters.specs.Serving.{provers_from, places_from, KnowsStart};
 
+use crate::round_robin::serve_all;
 use crate::serving::{Hall, Poster};
 use bisect_game::{Answerer, Judge, Provers};
 use board_book::{Books, tasks_are_numbered};
 use dispute_board::{TaskBoard, TaskSeat, logs_tell_journals};
 use rd_base::{Memory, Qid};
-use round_robin::serve_all;
 use std::alloc::Global;
 use std::sync::Wait;
-use std::sync::atomic::{AtomicBool, AtomicU64};
+use std::sync::atomic::{AtomicU32, AtomicU64};
 use std::thread::Threads;
 
 /// What comes before each post of many tasks. A test can wait here for another poster; a program takes `OpenGate`.
@@ -39,7 +39,7 @@ pub struct Place {
     pub prover: u32,
 }
 
-// Notes this many provers of task t, from 1 on.
+/// Notes this many provers of task t, from 1 on.
 fn add_provers(places: &mut Vec<Place>, t: u32, count: u32) -> Result<(), Memory>
     ensures { IfOk result (λ _. places.new.items ≡ places.old.items ++ provers_from t 1 count) }
 {
@@ -52,7 +52,7 @@ fn add_provers(places: &mut Vec<Place>, t: u32, count: u32) -> Result<(), Memory
     Ok(())
 }
 
-// The provers of all tasks, by their numbers from 0.
+/// The provers of all tasks, by their numbers from 0.
 fn places_of<J: Judge + Drop, P: Provers + Drop>(
     alloc: Global,
     books: &Books<J, P>,
@@ -68,7 +68,16 @@ fn places_of<J: Judge + Drop, P: Provers + Drop>(
     Ok(places)
 }
 
-// Splits a seat off for each poster, the classes from 0 on.
+/// The most posts that the matches of these books have room for. A saturated sum bounds them, too.
+fn most_posts_of<J: Judge + Drop, P: Provers + Drop>(books: &Books<J, P>) -> u64 {
+    let mut total = 0_u64;
+    for i in 0..books.count() {
+        total = total.saturating_add(books.book(i + 1).room());
+    }
+    total
+}
+
+/// Splits a seat off for each poster, the classes from 0 on.
 fn seat_posters<J: Judge + Drop, P: Provers + Drop>(
     board: &TaskBoard<J, P>,
     seat: &mut TaskSeat<J, P>,
@@ -89,7 +98,7 @@ fn seat_posters<J: Judge + Drop, P: Provers + Drop>(
     }
 }
 
-// Joins the seats of the posters in again, the last first.
+/// Joins the seats of the posters in again, the last first.
 #[tactic(auto, using(crate::proofs::Seats::knows_itself))]
 fn join_posters<J: Judge + Drop, P: Provers + Drop>(
     board: &TaskBoard<J, P>,
@@ -112,9 +121,10 @@ fn join_posters<J: Judge + Drop, P: Provers + Drop>(
 /// is started. There is one answerer for each prover, which answers as that prover; answers are made while other posters post.
 ///
 /// A poster ends when the matches of all its provers are over. It ends early when its answerer finds no memory, after 1,000,000 turns in
-/// a row with nothing to do, and when another ended early; what is left undone is played alone then. Once all have begun, one with
-/// nothing to do sleeps until another has posted. In the books that are given back each match is over, whatever the threads did, and
-/// their journal begins with the one that they had. An `Err` is out of memory.
+/// a row in which none of its provers had anything to do, after a second without a post if some poster hasn't begun, and when another
+/// ended early; what is left undone is played alone then. One with nothing to do sleeps until another has posted, for a tenth of a second
+/// at most. In the books that are given back each match is over, whatever the threads did, and their journal begins with the one that
+/// they had. An `Err` is out of memory.
 pub fn play_tasks<
     J: Judge + Drop + Send,
     P: Provers + Drop + Send,
@@ -140,6 +150,7 @@ where
     ensures keeps { map A.answers answerers.new ≡ map A.answers answerers.old }
 {
     let places = places_of(alloc, &books)?;
+    let most_posts = most_posts_of(&books);
     let mut seated = Vec::with_capacity(alloc, posters as usize)?;
     let (board, mut seat) = TaskBoard::new(alloc, books)?;
     seat_posters(&board, &mut seat, &mut seated, posters);
@@ -147,11 +158,10 @@ where
         board,
         gate,
         places,
-        posters: posters as u64,
-        begun: AtomicU64::new(0),
+        most_posts,
+        posters,
+        begun: AtomicU32::new(0),
         news: AtomicU64::new(0),
-        is_watched: AtomicBool::new(false),
-        ended_early: AtomicBool::new(false),
     };
     serve_all(rt, alloc, &hall, seated.as_mut_slice(), answerers)?;
     let Hall { board, .. } = hall;

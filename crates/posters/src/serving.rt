@@ -1,23 +1,38 @@
-//! What one poster does.
-ghost use Rattle.std.specs.Prelude.{◌≡◌, ℕ, ◌≤◌, List, map, slice_get};
+//! What one poster does, and what the posters share.
+//!
+//! No run can sleep for good: each sleep ends by itself after at most a tenth of a second, and the loop of each poster is bounded by
+//! what there is to do. Posters wake each other for speed alone, so that a lost wake costs time.
+ghost use Rattle.std.specs.Prelude.{◌≡◌, ℕ, List, map, slice_get};
 ghost use Rattle.std.specs.Thread.{IsSync};
 ghost use Rattle.tournament.specs.declared.setup.Setup.{Setup};
-ghost use Rattle.posters.specs.declared.serving.Round.TheVariants.{GoesOn};
 ghost use Rattle.posters.specs.Serving.{places_from, kept_of, IsSeatOf, IsProver, said_by};
 
 use crate::playing::{Place, TaskGate};
+use crate::round_robin::Worker;
 use bisect_game::{Answerer, Judge, Provers};
 use board_book::{Ask, tasks_are_numbered};
 use dispute_board::{TaskBoard, TaskSeat, what_is_said_may_be_posted};
-use round_robin::Worker;
 use std::sync::Wait;
-use std::sync::atomic::{AtomicBool, AtomicU64, Ordering};
-use std::thread;
+use std::sync::atomic::{AtomicU32, AtomicU64, Ordering};
 use std::thread::Threads;
+use std::time::Duration;
 use tournament::move_of;
 
-/// After this many turns in a row with nothing to do a poster ends.
+/// After this many idle turns in a row a poster ends early. In an idle turn none of its provers had anything to do.
+///
+/// It sleeps after each of them, so that these are 28 hours if nobody posts. Posts of others, which end a sleep, are too few to reach
+/// the limit: eight tasks have at most 812,848.
 const MOST_IDLE_TURNS: u32 = 1_000_000;
+
+/// As long as some poster hasn't begun, a poster ends early after this many idle turns in a row without a post, which are 0.927 seconds.
+/// If a thread can't be made, the poster that hasn't begun may stand behind this one in the same thread.
+const MOST_QUIET_TURNS: u32 = 15;
+
+/// The longest sleep, in milliseconds.
+const LONGEST_SLEEP: u64 = 100;
+
+/// What `news` is set to when a poster ends early. There are always fewer posts.
+const ENDED_EARLY: u64 = u64::MAX / 2;
 
 /// What the posters share.
 #[derive(Drop)]
@@ -26,16 +41,15 @@ pub struct Hall<'g, J: Judge + Drop, P: Provers + Drop, G: TaskGate> {
     pub gate: &'g G,
     /// The provers of all tasks, by their numbers from 0.
     pub places: Vec<Place>,
+    /// The most posts that the matches have room for.
+    pub most_posts: u64,
     /// How many posters there are.
-    pub posters: u64,
+    pub posters: u32,
     /// How many posters have begun.
-    pub begun: AtomicU64,
-    /// One more after each post, and after each poster that ended. A poster with nothing to do sleeps on it.
+    pub begun: AtomicU32,
+    /// How many posts there were, or at least `ENDED_EARLY` once a poster ended before the matches of its provers were over. A poster
+    /// with nothing to do sleeps until this changes.
     pub news: AtomicU64,
-    /// Whether a poster looks for news.
-    pub is_watched: AtomicBool,
-    /// Whether a poster ended before the matches of its provers were over. The others end then too.
-    pub ended_early: AtomicBool,
 }
 
 /// A poster: the class of its provers, and its seat.
@@ -45,66 +59,20 @@ pub struct Poster<J: Judge + Drop, P: Provers + Drop> {
     pub seat: TaskSeat<J, P>,
 }
 
-/// What a turn of a poster came to.
+/// What a turn came to, of one prover or of each prover of a poster.
 #[derive(Clone, Copy, Debug)]
 enum Turn {
-    /// The prover's match is over.
+    /// The match is over, of each of these provers.
     Over,
     /// A move was posted.
     Posted,
-    /// The prover had nothing to do.
+    /// There was nothing to do.
     Idle,
-    /// The answerer found no memory.
-    OutOfMemory,
-}
-
-/// What a round of turns came to, one for each prover of the poster.
-#[derive(Clone, Copy, Debug)]
-enum Round {
-    /// The match of each prover is over.
-    Over,
-    /// One goes on; the number of turns in a row, up to the last one, that had nothing to do.
-    GoesOn(u32),
-    /// The answerer found no memory, or another poster ended early, or too many turns in a row had nothing to do.
+    /// An answerer found no memory, or a poster ended early.
     EndsEarly,
 }
 
-// Wakes the posters that wait for news.
-fn tell_posters<J: Judge + Drop, P: Provers + Drop, G: TaskGate>(hall: &Hall<'_, J, P, G>) {
-    hall.news.fetch_add(1, Ordering::SeqCst);
-    hall.news.wake_all();
-}
-
-// Waits for news since it stood at `seen`, for as many turns as may pass with nothing to do, and gives the number of all that
-// have passed then. While there is none, each prover that had nothing to do still has nothing to do, so that such a turn isn't
-// taken to the board. Once every poster has begun it sleeps, as there will be news. Before that one poster looks, turn by turn, and
-// only the others sleep: if no thread could be made, a poster may begin only after one that waits here has ended.
-fn wait_for_news<J: Judge + Drop, P: Provers + Drop, G: TaskGate, R: Wait>(
-    rt: &R,
-    hall: &Hall<'_, J, P, G>,
-    seen: u64,
-    idle_before: u32,
-) -> u32
-    requires few { idle_before ≤ 1000000 }
-    ensures few { result ≤ 1000000 }
-{
-    for idle in idle_before..MOST_IDLE_TURNS {
-        if hall.news.load(Ordering::SeqCst) != seen {
-            return idle;
-        }
-        if hall.begun.load(Ordering::SeqCst) == hall.posters
-            || hall.is_watched.swap(true, Ordering::SeqCst)
-        {
-            hall.news.park(rt, (seen & 0xffff_ffff) as u32);
-        } else {
-            thread::yield_now();
-            hall.is_watched.store(false, Ordering::SeqCst);
-        }
-    }
-    MOST_IDLE_TURNS
-}
-
-// The prover of this number.
+/// The prover of this number.
 fn place_at(places: &Vec<Place>, number: u32) -> Option<Place>
     ensures { result ≡ slice_get places.now.items number }
 {
@@ -114,126 +82,169 @@ fn place_at(places: &Vec<Place>, number: u32) -> Option<Place>
     }
 }
 
-// One turn for a prover: it is asked, and what it answers is posted. The answer is made between the two turns at the board.
-fn serve_prover<
-    J: Judge + Drop,
-    P: Provers + Drop,
-    A: Answerer,
-    G: TaskGate,
-    R: Threads + Wait + Sync,
->(
-    rt: &R,
-    hall: &Hall<'_, J, P, G>,
-    seat: &mut TaskSeat<J, P>,
-    place: Place,
-    answerer: &mut A,
-) -> Turn
-    requires sync { IsSync R.row }
-    requires seat { (heads : List (J.Names × P.Names × Setup)) × IsSeatOf hall.now.board heads seat.old × IsProver P.says heads place (A.answers answerer.old) }
-    ensures seat { kept_of seat.new ≡ kept_of seat.old }
-    ensures answerer { A.answers answerer.new ≡ A.answers answerer.old }
-{
-    let Place { task, prover } = place;
-    tasks_are_numbered::<J, P>();
-    what_is_said_may_be_posted();
-    match hall.board.ask(rt, seat, task, prover) {
-        Ask::Over => Turn::Over,
-        Ask::Nothing => Turn::Idle,
-        Ask::Question(question, passes) => match answerer.answer(rt, &question, passes) {
-            Ok(answer) => {
-                hall.gate.before_post(task, prover, question.qid);
-                hall.board
-                    .post(rt, seat, task, prover, question.qid, move_of(answer));
-                tell_posters(hall);
-                Turn::Posted
-            }
-            Err(_) => Turn::OutOfMemory,
-        },
-    }
+/// How long a poster sleeps, in milliseconds, after this many idle turns in a row without a post.
+fn sleep_after(quiet: u32) -> u64 {
+    if quiet < 7 { 1 << quiet } else { LONGEST_SLEEP }
 }
 
-// A turn for each prover of these numbers. The round is over if each prover's match is.
-fn serve_round<
-    J: Judge + Drop,
-    P: Provers + Drop,
-    A: Answerer,
-    G: TaskGate,
-    R: Threads + Wait + Sync,
->(
-    rt: &R,
-    hall: &Hall<'_, J, P, G>,
-    seat: &mut TaskSeat<J, P>,
-    numbers: &[u32],
-    answerers: &mut [A],
-    idle_before: u32,
-) -> Round
-    requires sync { IsSync R.row }
-    requires seat { (heads : List (J.Names × P.Names × Setup)) × IsSeatOf hall.now.board heads seat.old × (hall.now.places.items ≡ places_from 1 heads) × (map A.answers answerers.old ≡ map (said_by P.says heads) numbers.now) }
-    requires few { idle_before ≤ 1000000 }
-    ensures seat { kept_of seat.new ≡ kept_of seat.old }
-    ensures answerers { map A.answers answerers.new ≡ map A.answers answerers.old }
-    ensures few { (turns : ℕ) → result ≡ GoesOn turns → turns ≤ 1000000 }
-{
-    let mut idle = idle_before;
-    let mut over = 0;
-    let mut i = 0;
-    while i < numbers.len() {
-        if hall.ended_early.load(Ordering::SeqCst) || idle >= MOST_IDLE_TURNS {
-            return Round::EndsEarly;
+impl<'g, J: Judge + Drop, P: Provers + Drop, G: TaskGate> Hall<'g, J, P, G> {
+    /// Whether a poster ended early. The others end then too.
+    fn has_ended_early(&self) -> bool {
+        self.news.load(Ordering::SeqCst) >= ENDED_EARLY
+    }
+
+    /// Tells the posters that sleep of one more post.
+    fn tell_of_post(&self) {
+        self.news.fetch_add(1, Ordering::SeqCst);
+        self.news.wake_all();
+    }
+
+    /// Tells the others that this poster ends early.
+    fn end_early(&self) {
+        self.news.store(ENDED_EARLY, Ordering::SeqCst);
+        self.news.wake_all();
+    }
+
+    /// Sleeps until there is news since it stood at `seen`, and for a while at most. `quiet` idle turns in a row were without news before
+    /// this one; what comes back is how many are with it.
+    fn sleep<R: Wait>(&self, rt: &R, seen: u64, quiet: u32) -> u32 {
+        let longest = Duration::from_millis(sleep_after(quiet));
+        self.news
+            .park_timeout(rt, (seen & 0xffff_ffff) as u32, longest);
+        if self.news.load(Ordering::SeqCst) == seen {
+            quiet.saturating_add(1)
+        } else {
+            0
         }
-        if let Some(place) = place_at(&hall.places, numbers[i]) {
-            match serve_prover(rt, hall, seat, place, &mut answerers[i]) {
-                Turn::Over => over += 1,
-                Turn::Posted => idle = 0,
-                Turn::Idle => idle += 1,
-                Turn::OutOfMemory => return Round::EndsEarly,
+    }
+
+    /// Whether a poster ends early after this many idle turns in a row without news: some poster hasn't begun, and it waited long.
+    fn has_waited_long(&self, quiet: u32) -> bool {
+        quiet >= MOST_QUIET_TURNS && self.begun.load(Ordering::SeqCst) < self.posters
+    }
+
+    /// One turn for a prover: it is asked, and what it answers is posted. The answer is made between the two turns at the board.
+    fn serve_prover<A: Answerer, R: Threads + Wait + Sync>(
+        &self,
+        rt: &R,
+        seat: &mut TaskSeat<J, P>,
+        place: Place,
+        answerer: &mut A,
+    ) -> Turn
+        requires sync { IsSync R.row }
+        requires seat { (heads : List (J.Names × P.Names × Setup)) × IsSeatOf self.now.board heads seat.old × IsProver P.says heads place (A.answers answerer.old) }
+        ensures seat { kept_of seat.new ≡ kept_of seat.old }
+        ensures answerer { A.answers answerer.new ≡ A.answers answerer.old }
+    {
+        let Place { task, prover } = place;
+        tasks_are_numbered::<J, P>();
+        what_is_said_may_be_posted();
+        match self.board.ask(rt, seat, task, prover) {
+            Ask::Over => Turn::Over,
+            Ask::Nothing => Turn::Idle,
+            Ask::Question(question, passes) => match answerer.answer(rt, &question, passes) {
+                Ok(answer) => {
+                    self.gate.before_post(task, prover, question.qid);
+                    self.board
+                        .post(rt, seat, task, prover, question.qid, move_of(answer));
+                    self.tell_of_post();
+                    Turn::Posted
+                }
+                Err(_) => Turn::EndsEarly,
+            },
+        }
+    }
+
+    /// A turn for each prover of these numbers. It is over if each prover's match is, and idle if none had anything to do.
+    fn serve_each<A: Answerer, R: Threads + Wait + Sync>(
+        &self,
+        rt: &R,
+        seat: &mut TaskSeat<J, P>,
+        numbers: &[u32],
+        answerers: &mut [A],
+    ) -> Turn
+        requires sync { IsSync R.row }
+        requires seat { (heads : List (J.Names × P.Names × Setup)) × IsSeatOf self.now.board heads seat.old × (self.now.places.items ≡ places_from 1 heads) × (map A.answers answerers.old ≡ map (said_by P.says heads) numbers.now) }
+        ensures seat { kept_of seat.new ≡ kept_of seat.old }
+        ensures answerers { map A.answers answerers.new ≡ map A.answers answerers.old }
+    {
+        let mut over = 0;
+        let mut has_posted = false;
+        let mut i = 0;
+        while i < numbers.len() {
+            if self.has_ended_early() {
+                return Turn::EndsEarly;
+            }
+            if let Some(place) = place_at(&self.places, numbers[i]) {
+                match self.serve_prover(rt, seat, place, &mut answerers[i]) {
+                    Turn::Over => over += 1,
+                    Turn::Posted => has_posted = true,
+                    Turn::Idle => {}
+                    Turn::EndsEarly => return Turn::EndsEarly,
+                }
+            }
+            i += 1;
+        }
+        if over == numbers.len() {
+            Turn::Over
+        } else if has_posted {
+            Turn::Posted
+        } else {
+            Turn::Idle
+        }
+    }
+
+    /// Serves the provers of these numbers until one has posted or all their matches are over. It sleeps after each idle turn.
+    fn serve_until_post<A: Answerer, R: Threads + Wait + Sync>(
+        &self,
+        rt: &R,
+        seat: &mut TaskSeat<J, P>,
+        numbers: &[u32],
+        answerers: &mut [A],
+    ) -> Turn
+        requires sync { IsSync R.row }
+        requires seat { (heads : List (J.Names × P.Names × Setup)) × IsSeatOf self.now.board heads seat.old × (self.now.places.items ≡ places_from 1 heads) × (map A.answers answerers.old ≡ map (said_by P.says heads) numbers.now) }
+        ensures seat { kept_of seat.new ≡ kept_of seat.old }
+        ensures answerers { map A.answers answerers.new ≡ map A.answers answerers.old }
+    {
+        let mut quiet = 0;
+        for _ in 0..MOST_IDLE_TURNS {
+            let seen = self.news.load(Ordering::SeqCst);
+            let turn = self.serve_each(rt, seat, numbers, answerers);
+            if !matches!(turn, Turn::Idle) {
+                return turn;
+            }
+            quiet = self.sleep(rt, seen, quiet);
+            if self.has_waited_long(quiet) {
+                return Turn::EndsEarly;
             }
         }
-        i += 1;
+        Turn::EndsEarly
     }
-    if over == numbers.len() {
-        Round::Over
-    } else {
-        Round::GoesOn(idle)
-    }
-}
 
-// Serves the provers of these numbers until the matches of all are over, and says whether they are. A poster without provers has nothing
-// to wait for.
-fn serve_all_rounds<
-    J: Judge + Drop,
-    P: Provers + Drop,
-    A: Answerer,
-    G: TaskGate,
-    R: Threads + Wait + Sync,
->(
-    rt: &R,
-    hall: &Hall<'_, J, P, G>,
-    seat: &mut TaskSeat<J, P>,
-    numbers: &[u32],
-    answerers: &mut [A],
-) -> bool
-    requires sync { IsSync R.row }
-    requires seat { (heads : List (J.Names × P.Names × Setup)) × IsSeatOf hall.now.board heads seat.old × (hall.now.places.items ≡ places_from 1 heads) × (map A.answers answerers.old ≡ map (said_by P.says heads) numbers.now) }
-    ensures seat { kept_of seat.new ≡ kept_of seat.old }
-    ensures answerers { map A.answers answerers.new ≡ map A.answers answerers.old }
-{
-    if numbers.is_empty() {
-        return true;
-    }
-    let mut idle = 0;
-    for _ in rt.forever() {
-        let seen = hall.news.load(Ordering::SeqCst);
-        match serve_round(rt, hall, seat, numbers, answerers, idle) {
-            Round::Over => return true,
-            Round::EndsEarly => return false,
-            Round::GoesOn(turns) => idle = turns,
+    /// Serves the provers of these numbers until the matches of all are over, and says whether they are. There are at most as many posts
+    /// as the matches have room for, and at most `MOST_IDLE_TURNS` between two of them, so this ends whatever the other posters do.
+    fn serve_until_over<A: Answerer, R: Threads + Wait + Sync>(
+        &self,
+        rt: &R,
+        seat: &mut TaskSeat<J, P>,
+        numbers: &[u32],
+        answerers: &mut [A],
+    ) -> bool
+        requires sync { IsSync R.row }
+        requires seat { (heads : List (J.Names × P.Names × Setup)) × IsSeatOf self.now.board heads seat.old × (self.now.places.items ≡ places_from 1 heads) × (map A.answers answerers.old ≡ map (said_by P.says heads) numbers.now) }
+        ensures seat { kept_of seat.new ≡ kept_of seat.old }
+        ensures answerers { map A.answers answerers.new ≡ map A.answers answerers.old }
+    {
+        for _ in 0..self.most_posts.saturating_add(1) {
+            match self.serve_until_post(rt, seat, numbers, answerers) {
+                Turn::Over => return true,
+                Turn::Posted => {}
+                _ => return false,
+            }
         }
-        if idle > 0 {
-            idle = wait_for_news(rt, hall, seen, idle);
-        }
+        false
     }
-    unreachable!()
 }
 
 impl<'g, J: Judge + Drop, P: Provers + Drop, A: Answerer, G: TaskGate> Worker<Hall<'g, J, P, G>, A>
@@ -270,11 +281,8 @@ impl<'g, J: Judge + Drop, P: Provers + Drop, A: Answerer, G: TaskGate> Worker<Ha
         answerers: &mut [A],
     ) {
         hall.begun.fetch_add(1, Ordering::SeqCst);
-        if !serve_all_rounds(rt, hall, &mut self.seat, numbers, answerers) {
-            hall.ended_early.store(true, Ordering::SeqCst);
+        if !hall.serve_until_over(rt, &mut self.seat, numbers, answerers) {
+            hall.end_early();
         }
-        // If no thread could be made, one that hasn't begun yet may stand behind a poster that sleeps: this one may have been the
-        // last that looked for it.
-        tell_posters(hall);
     }
 }

@@ -1,7 +1,7 @@
 ghost use Rattle.std.specs.Prelude.{◌≡◌, length, IfOk};
-ghost use Rattle.round_robin.specs.Classes.{HaveClasses};
+ghost use Rattle.posters.specs.Classes.{HaveClasses};
 
-use round_robin::{Worker, serve_all};
+use posters::{Worker, serve_all};
 use std::alloc::{AllocError, Global};
 use std::sync::Wait;
 use std::test::Fail;

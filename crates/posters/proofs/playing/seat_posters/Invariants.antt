@@ -1,5 +1,5 @@
 use Rattle.std.proofs.Common.{◌≡◌, length, All}
-use Rattle.round_robin.specs.Classes.{HaveClasses}
+use Rattle.posters.specs.Classes.{HaveClasses}
 use Rattle.posters.proofs.playing.seat_posters.Given as goal
 
 abbrev pub invariant-loop-class : goal.invariant-loop-class

@@ -1,5 +1,5 @@
 use Rattle.std.proofs.Common.{◌≡◌, length}
-use Rattle.round_robin.specs.Classes.{HaveClasses}
+use Rattle.posters.specs.Classes.{HaveClasses}
 use Rattle.test_locks.proofs.round_robin_test.server_for_each.Given as goal
 
 abbrev pub invariant-loop-class : goal.invariant-loop-class

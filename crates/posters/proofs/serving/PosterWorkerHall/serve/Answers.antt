@@ -3,6 +3,6 @@ use Rattle.rd_base.specs.declared.answer.Answer.{Answer}
 use Rattle.bisect_game.specs.declared.question.Question.{Question}
 use Rattle.posters.proofs.serving.PosterWorkerHall.serve.Goals as goal
 
-pub serve_all_rounds-requires-clause-seat : goal.serve_all_rounds-requires-clause-seat
-serve_all_rounds-requires-clause-seat g c κs within = let r = c.requires.ready in let kept = r.1.1 in
+pub serve_until_over-requires-clause-seat : goal.serve_until_over-requires-clause-seat
+serve_until_over-requires-clause-seat g c κs within = let r = c.requires.ready in let kept = r.1.1 in
     (r.1.0, record { lock = kept.lock; head_is = kept.head_is }, r.1.2, r.2 ∙ ap (λ (f : ℕ → Question → ℕ → Option Answer). map f c.args.numbers.now) r.1.3)

@@ -1,0 +1,47 @@
+use Rattle.std.proofs.Common.{rules, ℕ, List, slice_index_or, map, sym, ap, ◌∙◌}
+use Rattle.std.specs.Prelude.{slice_get}
+use Rattle.posters.specs.declared.playing.Place.{Place}
+use Rattle.posters.specs.Serving.{kept_of, said_by}
+use Rattle.posters.proofs.Answering.{said_at, said_again}
+use Rattle.posters.proofs.Numbering.{prover_at}
+use Rattle.posters.proofs.Seats.{seat_again}
+use Rattle.posters.proofs.serving.Hall.serve_each.Goals as goal
+use Rattle.posters.proofs.serving.Hall.serve_each.Goals.{in-Some+in-Over, in-Some+in-Posted, in-Some+in-Idle, in_default}
+
+pub serve_prover-requires-clause-seat : goal.serve_prover-requires-clause-seat
+serve_prover-requires-clause-seat g c κs within =
+    let r = c.requires.seat in let v = c.loop-i.invariant in let number : ℕ = slice_index_or c.args.numbers.now c.loop-i.i 0 in (
+      r.0,
+      seat_again c.args.self.now.board r.0 c.args.seat.now c.loop-i.seat v.0 r.1,
+      prover_at g.P.Provers.says r.0 number c.in-Some.place (g.A.Answerer.answers (slice_index_or c.loop-i.answerers c.loop-i.i c.index-answerers-i.result))
+          (ap (λ (ps : List Place). slice_get ps number) (sym r.2) ∙ (sym c.place_at.ensures ∙ c.in-Some.is))
+          (said_at g.A.Answerer.answers (said_by g.P.Provers.says r.0) c.loop-i.answerers c.args.numbers.now c.loop-i.i c.index-answerers-i.result 0 (v.1 ∙ r.3) c.loop-i-test.true),
+    )
+
+pub returns-in-EndsEarly-clause-answerers : goal.returns-in-EndsEarly-clause-answerers
+returns-in-EndsEarly-clause-answerers g c =
+    said_again g.A.Answerer.answers c.loop-i.answerers c.loop-i.i c.serve_prover.new.answerer c.index-answerers-i.result c.serve_prover.ensures.answerer ∙ c.loop-i.invariant.1
+
+pub loop-i-preserved : goal.loop-i-preserved
+loop-i-preserved g c = let v = c.loop-i.invariant in let answers = g.A.Answerer.answers in
+    elim c.match-place_at.branch [
+      | in-Some+in-Over w ↦ (
+        ap kept_of w.seat-is ∙ w.serve_prover.ensures.seat ∙ v.0,
+        ap (map answers) w.answerers-is ∙ said_again answers c.loop-i.answerers c.loop-i.i w.serve_prover.new.answerer w.index-answerers-i.result w.serve_prover.ensures.answerer ∙ v.1,
+        search rules,
+        search rules,
+      )
+      | in-Some+in-Posted w ↦ (
+        ap kept_of w.seat-is ∙ w.serve_prover.ensures.seat ∙ v.0,
+        ap (map answers) w.answerers-is ∙ said_again answers c.loop-i.answerers c.loop-i.i w.serve_prover.new.answerer w.index-answerers-i.result w.serve_prover.ensures.answerer ∙ v.1,
+        search rules,
+        search rules,
+      )
+      | in-Some+in-Idle w ↦ (
+        ap kept_of w.seat-is ∙ w.serve_prover.ensures.seat ∙ v.0,
+        ap (map answers) w.answerers-is ∙ said_again answers c.loop-i.answerers c.loop-i.i w.serve_prover.new.answerer w.index-answerers-i.result w.serve_prover.ensures.answerer ∙ v.1,
+        search rules,
+        search rules,
+      )
+      | in_default w ↦ (ap kept_of w.seat-is ∙ v.0, ap (map answers) w.answerers-is ∙ v.1, search rules, search rules)
+    ]

@@ -1,9 +1,0 @@
-use Rattle.std.proofs.Common.{◌≡◌, ◌≤◌, ◌-◌, map, length}
-use Rattle.posters.specs.Serving.{kept_of}
-use Rattle.posters.proofs.serving.serve_round.Given as goal
-
-abbrev pub invariant-loop-i : goal.invariant-loop-i
-invariant-loop-i g l = (kept_of l.seat ≡ kept_of l.initial.seat) × (map g.A.Answerer.answers l.answerers ≡ map g.A.Answerer.answers l.initial.answerers) × (l.i ≤ length l.fn.numbers) × (l.idle ≤ 1000000) × (l.over ≤ l.i)
-
-abbrev pub decreases-loop-i : goal.decreases-loop-i
-decreases-loop-i g l = length l.fn.numbers - l.i

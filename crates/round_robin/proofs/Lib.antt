@@ -1,3 +1,0 @@
-pub mod Swaps
-pub mod Blocks
-pub mod ByClass

@@ -1,6 +1,0 @@
-use Rattle.std.proofs.Common.{◌≡◌, length}
-use Rattle.std.specs.List.{range_with_len}
-use Rattle.round_robin.proofs.serving.serve_all.Given as goal
-
-abbrev pub invariant-loop-number : goal.invariant-loop-number
-invariant-loop-number g l = (l.numbers.items ≡ range_with_len 0 l.number) × (length l.numbers.items ≡ l.number) × (l.numbers.cap ≡ l.initial.numbers.cap)

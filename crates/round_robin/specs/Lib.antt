@@ -1,4 +1,0 @@
-pub mod Classes
-pub mod ByClass
-pub mod Swaps
-pub mod Arranging
