@@ -1,6 +1,6 @@
 -- Derived: how the provers of all tasks are numbered, what stays of a poster while it serves, and what a seat must be for it. `play_tasks`
 -- says what comes of it.
-use Rattle.std.specs.Prelude.{◌≡◌, ℕ, ◌<◌, ◌≤◌, [], List, Option, Some, None, get_or, zero, suc, ◌+◌, ◌∷◌, ◌++◌}
+use Rattle.std.specs.Prelude.{◌≡◌, ℕ, ◌<◌, ◌≤◌, [], List, Option, Some, None, get_or, map, zero, suc, ◌+◌, ◌∷◌, ◌++◌}
 use Rattle.std.specs.List.{All}
 use Rattle.rd_base.specs.declared.answer.Answer.{Answer}
 use Rattle.bisect_game.specs.declared.question.Question.{Question}
@@ -50,3 +50,10 @@ module _ {H : Type 0} where
   -- each log that begins with what this seat, and the seats joined into it, had seen begins with this one
   abbrev pub KnowsStart : List LogEntry → Known H → Type 0
   KnowsStart start k = (log : List LogEntry) → Begins (log_of k.seen) log → All (λ seen. Begins (log_of seen) log) k.joined → Begins start log
+
+-- a seat at this board may serve the provers of these numbers, of all at these places, with answerers that say this
+pub record MayServe {N M : Type 0} (says : M → Says) (board : LockId) (places : List Place) (k : Known (List (N × M × Setup))) (numbers : List ℕ) (said : List (Question → ℕ → Option Answer)) : Type 0 where
+  pub heads : List (N × M × Setup)
+  pub seat : IsSeatOf board heads k
+  pub placed : places ≡ places_from 1 heads
+  pub said_all : said ≡ map (said_by says heads) numbers

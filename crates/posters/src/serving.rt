@@ -2,10 +2,10 @@
 //!
 //! No run can sleep for good: each sleep ends by itself after at most a tenth of a second, and the loop of each poster is bounded by
 //! what there is to do. Posters wake each other for speed alone, so that a lost wake costs time.
-ghost use Rattle.std.specs.Prelude.{◌≡◌, ℕ, List, map, slice_get};
+ghost use Rattle.std.specs.Prelude.{◌≡◌, List, map, slice_get};
 ghost use Rattle.std.specs.Thread.{IsSync};
 ghost use Rattle.tournament.specs.declared.setup.Setup.{Setup};
-ghost use Rattle.posters.specs.Serving.{places_from, kept_of, IsSeatOf, IsProver, said_by};
+ghost use Rattle.posters.specs.Serving.{kept_of, IsSeatOf, IsProver, MayServe};
 
 use crate::playing::{Place, TaskGate};
 use crate::round_robin::Worker;
@@ -20,7 +20,7 @@ use tournament::move_of;
 
 /// After this many idle turns in a row a poster ends early. In an idle turn none of its provers had anything to do.
 ///
-/// It sleeps after each of them, so that these are 28 hours if nobody posts. Posts of others, which end a sleep, are too few to reach
+/// It sleeps after each of them, so that they take 28 hours if nobody posts. Posts of others, which end a sleep, are too few to reach
 /// the limit: eight tasks have at most 812,848.
 const MOST_IDLE_TURNS: u32 = 1_000_000;
 
@@ -164,7 +164,7 @@ impl<'g, J: Judge + Drop, P: Provers + Drop, G: TaskGate> Hall<'g, J, P, G> {
         answerers: &mut [A],
     ) -> Turn
         requires sync { IsSync R.row }
-        requires seat { (heads : List (J.Names × P.Names × Setup)) × IsSeatOf self.now.board heads seat.old × (self.now.places.items ≡ places_from 1 heads) × (map A.answers answerers.old ≡ map (said_by P.says heads) numbers.now) }
+        requires seat { MayServe P.says self.now.board self.now.places.items seat.old numbers.now (map A.answers answerers.old) }
         ensures seat { kept_of seat.new ≡ kept_of seat.old }
         ensures answerers { map A.answers answerers.new ≡ map A.answers answerers.old }
     {
@@ -203,7 +203,7 @@ impl<'g, J: Judge + Drop, P: Provers + Drop, G: TaskGate> Hall<'g, J, P, G> {
         answerers: &mut [A],
     ) -> Turn
         requires sync { IsSync R.row }
-        requires seat { (heads : List (J.Names × P.Names × Setup)) × IsSeatOf self.now.board heads seat.old × (self.now.places.items ≡ places_from 1 heads) × (map A.answers answerers.old ≡ map (said_by P.says heads) numbers.now) }
+        requires seat { MayServe P.says self.now.board self.now.places.items seat.old numbers.now (map A.answers answerers.old) }
         ensures seat { kept_of seat.new ≡ kept_of seat.old }
         ensures answerers { map A.answers answerers.new ≡ map A.answers answerers.old }
     {
@@ -232,7 +232,7 @@ impl<'g, J: Judge + Drop, P: Provers + Drop, G: TaskGate> Hall<'g, J, P, G> {
         answerers: &mut [A],
     ) -> bool
         requires sync { IsSync R.row }
-        requires seat { (heads : List (J.Names × P.Names × Setup)) × IsSeatOf self.now.board heads seat.old × (self.now.places.items ≡ places_from 1 heads) × (map A.answers answerers.old ≡ map (said_by P.says heads) numbers.now) }
+        requires seat { MayServe P.says self.now.board self.now.places.items seat.old numbers.now (map A.answers answerers.old) }
         ensures seat { kept_of seat.new ≡ kept_of seat.old }
         ensures answerers { map A.answers answerers.new ≡ map A.answers answerers.old }
     {

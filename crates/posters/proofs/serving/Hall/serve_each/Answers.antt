@@ -11,11 +11,11 @@ use Rattle.posters.proofs.serving.Hall.serve_each.Goals.{in-Some+in-Over, in-Som
 pub serve_prover-requires-clause-seat : goal.serve_prover-requires-clause-seat
 serve_prover-requires-clause-seat g c κs within =
     let r = c.requires.seat in let v = c.loop-i.invariant in let number : ℕ = slice_index_or c.args.numbers.now c.loop-i.i 0 in (
-      r.0,
-      seat_again c.args.self.now.board r.0 c.args.seat.now c.loop-i.seat v.0 r.1,
-      prover_at g.P.Provers.says r.0 number c.in-Some.place (g.A.Answerer.answers (slice_index_or c.loop-i.answerers c.loop-i.i c.index-answerers-i.result))
-          (ap (λ (ps : List Place). slice_get ps number) (sym r.2) ∙ (sym c.place_at.ensures ∙ c.in-Some.is))
-          (said_at g.A.Answerer.answers (said_by g.P.Provers.says r.0) c.loop-i.answerers c.args.numbers.now c.loop-i.i c.index-answerers-i.result 0 (v.1 ∙ r.3) c.loop-i-test.true),
+      r.heads,
+      seat_again c.args.self.now.board r.heads c.args.seat.now c.loop-i.seat v.0 r.seat,
+      prover_at g.P.Provers.says r.heads number c.in-Some.place (g.A.Answerer.answers (slice_index_or c.loop-i.answerers c.loop-i.i c.index-answerers-i.result))
+          (ap (λ (ps : List Place). slice_get ps number) (sym r.placed) ∙ (sym c.place_at.ensures ∙ c.in-Some.is))
+          (said_at g.A.Answerer.answers (said_by g.P.Provers.says r.heads) c.loop-i.answerers c.args.numbers.now c.loop-i.i c.index-answerers-i.result 0 (v.1 ∙ r.said_all) c.loop-i-test.true),
     )
 
 pub returns-in-EndsEarly-clause-answerers : goal.returns-in-EndsEarly-clause-answerers
