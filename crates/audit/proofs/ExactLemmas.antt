@@ -17,11 +17,11 @@ use Rattle.tournament.specs.Journals.{turn, turn_on, turns, Legal, said, settled
 use Rattle.rd_base.specs.Questions.{same_qid}
 use Rattle.tournament.specs.Posting.{record_after, NobodyAskedIsOver}
 use Rattle.tournament.specs.Length.{IsMost, most_entries, SpareIsEnough, ThereIsAMost}
-use Rattle.text_types.specs.declared.text.TextMove.{TextMove}
-use Rattle.text_types.specs.declared.text.Stated.{Stated}
-use Rattle.text_types.specs.declared.text.FullText.{FullText}
-use Rattle.text_types.specs.MoveLists.{moves_of}
-use Rattle.text_types.specs.StatedVerdict.{stated_of}
+use Rattle.transcript_text.specs.declared.text.TextMove.{TextMove}
+use Rattle.transcript_text.specs.declared.text.Stated.{Stated}
+use Rattle.transcript_text.specs.declared.text.FullText.{FullText}
+use Rattle.transcript_text.specs.MoveLists.{moves_of}
+use Rattle.transcript_text.specs.StatedVerdict.{stated_of}
 use Rattle.audit.specs.declared.finding.Cause.{Cause}
 use Rattle.audit.specs.declared.finding.Audit.TheVariants.{Confirmed, Refused}
 use Rattle.audit.specs.NextEntry.{next}

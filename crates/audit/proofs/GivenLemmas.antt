@@ -8,8 +8,8 @@ use Rattle.bisect_game.specs.Rules.{Rules}
 use Rattle.tournament.specs.Bracket.{Record}
 use Rattle.tournament.specs.Theorem.{IsInClaims, IsInDisputes}
 use Rattle.tournament.specs.Theorem as theorem
-use Rattle.text_types.specs.declared.text.TextMove.{TextMove}
-use Rattle.text_types.specs.MoveLists.{qid_of, move_if, moves_of_claims, moves_of_round, moves_of_past, moves_of_dispute, moves_of_disputes, moves_of}
+use Rattle.transcript_text.specs.declared.text.TextMove.{TextMove}
+use Rattle.transcript_text.specs.MoveLists.{qid_of, move_if, moves_of_claims, moves_of_round, moves_of_past, moves_of_dispute, moves_of_disputes, moves_of}
 use Rattle.audit.specs.TrueLines.{IsGivenIn, IsCollisionIn}
 
 given-left : (a : Answer) (ms ns : List TextMove) → IsGivenIn a ms → IsGivenIn a (ms ++ ns)

@@ -12,8 +12,8 @@ use Rattle.bisect_game.specs.Rules.{Rules}
 use Rattle.bisect_game.specs.Bisection.{Bisection, question_of, asks, is_closed, settle_first, settle_second}
 use Rattle.tournament.specs.Bracket.{Record, nothing_settled, claim_question, claim_missing, settled_in, put, settle, stage_opened, is_stage_due, claims_collision, disputes_of, pairs, live, live_from, all_there, all_out, last_stage}
 use Rattle.rd_base.specs.Questions.{same_qid}
-use Rattle.text_types.specs.declared.text.TextMove.{TextMove}
-use Rattle.text_types.specs.MoveLists.{qid_of, move_if, moves_of_claims, moves_of_round, moves_of_past, moves_of_dispute, moves_of_disputes, moves_of}
+use Rattle.transcript_text.specs.declared.text.TextMove.{TextMove}
+use Rattle.transcript_text.specs.MoveLists.{qid_of, move_if, moves_of_claims, moves_of_round, moves_of_past, moves_of_dispute, moves_of_disputes, moves_of}
 use Rattle.audit.specs.NextEntry.{next_claim, next_in, claim_or, next}
 use Rattle.audit.specs.OwnMatch.{settled_by_lines}
 use Rattle.audit.proofs.NextLemmas.{IsMissing, next-missing, none-missing, pair-first, pair-second}

@@ -11,9 +11,9 @@ use Rattle.tournament.specs.Bracket.{Record, open_question, settle, is_complete,
 use Rattle.tournament.specs.Moves.{MatchState}
 use Rattle.rd_base.specs.Questions.{same_qid}
 use Rattle.tournament.specs.Posting.{posted, Post, after_posts}
-use Rattle.text_types.specs.declared.text.TextMove.{TextMove}
-use Rattle.text_types.specs.declared.text.Stated.{Stated}
-use Rattle.text_types.specs.StatedVerdict.{stated_of}
+use Rattle.transcript_text.specs.declared.text.TextMove.{TextMove}
+use Rattle.transcript_text.specs.declared.text.Stated.{Stated}
+use Rattle.transcript_text.specs.StatedVerdict.{stated_of}
 use Rattle.audit.specs.declared.finding.Cause.{Cause}
 use Rattle.audit.specs.declared.finding.Cause.TheVariants.{NotAsked, OtherReply, OtherVerdict, MovesMissing, MovesAfterEnd}
 use Rattle.audit.specs.declared.finding.Audit.TheVariants.{Confirmed, Refused}

@@ -1,9 +1,9 @@
 -- What is read is within the limits, and these are the conditions of the audit.
 use Rattle.std.proofs.Common.{ℕ, List, [], ◌∷◌, arith}
 use Rattle.std.proofs.lemmas.List.Elements.{All-nil, All-cons}
-use Rattle.text_types.specs.declared.text.TextMove.{TextMove}
-use Rattle.text_reader.specs.InLimits.{IsHeadInLimits, IsMoveInLimits, AreMovesInLimits, IsInLimits}
-use Rattle.text_reader.specs.Laws.{ReadsExactly}
+use Rattle.transcript_text.specs.declared.text.TextMove.{TextMove}
+use Rattle.transcript_text.specs.reader.InLimits.{IsHeadInLimits, IsMoveInLimits, AreMovesInLimits, IsInLimits}
+use Rattle.transcript_text.specs.reader.Laws.{ReadsExactly}
 use Rattle.audit.specs.LineByLine.{IsOfProver, AreOfProvers}
 use Rattle.audit.specs.Auditable.{IsAuditable, ReadTextsMayBeAudited}
 

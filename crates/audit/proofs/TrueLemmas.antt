@@ -20,11 +20,11 @@ use Rattle.tournament.specs.Asked.{asked, AskedByTheCase}
 use Rattle.tournament.specs.Posting.{posted, Post, after_posts, record_after}
 use Rattle.tournament.specs.Theorem.{AreTrue, IsRightVerdict, VerdictIsRight}
 use Rattle.tournament.specs.TrueMoves.{IsTruePost, MovesTruly, TrueMovesAreTrueAnswers}
-use Rattle.text_types.specs.declared.text.TextMove.{TextMove}
-use Rattle.text_types.specs.declared.text.Stated.{Stated}
-use Rattle.text_types.specs.declared.text.Stated.TheVariants as stated
-use Rattle.text_types.specs.MoveLists.{moves_of}
-use Rattle.text_types.specs.StatedVerdict.{settled_at, given_claim, stated_claim, stated_of}
+use Rattle.transcript_text.specs.declared.text.TextMove.{TextMove}
+use Rattle.transcript_text.specs.declared.text.Stated.{Stated}
+use Rattle.transcript_text.specs.declared.text.Stated.TheVariants as stated
+use Rattle.transcript_text.specs.MoveLists.{moves_of}
+use Rattle.transcript_text.specs.StatedVerdict.{settled_at, given_claim, stated_claim, stated_of}
 use Rattle.audit.specs.LineByLine.{IsOfProver, AreOfProvers, is_right, rules_of_head}
 use Rattle.audit.specs.BetweenLines.{fresh, passed_on}
 use Rattle.audit.specs.OwnMatch.{says_in, own_record}

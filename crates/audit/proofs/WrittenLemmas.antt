@@ -7,12 +7,12 @@ use Rattle.tournament.specs.Moves.{MatchState}
 use Rattle.tournament.specs.Journals.{answers_of, RecordOfCase}
 use Rattle.tournament.specs.Posting.{Post, record_after, NobodyAskedIsOver}
 use Rattle.tournament.specs.Length.{SpareIsEnough, ThereIsAMost}
-use Rattle.text_types.specs.declared.text.Head.{Head}
-use Rattle.text_types.specs.MoveLists.{moves_of}
+use Rattle.transcript_text.specs.declared.text.Head.{Head}
+use Rattle.transcript_text.specs.MoveLists.{moves_of}
 use Rattle.transcript_text.specs.FullLines.{AreWritten}
 use Rattle.transcript_text.specs.Laws.{parts_of}
-use Rattle.text_reader.specs.InLimits.{IsHeadInLimits}
-use Rattle.text_reader.specs.Laws.{HasStrings, IsReadBack, MatchesAreReadBack}
+use Rattle.transcript_text.specs.reader.InLimits.{IsHeadInLimits}
+use Rattle.transcript_text.specs.reader.Laws.{HasStrings, IsReadBack, MatchesAreReadBack}
 use Rattle.audit.specs.LineByLine.{rules_of_head}
 use Rattle.audit.specs.OwnMatch.{WrittenCasesAreConfirmed}
 use Rattle.audit.proofs.ExactLemmas.{IsCaseDriven, case-driven, case-confirmed}

@@ -1,8 +1,8 @@
 -- Derived: the conditions under which a text may be audited, which hold of every text that was read. The law `read_texts_may_be_audited`
 -- shows it.
 use Rattle.std.specs.Prelude.{◌≡◌, ℕ, ◌<◌, ◌≤◌, ◌^◌, List, Ok}
-use Rattle.text_types.specs.declared.text.FullText.{FullText}
-use Rattle.text_reader.specs.ReadText.{read_text}
+use Rattle.transcript_text.specs.declared.text.FullText.{FullText}
+use Rattle.transcript_text.specs.reader.ReadText.{read_text}
 use Rattle.audit.specs.LineByLine.{AreOfProvers}
 
 pub record IsAuditable (text : FullText) : Type 0 where

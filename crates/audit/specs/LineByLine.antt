@@ -13,12 +13,12 @@ use Rattle.tournament.specs.declared.verdict.Verdict.{Verdict}
 use Rattle.tournament.specs.Bracket.{Record, nothing_settled, is_complete, settle, verdict_of}
 use Rattle.rd_base.specs.Questions.{same_qid}
 use Rattle.tournament.specs.Posting.{rules_of}
-use Rattle.text_types.specs.declared.text.Head.{Head}
-use Rattle.text_types.specs.declared.text.TextMove.{TextMove}
-use Rattle.text_types.specs.declared.text.Stated.{Stated}
-use Rattle.text_types.specs.declared.text.Stated.TheVariants as stated
-use Rattle.text_types.specs.declared.text.FullText.{FullText}
-use Rattle.text_types.specs.StatedVerdict.{stated_of}
+use Rattle.transcript_text.specs.declared.text.Head.{Head}
+use Rattle.transcript_text.specs.declared.text.TextMove.{TextMove}
+use Rattle.transcript_text.specs.declared.text.Stated.{Stated}
+use Rattle.transcript_text.specs.declared.text.Stated.TheVariants as stated
+use Rattle.transcript_text.specs.declared.text.FullText.{FullText}
+use Rattle.transcript_text.specs.StatedVerdict.{stated_of}
 use Rattle.audit.specs.declared.finding.Cause.{Cause}
 use Rattle.audit.specs.declared.finding.Cause.TheVariants.{NotAsked, OtherReply, OtherVerdict, MovesMissing, MovesAfterEnd}
 use Rattle.audit.specs.declared.finding.Audit.{Audit}

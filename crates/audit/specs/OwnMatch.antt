@@ -11,15 +11,15 @@ use Rattle.tournament.specs.declared.verdict.Verdict.{Verdict}
 use Rattle.tournament.specs.Bracket.{Record, is_complete, verdict_of, bracket}
 use Rattle.tournament.specs.Journals.{answers_of}
 use Rattle.rd_base.specs.Questions.{same_qid}
-use Rattle.text_types.specs.declared.text.Head.{Head}
-use Rattle.text_types.specs.declared.text.TextMove.{TextMove}
-use Rattle.text_types.specs.declared.text.FullText.{FullText}
-use Rattle.text_types.specs.MoveLists.{moves_of}
-use Rattle.text_types.specs.StatedVerdict.{stated_of}
+use Rattle.transcript_text.specs.declared.text.Head.{Head}
+use Rattle.transcript_text.specs.declared.text.TextMove.{TextMove}
+use Rattle.transcript_text.specs.declared.text.FullText.{FullText}
+use Rattle.transcript_text.specs.MoveLists.{moves_of}
+use Rattle.transcript_text.specs.StatedVerdict.{stated_of}
 use Rattle.transcript_text.specs.FullLines.{full_text, AreWritten}
-use Rattle.text_reader.specs.ReadText.{read_text}
-use Rattle.text_reader.specs.InLimits.{IsHeadInLimits}
-use Rattle.text_reader.specs.Laws.{HasStrings}
+use Rattle.transcript_text.specs.reader.ReadText.{read_text}
+use Rattle.transcript_text.specs.reader.InLimits.{IsHeadInLimits}
+use Rattle.transcript_text.specs.reader.Laws.{HasStrings}
 use Rattle.audit.specs.declared.finding.Audit.TheVariants.{Confirmed}
 use Rattle.audit.specs.LineByLine.{rules_of_head, AreOfProvers, audited}
 

@@ -9,10 +9,10 @@ use Rattle.bisect_game.specs.Truth.{Truth, IsRun, IsTrueSettled}
 use Rattle.tournament.specs.declared.verdict.Verdict.{Verdict}
 use Rattle.tournament.specs.Asked.{asked}
 use Rattle.tournament.specs.Theorem.{opened_by}
-use Rattle.text_types.specs.declared.text.TextMove.{TextMove}
-use Rattle.text_types.specs.declared.text.Stated.{Stated}
-use Rattle.text_types.specs.declared.text.Stated.TheVariants as stated
-use Rattle.text_types.specs.declared.text.FullText.{FullText}
+use Rattle.transcript_text.specs.declared.text.TextMove.{TextMove}
+use Rattle.transcript_text.specs.declared.text.Stated.{Stated}
+use Rattle.transcript_text.specs.declared.text.Stated.TheVariants as stated
+use Rattle.transcript_text.specs.declared.text.FullText.{FullText}
 use Rattle.audit.specs.declared.finding.Audit.TheVariants.{Confirmed}
 use Rattle.audit.specs.LineByLine.{rules_of_head, AreOfProvers, audited}
 use Rattle.audit.specs.OwnMatch.{own_record}

@@ -8,7 +8,7 @@ use crate::stating::is_stated;
 use bisect_game::Judge;
 use rd_base::Memory;
 use std::alloc::Global;
-use text_types::{FullText, Stated};
+use transcript_text::{FullText, Stated};
 use tournament::Match;
 
 /// The number of the first line of a text that is a move: the head is line 1.

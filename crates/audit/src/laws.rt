@@ -1,13 +1,12 @@
 //! Laws of the audit, each the contract of a function that does nothing.
 ghost use Rattle.std.specs.Prelude.{◌≡◌, ◌<◌, ◌≤◌, ◌^◌, Ok};
-ghost use Rattle.text_reader.specs.ReadText.{read_text};
+ghost use Rattle.transcript_text.specs.reader.ReadText.{read_text};
 ghost use Rattle.audit.specs.Auditable.{ReadTextsMayBeAudited};
 ghost use Rattle.audit.specs.LineByLine.{AreOfProvers};
 ghost use Rattle.audit.specs.OwnMatch.{ConfirmedExactly, CaseTextsAreConfirmed, WrittenCasesAreConfirmed};
 ghost use Rattle.audit.specs.TrueLines.{ConfirmedTextIsRight};
 
-use text_reader::{a_full_text_is_read_back, reading_is_the_inverse_of_writing};
-use text_types::FullText;
+use transcript_text::{FullText, a_full_text_is_read_back, reading_is_the_inverse_of_writing};
 use tournament::{
     a_number_names_one_question, nobody_asked_means_over, one_record_of_a_case, spare_is_enough,
     the_verdict_is_right, there_is_a_most_number_of_rounds, true_moves_are_true_answers,

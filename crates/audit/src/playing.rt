@@ -12,7 +12,7 @@ use crate::next_entry::next;
 use bisect_game::{Judge, Question, Settled};
 use rd_base::{Answer, Memory, same_qid};
 use std::alloc::Global;
-use text_types::TextMove;
+use transcript_text::TextMove;
 use tournament::{Match, Move, Reply};
 
 /// A prover spends its open question: it passes once more than the patience.

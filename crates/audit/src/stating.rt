@@ -1,12 +1,12 @@
 //! Whether a verdict is the stated one.
 ghost use Rattle.std.specs.Prelude.{◌≡◌};
-ghost use Rattle.text_types.specs.declared.text.Stated.TheVariants.{Accept};
-ghost use Rattle.text_types.specs.StatedVerdict.{settled_at, given_claim, stated_claim};
+ghost use Rattle.transcript_text.specs.declared.text.Stated.TheVariants.{Accept};
+ghost use Rattle.transcript_text.specs.StatedVerdict.{settled_at, given_claim, stated_claim};
 ghost use Rattle.audit.specs.LineByLine.{same_status, is_this, is_stated};
 
 use bisect_game::Settled;
 use rd_base::{Answer, Status};
-use text_types::{Stated, settled_at};
+use transcript_text::{Stated, settled_at};
 use tournament::Verdict;
 
 /// Whether two statuses are the same.

@@ -9,8 +9,8 @@ use Rattle.clap.specs.Simple.{App, Shape, built, names_of, entered}
 use Rattle.clap.specs.Faults.{fault_of, level_fault, entered_fault, walk_fault, settle_fault, default_fault, given_default_fault, defaults_fault, check_fault}
 use Rattle.clap.specs.Kinds.{Kinds, or_else}
 use Rattle.clap.proofs.OnLiterals.{clap_on_literals}
-use Rattle.text_types.specs.declared.text.DigestName.{DigestName}
-use Rattle.text_types.specs.declared.text.DigestName.TheVariants.{Sha256, Weak8}
+use Rattle.transcript_text.specs.declared.text.DigestName.{DigestName}
+use Rattle.transcript_text.specs.declared.text.DigestName.TheVariants.{Sha256, Weak8}
 use Rattle.command_line.specs.Words.{command_line, is_taken, named, command_of, chosen, text_in, digest_in, judge_in}
 use Rattle.command_line.specs.Options.{Given, number, full, digest, workers, posters, every, name_of, words_of, IsOfJudge, given_by, are_taken, text_asked, digest_or, digest_asked, judge_of}
 use Rattle.command_line.specs.declared.request.Command.TheVariants.{Judge}

@@ -3,9 +3,9 @@ use Rattle.std.specs.Prelude.{◌≡◌, ℕ, ◌&&◌, List, [], ◌∷◌, ◌
 use Rattle.std.specs.Str.{bytes_eq}
 use Rattle.clap.specs.ValueTests.{is_unsigned_in}
 use Rattle.clap.specs.Walk.{Text}
-use Rattle.text_types.specs.Digest.{digest_text}
-use Rattle.text_types.specs.declared.text.DigestName.{DigestName}
-use Rattle.text_types.specs.declared.text.DigestName.TheVariants.{Sha256}
+use Rattle.transcript_text.specs.Digest.{digest_text}
+use Rattle.transcript_text.specs.declared.text.DigestName.{DigestName}
+use Rattle.transcript_text.specs.declared.text.DigestName.TheVariants.{Sha256}
 use Rattle.command_line.specs.declared.request.MatchText.{MatchText}
 use Rattle.command_line.specs.declared.request.MatchText.TheVariants.{Report, Full}
 use Rattle.command_line.specs.declared.request.Command.{Command}

@@ -12,8 +12,8 @@ use Rattle.clap.specs.Simple.{App, Shape, new_app, new_rule, new_shape, on_top, 
 use Rattle.clap.specs.Faults.{fault_of}
 use Rattle.clap.specs.declared.builder.action.ArgAction.TheVariants.{SetTrue}
 use Rattle.clap.specs.declared.builder.value_parser.ValueParser.TheVariants as vp
-use Rattle.text_types.specs.Digest.{digest_text, digests}
-use Rattle.text_types.specs.declared.text.DigestName.{DigestName}
+use Rattle.transcript_text.specs.Digest.{digest_text, digests}
+use Rattle.transcript_text.specs.declared.text.DigestName.{DigestName}
 use Rattle.command_line.specs.declared.request.MatchText.{MatchText}
 use Rattle.command_line.specs.declared.request.MatchText.TheVariants.{Report, Full}
 use Rattle.command_line.specs.declared.request.Command.{Command}

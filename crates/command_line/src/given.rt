@@ -12,7 +12,7 @@ use clap::ArgMatches;
 use clap::error::ErrorKind;
 use rd_base::Memory;
 use std::alloc::Global;
-use text_types::DigestName;
+use transcript_text::DigestName;
 
 /// The seed that was given.
 fn seed_given(given: &ArgMatches<'_>) -> Option<u32>

@@ -1,6 +1,6 @@
 //! Which arguments name a command.
 ghost use Rattle.std.specs.Prelude.{◌≡◌, ◌≤◌, ℕ, List, [], ◌∷◌, All, true, Some, None, codes, option_map, if◌then◌else◌};
-ghost use Rattle.text_types.specs.declared.text.DigestName.TheVariants.{Sha256, Weak8};
+ghost use Rattle.transcript_text.specs.declared.text.DigestName.TheVariants.{Sha256, Weak8};
 ghost use Rattle.command_line.specs.Words.{chosen, seed_in};
 ghost use Rattle.command_line.specs.Options.{Given, IsOfJudge, IsOfBig, begins_with_digit, words_of, are_taken, judge_of};
 

@@ -1,6 +1,6 @@
 //! What the program is asked to do.
 
-use text_types::DigestName;
+use transcript_text::DigestName;
 
 /// Which text of a match is written.
 #[derive(Clone, Copy, Debug, PartialEq, Eq)]

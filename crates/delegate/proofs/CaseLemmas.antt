@@ -8,7 +8,7 @@ use Rattle.case_reader.specs.Case.{CaseData, case_at}
 use Rattle.case_reader.specs.Tasks.{TasksData, One, Many, CasesAreTasks}
 use Rattle.case_reader.specs.declared.fault.CaseFault.{CaseFault}
 use Rattle.workload.specs.Workload.{big_data}
-use Rattle.text_types.specs.declared.text.DigestName.{DigestName}
+use Rattle.transcript_text.specs.declared.text.DigestName.{DigestName}
 use Rattle.command_line.specs.Words.{chosen}
 use Rattle.command_line.specs.declared.request.MatchText.{MatchText}
 use Rattle.command_line.specs.declared.request.MatchText.TheVariants.{Report, Full}

@@ -1,12 +1,12 @@
 -- All is done for `audit` only where the bytes are confirmed, and then the machine's law holds of the text.
 use Rattle.std.proofs.Common.{◌≡◌, ℕ, ◌≤◌, List, length, nat_lt, Result, Ok, Err, Bool, true, false, cond, refl, sym, subst, arith}
 use Rattle.rd_base.specs.Results.{◌>>=◌}
-use Rattle.text_types.specs.declared.text.DigestName.{DigestName}
-use Rattle.text_types.specs.declared.text.FullText.{FullText}
-use Rattle.text_reader.specs.declared.fault.TextFault.{TextFault}
-use Rattle.text_reader.specs.ReadText.{read_text}
-use Rattle.text_reader.specs.InLimits.{IsInLimits}
-use Rattle.text_reader.specs.Laws.{ReadsExactly}
+use Rattle.transcript_text.specs.declared.text.DigestName.{DigestName}
+use Rattle.transcript_text.specs.declared.text.FullText.{FullText}
+use Rattle.transcript_text.specs.declared.reader.fault.TextFault.{TextFault}
+use Rattle.transcript_text.specs.reader.ReadText.{read_text}
+use Rattle.transcript_text.specs.reader.InLimits.{IsInLimits}
+use Rattle.transcript_text.specs.reader.Laws.{ReadsExactly}
 use Rattle.audit.specs.declared.finding.Audit.{Audit}
 use Rattle.audit.specs.declared.finding.Audit.TheVariants.{Confirmed, Refused}
 use Rattle.audit.specs.LineByLine.{audited}

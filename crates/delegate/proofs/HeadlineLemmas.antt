@@ -15,8 +15,8 @@ use Rattle.deposits.specs.declared.amounts.Balances.{Balances}
 use Rattle.deposits.specs.Theorem.{WhoStaysKeepsStake}
 use Rattle.rv_step.specs.State.{State}
 use Rattle.case_reader.specs.Case.{CaseData}
-use Rattle.text_types.specs.declared.text.DigestName.{DigestName}
-use Rattle.text_types.specs.declared.text.DigestName.TheVariants.{Sha256, Weak8}
+use Rattle.transcript_text.specs.declared.text.DigestName.{DigestName}
+use Rattle.transcript_text.specs.declared.text.DigestName.TheVariants.{Sha256, Weak8}
 use Rattle.transcript_text.specs.Lines.{accept_line, line_of_accepted, line_of_verdict}
 use Rattle.transcript_text.specs.Report.{text_if_there}
 use Rattle.transcript_text.specs.Laws.{NothingIsSaidAgainstTheTruthful}
@@ -25,7 +25,7 @@ use Rattle.case_match.specs.TruthfulInCase.{IsSafeInCase, TruthfulProversOfCases
 use Rattle.command_line.specs.declared.request.MatchText.{MatchText}
 use Rattle.command_line.specs.declared.request.MatchText.TheVariants.{Report, Full}
 use Rattle.delegate.specs.Decided.{digest_of, Written, report, full, summary, written_as, Deciding, match_text, answered_by, head_of, balances_in, before_verdict, answered_for, decided}
-use Rattle.text_types.specs.declared.text.Head.{Head}
+use Rattle.transcript_text.specs.declared.text.Head.{Head}
 use Rattle.delegate.specs.declared.response.Answered.TheVariants.{Done}
 use Rattle.delegate.specs.Headline.{AcceptsTheRun, ShowsCollision, HeadlineOfCases}
 use Rattle.delegate.proofs.SparedLemmas.{no-moves-against}

@@ -5,7 +5,7 @@ use Rattle.tournament.specs.declared.verdict.Verdict.{Verdict}
 use Rattle.tournament.specs.declared.verdict.Verdict.TheVariants.{Accept, NoneLeft, Collision as Collided}
 use Rattle.case_reader.specs.declared.fault.TaskFault.{TaskFault}
 use Rattle.case_reader.specs.declared.fault.TaskFault.TheVariants as faults
-use Rattle.text_types.specs.declared.text.Stated.{Stated}
+use Rattle.transcript_text.specs.declared.text.Stated.{Stated}
 use Rattle.audit.specs.declared.finding.Audit.{Audit}
 use Rattle.audit.specs.declared.finding.Audit.TheVariants.{Confirmed, Refused}
 use Rattle.command_line.specs.declared.request.MatchText.{MatchText}

@@ -20,12 +20,12 @@ use Rattle.rv_text.specs.Assembly.{assembled}
 use Rattle.asm_image.specs.AsmImage.{asm_at}
 use Rattle.asm_image.specs.declared.image.AsmImageFault.{AsmImageFault}
 use Rattle.asm_image.specs.declared.image.AsmImageFault.TheVariants as asm
-use Rattle.text_types.specs.declared.text.DigestName.{DigestName}
-use Rattle.text_types.specs.declared.text.DigestName.TheVariants.{Sha256}
-use Rattle.text_types.specs.declared.text.FullText.{FullText}
-use Rattle.text_types.specs.declared.text.Stated.{Stated}
-use Rattle.text_reader.specs.declared.fault.TextFault.{TextFault}
-use Rattle.text_reader.specs.ReadText.{read_text}
+use Rattle.transcript_text.specs.declared.text.DigestName.{DigestName}
+use Rattle.transcript_text.specs.declared.text.DigestName.TheVariants.{Sha256}
+use Rattle.transcript_text.specs.declared.text.FullText.{FullText}
+use Rattle.transcript_text.specs.declared.text.Stated.{Stated}
+use Rattle.transcript_text.specs.declared.reader.fault.TextFault.{TextFault}
+use Rattle.transcript_text.specs.reader.ReadText.{read_text}
 use Rattle.audit.specs.declared.finding.Audit.{Audit}
 use Rattle.audit.specs.LineByLine.{audited}
 use Rattle.workload.specs.Program.{program}

@@ -13,8 +13,8 @@ use Rattle.bisect_game.specs.Truth.{Truth, IsTrueSettled, IsTrueSoFar, AllTrue}
 use Rattle.tournament.specs.Bracket.{Record}
 use Rattle.tournament.specs.Theorem.{HasTrueClaimSoFar, AllTrueIn, TrueIn}
 use Rattle.tournament.specs.Truthful.{IsSafe}
-use Rattle.text_types.specs.declared.text.TextMove.{TextMove}
-use Rattle.text_types.specs.MoveLists.{qid_of, move_if, moves_of_claims, moves_of_round, moves_of_past, moves_of_dispute, moves_of_disputes, moves_of}
+use Rattle.transcript_text.specs.declared.text.TextMove.{TextMove}
+use Rattle.transcript_text.specs.MoveLists.{qid_of, move_if, moves_of_claims, moves_of_round, moves_of_past, moves_of_dispute, moves_of_disputes, moves_of}
 use Rattle.delegate.specs.Headline.{is_settled_against, are_moves_against}
 
 is-equal : (m n : ℕ) → (m == n) ≡ true → m ≡ n

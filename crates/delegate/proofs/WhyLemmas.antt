@@ -18,10 +18,10 @@ use Rattle.asm_image.specs.declared.image.AsmImageFault.{AsmImageFault}
 use Rattle.asm_image.specs.declared.image.AsmImageFault.TheVariants as asm
 use Rattle.tournament.specs.declared.verdict.Verdict.{Verdict}
 use Rattle.tournament.specs.declared.verdict.Verdict.TheVariants.{Accept, NoneLeft, Collision}
-use Rattle.text_types.specs.declared.text.Stated.{Stated}
-use Rattle.text_reader.specs.declared.fault.TextFault.{TextFault}
-use Rattle.text_reader.specs.declared.fault.TextFault.TheVariants as texts
-use Rattle.text_reader.specs.ReadText.{read_text}
+use Rattle.transcript_text.specs.declared.text.Stated.{Stated}
+use Rattle.transcript_text.specs.declared.reader.fault.TextFault.{TextFault}
+use Rattle.transcript_text.specs.declared.reader.fault.TextFault.TheVariants as texts
+use Rattle.transcript_text.specs.reader.ReadText.{read_text}
 use Rattle.audit.specs.declared.finding.Audit.{Audit}
 use Rattle.audit.specs.declared.finding.Audit.TheVariants.{Confirmed, Refused}
 use Rattle.command_line.specs.Words.{chosen}

@@ -1,10 +1,10 @@
 -- To believe. What it is worth that `audit` confirms a text.
 use Rattle.std.specs.Prelude.{◌≡◌, ℕ, ◌<◌, ◌≤◌, List, ◌++◌, codes, Some, Ok}
 use Rattle.rv_step.specs.State.{State}
-use Rattle.text_types.specs.declared.text.FullText.{FullText}
+use Rattle.transcript_text.specs.declared.text.FullText.{FullText}
 use Rattle.transcript_text.specs.Lines.{line_of_stated}
 use Rattle.transcript_text.specs.Report.{line_text}
-use Rattle.text_reader.specs.ReadText.{read_text}
+use Rattle.transcript_text.specs.reader.ReadText.{read_text}
 use Rattle.machine_audit.specs.MachineAudit.{IsStatedStart, AreTrueOfRun, IsAnswerOrCollision}
 use Rattle.command_line.specs.Words.{chosen}
 use Rattle.command_line.specs.declared.request.Command.TheVariants.{Audit}

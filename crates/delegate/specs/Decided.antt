@@ -11,9 +11,9 @@ use Rattle.deposits.specs.declared.amounts.Balances.{Balances}
 use Rattle.deposits.specs.Balances.{balances_of}
 use Rattle.case_reader.specs.Case.{CaseData}
 use Rattle.case_reader.specs.Tasks.{TasksData, One}
-use Rattle.text_types.specs.declared.text.Head.{Head}
-use Rattle.text_types.specs.declared.text.DigestName.{DigestName}
-use Rattle.text_types.specs.MoveLists.{moves_of}
+use Rattle.transcript_text.specs.declared.text.Head.{Head}
+use Rattle.transcript_text.specs.declared.text.DigestName.{DigestName}
+use Rattle.transcript_text.specs.MoveLists.{moves_of}
 use Rattle.transcript_text.specs.Lines.{lines_of_record, lines_of_balances}
 use Rattle.transcript_text.specs.Report.{report_text, head_line, lines_text}
 use Rattle.transcript_text.specs.FullLines.{full_text, refereed_text, moves_text}
@@ -28,7 +28,7 @@ use Rattle.delegate.specs.declared.response.Answered.{Answered}
 use Rattle.delegate.specs.declared.response.Answered.TheVariants as answered
 use Rattle.sha2.specs.Sha256.{sha256}
 use Rattle.digest_core.specs.Weak8.{weak8}
-use Rattle.text_types.specs.declared.text.DigestName.TheVariants.{Sha256, Weak8}
+use Rattle.transcript_text.specs.declared.text.DigestName.TheVariants.{Sha256, Weak8}
 use Rattle.delegate.specs.Answered.{graver}
 
 -- the digest functions, each by its name. Everything that is said of a match speaks of the function of a name.

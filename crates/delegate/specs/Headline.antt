@@ -9,8 +9,8 @@ use Rattle.tournament.specs.declared.verdict.Verdict.TheVariants.{Collision}
 use Rattle.tournament.specs.Bracket.{live}
 use Rattle.tournament.specs.Theorem.{AreTrue, Stays, IsCollisionIn}
 use Rattle.deposits.specs.Balances.{balance}
-use Rattle.text_types.specs.declared.text.DigestName.{DigestName}
-use Rattle.text_types.specs.MoveLists.{moves_of}
+use Rattle.transcript_text.specs.declared.text.DigestName.{DigestName}
+use Rattle.transcript_text.specs.MoveLists.{moves_of}
 use Rattle.transcript_text.specs.Lines.{accept_line, collision_line, lines_of_record, are_against}
 use Rattle.transcript_text.specs.Report.{line_text}
 use Rattle.command_line.specs.Words.{chosen}
@@ -24,7 +24,7 @@ use Rattle.delegate.specs.declared.response.Response.{Response}
 use Rattle.delegate.specs.declared.response.Answered.TheVariants.{Done}
 use Rattle.bisect_game.specs.declared.settled.Settled.{Settled}
 use Rattle.bisect_game.specs.declared.settled.Settled.TheVariants.{Given, Faulty, Spent}
-use Rattle.text_types.specs.declared.text.TextMove.{TextMove}
+use Rattle.transcript_text.specs.declared.text.TextMove.{TextMove}
 
 -- WHICH LINES OF A FULL TEXT speak against a prover
 

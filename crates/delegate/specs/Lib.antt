@@ -13,7 +13,7 @@ pub use Rattle.deposits.specs.Balances
 pub use Rattle.transcript_text.specs.Report
 pub use Rattle.transcript_text.specs.Roots
 pub use Rattle.transcript_text.specs.FullLines
-pub use Rattle.text_reader.specs.ReadText
+pub use Rattle.transcript_text.specs.reader.ReadText
 pub use Rattle.audit.specs.LineByLine
 pub use Rattle.machine_audit.specs.MachineAudit
 pub use Rattle.case_match.specs.Match

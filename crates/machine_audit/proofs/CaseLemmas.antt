@@ -8,9 +8,9 @@ use Rattle.state_commit.specs.StateRoot.{root_in}
 use Rattle.step_referee.specs.MachineRuling.{machine_ruling}
 use Rattle.step_referee.specs.MachineTruth.{machine_truth}
 use Rattle.step_referee.specs.MachineFair.{machine_ruling_is_fair}
-use Rattle.text_types.specs.declared.text.Stated.{Stated}
-use Rattle.text_types.specs.declared.text.Stated.TheVariants.{Accept, NoneLeft, Collision}
-use Rattle.text_types.specs.declared.text.FullText.{FullText}
+use Rattle.transcript_text.specs.declared.text.Stated.{Stated}
+use Rattle.transcript_text.specs.declared.text.Stated.TheVariants.{Accept, NoneLeft, Collision}
+use Rattle.transcript_text.specs.declared.text.FullText.{FullText}
 use Rattle.audit.specs.Auditable.{IsAuditable, ReadTextsMayBeAudited}
 use Rattle.audit.specs.LineByLine.{rules_of_head}
 use Rattle.audit.specs.TrueLines.{IsRightStated, ConfirmedTextIsRight}

@@ -26,7 +26,7 @@ use Rattle.open_proof.specs.declared.facts.HeldInput.{HeldInput}
 use Rattle.open_proof.specs.declared.facts.HeldRegisters.{HeldRegisters}
 use Rattle.open_proof.specs.declared.facts.HeldRegisters.TheVariants.{Whole, Opened}
 use Rattle.proof_wire.specs.Wire.{digest, registers, claim, optional, opening, register_opening, input_opening, proof_form}
-use Rattle.text_reader.specs.InLimits.{IsString}
+use Rattle.transcript_text.specs.reader.InLimits.{IsString}
 use Rattle.machine_audit.proofs.StringLemmas.{IsBlock, block-zeros, leaf-string, node-string, registers-string, control-string, state-string, link-string, register-string, storage-string, AreStrings, strings-both}
 
 -- THE PARTS OF A PROOF with a wire form, in each version

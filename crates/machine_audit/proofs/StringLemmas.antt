@@ -6,7 +6,7 @@ use Rattle.byteorder.specs.Endian.{little_bytes}
 use Rattle.rd_base.specs.declared.status.Status.{Status}
 use Rattle.rd_base.specs.declared.status.Status.TheVariants.{Running, Exited, Trapped}
 use Rattle.digest_core.specs.Text.{leaf_text, node_text, registers_text, status_byte, status_code, control_text, state_text, link_text, register_text, storage_text}
-use Rattle.text_reader.specs.InLimits.{IsString}
+use Rattle.transcript_text.specs.reader.InLimits.{IsString}
 
 -- so many bytes
 abbrev pub IsBlock : ℕ → List ℕ → Type 0

@@ -17,11 +17,11 @@ use Rattle.tournament.specs.Posting.{record_after}
 use Rattle.step_referee.specs.MachineRuling.{machine_ruling}
 use Rattle.step_referee.specs.MachineFair.{machine_ruling_is_fair}
 use Rattle.proof_wire.specs.Wire.{claim, proof_form}
-use Rattle.text_types.specs.declared.text.TextMove.{TextMove}
-use Rattle.text_types.specs.MoveLists.{qid_of, move_if, moves_of_claims, moves_of_past, moves_of_round, moves_of_dispute, moves_of_disputes, moves_of}
+use Rattle.transcript_text.specs.declared.text.TextMove.{TextMove}
+use Rattle.transcript_text.specs.MoveLists.{qid_of, move_if, moves_of_claims, moves_of_past, moves_of_round, moves_of_dispute, moves_of_disputes, moves_of}
 use Rattle.transcript_text.specs.FullLines.{IsWritten, AreWritten}
-use Rattle.text_reader.specs.InLimits.{IsString}
-use Rattle.text_reader.specs.Laws.{HasStrings}
+use Rattle.transcript_text.specs.reader.InLimits.{IsString}
+use Rattle.transcript_text.specs.reader.Laws.{HasStrings}
 use Rattle.audit.specs.LineByLine.{rules_of_head}
 use Rattle.audit.specs.OwnMatch.{WrittenCasesAreConfirmed}
 use Rattle.machine_audit.specs.WrittenCases.{CollisionsOfPostsHaveStrings, CollisionsOfCasesHaveStrings, MachineCasesAreConfirmed}

@@ -7,11 +7,11 @@ use Rattle.state_commit.specs.StateRoot.{root_in}
 use Rattle.step_referee.specs.MachineRuling.{machine_ruling}
 use Rattle.step_referee.specs.MachineTruth.{machine_truth}
 use Rattle.tournament.specs.declared.verdict.Verdict.{Verdict}
-use Rattle.text_types.specs.declared.text.Head.{Head}
-use Rattle.text_types.specs.declared.text.Stated.{Stated}
-use Rattle.text_types.specs.declared.text.Stated.TheVariants.{Accept, NoneLeft, Collision}
-use Rattle.text_types.specs.declared.text.FullText.{FullText}
-use Rattle.text_reader.specs.ReadText.{read_text}
+use Rattle.transcript_text.specs.declared.text.Head.{Head}
+use Rattle.transcript_text.specs.declared.text.Stated.{Stated}
+use Rattle.transcript_text.specs.declared.text.Stated.TheVariants.{Accept, NoneLeft, Collision}
+use Rattle.transcript_text.specs.declared.text.FullText.{FullText}
+use Rattle.transcript_text.specs.reader.ReadText.{read_text}
 use Rattle.audit.specs.declared.finding.Audit.TheVariants.{Confirmed}
 use Rattle.audit.specs.LineByLine.{rules_of_head, audited}
 use Rattle.audit.specs.TrueLines.{AreTrueLines, IsCollisionIn}

@@ -7,11 +7,11 @@ use Rattle.tournament.specs.Bracket.{Record, verdict_of, bracket}
 use Rattle.tournament.specs.Journals.{answers_of}
 use Rattle.tournament.specs.Posting.{Post, record_after}
 use Rattle.step_referee.specs.MachineRuling.{machine_ruling}
-use Rattle.text_types.specs.declared.text.Head.{Head}
-use Rattle.text_types.specs.MoveLists.{moves_of}
+use Rattle.transcript_text.specs.declared.text.Head.{Head}
+use Rattle.transcript_text.specs.MoveLists.{moves_of}
 use Rattle.transcript_text.specs.FullLines.{AreWritten}
-use Rattle.text_reader.specs.InLimits.{IsHeadInLimits}
-use Rattle.text_reader.specs.Laws.{HasStrings}
+use Rattle.transcript_text.specs.reader.InLimits.{IsHeadInLimits}
+use Rattle.transcript_text.specs.reader.Laws.{HasStrings}
 use Rattle.audit.specs.LineByLine.{rules_of_head}
 use Rattle.audit.specs.OwnMatch.{IsReadAndConfirmed}
 

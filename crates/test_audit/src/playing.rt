@@ -6,10 +6,9 @@ use bisect_game::Answerer;
 use rd_base::Memory;
 use std::alloc::Global;
 use std::thread::Threads;
-use text_types::{DigestName, Head};
+use transcript_text::{DigestName, Head, full};
 use tournament::{Match, Move};
 use toy_game::{Player, Seated, ToyJudge, root};
-use transcript_text::full;
 
 /// How many steps a run has.
 const BOUND: u64 = 8;

@@ -3,7 +3,7 @@
 use audit::{Audit, Cause, a_read_text_may_be_audited, audit};
 use rd_base::Memory;
 use std::alloc::Global;
-use text_reader::{TextFault, read_full};
+use transcript_text::{TextFault, read_full};
 use tournament::Verdict;
 use toy_game::ToyJudge;
 

@@ -5,7 +5,7 @@ use rd_base::Memory;
 use std::alloc::Global;
 use std::process::Abort;
 use std::test::Fail;
-use text_reader::TextFault;
+use transcript_text::TextFault;
 
 /// The numbers of a head.
 const NUMBERS: &str = "refereed provers 2 bound 8 patience 0 version 1 fan 2 digest sha256 ";

@@ -2,7 +2,7 @@
 
 use rd_base::Memory;
 use std::alloc::Global;
-use text_reader::{TextFault, read_full};
+use transcript_text::{TextFault, read_full};
 
 /// What is read of a text: how many moves, or the fault.
 #[derive(Clone, Copy, Debug, PartialEq, Eq)]

@@ -3,7 +3,7 @@ ghost use Rattle.std.specs.Prelude.{◌<◌, ◌≤◌, length};
 use io_edge::{Source, read_all};
 use rd_base::Memory;
 use std::alloc::{AllocError, Global};
-use text_reader::{TextFault, read_full};
+use transcript_text::{TextFault, read_full};
 
 /// The most bytes of the text.
 const MOST: usize = 1_048_576;

@@ -1,3 +1,5 @@
+pub mod VerdictLemmas
 pub mod LineLemmas
 pub mod AgainstLemmas
 pub mod MoveLemmas
+pub mod read_back

@@ -4,11 +4,11 @@ use Rattle.std.specs.Prelude.{codes}
 use Rattle.tournament.specs.declared.verdict.Verdict.{Verdict}
 use Rattle.tournament.specs.Bracket.{Record}
 use Rattle.bisect_game.specs.Bisection.{Bisection}
-use Rattle.text_types.specs.declared.text.Head.{Head}
-use Rattle.text_types.specs.declared.text.TextMove.{TextMove}
-use Rattle.text_types.specs.declared.text.Stated.{Stated}
-use Rattle.text_types.specs.MoveLists.{moves_of, moves_of_dispute, moves_of_disputes}
-use Rattle.text_types.specs.StatedVerdict.{stated_of}
+use Rattle.transcript_text.specs.declared.text.Head.{Head}
+use Rattle.transcript_text.specs.declared.text.TextMove.{TextMove}
+use Rattle.transcript_text.specs.declared.text.Stated.{Stated}
+use Rattle.transcript_text.specs.MoveLists.{moves_of, moves_of_dispute, moves_of_disputes}
+use Rattle.transcript_text.specs.StatedVerdict.{stated_of}
 use Rattle.transcript_text.specs.Lines.{line_if_stated}
 use Rattle.transcript_text.specs.Report.{text_if_there}
 use Rattle.transcript_text.specs.FullLines.{refereed_text, move_text, moves_text, full_text, text_of, AreWritten}

@@ -8,10 +8,10 @@ use Rattle.bisect_game.specs.declared.settled.Settled.TheVariants.{Given, Faulty
 use Rattle.proof_wire.specs.Wire.{wire_form}
 use Rattle.tournament.specs.declared.verdict.Verdict.{Verdict}
 use Rattle.tournament.specs.Bracket.{Record}
-use Rattle.text_types.specs.declared.text.Head.{Head}
-use Rattle.text_types.specs.declared.text.TextMove.{TextMove}
-use Rattle.text_types.specs.declared.text.FullText.{FullText}
-use Rattle.text_types.specs.MoveLists.{moves_of}
+use Rattle.transcript_text.specs.declared.text.Head.{Head}
+use Rattle.transcript_text.specs.declared.text.TextMove.{TextMove}
+use Rattle.transcript_text.specs.declared.text.FullText.{FullText}
+use Rattle.transcript_text.specs.MoveLists.{moves_of}
 use Rattle.transcript_text.specs.Lines.{line_of_verdict, line_of_stated}
 use Rattle.transcript_text.specs.Report.{numbers_text, line_text, text_if_there}
 

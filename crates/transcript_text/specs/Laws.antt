@@ -5,11 +5,11 @@ use Rattle.bisect_game.specs.Truth.{Truth}
 use Rattle.tournament.specs.Bracket.{Record}
 use Rattle.tournament.specs.Truthful.{IsSafe}
 use Rattle.tournament.specs.declared.verdict.Verdict.{Verdict}
-use Rattle.text_types.specs.declared.text.Head.{Head}
-use Rattle.text_types.specs.declared.text.Stated.{Stated}
-use Rattle.text_types.specs.declared.text.FullText.{FullText}
-use Rattle.text_types.specs.MoveLists.{moves_of}
-use Rattle.text_types.specs.StatedVerdict.{stated_of}
+use Rattle.transcript_text.specs.declared.text.Head.{Head}
+use Rattle.transcript_text.specs.declared.text.Stated.{Stated}
+use Rattle.transcript_text.specs.declared.text.FullText.{FullText}
+use Rattle.transcript_text.specs.MoveLists.{moves_of}
+use Rattle.transcript_text.specs.StatedVerdict.{stated_of}
 use Rattle.transcript_text.specs.Lines.{lines_of_record, are_against}
 use Rattle.transcript_text.specs.FullLines.{full_text, text_of}
 

@@ -1,6 +1,11 @@
 pub use Rattle.rd_base.specs.Status
 pub use Rattle.hex.specs.Hex
 pub use Rattle.proof_wire.specs.Wire
+pub use Rattle.proof_wire.specs.Reading
+pub mod Digest
+pub mod Limits
+pub mod MoveLists
+pub mod StatedVerdict
 pub mod Words
 pub mod Lines
 pub mod Laws
@@ -8,3 +13,4 @@ pub mod Report
 pub mod FullLines
 pub mod Summary
 pub mod Roots
+pub mod reader

@@ -15,9 +15,9 @@ use Rattle.bisect_game.specs.Truth.{is_put_out}
 use Rattle.tournament.specs.declared.verdict.Verdict.{Verdict}
 use Rattle.tournament.specs.Bracket.{Record}
 use Rattle.deposits.specs.declared.amounts.Balances.{Balances}
-use Rattle.text_types.specs.declared.text.Stated.{Stated}
-use Rattle.text_types.specs.declared.text.Stated.TheVariants.{Accept, NoneLeft, Collision}
-use Rattle.text_types.specs.StatedVerdict.{given_claim, stated_claim, stated_of}
+use Rattle.transcript_text.specs.declared.text.Stated.{Stated}
+use Rattle.transcript_text.specs.declared.text.Stated.TheVariants.{Accept, NoneLeft, Collision}
+use Rattle.transcript_text.specs.StatedVerdict.{given_claim, stated_claim, stated_of}
 use Rattle.transcript_text.specs.declared.word.Word.{Word}
 use Rattle.transcript_text.specs.declared.word.Word.TheVariants as word
 use Rattle.transcript_text.specs.Words.{said_word, said_word_of_proof, speaks_against}

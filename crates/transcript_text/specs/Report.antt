@@ -8,8 +8,8 @@ use Rattle.tournament.specs.declared.verdict.Verdict.{Verdict}
 use Rattle.tournament.specs.Bracket.{Record}
 use Rattle.transcript_text.specs.Words.{word_text}
 use Rattle.transcript_text.specs.Lines.{Said, Parted, Line, claim_line, out_line, stage_line, dispute_line, compared_line, round_line, kept_line, parts_line, step_line, balance_line, pool_line, accept_line, none_left_line, collision_line, lines_of_record, lines_of_balances, line_of_verdict}
-use Rattle.text_types.specs.Digest.{digest_text}
-use Rattle.text_types.specs.declared.text.Head.{Head}
+use Rattle.transcript_text.specs.Digest.{digest_text}
+use Rattle.transcript_text.specs.declared.text.Head.{Head}
 
 -- a space and the bytes, if there are any
 abbrev pub output_text : List ℕ → List ℕ

@@ -1,4 +1,5 @@
 //! Laws of the texts, each the contract of a function that does nothing.
+ghost use Rattle.transcript_text.specs.StatedVerdict.{VerdictsAreStated};
 ghost use Rattle.transcript_text.specs.Laws.{NothingIsSaidAgainstTheTruthful, FullTextIsThatOfItsParts};
 
 /// Of a prover whose settled answers are given and true and that isn't put out, as the dispute theorem says of each
@@ -10,4 +11,9 @@ pub fn nothing_is_said_against_the_truthful()
 /// The full text of a record is that of its head, its moves and what is stated of the verdict.
 pub fn a_full_text_is_that_of_its_parts()
     ensures { FullTextIsThatOfItsParts }
+{}
+
+/// Each verdict of a record is stated: an accepted claim is one that was given.
+pub fn a_verdict_is_stated()
+    ensures { VerdictsAreStated }
 {}

@@ -1,30 +1,44 @@
-//! The texts that a match leaves.
+//! The texts that a match leaves: how they are written, and how a full text is read.
 //!
 //! The layers above may rely on this: the report is the text `report_text` of the match's head, record and verdict, and of its
 //! balances in a match with deposits. Its lines are listed by `lines_of_record`, `lines_of_balances` and `line_of_verdict`, so
 //! that what a report says of a prover can be read off them.
-//! The full text is `full_text`, with one line for each of `moves_of` the record, and the same line of the verdict. The line
-//! of a run is `answer_line_text`, that of a large workload `summary_text`, that of a root `root_line`. Read
-//! `specs/Lines.antt`, `specs/Report.antt` and `specs/FullLines.antt` first, then `reporting` and `refereed`.
+//! The full text is `full_text`, with one line for each of `moves_of` the record, and the same line of the verdict. `read_full`
+//! gives what `read_text` gives of the bytes, the first fault of its lines included: bytes are read as a text if and only if it is
+//! within the limits and they are its bytes, and the full text of each match is read back (`reader`). The line
+//! of a run is `answer_line_text`, that of a large workload `summary_text`, that of a root `root_line`. The names of digests are a
+//! table (`DigestName::ALL`), the limits of a head's numbers are data (`limits`). Read `text`, `specs/Lines.antt`,
+//! `specs/Report.antt` and `specs/FullLines.antt` first, then `reporting` and `refereed`; for the reader
+//! `specs/reader/ReadText.antt`, then `reader/reading`.
 #![tactic(auto)]
 
 mod answer;
 mod claims;
 mod disputes;
 mod laws;
+pub mod limits;
 mod moves;
+mod reader;
 mod refereed;
 mod reporting;
 mod roots;
 mod summing;
+mod text;
 mod word;
 
 pub use answer::answer_line;
 pub use claims::claim_lines;
-pub use laws::{a_full_text_is_that_of_its_parts, nothing_is_said_against_the_truthful};
+pub use laws::{
+    a_full_text_is_that_of_its_parts, a_verdict_is_stated, nothing_is_said_against_the_truthful,
+};
+pub use limits::Limit;
+pub use reader::{
+    TextFault, a_full_text_is_read_back, no_fault_of_a_text_is_out_of_memory, read_full,
+    reading_is_the_inverse_of_writing,
+};
 pub use refereed::full;
 pub use reporting::{head_line, report, verdict_line};
 pub use roots::{add_root_line, root_line};
 pub use summing::summary;
-pub use text_types::{DigestName, Head};
+pub use text::{DigestName, FullText, Head, Stated, TextMove, settled_at};
 pub use word::Word;

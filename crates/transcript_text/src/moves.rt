@@ -1,7 +1,7 @@
 //! The lines of the moves.
 ghost use Rattle.std.specs.Prelude.{◌≡◌, ◌++◌, string_bytes, OnOk};
 ghost use Rattle.std.specs.Option.{option_copied};
-ghost use Rattle.text_types.specs.MoveLists.{qid_of, move_if, moves_of_claims, moves_of_round, moves_of_dispute, moves_of_past, moves_of_disputes, moves_of};
+ghost use Rattle.transcript_text.specs.MoveLists.{qid_of, move_if, moves_of_claims, moves_of_round, moves_of_dispute, moves_of_past, moves_of_disputes, moves_of};
 ghost use Rattle.proof_wire.specs.Wire.{wire_form};
 ghost use Rattle.transcript_text.specs.FullLines.{wire_text, settled_text, asked_text, moves_text, IsWritten, AreWritten};
 

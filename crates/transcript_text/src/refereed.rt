@@ -1,14 +1,14 @@
 //! The full text of a match.
 ghost use Rattle.std.specs.Prelude.{◌≡◌, ◌++◌, string_bytes, codes, IfOk, OnOk};
-ghost use Rattle.text_types.specs.MoveLists.{moves_of};
+ghost use Rattle.transcript_text.specs.MoveLists.{moves_of};
 ghost use Rattle.transcript_text.specs.FullLines.{start_text, refereed_text, full_text, AreWritten};
 
 use crate::moves::add_moves;
 use crate::reporting::{add_numbers, add_verdict};
+use crate::text::Head;
 use rd_base::Memory;
 use std::alloc::{AllocError, Global};
 use std::fmt::Write;
-use text_types::Head;
 use tournament::{Record, Verdict};
 
 /// Adds the root of the start state.

@@ -1,17 +1,17 @@
 ghost use Rattle.std.specs.Prelude.{◌≡◌, ◌++◌, string_bytes, IfOk, OnOk, Some, option_copied};
-ghost use Rattle.text_types.specs.StatedVerdict.{settled_at};
+ghost use Rattle.transcript_text.specs.StatedVerdict.{settled_at};
 ghost use Rattle.transcript_text.specs.Lines.{line_of_accepted, line_of_verdict, collision_line, lines_of_record, balance_line, pool_line, lines_of_provers, lines_of_balances};
 ghost use Rattle.transcript_text.specs.Report.{played_text, patience_text, committed_text, numbers_text, head_line, line_text, text_if_there, lines_text, report_text};
 
 use crate::answer::add_answer;
 use crate::claims::add_claims;
 use crate::disputes::add_disputes;
+use crate::text::{Head, settled_at};
 use bisect_game::Settled;
 use deposits::Balances;
 use rd_base::{Answer, Memory};
 use std::alloc::{AllocError, Global};
 use std::fmt::Write;
-use text_types::{Head, settled_at};
 use tournament::{Record, Verdict};
 
 #[tactic(auto, unfolding(crate::specs::Report::played_text))]

@@ -3,13 +3,13 @@ use Rattle.std.specs.Prelude.{ℕ, List, [], ◌++◌, codes, decimal, Result, O
 use Rattle.rd_base.specs.Results.{◌>>=◌}
 use Rattle.bisect_game.specs.Ruling.{Ruling}
 use Rattle.step_referee.specs.MachineRuling.{machine_ruling}
-use Rattle.text_types.specs.declared.text.FullText.{FullText}
-use Rattle.text_types.specs.declared.text.Stated.{Stated}
+use Rattle.transcript_text.specs.declared.text.FullText.{FullText}
+use Rattle.transcript_text.specs.declared.text.Stated.{Stated}
 use Rattle.transcript_text.specs.Lines.{line_of_stated}
 use Rattle.transcript_text.specs.Report.{line_text}
-use Rattle.text_reader.specs.declared.fault.TextFault.{TextFault}
-use Rattle.text_reader.specs.declared.fault.TextFault.TheVariants.{BadHead, BadLine, Truncated, OutOfRange, Memory}
-use Rattle.text_reader.specs.ReadText.{read_text}
+use Rattle.transcript_text.specs.declared.reader.fault.TextFault.{TextFault}
+use Rattle.transcript_text.specs.declared.reader.fault.TextFault.TheVariants.{BadHead, BadLine, Truncated, OutOfRange, Memory}
+use Rattle.transcript_text.specs.reader.ReadText.{read_text}
 use Rattle.audit.specs.declared.finding.Cause.{Cause}
 use Rattle.audit.specs.declared.finding.Cause.TheVariants.{NotAsked, OtherReply, OtherVerdict, MovesMissing, MovesAfterEnd}
 use Rattle.audit.specs.declared.finding.Audit.{Audit}

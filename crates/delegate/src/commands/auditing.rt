@@ -2,7 +2,7 @@
 ghost use Rattle.std.specs.Prelude.{◌≡◌, ◌≤◌, ◌++◌, Ok, codes, string_bytes, IfOk, OnOk};
 ghost use Rattle.transcript_text.specs.Lines.{accept_line, line_of_stated};
 ghost use Rattle.transcript_text.specs.Report.{output_text, line_text};
-ghost use Rattle.text_reader.specs.ReadText.{read_text};
+ghost use Rattle.transcript_text.specs.reader.ReadText.{read_text};
 ghost use Rattle.audit.specs.LineByLine.{audited};
 ghost use Rattle.delegate.specs.commands.Audit.{text_refusal, full_text_in, cause_number, found, judge_of, checked};
 ghost use Rattle.delegate.specs.Standing.{Stands};
@@ -14,8 +14,7 @@ use rd_base::{Memory, Status};
 use std::alloc::{AllocError, Global};
 use std::fmt::Write;
 use step_referee::MachineJudge;
-use text_reader::{TextFault, read_full, reading_is_the_inverse_of_writing};
-use text_types::{DigestName, FullText, Stated};
+use transcript_text::{DigestName, FullText, Stated, TextFault, read_full, reading_is_the_inverse_of_writing};
 
 /// The response to a fault of a text. The text is empty if memory ran out.
 fn text_refusal(alloc: Global, fault: TextFault) -> Result<Response, AllocError>

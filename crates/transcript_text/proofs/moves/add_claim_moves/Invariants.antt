@@ -1,5 +1,5 @@
 use Rattle.std.proofs.Common.{◌≡◌, ◌++◌, ◌+◌, drop, string_bytes}
-use Rattle.text_types.specs.MoveLists.{moves_of_claims}
+use Rattle.transcript_text.specs.MoveLists.{moves_of_claims}
 use Rattle.transcript_text.specs.FullLines.{moves_text, AreWritten}
 use Rattle.transcript_text.proofs.moves.add_claim_moves.Given as goal
 

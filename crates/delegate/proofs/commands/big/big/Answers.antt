@@ -1,6 +1,6 @@
 use Rattle.rv_step.specs.State.{state_of}
 use Rattle.case_reader.specs.Case.{data_of}
-use Rattle.text_types.specs.declared.text.DigestName.TheVariants.{Sha256}
+use Rattle.transcript_text.specs.declared.text.DigestName.TheVariants.{Sha256}
 use Rattle.delegate.proofs.CaseLemmas.{summary-in-range, big-stands}
 use Rattle.delegate.proofs.commands.big.big.Goals as goal
 

@@ -1,7 +1,0 @@
-use Rattle.text_reader.specs.ReadText.{read_text}
-use Rattle.text_reader.proofs.ReadLemmas.{text_at}
-use Rattle.text_reader.proofs.reading.read_full.Goals as goal
-
-pub returns-in-Some : goal.returns-in-Some
-unfolding read_text
-returns-in-Some c = rw (text_at c.args.bytes.now c.in-Some.line.now c.in-Some.behind.now c.in-Some.ensures.is) c.read_lines.ensures

@@ -1,4 +1,0 @@
-pub mod Digest
-pub mod Limits
-pub mod MoveLists
-pub mod StatedVerdict

@@ -1,0 +1,123 @@
+-- To believe. The forms of a full text's lines: the head, a move, the verdict.
+use Rattle.std.specs.Prelude.{ℕ, nat_lt, List, [], ◌∷◌, length, Option, Some, None, Result, Ok, Err, codes, bytes_eq, if◌then◌else◌}
+use Rattle.std.specs.Option.{ok_or}
+use Rattle.rd_base.specs.declared.status.Status.{Status}
+use Rattle.rd_base.specs.declared.status.Status.TheVariants.{Running, Exited, Trapped}
+use Rattle.rd_base.specs.Results.{◌>>=◌}
+use Rattle.bisect_game.specs.declared.settled.Settled.{Settled}
+use Rattle.bisect_game.specs.declared.settled.Settled.TheVariants.{Given, Faulty, Spent}
+use Rattle.transcript_text.specs.declared.reader.fault.LineFault.{LineFault}
+use Rattle.transcript_text.specs.declared.reader.fault.LineFault.TheVariants.{NoForm}
+use Rattle.transcript_text.specs.declared.text.TextMove.{TextMove}
+use Rattle.transcript_text.specs.declared.text.Stated.{Stated}
+use Rattle.transcript_text.specs.declared.text.Stated.TheVariants as stated
+use Rattle.transcript_text.specs.declared.reader.entry.Entry.{Entry}
+use Rattle.transcript_text.specs.declared.reader.entry.Entry.TheVariants.{Move, Verdict}
+use Rattle.transcript_text.specs.declared.reader.entry.HeadNumbers.{HeadNumbers}
+use Rattle.transcript_text.specs.reader.TextLines.{cut_at}
+use Rattle.transcript_text.specs.reader.Fields.{Read, after, skip, small_number_at, number_after, some_hex_of, digest_of, answer_of, name_at}
+
+-- THE HEAD: `refereed provers M bound N patience P version V fan F digest NAME start HEX`
+unfoldable pub head_in : List ℕ → Result HeadNumbers LineFault
+head_in line = do
+  provers ← number_after (codes "refereed provers ") line
+  bound ← number_after (codes " bound ") provers.1
+  patience ← number_after (codes " patience ") bound.1
+  version ← number_after (codes " version ") patience.1
+  fan ← number_after (codes " fan ") version.1
+  digits ← skip (codes " digest ") fan.1
+  name ← name_at digits
+  root ← skip (codes " start ") name.1
+  start ← digest_of root
+  Ok (record { provers = provers.0; bound = bound.0; patience = patience.0; version = version.0; fan = fan.0; digest = name.0; start = start })
+
+-- A MOVE: `move D R pI given HEX`, `move D R pI faulty HEX` or `move D R pI spent`
+
+abbrev pub faulty_or_spent : List ℕ → Option (List ℕ) → Result Settled LineFault
+faulty_or_spent bytes (Some digits) = answer_of digits >>= (λ a. Ok (Faulty a))
+faulty_or_spent bytes None = if bytes_eq bytes (codes "spent") then Ok Spent else Err NoForm
+
+abbrev pub given_or_not : List ℕ → Option (List ℕ) → Result Settled LineFault
+given_or_not bytes (Some digits) = answer_of digits >>= (λ a. Ok (Given a))
+given_or_not bytes None = faulty_or_spent bytes (after (codes "faulty ") bytes)
+
+unfoldable pub settled_in : List ℕ → Result Settled LineFault
+settled_in bytes = given_or_not bytes (after (codes "given ") bytes)
+
+-- behind `move `
+unfoldable pub move_in : List ℕ → Result TextMove LineFault
+move_in bytes = do
+  dispute ← small_number_at bytes
+  behind ← skip (codes " ") dispute.1
+  round ← small_number_at behind
+  name ← skip (codes " p") round.1
+  prover ← small_number_at name
+  rest ← skip (codes " ") prover.1
+  s ← settled_in rest
+  Ok (record { qid = record { dispute = dispute.0; round = round.0 }; prover = prover.0; settled = s })
+
+-- THE VERDICT: `accept STATE output`, with a space and bytes if there are any, `none left` or `collision HEX HEX`
+
+abbrev pub coded : (ℕ → Status) → ℕ × List ℕ → Result (Status × List ℕ) LineFault
+coded status code = Ok (status code.0, code.1)
+
+abbrev pub trapped_or_not : Option (List ℕ) → Read Status
+trapped_or_not (Some code) = small_number_at code >>= coded Trapped
+trapped_or_not None = Err NoForm
+
+abbrev pub exited_or_not : List ℕ → Option (List ℕ) → Read Status
+exited_or_not bytes (Some code) = small_number_at code >>= coded Exited
+exited_or_not bytes None = trapped_or_not (after (codes "trapped ") bytes)
+
+abbrev pub running_or_not : List ℕ → Option (List ℕ) → Read Status
+running_or_not bytes (Some rest) = Ok (Running, rest)
+running_or_not bytes None = exited_or_not bytes (after (codes "exited ") bytes)
+
+unfoldable pub status_at : List ℕ → Read Status
+status_at bytes = running_or_not bytes (after (codes "running") bytes)
+
+unfoldable pub output_in : List ℕ → Result (List ℕ) LineFault
+output_in [] = Ok []
+output_in (b ∷ bytes) = skip (codes " ") (b ∷ bytes) >>= some_hex_of
+
+-- behind `accept `
+unfoldable pub accepted_in : List ℕ → Result Stated LineFault
+accepted_in bytes = do
+  status ← status_at bytes
+  rest ← skip (codes " output") status.1
+  output ← output_in rest
+  Ok (stated.Accept status.0 output)
+
+-- a string that is digested: at most 129 bytes, and not none
+unfoldable pub string_in : List ℕ → Result (List ℕ) LineFault
+string_in digits = do
+  bytes ← some_hex_of digits
+  if nat_lt 129 (length bytes) then Err NoForm else Ok bytes
+
+-- behind `collision `
+unfoldable pub collided_in : List ℕ → Result Stated LineFault
+collided_in bytes = do
+  both ← ok_or (cut_at 32 bytes) NoForm
+  first ← string_in both.0
+  second ← string_in both.1
+  Ok (stated.Collision first second)
+
+abbrev pub collided_or_none : List ℕ → Option (List ℕ) → Result Stated LineFault
+collided_or_none bytes (Some rest) = collided_in rest
+collided_or_none bytes None = if bytes_eq bytes (codes "none left") then Ok stated.NoneLeft else Err NoForm
+
+abbrev pub accepted_or_not : List ℕ → Option (List ℕ) → Result Stated LineFault
+accepted_or_not bytes (Some rest) = accepted_in rest
+accepted_or_not bytes None = collided_or_none bytes (after (codes "collision ") bytes)
+
+unfoldable pub verdict_in : List ℕ → Result Stated LineFault
+verdict_in bytes = accepted_or_not bytes (after (codes "accept ") bytes)
+
+-- a later line: a move or the verdict
+
+abbrev pub move_or_verdict : List ℕ → Option (List ℕ) → Result Entry LineFault
+move_or_verdict bytes (Some rest) = move_in rest >>= (λ x. Ok (Move x))
+move_or_verdict bytes None = verdict_in bytes >>= (λ s. Ok (Verdict s))
+
+unfoldable pub entry_in : List ℕ → Result Entry LineFault
+entry_in bytes = move_or_verdict bytes (after (codes "move ") bytes)

@@ -1,0 +1,103 @@
+-- To believe. The fields of a line: each is read at the front, and what stands behind it is left.
+use Rattle.std.specs.Prelude.{ℕ, ◌+◌, ◌-◌, ◌*◌, min, nat_lt, nat_le, Bool, true, not, ◌&&◌, ◌==◌, List, [], ◌∷◌, length, Option, Some, None, Result, Ok, Err, if◌then◌else◌}
+use Rattle.std.specs.Option.{ok_or}
+use Rattle.hex.specs.Hex.{decode_of}
+use Rattle.rd_base.specs.declared.answer.Answer.{Answer}
+use Rattle.rd_base.specs.declared.digest.Digest32.{Digest32}
+use Rattle.rd_base.specs.Results.{◌>>=◌}
+use Rattle.proof_wire.specs.Reading.{answer_in}
+use Rattle.transcript_text.specs.declared.text.DigestName.{DigestName}
+use Rattle.transcript_text.specs.Digest.{digest_text, digests}
+use Rattle.transcript_text.specs.declared.reader.fault.LineFault.{LineFault}
+use Rattle.transcript_text.specs.declared.reader.fault.LineFault.TheVariants.{NoForm}
+
+-- a field, and the bytes behind it, or no form
+abbrev pub Read : Type 0 → Type 0
+Read A = Result (A × List ℕ) LineFault
+
+-- what stands behind a word, if the bytes begin with it
+abbrev pub after : List ℕ → List ℕ → Option (List ℕ)
+after [] bytes = Some bytes
+after (w ∷ ws) [] = None
+after (w ∷ ws) (b ∷ bs) = if b == w then after ws bs else None
+
+abbrev pub skip : List ℕ → List ℕ → Result (List ℕ) LineFault
+skip word bytes = ok_or (after word bytes) NoForm
+
+-- NUMBERS: decimal digits, of which the first is 0 only in the number 0. One that needs more than 32 bits is read as 2^32, which is
+-- beyond each limit.
+
+abbrev pub is_digit : ℕ → Bool
+is_digit b = nat_le 48 b && nat_le b 57
+
+-- a number with one more digit
+abbrev pub with_digit : ℕ → ℕ → ℕ
+with_digit n b = min (10 * n + (b - 48)) 4294967296
+
+-- the digits at the front, after those of the number so far
+abbrev pub digits_at : ℕ → List ℕ → ℕ × List ℕ
+digits_at n [] = (n, [])
+digits_at n (b ∷ bs) = if is_digit b then digits_at (with_digit n b) bs else (n, b ∷ bs)
+
+unfoldable pub number_at : List ℕ → Read ℕ
+number_at [] = Err NoForm
+number_at (b ∷ bs) = if b == 48 then Ok (0, bs) else if is_digit b then Ok (digits_at (b - 48) bs) else Err NoForm
+
+-- a number of at most 32 bits
+unfoldable pub small_number_at : List ℕ → Read ℕ
+small_number_at bytes = do
+  n ← number_at bytes
+  if nat_lt n.0 4294967296 then Ok n else Err NoForm
+
+-- a number behind a word
+unfoldable pub number_after : List ℕ → List ℕ → Read ℕ
+number_after word bytes = skip word bytes >>= number_at
+
+-- HEXADECIMAL DIGITS of lower case, in pairs, to the end of the line
+
+-- none of `A` to `F`
+abbrev pub is_lower : ℕ → Bool
+is_lower c = not (nat_le 65 c && nat_le c 70)
+
+abbrev pub are_lower : List ℕ → Bool
+are_lower [] = true
+are_lower (c ∷ cs) = is_lower c && are_lower cs
+
+abbrev pub or_no_form : {A E : Type 0} → Result A E → Result A LineFault
+or_no_form (Ok x) = Ok x
+or_no_form (Err e) = Err NoForm
+
+unfoldable pub hex_of : List ℕ → Result (List ℕ) LineFault
+hex_of digits = if are_lower digits then or_no_form (decode_of digits) else Err NoForm
+
+-- at least one byte
+unfoldable pub some_hex_of : List ℕ → Result (List ℕ) LineFault
+some_hex_of digits = do
+  bytes ← hex_of digits
+  if length bytes == 0 then Err NoForm else Ok bytes
+
+-- 32 bytes
+unfoldable pub digest_of : List ℕ → Result Digest32 LineFault
+digest_of digits = do
+  bytes ← hex_of digits
+  if length bytes == 32 then Ok (record { 0 = bytes }) else Err NoForm
+
+-- an answer in its wire form
+unfoldable pub answer_of : List ℕ → Result Answer LineFault
+answer_of digits = do
+  bytes ← hex_of digits
+  or_no_form (answer_in bytes)
+
+-- THE NAME OF A DIGEST
+
+abbrev pub name_or : DigestName → Option (List ℕ) → Read DigestName → Read DigestName
+name_or d (Some rest) others = Ok (d, rest)
+name_or d None others = others
+
+-- the first of these whose name stands at the front
+abbrev pub name_among : List DigestName → List ℕ → Read DigestName
+name_among [] bytes = Err NoForm
+name_among (d ∷ ds) bytes = name_or d (after (digest_text d) bytes) (name_among ds bytes)
+
+unfoldable pub name_at : List ℕ → Read DigestName
+name_at bytes = name_among digests bytes

@@ -1,0 +1,57 @@
+-- Derived: reading is the inverse of writing. The laws of these names show it.
+use Rattle.std.specs.Prelude.{◌≡◌, ◌↔◌, ℕ, List, Some, Ok}
+use Rattle.bisect_game.specs.Rules.{Rules, ArePlayable}
+use Rattle.tournament.specs.declared.verdict.Verdict.{Verdict}
+use Rattle.tournament.specs.declared.verdict.Verdict.TheVariants as verdict
+use Rattle.tournament.specs.Bracket.{Record, verdict_of}
+use Rattle.tournament.specs.Posting.{Post, record_after}
+use Rattle.transcript_text.specs.declared.text.Head.{Head}
+use Rattle.transcript_text.specs.declared.text.Stated.{Stated}
+use Rattle.transcript_text.specs.declared.text.FullText.{FullText}
+use Rattle.transcript_text.specs.MoveLists.{moves_of}
+use Rattle.transcript_text.specs.StatedVerdict.{stated_of}
+use Rattle.transcript_text.specs.FullLines.{full_text, text_of, AreWritten}
+use Rattle.transcript_text.specs.Laws.{parts_of}
+use Rattle.transcript_text.specs.reader.InLimits.{IsString, IsHeadInLimits, IsInLimits}
+use Rattle.transcript_text.specs.reader.ReadText.{read_text}
+
+-- bytes are read as a text if and only if it is within the limits and they are its bytes
+abbrev pub ReadsExactly : Type 0
+ReadsExactly = (bytes : List ℕ) (x : FullText) → (read_text bytes ≡ Ok x) ↔ (IsInLimits x × (bytes ≡ text_of x))
+
+-- so two texts that read alike are equal
+abbrev pub AlikeIsEqual : Type 0
+AlikeIsEqual = (one other : List ℕ) (x : FullText) → read_text one ≡ Ok x → read_text other ≡ Ok x → one ≡ other
+
+-- the full text of a record and a verdict is read as their parts, if these are within the limits
+abbrev pub ReadsRecordsBack : Type 0
+ReadsRecordsBack =
+    (head : Head) (r : Record) (v : Verdict) (s : Stated) → stated_of r.claims v ≡ Some s → IsInLimits (parts_of head r s) →
+    read_text (full_text head r v) ≡ Ok (parts_of head r s)
+
+-- A MATCH, whatever was posted
+
+-- the head has the rules' numbers
+pub record IsHeadOf (rules : Rules) (head : Head) : Type 0 where
+  pub provers : head.provers ≡ rules.provers
+  pub bound : head.bound ≡ rules.bound
+  pub fan : head.fan ≡ rules.fan
+
+-- the strings of a collision are some that a text can state
+abbrev pub HasStrings : Verdict → Type 0
+HasStrings (verdict.Accept p) = Unit {0}
+HasStrings verdict.NoneLeft = Unit {0}
+HasStrings (verdict.Collision x y) = IsString x × IsString y
+
+-- a record whose full text is read as the head, the record's moves and what is stated of the verdict
+pub record IsReadBack (rules : Rules) (head : Head) (r : Record) : Type 0 where
+  pub stated : Stated
+  pub of_verdict : stated_of r.claims (verdict_of rules r) ≡ Some stated
+  pub in_limits : IsInLimits (parts_of head r stated)
+  pub read : read_text (full_text head r (verdict_of rules r)) ≡ Ok (parts_of head r stated)
+
+-- the full text of each match is read back, if its answers have wire forms
+abbrev pub MatchesAreReadBack : Type 0
+MatchesAreReadBack =
+    (rules : Rules) (xs : List Post) (head : Head) → ArePlayable rules → IsHeadOf rules head → IsHeadInLimits head →
+    AreWritten (moves_of (record_after rules xs)) → HasStrings (verdict_of rules (record_after rules xs)) → IsReadBack rules head (record_after rules xs)

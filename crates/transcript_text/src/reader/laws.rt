@@ -1,0 +1,38 @@
+//! Laws of reading, each the contract of a function that does nothing.
+ghost use Rattle.std.specs.Prelude.{◌≡◌, ℕ, List, Err};
+ghost use Rattle.transcript_text.specs.reader.Laws.{ReadsExactly, AlikeIsEqual, ReadsRecordsBack, MatchesAreReadBack};
+ghost use Rattle.transcript_text.specs.reader.ReadText.{read_text};
+
+use crate::laws::{a_full_text_is_that_of_its_parts, a_verdict_is_stated};
+use crate::reader::fault::TextFault;
+use proof_wire::{reading_is_spelling, spelled_in_bytes};
+use tournament::{a_match_has_few_disputes_and_rounds, a_record_is_of_its_provers};
+
+/// Bytes are read as a text if and only if it is within the limits and they are its bytes (`exactly`), so that two texts that
+/// read alike are equal (`alike`).
+pub fn reading_is_the_inverse_of_writing()
+    ensures exactly { ReadsExactly }
+    ensures alike { AlikeIsEqual }
+{
+    reading_is_spelling();
+    spelled_in_bytes();
+}
+
+/// The full text of a record and a verdict is read as their parts, if these are within the limits (`records`). Those of a
+/// match are, whatever was posted (`matches`): its answers have wire forms by a clause of `full`.
+pub fn a_full_text_is_read_back()
+    ensures records { ReadsRecordsBack }
+    ensures matches { MatchesAreReadBack }
+{
+    reading_is_the_inverse_of_writing();
+    a_full_text_is_that_of_its_parts();
+    a_verdict_is_stated();
+    a_record_is_of_its_provers();
+    a_match_has_few_disputes_and_rounds();
+}
+
+/// No bytes have out of memory as their fault: it comes of reading them, and is no fault of a text.
+#[tactic(auto, using(crate::proofs::read_back::FaultLemmas::no_fault_is_memory))]
+pub fn no_fault_of_a_text_is_out_of_memory()
+    ensures { (bytes : List ℕ) → ¬ (read_text bytes ≡ Err TextFault.Memory) }
+{}
