@@ -62,6 +62,9 @@ def proved_twice():
 
 
 def main():
+    if sys.argv[1:] in (["--help"], ["-h"]):
+        print(__doc__, end="")
+        return 0
     if len(sys.argv) != 1:
         print(__doc__, end="", file=sys.stderr)
         return 2

@@ -247,6 +247,9 @@ def stored(data):
 
 
 def main():
+    if sys.argv[1:] in (["--help"], ["-h"]):
+        print(__doc__, end="")
+        return 0
     words = sys.argv[1:]
     if len(words) not in (1, 2) or (len(words) == 2 and words[0] not in ("--answers", "--stored")) or words[-1].startswith("-"):
         print(__doc__, end="", file=sys.stderr)

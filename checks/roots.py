@@ -109,6 +109,9 @@ def hexadecimal(text, what):
 
 
 def main():
+    if sys.argv[1:] in (["--help"], ["-h"]):
+        print(__doc__, end="")
+        return 0
     if len(sys.argv) not in (3, 4):
         print(__doc__, end="", file=sys.stderr)
         return 2

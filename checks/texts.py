@@ -148,6 +148,9 @@ def mutants(text):
 
 
 def main():
+    if sys.argv[1:] in (["--help"], ["-h"]):
+        print(__doc__, end="")
+        return 0
     words = sys.argv[1:]
     if words == []:
         if sys.stdin is None:
