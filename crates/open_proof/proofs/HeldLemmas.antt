@@ -16,19 +16,18 @@ use Rattle.merkle_nodes.specs.Opening.{opened}
 use Rattle.mem_tree.specs.Memory.{memory_node}
 use Rattle.rv_step.specs.State.{State}
 use Rattle.rv_step.specs.Effect.{effect_with}
-use Rattle.rv_step.specs.Offer.{byte_or_ones, offered}
+use Rattle.rv_step.specs.Offer.{byte_or_ones}
 use Rattle.rv_step.specs.Step.{step, after_effect, after_word as state_after_word, effect_at}
 use Rattle.rv_step.specs.Parts.{needed_in, finished, Finishes, KeepsMemory, IsAccess, IsAligned}
 use Rattle.rv_step.specs.declared.effect.Effect.{Effect}
 use Rattle.rv_step.specs.declared.effect.Effect.TheVariants.{Write, Jump, Branch, Next, Store, Put, Exit, Trap}
 use Rattle.rv_step.specs.declared.asked.Need.{Need}
 use Rattle.rv_step.specs.declared.asked.Need.TheVariants as need
-use Rattle.state_commit.specs.StateRoot.{ctl_of}
 use Rattle.mem_tree.specs.InputTree.{input_root}
 use Rattle.open_proof.specs.Held.{held_of, held_after, number_shown, path_text, chunk_with}
 use Rattle.open_proof.specs.Called.{address_needed, fetch_address, fetched_in}
 use Rattle.open_proof.specs.OpenedChunk.{IsShown, IsShownAt, fetched_at, fetch_of_state}
-use Rattle.open_proof.specs.Facts.{needed_by, byte_needed, byte_in, byte_shown, offering, offer_shown}
+use Rattle.open_proof.specs.Facts.{needed_by, byte_needed, byte_in, byte_shown, offer_shown}
 use Rattle.open_proof.specs.Next.{after_word, step_held}
 use Rattle.open_proof.specs.Shown.{tree_of, ShowsInput}
 use Rattle.open_proof.specs.LawsBelow.{StepLaws}

@@ -1,6 +1,6 @@
 -- The step on what is shown of a state leads to the root of the next state: where registers are opened, by the step from the state
 -- whose unnamed registers are 0.
-use Rattle.std.proofs.Common.{◌≡◌, ◌≢◌, ℕ, ◌%◌, ◌^◌, ◌<◌, List, [], map, length, slice_index, Option, Some, None, eqb, cond, Bool, true, false, true≢false, ◌&&◌, refl, sym, ap, subst, ◌∙◌, arith}
+use Rattle.std.proofs.Common.{◌≡◌, ◌≢◌, ℕ, ◌%◌, List, [], map, length, Option, Some, None, eqb, cond, Bool, true, false, ◌&&◌, refl, sym, ap, subst, ◌∙◌}
 use Rattle.std.proofs.lemmas.Bool.{eq-eqb, ne_eqb}
 use Rattle.rd_base.specs.Status.{is_running}
 use Rattle.rd_base.specs.declared.digest.Digest32.{Digest32}
@@ -18,16 +18,15 @@ use Rattle.rv_step.specs.Named.{named_by, AreRegisters}
 use Rattle.rv_step.specs.State.{State}
 use Rattle.rv_step.specs.Step.{step}
 use Rattle.rv_step.specs.Valid.{IsValid}
-use Rattle.rv_step.specs.declared.asked.Need.{Need}
-use Rattle.state_commit.specs.StateRoot.{ctl_of, memory_digest, registers_digest, storage_digest, root_in}
+use Rattle.state_commit.specs.StateRoot.{ctl_of, memory_digest, storage_digest, root_in}
 use Rattle.mem_tree.specs.InputTree.{input_root}
 use Rattle.mem_tree.specs.RegisterTree.{registers_root}
-use Rattle.open_proof.specs.Held.{Held, held_of}
+use Rattle.open_proof.specs.Held.{held_of}
 use Rattle.open_proof.specs.Called.{fetch_address, fetched_in, address_needed}
 use Rattle.open_proof.specs.OpenedChunk.{IsShownAt, fetched_at, fetch_of_state}
 use Rattle.open_proof.specs.Facts.{fetched, named_called, file_of, values_of, file_shown, file_of_facts, needed_by, byte_needed, offer_shown}
-use Rattle.open_proof.specs.Next.{step_held, storage_held, registers_changed, root_changed, held_shown, held_next, root_of_next, root_next}
-use Rattle.open_proof.specs.Shown.{tree_of, word_of_state, needed_of_state, operand_of_state, input_of_state, AreShown, ShowsRegisters, ShowsInput, ShowsState}
+use Rattle.open_proof.specs.Next.{step_held, storage_held, root_changed, held_shown, held_next, root_of_next, root_next}
+use Rattle.open_proof.specs.Shown.{tree_of, word_of_state, needed_of_state, AreShown, ShowsRegisters, ShowsInput, ShowsState}
 use Rattle.open_proof.specs.LawsBelow.{StepLaws, RegisterLaws, TreeLaws}
 use Rattle.open_proof.specs.declared.facts.Facts.{Facts}
 use Rattle.open_proof.specs.declared.facts.HeldInput.{HeldInput}

@@ -6,4 +6,6 @@ pub mod TruthLemmas
 pub mod CalledLemmas
 pub mod PathLemmas
 pub mod WholeLemmas
+pub mod SlotLemmas
 pub mod CodeLemmas
+pub mod ClimbLemmas

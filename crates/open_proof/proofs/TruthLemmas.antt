@@ -1,14 +1,11 @@
 -- A proof that leads from the root of a state shows the state, or a string that it opens and a different string of the state have one
 -- digest; and the plain proof shows the state.
-use Rattle.std.proofs.Common.{◌≡◌, ◌≢◌, ℕ, ◌+◌, ◌/◌, ◌%◌, ◌^◌, ◌<◌, ◌≤◌, ◌⊎◌, inl, inr, List, [], ◌∷◌, ◌++◌, map, length, slice_index, Option, Some, None, is_some, eqb, ltb, cond, Bool, true, false, true≢false, Contains, refl, sym, ap, subst, ◌∙◌, arith, ⊎_elim}
-use Rattle.std.specs.List.{range_with_len}
+use Rattle.std.proofs.Common.{◌≡◌, ◌≢◌, ℕ, ◌/◌, ◌^◌, ◌<◌, ◌≤◌, ◌⊎◌, inl, inr, List, [], ◌∷◌, map, length, Option, Some, None, is_some, eqb, ltb, cond, Bool, true, false, Contains, refl, sym, ap, subst, ◌∙◌, arith, ⊎_elim}
 use Rattle.std.proofs.lemmas.Bool.{cases_eq, eq-eqb, ne_eqb, eqb-true, eqb-false, ltb-true}
 use Rattle.std.proofs.lemmas.List.Elements.{Contains-append_left, Contains-append_right}
 use Rattle.std.proofs.lemmas.List.FromFn.{get_or-map-range_with_len}
 use Rattle.rd_base.specs.declared.status.Ctl.{Ctl}
 use Rattle.rd_base.specs.declared.digest.Digest32.{Digest32}
-use Rattle.rd_base.specs.declared.opened.InOpening.{InOpening}
-use Rattle.rd_base.specs.declared.opened.RegOpening.{RegOpening}
 use Rattle.rd_base.specs.declared.proof.Proof.{Proof}
 use Rattle.rd_base.specs.declared.proof.Proof.TheVariants.{V1, V2, V3}
 use Rattle.rd_base.specs.declared.status.Status.{Status}
@@ -17,14 +14,12 @@ use Rattle.rv_decode.specs.declared.instr.Instr.{Instr}
 use Rattle.digest_core.specs.Text.{registers_text, storage_text, status_code}
 use Rattle.digest_core.specs.TextLaws.{cons_parts, registers_text_same, control_text_same, state_text_same, storage_text_same}
 use Rattle.merkle_nodes.specs.Node.{beside, digest_at}
-use Rattle.merkle_nodes.specs.Opening.{AreSiblings}
 use Rattle.merkle_nodes.specs.Split.{IsSplit}
-use Rattle.merkle_nodes.specs.TreeStrings.{IsTreeString}
 use Rattle.mem_tree.specs.Memory.{memory_leaf, memory_node}
 use Rattle.out_chain.specs.Root.{control_text_of, parts_text}
 use Rattle.out_chain.specs.ClaimLaws.{contains-head, contains-tail}
 use Rattle.rv_step.specs.Alike.{named_at}
-use Rattle.rv_step.specs.Named.{named_by, AreRegisters}
+use Rattle.rv_step.specs.Named.{named_by}
 use Rattle.rv_step.specs.Parts.{needed_in, IsAligned}
 use Rattle.rv_step.specs.State.{State}
 use Rattle.rv_step.specs.Step.{step}
@@ -35,16 +30,16 @@ use Rattle.state_commit.specs.StateRoot.{ctl_of, memory_digest, registers_digest
 use Rattle.state_commit.specs.Strings.{IsStringIn}
 use Rattle.state_commit.specs.Strings.IsStringIn.{is_state, is_control, is_memory, is_registers, is_register, is_storage, is_input}
 use Rattle.mem_tree.specs.RegisterTree.{register_leaf, register_node, registers_root}
-use Rattle.mem_tree.specs.InputTree.{input_chunk, input_leaf, input_node, input_root}
-use Rattle.open_proof.specs.Called.{fetch_address, fetched_in, address_needed}
-use Rattle.open_proof.specs.OpenedChunk.{IsShownAt, opening_at, siblings_of, fetched_at, fetch_of_state}
+use Rattle.mem_tree.specs.InputTree.{input_node, input_root}
+use Rattle.open_proof.specs.Called.{fetch_address, address_needed}
+use Rattle.open_proof.specs.OpenedChunk.{IsShownAt, opening_at, siblings_of, fetch_of_state}
 use Rattle.open_proof.specs.Conditions.{AllHold, LeadsFrom, conditions}
 use Rattle.open_proof.specs.Facts.{facts_of, fetched, named_called, values_of, file_of, file_shown, file_of_facts, needed_by, needed_of, operand_called, byte_needed, input_called, offering}
 use Rattle.open_proof.specs.InRange.{is_in_range}
-use Rattle.open_proof.specs.Next.{storage_texts, storage_held, registers_held, text_before, root_before, root_next}
-use Rattle.open_proof.specs.Openings.{AreCounted, fetch_ways, named_ways, operand_ways, read_ways, chunk_ways, register_ways, input_ways}
+use Rattle.open_proof.specs.Next.{storage_texts, storage_held, registers_held, text_before, root_before}
+use Rattle.open_proof.specs.Openings.{AreCounted, fetch_ways, named_ways, operand_ways, read_ways, register_ways, input_ways}
 use Rattle.open_proof.specs.PlainProof.{register_siblings, register_opening, input_siblings, input_opening_at, plain_proof, plain_proof_1, plain_proof_2, plain_proof_3}
-use Rattle.open_proof.specs.RangeLaws.{FactsRange, TreeRange, RegistersRange, EachRange, facts-range}
+use Rattle.open_proof.specs.RangeLaws.{FactsRange, TreeRange, RegistersRange, facts-range}
 use Rattle.open_proof.specs.Shown.{tree_of, word_of_state, needed_of_state, operand_of_state, input_of_state, AreShown, ShowsRegisters, ShowsInput, ShowsState}
 use Rattle.open_proof.specs.StateCollision.{IsStateCollision}
 use Rattle.open_proof.specs.Strings.{registers_texts, part_texts, opened_by_facts}
@@ -56,7 +51,7 @@ use Rattle.open_proof.specs.declared.facts.HeldRegisters.{HeldRegisters}
 use Rattle.open_proof.specs.declared.facts.HeldRegisters.TheVariants.{Whole, Opened}
 use Rattle.open_proof.proofs.HeldLemmas.{IsWordAt, word-fetched}
 use Rattle.open_proof.proofs.LeadLemmas.{named-fetched, storage-same, shown-word, names-low, need-shown, shown-leads}
-use Rattle.open_proof.proofs.WayLemmas.{IsLowAt, Found, same-or-split, node-size, chunk-or-found, registers-or-found, input-or-found, shown-chunk-opens, shown-registers-open, shown-input-opens}
+use Rattle.open_proof.proofs.WayLemmas.{IsLowAt, same-or-split, node-size, chunk-or-found, registers-or-found, input-or-found, shown-chunk-opens, shown-registers-open, shown-input-opens}
 
 -- a proof holds registers and input as its version has them
 abbrev HeldAs : ℕ → HeldRegisters → Type 0

@@ -1,6 +1,6 @@
 -- Derived: two different proofs that lead from one root have two different strings of one digest. The law `proofs_from_one_root` has the
 -- same as clauses.
-use Rattle.std.proofs.Common.{◌≡◌, ◌≢◌, ℕ, zero, suc, ◌+◌, ◌/◌, ◌^◌, ◌<◌, ◌≤◌, ◌⊎◌, inl, inr, List, [], ◌∷◌, ◌++◌, length, slice_index, Option, Some, None, is_some, eqb, Bool, true, false, true≢false, ◌&&◌, cond, Contains, refl, sym, ap, ◌∙◌, subst, arith, ⊎_elim}
+use Rattle.std.proofs.Common.{◌≡◌, ◌≢◌, ℕ, zero, suc, ◌+◌, ◌/◌, ◌<◌, ◌≤◌, ◌⊎◌, inl, inr, List, [], ◌∷◌, length, Option, Some, None, is_some, Bool, true, false, true≢false, ◌&&◌, Contains, refl, sym, ap, ◌∙◌, subst, arith, ⊎_elim}
 use Rattle.std.specs.Prelude.{bytes_eq, if◌then◌else◌}
 use Rattle.std.proofs.lemmas.Bool.{cases_eq, eq-eqb}
 use Rattle.std.proofs.lemmas.List.{ext_get_or}
@@ -13,23 +13,20 @@ use Rattle.rd_base.specs.declared.opened.Opening.{Opening}
 use Rattle.rd_base.specs.declared.opened.RegOpening.{RegOpening}
 use Rattle.rd_base.specs.declared.proof.Proof.{Proof}
 use Rattle.rd_base.specs.declared.proof.Proof.TheVariants.{V1, V2, V3}
-use Rattle.rd_base.specs.declared.proof.StepProof.{StepProof}
-use Rattle.rd_base.specs.declared.proof.StepProof2.{StepProof2}
-use Rattle.rd_base.specs.declared.proof.StepProof3.{StepProof3}
 use Rattle.digest_core.specs.Text.{registers_text, register_text, storage_text}
 use Rattle.digest_core.specs.TextLaws.{cons_parts, registers_text_same, register_text_same, control_text_same, state_text_same, storage_text_same}
 use Rattle.merkle_nodes.specs.Node.{digest_at}
 use Rattle.merkle_nodes.specs.PathLaws.{opens-climbs, one_opening}
 use Rattle.out_chain.specs.Root.{control_text_of}
 use Rattle.out_chain.specs.Collision.{first_collision}
-use Rattle.out_chain.specs.ClaimLaws.{collision-none, collision_of_same, first-collides, contains-head, contains-tail}
+use Rattle.out_chain.specs.ClaimLaws.{collision-none, collision_of_same, first-collides, contains-tail}
 use Rattle.open_proof.specs.Opened.{first_there, texts_from}
-use Rattle.open_proof.specs.Called.{fetch_address, fetched_in}
+use Rattle.open_proof.specs.Called.{fetch_address}
 use Rattle.open_proof.specs.Conditions.{LeadsFrom}
-use Rattle.open_proof.specs.Facts.{facts_of, fetched, named_called, file_of_facts, needed_of, operand_called, byte_needed, input_called}
+use Rattle.open_proof.specs.Facts.{facts_of, named_called, needed_of, operand_called, byte_needed, input_called}
 use Rattle.open_proof.specs.InRange.{is_in_range}
 use Rattle.open_proof.specs.Next.{storage_texts, storage_held, registers_held, text_before, root_before, root_next}
-use Rattle.open_proof.specs.Openings.{chunk_way, chunk_ways, register_way, each_way, register_ways, input_way, input_ways, fetch_ways, named_ways, operand_ways, read_ways, AreCounted}
+use Rattle.open_proof.specs.Openings.{chunk_way, chunk_ways, register_way, each_way, input_way, input_ways, fetch_ways, named_ways, operand_ways, read_ways, AreCounted}
 use Rattle.open_proof.specs.RangeLaws.{IsPathOf, ChunkRange, InputRange, EachRange, RegistersRange, TreeRange, FactsRange, facts-range}
 use Rattle.open_proof.specs.Strings.{registers_texts, part_texts, opened_by_facts}
 use Rattle.open_proof.specs.Ways.{Way, WayOpens, way_text, way_texts, WaysOpen, ways_texts}

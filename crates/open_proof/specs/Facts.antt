@@ -1,6 +1,6 @@
 -- To believe: what a proof of each version holds, and for what its parts call. The definitions above these speak of what is held and
 -- know no version: a version adds how the registers and the input are held.
-use Rattle.std.specs.Prelude.{ℕ, ◌/◌, ◌%◌, ◌^◌, ◌-◌, nat_lt, List, [], ◌∷◌, map, slice_index, Option, Some, None, if◌then◌else◌}
+use Rattle.std.specs.Prelude.{ℕ, ◌%◌, ◌^◌, ◌-◌, nat_lt, List, ◌∷◌, map, slice_index, Option, Some, None, if◌then◌else◌}
 use Rattle.rd_base.specs.Regs.{no_registers_set, with_register}
 use Rattle.rd_base.specs.declared.opened.InOpening.{InOpening}
 use Rattle.rd_base.specs.declared.opened.RegOpening.{RegOpening}

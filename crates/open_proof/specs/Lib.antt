@@ -16,5 +16,6 @@ pub mod StateCollision
 pub mod LawsBelow
 pub use Rattle.open_proof.specs.PlainProof
 pub mod PlainClaim
+pub mod Slots
 pub mod Collision
 pub mod CollisionLaws

@@ -3,7 +3,6 @@
 -- `shown_states_lead` ties it to the step of the machine.
 use Rattle.std.specs.Prelude.{ℕ, ◌%◌, ◌==◌, List, [], ◌∷◌, slice_index, Option, Some, None, if◌then◌else◌}
 use Rattle.rd_base.specs.Status.{is_running}
-use Rattle.rd_base.specs.declared.status.Ctl.{Ctl}
 use Rattle.rd_base.specs.declared.opened.Opening.{Opening}
 use Rattle.rd_base.specs.declared.opened.RegOpening.{RegOpening}
 use Rattle.rv_decode.specs.Reading.{reading_of}

@@ -4,19 +4,18 @@ ghost use Rattle.out_chain.specs.Root.{control_text_of};
 ghost use Rattle.out_chain.specs.Collision.{first_collision};
 ghost use Rattle.open_proof.specs.Facts as facts;
 ghost use Rattle.open_proof.specs.Next as next;
-ghost use Rattle.open_proof.specs.Openings as openings;
 ghost use Rattle.open_proof.specs.Strings.{registers_texts};
 ghost use Rattle.open_proof.specs.Collision as collision;
 
 mod laws;
 mod walking;
 
-pub use laws::proofs_from_one_root;
-
-use crate::collision::walking::{chunk_collision, each_collision, input_collision, text_collision};
+use crate::collision::walking::{text_collision, ways_collision};
+use crate::facts::{Facts, HeldInput, HeldRegisters, called_by, facts_of};
+use crate::ways::ways_of;
 use digest_core::{Digester, control_text, registers_text, state_text, storage_text};
-use crate::facts::{Called, Facts, HeldInput, HeldRegisters, called_by, facts_of, fetch_address};
-use rd_base::{Ctl, Digest32, InOpening, OpenText, Proof};
+pub use laws::proofs_from_one_root;
+use rd_base::{Ctl, Digest32, OpenText, Proof};
 
 /// The digest of what is stored: the root of memory, or the digest of the storage string.
 fn storage_held<D: Digester>(d: D, tree: &Option<HeldInput>, mem: &Digest32) -> Digest32
@@ -104,49 +103,6 @@ fn control_collision<D: Digester>(d: D, x: &Ctl, y: &Ctl) -> Option<(OpenText, O
     text_collision(d, control_text(x), control_text(y))
 }
 
-/// The first two different strings of one digest on the ways of opened registers, by their names.
-#[tactic(auto, using(crate::proofs::CodeLemmas::ways_without))]
-fn named_collision<D: Digester>(
-    d: D,
-    rs: &[u8],
-    x: &HeldRegisters,
-    qs: &[u8],
-    y: &HeldRegisters,
-) -> Option<(OpenText, OpenText)>
-    ensures { result ≡ collision.ways_collision D.digest_of (openings.register_ways rs.now x.now) (openings.register_ways qs.now y.now) }
-{
-    match x {
-        HeldRegisters::Opened(_root, os) => match y {
-            HeldRegisters::Opened(_other, ps) => {
-                each_collision(d, rs, os.as_slice(), qs, ps.as_slice())
-            }
-            HeldRegisters::Whole(_ys) => None,
-        },
-        HeldRegisters::Whole(_xs) => None,
-    }
-}
-
-/// The same of chunks of the input, if both have the input as a tree.
-fn read_collision<D: Digester>(
-    d: D,
-    tree: &Option<HeldInput>,
-    x: &Option<InOpening>,
-    x_byte: Option<u32>,
-    other: &Option<HeldInput>,
-    y: &Option<InOpening>,
-    y_byte: Option<u32>,
-) -> Option<(OpenText, OpenText)>
-    ensures { result ≡ collision.ways_collision D.digest_of (openings.input_ways tree.now x.now x_byte) (openings.input_ways other.now y.now y_byte) }
-{
-    match tree {
-        Some(_t) => match other {
-            Some(_u) => input_collision(d, x, x_byte, y, y_byte),
-            None => None,
-        },
-        None => None,
-    }
-}
-
 /// The first two different strings of one digest among those of the parts.
 fn part_collision<D: Digester>(d: D, x: &Facts, y: &Facts) -> Option<(OpenText, OpenText)>
     ensures { result ≡ collision.parts_collision D.digest_of x.now y.now }
@@ -166,63 +122,6 @@ fn part_collision<D: Digester>(d: D, x: &Facts, y: &Facts) -> Option<(OpenText, 
     control_collision(d, &x.ctl, &y.ctl)
 }
 
-/// The first two different strings of one digest among those of the ways.
-fn way_collision<D: Digester>(
-    d: D,
-    x: &Facts,
-    x_called: &Called,
-    y: &Facts,
-    y_called: &Called,
-) -> Option<(OpenText, OpenText)>
-    requires x_names { x_called.now.names ≡ facts.named_called x.now }
-    requires x_operand { x_called.now.operand ≡ facts.operand_called x.now }
-    requires x_input { x_called.now.input ≡ facts.input_called x.now }
-    requires y_names { y_called.now.names ≡ facts.named_called y.now }
-    requires y_operand { y_called.now.operand ≡ facts.operand_called y.now }
-    requires y_input { y_called.now.input ≡ facts.input_called y.now }
-    ensures { result ≡ collision.all_ways_collision D.digest_of x.now y.now }
-{
-    let fetch = chunk_collision(
-        d,
-        &x.fetch,
-        fetch_address(&x.ctl),
-        &y.fetch,
-        fetch_address(&y.ctl),
-    );
-    if fetch.is_some() {
-        return fetch;
-    }
-    let named = named_collision(
-        d,
-        x_called.names.as_slice(),
-        &x.regs,
-        y_called.names.as_slice(),
-        &y.regs,
-    );
-    if named.is_some() {
-        return named;
-    }
-    let operand = chunk_collision(
-        d,
-        &x.operand,
-        x_called.operand,
-        &y.operand,
-        y_called.operand,
-    );
-    if operand.is_some() {
-        return operand;
-    }
-    read_collision(
-        d,
-        &x.input_tree,
-        &x.input,
-        x_called.input,
-        &y.input_tree,
-        &y.input,
-        y_called.input,
-    )
-}
-
 /// The first two different strings of one digest that two proofs open.
 fn opened_collision<D: Digester>(d: D, x: &Facts, y: &Facts) -> Option<(OpenText, OpenText)>
     ensures { result ≡ collision.opened_collision D.digest_of x.now y.now }
@@ -231,11 +130,11 @@ fn opened_collision<D: Digester>(d: D, x: &Facts, y: &Facts) -> Option<(OpenText
     if parts.is_some() {
         return parts;
     }
-    way_collision(d, x, &called_by(x), y, &called_by(y))
+    ways_collision(d, &ways_of(x, &called_by(x)), &ways_of(y, &called_by(y)))
 }
 
 /// Whether a proof is of a version and its parts open a root.
-fn opens_in<D: Digester>(d: D, version: u8, a: &Digest32, facts: &Facts) -> bool
+fn opens_in<D: Digester>(d: D, version: u32, a: &Digest32, facts: &Facts) -> bool
     ensures { result ≡ collision.opens_in D.digest_of version a.now facts.now }
 {
     facts.version == version && a.0 == d.digest(text_before(d, facts).as_slice()).0
@@ -250,7 +149,7 @@ fn opens_in<D: Digester>(d: D, version: u8, a: &Digest32, facts: &Facts) -> bool
 #[tactic(auto, unfolding(crate::specs::Collision::step_collision))]
 pub fn step_collision<D: Digester>(
     d: D,
-    version: u8,
+    version: u32,
     a: Digest32,
     first: &Proof,
     second: &Proof,

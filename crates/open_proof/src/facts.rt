@@ -16,7 +16,6 @@ pub use laws::{
 };
 pub use names::{Names, named_by};
 pub use ranges::proofs_are_in_range;
-
 use rd_base::{Ctl, Digest32, InOpening, Opening, Proof, RegOpenings, Regs};
 
 /// How a proof holds the registers.
@@ -41,7 +40,7 @@ pub struct HeldInput {
 #[derive(Debug, Drop)]
 pub struct Facts {
     /// The version of the commitment that the proof is made for.
-    pub version: u8,
+    pub version: u32,
     /// The root of memory.
     pub mem: Digest32,
     /// The length and the root of the input, if the version has the input as a tree.

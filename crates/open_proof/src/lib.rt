@@ -18,6 +18,7 @@
 mod collision;
 mod facts;
 mod proving;
+mod ways;
 
 pub use collision::{proofs_from_one_root, step_collision};
 pub use facts::{
@@ -27,3 +28,4 @@ pub use facts::{
     states_name_registers,
 };
 pub use proving::{make_claim, make_proof};
+pub use ways::{Way, changed_chunk, changed_register, climb, root_after, ways_climb, ways_of};

@@ -11,10 +11,10 @@ ghost use Rattle.open_proof.specs.PlainClaim.{plain_claim};
 mod called;
 mod opening;
 
+use crate::facts::plain_proofs_lead;
 use crate::proving::called::called_by;
 use crate::proving::opening::{input_opening_at, named_openings, opening_at};
 use digest_core::{Digester, storage_text};
-use crate::facts::plain_proofs_lead;
 use rd_base::{
     Claim, ClaimOutput, Ctl, Digest32, Memory, Proof, StepProof, StepProof2, StepProof3,
 };

@@ -6,8 +6,8 @@ ghost use Rattle.open_proof.specs.Called as chunks;
 ghost use Rattle.open_proof.specs.Facts as facts;
 ghost use Rattle.open_proof.specs.Held as held;
 
-use crate::facts::{Facts, HeldInput, HeldRegisters};
 use crate::facts::names::{Names, named_by};
+use crate::facts::{Facts, HeldInput, HeldRegisters};
 use rd_base::{Ctl, Opening, RegOpening, Regs};
 use rv_decode::{Instr, decode};
 use rv_step::{Need, need};
@@ -98,7 +98,7 @@ pub fn file_shown(names: &[u8], regs: &HeldRegisters) -> Regs
 }
 
 /// The version whose needs an instruction has: 3 if the input is a tree, and else one that offers no input.
-pub fn offering(tree: &Option<HeldInput>) -> u8
+pub fn offering(tree: &Option<HeldInput>) -> u32
     ensures { result ≡ facts.offering tree.now }
 {
     match tree {

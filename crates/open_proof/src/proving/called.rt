@@ -5,12 +5,12 @@ ghost use Rattle.rv_step.specs.Named.{AreRegisters};
 ghost use Rattle.open_proof.specs.OpenedChunk as openings;
 ghost use Rattle.open_proof.specs.Shown as shown;
 
-use digest_core::Digester;
-use mem_plain::PlainMem;
 use crate::facts::{
     HeldInput, Names, address_needed, byte_needed, fetch_address, named_by, needed_by,
     states_name_registers,
 };
+use digest_core::Digester;
+use mem_plain::PlainMem;
 use rv_decode::{Instr, decode};
 use state_commit::{Committed, INPUT_TREE};
 
