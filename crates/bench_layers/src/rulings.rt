@@ -22,7 +22,7 @@ const PROGRAM: &[u8] =
 fn led<R: Threads + Sync>(
     rt: &R,
     alloc: Global,
-    version: u8,
+    version: u32,
     steps: u64,
     rulings: u64,
 ) -> Result<u64, Memory>

@@ -3,7 +3,7 @@ use Rattle.std.specs.Prelude.{ℕ}
 use Rattle.rv_step.specs.declared.effect.Effect.{Effect}
 use Rattle.rv_step.specs.declared.effect.Effect.TheVariants.{Put}
 use Rattle.open_proof.specs.Held.{Held}
-use Rattle.step_referee.specs.declared.carrying.Parts.{Parts}
+use Rattle.step_referee.specs.declared.check.carrying.Parts.{Parts}
 
 abbrev pub held_in : Parts → Held
 held_in parts = record { mem = parts.mem.0; regs = parts.regs; ctl = parts.ctl }

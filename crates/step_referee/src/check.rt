@@ -1,31 +1,28 @@
 //! The check of one proof: which of its conditions fails first, or to which root it leads.
-ghost use Rattle.std.specs.Prelude.{◌≡◌, ◌↔◌, ◌+◌, ◌≤◌, false, is_some};
+ghost use Rattle.std.specs.Prelude.{◌≡◌, ◌↔◌, ◌+◌, ◌≤◌, bytes_eq, false, is_some};
 ghost use Rattle.rd_base.specs.declared.digest.Digest32.{Digest32};
-ghost use Rattle.rv_step.specs.Named.{AreRegisters};
 ghost use Rattle.open_proof.specs.Conditions.{FirstFails, LeadsFrom, conditions};
 ghost use Rattle.open_proof.specs.Conditions.Refusal.{opening, shape};
 ghost use Rattle.open_proof.specs.Facts as facts_of_proof;
 ghost use Rattle.open_proof.specs.Next as next;
+ghost use Rattle.open_proof.specs.Openings as openings;
+ghost use Rattle.step_referee.specs.Tests as tests;
 ghost use Rattle.step_referee.specs.Tests.{checked, checked_ticks};
-ghost use Rattle.step_referee.specs.Ticks.{TicksUntil, condition_digests, step_ticks, most_alone, most_ticks, opening_digests, registers_changed_digests, registers_digests, storage_digests, digests_on, ticks_of};
+ghost use Rattle.step_referee.specs.Ticks.{TicksUntil, condition_digests, step_ticks, most_alone, most_ticks, opening_digests, registers_digests, storage_digests, ticks_of};
 
 mod carrying;
 mod laws;
-mod opening;
-
-pub use laws::leading_is_decided;
+mod roots;
 
 use crate::check::carrying::{Parts, step_on};
-use crate::check::opening::{
-    chunk_climbs, input_climbs, is_called, is_counted, registers_changed, registers_climb,
-    registers_held, root_of, storage_held,
-};
-use digest_core::Digester;
+use crate::check::roots::{registers_changed, registers_held, root_of, storage_held};
+use digest_core::{Counted, Digester};
+pub use laws::leading_is_decided;
 use open_proof::{
-    Facts, address_needed, byte_needed, facts_of, fetch_address, fetched_in, file_shown, named_by,
-    needed_by,
+    Facts, HeldRegisters, called_by, facts_of, fetch_address, file_shown, ways_climb, ways_of,
 };
-use rd_base::{Digest32, Proof, Regs, Steps, same_digest};
+use rd_base::{Digest32, Proof, Steps, same_digest};
+use rv_step::names_are_registers;
 use std::sync::ledger::Ledger;
 
 /// What a proof of one step comes to.
@@ -40,104 +37,118 @@ pub enum StepCheck {
 }
 
 /// The root that a proof's parts make.
-fn root_before<D: Digester, L: Ledger>(d: D, facts: &Facts, steps: &mut Steps<L>) -> Digest32
-    ensures digest { result.0 ≡ next.root_before D.digest_of facts.now }
+fn root_before<C: Counted, L: Ledger>(c: C, facts: &Facts, steps: &mut Steps<L>) -> Digest32
+    ensures digest { result.0 ≡ next.root_before C.digest_of facts.now }
     ensures steps { steps.new ≡ steps.old + registers_digests facts.now.regs + storage_digests facts.now.input_tree + 2 }
 {
-    let regs = registers_held(d, &facts.regs, steps);
-    let storage = storage_held(d, &facts.input_tree, &facts.mem, steps);
-    root_of(d, &storage, &regs, &facts.ctl, steps)
+    let regs = registers_held(c, &facts.regs, steps);
+    let storage = storage_held(c, &facts.input_tree, &facts.mem, steps);
+    root_of(c, &storage, &regs, &facts.ctl, steps)
 }
 
-/// The root that a proof's parts make after the step, from the register file that is shown.
-fn root_next<D: Digester, L: Ledger>(
-    d: D,
+/// Whether a proof's parts make a root.
+fn parts_open<C: Counted, L: Ledger>(
+    c: C,
+    a: &Digest32,
+    facts: &Facts,
+    steps: &mut Steps<L>,
+) -> bool
+    ensures value { result ≡ bytes_eq a.now.0 (next.root_before C.digest_of facts.now) }
+    ensures steps { steps.new ≡ steps.old + registers_digests facts.now.regs + storage_digests facts.now.input_tree + 2 }
+{
+    same_digest(a, &root_before(c, facts, steps))
+}
+
+/// The root that a proof's parts make after the step, by the registers that the instruction names.
+fn root_next<C: Counted, L: Ledger>(
+    c: C,
     facts: &Facts,
     names: &[u8],
-    file: &Regs,
     steps: &mut Steps<L>,
 ) -> Digest32
-    requires { AreRegisters names.now }
-    ensures digest { result.0 ≡ next.root_of_next D.digest_of facts.now.input_tree names.now facts.now.regs file.now
-        (next.step_held D.digest_of facts.now.fetch facts.now.operand (facts_of_proof.offer_shown facts.now.input_tree facts.now.input) (record { mem = facts.now.mem.0; regs = file.now; ctl = facts.now.ctl })) }
-    ensures steps { steps.new ≡ steps.old + 1
-        + (digests_on facts.now.fetch facts.now.operand (facts_of_proof.offer_shown facts.now.input_tree facts.now.input) (record { mem = facts.now.mem.0; regs = file.now; ctl = facts.now.ctl })
-        + registers_changed_digests names.now facts.now.regs file.now (next.step_held D.digest_of facts.now.fetch facts.now.operand (facts_of_proof.offer_shown facts.now.input_tree facts.now.input) (record { mem = facts.now.mem.0; regs = file.now; ctl = facts.now.ctl })).regs
-        + storage_digests facts.now.input_tree + 2) }
+    requires { names.now ≡ facts_of_proof.named_called facts.now }
+    ensures digest { result.0 ≡ next.root_next C.digest_of facts.now }
+    ensures steps { steps.new ≡ steps.old + step_ticks C.digest_of facts.now }
 {
+    names_are_registers();
     let parts = Parts {
         mem: facts.mem,
-        regs: *file,
+        regs: file_shown(names, &facts.regs),
         ctl: facts.ctl,
     };
-    let after = step_on(
-        d,
-        parts,
-        &facts.fetch,
-        &facts.operand,
-        &facts.input_tree,
-        &facts.input,
-        steps,
-    );
-    let regs = registers_changed(d, names, &facts.regs, file, &after.regs, steps);
-    let storage = storage_held(d, &facts.input_tree, &after.mem, steps);
-    root_of(d, &storage, &regs, &after.ctl, steps)
+    let after = step_on(c, parts, facts, steps);
+    let regs = registers_changed(c, names, &facts.regs, &after.regs, steps);
+    let storage = storage_held(c, &facts.input_tree, &after.mem, steps);
+    root_of(c, &storage, &regs, &after.ctl, steps)
+}
+
+/// Whether something is there if and only if it is called for.
+fn is_called<T>(there: &Option<T>, place: Option<u32>) -> bool
+    ensures { result ≡ tests.is_called there.now place }
+{
+    there.is_some() == place.is_some()
+}
+
+/// Whether as many registers are opened as are named.
+fn is_counted(names: &[u8], regs: &HeldRegisters) -> bool
+    ensures { result ≡ openings.is_counted names.now regs.now }
+{
+    match regs {
+        HeldRegisters::Whole(_regs) => true,
+        HeldRegisters::Opened(_root, named) => named.as_slice().len() == names.len(),
+    }
 }
 
 /// The answer to what a proof holds, by its tests in their order.
 #[tactic(auto, unfolding(crate::specs::Tests::checked, crate::specs::Tests::checked_ticks))]
-fn check_facts<D: Digester, L: Ledger>(
-    d: D,
-    version: u8,
+fn check_facts<C: Counted, L: Ledger>(
+    c: C,
+    version: u32,
     a: Digest32,
     facts: &Facts,
     steps: &mut Steps<L>,
 ) -> StepCheck
-    ensures value { result ≡ checked D.digest_of version a facts.now }
-    ensures counted { steps.new ≡ checked_ticks D.digest_of version a facts.now steps.old }
-    ensures exactly { (b : Digest32) → result ≡ StepCheck.Leads b → steps.new ≡ steps.old + ticks_of D.digest_of facts.now }
+    ensures value { result ≡ checked C.digest_of version a facts.now }
+    ensures counted { steps.new ≡ checked_ticks C.digest_of version a facts.now steps.old }
+    ensures exactly { (b : Digest32) → result ≡ StepCheck.Leads b → steps.new ≡ steps.old + ticks_of C.digest_of facts.now }
     ensures not_open { result ≡ StepCheck.NotOpen → steps.new ≤ steps.old + opening_digests facts.now }
     ensures wrong_shape { result ≡ StepCheck.WrongShape → steps.new ≤ steps.old + opening_digests facts.now }
 {
+    let called = called_by(facts);
+    let names = called.names.as_slice();
+    let ways = ways_of(facts, &called);
+    let ways = &ways[..];
     if facts.version != version {
         return StepCheck::WrongShape;
     }
-    let fetch = fetch_address(&facts.ctl);
-    if !is_called(&facts.fetch, fetch) {
+    if !is_called(&facts.fetch, fetch_address(&facts.ctl)) {
         return StepCheck::WrongShape;
     }
-    if !same_digest(&a, &root_before(d, facts, steps)) {
+    if !parts_open(c, &a, facts, steps) {
         return StepCheck::NotOpen;
     }
-    if !chunk_climbs(d, &facts.mem, &facts.fetch, fetch, steps) {
+    if !ways_climb(c, &ways[0..1], steps) {
         return StepCheck::NotOpen;
     }
-    let instr = fetched_in(&facts.fetch, fetch);
-    let named = named_by(&instr);
-    let names = named.as_slice();
     if !is_counted(names, &facts.regs) {
         return StepCheck::WrongShape;
     }
-    if !registers_climb(d, names, &facts.regs, steps) {
+    if !ways_climb(c, &ways[1..4], steps) {
         return StepCheck::NotOpen;
     }
-    let file = file_shown(names, &facts.regs);
-    let needed = needed_by(&facts.input_tree, &file, facts.ctl.pc, &instr);
-    let operand = address_needed(needed);
-    if !is_called(&facts.operand, operand) {
+    if !is_called(&facts.operand, called.operand) {
         return StepCheck::WrongShape;
     }
-    if !chunk_climbs(d, &facts.mem, &facts.operand, operand, steps) {
+    if !ways_climb(c, &ways[4..5], steps) {
         return StepCheck::NotOpen;
     }
-    let byte = byte_needed(&facts.input_tree, needed);
-    if !is_called(&facts.input, byte) {
+    if !is_called(&facts.input, called.input) {
         return StepCheck::WrongShape;
     }
-    if !input_climbs(d, &facts.input_tree, &facts.input, byte, steps) {
+    if !ways_climb(c, &ways[5..6], steps) {
         return StepCheck::NotOpen;
     }
-    StepCheck::Leads(root_next(d, facts, names, &file, steps))
+    StepCheck::Leads(root_next(c, facts, names, steps))
 }
 
 /// The root to which a proof leads from the root `a`, for a referee of a version: `Leads` if and only if its conditions hold, and then to
@@ -150,14 +161,14 @@ fn check_facts<D: Digester, L: Ledger>(
 /// calls for it, or there though it doesn't; `NotOpen` if that doesn't open the root of memory; and the same for the chunk of the input
 /// (`not_open`, `wrong_shape`).
 ///
-/// `steps` ticks once for each digest and once for the step of the machine, which is read off the code and not proved: at most 91, 101 or
-/// 103 times, by the version (`few`), and at most 36, 57 or 69 times if there is no data chunk (`alone`). If it leads, it ticks
-/// exactly as often as its openings and its step take (`exactly`). If it refuses, it ticks exactly as often as the conditions take up
-/// to the first that fails, and for those of shape not at all: for the root all strings of the parts are digested, and for openings all
-/// their ways up, be the first of them wrong or the last (`counted`).
+/// `steps` ticks once for each digest that the answer depends on, which the type of the functions below shows (`Counted`), and once for
+/// the step of the machine: at most 91, 101 or 103 times, by the version (`few`), and at most 36, 57 or 69 times if there is no data
+/// chunk (`alone`). If it leads, it ticks exactly as often as its openings and its step take (`exactly`). If it refuses, it ticks
+/// exactly as often as the conditions take up to the first that fails, and for those of shape not at all: for the root all strings of
+/// the parts are digested, and for openings all their ways up, be the first of them wrong or the last (`counted`).
 pub fn check_step<D: Digester, L: Ledger>(
     d: D,
-    version: u8,
+    version: u32,
     a: Digest32,
     proof: &Proof,
     steps: &mut Steps<L>,

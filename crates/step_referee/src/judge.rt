@@ -1,3 +1,4 @@
+//! The judge of the machine, by a digester and a version of the commitment.
 ghost use Rattle.std.specs.Prelude.{◌≡◌, ◌↔◌};
 ghost use Rattle.rd_base.specs.declared.digest.Digest32.{Digest32};
 ghost use Rattle.open_proof.specs.Conditions.{LeadsFrom};
@@ -6,19 +7,19 @@ ghost use Rattle.step_referee.specs.declared.check.StepCheck.TheVariants as Step
 ghost use Rattle.step_referee.specs.MachineRuling.{machine_ruling};
 ghost use Rattle.step_referee.specs.MachineFair.{machine_ruling_is_fair};
 
+use crate::check::{StepCheck, check_step, leading_is_decided};
 use bisect_game::Judge;
 use digest_core::Digester;
-use out_chain::{check_claim, collision_below, parts_text};
 use open_proof::proofs_are_in_range;
-use rd_base::{Claim, Digest32, OpenText, Proof, Steps, same_digest};
+use out_chain::{check_claim, claim_collision, root_of_claim};
+use rd_base::{Claim, Digest32, OpenText, Proof, Steps};
 use std::marker::Brand;
 use std::sync::ledger::{Blank, Ledger};
-use crate::check::{StepCheck, check_step, leading_is_decided};
 
 /// What the check says of a proof, with a counter of its own.
 fn checked<D: Digester, L: Ledger>(
     d: D,
-    version: u8,
+    version: u32,
     from: Digest32,
     proof: &Proof,
     blank: Blank,
@@ -36,7 +37,7 @@ fn checked<D: Digester, L: Ledger>(
 #[derive(Clone, Copy, Debug)]
 pub struct MachineNames {
     /// The version of the commitment: 1, 2 or 3. In another one no proof leads anywhere.
-    pub version: u8,
+    pub version: u32,
 }
 
 /// The judge of the machine: claims and proofs of its steps in a version of the commitment, with digests by `D`. It takes no memory.
@@ -45,12 +46,12 @@ pub struct MachineJudge<D> {
     /// What digests strings. Its type alone says how.
     pub digester: D,
     /// The version of the commitment.
-    pub version: u8,
+    pub version: u32,
 }
 
 impl<D: Digester> MachineJudge<D> {
     /// The judge of a version that digests by `d`.
-    pub fn new(d: D, version: u8) -> Self
+    pub fn new(d: D, version: u32) -> Self
         ensures digester { result.digester ≡ d }
         ensures version { result.version ≡ version }
     {
@@ -75,8 +76,7 @@ impl<D: Digester> Judge for MachineJudge<D> {
     }
 
     fn root_of(&self, claim: &Claim) -> Digest32 {
-        let text = parts_text(self.digester, claim.mem, claim.regs, &claim.ctl);
-        self.digester.digest(text.as_slice())
+        root_of_claim(self.digester, claim)
     }
 
     fn leads(&self, from: Digest32, proof: &Proof) -> Option<Digest32> {
@@ -89,20 +89,8 @@ impl<D: Digester> Judge for MachineJudge<D> {
         }
     }
 
-    #[tactic(auto, unfolding(out_chain::specs::Collision::claim_collision, out_chain::specs::Collision::first_collision))]
     fn claim_collision(&self, first: &Claim, second: &Claim) -> Option<(OpenText, OpenText)> {
-        let x = parts_text(self.digester, first.mem, first.regs, &first.ctl);
-        let y = parts_text(self.digester, second.mem, second.regs, &second.ctl);
-        let of_x = self.digester.digest(x.as_slice());
-        let of_y = self.digester.digest(y.as_slice());
-        // Claims of two roots have none. Of one root the state strings come first, and then what stands below them.
-        if !same_digest(&of_x, &of_y) {
-            return None;
-        }
-        if x.as_slice() != y.as_slice() {
-            return Some((x, y));
-        }
-        collision_below(self.digester, first, second)
+        claim_collision(self.digester, first, second)
     }
 
     fn step_collision(

@@ -13,7 +13,7 @@ use std::thread::Threads;
 pub(crate) fn machine_of<R: Threads + Sync>(
     rt: &R,
     alloc: Global,
-    version: u8,
+    version: u32,
     image: &[u8],
     input: &[u8],
 ) -> Result<Committed<Sha256>, Memory>
@@ -30,7 +30,7 @@ pub(crate) fn machine_of<R: Threads + Sync>(
 pub(crate) fn machine_after<R: Threads + Sync>(
     rt: &R,
     alloc: Global,
-    version: u8,
+    version: u32,
     image: &[u8],
     input: &[u8],
     steps: u32,

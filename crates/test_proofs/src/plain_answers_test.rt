@@ -5,8 +5,7 @@ use crate::machines::{machine_after, machine_of};
 use crate::programs::{DIVIDES, EDGES, JUMPS, PUTS, READS, STORES};
 use digest_core::{Sha256, leaf_text, register_text};
 use merkle_nodes::climb;
-use open_proof::make_proof;
-use open_proof::{Facts, HeldRegisters, facts_of};
+use open_proof::{Facts, HeldRegisters, facts_of, make_proof};
 use proof_wire::encode;
 use rd_base::{Answer, Boxed, Digest32, Memory, Opening, RegOpening};
 use state_commit::Committed;
@@ -90,7 +89,7 @@ fn chunks_open(committed: &Committed<Sha256>, chunks: Chunks) -> bool {
 fn all_open<R: Threads + Sync>(
     rt: &R,
     alloc: Global,
-    version: u8,
+    version: u32,
     image: &[u8],
     rows: &[Chunks],
 ) -> Result<bool, Memory>
@@ -151,7 +150,7 @@ fn registers_open(facts: &Facts, named: &[u8]) -> bool {
 fn names_open<R: Threads + Sync>(
     rt: &R,
     alloc: Global,
-    version: u8,
+    version: u32,
     image: &[u8],
     rows: &[&[u8]],
 ) -> Result<bool, Memory>
@@ -228,7 +227,7 @@ fn proofs_open_the_chunk_of_the_input_that_is_read(rt: HostRuntime) -> Result<()
 fn length_after<R: Threads + Sync>(
     rt: &R,
     alloc: Global,
-    version: u8,
+    version: u32,
     image: &[u8],
     input: &[u8],
     steps: u32,

@@ -101,7 +101,7 @@ fn reading(input_len: u32, x17: u32, byte: u8) -> Proof {
 }
 
 /// Whether what two proofs of a version have as their collision is these two strings.
-fn is_pair(version: u8, first: &Proof, second: &Proof, x: &OpenText, y: &OpenText) -> bool {
+fn is_pair(version: u32, first: &Proof, second: &Proof, x: &OpenText, y: &OpenText) -> bool {
     match step_collision(DIGESTER, version, DIGESTER.digest(&[]), first, second) {
         Some((found, other)) => {
             found.as_slice() == x.as_slice() && other.as_slice() == y.as_slice()
@@ -148,7 +148,7 @@ fn proofs_collide_in_their_first_different_strings(rt: HostRuntime) {
 }
 
 /// Whether two proofs have a collision from a root, for a judge of a version.
-fn collide(version: u8, root: Digest32, first: &Proof, second: &Proof) -> bool {
+fn collide(version: u32, root: Digest32, first: &Proof, second: &Proof) -> bool {
     step_collision(DIGESTER, version, root, first, second).is_some()
 }
 

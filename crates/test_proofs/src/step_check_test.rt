@@ -17,7 +17,7 @@ use std::test::Fail;
 use std::thread::Threads;
 use step_referee::{StepCheck, check_step};
 
-fn checked_in<L: Ledger>(version: u8, a: Digest32, proof: &Proof, blank: Blank) -> StepCheck
+fn checked_in<L: Ledger>(version: u32, a: Digest32, proof: &Proof, blank: Blank) -> StepCheck
     requires name { blank.name ≡ L.name }
     requires parts { blank.parts ≡ L.parts }
     requires one { L.parts ≡ 1 }
@@ -27,7 +27,7 @@ fn checked_in<L: Ledger>(version: u8, a: Digest32, proof: &Proof, blank: Blank) 
 }
 
 /// What a proof comes to from a root, for a referee of a version.
-fn checked(version: u8, a: Digest32, proof: &Proof) -> StepCheck {
+fn checked(version: u32, a: Digest32, proof: &Proof) -> StepCheck {
     checked_in::<Brand>(version, a, proof, Blank::new(1))
 }
 
@@ -39,7 +39,7 @@ const WRONG_SHAPE: StepCheck = StepCheck::WrongShape;
 type Plain = (Digest32, Proof, Digest32);
 
 /// The machine that is about to carry out the store of `STORES`, which is its third step.
-fn plain_store<R: Threads + Sync>(rt: &R, alloc: Global, version: u8) -> Result<Plain, Fail>
+fn plain_store<R: Threads + Sync>(rt: &R, alloc: Global, version: u32) -> Result<Plain, Fail>
     requires { (1 ≤ version) × (version ≤ 3) }
 {
     let committed = machine_after(rt, alloc, version, STORES, b"", 2)?;

@@ -14,7 +14,7 @@ use std::thread::Threads;
 use step_referee::MachineJudge;
 
 /// Another version.
-fn other_version(version: u8) -> u8 {
+fn other_version(version: u32) -> u32 {
     match version {
         1 => 2,
         2 => 3,
@@ -27,7 +27,7 @@ fn other_version(version: u8) -> u8 {
 fn proofs_lead<R: Threads + Sync>(
     rt: &R,
     alloc: Global,
-    version: u8,
+    version: u32,
     image: &[u8],
     input: &[u8],
     steps: u32,

@@ -1,21 +1,18 @@
 //! The step on the parts that a proof opens.
 ghost use Rattle.std.specs.Prelude.{◌≡◌, ◌+◌, ◌*◌, ◌%◌, ◌≤◌, ℕ, List, Option, None};
 ghost use Rattle.rd_base.specs.declared.opened.Opening.{Opening};
-ghost use Rattle.mem_plain.specs.Page.{with_number_in};
 ghost use Rattle.rv_step.specs.Effect.{effect_with};
 ghost use Rattle.rv_step.specs.Parts.{finished};
 ghost use Rattle.rv_step.specs.declared.effect.Effect.TheVariants as effects;
-ghost use Rattle.open_proof.specs.Held.{held_after, mem_after, number_shown as shown};
-ghost use Rattle.open_proof.specs.Facts as facts;
+ghost use Rattle.open_proof.specs.Held.{held_after, number_shown as shown};
+ghost use Rattle.open_proof.specs.Facts as facts_of_proof;
 ghost use Rattle.open_proof.specs.Next.{step_held};
 ghost use Rattle.step_referee.specs.HeldParts.{held_in, links_of_effect};
-ghost use Rattle.step_referee.specs.Ticks.{chunk_count, digests_of_effect, digests_on};
+ghost use Rattle.step_referee.specs.Ticks.{digests_of_effect, digests_on};
 
-use crate::check::opening::climb_chunk;
-use digest_core::{Digester, link_text};
-use merkle_nodes::digest_counted;
-use open_proof::{HeldInput, number_shown, offering};
-use rd_base::{Ctl, Digest32, InOpening, Opening, Regs, Status, Steps};
+use digest_core::{Counted, link_text};
+use open_proof::{Facts, HeldInput, changed_chunk, number_shown, offering, root_after};
+use rd_base::{Ctl, Digest32, InOpening, Regs, Status, Steps};
 use rv_decode::{Instr, decode};
 use rv_step::{
     ILLEGAL_INSTRUCTION, MISALIGNED_JUMP, Need, Outcome, finish, need, two_parts_are_the_step,
@@ -46,14 +43,14 @@ fn trapped(parts: Parts, code: u32) -> Parts
 
 /// Finishes an instruction for which memory has been read and written, with the number that was read. A byte that is put
 /// costs one digest.
-fn finish_on<D: Digester, L: Ledger>(
-    d: D,
+fn finish_on<C: Counted, L: Ledger>(
+    c: C,
     parts: Parts,
     instr: &Instr,
     loaded: u32,
     steps: &mut Steps<L>,
 ) -> Parts
-    ensures held { held_in result ≡ held_after D.digest_of None (held_in parts)
+    ensures held { held_in result ≡ held_after C.digest_of None (held_in parts)
         (finished parts.regs parts.ctl.pc loaded instr.now) }
     ensures steps { steps.new ≡ steps.old + links_of_effect (finished parts.regs parts.ctl.pc loaded instr.now) }
 {
@@ -63,7 +60,7 @@ fn finish_on<D: Digester, L: Ledger>(
         Outcome::Next => {}
         Outcome::Put(byte) => {
             ctl.out_len = ctl.out_len.wrapping_add(1);
-            ctl.chain = digest_counted(d, &link_text(&ctl.chain, byte), steps);
+            ctl.chain = c.digest(&link_text(&ctl.chain, byte), steps);
         }
         Outcome::Exit(code) => ctl.status = Status::Exited(code),
         Outcome::Trap(code) => ctl.status = Status::Trapped(code),
@@ -75,50 +72,9 @@ fn finish_on<D: Digester, L: Ledger>(
     }
 }
 
-/// The chunk with the low `width` bytes of a value from a place on, the least byte first.
-fn with_number(chunk: [u8; 32], at: usize, width: u8, value: u32) -> [u8; 32]
-    requires { at + width ≤ 32 }
-    ensures { result ≡ with_number_in chunk at width value }
-{
-    let mut bytes = chunk;
-    let mut rest = value;
-    'bytes: for k in 0..width {
-        bytes[at + k as usize] = (rest % 256) as u8;
-        rest /= 256;
-    }
-    bytes
-}
-
-/// The root of memory after a number was stored: its chunk, changed, climbed with the same siblings, by 28 digests. It
-/// stays if no chunk is there.
-fn stored<D: Digester, L: Ledger>(
-    d: D,
-    operand: &Option<Opening>,
-    mem: Digest32,
-    addr: u32,
-    width: u8,
-    value: u32,
-    steps: &mut Steps<L>,
-) -> Digest32
-    requires { addr % 32 + width ≤ 32 }
-    ensures digest { result.0 ≡ mem_after D.digest_of operand.now mem.0 (effects.Store addr width value) }
-    ensures steps { steps.new ≡ steps.old + 28 * chunk_count operand.now }
-{
-    match operand {
-        Some(opening) => {
-            let changed = Opening {
-                chunk: with_number(opening.chunk, (addr % 32) as usize, width, value),
-                path: opening.path,
-            };
-            climb_chunk(d, &changed, addr, steps)
-        }
-        None => mem,
-    }
-}
-
 /// A byte of the opened chunk of the input, and 0 if none is there.
 fn byte_in(input: &Option<InOpening>, k: u32) -> u32
-    ensures { result ≡ facts.byte_in input.now k }
+    ensures { result ≡ facts_of_proof.byte_in input.now k }
 {
     match input {
         Some(opening) => u32::from(opening.chunk[(k % 32) as usize]),
@@ -128,7 +84,7 @@ fn byte_in(input: &Option<InOpening>, k: u32) -> u32
 
 /// A byte of the input as far as it is shown, and all ones if the input has no such byte.
 fn byte_shown(tree: &Option<HeldInput>, input: &Option<InOpening>, k: u32) -> u32
-    ensures { result ≡ facts.byte_shown tree.now input.now k }
+    ensures { result ≡ facts_of_proof.byte_shown tree.now input.now k }
 {
     match tree {
         Some(tree) => {
@@ -142,59 +98,61 @@ fn byte_shown(tree: &Option<HeldInput>, input: &Option<InOpening>, k: u32) -> u3
     }
 }
 
-/// Carries an instruction out, with the chunk that it reads or writes and the chunk of the input that it reads a byte of.
-fn carry_out<D: Digester, L: Ledger>(
-    d: D,
+/// Carries an instruction out, with the chunk of memory that it reads or writes and the chunk of the input that it reads a byte of, as
+/// a proof opens them.
+fn carry_out<C: Counted, L: Ledger>(
+    c: C,
     parts: Parts,
     instr: &Instr,
-    operand: &Option<Opening>,
-    tree: &Option<HeldInput>,
-    input: &Option<InOpening>,
+    facts: &Facts,
     steps: &mut Steps<L>,
 ) -> Parts
-    ensures held { held_in result ≡ held_after D.digest_of operand.now (held_in parts)
-        (effect_with (facts.offer_shown tree.now input.now) parts.regs parts.ctl.pc (shown operand.now) instr.now) }
+    ensures held { held_in result ≡ held_after C.digest_of facts.now.operand (held_in parts)
+        (effect_with (facts_of_proof.offer_shown facts.now.input_tree facts.now.input) parts.regs parts.ctl.pc (shown facts.now.operand) instr.now) }
     ensures steps { steps.new ≡ steps.old
-        + digests_of_effect operand.now (effect_with (facts.offer_shown tree.now input.now) parts.regs parts.ctl.pc (shown operand.now) instr.now) }
+        + digests_of_effect facts.now.operand (effect_with (facts_of_proof.offer_shown facts.now.input_tree facts.now.input) parts.regs parts.ctl.pc (shown facts.now.operand) instr.now) }
 {
     two_parts_are_the_step();
-    match need(offering(tree), &parts.regs, parts.ctl.pc, instr) {
-        Need::Nothing => finish_on(d, parts, instr, 0, steps),
+    match need(
+        offering(&facts.input_tree),
+        &parts.regs,
+        parts.ctl.pc,
+        instr,
+    ) {
+        Need::Nothing => finish_on(c, parts, instr, 0, steps),
         Need::Load { addr, width } => {
-            let loaded = number_shown(operand, addr, width);
-            finish_on(d, parts, instr, loaded, steps)
+            let loaded = number_shown(&facts.operand, addr, width);
+            finish_on(c, parts, instr, loaded, steps)
         }
         Need::Store { addr, width, value } => {
-            let mem = stored(d, operand, parts.mem, addr, width, value, steps);
+            let changed = changed_chunk(parts.mem, &facts.operand, addr, width, value);
+            let mem = root_after(c, parts.mem, &changed, steps);
             let after = Parts {
                 mem,
                 regs: parts.regs,
                 ctl: parts.ctl,
             };
-            finish_on(d, after, instr, 0, steps)
+            finish_on(c, after, instr, 0, steps)
         }
         Need::Input { index } => {
-            let loaded = byte_shown(tree, input, index);
-            finish_on(d, parts, instr, loaded, steps)
+            let loaded = byte_shown(&facts.input_tree, &facts.input, index);
+            finish_on(c, parts, instr, loaded, steps)
         }
         Need::Trap(code) => trapped(parts, code),
     }
 }
 
-/// The step, from the chunk that holds the word at `pc`, the chunk that the instruction reads or writes and the chunk of the input
-/// that it reads a byte of. It ticks once for the step, and for its digests.
+/// The step, from the chunks that a proof opens: the one with the word at `pc`, the one that the instruction reads or writes, and the
+/// one of the input that it reads a byte of. It ticks once for the step, and for its digests.
 #[tactic(auto, unfolding(open_proof::specs::Next::step_held, crate::specs::Ticks::digests_on))]
-pub(crate) fn step_on<D: Digester, L: Ledger>(
-    d: D,
+pub(crate) fn step_on<C: Counted, L: Ledger>(
+    c: C,
     parts: Parts,
-    fetch: &Option<Opening>,
-    operand: &Option<Opening>,
-    tree: &Option<HeldInput>,
-    input: &Option<InOpening>,
+    facts: &Facts,
     steps: &mut Steps<L>,
 ) -> Parts
-    ensures held { held_in result ≡ step_held D.digest_of fetch.now operand.now (facts.offer_shown tree.now input.now) (held_in parts) }
-    ensures steps { steps.new ≡ steps.old + 1 + digests_on fetch.now operand.now (facts.offer_shown tree.now input.now) (held_in parts) }
+    ensures held { held_in result ≡ step_held C.digest_of facts.now.fetch facts.now.operand (facts_of_proof.offer_shown facts.now.input_tree facts.now.input) (held_in parts) }
+    ensures steps { steps.new ≡ steps.old + 1 + digests_on facts.now.fetch facts.now.operand (facts_of_proof.offer_shown facts.now.input_tree facts.now.input) (held_in parts) }
 {
     steps.tick();
     if !parts.ctl.status.is_running() {
@@ -203,8 +161,8 @@ pub(crate) fn step_on<D: Digester, L: Ledger>(
     if parts.ctl.pc % 4 != 0 {
         return trapped(parts, MISALIGNED_JUMP);
     }
-    match decode(number_shown(fetch, parts.ctl.pc, 4)) {
-        Some(instr) => carry_out(d, parts, &instr, operand, tree, input, steps),
+    match decode(number_shown(&facts.fetch, parts.ctl.pc, 4)) {
+        Some(instr) => carry_out(c, parts, &instr, facts, steps),
         None => trapped(parts, ILLEGAL_INSTRUCTION),
     }
 }
