@@ -1,5 +1,5 @@
 -- An answer that is read is spelled by the bytes, and each answer that they spell is read.
-use Rattle.std.proofs.Common.{◌≡◌, ◌≢◌, ℕ, ◌+◌, ◌^◌, ◌<◌, ◌≤◌, Bool, true, false, cond, eqb, ltb, List, [], ◌∷◌, ◌++◌, length, Result, Ok, Err, refl, sym, ap, subst, ◌∙◌, inl, inr, arith}
+use Rattle.std.proofs.Common.{◌≡◌, ◌≢◌, ℕ, ◌+◌, ◌^◌, ◌<◌, ◌≤◌, Bool, true, false, ◌||◌, cond, eqb, ltb, List, [], ◌∷◌, ◌++◌, length, Result, Ok, Err, refl, sym, ap, subst, ◌∙◌, inl, inr, arith}
 use Rattle.std.specs.Prelude.{IfOk}
 use Rattle.std.proofs.lemmas.Bool.{eqb-true, eqb-false, ne_eqb, ltb-false, le-ltb}
 use Rattle.std.proofs.lemmas.List.{append-nil, nil_from_length}
@@ -8,6 +8,7 @@ use Rattle.rd_base.specs.declared.claim.Claim.{Claim}
 use Rattle.rd_base.specs.declared.proof.StepProof.{StepProof}
 use Rattle.rd_base.specs.declared.proof.StepProof2.{StepProof2}
 use Rattle.rd_base.specs.declared.proof.StepProof3.{StepProof3}
+use Rattle.rd_base.specs.declared.proof.Proof.{Proof}
 use Rattle.rd_base.specs.declared.proof.Proof.TheVariants.{V1, V2, V3}
 use Rattle.rd_base.specs.declared.answer.Answer.{Answer}
 use Rattle.rd_base.specs.declared.answer.Answer.TheVariants as answers
@@ -15,7 +16,7 @@ use Rattle.rd_base.specs.Results.{◌>>=◌, Gives}
 use Rattle.proof_wire.specs.declared.fault.WireFault.{WireFault}
 use Rattle.proof_wire.specs.declared.fault.WireFault.TheVariants.{BadTag, TrailingBytes, BadLength, Memory}
 use Rattle.proof_wire.specs.Wire.{Form, ◌‖◌, byte, word, double_word, each, digest, control, registers, opening, register_opening, input_opening, optional, flag, output, claim, roots, step_proof, count, step_proof_2, step_proof_3, wire_form, Spells}
-use Rattle.proof_wire.specs.Reading.{Read, at_most, has_flag, block_at, byte_at, word_at, double_word_at, digest_at, each_at, control_at, registers_at, opening_at, register_opening_at, input_opening_at, output_at, claim_at, root_count, roots_at, step_proof_at, step_proof_2_at, step_proof_3_at, answer_at, answer_in}
+use Rattle.proof_wire.specs.Reading.{Read, only_step, step_in, at_most, has_flag, block_at, byte_at, word_at, double_word_at, digest_at, each_at, control_at, registers_at, opening_at, register_opening_at, input_opening_at, output_at, claim_at, root_count, roots_at, step_proof_at, step_proof_2_at, step_proof_3_at, answer_at, answer_in}
 use Rattle.proof_wire.proofs.FieldLemmas.{AreBytes, AreBytes-behind, bind_ok, guard_ok, ok_is, Takes, Takes-then, Reads, next, next_of, long_behind, behind_at_least, block_takes, block_again, digest_reads, word_reads, double_word_reads, each_reads}
 use Rattle.proof_wire.proofs.FormLemmas.{chosen, byte_reads, control_reads, length-control, registers_reads, length-registers, at_least_next, then_takes, then_at_most, at_most_next, opening_reads, register_opening_reads, input_opening_reads, then_optional, optional_next, optional_next_of, flags_are, flags_3_are, flags_say, flags_3_say, each_counted, count_takes}
 
@@ -345,3 +346,35 @@ is_found bytes (Err fault) are gives = tt
 
 pub is_only : (bytes : List ℕ) (result : Result Answer WireFault) (a : Answer) → Spells a bytes → Gives Memory (λ a. a) result (answer_in bytes) → Gives Memory (λ a. a) result (Ok a)
 is_only bytes result a spells gives = subst (λ (reading : Result Answer WireFault). Gives Memory (λ a. a) result reading) (read_again a bytes spells) gives
+
+-- ---- the step alone
+
+-- a step is read of bytes if and only if they have its tag and it is the answer
+step-answer : (bytes : List ℕ) (p : Proof) → step_in bytes ≡ Ok p → answer_in bytes ≡ Ok (answers.Step p)
+step-answer [] p e = absurd cc
+step-answer (tag ∷ bytes) p e = go (answer_in (tag ∷ bytes)) (behind (eqb tag 3 || eqb tag 4 || eqb tag 6) e)
+  where
+    behind : (b : Bool) → cond b (only_step (answer_in (tag ∷ bytes))) (Err BadTag) ≡ Ok p → only_step (answer_in (tag ∷ bytes)) ≡ Ok p
+    behind true is = is
+    behind false is = absurd cc
+
+    go : (r : Result Answer WireFault) → only_step r ≡ Ok p → r ≡ Ok (answers.Step p)
+    go (Ok (answers.Step q)) is = ap (λ x. Ok (answers.Step x)) (ok_is q p is)
+    go (Ok (answers.Claim x)) is = absurd cc
+    go (Ok (answers.Root x)) is = absurd cc
+    go (Ok (answers.Roots x)) is = absurd cc
+    go (Err fault) is = absurd cc
+
+-- the step that the bytes spell is read
+pub step_again : (p : Proof) (bytes : List ℕ) → Spells (answers.Step p) bytes → step_in bytes ≡ Ok p
+step_again p bytes spells = ap step_in spells.1 ∙ at_tag p (ap only_step (ap answer_in (sym spells.1) ∙ read_again (answers.Step p) bytes spells))
+  where
+    at_tag : (q : Proof) → only_step (answer_in (wire_form (answers.Step q)).bytes) ≡ Ok p → step_in (wire_form (answers.Step q)).bytes ≡ Ok p
+    at_tag (V1 q) is = is
+    at_tag (V2 q) is = is
+    at_tag (V3 q) is = is
+
+-- the step that is read is spelled by the bytes
+pub is_step_found : (bytes : List ℕ) (result : Result Proof WireFault) → AreBytes bytes → result ≡ step_in bytes → IfOk result (λ p. Spells (answers.Step p) bytes)
+is_step_found bytes (Ok p) are is = spelled bytes (answers.Step p) are (step-answer bytes p (sym is))
+is_step_found bytes (Err fault) are is = tt

@@ -1,6 +1,6 @@
 -- Derived: what bytes are read as, field by field, or the first fault. What is read is tied to the wire forms by the
 -- clauses of `decode`, and the fault to lengths and places by the law `faults_by_places`.
-use Rattle.std.specs.Prelude.{ℕ, zero, suc, List, [], ◌∷◌, length, take, drop, ◌/◌, ◌%◌, Option, Some, None, Result, Ok, Err, Bool, true, false, nat_lt, ◌==◌, if◌then◌else◌}
+use Rattle.std.specs.Prelude.{◌≡◌, ℕ, zero, suc, List, [], ◌∷◌, length, take, drop, ◌/◌, ◌%◌, Option, Some, None, Result, Ok, Err, Bool, true, false, nat_lt, ◌==◌, ◌||◌, if◌then◌else◌}
 use Rattle.std.specs.Int.{w32, w64, from_le_bytes}
 use Rattle.rd_base.specs.declared.digest.Digest32.{Digest32}
 use Rattle.rd_base.specs.declared.status.Status.{Status}
@@ -13,12 +13,18 @@ use Rattle.rd_base.specs.declared.opened.InOpening.{InOpening}
 use Rattle.rd_base.specs.declared.proof.StepProof.{StepProof}
 use Rattle.rd_base.specs.declared.proof.StepProof2.{StepProof2}
 use Rattle.rd_base.specs.declared.proof.StepProof3.{StepProof3}
+use Rattle.rd_base.specs.declared.proof.Proof.{Proof}
 use Rattle.rd_base.specs.declared.proof.Proof.TheVariants.{V1, V2, V3}
 use Rattle.rd_base.specs.declared.answer.Answer.{Answer}
 use Rattle.rd_base.specs.declared.answer.Answer.TheVariants as answers
 use Rattle.rd_base.specs.Results.{◌>>=◌}
 use Rattle.proof_wire.specs.declared.fault.WireFault.{WireFault}
 use Rattle.proof_wire.specs.declared.fault.WireFault.TheVariants.{Short, BadTag, BadStatus, TrailingBytes, BadLength}
+
+-- a result, its value seen by view, is exactly what the definition gives
+abbrev pub IsExactly : {X Y E : Type 0} → (X → Y) → Result X E → Result Y E → Type 0
+IsExactly view (Ok x) reading = reading ≡ Ok (view x)
+IsExactly view (Err e) reading = reading ≡ Err e
 
 -- a value, and the bytes behind it, or a fault
 abbrev pub Read : Type 0 → Type 0
@@ -214,3 +220,14 @@ unfoldable pub answer_in : List ℕ → Result Answer WireFault
 answer_in bytes = do
   answer ← answer_at bytes
   if length answer.1 == 0 then Ok answer.0 else Err TrailingBytes
+
+-- the step among the answers, and no other
+abbrev pub only_step : Result Answer WireFault → Result Proof WireFault
+only_step (Ok (answers.Step proof)) = Ok proof
+only_step (Ok other) = Err BadTag
+only_step (Err fault) = Err fault
+
+-- the step that is read of bytes: bytes with the tag of another answer have none
+abbrev pub step_in : List ℕ → Result Proof WireFault
+step_in [] = Err Short
+step_in (tag ∷ bytes) = if tag == 3 || tag == 4 || tag == 6 then only_step (answer_in (tag ∷ bytes)) else Err BadTag

@@ -1,8 +1,6 @@
 //! Fields at the front of some bytes. Each function gives the field and the bytes behind it.
 ghost use Rattle.std.specs.Prelude.{◌≡◌, ◌≤◌, ◌+◌, ◌*◌, length, Ok, IfOk};
-ghost use Rattle.rd_base.specs.Results.{Gives};
-ghost use Rattle.proof_wire.specs.declared.fault.WireFault.TheVariants.{Memory};
-ghost use Rattle.proof_wire.specs.Reading.{block_at, byte_at, word_at, double_word_at, digest_at, each_at, status_of, status_at, control_at, registers_at, opening_at, register_opening_at, input_opening_at, optional_at, at_most, has_flag};
+ghost use Rattle.proof_wire.specs.Reading.{IsExactly, block_at, byte_at, word_at, double_word_at, digest_at, each_at, status_of, status_at, control_at, registers_at, opening_at, register_opening_at, input_opening_at, optional_at, at_most, has_flag};
 
 use crate::fault::WireFault;
 use crate::layout::{
@@ -87,7 +85,7 @@ fn status_with(byte: u8, code: u32) -> Result<Status, WireFault>
 #[tactic(auto, unfolding(crate::specs::Reading::status_at))]
 fn read_status(bytes: &[u8]) -> Result<(Status, &[u8]), WireFault>
     requires { 5 ≤ length bytes.now }
-    ensures read { Gives Memory (λ x. (x.0, x.1.now)) result (status_at bytes.now) }
+    ensures read { IsExactly (λ x. (x.0, x.1.now)) result (status_at bytes.now) }
     ensures rest { IfOk result (λ x. length bytes.now ≡ length x.1.now + 5) }
 {
     let (byte, rest) = read_byte(bytes);
@@ -100,7 +98,7 @@ fn read_status(bytes: &[u8]) -> Result<(Status, &[u8]), WireFault>
 #[tactic(auto, unfolding(crate::specs::Reading::control_at))]
 pub fn read_control(bytes: &[u8]) -> Result<(Ctl, &[u8]), WireFault>
     requires { 49 ≤ length bytes.now }
-    ensures read { Gives Memory (λ x. (x.0, x.1.now)) result (control_at bytes.now) }
+    ensures read { IsExactly (λ x. (x.0, x.1.now)) result (control_at bytes.now) }
     ensures rest { IfOk result (λ x. length bytes.now ≡ length x.1.now + 49) }
 {
     let (pc, rest) = read_word(bytes);
@@ -151,7 +149,7 @@ fn read_siblings<const N: usize>(bytes: &[u8]) -> ([Digest32; N], &[u8])
 /// A chunk of memory and its Merkle path.
 #[tactic(auto, unfolding(crate::specs::Reading::opening_at))]
 fn read_opening(bytes: &[u8]) -> Result<(Opening, &[u8]), WireFault>
-    ensures { Gives Memory (λ x. (x.0, x.1.now)) result (opening_at bytes.now) }
+    ensures { IsExactly (λ x. (x.0, x.1.now)) result (opening_at bytes.now) }
 {
     if bytes.len() < OPENING_BYTES {
         return Err(WireFault::Short);
@@ -165,7 +163,7 @@ fn read_opening(bytes: &[u8]) -> Result<(Opening, &[u8]), WireFault>
 /// A register's value and its Merkle path.
 #[tactic(auto, unfolding(crate::specs::Reading::register_opening_at))]
 fn read_register_opening(bytes: &[u8]) -> Result<(RegOpening, &[u8]), WireFault>
-    ensures { Gives Memory (λ x. (x.0, x.1.now)) result (register_opening_at bytes.now) }
+    ensures { IsExactly (λ x. (x.0, x.1.now)) result (register_opening_at bytes.now) }
 {
     if bytes.len() < REGISTER_OPENING_BYTES {
         return Err(WireFault::Short);
@@ -179,7 +177,7 @@ fn read_register_opening(bytes: &[u8]) -> Result<(RegOpening, &[u8]), WireFault>
 /// A chunk of the input and its Merkle path.
 #[tactic(auto, unfolding(crate::specs::Reading::input_opening_at))]
 fn read_input_opening(bytes: &[u8]) -> Result<(InOpening, &[u8]), WireFault>
-    ensures { Gives Memory (λ x. (x.0, x.1.now)) result (input_opening_at bytes.now) }
+    ensures { IsExactly (λ x. (x.0, x.1.now)) result (input_opening_at bytes.now) }
 {
     if bytes.len() < INPUT_OPENING_BYTES {
         return Err(WireFault::Short);
@@ -193,7 +191,7 @@ fn read_input_opening(bytes: &[u8]) -> Result<(InOpening, &[u8]), WireFault>
 /// A chunk of memory and its Merkle path if they are there, and else nothing.
 #[tactic(auto, unfolding(crate::specs::Reading::optional_at))]
 pub fn read_opening_if(is_there: bool, bytes: &[u8]) -> Result<(Option<Opening>, &[u8]), WireFault>
-    ensures { Gives Memory (λ x. (x.0, x.1.now)) result (optional_at opening_at is_there bytes.now) }
+    ensures { IsExactly (λ x. (x.0, x.1.now)) result (optional_at opening_at is_there bytes.now) }
 {
     if !is_there {
         return Ok((None, bytes));
@@ -205,7 +203,7 @@ pub fn read_opening_if(is_there: bool, bytes: &[u8]) -> Result<(Option<Opening>,
 /// A chunk of the input and its Merkle path if they are there, and else nothing.
 #[tactic(auto, unfolding(crate::specs::Reading::optional_at))]
 pub fn read_input_if(is_there: bool, bytes: &[u8]) -> Result<(Option<InOpening>, &[u8]), WireFault>
-    ensures { Gives Memory (λ x. (x.0, x.1.now)) result (optional_at input_opening_at is_there bytes.now) }
+    ensures { IsExactly (λ x. (x.0, x.1.now)) result (optional_at input_opening_at is_there bytes.now) }
 {
     if !is_there {
         return Ok((None, bytes));
@@ -217,7 +215,7 @@ pub fn read_input_if(is_there: bool, bytes: &[u8]) -> Result<(Option<InOpening>,
 /// This many opened registers.
 pub fn read_named(count: u8, bytes: &[u8]) -> Result<(RegOpenings, &[u8]), WireFault>
     requires { count ≤ 3 }
-    ensures { Gives Memory (λ x. (x.0, x.1.now)) result (each_at register_opening_at count bytes.now) }
+    ensures { IsExactly (λ x. (x.0, x.1.now)) result (each_at register_opening_at count bytes.now) }
 {
     let mut named = RegOpenings::new();
     let mut rest = bytes;

@@ -2,7 +2,7 @@
 //!
 //! The layers above may rely on this: which bytes an answer has is said by a grammar (`specs/Wire.antt`), `encode`
 //! writes them, and `decode` gives the answer whose form bytes are, or the first rule that they break, by the
-//! number of the rule and its places (`specs/FirstFault.antt`), unless memory runs out. An answer has one spelling, bytes spell one answer, and no
+//! number of the rule and its places (`specs/FirstFault.antt`), unless memory runs out; `decode_step` reads a step alone, and takes no memory. An answer has one spelling, bytes spell one answer, and no
 //! answer's bytes are a proper prefix of another's (`laws`). Read `fault` first, then `reading` and `writing`.
 #![tactic(auto)]
 
@@ -17,5 +17,5 @@ pub use fault::WireFault;
 pub use laws::{
     faults_by_places, no_proper_prefix, one_spelling, reading_is_spelling, spelled_in_bytes,
 };
-pub use reading::decode;
+pub use reading::{decode, decode_step};
 pub use writing::encode;

@@ -1,11 +1,12 @@
 //! Answers from their bytes.
-ghost use Rattle.std.specs.Prelude.{◌≡◌, ◌≤◌, length, Ok, IfOk};
+ghost use Rattle.std.specs.Prelude.{◌≡◌, ◌≤◌, ◌==◌, length, Ok, Err, IfOk, if◌then◌else◌};
 ghost use Rattle.rd_base.specs.Results.{Gives};
 ghost use Rattle.rd_base.specs.declared.answer.Answer.{Answer};
 ghost use Rattle.rd_base.specs.declared.answer.Answer.TheVariants.{Step};
-ghost use Rattle.proof_wire.specs.declared.fault.WireFault.TheVariants.{Memory};
+ghost use Rattle.rd_base.specs.declared.proof.Proof.{Proof};
+ghost use Rattle.proof_wire.specs.declared.fault.WireFault.TheVariants.{Memory, TrailingBytes};
 ghost use Rattle.proof_wire.specs.Wire.{Spells};
-ghost use Rattle.proof_wire.specs.Reading.{digest_at, each_at, output_at, claim_at, root_count, roots_at, step_proof_at, step_proof_2_at, step_proof_3_at, answer_at, answer_in};
+ghost use Rattle.proof_wire.specs.Reading.{IsExactly, digest_at, each_at, output_at, claim_at, root_count, roots_at, step_proof_at, step_proof_2_at, step_proof_3_at, answer_at, answer_in, step_in};
 
 use crate::fault::WireFault;
 use crate::fields::{
@@ -64,7 +65,7 @@ fn read_claim(alloc: Global, bytes: &[u8]) -> Result<(Claim, &[u8]), WireFault>
 /// A root behind its tag, and the bytes behind it.
 #[tactic(auto, unfolding(crate::specs::Reading::digest_at))]
 fn read_root(bytes: &[u8]) -> Result<(Digest32, &[u8]), WireFault>
-    ensures { Gives Memory (λ x. (x.0, x.1.now)) result (digest_at bytes.now) }
+    ensures { IsExactly (λ x. (x.0, x.1.now)) result (digest_at bytes.now) }
 {
     if bytes.len() < DIGEST_BYTES {
         return Err(WireFault::Short);
@@ -120,7 +121,7 @@ fn read_roots(alloc: Global, bytes: &[u8]) -> Result<(RootList, &[u8]), WireFaul
 /// A proof of version 1 behind its tag, and the bytes behind it.
 #[tactic(auto, unfolding(crate::specs::Reading::step_proof_at))]
 fn read_step(bytes: &[u8]) -> Result<(StepProof, &[u8]), WireFault>
-    ensures { Gives Memory (λ x. (x.0, x.1.now)) result (step_proof_at bytes.now) }
+    ensures { IsExactly (λ x. (x.0, x.1.now)) result (step_proof_at bytes.now) }
 {
     if bytes.len() < STEP_FIXED_BYTES {
         return Err(WireFault::Short);
@@ -145,7 +146,7 @@ fn read_step(bytes: &[u8]) -> Result<(StepProof, &[u8]), WireFault>
 /// A proof of version 2 behind its tag, and the bytes behind it.
 #[tactic(auto, unfolding(crate::specs::Reading::step_proof_2_at))]
 fn read_step_2(bytes: &[u8]) -> Result<(StepProof2, &[u8]), WireFault>
-    ensures { Gives Memory (λ x. (x.0, x.1.now)) result (step_proof_2_at bytes.now) }
+    ensures { IsExactly (λ x. (x.0, x.1.now)) result (step_proof_2_at bytes.now) }
 {
     if bytes.len() < STEP_2_FIXED_BYTES {
         return Err(WireFault::Short);
@@ -174,7 +175,7 @@ fn read_step_2(bytes: &[u8]) -> Result<(StepProof2, &[u8]), WireFault>
 /// A proof of version 3 behind its tag, and the bytes behind it.
 #[tactic(auto, unfolding(crate::specs::Reading::step_proof_3_at))]
 fn read_step_3(bytes: &[u8]) -> Result<(StepProof3, &[u8]), WireFault>
-    ensures { Gives Memory (λ x. (x.0, x.1.now)) result (step_proof_3_at bytes.now) }
+    ensures { IsExactly (λ x. (x.0, x.1.now)) result (step_proof_3_at bytes.now) }
 {
     if bytes.len() < STEP_3_FIXED_BYTES {
         return Err(WireFault::Short);
@@ -278,4 +279,51 @@ pub fn decode(alloc: Global, bytes: &[u8]) -> Result<Answer, WireFault>
     ensures exact { Gives Memory (λ answer. answer) result (answer_in bytes.now) }
 {
     read_whole(alloc, bytes)
+}
+
+/// A proof, if no bytes stand behind it. `TrailingBytes` comes if and only if some do.
+fn alone(proof: Proof, rest: &[u8]) -> Result<Proof, WireFault>
+    ensures { result ≡ (if length rest.now == 0 then Ok proof else Err TrailingBytes) }
+{
+    if !rest.is_empty() {
+        return Err(WireFault::TrailingBytes);
+    }
+    Ok(proof)
+}
+
+/// A step, and nothing behind it.
+#[tactic(auto, unfolding(crate::specs::Reading::answer_in, crate::specs::Reading::answer_at))]
+fn read_whole_step(bytes: &[u8]) -> Result<Proof, WireFault>
+    ensures { result ≡ step_in bytes.now }
+{
+    match bytes {
+        [] => Err(WireFault::Short),
+        [STEP_TAG, rest @ ..] => match read_step(rest) {
+            Ok((proof, rest)) => alone(Proof::V1(proof), rest),
+            Err(fault) => Err(fault),
+        },
+        [STEP_2_TAG, rest @ ..] => match read_step_2(rest) {
+            Ok((proof, rest)) => alone(Proof::V2(proof), rest),
+            Err(fault) => Err(fault),
+        },
+        [STEP_3_TAG, rest @ ..] => match read_step_3(rest) {
+            Ok((proof, rest)) => alone(Proof::V3(proof), rest),
+            Err(fault) => Err(fault),
+        },
+        [_, ..] => Err(WireFault::BadTag),
+    }
+}
+
+/// The proof of one step that these bytes spell, as `decode` reads it. It takes no memory.
+///
+/// An `Err` is the fault of `decode`, or `BadTag` of bytes that begin with another answer's tag; it is never `Memory`.
+pub fn decode_step(bytes: &[u8]) -> Result<Proof, WireFault>
+    // What is read has these bytes.
+    ensures found { IfOk result (λ proof. Spells (Step proof) bytes.now) }
+    // What has these bytes is read.
+    ensures only { (proof : Proof) → Spells (Step proof) bytes.now → result ≡ Ok proof }
+    // It is the step that `decode` reads, or its fault.
+    ensures exact { result ≡ step_in bytes.now }
+{
+    read_whole_step(bytes)
 }

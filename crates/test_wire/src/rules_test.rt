@@ -1,6 +1,6 @@
 //! Bytes as runs, and the first rule that they break: 0 for none.
 
-use crate::runs::{Run, assert_form, broken_rule, laid_out};
+use crate::runs::{Run, assert_form, broken_rule, laid_out, rule_of_step};
 use proof_wire::WireFault;
 use rd_base::{Answer, Digest32};
 use std::alloc::{AllocError, Global};
@@ -10,11 +10,23 @@ use std::test::Fail;
 /// Bytes, and the rule that they break.
 type Row = (&'static [Run], u32);
 
-/// Asserts of each row which rule its bytes break.
+/// The rule that the reader of a step alone finds: that of an answer with a step's tag, and else the tag's.
+fn rule_for_step(bytes: &[u8], rule: u32) -> u32 {
+    match bytes {
+        [] => 1,
+        [3, ..] => rule,
+        [4, ..] => rule,
+        [6, ..] => rule,
+        [_, ..] => 2,
+    }
+}
+
+/// Asserts of each row which rule its bytes break, as an answer and as a step alone.
 fn assert_rules(rt: &impl Abort, alloc: Global, table: &[Row]) -> Result<(), Fail> {
     for (row, want) in table {
         let bytes = laid_out(alloc, row)?;
-        assert_eq!(rt; broken_rule(alloc, &bytes), *want, "{row:?}");
+        let of_step = rule_for_step(&bytes, *want);
+        assert_eq!(rt; (broken_rule(alloc, &bytes), rule_of_step(&bytes)), (*want, of_step), "{row:?}");
     }
     Ok(())
 }

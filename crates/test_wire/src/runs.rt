@@ -1,6 +1,6 @@
 //! Bytes as runs of one value each, and what is read of them.
 
-use proof_wire::{decode, encode};
+use proof_wire::{decode, decode_step, encode};
 use rd_base::{Answer, Memory};
 use std::alloc::{AllocError, Global};
 use std::process::Abort;
@@ -23,6 +23,14 @@ pub(crate) fn laid_out(alloc: Global, runs: &[Run]) -> Result<Vec<u8>, AllocErro
 /// The number of the rule that the bytes break: 0 if they are an answer, 6 if there is no memory.
 pub(crate) fn broken_rule(alloc: Global, bytes: &[u8]) -> u32 {
     match decode(alloc, bytes) {
+        Ok(_) => 0,
+        Err(fault) => fault.rule().unwrap_or(6),
+    }
+}
+
+/// The same of the reader of a step alone.
+pub(crate) fn rule_of_step(bytes: &[u8]) -> u32 {
+    match decode_step(bytes) {
         Ok(_) => 0,
         Err(fault) => fault.rule().unwrap_or(6),
     }

@@ -5,8 +5,8 @@ use Rattle.proof_wire.proofs.EachLemmas.{goes_on, stops, ends}
 use Rattle.proof_wire.proofs.fields.read_named.Goals as goal
 
 pub returns-in-Err : goal.returns-in-Err
-returns-in-Err c = λ other.
-    stops register_opening_at c.loop.named (c.args.count - c.loop.counter) (c.args.count - (c.loop.counter + 1)) c.loop.rest.now _ _ (omega arith) (c.in-Err.ensures other) c.loop.invariant.so_far
+returns-in-Err c =
+    stops register_opening_at c.loop.named (c.args.count - c.loop.counter) (c.args.count - (c.loop.counter + 1)) c.loop.rest.now _ _ (omega arith) c.in-Err.ensures c.loop.invariant.so_far
 
 pub loop-preserved : goal.loop-preserved
 loop-preserved c = record {

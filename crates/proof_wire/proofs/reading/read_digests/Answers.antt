@@ -6,7 +6,7 @@ use Rattle.proof_wire.proofs.reading.read_digests.Goals as goal
 
 pub returns-in-Err-clause-read : goal.returns-in-Err-clause-read
 returns-in-Err-clause-read c = λ other.
-    stops digest_at c.loop.digests.items (c.args.count - c.loop.counter) (c.args.count - (c.loop.counter + 1)) c.loop.rest.now _ _ (omega arith) (c.in-Err.ensures other) c.loop.invariant.so_far
+    stops digest_at c.loop.digests.items (c.args.count - c.loop.counter) (c.args.count - (c.loop.counter + 1)) c.loop.rest.now _ _ (omega arith) c.in-Err.ensures c.loop.invariant.so_far
 
 pub loop-preserved : goal.loop-preserved
 loop-preserved c = record {
