@@ -2,6 +2,7 @@ pub mod RunLemmas
 pub mod QuietLemmas
 pub mod PlaceLemmas
 pub mod VersionLemmas
+pub mod IndexLemmas
 pub mod NotedLemmas
 pub mod RecordLemmas
 pub mod EndLemmas

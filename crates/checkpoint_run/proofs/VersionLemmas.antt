@@ -1,6 +1,6 @@
 -- Versions of pages, and the memory that they stand for.
 use Rattle.std.proofs.Common.{◌≡◌, ◌≢◌, ℕ, ◌+◌, ◌*◌, ◌/◌, ◌%◌, ◌^◌, ◌<◌, ◌≤◌, List, [], ◌∷◌, ◌++◌, length, slice_index, Some, eqb, cond, true, false, true≢false, ◌||◌, refl, sym, ap, subst, ◌∙◌, ⊎_elim, arith, reverse}
-use Rattle.std.proofs.lemmas.Bool.{cases_Bool, cases_eq, cases_lt, eq-eqb, ne_eqb, or_right}
+use Rattle.std.proofs.lemmas.Bool.{cases_eq, cases_lt, eq-eqb, ne_eqb, or_right}
 use Rattle.std.proofs.lemmas.Bool.Decides.{nat_tests}
 use Rattle.std.proofs.lemmas.List.{reverse-append, append_assoc, map-append, length-map, length-append}
 use Rattle.std.specs.Ordering.{nat_cmp}
@@ -116,16 +116,3 @@ shown_unused pages m used a below none = ⊎_elim
     (λ zeros. zeros)
     (λ some. absurd (true≢false (sym (used (a / 4096) (a, refl, some)) ∙ none)))
     (cases_eq (byte_at m a) 0)
-
--- where the versions that are left, the last one first, are still to be put into a memory, and some pages were put into it
-pub record IsRestoring (all left : List Version) (put : List ℕ) (m : Contents) : Type 0 where
-  pub shown : (a : ℕ) → a < 2 ^ 32 → is_among put (a / 4096) ≡ true → byte_at m a ≡ byte_by all a
-  pub empty : (a : ℕ) → a < 2 ^ 32 → is_among put (a / 4096) ≡ false → byte_at m a ≡ 0
-  pub same : (p : ℕ) → is_among put p ≡ false → first_of (reverse all) p ≡ first_of left p
-
--- no version is left
-pub restored_all : (all : List Version) (put : List ℕ) (m : Contents) → IsRestoring all [] put m → IsShownBut all [] m
-restored_all all put m restoring a below none = ⊎_elim
-    (λ there. restoring.shown a below there)
-    (λ absent. restoring.empty a below absent ∙ sym (ap (λ o. byte_of o (a % 4096)) (restoring.same (a / 4096) absent)))
-    (cases_Bool (is_among put (a / 4096)))

@@ -7,5 +7,6 @@ pub mod AtRest
 pub mod Recorded
 pub mod Versions
 pub mod Keeping
+pub mod Places
 pub mod NotedPages
 pub mod UnderWay

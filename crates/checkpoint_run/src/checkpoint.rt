@@ -1,10 +1,12 @@
 //! Checkpoints of a run, and the versions of its pages: of all versions of a page that stand before a checkpoint, the last one is the page.
-ghost use Rattle.std.specs.Prelude.{◌≡◌, ℕ, ◌*◌, ◌<◌, ◌^◌, ◌++◌, [], List, length, true, IfOk, OnOk};
+ghost use Rattle.std.specs.Prelude.{◌≡◌, ℕ, ◌*◌, ◌<◌, ◌≤◌, ◌^◌, ◌++◌, ◌∷◌, [], List, length, take, true, IfOk, OnOk};
 ghost use Rattle.mem_plain.specs.Contents.{IsUsed};
 ghost use Rattle.checkpoint_run.specs.Versions.{pictured, pages_of, is_among, AreBelow, IsShownBut};
+ghost use Rattle.checkpoint_run.specs.Places.{IsIndex, IsPut};
 ghost use Rattle.checkpoint_run.specs.declared.version.Version.{Version};
 ghost use Rattle.checkpoint_run.specs.Keeping.{IsAdded, found_at};
 
+use crate::page_places::{PagePlaces, last_place};
 use crate::version::Version;
 use mem_plain::{PlainMem, contents_of_a_function, laying_bytes};
 use rd_base::{Ctl, Memory, Regs};
@@ -101,19 +103,45 @@ pub fn place_of(checkpoints: &[Checkpoint], every: u32, checkpoint: u64) -> usiz
     }
 }
 
-/// The memory that versions stand for. It copies the last version of each page. An `Err` is out of memory.
-pub fn restored(alloc: Global, versions: &[Version]) -> Result<PlainMem, Memory>
-    ensures { IfOk result (λ m. m ≡ pictured versions.now) }
+/// Puts the last version of a page that stands below a place into a memory, if there is one. An `Err` is out of memory.
+fn put_last(
+    versions: &[Version],
+    index: &PagePlaces,
+    page: u32,
+    count: usize,
+    mem: &mut PlainMem,
+) -> Result<(), Memory>
+    requires count { count ≤ length versions.now }
+    requires index { IsIndex index.now.places.entries index.now.pages.items (pages_of versions.now) (length versions.now) }
+    ensures { (put : List ℕ) → IsPut (take count versions.now) put mem.old → OnOk result (IsPut (take count versions.now) (put ++ page ∷ []) mem.new) }
+{
+    match last_place(index, page, count) {
+        Some(place) => {
+            let version = &versions[place];
+            mem.put_page(version.page, version.bytes.clone()?)?;
+            Ok(())
+        }
+        None => Ok(()),
+    }
+}
+
+/// The memory that the first `count` of some versions stand for. It copies the last version of each page, which is found by the page's
+/// places. An `Err` is out of memory.
+pub fn restored(
+    alloc: Global,
+    versions: &[Version],
+    index: &PagePlaces,
+    count: usize,
+) -> Result<PlainMem, Memory>
+    requires count { count ≤ length versions.now }
+    requires index { IsIndex index.now.places.entries index.now.pages.items (pages_of versions.now) (length versions.now) }
+    ensures { IfOk result (λ m. m ≡ pictured (take count versions.now)) }
 {
     contents_of_a_function();
     laying_bytes();
     let mut mem = PlainMem::new(alloc);
-    let mut put = BTreeSet::new(alloc);
-    'versions: for k in (0..versions.len()).rev() {
-        let version = &versions[k];
-        if put.insert(version.page)? {
-            mem.put_page(version.page, version.bytes.clone()?)?;
-        }
+    'pages: for page in &index.pages {
+        put_last(versions, index, *page, count, &mut mem)?;
     }
     mem.is_memory();
     Ok(mem)

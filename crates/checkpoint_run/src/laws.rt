@@ -1,3 +1,4 @@
+//! Laws of tampered runs, each the contract of a function that does nothing.
 ghost use Rattle.std.specs.Prelude.{◌≡◌, ◌⊎◌, ◌↔◌, ℕ, ◌+◌, ◌<◌, ◌≤◌, ◌∷◌, [], List, Option, None, length, get_or, min, true, false};
 ghost use Rattle.rd_base.specs.declared.tamper.Tamper.{Tamper};
 ghost use Rattle.rd_base.specs.declared.tamper.Tamper.TheVariants.{Untouched, Flip, Register, Early};

@@ -1,3 +1,4 @@
+//! A recorded run, and the machines of its steps.
 ghost use Rattle.std.specs.Prelude.{◌≡◌, ◌+◌, ◌*◌, ◌/◌, ◌<◌, ◌≤◌, ℕ, IfOk, OnOk, OnErr, List, length};
 ghost use Rattle.mem_plain.specs.Contents.{byte_at};
 ghost use Rattle.rv_step.specs.State.{state_of, IsChained};
@@ -7,6 +8,7 @@ ghost use Rattle.checkpoint_run.specs.WrittenPages.{written_by};
 ghost use Rattle.checkpoint_run.specs.Recorded.{AreChained, state_of_step, still_of};
 
 use crate::checkpoint::{Checkpoint, place_of, restored};
+use crate::page_places::{PagePlaces, index_of};
 use crate::recording::{Kept, Recording, begin, record_to_end};
 use crate::tampering::{follow, same_until};
 use crate::version::Version;
@@ -28,18 +30,22 @@ pub struct Run {
     every: u32,
     still: u64,
     checkpoints: Vec<Checkpoint>,
-    /// The versions of pages, those of an earlier checkpoint first.
+    /// The versions of pages, those of an earlier checkpoint first, and the places of those of each page.
     versions: Vec<Version>,
+    index: PagePlaces,
     /// The whole output.
     output: Vec<u8>,
     /// The version of the machine, and the input that it keeps.
-    version: u8,
+    version: u32,
     input: Vec<u8>,
 }
 
 impl Model for Run {
     ghost use Rattle.checkpoint_run.specs.Recorded.{Recorded, recorded_code};
+    ghost use Rattle.std.specs.Prelude.{length};
     ghost use Rattle.checkpoint_run.specs.Keeping.{recorded_by, IsRecorded};
+    ghost use Rattle.checkpoint_run.specs.Versions.{pages_of};
+    ghost use Rattle.checkpoint_run.specs.Places.{IsIndex};
 
     ghost Value = { Recorded };
 
@@ -47,7 +53,8 @@ impl Model for Run {
 
     ghost view = { λ r. recorded_by r.tamper r.bound r.every r.checkpoints.items r.versions.items r.output.items r.version r.input.items };
 
-    ghost invariant = { λ r. IsRecorded (recorded_by r.tamper r.bound r.every r.checkpoints.items r.versions.items r.output.items r.version r.input.items) r.still r.checkpoints.items r.versions.items r.output.items r.version r.input.items };
+    ghost invariant = { λ r. IsRecorded (recorded_by r.tamper r.bound r.every r.checkpoints.items r.versions.items r.output.items r.version r.input.items) r.still r.checkpoints.items r.versions.items r.output.items r.version r.input.items
+        × IsIndex r.index.places.entries r.index.pages.items (pages_of r.versions.items) (length r.versions.items) };
 }
 
 impl Run {
@@ -75,7 +82,7 @@ impl Run {
     }
 
     /// The version of the commitment to the run's states.
-    pub fn version(&self) -> u8
+    pub fn version(&self) -> u32
         ensures { result ≡ self.now.first.version }
     {
         self.version
@@ -129,6 +136,7 @@ pub fn record_run<D: Digester>(
         input,
         ..
     } = last;
+    let index = index_of(alloc, &versions)?;
     Ok(Run {
         alloc,
         tamper,
@@ -137,6 +145,7 @@ pub fn record_run<D: Digester>(
         still: at,
         checkpoints,
         versions,
+        index,
         output,
         version,
         input,
@@ -155,7 +164,7 @@ pub fn machine_at(run: &Run, checkpoint: u64) -> Result<Machine, Memory>
     let _still = run.still();
     let place = place_of(&run.checkpoints, run.every, checkpoint);
     let kept = &run.checkpoints[place];
-    let mem = restored(run.alloc, &run.versions[..kept.versions])?;
+    let mem = restored(run.alloc, &run.versions, &run.index, kept.versions)?;
     let output = Vec::from_slice(run.alloc, &run.output[..kept.ctl.out_len as usize])?;
     let input = Vec::from_slice(run.alloc, &run.input)?;
     Ok(Machine::of_parts(kept.regs, kept.ctl, mem, output, run.version, input))

@@ -1,3 +1,4 @@
+//! A page as it was at a checkpoint.
 ghost use Rattle.std.specs.Prelude.{◌<◌, ◌^◌};
 
 use mem_plain::Page;

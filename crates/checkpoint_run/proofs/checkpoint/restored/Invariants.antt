@@ -1,7 +1,7 @@
-use Rattle.std.proofs.Common.{take, reverse}
-use Rattle.checkpoint_run.proofs.VersionLemmas.{IsRestoring}
+use Rattle.std.proofs.Common.{take}
+use Rattle.checkpoint_run.specs.Places.{IsPut}
 use Rattle.checkpoint_run.proofs.checkpoint.restored.Given as goal
 
--- the versions before the k-th are left
-abbrev pub invariant-versions : goal.invariant-versions
-invariant-versions l = IsRestoring l.versions (reverse (take l.k l.versions)) l.put.keys l.mem
+-- the pages before the one at hand were put into the memory
+abbrev pub invariant-pages : goal.invariant-pages
+invariant-pages l = IsPut (take l.count l.versions) (take l.page-index l.index.pages.items) l.mem

@@ -4,6 +4,9 @@ use Rattle.rd_base.specs.declared.tamper.Tamper.{Tamper}
 use Rattle.rv_step.specs.State.{State, state_of}
 use Rattle.checkpoint_run.specs.TamperedRun.{tampered, run_from, still}
 use Rattle.checkpoint_run.specs.WrittenPages.{writes}
+use Rattle.checkpoint_run.specs.Versions.{pages_of}
+use Rattle.checkpoint_run.specs.Places.{IsIndex}
+use Rattle.checkpoint_run.specs.declared.version.Version.{Version}
 use Rattle.checkpoint_run.specs.UnderWay.{IsUnderWay, IsAtEnd}
 use Rattle.checkpoint_run.specs.declared.recording.Recording.{Recording}
 use Rattle.checkpoint_run.specs.Keeping.{AllStand, AreFound, at_first, first_by, kept_chain}
@@ -66,19 +69,22 @@ invariant_of-result g c =
     (ap (λ s. s.version) way.state ∙ held.0) (ap (λ s. s.input) way.state ∙ held.1) in
     let P : State → Type 0 = λ s. AllStand last.kept.checkpoints.items last.kept.versions.items last.machine.output.items (run_from c.args.tamper s) in
     let Q : State → Type 0 = λ s. AreFound last.kept.checkpoints.items c.args.every last.at (run_from c.args.tamper s) in
-    record {
-      spaced = c.requires.every;
-      rest = sym (still_found c.stopped_states_stay.ensures c.args.tamper begun c.args.bound last.at end.within end.before end.ends) ∙ ap (λ s. still c.args.tamper s c.args.bound) (sym first);
-      starts = end.starts;
-      some = way.some;
-      found = subst Q (sym first) end.found;
-      each = subst P (sym first) way.each;
-      few =
-          let F : State → Type 0 = λ s. length last.kept.versions.items ≤ at_first last.kept.checkpoints.items + writes c.args.tamper s last.at in
-          let kept = way.few in
-          subst F (sym first) (omega arith);
-      known = last.machine.known;
-      short = omega (arith, last.machine.short, last.machine.input.ok.0);
-      version_is = first_version last.kept.checkpoints.items last.kept.versions.items last.machine.output.items version input;
-      input_is = first_input last.kept.checkpoints.items last.kept.versions.items last.machine.output.items version input;
-    }
+    let index = subst (λ (vs : List Version). IsIndex c.in_ok-index.index.places.entries c.in_ok-index.index.pages.items (pages_of vs) (length vs)) c.deref.ensures.value c.in_ok-index.ensures in (
+      record {
+        spaced = c.requires.every;
+        rest = sym (still_found c.stopped_states_stay.ensures c.args.tamper begun c.args.bound last.at end.within end.before end.ends) ∙ ap (λ s. still c.args.tamper s c.args.bound) (sym first);
+        starts = end.starts;
+        some = way.some;
+        found = subst Q (sym first) end.found;
+        each = subst P (sym first) way.each;
+        few =
+            let F : State → Type 0 = λ s. length last.kept.versions.items ≤ at_first last.kept.checkpoints.items + writes c.args.tamper s last.at in
+            let kept = way.few in
+            subst F (sym first) (omega arith);
+        known = last.machine.known;
+        short = omega (arith, last.machine.short, last.machine.input.ok.0);
+        version_is = first_version last.kept.checkpoints.items last.kept.versions.items last.machine.output.items version input;
+        input_is = first_input last.kept.checkpoints.items last.kept.versions.items last.machine.output.items version input;
+      },
+      index,
+    )
