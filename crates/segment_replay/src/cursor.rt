@@ -1,5 +1,5 @@
 //! A worker's cursor: a machine of a run, moved from step to step with the tree of its memory.
-ghost use Rattle.std.specs.Prelude.{◌≡◌, ℕ, ◌+◌, ◌<◌, ◌≤◌, ◌∷◌, [], true, false, IfOk, OnOk, IfSome, min};
+ghost use Rattle.std.specs.Prelude.{◌≡◌, ◌≢◌, replicate, ℕ, ◌+◌, ◌<◌, ◌≤◌, ◌∷◌, [], true, false, IfOk, OnOk, IfSome, min};
 ghost use Rattle.mem_plain.specs.Contents.{Contents};
 ghost use Rattle.mem_tree.specs.Tree.{IsTreeOf, is_among};
 ghost use Rattle.checkpoint_run.specs.NamedPages.{IsNamed, ArePages};
@@ -92,7 +92,7 @@ fn touch_named<D: Digester>(tree: &mut MemTree<D>, page: Option<u32>) -> Result<
 
 /// The cursor at a later step, up to the goal, with the pages touched that were written: at the next step, or behind a stretch in which
 /// nothing happens. An `Err` is out of memory.
-fn go_on<D: Digester>(
+fn advance_once<D: Digester>(
     d: D,
     run: &Run,
     cursor: Cursor<D>,
@@ -119,7 +119,12 @@ fn go_on<D: Digester>(
 }
 
 /// The cursor at a later step, up to the one from which the run stands still. An `Err` is out of memory.
-fn moved_on<D: Digester>(d: D, run: &Run, cursor: Cursor<D>, goal: u64) -> Result<Cursor<D>, Memory>
+fn advance_to<D: Digester>(
+    d: D,
+    run: &Run,
+    cursor: Cursor<D>,
+    goal: u64,
+) -> Result<Cursor<D>, Memory>
     requires later { cursor.at ≤ goal }
     requires goal { goal ≤ still_of run.now }
     requires machine { IsMachineOf D.digest_of run.now cursor.at cursor.machine }
@@ -130,7 +135,7 @@ fn moved_on<D: Digester>(d: D, run: &Run, cursor: Cursor<D>, goal: u64) -> Resul
 {
     let mut moved = cursor;
     'steps: while moved.at < goal {
-        moved = go_on(d, run, moved, goal)?;
+        moved = advance_once(d, run, moved, goal)?;
     }
     let Cursor {
         at,
@@ -155,14 +160,14 @@ fn has_pages(mem: &PlainMem, count: u64) -> bool {
 
 /// Whether moving a cursor with this machine on by this many steps is taken to cost less than putting a machine together from a
 /// checkpoint. A machine that has stopped goes over all of them at once. No answer depends on it.
-fn is_near(machine: &Machine, steps: u64) -> bool {
+fn is_cheaper_to_step(machine: &Machine, steps: u64) -> bool {
     !machine.ctl.status.is_running()
         || steps <= STEPS_WORTH_A_CHECKPOINT
         || has_pages(&machine.mem, steps.div_ceil(STEPS_WORTH_A_PAGE))
 }
 
 /// A tree with each page touched that a memory has in use, beside those that were. An `Err` is out of memory.
-fn with_used<D: Digester>(tree: MemTree<D>, mem: &PlainMem) -> Result<MemTree<D>, Memory>
+fn touch_used_pages<D: Digester>(tree: MemTree<D>, mem: &PlainMem) -> Result<MemTree<D>, Memory>
     ensures tree { IfOk result (λ t. (m : Contents) → IsTreeOf D.digest_of tree m → IsTreeOf D.digest_of t m) }
     ensures used { IfOk result (λ t. HasTouched t mem.now) }
     ensures others { IfOk result (λ t. (p : ℕ) → is_among tree.touched p ≡ true → is_among t.touched p ≡ true) }
@@ -177,18 +182,18 @@ fn with_used<D: Digester>(tree: MemTree<D>, mem: &PlainMem) -> Result<MemTree<D>
 }
 
 /// The tree of a cursor, with each page touched that its memory has in use. The machine is dropped. An `Err` is out of memory.
-fn let_go<D: Digester>(cursor: Cursor<D>) -> Result<MemTree<D>, Memory>
+fn release_tree<D: Digester>(cursor: Cursor<D>) -> Result<MemTree<D>, Memory>
     ensures tree { IfOk result (λ t. (m : Contents) → IsTreeOf D.digest_of cursor.tree m → IsTreeOf D.digest_of t m) }
     ensures used { IfOk result (λ t. HasTouched t cursor.machine.mem) }
 {
     let Cursor { machine, tree, .. } = cursor;
-    with_used(tree, &machine.mem)
+    touch_used_pages(tree, &machine.mem)
 }
 
 /// The cursor of a step, ahead or behind, up to the one from which the run stands still: its machine is replayed from the last
-/// checkpoint up to the step, and its tree is that of the cursor at hand, brought up to the machine's memory. So the chunks alone
+/// checkpoint up to the step, and its tree is that of the cursor that is kept, brought up to the machine's memory. So the chunks alone
 /// that differ are digested, and the nodes above them. An `Err` is out of memory.
-fn turned_to<D: Digester>(
+fn rewind_to<D: Digester>(
     d: D,
     run: &Run,
     cursor: Cursor<D>,
@@ -201,9 +206,9 @@ fn turned_to<D: Digester>(
     ensures machine { IfOk result (λ c. IsMachineOf D.digest_of run.now goal c.machine) }
     ensures tree { IfOk result (λ c. IsFresh D.digest_of c.tree c.machine.mem) }
 {
-    let kept = let_go(cursor)?;
+    let kept = release_tree(cursor)?;
     let machine = machine_up_to(d, run, goal)?;
-    let mut turned = with_used(kept, &machine.mem)?;
+    let mut turned = touch_used_pages(kept, &machine.mem)?;
     turned.refresh(&machine.mem)?;
     Ok(Cursor {
         at: goal,
@@ -212,34 +217,34 @@ fn turned_to<D: Digester>(
     })
 }
 
-/// The cursor of a step, up to the one from which the run stands still: the cursor at hand moved on, if the step lies
-/// ahead of it, and either is near or no checkpoint lies between; else the one at hand turned to the step; and a new one if there is none
-/// at hand. An `Err` is out of memory.
+/// The cursor of a step, up to the one from which the run stands still: the cursor that is kept moved on, if the step lies
+/// ahead of it, and either is near or no checkpoint lies between; else the kept one turned to the step; and a new one if none
+/// is kept. An `Err` is out of memory.
 fn cursor_at<D: Digester + Send + Sync, R: Threads + Sync>(
     rt: &R,
     alloc: Global,
     d: D,
     run: &Run,
-    at_hand: Option<Cursor<D>>,
+    kept: Option<Cursor<D>>,
     goal: u64,
 ) -> Result<Cursor<D>, Memory>
     requires goal { goal ≤ still_of run.now }
     requires chained { AreChained D.digest_of run.now }
-    requires machine { IfSome at_hand (λ c. IsMachineOf D.digest_of run.now c.at c.machine) }
-    requires tree { IfSome at_hand (λ c. IsFresh D.digest_of c.tree c.machine.mem) }
+    requires machine { IfSome kept (λ c. IsMachineOf D.digest_of run.now c.at c.machine) }
+    requires tree { IfSome kept (λ c. IsFresh D.digest_of c.tree c.machine.mem) }
     ensures at { IfOk result (λ c. c.at ≡ goal) }
     ensures machine { IfOk result (λ c. IsMachineOf D.digest_of run.now goal c.machine) }
     ensures tree { IfOk result (λ c. IsFresh D.digest_of c.tree c.machine.mem) }
 {
     let every = u64::from(run.every());
-    if let Some(cursor) = at_hand {
+    if let Some(cursor) = kept {
         if cursor.at <= goal {
-            let near = is_near(&cursor.machine, goal - cursor.at);
+            let near = is_cheaper_to_step(&cursor.machine, goal - cursor.at);
             if near || goal / every == cursor.at / every {
-                return moved_on(d, run, cursor, goal);
+                return advance_to(d, run, cursor, goal);
             }
         }
-        return turned_to(d, run, cursor, goal);
+        return rewind_to(d, run, cursor, goal);
     }
     let machine = machine_up_to(d, run, goal)?;
     let tree = MemTree::build(rt, alloc, d, &machine.mem)?;
@@ -253,7 +258,8 @@ fn cursor_at<D: Digester + Send + Sync, R: Threads + Sync>(
 /// The root of the run's input if the run's version is 3, and else 32 zeros. The runs of one machine have the same, whatever is
 /// tampered with.
 pub fn run_input_root<D: Digester>(d: D, run: &Run) -> Digest32
-    ensures { IsInputRoot D.digest_of run.now result.0 }
+    ensures root { IsInputRoot D.digest_of run.now result.0 }
+    ensures zeros { run.now.first.version ≢ 3 → result.0 ≡ replicate 32 0 }
 {
     if run.version() == INPUT_TREE {
         input_root(d, run.input())
@@ -271,14 +277,14 @@ pub fn root_of_step<D: Digester + Send + Sync, R: Threads + Sync>(
     run: &Run,
     input: Digest32,
     registers: &mut KeptRegisters<D>,
-    at_hand: Option<Cursor<D>>,
+    kept: Option<Cursor<D>>,
     step: u64,
 ) -> Result<(Cursor<D>, Digest32), Memory>
     requires chained { AreChained D.digest_of run.now }
     requires input { IsInputRoot D.digest_of run.now input.0 }
     requires registers { registers.old ≡ run.now.first.version }
-    requires machine { IfSome at_hand (λ c. IsMachineOf D.digest_of run.now c.at c.machine) }
-    requires tree { IfSome at_hand (λ c. IsFresh D.digest_of c.tree c.machine.mem) }
+    requires machine { IfSome kept (λ c. IsMachineOf D.digest_of run.now c.at c.machine) }
+    requires tree { IfSome kept (λ c. IsFresh D.digest_of c.tree c.machine.mem) }
     ensures registers { registers.new ≡ registers.old }
     ensures machine { IfOk result (λ r. IsMachineOf D.digest_of run.now r.0.at r.0.machine) }
     ensures tree { IfOk result (λ r. IsFresh D.digest_of r.0.tree r.0.machine.mem) }
@@ -286,7 +292,7 @@ pub fn root_of_step<D: Digester + Send + Sync, R: Threads + Sync>(
 {
     tampered_runs_keep_the_input();
     let goal = goal_of(run, step);
-    let cursor = cursor_at(rt, alloc, d, run, at_hand, goal)?;
+    let cursor = cursor_at(rt, alloc, d, run, kept, goal)?;
     let machine = &cursor.machine;
     let digest = registers.digest(&machine.regs);
     let root = root_of_parts(

@@ -1,3 +1,4 @@
+//! A run that is kept with what each worker's last root was made of.
 ghost use denote.Param.Send.{IsSync};
 ghost use Rattle.std.specs.Prelude.{◌≡◌, ◌<◌, IfOk, map, min};
 ghost use Rattle.state_commit.specs.Committing.{HasInput};
@@ -134,8 +135,7 @@ impl<D: Digester> KeptRun<D> {
 }
 
 /// A digester by which runs can be replayed in threads. A method of a trait, such as that of an answerer, can't hand a digester of a type
-/// parameter to threads. So each digester has these methods of its own, which do what `KeptRun::roots` and `KeptRun::committed` do; a
-/// digester of another crate calls those.
+/// parameter to threads. So each digester has these methods of its own, which call `KeptRun::roots` and `KeptRun::committed`.
 pub trait Replays: Digester {
     /// The roots of steps of the run, in the order asked, as `KeptRun::roots` gives them.
     fn roots_of<R: Threads + Sync>(
@@ -172,17 +172,7 @@ impl Replays for Sha256 {
         steps: &[u64],
         workers: u32,
     ) -> Result<Vec<Digest32>, Memory> {
-        let input = run.input.root();
-        roots_by(
-            rt,
-            alloc,
-            self,
-            &run.run,
-            input,
-            steps,
-            workers,
-            &mut run.workers,
-        )
+        run.roots(rt, alloc, steps, workers)
     }
 
     fn committed_of<R: Threads + Sync>(
@@ -192,8 +182,7 @@ impl Replays for Sha256 {
         run: &KeptRun<Self>,
         step: u64,
     ) -> Result<Committed<Self>, Memory> {
-        let input = run.input.share()?;
-        committed_with_input(rt, alloc, self, &run.run, input, step)
+        run.committed(rt, alloc, step)
     }
 }
 
@@ -206,17 +195,7 @@ impl Replays for Weak8 {
         steps: &[u64],
         workers: u32,
     ) -> Result<Vec<Digest32>, Memory> {
-        let input = run.input.root();
-        roots_by(
-            rt,
-            alloc,
-            self,
-            &run.run,
-            input,
-            steps,
-            workers,
-            &mut run.workers,
-        )
+        run.roots(rt, alloc, steps, workers)
     }
 
     fn committed_of<R: Threads + Sync>(
@@ -226,7 +205,6 @@ impl Replays for Weak8 {
         run: &KeptRun<Self>,
         step: u64,
     ) -> Result<Committed<Self>, Memory> {
-        let input = run.input.share()?;
-        committed_with_input(rt, alloc, self, &run.run, input, step)
+        run.committed(rt, alloc, step)
     }
 }

@@ -1,3 +1,4 @@
+//! Roots of steps, made by workers side by side.
 ghost use Rattle.std.specs.Prelude.{◌≡◌, ◌<◌, ◌≤◌, ◌+◌, ◌*◌, ◌/◌, ◌%◌, ℕ, All, IfOk, OnOk, List, length, map, min, vec_len};
 ghost use Rattle.std.specs.Fork.{slice_chunk};
 ghost use Rattle.checkpoint_run.specs.Recorded.{AreChained, state_of_step};
@@ -43,9 +44,9 @@ fn replayed<D: Digester + Send + Sync, R: Threads + Sync>(
 {
     let mut roots = Vec::new(alloc);
     'steps: for step in steps {
-        let at_hand = worker.cursor.take();
+        let kept = worker.cursor.take();
         let registers = &mut worker.registers;
-        let (moved, root) = root_of_step(rt, alloc, d, run, input, registers, at_hand, *step)?;
+        let (moved, root) = root_of_step(rt, alloc, d, run, input, registers, kept, *step)?;
         worker.cursor = Some(moved);
         roots.push(root)?;
     }

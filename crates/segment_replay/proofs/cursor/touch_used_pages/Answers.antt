@@ -1,7 +1,7 @@
 use Rattle.std.proofs.Common.{⊎_elim}
 use Rattle.std.proofs.lemmas.Bool.{cases_lt}
 use Rattle.segment_replay.proofs.CursorLemmas.{still_touched, used_more}
-use Rattle.segment_replay.proofs.cursor.with_used.Goals as goal
+use Rattle.segment_replay.proofs.cursor.touch_used_pages.Goals as goal
 
 pub pages-preserved : goal.pages-preserved
 pages-preserved g c =

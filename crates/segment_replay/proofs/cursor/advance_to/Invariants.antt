@@ -1,6 +1,6 @@
 use Rattle.std.proofs.Common.{◌-◌, ◌≤◌}
 use Rattle.segment_replay.specs.Cursor.{IsMachineOf, IsBehind}
-use Rattle.segment_replay.proofs.cursor.moved_on.Given as goal
+use Rattle.segment_replay.proofs.cursor.advance_to.Given as goal
 
 -- the tree is that of the memory at first, but for the pages that were touched since then
 abbrev pub invariant-steps : goal.invariant-steps

@@ -1,7 +1,7 @@
 use Rattle.std.proofs.Common.{◌≡◌, ℕ, ◌-◌, ◌^◌, ◌<◌, true}
 use Rattle.mem_plain.specs.Contents.{Contents, IsUsed}
 use Rattle.mem_tree.specs.Tree.{IsTreeOf, is_among}
-use Rattle.segment_replay.proofs.cursor.with_used.Given as goal
+use Rattle.segment_replay.proofs.cursor.touch_used_pages.Given as goal
 
 -- each used page below the number is touched
 abbrev pub invariant-pages : goal.invariant-pages
