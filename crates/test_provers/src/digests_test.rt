@@ -9,7 +9,7 @@ use digest_core::{Digester, Sha256};
 use mem_plain::PlainMem;
 use prover_run::{RunAnswerer, answerers_of};
 use prover_script::Scripted;
-use rd_base::{Digest32, Manner, Memory, Script, Tamper};
+use rd_base::{Digest32, FirstSilentRound, Manner, Memory, Script, Tamper};
 use rv_step::Machine;
 use segment_replay::{KeptRun, Replays};
 use state_commit::Committed;
@@ -292,5 +292,57 @@ fn provers_of_a_match_make_the_tree_of_the_input_once(rt: HostRuntime) -> Result
         let with = digests_of_provers(&rt, rt.alloc(), workers, input)?;
         assert_eq!(rt; with.wrapping_sub(without), 263, "{workers} workers");
     }
+    Ok(())
+}
+
+/// addi x17, x0, 1; ecall; jal x0, -4: in 24 steps it puts out twelve bytes, each of which takes one digest
+const TWELVE_BYTES: [u8; 12] = [
+    0x93, 0x08, 0x10, 0x00, 0x73, 0x00, 0x00, 0x00, 0x6f, 0xf0, 0xdf, 0xff,
+];
+
+/// An answerer of a manner, of the run that puts out twelve bytes. An `Err` is out of memory.
+fn putting_answerers<D: Replays>(
+    alloc: Global,
+    d: D,
+    manner: Manner,
+) -> Result<Vec<Scripted<RunAnswerer<D>, D>>, Memory> {
+    let mem = PlainMem::new(alloc).lay(0x1_0000, &TWELVE_BYTES)?;
+    let machine = Machine::new(alloc, 1, mem, 0x1_0000, &[])?;
+    let tamper = Tamper::Untouched;
+    let mut scripts = Vec::new(alloc);
+    scripts.push(Script { tamper, manner })?;
+    answerers_of(alloc, d, &scripts, &machine, 24, 4, 1)
+}
+
+/// How many digests are made until a prover of a manner is asked first, and then until it was asked for its claim.
+fn digests_until_asked<R: Threads + Sync>(
+    rt: &R,
+    alloc: Global,
+    manner: Manner,
+) -> Result<(u64, u64), Memory>
+    requires { IsSync R.row }
+{
+    let made = AtomicU64::new(0);
+    let of = Counted {
+        of: Sha256,
+        made: &made,
+    };
+    let mut answerers = putting_answerers(alloc, Counting { of }, manner)?;
+    let before = made.load(Ordering::SeqCst);
+    for answerer in answerers.iter_mut() {
+        answer_of(rt, answerer, &asked(0, Kind::Claim), 0)?;
+    }
+    Ok((before, made.load(Ordering::SeqCst)))
+}
+
+/// A run is recorded by its prover's first answer, and not before; that of a prover who is silent isn't recorded.
+#[test]
+fn the_first_answer_records_the_run(rt: HostRuntime) -> Result<(), Fail> {
+    let (before, after) = digests_until_asked(&rt, rt.alloc(), Manner::Plain)?;
+    assert_eq!(rt; before, 0);
+    assert!(rt; 12 <= after);
+    let from = FirstSilentRound::new(0).unwrap();
+    let silent = digests_until_asked(&rt, rt.alloc(), Manner::Silent(from))?;
+    assert_eq!(rt; silent, (0, 0));
     Ok(())
 }

@@ -119,6 +119,59 @@ fn a_run_that_ends_early_stands_still_there(rt: HostRuntime) -> Result<(), Fail>
     Ok(())
 }
 
+/// Between the stop and a tamper four thousand million steps later each spacing finds a checkpoint at each of its multiples.
+#[test]
+fn a_stretch_in_which_nothing_happens_is_gone_over_at_once(rt: HostRuntime) -> Result<(), Fail> {
+    let exited = Status::Exited(0);
+    let running = Status::Running;
+    let late = 4_294_967_290;
+    let (still, bound) = (u64::from(late), 4_294_967_295);
+    let rows: [Row; 7] = [
+        // a checkpoint at the tamper's step, one five steps before it, none behind step 0
+        (
+            register(late, 10, 5),
+            bound,
+            1,
+            kept(still, exited, 0x1_0014, 5, 1),
+        ),
+        (
+            register(late, 10, 5),
+            bound,
+            7,
+            kept(still, exited, 0x1_0014, 0, 1),
+        ),
+        (
+            register(late, 10, 5),
+            bound,
+            late,
+            kept(still, exited, 0x1_0014, 5, 1),
+        ),
+        (
+            register(late, 10, 5),
+            bound,
+            4_294_967_295,
+            kept(still, running, 0x1_0000, 0, 0),
+        ),
+        (
+            flip(late, BESIDE, 1),
+            bound,
+            1,
+            kept(still, exited, 0x1_0014, 0, 1),
+        ),
+        (
+            flip(late, BESIDE, 1),
+            bound,
+            1024,
+            kept(still, exited, 0x1_0014, 0, 1),
+        ),
+        (early(late), bound, 1, kept(6, exited, 0x1_0014, 0, 1)),
+    ];
+    for (tamper, bound, every, wanted) in rows {
+        assert_eq!(rt; recorded(rt.alloc(), tamper, bound, every)?, wanted);
+    }
+    Ok(())
+}
+
 /// Whether the bytes of a machine of A_STORE_IN_EACH_PAGE are those of a step: those that it stored to a hundred pages, its
 /// program's first, and one at an address, which is 0x81 from the step `flipped` on.
 fn has_bytes_of(mem: &PlainMem, step: u64, flipped: u32, addr: u32) -> bool {
