@@ -1,3 +1,5 @@
+//! Tests of `digest_core`.
+
 use byteorder::{BigEndian, ByteOrder, LittleEndian};
 use digest_core::{
     Digester, Sha256, control_text, leaf_text, link, link_text, node_text, registers_text,

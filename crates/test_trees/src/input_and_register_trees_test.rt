@@ -1,3 +1,5 @@
+//! Tests of the trees of input and registers of `mem_tree`.
+
 use digest_core::{Digester, Sha256, leaf_text, register_text, storage_text};
 use mem_tree::{InputTree, RegTree, input_chunk, input_root};
 use merkle_nodes::climb;

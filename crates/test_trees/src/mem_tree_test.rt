@@ -1,3 +1,4 @@
+//! Tests of the tree of memory of `mem_tree`.
 ghost use Rattle.std.specs.Prelude.{◌≡◌, ◌+◌, ◌≤◌, []};
 
 use digest_core::{Digester, Sha256, leaf_text};

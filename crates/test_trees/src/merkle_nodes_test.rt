@@ -1,3 +1,5 @@
+//! Tests of `merkle_nodes`.
+
 use digest_core::{Digester, Sha256, leaf_text, node_text};
 use merkle_nodes::{climb, fill_empty_nodes};
 use rd_base::Digest32;

@@ -1,8 +1,13 @@
+//! Tests of `out_chain`.
+
 use digest_core::{Digester, Sha256};
-use out_chain::{ClaimCheck, chain_of, check_claim, parts_root, parts_text};
+use out_chain::{
+    ClaimCheck, chain_of, check_claim, claim_collision, parts_root, parts_text, root_of_claim,
+};
 use rd_base::{Claim, ClaimOutput, Ctl, Digest32, Status};
 use std::alloc::Global;
 use std::test::Fail;
+use toy_machine::OneValue;
 
 /// The chain of the one byte 2a, as `chain(b'\x2a')` of this program in Python gives it:
 ///
@@ -61,7 +66,7 @@ fn claim(
     })
 }
 
-/// The last state of the program that puts out the byte 2a and exits with 0: its memory, its registers and its root, by
+/// The last state of the program that writes the byte 2a and exits with 0: its memory, its registers and its root, by
 /// an independent program in Python that carries it out and hashes its memory from scratch.
 #[test]
 fn root_of_the_parts_of_a_run(rt: HostRuntime) -> Result<(), Fail> {
@@ -81,6 +86,7 @@ fn root_of_the_parts_of_a_run(rt: HostRuntime) -> Result<(), Fail> {
     let text = parts_text(Sha256, mem, regs, &claim.ctl);
     assert!(rt; Sha256.digest(text.as_slice()) == root);
     assert!(rt; parts_root(Sha256, mem, regs, &claim.ctl) == root);
+    assert!(rt; root_of_claim(Sha256, &claim) == root);
     Ok(())
 }
 
@@ -99,6 +105,57 @@ fn a_claim_is_checked_length_first(rt: HostRuntime) -> Result<(), Fail> {
     for (out_len, chain, output, want) in rows {
         match claim(rt.alloc(), parts, 4, out_len, chain, output) {
             Some(claim) => assert!(rt; check_claim(Sha256, &claim) == want, "{want:?}"),
+            None => assert!(rt; false, "no claim was made"),
+        }
+    }
+    Ok(())
+}
+
+/// The claim of the next test that the others are compared with, or one that differs from it in one part.
+fn near_claim(alloc: Global, mem: u8, pc: u32, byte: u8) -> Option<Claim> {
+    let chain = OneValue { of: Sha256 }.digest(&[]);
+    claim(
+        alloc,
+        (Digest32([mem; 32]), Digest32([2; 32])),
+        pc,
+        1,
+        chain,
+        &[byte],
+    )
+}
+
+/// How long the first string of a collision is, which says its kind: 97 for a state string, 50 for a control string, 34 for a link.
+fn collision_length<D: Digester>(d: D, first: &Claim, second: &Claim) -> usize {
+    match claim_collision(d, first, second) {
+        Some((x, _y)) => x.as_slice().len(),
+        None => 0,
+    }
+}
+
+/// By a digest function with one value all claims have one root, so that the first strings that differ collide: state strings before
+/// control strings before links. By SHA-256 the roots differ.
+#[test]
+fn the_first_strings_that_differ_collide(rt: HostRuntime) -> Result<(), Fail> {
+    let Some(first) = near_claim(rt.alloc(), 1, 4, 0x2a) else {
+        assert!(rt; false, "no claim was made");
+        return Ok(());
+    };
+    for (mem, pc, byte, length) in [
+        (1u8, 4u32, 0x2au8, 0usize),
+        (3, 4, 0x2a, 97),
+        (3, 8, 0x2b, 97),
+        (1, 8, 0x2a, 50),
+        (1, 8, 0x2b, 50),
+        (1, 4, 0x2b, 34),
+    ] {
+        match near_claim(rt.alloc(), mem, pc, byte) {
+            Some(second) => {
+                assert_eq!(rt;
+                    collision_length(OneValue { of: Sha256 }, &first, &second),
+                    length
+                );
+                assert_eq!(rt; collision_length(Sha256, &first, &second), 0);
+            }
             None => assert!(rt; false, "no claim was made"),
         }
     }

@@ -1,9 +1,10 @@
+//! Tests of `state_commit` in version 1 of the commitment.
 ghost use Rattle.std.specs.Prelude.{◌≤◌, length};
 
 use digest_core::{Sha256, leaf_text};
 use merkle_nodes::climb;
 use rd_base::Memory;
-use state_commit::{Committed, state_root_in};
+use state_commit::{Committed, state_root};
 use std::alloc::Global;
 use std::test::Fail;
 use std::thread::Threads;
@@ -21,7 +22,7 @@ fn roots_are<R: Threads + Sync>(
     let mut committed = Committed::new(rt, alloc, Sha256, machine_of(alloc, image)?)?;
     for root in roots {
         let kept = committed.root();
-        if kept != state_root_in(Sha256, 1, committed.machine())
+        if kept != state_root(Sha256, 1, committed.machine())
             || !kept.0.as_slice().starts_with(root)
         {
             return Ok(false);
@@ -118,7 +119,7 @@ fn roots_of_each_state_are_those_of_another_program(rt: HostRuntime) -> Result<(
             PUTS_OUT_A_BYTE_AND_EXITS,
             &PUTS_OUT_A_BYTE_AND_EXITS_ROOTS
         )?,
-        "puts out a byte and exits"
+        "writes a byte and exits"
     );
     assert!(rt;
         roots_are(
@@ -127,7 +128,7 @@ fn roots_of_each_state_are_those_of_another_program(rt: HostRuntime) -> Result<(
             DIVIDES_AND_PUTS_OUT_TWO_BYTES,
             &DIVIDES_AND_PUTS_OUT_TWO_BYTES_ROOTS
         )?,
-        "divides and puts out two bytes"
+        "divides and writes two bytes"
     );
     assert!(rt; roots_are(&rt, alloc, STORES, &STORES_ROOTS)?, "stores");
     assert!(rt; roots_are(&rt, alloc, LOOP, &LOOP_ROOTS)?, "loop");
@@ -144,7 +145,7 @@ fn a_path_climbs_to_the_digest_of_memory(rt: HostRuntime) -> Result<(), Fail> {
     // the chunks at 0, at the program, at the byte that was stored, and at the end of memory
     for index in [0, 0x800, 0x1000, 0x7ff_ffff] {
         let leaf = leaf_text(&committed.machine().mem.chunk(index));
-        let digest = climb(Sha256, index, &leaf, &committed.memory().path(index).0);
+        let digest = climb(Sha256, index, &leaf, &committed.path(index).0);
         assert!(rt; digest == committed.memory().root(), "chunk {index}");
     }
     Ok(())

@@ -2,14 +2,14 @@
 ghost use Rattle.std.specs.Prelude.{◌≤◌, ℕ, List, length, IfOk};
 ghost use Rattle.rv_step.specs.State.{IsChained};
 
-use crate::state_trees_test::{bytes_of_numbers, one_register};
+use crate::input_and_register_trees_test::{bytes_of_numbers, one_register};
 use digest_core::{Digester, Sha256, leaf_text, register_text};
 use mem_plain::PlainMem;
 use mem_tree::input_chunk;
 use merkle_nodes::climb;
 use rd_base::{Memory, Regs};
 use rv_step::Machine;
-use state_commit::{Committed, KeptRegisters, registers_digest, state_root_in};
+use state_commit::{Committed, KeptRegisters, registers_digest, state_root};
 use std::alloc::Global;
 use std::sync::atomic::{AtomicU64, Ordering};
 use std::test::Fail;
@@ -17,7 +17,7 @@ use std::thread::Threads;
 use toy_machine::{Counted, first_eight};
 
 /// A machine at the start of an image, which lies at 0x10000, with an input. An `Err` is out of memory.
-fn machine_in(alloc: Global, version: u8, image: &[u8], input: &[u8]) -> Result<Machine, Memory>
+fn machine_in(alloc: Global, version: u32, image: &[u8], input: &[u8]) -> Result<Machine, Memory>
     requires version { (1 ≤ version) × (version ≤ 3) }
     requires image { length image.now ≤ 64 }
     requires input { length input.now ≤ 64 }
@@ -31,7 +31,7 @@ fn machine_in(alloc: Global, version: u8, image: &[u8], input: &[u8]) -> Result<
 fn roots_are<R: Threads + Sync>(
     rt: &R,
     alloc: Global,
-    version: u8,
+    version: u32,
     image: &[u8],
     input: &[u8],
     roots: &[u64],
@@ -45,7 +45,7 @@ fn roots_are<R: Threads + Sync>(
     for wanted in roots {
         let root = kept.root();
         let machine = kept.machine();
-        if root != state_root_in(Sha256, machine.version, machine) || first_eight(root) != *wanted {
+        if root != state_root(Sha256, machine.version, machine) || first_eight(root) != *wanted {
             return Ok(false);
         }
         kept = kept.step()?;
@@ -121,7 +121,7 @@ fn a_program_that_stores_and_puts_out_has_the_roots_of_its_version(
 }
 
 /// addi x10, x0, 0; addi x17, x0, 2; ecall; addi x17, x0, 1; ecall; addi x10, x0, 1; addi x17, x0, 2; ecall; addi x17, x0, 1;
-/// ecall; addi x10, x0, 0; addi x17, x0, 93; ecall: it puts out the input's first byte and what a read behind its end gives.
+/// ecall; addi x10, x0, 0; addi x17, x0, 93; ecall: it writes the input's first byte and what a read behind its end gives.
 const READS_ITS_INPUT: &[u8] =
     b"\x13\x05\x00\x00\x93\x08\x20\x00\x73\x00\x00\x00\x93\x08\x10\x00\x73\x00\x00\x00\x13\x05\x10\x00\x93\x08\x20\x00\x73\x00\x00\x00\x93\x08\x10\x00\x73\x00\x00\x00\x13\x05\x00\x00\x93\x08\xd0\x05\x73\x00\x00\x00";
 
@@ -168,7 +168,7 @@ fn registers_have_one_digest_in_version_1_and_another_above(rt: HostRuntime) {
             0x5f33_9388_ea37_05d7,
         ),
     ] {
-        for (version, wanted) in [(1u8, one), (2, two), (3, two)] {
+        for (version, wanted) in [(1u32, one), (2, two), (3, two)] {
             let digest = registers_digest(Sha256, version, &regs);
             assert_eq!(rt; first_eight(digest), wanted, "version {version}");
             let mut kept = KeptRegisters::new(Sha256, version, &one_register(5, 1));
@@ -178,7 +178,7 @@ fn registers_have_one_digest_in_version_1_and_another_above(rt: HostRuntime) {
 }
 
 /// How many digests the digest of registers takes that differ in one from those before.
-fn digests_of_one_change(version: u8) -> u64 {
+fn digests_of_one_change(version: u32) -> u64 {
     let made = AtomicU64::new(0);
     let counted = Counted {
         of: Sha256,
@@ -207,7 +207,7 @@ fn paths_climb_to_the_roots_that_a_version_has(rt: HostRuntime) -> Result<(), Fa
     }
     for chunk in [0u32, 0x800, 0x1000] {
         let leaf = leaf_text(&kept.machine().mem.chunk(chunk));
-        let root = climb(Sha256, chunk, &leaf, &kept.memory().path(chunk).0);
+        let root = climb(Sha256, chunk, &leaf, &kept.path(chunk).0);
         assert!(rt; root == kept.memory().root(), "chunk {chunk}");
     }
     if kept.machine().version != 3 {

@@ -1,3 +1,4 @@
+//! Digest functions for tests.
 ghost use Rattle.std.specs.Prelude.{◌≡◌, [], take};
 ghost use Rattle.std.specs.Int.{w64, from_be_bytes};
 

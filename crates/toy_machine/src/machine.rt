@@ -1,3 +1,4 @@
+//! A machine for tests.
 ghost use Rattle.std.specs.Prelude.{ℕ, ◌≤◌, List, length, IfOk};
 ghost use Rattle.rv_step.specs.State.{IsChained};
 
