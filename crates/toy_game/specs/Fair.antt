@@ -95,9 +95,9 @@ toy_is_fair n = record {
   claims_collide = λ x y sx sy same none.
       let marks : x.ctl.pc ≡ y.ctl.pc = marks-same (same_digest x.mem y.mem) x.ctl.pc y.ctl.pc (same-digests x.mem y.mem same) none in
       plain-is x sx ∙ (ap (λ (m : Digest32). claim_of m x.ctl.pc) same ∙ (ap (claim_of y.mem) marks ∙ sym (plain-is y sy)));
-  claims_apart = λ x y apart. no-marks (same_digest x.mem y.mem) x.ctl.pc y.ctl.pc (λ same. apart (same-is x.mem y.mem same));
-  claims_equal = λ x. same-marks (same_digest x.mem x.mem) x.ctl.pc;
-  claim_collisions = λ x y p e. rw (one-pair (toy_ruling n) (same_digest x.mem y.mem && not (x.ctl.pc == y.ctl.pc)) p e) (collides n);
+  claims_apart = λ x y sx sy apart. no-marks (same_digest x.mem y.mem) x.ctl.pc y.ctl.pc (λ same. apart (same-is x.mem y.mem same));
+  claims_equal = λ x sx. same-marks (same_digest x.mem x.mem) x.ctl.pc;
+  claim_collisions = λ x y p sx sy e. rw (one-pair (toy_ruling n) (same_digest x.mem y.mem && not (x.ctl.pc == y.ctl.pc)) p e) (collides n);
   steps_collide = λ from x y b c ex ey differ. steps-by n from x y b c (mark_of x == mark_of y) refl ex ey differ;
-  step_collisions = λ from x y p e. rw (other-pair (mark_of x == mark_of y) p e) (collides n);
+  step_collisions = λ from x y b c p ex ey e. rw (other-pair (mark_of x == mark_of y) p e) (collides n);
 }

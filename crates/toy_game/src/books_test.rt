@@ -18,8 +18,8 @@ use tournament::{Move, Reply};
 /// A prover passes on its open question, if it passes there now.
 fn pass(book: &mut Book<ToyJudge, Cast>, p: u32) -> Option<Reply>
     requires some { 0 < p }
-    requires few { p ≤ book.old.0.2.provers }
-    ensures { book.new.0 ≡ book.old.0 }
+    requires few { p ≤ book.old.opening.setup.provers }
+    ensures { book.new.opening ≡ book.old.opening }
 {
     if !book.waits(p) {
         return None;
@@ -33,8 +33,8 @@ fn pass(book: &mut Book<ToyJudge, Cast>, p: u32) -> Option<Reply>
 /// A prover without a question passes on its claim once more.
 fn pass_again(book: &mut Book<ToyJudge, Cast>, p: u32) -> Option<Reply>
     requires some { 0 < p }
-    requires few { p ≤ book.old.0.2.provers }
-    ensures { book.new.0 ≡ book.old.0 }
+    requires few { p ≤ book.old.opening.setup.provers }
+    ensures { book.new.opening ≡ book.old.opening }
 {
     let Ask::Nothing = book.ask(p) else {
         return None;
@@ -137,8 +137,8 @@ fn the_largest_book_takes_its_room_at_opening(rt: HostRuntime) -> Result<(), Fai
 /// entries there are then.
 fn asked_and_passed(book: &mut Book<ToyJudge, Cast>, p: u32) -> (Asked, Option<Replied>, usize)
     requires some { 0 < p }
-    requires few { p ≤ book.old.0.2.provers }
-    ensures { book.new.0 ≡ book.old.0 }
+    requires few { p ≤ book.old.opening.setup.provers }
+    ensures { book.new.opening ≡ book.old.opening }
 {
     let ask = ask_in_short(book.ask(p));
     let reply = if matches!(ask, Asked::Nothing) {
