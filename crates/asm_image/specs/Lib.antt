@@ -1,1 +1,2 @@
 pub mod AsmImage
+pub mod Listed

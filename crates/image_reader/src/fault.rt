@@ -46,7 +46,7 @@ pub enum ImageFault {
     #[error("the file is too large")]
     ImageTooLarge,
     /// An allocation was refused.
-    #[error("want of memory")]
+    #[error("out of memory")]
     Memory,
 }
 
