@@ -55,11 +55,11 @@ pub machine_ruling_is_fair : (digest : List ℕ → List ℕ) → ((bytes : List
 machine_ruling_is_fair digest is_digest version = record {
   claims_collide = λ x y x_sound y_sound roots none.
       claims_without_collision digest is_digest x y x_sound y_sound (ap (λ (d : Digest32). d.0) roots) none;
-  claims_apart = λ x y differ. no_collision_of_two_roots digest x y (λ same. differ (λ i. record { 0 = same i }));
-  claims_equal = λ x. no_collision_of_equal digest x;
-  claim_collisions = λ x y pair some.
+  claims_apart = λ x y x_sound y_sound differ. no_collision_of_two_roots digest x y (λ same. differ (λ i. record { 0 = same i }));
+  claims_equal = λ x sound. no_collision_of_equal digest x;
+  claim_collisions = λ x y pair x_sound y_sound some.
       let found = claims_collide digest x y pair some in
       record { differ = found.differ; one_digest = found.one_digest; first_opened = found.first_opened; second_opened = found.second_opened };
   steps_collide = λ from x y b c x_leads y_leads differ. steps-apart digest is_digest version from x y b c x_leads y_leads differ;
-  step_collisions = λ from x y pair some. steps-collide digest version from x y pair some;
+  step_collisions = λ from x y b c pair x_leads y_leads some. steps-collide digest version from x y pair some;
 }
