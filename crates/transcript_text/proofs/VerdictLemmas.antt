@@ -4,7 +4,8 @@ use Rattle.rd_base.specs.declared.claim.Claim.{Claim}
 use Rattle.bisect_game.specs.declared.settled.Settled.{Settled}
 use Rattle.bisect_game.specs.Rules.{Rules}
 use Rattle.bisect_game.specs.Bisection.{Bisection}
-use Rattle.tournament.specs.Bracket.{Record, claim_in, is_out_in, also, live_from, live, first_of, claims_collision, disputes_collision, lowest, or_lowest, verdict_of}
+use Rattle.tournament.specs.Bracket.{Record, claim_in, is_out_in, also, live_from, live, claims_collision, disputes_collision, lowest, or_lowest, verdict_of}
+use Rattle.std.specs.Option.{option_or}
 use Rattle.transcript_text.specs.declared.text.Stated.{Stated}
 use Rattle.transcript_text.specs.declared.text.Stated.TheVariants.{Accept, NoneLeft, Collision}
 use Rattle.transcript_text.specs.StatedVerdict.{settled_at, given_claim, stated_claim, stated_of, VerdictsAreStated}
@@ -43,7 +44,7 @@ lowest-is-stated t [] e = (NoneLeft, refl)
 lowest-is-stated t (x ∷ xs) e = (Accept (x.1).ctl.status (x.1).output, accepted-is-stated t.claims x (first-live t.disputes 1 t.claims x xs e))
 
 pub verdicts-are-stated : VerdictsAreStated
-verdicts-are-stated rules t = by (first_of (claims_collision rules.ruling (live_from [] 1 t.claims)) (disputes_collision t.disputes))
+verdicts-are-stated rules t = by (option_or (claims_collision rules.ruling (live_from [] 1 t.claims)) (disputes_collision t.disputes))
   where
     by : (o : Option (List ℕ × List ℕ)) → (s : Stated) × (stated_of t.claims (or_lowest o (live t)) ≡ Some s)
     by (Some pair) = (Collision pair.0 pair.1, refl)

@@ -97,18 +97,18 @@ few-by fan bound k low high short less =
     far-off x y z n a b c d e = omega (arith, a, b, c, d, e)
 
 -- a dispute of a match that is played by such rules
-few-rounds : (rules : Rules) (d : Bisection) → 2 ≤ rules.fan → rules.fan ≤ 16 → rules.bound < 4294967296 → IsShort rules d → length d.past + 1 < 4294967296
+few-rounds : (rules : Rules) (d : Bisection) → 2 ≤ rules.setup.fan → rules.setup.fan ≤ 16 → rules.setup.bound < 4294967296 → IsShort rules d → length d.past + 1 < 4294967296
 few-rounds rules d low high short i =
-    let f : length d.past + (if is_step d.place then 0 else 1) < 36 = few-by rules.fan rules.bound (rounds_of d) low high short i.bisections in
+    let f : length d.past + (if is_step d.place then 0 else 1) < 36 = few-by rules.setup.fan rules.setup.bound (rounds_of d) low high short i.bisections in
     omega (arith, f)
 
-disputes-moves : (rules : Rules) (n : ℕ) (ds : List Bisection) → 2 ≤ rules.fan → rules.fan ≤ 16 → rules.bound < 4294967296 → n + length ds ≤ 4294967296 → AreNumbered rules.provers n ds → AllShort rules ds →
-    AreWritten (moves_of_disputes ds) → AreMovesInLimits rules.provers (moves_of_disputes ds)
+disputes-moves : (rules : Rules) (n : ℕ) (ds : List Bisection) → 2 ≤ rules.setup.fan → rules.setup.fan ≤ 16 → rules.setup.bound < 4294967296 → n + length ds ≤ 4294967296 → AreNumbered rules.setup.provers n ds → AllShort rules ds →
+    AreWritten (moves_of_disputes ds) → AreMovesInLimits rules.setup.provers (moves_of_disputes ds)
 disputes-moves rules n [] low high short few is are w = tt
 disputes-moves rules n (d ∷ ds) low high short few is are w =
     let number : d.number ≡ n = is.0.0 in
-    joined-moves rules.provers (moves_of_dispute d) (moves_of_disputes ds)
-    (dispute-moves rules.provers d (omega (arith, number, few)) (few-rounds rules d low high short are.0) is.0.1.0 is.0.1.1)
+    joined-moves rules.setup.provers (moves_of_dispute d) (moves_of_disputes ds)
+    (dispute-moves rules.setup.provers d (omega (arith, number, few)) (few-rounds rules d low high short are.0) is.0.1.0 is.0.1.1)
     (disputes-moves rules (n + 1) ds low high short (omega (arith, few)) is.1 are.1) w
 
 -- what is stated
@@ -167,20 +167,20 @@ parts-in-limits : RecordsAreOfProvers → FewDisputes → FewRounds → (rules :
     AreWritten (moves_of (record_after rules xs)) → HasStrings (verdict_of rules (record_after rules xs)) → stated_of (record_after rules xs).claims (verdict_of rules (record_after rules xs)) ≡ Some s → IsInLimits (parts_of head (record_after rules xs) s)
 parts-in-limits of_provers few_disputes few_rounds rules xs head s playable of limits written strings is =
     let r : Record = record_after rules xs in
-    let numbers : IsOfProvers rules.provers (record_after rules xs) = of_provers rules xs in
-    let provers : head.provers ≡ rules.provers = of.provers in
+    let numbers : IsOfProvers rules.setup.provers (record_after rules xs) = of_provers rules xs in
+    let provers : head.provers ≡ rules.setup.provers = of.provers in
     let most : head.provers ≤ 16 = limits.provers.1 in
     let some : 1 ≤ head.provers = limits.provers.0 in
-    let fan : head.fan ≡ rules.fan = of.fan in
+    let fan : head.fan ≡ rules.setup.fan = of.fan in
     let low : 2 ≤ head.fan = limits.fan.0 in
     let high : head.fan ≤ 16 = limits.fan.1 in
-    let bound : head.bound ≡ rules.bound = of.bound in
+    let bound : head.bound ≡ rules.setup.bound = of.bound in
     let short : head.bound ≤ 4294967295 = limits.bound.1 in
-    let count : length (record_after rules xs).claims ≡ rules.provers = numbers.claims in
-    let disputes : length (record_after rules xs).disputes < rules.provers = few_disputes rules xs (omega (arith, some, provers)) in
-    let moves : AreMovesInLimits rules.provers (moves_of (record_after rules xs)) =
-    joined-moves rules.provers (moves_of_claims 1 (record_after rules xs).claims) (moves_of_disputes (record_after rules xs).disputes)
-    (claim-moves rules.provers 1 (record_after rules xs).claims (omega arith) (omega (arith, count)))
+    let count : length (record_after rules xs).claims ≡ rules.setup.provers = numbers.claims in
+    let disputes : length (record_after rules xs).disputes < rules.setup.provers = few_disputes rules xs (omega (arith, some, provers)) in
+    let moves : AreMovesInLimits rules.setup.provers (moves_of (record_after rules xs)) =
+    joined-moves rules.setup.provers (moves_of_claims 1 (record_after rules xs).claims) (moves_of_disputes (record_after rules xs).disputes)
+    (claim-moves rules.setup.provers 1 (record_after rules xs).claims (omega arith) (omega (arith, count)))
     (disputes-moves rules 1 (record_after rules xs).disputes (omega (arith, fan, low)) (omega (arith, fan, high)) (omega (arith, bound, short)) (omega (arith, disputes, provers, most)) numbers.disputes (few_rounds rules xs playable)) written in
     record {
       head = limits;

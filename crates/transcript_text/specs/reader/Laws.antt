@@ -33,9 +33,9 @@ ReadsRecordsBack =
 
 -- the head has the rules' numbers
 pub record IsHeadOf (rules : Rules) (head : Head) : Type 0 where
-  pub provers : head.provers ≡ rules.provers
-  pub bound : head.bound ≡ rules.bound
-  pub fan : head.fan ≡ rules.fan
+  pub provers : head.provers ≡ rules.setup.provers
+  pub bound : head.bound ≡ rules.setup.bound
+  pub fan : head.fan ≡ rules.setup.fan
 
 -- the strings of a collision are some that a text can state
 abbrev pub HasStrings : Verdict → Type 0
