@@ -9,7 +9,7 @@ use Rattle.rd_base.specs.declared.answer.Answer.{Answer}
 use Rattle.bisect_game.specs.declared.question.Question.{Question}
 use Rattle.bisect_game.specs.Ruling.{Ruling}
 use Rattle.bisect_game.specs.Says.{Says, AnswerAs}
-use Rattle.tournament.specs.declared.setup.Setup.{Setup}
+use Rattle.board_book.specs.declared.opening.Opening.{Opening}
 use Rattle.board_book.specs.declared.entry.Entry.{Entry}
 use Rattle.board_book.specs.Tasks.{Task, task_of, BookOf, openings, tasks_of, numbered, entries_of, of_task, sayings_from, sayings}
 use Rattle.board_book.specs.Keeping.{AreNumbered, AreToldApart, SayInOrder}
@@ -39,20 +39,20 @@ in_block says t p (suc m) places said (suc n) x e =
     ]
 
 module _ {N M : Type 0} (says : M → Says) where
-  record IsPlaced (t : ℕ) (heads : List (N × M × Setup)) (n : ℕ) (x : Place) : Type 0 where
-    pub head : N × M × Setup
+  record IsPlaced (t : ℕ) (heads : List (Opening N M)) (n : ℕ) (x : Place) : Type 0 where
+    pub head : Opening N M
     pub from : t ≤ x.task
     pub at : slice_get heads (x.task - t) ≡ Some head
     pub some : 0 < x.prover
-    pub few : x.prover ≤ head.2.provers
-    pub said : slice_get (sayings says heads) n ≡ Some (says head.1 x.prover)
+    pub few : x.prover ≤ head.setup.provers
+    pub said : slice_get (sayings says heads) n ≡ Some (says head.provers x.prover)
 
-  placed : (t : ℕ) (heads : List (N × M × Setup)) (n : ℕ) (x : Place) → slice_get (places_from t heads) n ≡ Some x → IsPlaced t heads n x
+  placed : (t : ℕ) (heads : List (Opening N M)) (n : ℕ) (x : Place) → slice_get (places_from t heads) n ≡ Some x → IsPlaced t heads n x
   placed t [] n x e = absurd (none-some x e)
   placed t (h ∷ hs) n x e =
-      elim (in_block (says h.1) t 1 h.2.provers (places_from (t + 1) hs) (sayings says hs) n x e) [
+      elim (in_block (says h.provers) t 1 h.setup.provers (places_from (t + 1) hs) (sayings says hs) n x e) [
         | inl r ↦
-            let here : x.task ≡ t = r.0 in let low : 1 ≤ x.prover = r.1 in let high : x.prover < 1 + h.2.provers = r.2 in
+            let here : x.task ≡ t = r.0 in let low : 1 ≤ x.prover = r.1 in let high : x.prover < 1 + h.setup.provers = r.2 in
             let zeroth : x.task - t ≡ 0 = omega (arith, here) in
             record {
               head = h;
@@ -77,7 +77,7 @@ module _ {N M : Type 0} (says : M → Says) where
       ]
 
   -- the prover of a number
-  pub prover_at : (heads : List (N × M × Setup)) (n : ℕ) (x : Place) (said : Saying) → slice_get (places_from 1 heads) n ≡ Some x → said ≡ said_by says heads n → IsProver says heads x said
+  pub prover_at : (heads : List (Opening N M)) (n : ℕ) (x : Place) (said : Saying) → slice_get (places_from 1 heads) n ≡ Some x → said ≡ said_by says heads n → IsProver says heads x said
   prover_at heads n x said e same =
       let p : IsPlaced 1 heads n x = placed 1 heads n x e in
       let from : 1 ≤ x.task = p.from in
@@ -86,15 +86,15 @@ module _ {N M : Type 0} (says : M → Says) where
         there = ap (λ (b : Bool). if b then None else slice_get heads (x.task - 1)) (ne_eqb x.task 0 (λ z. absurd (omega (arith, z, from)))) ∙ p.at;
         some = p.some;
         few = p.few;
-        says_it = same ∙ get_or_from_slice_get (sayings says heads) n (says p.head.1 x.prover) silent p.said;
+        says_it = same ∙ get_or_from_slice_get (sayings says heads) n (says p.head.provers x.prover) silent p.said;
       }
 
 module _ {N M : Type 0} (ruling : N → Ruling) (says : M → Says) (law : AreNumbered ruling says) where
   -- a prover that is there
-  pub is_there : (heads : List (N × M × Setup)) (x : Place) (said : Saying) → IsProver says heads x said → IsThere (tasks_of ruling says heads) x.task x.prover
+  pub is_there : (heads : List (Opening N M)) (x : Place) (said : Saying) → IsProver says heads x said → IsThere (tasks_of ruling says heads) x.task x.prover
   is_there heads x said p = (task_of ruling says p.head, law.opening heads x.task p.head p.there, p.some, p.few)
 
-  pub task_same : (heads : List (N × M × Setup)) (x : Place) (said : Saying) (k : Task) → (p : IsProver says heads x said) → numbered (tasks_of ruling says heads) x.task ≡ Some k → task_of ruling says p.head ≡ k
+  pub task_same : (heads : List (Opening N M)) (x : Place) (said : Saying) (k : Task) → (p : IsProver says heads x said) → numbered (tasks_of ruling says heads) x.task ≡ Some k → task_of ruling says p.head ≡ k
   task_same heads x said k p e = same_Some (task_of ruling says p.head) k (sym (law.opening heads x.task p.head p.there) ∙ e)
 
 -- a list by its numbers
@@ -106,7 +106,7 @@ list_by_number {B} d zs (y ∷ ys) j e =
     let same : (zs ++ y ∷ []) ++ ys ≡ zs ++ y ∷ ys = append_assoc zs (y ∷ []) ys in
     ap₂ (λ (a : B) (l : List B). a ∷ l) first (subst (λ (l : List B). map (λ n. get_or l n d) (range_with_len (j + 1) (length ys)) ≡ ys) same rest)
 
-pub all_by_number : {A : Type 0} {N M : Type 0} (answers : A → Saying) (says : M → Says) (heads : List (N × M × Setup)) (xs : List A) → map answers xs ≡ sayings says heads → map answers xs ≡ map (said_by says heads) (range_with_len 0 (length xs))
+pub all_by_number : {A : Type 0} {N M : Type 0} (answers : A → Saying) (says : M → Says) (heads : List (Opening N M)) (xs : List A) → map answers xs ≡ sayings says heads → map answers xs ≡ map (said_by says heads) (range_with_len 0 (length xs))
 all_by_number answers says heads xs e =
     let long : length xs ≡ length (sayings says heads) = sym (length-map xs answers) ∙ ap length e in
     e ∙ (sym (list_by_number silent [] (sayings says heads) 0 refl) ∙ ap (λ (n : ℕ). map (said_by says heads) (range_with_len 0 n)) (sym long))
@@ -117,12 +117,12 @@ block_long : (says : Says) (t p m : ℕ) → length (provers_from t p m) ≡ len
 block_long says t p zero = refl
 block_long says t p (suc m) = ap suc (block_long says t (p + 1) m)
 
-pub as_many : {N M : Type 0} (says : M → Says) (t : ℕ) (heads : List (N × M × Setup)) → length (places_from t heads) ≡ length (sayings says heads)
+pub as_many : {N M : Type 0} (says : M → Says) (t : ℕ) (heads : List (Opening N M)) → length (places_from t heads) ≡ length (sayings says heads)
 as_many says t [] = refl
 as_many says t (h ∷ hs) =
-    length-append (provers_from t 1 h.2.provers) (places_from (t + 1) hs)
-    ∙ (ap₂ (λ (a b : ℕ). a + b) (block_long (says h.1) t 1 h.2.provers) (as_many says (t + 1) hs)
-    ∙ sym (length-append (sayings_from (says h.1) 1 h.2.provers) (sayings says hs)))
+    length-append (provers_from t 1 h.setup.provers) (places_from (t + 1) hs)
+    ∙ (ap₂ (λ (a b : ℕ). a + b) (block_long (says h.provers) t 1 h.setup.provers) (as_many says (t + 1) hs)
+    ∙ sym (length-append (sayings_from (says h.provers) 1 h.setup.provers) (sayings says hs)))
 
 -- one more prover of a task, and the provers of one more task
 
@@ -148,22 +148,22 @@ long_provers : (t p m : ℕ) → length (provers_from t p m) ≡ m
 long_provers t p zero = refl
 long_provers t p (suc m) = ap suc (long_provers t (p + 1) m)
 
-pub places_more : {N M : Type 0} (t : ℕ) (hs : List (N × M × Setup)) (h : N × M × Setup) → places_from t (hs ++ h ∷ []) ≡ places_from t hs ++ provers_from (t + length hs) 1 h.2.provers
+pub places_more : {N M : Type 0} (t : ℕ) (hs : List (Opening N M)) (h : Opening N M) → places_from t (hs ++ h ∷ []) ≡ places_from t hs ++ provers_from (t + length hs) 1 h.setup.provers
 places_more t [] h =
     let same : t ≡ t + 0 = omega arith in
-    ap (λ (u : ℕ). provers_from u 1 h.2.provers ++ []) same ∙ append-nil (provers_from (t + 0) 1 h.2.provers)
+    ap (λ (u : ℕ). provers_from u 1 h.setup.provers ++ []) same ∙ append-nil (provers_from (t + 0) 1 h.setup.provers)
 places_more t (x ∷ hs) h =
     let same : t + 1 + length hs ≡ t + suc (length hs) = omega arith in
-    ap (λ (l : List Place). provers_from t 1 x.2.provers ++ l) (places_more (t + 1) hs h ∙ ap (λ (u : ℕ). places_from (t + 1) hs ++ provers_from u 1 h.2.provers) same)
-    ∙ sym (append_assoc (provers_from t 1 x.2.provers) (places_from (t + 1) hs) (provers_from (t + suc (length hs)) 1 h.2.provers))
+    ap (λ (l : List Place). provers_from t 1 x.setup.provers ++ l) (places_more (t + 1) hs h ∙ ap (λ (u : ℕ). places_from (t + 1) hs ++ provers_from u 1 h.setup.provers) same)
+    ∙ sym (append_assoc (provers_from t 1 x.setup.provers) (places_from (t + 1) hs) (provers_from (t + suc (length hs)) 1 h.setup.provers))
 
 -- the provers of the next task
 
-pub placed_more : {N M : Type 0} (hs : List (N × M × Setup)) (i m : ℕ) (h : N × M × Setup) (xs ys : List Place) → slice_get hs i ≡ Some h → xs ≡ places_from 1 (take i hs) → length xs ≤ 16 * i → m ≡ h.2.provers → m ≤ 16 → ys ≡ xs ++ provers_from (i + 1) 1 m →
+pub placed_more : {N M : Type 0} (hs : List (Opening N M)) (i m : ℕ) (h : Opening N M) (xs ys : List Place) → slice_get hs i ≡ Some h → xs ≡ places_from 1 (take i hs) → length xs ≤ 16 * i → m ≡ h.setup.provers → m ≤ 16 → ys ≡ xs ++ provers_from (i + 1) 1 m →
     (ys ≡ places_from 1 (take (i + 1) hs)) × (length ys ≤ 16 * (i + 1))
 placed_more {N} {M} hs i m h xs ys there so_far few is small next =
     let within : i < length hs = slice_get_within hs i h there in
-    let more : take (i + 1) hs ≡ take i hs ++ h ∷ [] = take_more hs i h within ∙ ap (λ (x : N × M × Setup). take i hs ++ x ∷ []) (get_or_from_slice_get hs i h h there) in
+    let more : take (i + 1) hs ≡ take i hs ++ h ∷ [] = take_more hs i h within ∙ ap (λ (x : Opening N M). take i hs ++ x ∷ []) (get_or_from_slice_get hs i h h there) in
     let long : length (take i hs) ≡ i = length-take-le i hs (omega (arith, within)) in
     let place : 1 + length (take i hs) ≡ i + 1 = omega (arith, long) in
     let all : places_from 1 (take (i + 1) hs) ≡ places_from 1 (take i hs) ++ provers_from (i + 1) 1 m =
@@ -178,7 +178,7 @@ single_said answers law says m xs long a = law says 1 xs a ∙ (ap (sayings_from
 
 -- the opening of the next book
 
-pub opening_of : {N M : Type 0} (ruling : N → Ruling) (says : M → Says) → AreNumbered ruling says → (bs : List (BookOf N M)) (i : ℕ) (b : BookOf N M) → numbered bs (i + 1) ≡ Some b → slice_get (openings bs) i ≡ Some b.0
+pub opening_of : {N M : Type 0} (ruling : N → Ruling) (says : M → Says) → AreNumbered ruling says → (bs : List (BookOf N M)) (i : ℕ) (b : BookOf N M) → numbered bs (i + 1) ≡ Some b → slice_get (openings bs) i ≡ Some b.opening
 opening_of ruling says law bs i b e =
     let place : i + 1 - 1 ≡ i = omega arith in
     ap (slice_get (openings bs)) (sym place)

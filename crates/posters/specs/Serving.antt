@@ -5,9 +5,9 @@ use Rattle.std.specs.List.{All}
 use Rattle.rd_base.specs.declared.answer.Answer.{Answer}
 use Rattle.bisect_game.specs.declared.question.Question.{Question}
 use Rattle.bisect_game.specs.Says.{Says}
-use Rattle.tournament.specs.declared.setup.Setup.{Setup}
 use Rattle.seat_lock.specs.History.{LogEntry, log_of, Begins}
 use Rattle.seat_lock.specs.Seats.{LockId, Known}
+use Rattle.board_book.specs.declared.opening.Opening.{Opening}
 use Rattle.board_book.specs.Tasks.{numbered, sayings}
 use Rattle.posters.specs.declared.playing.Place.{Place}
 
@@ -17,25 +17,25 @@ provers_from t p zero = []
 provers_from t p (suc n) = record { task = t; prover = p } ∷ provers_from t (p + 1) n
 
 -- the provers of all tasks, the first of which has this number
-abbrev pub places_from : {N M : Type 0} → ℕ → List (N × M × Setup) → List Place
+abbrev pub places_from : {N M : Type 0} → ℕ → List (Opening N M) → List Place
 places_from t [] = []
-places_from t (h ∷ hs) = provers_from t 1 h.2.provers ++ places_from (t + 1) hs
+places_from t (h ∷ hs) = provers_from t 1 h.setup.provers ++ places_from (t + 1) hs
 
 -- a prover that only passes
 abbrev pub silent : Question → ℕ → Option Answer
 silent question passes = None
 
 -- what the prover of a number says, of all provers of all tasks
-abbrev pub said_by : {N M : Type 0} → (M → Says) → List (N × M × Setup) → ℕ → Question → ℕ → Option Answer
+abbrev pub said_by : {N M : Type 0} → (M → Says) → List (Opening N M) → ℕ → Question → ℕ → Option Answer
 said_by says heads number = get_or (sayings says heads) number silent
 
 -- the prover at this place is there, and says this
-pub record IsProver {N M : Type 0} (says : M → Says) (heads : List (N × M × Setup)) (place : Place) (said : Question → ℕ → Option Answer) : Type 0 where
-  pub head : N × M × Setup
+pub record IsProver {N M : Type 0} (says : M → Says) (heads : List (Opening N M)) (place : Place) (said : Question → ℕ → Option Answer) : Type 0 where
+  pub head : Opening N M
   pub there : numbered heads place.task ≡ Some head
   pub some : 0 < place.prover
-  pub few : place.prover ≤ head.2.provers
-  pub says_it : said ≡ says head.1 place.prover
+  pub few : place.prover ≤ head.setup.provers
+  pub says_it : said ≡ says head.provers place.prover
 
 module _ {H : Type 0} where
   -- what no turn changes of a seat
@@ -52,8 +52,8 @@ module _ {H : Type 0} where
   KnowsStart start k = (log : List LogEntry) → Begins (log_of k.seen) log → All (λ seen. Begins (log_of seen) log) k.joined → Begins start log
 
 -- a seat at this board may serve the provers of these numbers, of all at these places, with answerers that say this
-pub record MayServe {N M : Type 0} (says : M → Says) (board : LockId) (places : List Place) (k : Known (List (N × M × Setup))) (numbers : List ℕ) (said : List (Question → ℕ → Option Answer)) : Type 0 where
-  pub heads : List (N × M × Setup)
+pub record MayServe {N M : Type 0} (says : M → Says) (board : LockId) (places : List Place) (k : Known (List (Opening N M))) (numbers : List ℕ) (said : List (Question → ℕ → Option Answer)) : Type 0 where
+  pub heads : List (Opening N M)
   pub seat : IsSeatOf board heads k
   pub placed : places ≡ places_from 1 heads
   pub said_all : said ≡ map (said_by says heads) numbers

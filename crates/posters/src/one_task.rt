@@ -61,12 +61,12 @@ where
     J::Names: Send,
     P::Names: Send,
     requires some { 0 < posters }
-    requires count { length answerers.old ≡ book.0.2.provers }
-    requires says { AnswerAs A.answers (P.says book.0.1) 1 answerers.old }
-    ensures complete { IfOk result (λ played. is_complete played.2.record_ ≡ true) }
-    ensures opening { IfOk result (λ played. played.0 ≡ book.0) }
-    ensures prefix { IfOk result (λ played. (es : List Entry) × (played.1 ≡ book.1 ++ es)) }
-    ensures keeps { AnswerAs A.answers (P.says book.0.1) 1 answerers.new }
+    requires count { length answerers.old ≡ book.opening.setup.provers }
+    requires says { AnswerAs A.answers (P.says book.opening.provers) 1 answerers.old }
+    ensures complete { IfOk result (λ played. is_complete played.game.record_ ≡ true) }
+    ensures opening { IfOk result (λ played. played.opening ≡ book.opening) }
+    ensures prefix { IfOk result (λ played. (es : List Entry) × (played.journal ≡ book.journal ++ es)) }
+    ensures keeps { AnswerAs A.answers (P.says book.opening.provers) 1 answerers.new }
 {
     answerers_say_in_order::<A>();
     entries_are_told_apart();

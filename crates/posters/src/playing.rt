@@ -57,7 +57,7 @@ fn places_of<J: Judge + Drop, P: Provers + Drop>(
     alloc: Global,
     books: &Books<J, P>,
 ) -> Result<Vec<Place>, Memory>
-    ensures places { IfOk result (λ places. places.items ≡ places_from 1 (openings books.now.0)) }
+    ensures places { IfOk result (λ places. places.items ≡ places_from 1 (openings books.now.books)) }
     ensures few { IfOk result (λ places. length places.items ≤ 128) }
 {
     tasks_are_numbered::<J, P>();
@@ -93,7 +93,7 @@ fn seat_posters<J: Judge + Drop, P: Provers + Drop>(
     ensures classes { HaveClasses (λ poster. poster.class) 0 posters.new.items }
 {
     for class in 0..count {
-        let seat = board.lock().split(seat);
+        let seat = board.split(seat);
         posters.push_reserved(Poster { class, seat });
     }
 }
@@ -112,7 +112,7 @@ fn join_posters<J: Judge + Drop, P: Provers + Drop>(
 {
     while let Some(poster) = posters.pop() {
         let Poster { seat: other, .. } = poster;
-        board.lock().join(seat, other);
+        board.join(seat, other);
     }
 }
 
@@ -143,10 +143,10 @@ where
     J::Names: Send,
     P::Names: Send,
     requires some { 0 < posters }
-    requires says { map A.answers answerers.old ≡ sayings P.says (openings books.0) }
-    ensures complete { IfOk result (λ played. All (λ b. is_complete b.2.record_ ≡ true) played.0) }
-    ensures openings { IfOk result (λ played. openings played.0 ≡ openings books.0) }
-    ensures prefix { IfOk result (λ played. (xs : List (ℕ × Entry)) × (played.1 ≡ books.1 ++ xs)) }
+    requires says { map A.answers answerers.old ≡ sayings P.says (openings books.books) }
+    ensures complete { IfOk result (λ played. All (λ b. is_complete b.game.record_ ≡ true) played.books) }
+    ensures openings { IfOk result (λ played. openings played.books ≡ openings books.books) }
+    ensures prefix { IfOk result (λ played. (xs : List (ℕ × Entry)) × (played.journal ≡ books.journal ++ xs)) }
     ensures keeps { map A.answers answerers.new ≡ map A.answers answerers.old }
 {
     let places = places_of(alloc, &books)?;

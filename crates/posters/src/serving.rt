@@ -4,7 +4,7 @@
 //! what there is to do. Posters wake each other for speed alone, so that a lost wake costs time.
 ghost use Rattle.std.specs.Prelude.{◌≡◌, List, map, slice_get};
 ghost use Rattle.std.specs.Thread.{IsSync};
-ghost use Rattle.tournament.specs.declared.setup.Setup.{Setup};
+ghost use Rattle.board_book.specs.declared.opening.Opening.{Opening};
 ghost use Rattle.posters.specs.Serving.{kept_of, IsSeatOf, IsProver, MayServe};
 
 use crate::playing::{Place, TaskGate};
@@ -132,7 +132,7 @@ impl<'g, J: Judge + Drop, P: Provers + Drop, G: TaskGate> Hall<'g, J, P, G> {
         answerer: &mut A,
     ) -> Turn
         requires sync { IsSync R.row }
-        requires seat { (heads : List (J.Names × P.Names × Setup)) × IsSeatOf self.now.board heads seat.old × IsProver P.says heads place (A.answers answerer.old) }
+        requires seat { (heads : List (Opening J.Names P.Names)) × IsSeatOf self.now.board heads seat.old × IsProver P.says heads place (A.answers answerer.old) }
         ensures seat { kept_of seat.new ≡ kept_of seat.old }
         ensures answerer { A.answers answerer.new ≡ A.answers answerer.old }
     {
@@ -252,11 +252,11 @@ impl<'g, J: Judge + Drop, P: Provers + Drop, A: Answerer, G: TaskGate> Worker<Ha
     ghost use Rattle.std.specs.Prelude.{◌≡◌, ℕ, Option, List};
     ghost use Rattle.rd_base.specs.declared.answer.Answer.{Answer};
     ghost use Rattle.bisect_game.specs.declared.question.Question.{Question};
-    ghost use Rattle.tournament.specs.declared.setup.Setup.{Setup};
+    ghost use Rattle.board_book.specs.declared.opening.Opening.{Opening};
     ghost use Rattle.seat_lock.specs.Seats.{Known};
     ghost use Rattle.posters.specs.Serving.{places_from, kept_of, IsSeatOf, said_by};
 
-    ghost Kept = { Known (List (J.Names × P.Names × Setup)) × ℕ };
+    ghost Kept = { Known (List (Opening J.Names P.Names)) × ℕ };
 
     ghost Meaning = { Question → ℕ → Option Answer };
 
@@ -266,7 +266,7 @@ impl<'g, J: Judge + Drop, P: Provers + Drop, A: Answerer, G: TaskGate> Worker<Ha
 
     ghost class_of = { λ kept. kept.1 };
 
-    ghost ready = { λ hall kept says. (heads : List (J.Names × P.Names × Setup)) × IsSeatOf hall.board heads kept.0 × (hall.places.items ≡ places_from 1 heads) × (says ≡ said_by P.says heads) };
+    ghost ready = { λ hall kept says. (heads : List (Opening J.Names P.Names)) × IsSeatOf hall.board heads kept.0 × (hall.places.items ≡ places_from 1 heads) × (says ≡ said_by P.says heads) };
 
     fn class(&self) -> u32 {
         self.class

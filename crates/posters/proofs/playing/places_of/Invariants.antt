@@ -4,4 +4,4 @@ use Rattle.posters.specs.Serving.{places_from}
 use Rattle.posters.proofs.playing.places_of.Given as goal
 
 abbrev pub invariant-loop-i : goal.invariant-loop-i
-invariant-loop-i g l = (l.places.items ≡ places_from 1 (take l.i (openings l.books.0))) × (length l.places.items ≤ 16 * l.i)
+invariant-loop-i g l = (l.places.items ≡ places_from 1 (take l.i (openings l.books.books))) × (length l.places.items ≤ 16 * l.i)
