@@ -4,11 +4,14 @@ ghost use Rattle.bisect_game.specs.KeptPart.{KeptPartIsFirstThatDiffers};
 ghost use Rattle.bisect_game.specs.Parting.{RunsPartWhereTheyEnd, LieIsRefutedAtItsStep, EarlyEndIsRefuted};
 ghost use Rattle.bisect_game.specs.Laws.{BisectionLaws, CutsDivide, FanStays, HalvesAreBisection, OneCutFewer, OrderOfSidesIsFree};
 
-/// What every dispute keeps, whatever is settled: a round closes it or narrows its interval, and the proof round closes it;
-/// a side whose answers so far are given and true has the run's roots and is not out (bisection's invariant), and its proof
-/// proves; a true answer is taken as given; with k bisection rounds of F parts `F^k < F * N` for the bound N, so at most as many as N has
-/// binary digits, and no proof round goes on; what is settled stays held, and an answer that comes before its turn changes nothing of the
-/// end.
+/// What every dispute keeps, whatever is settled:
+///
+/// - `narrow`, `proof`: a round closes it or narrows its interval, and the proof round closes it.
+/// - `invariant`: a side whose answers so far are given and true has the run's roots and is not out.
+/// - `fits`, `proofs`: a true answer is taken as given, and the proof of such a side proves.
+/// - `few`: with k bisection rounds of F parts `F^k < F * N` for the bound N, so at most as many as N has binary digits, and no proof
+///   round is followed by another round.
+/// - `held`, `played`: what is settled stays held, and an answer that comes before its turn changes nothing of the end.
 pub fn bisection_laws()
     ensures { BisectionLaws }
 {}

@@ -5,8 +5,8 @@
 //! It knows no machine and no hash: what is sound, which root a claim has, where a proof leads and what a collision is
 //! says a `Judge`, with laws that every judge proves. The layers above may rely on this: each call of a `Dispute` is the
 //! definition of a dispute (`specs/Bisection.antt`, `specs/Closing.antt`) moved one answer at a time, and takes no memory
-//! once its `Room` was made; the laws in `laws` hold of that definition. Read `question`, `settled` and `judge` first, then
-//! `dispute`; `rounds` decides a round.
+//! once its `Room` was made; the laws in `laws` hold of that definition. Read `setup`, `question`, `settled` and `judge` first,
+//! then `dispute`; `rounds` decides a round.
 #![tactic(auto)]
 
 mod answerer;

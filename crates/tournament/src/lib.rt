@@ -4,8 +4,8 @@
 //! (`specs/Posting.antt`, over `specs/Bracket.antt`) with its reply, and takes no memory once the match was made; the
 //! dispute theorem (`laws`) holds of that definition whatever is posted in whatever order, and of every match
 //! (`Match::is_after_posts`, `Match::keeps_true_provers`, `Match::has_few_disputes_and_rounds`, `Match::is_never_stuck`,
-//! `Match::has_survivors_that_agree`). Read `setup`, `verdict` and
-//! `posting` first, then `playing`; `record` is what a match leaves.
+//! `Match::has_survivors_that_agree`). Read `verdict` and `posting` first, then `playing`; `record` is what a match leaves. The
+//! numbers of a match are a `Setup` of `bisect_game`.
 #![tactic(auto)]
 
 mod laws;
