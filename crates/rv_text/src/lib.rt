@@ -32,7 +32,6 @@ pub use assembling::{MAX_ASSEMBLY_BYTES, assemble};
 pub use fault::{AsmError, AsmFault, FaultKind};
 pub use laws::{
     each_word_is_said, labels_stand_for_places, least_fault_counts, listing_is_read_back,
-    only_names_fail_later, texts_have_words_or_a_fault,
-    unknown_mnemonics_have_no_row,
+    only_names_fail_later, texts_have_words_or_a_fault, unknown_mnemonics_have_no_row,
 };
 pub use listing::list;

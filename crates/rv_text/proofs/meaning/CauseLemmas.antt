@@ -147,9 +147,9 @@ module _ (d : Distances) (f : Field) (x : List ℕ) where
   unfolding IsCause
   registered-judged r true n (Some z) o =
       none-of_six (IsCause d f x)
-        (λ h. true≢false (sym (rw (r, n) refl) ∙ h)) (λ h. h)
-        (λ h. let known : None ≡ Some z = sym h.is_unknown ∙ o in absurd cc)
-        (no-outside_register r) (no-undefined_register r) (λ h. h)
+      (λ h. true≢false (sym (rw (r, n) refl) ∙ h)) (λ h. h)
+      (λ h. let known : None ≡ Some z = sym h.is_unknown ∙ o in absurd cc)
+      (no-outside_register r) (no-undefined_register r) (λ h. h)
   registered-judged r true n None o = record {
     is_there = record { of_register = r; is_a_name = n; is_unknown = o };
     is_least = from-3 (IsCause d f x) (λ h. true≢false (sym (rw (r, n) refl) ∙ h)) (λ h. h);
@@ -175,8 +175,8 @@ module _ (d : Distances) (f : Field) (x : List ℕ) where
       ranged-at : (b : Bool) → is_in f z ≡ b → Judged (IsCause d f x) (if b then Ok z else Err OutOfRange)
       ranged-at true i =
           none-of_six (IsCause d f x) form (λ h. h) register
-            (λ h. let same : Some z ≡ Some h.number = sym number ∙ h.stands in let is : z ≡ h.number = cc in true≢false (sym i ∙ ap (is_in f) is ∙ h.is_outside))
-            (λ h. let known : None ≡ Some z = sym h.is_undefined ∙ o in absurd cc) (λ h. h)
+          (λ h. let same : Some z ≡ Some h.number = sym number ∙ h.stands in let is : z ≡ h.number = cc in true≢false (sym i ∙ ap (is_in f) is ∙ h.is_outside))
+          (λ h. let known : None ≡ Some z = sym h.is_undefined ∙ o in absurd cc) (λ h. h)
       ranged-at false i = record {
         is_there = record { of_number = r; number = z; stands = number; is_outside = i };
         is_least = from-4 (IsCause d f x) form (λ h. h) register;
@@ -186,7 +186,7 @@ module _ (d : Distances) (f : Field) (x : List ℕ) where
       record {
         is_there = record { of_target = parts.0; is_a_name = parts.1; is_undefined = o };
         is_least = from-5 (IsCause d f x) (λ h. true≢false (sym (rw (r, t) refl) ∙ h)) (λ h. h) (λ h. true≢false (sym h.of_register ∙ r))
-          (λ h. let none : stands_for d f x ≡ None = rw t o in let known : None ≡ Some h.number = sym none ∙ h.stands in absurd cc);
+            (λ h. let none : stands_for d f x ≡ None = rw t o in let known : None ≡ Some h.number = sym none ∙ h.stands in absurd cc);
       }
 
   written-judged : is_register f ≡ false → (is_target f && is_name x) ≡ false → (o : Option ℤ) → number_in x ≡ o → Judged (IsCause d f x) (written f o)
@@ -208,8 +208,8 @@ module _ (d : Distances) (f : Field) (x : List ℕ) where
       ranged-at : (b : Bool) → is_in f z ≡ b → Judged (IsCause d f x) (if b then Ok z else Err OutOfRange)
       ranged-at true i =
           none-of_six (IsCause d f x) form (λ h. h) register
-            (λ h. let same : Some z ≡ Some h.number = sym number ∙ h.stands in let is : z ≡ h.number = cc in true≢false (sym i ∙ ap (is_in f) is ∙ h.is_outside))
-            undefined (λ h. h)
+          (λ h. let same : Some z ≡ Some h.number = sym number ∙ h.stands in let is : z ≡ h.number = cc in true≢false (sym i ∙ ap (is_in f) is ∙ h.is_outside))
+          undefined (λ h. h)
       ranged-at false i = record {
         is_there = record { of_number = r; number = z; stands = number; is_outside = i };
         is_least = from-4 (IsCause d f x) form (λ h. h) register;
@@ -292,10 +292,10 @@ operands-judged d [] text = ended-judged d text (is_empty (skip text)) refl
 operands-judged d (s ∷ slots) text =
     let o = after_slot s (after_operand text) in
     same-judged (λ k. IsCause d (field_of s) (next_operand text) k ⊎ BehindFault d slots o k) (OperandFault d (s ∷ slots) text) (operands_in d (s ∷ slots) text)
-      (to-behind d s slots text o refl) (from-behind d s slots text o refl)
-      (both-judged (IsCause d (field_of s) (next_operand text)) (BehindFault d slots o) (operand_in d (field_of s) (next_operand text)) (or_other_form (option_map (λ rest. operands_in d slots rest) o))
-        (operand-judged d (field_of s) (next_operand text))
-        (behind-judged d slots (λ rest. operands-judged d slots rest) o))
+    (to-behind d s slots text o refl) (from-behind d s slots text o refl)
+    (both-judged (IsCause d (field_of s) (next_operand text)) (BehindFault d slots o) (operand_in d (field_of s) (next_operand text)) (or_other_form (option_map (λ rest. operands_in d slots rest) o))
+    (operand-judged d (field_of s) (next_operand text))
+    (behind-judged d slots (λ rest. operands-judged d slots rest) o))
 
 -- ---- a statement
 same-row : (a b : Row) (o : Option Row) → o ≡ Some a → o ≡ Some b → a ≡ b
@@ -334,14 +334,14 @@ module _ (d : Distances) (text : List ℕ) (row : Row) (has : HasMnemonic text r
   tested-judged : (b : Bool) → (has_none (slots_of row.form) || begins is_blank (after_first_word text)) ≡ b → Judged (HasFault d text) (if b then operands_in d (slots_of row.form) (after_first_word text) else Err OtherForm)
   tested-judged true blank =
       same-judged (OperandFault d (slots_of row.form) (after_first_word text)) (HasFault d text) (operands_in d (slots_of row.form) (after_first_word text)) statement-has (operands-have blank)
-        (operands-judged d (slots_of row.form) (after_first_word text))
+      (operands-judged d (slots_of row.form) (after_first_word text))
   tested-judged false none = record { is_there = no_blank row has none; is_least = from-1 (HasFault d text) }
 
 row-judged : (d : Distances) (text : List ℕ) → is_empty (first_word text) ≡ false → (o : Option Row) → row_named (first_word text) ≡ o → Judged (HasFault d text) (word_of_row d o (after_first_word text))
 row-judged d text there (Some row) is =
     let has : HasMnemonic text row = record { is_there = there; is_row = is } in
     then-judged (HasFault d text) (word_by row) (operands_of d (slots_of row.form) (after_first_word text))
-      (tested-judged d text row has (has_none (slots_of row.form) || begins is_blank (after_first_word text)) refl)
+    (tested-judged d text row has (has_none (slots_of row.form) || begins is_blank (after_first_word text)) refl)
 row-judged d text there None is = record {
   is_there = record { is_there = there; is_unknown = is };
   is_least = from-2 (HasFault d text) no-form;

@@ -60,9 +60,9 @@ far-fails d text w passed h = by (word_in d text) refl (statement-judged d text)
     by : (r : Result (Option ℕ) FaultKind) → word_in d text ≡ r → Judged (HasFault d text) r → r ≡ Err OutOfRange
     by (Ok x) e none = absurd (none OutOfRange (far-fault d text h))
     by (Err k) e least = ⊎_elim
-      (λ undefined. absurd (far-first d text (subst (IsLeast (HasFault d text)) undefined least) h))
-      (λ far. ap (λ j. Err j) far)
-      (name-later d text w k passed e)
+        (λ undefined. absurd (far-first d text (subst (IsLeast (HasFault d text)) undefined least) h))
+        (λ far. ap (λ j. Err j) far)
+        (name-later d text w k passed e)
 
 undefined-fails : (d : Distances) (text : List ℕ) (w : Option ℕ) → word_in near text ≡ Ok w → HasUndefinedTarget d text → (HasFarTarget d text → ⊥) → word_in d text ≡ Err Undefined
 undefined-fails d text w passed h near_by = by (word_in d text) refl (statement-judged d text)
@@ -70,9 +70,9 @@ undefined-fails d text w passed h near_by = by (word_in d text) refl (statement-
     by : (r : Result (Option ℕ) FaultKind) → word_in d text ≡ r → Judged (HasFault d text) r → r ≡ Err Undefined
     by (Ok x) e none = absurd (none Undefined (undefined-fault d text h))
     by (Err k) e least = ⊎_elim
-      (λ undefined. ap (λ j. Err j) undefined)
-      (λ far. absurd (near_by (far-later d text w passed (e ∙ ap (λ j. Err j) far))))
-      (name-later d text w k passed e)
+        (λ undefined. ap (λ j. Err j) undefined)
+        (λ far. absurd (near_by (far-later d text w passed (e ∙ ap (λ j. Err j) far))))
+        (name-later d text w k passed e)
 
 pub far-exactly : (d : Distances) (text : List ℕ) (w : Option ℕ) → word_in near text ≡ Ok w → (word_in d text ≡ Err OutOfRange) ↔ HasFarTarget d text
 far-exactly d text w passed = (far-later d text w passed, far-fails d text w passed)
@@ -80,4 +80,5 @@ far-exactly d text w passed = (far-later d text w passed, far-fails d text w pas
 pub undefined-exactly : (d : Distances) (text : List ℕ) (w : Option ℕ) → word_in near text ≡ Ok w → (word_in d text ≡ Err Undefined) ↔ (HasUndefinedTarget d text × ¬ HasFarTarget d text)
 undefined-exactly d text w passed = (
   λ e. (undefined-later d text w passed e, far-first d text (subst (Judged {A = Option ℕ} (HasFault d text)) e (statement-judged d text))),
-  λ h. undefined-fails d text w passed h.0 h.1)
+  λ h. undefined-fails d text w passed h.0 h.1,
+)

@@ -101,23 +101,23 @@ parts-have lines i DefinedTwice h = inr h
 line-judged : (lines : List (List ℕ)) (i : ℕ) (p : Pass) → KnowsLabels lines i p.names → Judged (HasLineFault lines i) (after_line p (line_at lines i))
 line-judged lines i p knows =
     same-judged (λ k. HasFault near (statement_at lines i) k ⊎ TwiceAlone lines i k) (HasLineFault lines i) (after_line p (line_at lines i)) (line-has lines i) (parts-have lines i)
-      (in-turn (HasFault near (statement_at lines i)) (TwiceAlone lines i) (word_in near (statement_at lines i))
-        (λ w. with_label p.names (label_at lines i) p.place >>= λ names. Ok (pass names (place_after p.place w)))
-        (twice-last lines i) (statement-judged near (statement_at lines i))
-        (λ w. then-judged (TwiceAlone lines i) (λ names. pass names (place_after p.place w)) (with_label p.names (label_at lines i) p.place) (label-judged lines i p.names p.place knows (label_at lines i) refl)))
+    (in-turn (HasFault near (statement_at lines i)) (TwiceAlone lines i) (word_in near (statement_at lines i))
+    (λ w. with_label p.names (label_at lines i) p.place >>= λ names. Ok (pass names (place_after p.place w)))
+    (twice-last lines i) (statement-judged near (statement_at lines i))
+    (λ w. then-judged (TwiceAlone lines i) (λ names. pass names (place_after p.place w)) (with_label p.names (label_at lines i) p.place) (label-judged lines i p.names p.place knows (label_at lines i) refl)))
 
 next-knows : (lines : List (List ℕ)) (i : ℕ) (p q : Pass) → KnowsLabels lines i p.names → Passed p (line_at lines i) q → KnowsLabels lines (i + 1) q.names
 next-knows lines i p q knows passed = record {
   known = λ name place e. ⊎_elim
-    (λ h. let before = knows.known name place h in let low = before.is_before in record { index = before.index; is_before = omega arith; is_label = before.is_label })
-    (λ here. record { index = i; is_before = omega arith; is_label = here.0 })
-    (name-from p.names q.names (label_at lines i) p.place name place passed.names e);
+      (λ h. let before = knows.known name place h in let low = before.is_before in record { index = before.index; is_before = omega arith; is_label = before.is_label })
+      (λ here. record { index = i; is_before = omega arith; is_label = here.0 })
+      (name-from p.names q.names (label_at lines i) p.place name place passed.names e);
   kept = λ name h. ⊎_elim
-    (λ below. let found = knows.kept name (record { index = h.index; is_before = below; is_label = h.is_label }) in
+      (λ below. let found = knows.kept name (record { index = h.index; is_before = below; is_label = h.is_label }) in
       (found.0, name-kept p.names q.names (label_at lines i) p.place name found.0 passed.names found.1))
-    (λ from. let low = h.is_before in let same : i ≡ h.index = omega arith in
+      (λ from. let low = h.is_before in let same : i ≡ h.index = omega arith in
       (p.place, name-given p.names q.names (label_at lines i) p.place name passed.names (ap (label_at lines) same ∙ h.is_label)))
-    (cases_lt h.index i);
+      (cases_lt h.index i);
 }
 
 -- ---- lines from a number on, up to another
@@ -148,9 +148,9 @@ one-more has_fault m high (Err f) none rest =
       is_number = rest.is_number;
       is_fault = rest.is_fault;
       is_first = λ i low before k h. ⊎_elim
-        (λ same. none k (subst (λ j. has_fault j k) same h))
-        (λ other. rest.is_first i (omega arith) before k h)
-        (cases_eq i m);
+          (λ same. none k (subst (λ j. has_fault j k) same h))
+          (λ other. rest.is_first i (omega arith) before k h)
+          (cases_eq i m);
     }
 
 scan-step : {A B : Type 0} (has_fault : ℕ → FaultKind → Type 0) (m n high : ℕ) (r : Result A FaultKind) (s : A → Result B AsmFault) → n ≡ 1 + m → m < high → Judged (has_fault m) r
@@ -184,9 +184,9 @@ first-scanned lines [] m n high p same is end knows = λ i low below k h. absurd
 first-scanned lines (l ∷ ls) m n high p same is end knows =
     let here = this-line lines m l ls same in
     scan-step (HasLineFault lines) m n high (after_line p l) (λ q. first_pass (n + 1) q ls) is (omega arith)
-      (subst (λ l. Judged (HasLineFault lines m) (after_line p l)) here (line-judged lines m p knows))
-      (λ q e. first-scanned lines ls (m + 1) (n + 1) high q (next-lines lines m l ls same) (omega arith) (omega arith)
-        (next-knows lines m p q knows (subst (λ l. Passed p l q) (sym here) (line-passed p l q e))))
+    (subst (λ l. Judged (HasLineFault lines m) (after_line p l)) here (line-judged lines m p knows))
+    (λ q e. first-scanned lines ls (m + 1) (n + 1) high q (next-lines lines m l ls same) (omega arith) (omega arith)
+    (next-knows lines m p q knows (subst (λ l. Passed p l q) (sym here) (line-passed p l q e))))
 
 -- ---- the second pass
 -- 1 for a line with a statement
@@ -218,18 +218,18 @@ second-scanned names lines [] m n high place same is end all at = λ i low below
 second-scanned names lines (l ∷ ls) m n high place same is end all at =
     let here = this-line lines m l ls same in
     scan-step (HasLaterFault names lines) m n high (word_of_line names place l) (λ w. second_pass (n + 1) names (place_after place w) ls >>= λ ws. Ok (also w ws)) is (omega arith)
-      (subst (λ l. Judged (HasLaterFault names lines m) (word_of_line names place l)) here
-        (subst (λ (x : ℕ). Judged (HasLaterFault names lines m) (word_of_line names x (line_at lines m))) (sym at) (statement-judged (distances_at names lines m) (statement_at lines m))))
-      (λ w e. then-scanned (HasLaterFault names lines) (m + 1) high (also w) (second_pass (n + 1) names (place_after place w) ls)
-        (second-scanned names lines ls (m + 1) (n + 1) high (place_after place w) (next-lines lines m l ls same) (omega arith) (omega arith) all
-          (next-place w e)))
+    (subst (λ l. Judged (HasLaterFault names lines m) (word_of_line names place l)) here
+    (subst (λ (x : ℕ). Judged (HasLaterFault names lines m) (word_of_line names x (line_at lines m))) (sym at) (statement-judged (distances_at names lines m) (statement_at lines m))))
+    (λ w e. then-scanned (HasLaterFault names lines) (m + 1) high (also w) (second_pass (n + 1) names (place_after place w) ls)
+    (second-scanned names lines ls (m + 1) (n + 1) high (place_after place w) (next-lines lines m l ls same) (omega arith) (omega arith) all
+    (next-place w e)))
   where
     next-place : (w : Option ℕ) → word_of_line names place l ≡ Ok w → place_after place w ≡ 4 * words_before lines (m + 1)
     next-place w e =
         let further : m + 1 ≡ suc m = omega arith in
         statement-place (distances_from names place) (statement_in (code_in l)) w place e
         ∙ place-next place (words_before lines m) (words_before lines (m + 1)) (has_statement (line_at lines m)) (has_statement l) at
-          (ap (words_before lines) further ∙ count-next lines m (omega arith)) (ap has_statement (this-line lines m l ls same))
+        (ap (words_before lines) further ∙ count-next lines m (omega arith)) (ap has_statement (this-line lines m l ls same))
 
 -- the words of lines, and of each of them that has a statement the word behind those before it
 record AreWordsFrom (names : Names) (place : ℕ) (ls : List (List ℕ)) (ws : List ℕ) : Type 0 where
@@ -289,8 +289,8 @@ second-words n names place (l ∷ ls) ws e =
     let w = then-ok (map_fault (fault n) (word_of_line names place l)) _ ws e in
     let rest = then-ok (second_pass (n + 1) names (place_after place w.0) ls) _ ws w.2 in
     subst (AreWordsFrom names place (l ∷ ls)) (same-ok (also w.0 rest.0) ws rest.2)
-      (words-also names place l ls w.0 rest.0 (line-word (distances_from names place) (statement_in (code_in l)) w.0 (mapped-ok (fault n) (word_of_line names place l) w.0 w.1))
-        (second-words (n + 1) names (place_after place w.0) ls rest.0 rest.1))
+    (words-also names place l ls w.0 rest.0 (line-word (distances_from names place) (statement_in (code_in l)) w.0 (mapped-ok (fault n) (word_of_line names place l) w.0 w.1))
+    (second-words (n + 1) names (place_after place w.0) ls rest.0 rest.1))
 
 -- ---- a text
 no-labels : (lines : List (List ℕ)) → KnowsLabels lines 0 no_names
@@ -322,9 +322,12 @@ text-words law text ws e =
     record {
       names = p.0.names;
       are_places = λ name place. places lines p.0 name place p.1;
-      are_words = record { count = words.count; each = λ i within has. said law (distances_at p.0.names lines i) (statement_at lines i) (slice_index ws (words_before lines i))
-        (let at : 0 + 4 * words_before lines i ≡ 4 * words_before lines i = omega arith in
-          subst (λ (x : ℕ). word_of_statement (distances_from p.0.names x) (statement_at lines i) ≡ Ok (slice_index ws (words_before lines i))) at (words.each i within has)) };
+      are_words = record {
+        count = words.count;
+        each = λ i within has. said law (distances_at p.0.names lines i) (statement_at lines i) (slice_index ws (words_before lines i))
+            (let at : 0 + 4 * words_before lines i ≡ 4 * words_before lines i = omega arith in
+            subst (λ (x : ℕ). word_of_statement (distances_from p.0.names x) (statement_at lines i) ≡ Ok (slice_index ws (words_before lines i))) at (words.each i within has));
+      };
       faultless = faultless-by (HasLineFault lines) lines (first_pass 1 (pass no_names 0) lines) p.0 p.1 (first-pass lines);
       faultless_later = faultless-by (HasLaterFault p.0.names lines) lines (second_pass 1 p.0.names 0 lines) ws p.2 (second-pass p.0.names lines);
     }
@@ -337,13 +340,13 @@ one-first : (has_fault : ℕ → FaultKind → Type 0) (lines : List (List ℕ))
 one-first has_fault lines f g a b = ⊎_elim
     (λ below. absurd (b.is_first a.index below f.kind a.is_fault.is_there))
     (λ from. ⊎_elim
-      (λ above. absurd (a.is_first b.index above g.kind b.is_fault.is_there))
-      (λ upto. let same : a.index ≡ b.index = omega arith in
-        let there : has_fault a.index g.kind = subst (λ i. has_fault i g.kind) (sym same) b.is_fault.is_there in
-        let back : has_fault b.index f.kind = subst (λ i. has_fault i f.kind) same a.is_fault.is_there in
-        same-fault f g (same-kind f.kind g.kind (a.is_fault.is_least g.kind there) (b.is_fault.is_least f.kind back))
-          (a.is_number ∙ ap (λ (i : ℕ). 1 + i) same ∙ sym b.is_number))
-      (cases_lt b.index a.index))
+    (λ above. absurd (a.is_first b.index above g.kind b.is_fault.is_there))
+    (λ upto. let same : a.index ≡ b.index = omega arith in
+    let there : has_fault a.index g.kind = subst (λ i. has_fault i g.kind) (sym same) b.is_fault.is_there in
+    let back : has_fault b.index f.kind = subst (λ i. has_fault i f.kind) same a.is_fault.is_there in
+    same-fault f g (same-kind f.kind g.kind (a.is_fault.is_least g.kind there) (b.is_fault.is_least f.kind back))
+    (a.is_number ∙ ap (λ (i : ℕ). 1 + i) same ∙ sym b.is_number))
+    (cases_lt b.index a.index))
     (cases_lt a.index b.index)
 
 -- names with the same places are one
@@ -366,8 +369,8 @@ fails text f e = by (first_pass 1 (pass no_names 0) (source_lines text)) refl e
     by (Err g) is e = let same : g ≡ f = cc in at_first (subst (IsFirstFault (HasLineFault (source_lines text)) (source_lines text)) same (first-by (HasLineFault (source_lines text)) (source_lines text) _ g is (first-pass (source_lines text))))
     by (Ok p) is e =
         later p.names (λ name place. places (source_lines text) p name place is)
-          (faultless-by (HasLineFault (source_lines text)) (source_lines text) _ p is (first-pass (source_lines text)))
-          (first-by (HasLaterFault p.names (source_lines text)) (source_lines text) _ f e (second-pass p.names (source_lines text)))
+        (faultless-by (HasLineFault (source_lines text)) (source_lines text) _ p is (first-pass (source_lines text)))
+        (first-by (HasLaterFault p.names (source_lines text)) (source_lines text) _ f e (second-pass p.names (source_lines text)))
 
 faults : (text : List ℕ) (f : AsmFault) → IsFaultOf (source_lines text) f → assembled text ≡ Err f
 unfolding assembled
