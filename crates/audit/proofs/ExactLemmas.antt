@@ -82,7 +82,7 @@ turn-is : (rules : Rules) (says : Says) (st : MatchState) (p : ℕ) (q : Questio
     turn rules says st p q ≡ moved rules st p (settled_by rules q (passes_of st p) o)
 turn-is rules says st p q o is = ap (λ (m : Option Answer). moved rules st p (settled_by rules q (passes_of st p) m)) (is (passes_of st p))
 
-spend-turns : (rules : Rules) (says : Says) (t : Record) (p : ℕ) (q : Question) (left n : ℕ) → n + left ≡ rules.patience → 0 < p → p ≤ rules.provers → open_question rules t p ≡ Some q →
+spend-turns : (rules : Rules) (says : Says) (t : Record) (p : ℕ) (q : Question) (left n : ℕ) → n + left ≡ rules.setup.patience → 0 < p → p ≤ rules.setup.provers → open_question rules t p ≡ Some q →
     ((n : ℕ) → says p q n ≡ None) → IsPlayedTo rules says (passed_on rules t p n) (fresh rules (settle rules p Spent t)) 1
 spend-turns rules says t p q zero n e some few asked is =
     one-turn rules says _ _ p q some asked (turn-is rules says (passed_on rules t p n) p q None is ∙ moved_last rules t p n q some few (omega arith))
@@ -92,12 +92,12 @@ spend-turns rules says t p q (suc left) n e some few asked is =
     (one-turn rules says _ _ p q some asked (turn-is rules says (passed_on rules t p n) p q None is ∙ moved_more rules t p n q some few (omega arith)))
     (spend-turns rules says t p q left (n + 1) (omega arith) some few asked is))
 
-settle-turns : (rules : Rules) (says : Says) (t : Record) (p : ℕ) (q : Question) (o : Option Answer) → 0 < p → p ≤ rules.provers → open_question rules t p ≡ Some q →
+settle-turns : (rules : Rules) (says : Says) (t : Record) (p : ℕ) (q : Question) (o : Option Answer) → 0 < p → p ≤ rules.setup.provers → open_question rules t p ≡ Some q →
     ((n : ℕ) → says p q n ≡ o) → IsPlayedTo rules says (fresh rules t) (fresh rules (settle rules p (settled_as rules q o) t)) 1
 settle-turns rules says t p q (Some a) some few asked is =
     one-turn rules says _ _ p q some asked (turn-is rules says (fresh rules t) p q (Some a) is ∙ moved_once rules t p q a)
 settle-turns rules says t p q None some few asked is =
-    let r : IsPlayedTo rules says (passed_on rules t p 0) (fresh rules (settle rules p Spent t)) 1 = spend-turns rules says t p q rules.patience 0 (omega arith) some few asked is in
+    let r : IsPlayedTo rules says (passed_on rules t p 0) (fresh rules (settle rules p Spent t)) 1 = spend-turns rules says t p q rules.setup.patience 0 (omega arith) some few asked is in
     subst (λ (st : MatchState). IsPlayedTo rules says st (fresh rules (settle rules p Spent t)) 1) (sym (begin_passing rules t p)) r
 
 -- CONFIRMED, SO IT IS THE TEXT OF ITS OWN MATCH
@@ -125,7 +125,7 @@ pub record IsPlayedLine (rules : Rules) (all done : List TextMove) (t : Record) 
   pub moves : moves_of (settle rules m.prover m.settled t) ≡ done ++ m ∷ []
   pub order : IsInOrder rules (settle rules m.prover m.settled t)
 
-pub line-turns : (rules : Rules) (all done rest : List TextMove) (m : TextMove) (t : Record) → done ++ m ∷ rest ≡ all → moves_of t ≡ done → IsInOrder rules t → IsOfProver rules.provers m → IsLegalEntry rules t m →
+pub line-turns : (rules : Rules) (all done rest : List TextMove) (m : TextMove) (t : Record) → done ++ m ∷ rest ≡ all → moves_of t ≡ done → IsInOrder rules t → IsOfProver rules.setup.provers m → IsLegalEntry rules t m →
     IsPlayedLine rules all done t m
 line-turns rules all done rest m t whole is order here legal =
     let q : Question = legal.question in
@@ -149,21 +149,21 @@ pub record IsFront (rules : Rules) (all : List TextMove) (t u : Record) : Type 0
   pub plays : IsPlayedTo rules (says_in all) (fresh rules t) (fresh rules u) 0
   pub moves : moves_of u ≡ all
 
-pub text-turns : (rules : Rules) (all done rest : List TextMove) (t : Record) → done ++ rest ≡ all → moves_of t ≡ done → IsInOrder rules t → AreOfProvers rules.provers rest → AllLegal rules rest t →
+pub text-turns : (rules : Rules) (all done rest : List TextMove) (t : Record) → done ++ rest ≡ all → moves_of t ≡ done → IsInOrder rules t → AreOfProvers rules.setup.provers rest → AllLegal rules rest t →
     IsFront rules all t (after_moves rules rest t)
 text-turns rules all done [] t whole is order of legal = record { plays = play-none rules (says_in all) (fresh rules t); moves = is ∙ (sym (append-nil done) ∙ whole) }
 text-turns rules all done (m ∷ rest) t whole is order of legal =
-    let here : IsOfProver rules.provers m = All-head (IsOfProver rules.provers) m rest of in
+    let here : IsOfProver rules.setup.provers m = All-head (IsOfProver rules.setup.provers) m rest of in
     let l : IsPlayedLine rules all done t m = line-turns rules all done rest m t whole is order here legal.0 in
     let further : IsFront rules all (settle rules m.prover m.settled t) (after_moves rules rest (settle rules m.prover m.settled t)) =
-    text-turns rules all (done ++ m ∷ []) rest (settle rules m.prover m.settled t) (append_assoc done (m ∷ []) rest ∙ whole) l.moves l.order (All-tail (IsOfProver rules.provers) m rest of) legal.1 in
+    text-turns rules all (done ++ m ∷ []) rest (settle rules m.prover m.settled t) (append_assoc done (m ∷ []) rest ∙ whole) l.moves l.order (All-tail (IsOfProver rules.setup.provers) m rest of) legal.1 in
     record {
       plays = fewer-moves rules (says_in all) _ _ (1 + 0) 0 (omega arith) (play-on rules (says_in all) _ (fresh rules (settle rules m.prover m.settled t)) _ 1 0 l.turned further.plays);
       moves = further.moves;
     }
 
 pub nothing-moves : (rules : Rules) → moves_of (nothing_settled rules) ≡ []
-nothing-moves rules = append-nil _ ∙ none-moves 1 (replicate rules.provers None) (all-none rules.provers)
+nothing-moves rules = append-nil _ ∙ none-moves 1 (replicate rules.setup.provers None) (all-none rules.setup.provers)
 
 case-record : RecordOfCase → (rules : Rules) (ms : List TextMove) (t : Record) (n : ℕ) → ArePlayable rules → IsPlayedTo rules (says_in ms) (begun rules) (fresh rules t) n → is_complete t ≡ true → t ≡ own_record rules ms
 case-record law rules ms t n playable plays complete =
@@ -177,7 +177,7 @@ pub record IsOwn (rules : Rules) (text : FullText) (v : Verdict) : Type 0 where
   pub same : after_moves rules text.moves (nothing_settled rules) ≡ own_record rules text.moves
 
 pub confirmed-own : RecordOfCase → (ruling : Ruling) (text : FullText) (v : Verdict) → let rules : Rules = rules_of_head ruling text.head in
-    ArePlayable rules → AreOfProvers rules.provers text.moves → audited ruling text ≡ Confirmed v → IsOwn rules text v
+    ArePlayable rules → AreOfProvers rules.setup.provers text.moves → audited ruling text ≡ Confirmed v → IsOwn rules text v
 unfolding audited
 confirmed-own law ruling text v playable of e =
     let rules : Rules = rules_of_head ruling text.head in
@@ -187,7 +187,7 @@ confirmed-own law ruling text v playable of e =
     record { confirmed = c; moves = front.moves; same = case-record law rules text.moves _ 0 playable front.plays c.complete }
 
 pub confirmed-text : RecordOfCase → (ruling : Ruling) (text : FullText) (v : Verdict) → let rules : Rules = rules_of_head ruling text.head in
-    ArePlayable rules → AreOfProvers rules.provers text.moves → audited ruling text ≡ Confirmed v → IsTextOf rules text v
+    ArePlayable rules → AreOfProvers rules.setup.provers text.moves → audited ruling text ≡ Confirmed v → IsTextOf rules text v
 confirmed-text law ruling text v playable of e =
     let o : IsOwn (rules_of_head ruling text.head) text v = confirmed-own law ruling text v playable of e in
     record {
@@ -215,7 +215,7 @@ unfolding settled_after
 after-right rules says p q zero n = said-right rules q (says p q n) Spent refl
 after-right rules says p q (suc left) n = said-right rules q (says p q n) (settled_after rules says p q left (n + 1)) (after-right rules says p q left (n + 1))
 
-turn-there : (rules : Rules) (says : Says) (t : Record) (p n : ℕ) (q : Question) (o : Option Answer) → 0 < p → p ≤ rules.provers → says p q n ≡ o →
+turn-there : (rules : Rules) (says : Says) (t : Record) (p n : ℕ) (q : Question) (o : Option Answer) → 0 < p → p ≤ rules.setup.provers → says p q n ≡ o →
     turn rules says (passed_on rules t p n) p q ≡ moved rules (passed_on rules t p n) p (settled_by rules q n o)
 turn-there rules says t p n q o some few is =
     ap (λ (k : ℕ). moved rules (passed_on rules t p n) p (settled_by rules q k (says p q k))) (passes-there rules t p n some few)
@@ -225,14 +225,14 @@ turn-there rules says t p n q o some few is =
 abbrev SettlesTo : Rules → Says → Record → ℕ → ℕ → Settled → Type 0
 SettlesTo rules says t p n s = IsPlayedTo rules says (passed_on rules t p n) (fresh rules (settle rules p s t)) 1
 
-move-last : (rules : Rules) (says : Says) (t : Record) (p n : ℕ) (q : Question) (o : Option Answer) → 0 < p → p ≤ rules.provers → open_question rules t p ≡ Some q → says p q n ≡ o → n ≡ rules.patience →
+move-last : (rules : Rules) (says : Says) (t : Record) (p n : ℕ) (q : Question) (o : Option Answer) → 0 < p → p ≤ rules.setup.provers → open_question rules t p ≡ Some q → says p q n ≡ o → n ≡ rules.setup.patience →
     SettlesTo rules says t p n (said rules q o Spent)
 move-last rules says t p n q (Some a) some few asked is all =
     one-turn rules says _ _ p q some asked (turn-there rules says t p n q (Some a) some few is ∙ moved-settled rules t p n (judged rules.ruling q.kind a))
 move-last rules says t p n q None some few asked is all =
     one-turn rules says _ _ p q some asked (turn-there rules says t p n q None some few is ∙ (ap (moved rules (passed_on rules t p n) p) (pass-spends rules q n all) ∙ moved-settled rules t p n Spent))
 
-move-more : (rules : Rules) (says : Says) (t : Record) (p n : ℕ) (q : Question) (o : Option Answer) (s : Settled) → 0 < p → p ≤ rules.provers → open_question rules t p ≡ Some q → says p q n ≡ o → n < rules.patience →
+move-more : (rules : Rules) (says : Says) (t : Record) (p n : ℕ) (q : Question) (o : Option Answer) (s : Settled) → 0 < p → p ≤ rules.setup.provers → open_question rules t p ≡ Some q → says p q n ≡ o → n < rules.setup.patience →
     SettlesTo rules says t p (n + 1) s → SettlesTo rules says t p n (said rules q o s)
 move-more rules says t p n q (Some a) s some few asked is more further =
     one-turn rules says _ _ p q some asked (turn-there rules says t p n q (Some a) some few is ∙ moved-settled rules t p n (judged rules.ruling q.kind a))
@@ -242,7 +242,7 @@ move-more rules says t p n q None s some few asked is more further =
     (one-turn rules says _ _ p q some asked (turn-there rules says t p n q None some few is ∙ (ap (moved rules (passed_on rules t p n) p) (pass-counts rules q n more) ∙ moved-pass rules t p n some few)))
     further)
 
-moves-until : (rules : Rules) (says : Says) (t : Record) (p : ℕ) (q : Question) (left n : ℕ) → n + left ≡ rules.patience → 0 < p → p ≤ rules.provers → open_question rules t p ≡ Some q →
+moves-until : (rules : Rules) (says : Says) (t : Record) (p : ℕ) (q : Question) (left n : ℕ) → n + left ≡ rules.setup.patience → 0 < p → p ≤ rules.setup.provers → open_question rules t p ≡ Some q →
     SettlesTo rules says t p n (settled_after rules says p q left n)
 unfolding settled_after
 moves-until rules says t p q zero n e some few asked = move-last rules says t p n q (says p q n) some few asked refl (omega arith)
@@ -275,12 +275,12 @@ somebody-next over rules t playable posts still none =
 drive-one : (rules : Rules) (says : Says) (n : ℕ) (t : Record) (p : ℕ) (q : Question) → IsOnWay rules says t n → is_complete t ≡ false → next t ≡ Some (p, q) →
     ((u : Record) → IsOnWay rules says u (n + 1) → IsDriven rules says u) → IsDriven rules says t
 drive-one rules says n t p q way still is further =
-    let s : Settled = settled_after rules says p q rules.patience 0 in
-    let prover : (0 < p) × (p ≤ rules.provers) = next-prover rules t p q way.order is in
+    let s : Settled = settled_after rules says p q rules.setup.patience 0 in
+    let prover : (0 < p) × (p ≤ rules.setup.provers) = next-prover rules t p q way.order is in
     let asked : open_question rules t p ≡ Some q = next_is_open rules t p q is in
-    let until : IsPlayedTo rules says (passed_on rules t p 0) (fresh rules (settle rules p s t)) 1 = moves-until rules says t p q rules.patience 0 (omega arith) prover.0 prover.1 asked in
+    let until : IsPlayedTo rules says (passed_on rules t p 0) (fresh rules (settle rules p s t)) 1 = moves-until rules says t p q rules.setup.patience 0 (omega arith) prover.0 prover.1 asked in
     let turned : IsPlayedTo rules says (fresh rules t) (fresh rules (settle rules p s t)) 1 = subst (λ (st : MatchState). IsPlayedTo rules says st (fresh rules (settle rules p s t)) 1) (sym (begin_passing rules t p)) until in
-    let right : is_right rules q.kind s ≡ true = after-right rules says p q rules.patience 0 in
+    let right : is_right rules q.kind s ≡ true = after-right rules says p q rules.setup.patience 0 in
     let posted_ : Reaches rules (fresh rules t) (fresh rules (settle rules p s t)) = settled-posts rules t p q s right prover.0 prover.1 asked in
     let longer : IsLonger rules t (settle rules p s t) (move_on p q s) = grows rules p q s t way.order is in
     let d : IsDriven rules says (settle rules p s t) = further (settle rules p s t) (record {
@@ -302,8 +302,8 @@ drive-by : NobodyAskedIsOver → (rules : Rules) (says : Says) (n : ℕ) (t : Re
 drive-by over rules says n t None playable way still is further = absurd (somebody-next over rules t playable way.posts still is)
 drive-by over rules says n t (Some asked) playable way still is further = drive-one rules says n t asked.0 asked.1 way still is further
 
-drive : SpareIsEnough → NobodyAskedIsOver → (rules : Rules) (says : Says) (k : ℕ) → ArePlayable rules → IsMost rules.fan rules.bound k →
-    (fuel n : ℕ) (t : Record) → most_entries rules k < n + fuel → IsOnWay rules says t n → IsDriven rules says t
+drive : SpareIsEnough → NobodyAskedIsOver → (rules : Rules) (says : Says) (k : ℕ) → ArePlayable rules → IsMost rules.setup.fan rules.setup.bound k →
+    (fuel n : ℕ) (t : Record) → most_entries rules.setup k < n + fuel → IsOnWay rules says t n → IsDriven rules says t
 drive enough over rules says k playable most zero n t spare way =
     absurd (omega (arith, enough rules says way.plays.moves k playable most way.plays.legal, way.plays.many, spare))
 drive enough over rules says k playable most (suc fuel) n t spare way =
@@ -348,8 +348,8 @@ pub record IsCaseDriven (rules : Rules) (says : Says) : Type 0 where
 
 pub case-driven : RecordOfCase → SpareIsEnough → ThereIsAMost → NobodyAskedIsOver → (rules : Rules) (says : Says) → ArePlayable rules → IsCaseDriven rules says
 case-driven of_case enough most over rules says playable =
-    let k : (k : ℕ) × IsMost rules.fan rules.bound k = most rules.fan rules.bound playable.parted playable.steps in
-    let d : IsDriven rules says (nothing_settled rules) = drive enough over rules says k.0 playable k.1 (suc (most_entries rules k.0)) 0 (nothing_settled rules) (omega arith)
+    let k : (k : ℕ) × IsMost rules.setup.fan rules.setup.bound k = most rules.setup.fan rules.setup.bound playable.parted playable.steps in
+    let d : IsDriven rules says (nothing_settled rules) = drive enough over rules says k.0 playable k.1 (suc (most_entries rules.setup k.0)) 0 (nothing_settled rules) (omega arith)
     (record { plays = play-none rules says (begun rules); posts = ([], refl); order = order-nothing rules }) in
     record { driven = d; same = record-of-case of_case rules says _ 0 playable d.plays d.complete }
 

@@ -10,7 +10,8 @@ use Rattle.bisect_game.specs.declared.settled.Settled.{Settled}
 use Rattle.bisect_game.specs.declared.settled.Side.TheVariants.{First, Second}
 use Rattle.bisect_game.specs.Rules.{Rules}
 use Rattle.bisect_game.specs.Bisection.{Bisection, question_of, asks, is_closed, settle_first, settle_second}
-use Rattle.tournament.specs.Bracket.{Record, nothing_settled, claim_question, claim_missing, settled_in, put, settle, stage_opened, is_stage_due, claims_collision, disputes_of, pairs, live, live_from, all_there, all_out, last_stage}
+use Rattle.tournament.specs.Bracket.{Record, nothing_settled, claim_missing, settled_in, put, settle, stage_opened, is_stage_due, claims_collision, disputes_of, pairs, live, live_from, all_there, all_out, last_stage}
+use Rattle.bisect_game.specs.Rules.{claim_question}
 use Rattle.rd_base.specs.Questions.{same_qid}
 use Rattle.transcript_text.specs.declared.text.TextMove.{TextMove}
 use Rattle.transcript_text.specs.MoveLists.{qid_of, move_if, moves_of_claims, moves_of_round, moves_of_past, moves_of_dispute, moves_of_disputes, moves_of}
@@ -61,10 +62,10 @@ closed-by d ex ey waits =
     ]
 
 grown-choice : (rules : Rules) (p n : ℕ) (s : Settled) (q : Question) (d : Bisection) (ds : List Bisection) (x y : Bool) → asks First d ≡ x → asks Second d ≡ y →
-    DisputesInOrder (d ∷ ds) → AllSided n rules.provers (d ∷ ds) →
+    DisputesInOrder (d ∷ ds) → AllSided n rules.setup.provers (d ∷ ds) →
     (if x then Some (d.first, question_of d) else if y then Some (d.second, question_of d) else next_in ds) ≡ Some (p, q) →
-    (next_in ds ≡ Some (p, q) → IsGrown rules.provers (n + 1) ds (settled_in rules p s ds) (move_on p q s)) →
-    IsGrown rules.provers n (d ∷ ds) (settled_in rules p s (d ∷ ds)) (move_on p q s)
+    (next_in ds ≡ Some (p, q) → IsGrown rules.setup.provers (n + 1) ds (settled_in rules p s ds) (move_on p q s)) →
+    IsGrown rules.setup.provers n (d ∷ ds) (settled_in rules p s (d ∷ ds)) (move_on p q s)
 grown-choice rules p n s q d ds true y ex ey order sides e rest =
     let at : d.first ≡ p = pair-first _ _ _ _ e in
     let is : question_of d ≡ q = pair-second _ _ _ _ e in
@@ -72,7 +73,7 @@ grown-choice rules p n s q d ds true y ex ey order sides e rest =
     let o : IsOpenSide d.by_first d.close = side-open d.by_first d.close ex in
     let w : (d.by_second ≡ None) × AllBegun ds = order.0 o.still in
     let i : IsSettledIn d (settle_first rules.ruling s d) (move_on d.first (question_of d) s) = settled-first rules.ruling s d o.missing w.0 in
-    rw (ex, mine, ← at, ← is) (grown-here n rules.provers d (settle_first rules.ruling s d) ds _ i w.1 order.1 sides)
+    rw (ex, mine, ← at, ← is) (grown-here n rules.setup.provers d (settle_first rules.ruling s d) ds _ i w.1 order.1 sides)
 grown-choice rules p n s q d ds false true ex ey order sides e rest =
     let at : d.second ≡ p = pair-first _ _ _ _ e in
     let is : question_of d ≡ q = pair-second _ _ _ _ e in
@@ -81,13 +82,13 @@ grown-choice rules p n s q d ds false true ex ey order sides e rest =
     let w : (d.by_second ≡ None) × AllBegun ds = order.0 o.still in
     let a : (a : Settled) × (d.by_first ≡ Some a) = side-settled d.by_first d.close ex o.still in
     let i : IsSettledIn d (settle_second rules.ruling s d) (move_on d.second (question_of d) s) = settled-second rules.ruling s a.0 d a.1 w.0 in
-    rw (ex, and-false (d.first == p), ey, mine, ← at, ← is) (grown-here n rules.provers d (settle_second rules.ruling s d) ds _ i w.1 order.1 sides)
+    rw (ex, and-false (d.first == p), ey, mine, ← at, ← is) (grown-here n rules.setup.provers d (settle_second rules.ruling s d) ds _ i w.1 order.1 sides)
 grown-choice rules p n s q d ds false false ex ey order sides e rest =
     let closed : is_closed d ≡ true = closed-by d ex ey (λ still. (order.0 still).0) in
-    rw (ex, and-false (d.first == p), ey, and-false (d.second == p)) (grown-later n rules.provers d ds (settled_in rules p s ds) (move_on p q s) closed sides.0 (rest e))
+    rw (ex, and-false (d.first == p), ey, and-false (d.second == p)) (grown-later n rules.setup.provers d ds (settled_in rules p s ds) (move_on p q s) closed sides.0 (rest e))
 
-pub grown-in : (rules : Rules) (p n : ℕ) (s : Settled) (q : Question) (ds : List Bisection) → DisputesInOrder ds → AllSided n rules.provers ds → next_in ds ≡ Some (p, q) →
-    IsGrown rules.provers n ds (settled_in rules p s ds) (move_on p q s)
+pub grown-in : (rules : Rules) (p n : ℕ) (s : Settled) (q : Question) (ds : List Bisection) → DisputesInOrder ds → AllSided n rules.setup.provers ds → next_in ds ≡ Some (p, q) →
+    IsGrown rules.setup.provers n ds (settled_in rules p s ds) (move_on p q s)
 grown-in rules p n s q [] order sides e = absurd (cc)
 grown-in rules p n s q (d ∷ ds) order sides e =
     grown-choice rules p n s q d ds (asks First d) (asks Second d) refl refl order sides e (grown-in rules p (n + 1) s q ds order.1 sides.1)
@@ -95,18 +96,18 @@ grown-in rules p n s q (d ∷ ds) order sides e =
 -- RECORDS
 
 pub record IsInOrder (rules : Rules) (t : Record) : Type 0 where
-  pub counted : length t.claims ≡ rules.provers
+  pub counted : length t.claims ≡ rules.setup.provers
   pub claims : ClaimsInOrder t.claims
   pub early : all_there t.claims ≡ false → t.disputes ≡ []
   pub disputes : DisputesInOrder t.disputes
-  pub sides : AllSided 1 rules.provers t.disputes
+  pub sides : AllSided 1 rules.setup.provers t.disputes
 
 replicate-length : (n : ℕ) (o : Option Settled) → length (replicate n o) ≡ n
 replicate-length zero o = refl
 replicate-length (suc n) o = ap suc (replicate-length n o)
 
 pub order-nothing : (rules : Rules) → IsInOrder rules (nothing_settled rules)
-order-nothing rules = record { counted = replicate-length rules.provers None; claims = order-none rules.provers; early = λ missing. refl; disputes = tt; sides = tt }
+order-nothing rules = record { counted = replicate-length rules.setup.provers None; claims = order-none rules.setup.provers; early = λ missing. refl; disputes = tt; sides = tt }
 
 -- a record with one line more
 pub record IsLonger (rules : Rules) (t u : Record) (m : TextMove) : Type 0 where
@@ -132,7 +133,7 @@ put-by rules p q s t (Some k) i e is =
       };
     })
 put-by rules p q s t None i e is =
-    let g : IsGrown rules.provers 1 t.disputes (settled_in rules p s t.disputes) (move_on p q s) = grown-in rules p 1 s q t.disputes i.disputes i.sides is in
+    let g : IsGrown rules.setup.provers 1 t.disputes (settled_in rules p s t.disputes) (move_on p q s) = grown-in rules p 1 s q t.disputes i.disputes i.sides is in
     let there : all_there t.claims ≡ true = none-all-there 1 t.claims e in
     rw (none-missing 1 (p - 1) t.claims e) (record {
       moves = ap (λ (ms : List TextMove). moves_of_claims 1 t.claims ++ ms) g.moves ∙ sym (append_assoc (moves_of_claims 1 t.claims) (moves_of_disputes t.disputes) (move_on p q s ∷ []));
@@ -163,9 +164,9 @@ opened-due rules t i there out =
         claims = i.claims;
         early = λ missing. absurd (let no : true ≡ false = sym there ∙ missing in cc);
         disputes = out-order t.disputes _ out new;
-        sides = sided-both 1 (length t.disputes + 1) rules.provers t.disputes _ (omega arith) i.sides
-            (sided-new rules (last_stage t.disputes + 1) (length t.disputes + 1) rules.provers (pairs rules t)
-            (pairs-in rules.ruling rules.provers 1 rules.provers (live t) (omega arith) (rising-live t.disputes 1 rules.provers t.claims (omega (arith, i.counted)))));
+        sides = sided-both 1 (length t.disputes + 1) rules.setup.provers t.disputes _ (omega arith) i.sides
+            (sided-new rules (last_stage t.disputes + 1) (length t.disputes + 1) rules.setup.provers (pairs rules t)
+            (pairs-in rules.ruling rules.setup.provers 1 rules.setup.provers (live t) (omega arith) (rising-live t.disputes 1 rules.setup.provers t.claims (omega (arith, i.counted)))));
       };
     }
 
@@ -203,14 +204,14 @@ prover-in : (provers n : ℕ) (ds : List Bisection) (p : ℕ) (q : Question) →
 prover-in provers n [] p q sides e = absurd (cc)
 prover-in provers n (d ∷ ds) p q sides e = prover-choice provers n d ds (asks First d) (asks Second d) p q sides.0 e (prover-in provers (n + 1) ds p q sides.1)
 
-prover-by : (rules : Rules) (t : Record) (p : ℕ) (q : Question) (o : Option ℕ) → IsInOrder rules t → next_claim 1 t.claims ≡ o → claim_or o (next_in t.disputes) ≡ Some (p, q) → IsProver rules.provers p
+prover-by : (rules : Rules) (t : Record) (p : ℕ) (q : Question) (o : Option ℕ) → IsInOrder rules t → next_claim 1 t.claims ≡ o → claim_or o (next_in t.disputes) ≡ Some (p, q) → IsProver rules.setup.provers p
 prover-by rules t p q (Some k) i e is =
     let at : k ≡ p = pair-first _ _ _ _ is in
     let m : IsMissing 1 k t.claims = next-missing 1 k t.claims e in
     (omega (arith, m.from, at), omega (arith, m.there, at, i.counted))
-prover-by rules t p q None i e is = prover-in rules.provers 1 t.disputes p q i.sides is
+prover-by rules t p q None i e is = prover-in rules.setup.provers 1 t.disputes p q i.sides is
 
-pub next-prover : (rules : Rules) (t : Record) (p : ℕ) (q : Question) → IsInOrder rules t → next t ≡ Some (p, q) → IsProver rules.provers p
+pub next-prover : (rules : Rules) (t : Record) (p : ℕ) (q : Question) → IsInOrder rules t → next t ≡ Some (p, q) → IsProver rules.setup.provers p
 next-prover rules t p q i e = prover-by rules t p q (next_claim 1 t.claims) i refl e
 
 -- NO TWO LINES HAVE ONE QUESTION
@@ -309,21 +310,21 @@ unseen-here n p provers d ds h begun first none = record {
 }
 
 unseen-choice : (rules : Rules) (p n : ℕ) (q : Question) (d : Bisection) (ds : List Bisection) (x y : Bool) → asks First d ≡ x → asks Second d ≡ y →
-    DisputesInOrder (d ∷ ds) → AllSided n rules.provers (d ∷ ds) →
+    DisputesInOrder (d ∷ ds) → AllSided n rules.setup.provers (d ∷ ds) →
     (if x then Some (d.first, question_of d) else if y then Some (d.second, question_of d) else next_in ds) ≡ Some (p, q) →
     (next_in ds ≡ Some (p, q) → IsUnseen (n + 1) p q ds) → IsUnseen n p q (d ∷ ds)
 unseen-choice rules p n q d ds true y ex ey order sides e rest =
     let is : question_of d ≡ q = pair-second _ _ _ _ e in
     let o : IsOpenSide d.by_first d.close = side-open d.by_first d.close ex in
     let w : (d.by_second ≡ None) × AllBegun ds = order.0 o.still in
-    rw (← is) (unseen-here n p rules.provers d ds sides.0 w.1 (rw o.missing tt) w.0)
+    rw (← is) (unseen-here n p rules.setup.provers d ds sides.0 w.1 (rw o.missing tt) w.0)
 unseen-choice rules p n q d ds false true ex ey order sides e rest =
     let at : d.second ≡ p = pair-first _ _ _ _ e in
     let is : question_of d ≡ q = pair-second _ _ _ _ e in
     let o : IsOpenSide d.by_second d.close = side-open d.by_second d.close ey in
     let w : (d.by_second ≡ None) × AllBegun ds = order.0 o.still in
     let far : d.first ≢ p = λ same. omega (arith, same, at, sides.0.rise) in
-    rw (← is) (unseen-here n p rules.provers d ds sides.0 w.1 (if-prover d.number (length d.past + 1) d.first p (question_of d).qid d.by_first far) w.0)
+    rw (← is) (unseen-here n p rules.setup.provers d ds sides.0 w.1 (if-prover d.number (length d.past + 1) d.first p (question_of d).qid d.by_first far) w.0)
 unseen-choice rules p n q d ds false false ex ey order sides e rest =
     let u : IsUnseen (n + 1) p q ds = rest e in
     record {
@@ -331,7 +332,7 @@ unseen-choice rules p n q d ds false false ex ey order sides e rest =
       other = other-both p q.qid (moves_of_dispute d) (moves_of_disputes ds) (dispute-apart d p q.qid (λ same. omega (arith, same, sides.0.number, u.from))) u.other;
     }
 
-unseen-in : (rules : Rules) (p n : ℕ) (q : Question) (ds : List Bisection) → DisputesInOrder ds → AllSided n rules.provers ds → next_in ds ≡ Some (p, q) → IsUnseen n p q ds
+unseen-in : (rules : Rules) (p n : ℕ) (q : Question) (ds : List Bisection) → DisputesInOrder ds → AllSided n rules.setup.provers ds → next_in ds ≡ Some (p, q) → IsUnseen n p q ds
 unseen-in rules p n q [] order sides e = absurd (cc)
 unseen-in rules p n q (d ∷ ds) order sides e =
     unseen-choice rules p n q d ds (asks First d) (asks Second d) refl refl order sides e (unseen-in rules p (n + 1) q ds order.1 sides.1)

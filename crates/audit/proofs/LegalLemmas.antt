@@ -115,7 +115,7 @@ reach-on rules st u w (xs, e) (ys, f) = (xs ++ ys, after-both rules xs ys st ∙
 one-post : (rules : Rules) (p : ℕ) (q : Question) (m : Option Answer) (st u : MatchState) → 0 < p → posted rules st p q.qid m ≡ u → Reaches rules st u
 one-post rules p q m st u some e = (record { prover = p; numbered = some; qid = q.qid; answer = m } ∷ [], e)
 
-spend-posts : (rules : Rules) (t : Record) (p : ℕ) (q : Question) (left n : ℕ) → n + left ≡ rules.patience → 0 < p → p ≤ rules.provers → open_question rules t p ≡ Some q →
+spend-posts : (rules : Rules) (t : Record) (p : ℕ) (q : Question) (left n : ℕ) → n + left ≡ rules.setup.patience → 0 < p → p ≤ rules.setup.provers → open_question rules t p ≡ Some q →
     Reaches rules (passed_on rules t p n) (fresh rules (settle rules p Spent t))
 spend-posts rules t p q zero n e some few asked = one-post rules p q None _ _ some (pass_last rules t p n q some few asked (omega arith))
 spend-posts rules t p q (suc left) n e some few asked =
@@ -133,12 +133,12 @@ pub not-true : (b : Bool) → not b ≡ true → b ≡ false
 not-true true e = absurd (cc)
 not-true false e = refl
 
-pub settled-posts : (rules : Rules) (t : Record) (p : ℕ) (q : Question) (s : Settled) → is_right rules q.kind s ≡ true → 0 < p → p ≤ rules.provers → open_question rules t p ≡ Some q →
+pub settled-posts : (rules : Rules) (t : Record) (p : ℕ) (q : Question) (s : Settled) → is_right rules q.kind s ≡ true → 0 < p → p ≤ rules.setup.provers → open_question rules t p ≡ Some q →
     Reaches rules (fresh rules t) (fresh rules (settle rules p s t))
 settled-posts rules t p q (Given a) right some few asked =
     one-post rules p q (Some a) _ _ some (answered_at_once rules t p q a asked ∙ ap (λ (s : Settled). fresh rules (settle rules p s t)) (fit-given rules q a right))
 settled-posts rules t p q (Faulty a) right some few asked =
     one-post rules p q (Some a) _ _ some (answered_at_once rules t p q a asked ∙ ap (λ (s : Settled). fresh rules (settle rules p s t)) (unfit-faulty rules q a (not-true _ right)))
 settled-posts rules t p q Spent right some few asked =
-    let r : Reaches rules (passed_on rules t p 0) (fresh rules (settle rules p Spent t)) = spend-posts rules t p q rules.patience 0 (omega arith) some few asked in
+    let r : Reaches rules (passed_on rules t p 0) (fresh rules (settle rules p Spent t)) = spend-posts rules t p q rules.setup.patience 0 (omega arith) some few asked in
     (r.0, ap (after_posts rules r.0) (begin_passing rules t p) ∙ r.1)

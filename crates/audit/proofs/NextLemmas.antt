@@ -6,7 +6,8 @@ use Rattle.bisect_game.specs.declared.settled.Settled.{Settled}
 use Rattle.bisect_game.specs.declared.settled.Side.TheVariants.{First, Second}
 use Rattle.bisect_game.specs.Rules.{Rules}
 use Rattle.bisect_game.specs.Bisection.{Bisection, question_of, asks}
-use Rattle.tournament.specs.Bracket.{Record, claim_question, question_in, claim_missing, open_question}
+use Rattle.tournament.specs.Bracket.{Record, question_in, claim_missing, open_question}
+use Rattle.bisect_game.specs.Rules.{claim_question}
 use Rattle.audit.specs.NextEntry.{next_claim, next_in, claim_or, next}
 use Rattle.audit.proofs.StatedLemmas.{eqb-same}
 

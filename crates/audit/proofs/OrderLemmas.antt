@@ -11,7 +11,8 @@ use Rattle.bisect_game.specs.Ruling.{Ruling, same_digest}
 use Rattle.bisect_game.specs.Rules.{Rules}
 use Rattle.bisect_game.specs.Closing.{close_of}
 use Rattle.bisect_game.specs.Bisection.{Bisection, question_of, is_closed, closed_or, went_on, decided, advanced, settle_first, settle_second}
-use Rattle.tournament.specs.Bracket.{claim_question, disputes_of, pairs_of, Taken, take_other, passed_over, live_from, also, claim_in, is_out_in, all_there, all_out, put_out}
+use Rattle.tournament.specs.Bracket.{disputes_of, pairs_of, Taken, take_other, passed_over, live_from, also, claim_in, is_out_in, all_there, all_out, put_out}
+use Rattle.bisect_game.specs.Rules.{claim_question}
 use Rattle.transcript_text.specs.declared.text.TextMove.{TextMove}
 use Rattle.transcript_text.specs.MoveLists.{moves_of_claims, moves_of_round, moves_of_past, moves_of_dispute, moves_of_disputes}
 use Rattle.audit.specs.NextEntry.{next_claim}

@@ -46,34 +46,34 @@ posted-open rules st p q m asked =
 -- so many passes on it
 
 pub begin_passing : (rules : Rules) (t : Record) (p : ℕ) → fresh rules t ≡ passed_on rules t p 0
-begin_passing rules t p = ap (λ (xs : List ℕ). let st : MatchState = record { record_ = t; passed = xs } in st) (sym (set-none rules.provers (p - 1)))
+begin_passing rules t p = ap (λ (xs : List ℕ). let st : MatchState = record { record_ = t; passed = xs } in st) (sym (set-none rules.setup.provers (p - 1)))
 
-pub passes-there : (rules : Rules) (t : Record) (p n : ℕ) → 0 < p → p ≤ rules.provers → passes_of (passed_on rules t p n) p ≡ n
-passes-there rules t p n some few = at-set rules.provers (p - 1) n (omega arith)
+pub passes-there : (rules : Rules) (t : Record) (p n : ℕ) → 0 < p → p ≤ rules.setup.provers → passes_of (passed_on rules t p n) p ≡ n
+passes-there rules t p n some few = at-set rules.setup.provers (p - 1) n (omega arith)
 
-pub pass-counts : (rules : Rules) (q : Question) (n : ℕ) → n < rules.patience → settled_by rules q n None ≡ None
-pass-counts rules q n few = let e : nat_lt n rules.patience ≡ true = grind (arith, nat_tests) in rw e refl
+pub pass-counts : (rules : Rules) (q : Question) (n : ℕ) → n < rules.setup.patience → settled_by rules q n None ≡ None
+pass-counts rules q n few = let e : nat_lt n rules.setup.patience ≡ true = grind (arith, nat_tests) in rw e refl
 
-pub pass-spends : (rules : Rules) (q : Question) (n : ℕ) → n ≡ rules.patience → settled_by rules q n None ≡ Some Spent
-pass-spends rules q n all = let e : nat_lt n rules.patience ≡ false = grind (arith, nat_tests) in rw e refl
+pub pass-spends : (rules : Rules) (q : Question) (n : ℕ) → n ≡ rules.setup.patience → settled_by rules q n None ≡ Some Spent
+pass-spends rules q n all = let e : nat_lt n rules.setup.patience ≡ false = grind (arith, nat_tests) in rw e refl
 
-pub moved-pass : (rules : Rules) (t : Record) (p n : ℕ) → 0 < p → p ≤ rules.provers → moved rules (passed_on rules t p n) p None ≡ passed_on rules t p (n + 1)
+pub moved-pass : (rules : Rules) (t : Record) (p n : ℕ) → 0 < p → p ≤ rules.setup.provers → moved rules (passed_on rules t p n) p None ≡ passed_on rules t p (n + 1)
 moved-pass rules t p n some few =
-    ap (λ (k : ℕ). let st : MatchState = record { record_ = t; passed = slice_set (slice_set (replicate rules.provers 0) (p - 1) n) (p - 1) (k + 1) } in st) (passes-there rules t p n some few)
-    ∙ ap (λ (xs : List ℕ). let st : MatchState = record { record_ = t; passed = xs } in st) (set-again (replicate rules.provers 0) (p - 1) n (n + 1))
+    ap (λ (k : ℕ). let st : MatchState = record { record_ = t; passed = slice_set (slice_set (replicate rules.setup.provers 0) (p - 1) n) (p - 1) (k + 1) } in st) (passes-there rules t p n some few)
+    ∙ ap (λ (xs : List ℕ). let st : MatchState = record { record_ = t; passed = xs } in st) (set-again (replicate rules.setup.provers 0) (p - 1) n (n + 1))
 
 pub moved-settled : (rules : Rules) (t : Record) (p n : ℕ) (s : Settled) → moved rules (passed_on rules t p n) p (Some s) ≡ fresh rules (settle rules p s t)
 moved-settled rules t p n s =
     ap (λ (xs : List ℕ). let st : MatchState = record { record_ = settle rules p s t; passed = xs } in st)
-    (set-again (replicate rules.provers 0) (p - 1) n 0 ∙ set-none rules.provers (p - 1))
+    (set-again (replicate rules.setup.provers 0) (p - 1) n 0 ∙ set-none rules.setup.provers (p - 1))
 
-pub moved_more : (rules : Rules) (t : Record) (p n : ℕ) (q : Question) → 0 < p → p ≤ rules.provers → n < rules.patience →
+pub moved_more : (rules : Rules) (t : Record) (p n : ℕ) (q : Question) → 0 < p → p ≤ rules.setup.provers → n < rules.setup.patience →
     moved rules (passed_on rules t p n) p (settled_by rules q (passes_of (passed_on rules t p n) p) None) ≡ passed_on rules t p (n + 1)
 moved_more rules t p n q some few more =
     ap (λ (k : ℕ). moved rules (passed_on rules t p n) p (settled_by rules q k None)) (passes-there rules t p n some few)
     ∙ (ap (moved rules (passed_on rules t p n) p) (pass-counts rules q n more) ∙ moved-pass rules t p n some few)
 
-pub moved_last : (rules : Rules) (t : Record) (p n : ℕ) (q : Question) → 0 < p → p ≤ rules.provers → n ≡ rules.patience →
+pub moved_last : (rules : Rules) (t : Record) (p n : ℕ) (q : Question) → 0 < p → p ≤ rules.setup.provers → n ≡ rules.setup.patience →
     moved rules (passed_on rules t p n) p (settled_by rules q (passes_of (passed_on rules t p n) p) None) ≡ fresh rules (settle rules p Spent t)
 moved_last rules t p n q some few all =
     ap (λ (k : ℕ). moved rules (passed_on rules t p n) p (settled_by rules q k None)) (passes-there rules t p n some few)
@@ -82,13 +82,13 @@ moved_last rules t p n q some few all =
 pub moved_once : (rules : Rules) (t : Record) (p : ℕ) (q : Question) (a : Answer) →
     moved rules (fresh rules t) p (settled_by rules q (passes_of (fresh rules t) p) (Some a)) ≡ fresh rules (settle rules p (judged rules.ruling q.kind a) t)
 moved_once rules t p q a =
-    ap (λ (xs : List ℕ). let st : MatchState = record { record_ = settle rules p (judged rules.ruling q.kind a) t; passed = xs } in st) (set-none rules.provers (p - 1))
+    ap (λ (xs : List ℕ). let st : MatchState = record { record_ = settle rules p (judged rules.ruling q.kind a) t; passed = xs } in st) (set-none rules.setup.provers (p - 1))
 
-pub pass_more : (rules : Rules) (t : Record) (p n : ℕ) (q : Question) → 0 < p → p ≤ rules.provers → open_question rules t p ≡ Some q → n < rules.patience →
+pub pass_more : (rules : Rules) (t : Record) (p n : ℕ) (q : Question) → 0 < p → p ≤ rules.setup.provers → open_question rules t p ≡ Some q → n < rules.setup.patience →
     posted rules (passed_on rules t p n) p q.qid None ≡ passed_on rules t p (n + 1)
 pass_more rules t p n q some few asked more = posted-open rules (passed_on rules t p n) p q None asked ∙ moved_more rules t p n q some few more
 
-pub pass_last : (rules : Rules) (t : Record) (p n : ℕ) (q : Question) → 0 < p → p ≤ rules.provers → open_question rules t p ≡ Some q → n ≡ rules.patience →
+pub pass_last : (rules : Rules) (t : Record) (p n : ℕ) (q : Question) → 0 < p → p ≤ rules.setup.provers → open_question rules t p ≡ Some q → n ≡ rules.setup.patience →
     posted rules (passed_on rules t p n) p q.qid None ≡ fresh rules (settle rules p Spent t)
 pass_last rules t p n q some few asked all = posted-open rules (passed_on rules t p n) p q None asked ∙ moved_last rules t p n q some few all
 
@@ -99,12 +99,12 @@ answered_at_once rules t p q a asked = posted-open rules (fresh rules t) p q (So
 -- the same, of rules that are equal and states that come to these
 
 pub spend_more : (rules same : Rules) (st u : MatchState) (t : Record) (p n : ℕ) (q : Question) → same ≡ rules → st ≡ passed_on rules t p n → u ≡ posted same st p q.qid None →
-    0 < p → p ≤ rules.provers → open_question rules t p ≡ Some q → n < rules.patience → u ≡ passed_on rules t p (n + 1)
+    0 < p → p ≤ rules.setup.provers → open_question rules t p ≡ Some q → n < rules.setup.patience → u ≡ passed_on rules t p (n + 1)
 spend_more rules same st u t p n q one is e some few asked more =
     e ∙ (ap (λ (r : Rules). posted r st p q.qid None) one ∙ (ap (λ (x : MatchState). posted rules x p q.qid None) is ∙ pass_more rules t p n q some few asked more))
 
 pub spend_last : (rules same : Rules) (st u : MatchState) (t : Record) (p n : ℕ) (q : Question) → same ≡ rules → st ≡ passed_on rules t p n → u ≡ posted same st p q.qid None →
-    0 < p → p ≤ rules.provers → open_question rules t p ≡ Some q → n ≡ rules.patience → u ≡ fresh rules (settle rules p Spent t)
+    0 < p → p ≤ rules.setup.provers → open_question rules t p ≡ Some q → n ≡ rules.setup.patience → u ≡ fresh rules (settle rules p Spent t)
 spend_last rules same st u t p n q one is e some few asked all =
     e ∙ (ap (λ (r : Rules). posted r st p q.qid None) one ∙ (ap (λ (x : MatchState). posted rules x p q.qid None) is ∙ pass_last rules t p n q some few asked all))
 

@@ -70,7 +70,7 @@ one-post : (rules : Rules) (truth : Truth) (p r : ℕ) (q : Question) (m : Optio
     IsTruePost rules truth p st (record { prover = r; numbered = some; qid = q.qid; answer = m }) → ComesTruly rules truth p st u
 one-post rules truth p r q m st u some e true_ = record { posts = record { prover = r; numbered = some; qid = q.qid; answer = m } ∷ []; comes = e; truly = (true_, tt) }
 
-spend-posts : (rules : Rules) (truth : Truth) (t : Record) (p r : ℕ) (q : Question) (left n : ℕ) → (r ≡ p → ⊥) → n + left ≡ rules.patience → 0 < r → r ≤ rules.provers → open_question rules t r ≡ Some q →
+spend-posts : (rules : Rules) (truth : Truth) (t : Record) (p r : ℕ) (q : Question) (left n : ℕ) → (r ≡ p → ⊥) → n + left ≡ rules.setup.patience → 0 < r → r ≤ rules.setup.provers → open_question rules t r ≡ Some q →
     ComesTruly rules truth p (passed_on rules t r n) (fresh rules (settle rules r Spent t))
 spend-posts rules truth t p r q zero n far e some few asked =
     one-post rules truth p r q None _ _ some (pass_last rules t r n q some few asked (omega arith)) (λ k same open_ numbered. absurd (far same))
@@ -79,7 +79,7 @@ spend-posts rules truth t p r q (suc left) n far e some few asked =
     (one-post rules truth p r q None _ _ some (pass_more rules t r n q some few asked (omega arith)) (λ k same open_ numbered. absurd (far same)))
     (spend-posts rules truth t p r q left (n + 1) far (omega arith) some few asked)
 
-settled-posts : (rules : Rules) (truth : Truth) (t : Record) (p : ℕ) (m : TextMove) (q : Question) (s : Settled) → m.settled ≡ s → IsTrueEntry rules truth p t m → is_right rules q.kind s ≡ true → 0 < m.prover → m.prover ≤ rules.provers →
+settled-posts : (rules : Rules) (truth : Truth) (t : Record) (p : ℕ) (m : TextMove) (q : Question) (s : Settled) → m.settled ≡ s → IsTrueEntry rules truth p t m → is_right rules q.kind s ≡ true → 0 < m.prover → m.prover ≤ rules.setup.provers →
     open_question rules t m.prover ≡ Some q → ComesTruly rules truth p (fresh rules t) (fresh rules (settle rules m.prover s t))
 settled-posts rules truth t p m q (Given a) is line right some few asked =
     one-post rules truth p m.prover q (Some a) _ _ some (answered_at_once rules t m.prover q a asked ∙ ap (λ (s : Settled). fresh rules (settle rules m.prover s t)) (fit-given rules q a right))
@@ -89,17 +89,17 @@ settled-posts rules truth t p m q (Faulty a) is line right some few asked =
     (λ k same open_ numbered. absurd (rw is at (line same k open_)))
 settled-posts rules truth t p m q Spent is line right some few asked =
     let far : m.prover ≡ p → ⊥ = λ same. rw is at (line same q (subst (λ (r : ℕ). open_question rules t r ≡ Some q) same asked)) in
-    let c : ComesTruly rules truth p (passed_on rules t m.prover 0) (fresh rules (settle rules m.prover Spent t)) = spend-posts rules truth t p m.prover q rules.patience 0 far (omega arith) some few asked in
+    let c : ComesTruly rules truth p (passed_on rules t m.prover 0) (fresh rules (settle rules m.prover Spent t)) = spend-posts rules truth t p m.prover q rules.setup.patience 0 far (omega arith) some few asked in
     subst (λ (x : MatchState). ComesTruly rules truth p x (fresh rules (settle rules m.prover Spent t))) (sym (begin_passing rules t m.prover)) c
 
-pub text-posts : (rules : Rules) (truth : Truth) (p : ℕ) (ms : List TextMove) (t : Record) → AreOfProvers rules.provers ms → AllLegal rules ms t → AreTrueEntries rules truth p ms t →
+pub text-posts : (rules : Rules) (truth : Truth) (p : ℕ) (ms : List TextMove) (t : Record) → AreOfProvers rules.setup.provers ms → AllLegal rules ms t → AreTrueEntries rules truth p ms t →
     ComesTruly rules truth p (fresh rules t) (fresh rules (after_moves rules ms t))
 text-posts rules truth p [] t of legal lines = record { posts = []; comes = refl; truly = tt }
 text-posts rules truth p (m ∷ ms) t of legal lines =
-    let here : IsOfProver rules.provers m = All-head (IsOfProver rules.provers) m ms of in
+    let here : IsOfProver rules.setup.provers m = All-head (IsOfProver rules.setup.provers) m ms of in
     come-on rules truth p _ (fresh rules (settle rules m.prover m.settled t)) _
     (settled-posts rules truth t p m legal.0.question m.settled refl lines.0 legal.0.right here.0 here.1 (next_is_open rules t m.prover legal.0.question legal.0.is_next))
-    (text-posts rules truth p ms (settle rules m.prover m.settled t) (All-tail (IsOfProver rules.provers) m ms of) legal.1 lines.1)
+    (text-posts rules truth p ms (settle rules m.prover m.settled t) (All-tail (IsOfProver rules.setup.provers) m ms of) legal.1 lines.1)
 
 -- lines that are true of the text's own match are true one after another
 
@@ -123,16 +123,16 @@ true-here law rules truth p ms t n m playable some plays legal line same q open_
     line same q.kind (ap (asked rules (own_record rules ms) p) (sym number) ∙ asked-here law rules ms t n p q playable plays some open_)
 
 true-entries : AskedByTheCase → (rules : Rules) (truth : Truth) (p : ℕ) (all done rest : List TextMove) (t : Record) → ArePlayable rules → 0 < p → done ++ rest ≡ all → moves_of t ≡ done → IsInOrder rules t →
-    AreOfProvers rules.provers rest → AllLegal rules rest t → IsPlayedTo rules (says_in all) (begun rules) (fresh rules t) 0 → All (IsTrueLine rules truth p all) rest → AreTrueEntries rules truth p rest t
+    AreOfProvers rules.setup.provers rest → AllLegal rules rest t → IsPlayedTo rules (says_in all) (begun rules) (fresh rules t) 0 → All (IsTrueLine rules truth p all) rest → AreTrueEntries rules truth p rest t
 true-entries law rules truth p all done [] t playable some whole is order of legal plays lines = tt
 true-entries law rules truth p all done (m ∷ rest) t playable some whole is order of legal plays lines =
-    let here : IsOfProver rules.provers m = All-head (IsOfProver rules.provers) m rest of in
+    let here : IsOfProver rules.setup.provers m = All-head (IsOfProver rules.setup.provers) m rest of in
     let l : IsPlayedLine rules all done t m = line-turns rules all done rest m t whole is order here legal.0 in
     let turned : IsPlayedTo rules (says_in all) (begun rules) (fresh rules (settle rules m.prover m.settled t)) 0 =
     fewer-moves rules (says_in all) _ _ (0 + 1) 0 (omega arith) (play-on rules (says_in all) _ (fresh rules t) _ 0 1 plays l.turned) in (
       true-here law rules truth p all t 0 m playable some plays legal.0 (All-head (IsTrueLine rules truth p all) m rest lines),
       true-entries law rules truth p all (done ++ m ∷ []) rest (settle rules m.prover m.settled t) playable some (append_assoc done (m ∷ []) rest ∙ whole) l.moves l.order
-          (All-tail (IsOfProver rules.provers) m rest of) legal.1 turned (All-tail (IsTrueLine rules truth p all) m rest lines),
+          (All-tail (IsOfProver rules.setup.provers) m rest of) legal.1 turned (All-tail (IsTrueLine rules truth p all) m rest lines),
     )
 
 -- the stated line is right where the verdict is

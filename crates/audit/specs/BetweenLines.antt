@@ -7,11 +7,11 @@ use Rattle.tournament.specs.declared.posting.Reply.TheVariants as reply
 use Rattle.tournament.specs.Moves.{MatchState}
 
 abbrev pub fresh : Rules → Record → MatchState
-fresh rules t = record { record_ = t; passed = replicate rules.provers 0 }
+fresh rules t = record { record_ = t; passed = replicate rules.setup.provers 0 }
 
 -- a prover has passed so often on its open question, and nobody else has
 abbrev pub passed_on : Rules → Record → ℕ → ℕ → MatchState
-passed_on rules t p n = record { record_ = t; passed = slice_set (replicate rules.provers 0) (p - 1) n }
+passed_on rules t p n = record { record_ = t; passed = slice_set (replicate rules.setup.provers 0) (p - 1) n }
 
 abbrev pub is_faulty : Reply → Bool
 is_faulty reply.Faulty = true

@@ -8,11 +8,11 @@ use Rattle.bisect_game.specs.declared.settled.Settled.{Settled}
 use Rattle.bisect_game.specs.declared.settled.Settled.TheVariants.{Given, Faulty, Spent}
 use Rattle.bisect_game.specs.Ruling.{Ruling}
 use Rattle.bisect_game.specs.Rules.{Rules, is_fit}
-use Rattle.tournament.specs.declared.setup.Setup.{Setup}
+use Rattle.bisect_game.specs.declared.setup.Setup.{Setup}
 use Rattle.tournament.specs.declared.verdict.Verdict.{Verdict}
 use Rattle.tournament.specs.Bracket.{Record, nothing_settled, is_complete, settle, verdict_of}
 use Rattle.rd_base.specs.Questions.{same_qid}
-use Rattle.tournament.specs.Posting.{rules_of}
+use Rattle.bisect_game.specs.Rules.{rules_of}
 use Rattle.transcript_text.specs.declared.text.Head.{Head}
 use Rattle.transcript_text.specs.declared.text.TextMove.{TextMove}
 use Rattle.transcript_text.specs.declared.text.Stated.{Stated}

@@ -5,7 +5,8 @@ use Rattle.bisect_game.specs.declared.question.Question.{Question}
 use Rattle.bisect_game.specs.declared.settled.Settled.{Settled}
 use Rattle.bisect_game.specs.declared.settled.Side.TheVariants.{First, Second}
 use Rattle.bisect_game.specs.Bisection.{Bisection, question_of, asks}
-use Rattle.tournament.specs.Bracket.{Record, claim_question}
+use Rattle.tournament.specs.Bracket.{Record}
+use Rattle.bisect_game.specs.Rules.{claim_question}
 
 -- of provers the first of which has this number
 abbrev pub next_claim : ℕ → List (Option Settled) → Option ℕ

@@ -54,7 +54,7 @@ abbrev pub ConfirmedExactly : Type 0
 ConfirmedExactly =
     (ruling : Ruling) (text : FullText) (v : Verdict) →
     let rules : Rules = rules_of_head ruling text.head in
-    ArePlayable rules → AreOfProvers rules.provers text.moves → (audited ruling text ≡ Confirmed v) ↔ IsTextOf rules text v
+    ArePlayable rules → AreOfProvers rules.setup.provers text.moves → (audited ruling text ≡ Confirmed v) ↔ IsTextOf rules text v
 
 -- the text of a case's record: its moves, and what is stated of its verdict
 pub record IsTextOfRecord (rules : Rules) (r : Record) (text : FullText) : Type 0 where

@@ -49,5 +49,5 @@ abbrev pub ConfirmedTextIsRight : Type 0
 ConfirmedTextIsRight =
     (ruling : Ruling) (truth : Truth) (text : FullText) (v : Verdict) (p : ℕ) →
     let rules : Rules = rules_of_head ruling text.head in
-    ArePlayable rules → IsFair ruling → IsRun rules truth → 0 < p → p ≤ rules.provers → AreOfProvers rules.provers text.moves →
+    ArePlayable rules → IsFair ruling → IsRun rules truth → 0 < p → p ≤ rules.setup.provers → AreOfProvers rules.setup.provers text.moves →
     audited ruling text ≡ Confirmed v → AreTrueLines rules truth p text.moves → IsRightStated ruling truth text.moves text.stated

@@ -1,5 +1,5 @@
 ghost use Rattle.std.specs.Prelude.{◌≡◌, ◌<◌, ◌≤◌, ◌^◌, IfOk};
-ghost use Rattle.tournament.specs.Posting.{rules_of};
+ghost use Rattle.tournament.specs.Match.{rules_in};
 ghost use Rattle.audit.specs.LineByLine.{AreOfProvers, end_of, audited};
 
 use crate::finding::{Audit, Cause};
@@ -16,7 +16,7 @@ const FIRST_MOVE: u64 = 2;
 
 /// What comes of the verdict's line, which has this number.
 fn end<J: Judge + Drop>(played: &Match<J>, line: u64, stated: &Stated) -> Audit
-    ensures { result ≡ end_of (rules_of (J.ruling played.now.0) played.now.1) line stated.now played.now.2.record_ }
+    ensures { result ≡ end_of (rules_in J.ruling played.now) line stated.now played.now.game.record_ }
 {
     match played.verdict() {
         None => Audit::Refused {

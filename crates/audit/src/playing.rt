@@ -3,7 +3,7 @@ ghost use Rattle.std.specs.Prelude.{◌≡◌, ◌<◌, ◌≤◌, not, true, So
 ghost use Rattle.bisect_game.specs.declared.settled.Settled.TheVariants.{Spent};
 ghost use Rattle.bisect_game.specs.Rules.{is_fit, judged};
 ghost use Rattle.tournament.specs.Bracket.{open_question, settle};
-ghost use Rattle.tournament.specs.Posting.{rules_of};
+ghost use Rattle.tournament.specs.Match.{rules_in};
 ghost use Rattle.audit.specs.LineByLine.{is_right, cause_of};
 ghost use Rattle.audit.specs.BetweenLines.{fresh, is_faulty};
 
@@ -18,12 +18,12 @@ use tournament::{Match, Move, Reply};
 /// A prover spends its open question: it passes once more than the patience.
 fn spend<J: Judge + Drop>(played: &mut Match<J>, p: u32, question: Question)
     requires some { 0 < p }
-    requires few { p ≤ played.old.1.provers }
-    requires fresh { played.old.2 ≡ fresh (rules_of (J.ruling played.old.0) played.old.1) played.old.2.record_ }
-    requires asked { open_question (rules_of (J.ruling played.old.0) played.old.1) played.old.2.record_ p ≡ Some question }
-    ensures names { played.new.0 ≡ played.old.0 }
-    ensures setup { played.new.1 ≡ played.old.1 }
-    ensures state { let rules = rules_of (J.ruling played.old.0) played.old.1 in played.new.2 ≡ fresh rules (settle rules p Spent played.old.2.record_) }
+    requires few { p ≤ played.old.setup.provers }
+    requires fresh { played.old.game ≡ fresh (rules_in J.ruling played.old) played.old.game.record_ }
+    requires asked { open_question (rules_in J.ruling played.old) played.old.game.record_ p ≡ Some question }
+    ensures names { played.new.judge ≡ played.old.judge }
+    ensures setup { played.new.setup ≡ played.old.setup }
+    ensures state { let rules = rules_in J.ruling played.old in played.new.game ≡ fresh rules (settle rules p Spent played.old.game.record_) }
 {
     let patience = played.setup().patience;
     'passes: for _i in 0..patience {
@@ -45,13 +45,13 @@ fn is_faulty(reply: Reply) -> bool
 /// A prover answers its open question. Whether the answer is faulty.
 fn answer<J: Judge + Drop>(played: &mut Match<J>, p: u32, question: Question, given: Answer) -> bool
     requires some { 0 < p }
-    requires few { p ≤ played.old.1.provers }
-    requires fresh { played.old.2 ≡ fresh (rules_of (J.ruling played.old.0) played.old.1) played.old.2.record_ }
-    requires asked { open_question (rules_of (J.ruling played.old.0) played.old.1) played.old.2.record_ p ≡ Some question }
-    ensures names { played.new.0 ≡ played.old.0 }
-    ensures setup { played.new.1 ≡ played.old.1 }
-    ensures state { let rules = rules_of (J.ruling played.old.0) played.old.1 in played.new.2 ≡ fresh rules (settle rules p (judged rules.ruling question.kind given) played.old.2.record_) }
-    ensures faulty { result ≡ not (is_fit (J.ruling played.old.0) question.kind given) }
+    requires few { p ≤ played.old.setup.provers }
+    requires fresh { played.old.game ≡ fresh (rules_in J.ruling played.old) played.old.game.record_ }
+    requires asked { open_question (rules_in J.ruling played.old) played.old.game.record_ p ≡ Some question }
+    ensures names { played.new.judge ≡ played.old.judge }
+    ensures setup { played.new.setup ≡ played.old.setup }
+    ensures state { let rules = rules_in J.ruling played.old in played.new.game ≡ fresh rules (settle rules p (judged rules.ruling question.kind given) played.old.game.record_) }
+    ensures faulty { result ≡ not (is_fit (J.ruling played.old.judge) question.kind given) }
 {
     let reply = played.post(p, question.qid, Move::Give(given));
     is_faulty(reply)
@@ -67,13 +67,13 @@ fn settle<J: Judge + Drop>(
     settled: &Settled,
 ) -> Result<bool, Memory>
     requires some { 0 < p }
-    requires few { p ≤ played.old.1.provers }
-    requires fresh { played.old.2 ≡ fresh (rules_of (J.ruling played.old.0) played.old.1) played.old.2.record_ }
-    requires asked { open_question (rules_of (J.ruling played.old.0) played.old.1) played.old.2.record_ p ≡ Some question }
-    ensures names { played.new.0 ≡ played.old.0 }
-    ensures setup { played.new.1 ≡ played.old.1 }
-    ensures right { IfOk result (λ right. right ≡ is_right (rules_of (J.ruling played.old.0) played.old.1) question.kind settled.now) }
-    ensures state { let rules = rules_of (J.ruling played.old.0) played.old.1 in IfOk result (λ right. right ≡ true → played.new.2 ≡ fresh rules (settle rules p settled.now played.old.2.record_)) }
+    requires few { p ≤ played.old.setup.provers }
+    requires fresh { played.old.game ≡ fresh (rules_in J.ruling played.old) played.old.game.record_ }
+    requires asked { open_question (rules_in J.ruling played.old) played.old.game.record_ p ≡ Some question }
+    ensures names { played.new.judge ≡ played.old.judge }
+    ensures setup { played.new.setup ≡ played.old.setup }
+    ensures right { IfOk result (λ right. right ≡ is_right (rules_in J.ruling played.old) question.kind settled.now) }
+    ensures state { let rules = rules_in J.ruling played.old in IfOk result (λ right. right ≡ true → played.new.game ≡ fresh rules (settle rules p settled.now played.old.game.record_)) }
 {
     match settled {
         Settled::Given(given) => {
@@ -99,12 +99,12 @@ pub(crate) fn play<J: Judge + Drop>(
     entry: &TextMove,
 ) -> Result<Option<Cause>, Memory>
     requires some { 0 < entry.now.prover }
-    requires few { entry.now.prover ≤ played.old.1.provers }
-    requires fresh { played.old.2 ≡ fresh (rules_of (J.ruling played.old.0) played.old.1) played.old.2.record_ }
-    ensures names { played.new.0 ≡ played.old.0 }
-    ensures setup { played.new.1 ≡ played.old.1 }
-    ensures cause { IfOk result (λ cause. cause ≡ cause_of (rules_of (J.ruling played.old.0) played.old.1) played.old.2.record_ entry.now) }
-    ensures state { let rules = rules_of (J.ruling played.old.0) played.old.1 in IfOk result (λ cause. cause ≡ None → played.new.2 ≡ fresh rules (settle rules entry.now.prover entry.now.settled played.old.2.record_)) }
+    requires few { entry.now.prover ≤ played.old.setup.provers }
+    requires fresh { played.old.game ≡ fresh (rules_in J.ruling played.old) played.old.game.record_ }
+    ensures names { played.new.judge ≡ played.old.judge }
+    ensures setup { played.new.setup ≡ played.old.setup }
+    ensures cause { IfOk result (λ cause. cause ≡ cause_of (rules_in J.ruling played.old) played.old.game.record_ entry.now) }
+    ensures state { let rules = rules_in J.ruling played.old in IfOk result (λ cause. cause ≡ None → played.new.game ≡ fresh rules (settle rules entry.now.prover entry.now.settled played.old.game.record_)) }
 {
     if played.is_over() {
         return Ok(Some(Cause::MovesAfterEnd));

@@ -46,7 +46,7 @@ posts-of rules says (p ∷ ps) st legal =
     (post ∷ rest.0, ap (after_posts rules rest.0) (posted-turn rules says st p q legal.0.asked) ∙ rest.1)
 
 over-after : NobodyAskedIsOver → (rules : Rules) (says : Says) (ps : List ℕ) → ArePlayable rules → Legal rules says ps (begun rules)
-    → ((p : ℕ) → 0 < p → p ≤ rules.provers → open_question rules (turns rules says ps (begun rules)).record_ p ≡ None)
+    → ((p : ℕ) → 0 < p → p ≤ rules.setup.provers → open_question rules (turns rules says ps (begun rules)).record_ p ≡ None)
     → is_complete (turns rules says ps (begun rules)).record_ ≡ true
 over-after over rules says ps playable legal nobody =
     let posts = posts-of rules says ps (begun rules) legal in
@@ -76,15 +76,15 @@ pub record IsEnding (rules : Rules) (says : Says) (ps : List ℕ) : Type 0 where
   pub legal : Legal rules says ps (begun rules)
   pub complete : is_complete (turns rules says ps (begun rules)).record_ ≡ true
 
-ends-from : SpareIsEnough → NobodyAskedIsOver → (rules : Rules) (says : Says) (k : ℕ) → ArePlayable rules → IsMost rules.fan rules.bound k
-    → (fuel : ℕ) (ps : List ℕ) → Legal rules says ps (begun rules) → most_entries rules k < length ps + fuel → (qs : List ℕ) × IsEnding rules says qs
+ends-from : SpareIsEnough → NobodyAskedIsOver → (rules : Rules) (says : Says) (k : ℕ) → ArePlayable rules → IsMost rules.setup.fan rules.setup.bound k
+    → (fuel : ℕ) (ps : List ℕ) → Legal rules says ps (begun rules) → most_entries rules.setup k < length ps + fuel → (qs : List ℕ) × IsEnding rules says qs
 ends-from enough over rules says k playable most zero ps legal spare = absurd (omega (arith, enough rules says ps k playable most legal, spare))
 ends-from enough over rules says k playable most (suc fuel) ps legal spare =
     by (λ p asked. ends-from enough over rules says k playable most fuel (ps ++ p ∷ []) (legal-last rules says ps p (begun rules) legal asked)
-    (omega (arith, spare, length-append ps (p ∷ [])))) (somebody rules (turns rules says ps (begun rules)) rules.provers)
+    (omega (arith, spare, length-append ps (p ∷ [])))) (somebody rules (turns rules says ps (begun rules)) rules.setup.provers)
   where
     by : ((p : ℕ) → IsAskedOf rules (turns rules says ps (begun rules)) p → (qs : List ℕ) × IsEnding rules says qs)
-        → (((p : ℕ) × IsAskedOf rules (turns rules says ps (begun rules)) p) ⊎ NobodyAsked rules (turns rules says ps (begun rules)) rules.provers) → (qs : List ℕ) × IsEnding rules says qs
+        → (((p : ℕ) × IsAskedOf rules (turns rules says ps (begun rules)) p) ⊎ NobodyAsked rules (turns rules says ps (begun rules)) rules.setup.provers) → (qs : List ℕ) × IsEnding rules says qs
     by further (inl asked) = further asked.0 asked.1
     by further (inr nobody) = (ps, record { legal = legal; complete = over-after over rules says ps playable legal nobody })
 
@@ -99,15 +99,15 @@ pub record AreLaws : Type 0 where
 -- each case has a legal list of moves after which nothing is open
 pub case-ends : SpareIsEnough → NobodyAskedIsOver → ThereIsAMost → (rules : Rules) (says : Says) → ArePlayable rules → (ps : List ℕ) × IsEnding rules says ps
 case-ends enough over most rules says playable =
-    let k = most rules.fan rules.bound playable.parted playable.steps in
-    ends-from enough over rules says k.0 playable k.1 (suc (most_entries rules k.0)) [] tt (omega arith)
+    let k = most rules.setup.fan rules.setup.bound playable.parted playable.steps in
+    ends-from enough over rules says k.0 playable k.1 (suc (most_entries rules.setup k.0)) [] tt (omega arith)
 
 -- in the record of a case nothing is open, and a truthful prover is safe
 pub record IsSafeCase (rules : Rules) (t : Truth) (p : ℕ) (r : Record) : Type 0 where
   pub complete : is_complete r ≡ true
   pub safe : IsSafe rules t p r
 
-pub case-is-safe : AreLaws → (rules : Rules) (says : Says) (t : Truth) (p : ℕ) → ArePlayable rules → IsFair rules.ruling → IsRun rules t → 0 < p → p ≤ rules.provers → IsTruthfulProver rules says t p
+pub case-is-safe : AreLaws → (rules : Rules) (says : Says) (t : Truth) (p : ℕ) → ArePlayable rules → IsFair rules.ruling → IsRun rules t → 0 < p → p ≤ rules.setup.provers → IsTruthfulProver rules says t p
     → IsSafeCase rules t p (bracket rules (answers_of rules says))
 case-is-safe laws rules says t p playable fair run some few truthful =
     let ending = case-ends laws.spare laws.over laws.most rules says playable in
@@ -125,4 +125,4 @@ case-is-settled-up enough over most of_case ended rules says playable =
     let closed : is_complete (record_after rules posts.0) ≡ true = subst (λ (st : MatchState). is_complete st.record_ ≡ true) (sym posts.1) ending.1.complete in
     let comes : record_after rules posts.0 ≡ bracket rules (answers_of rules says) =
     ap (λ (st : MatchState). st.record_) posts.1 ∙ of_case rules says ending.0 playable ending.1.legal ending.1.complete in
-    subst (λ (r : Record). IsSettledUp rules.provers r) comes (ended rules posts.0 playable closed)
+    subst (λ (r : Record). IsSettledUp rules.setup.provers r) comes (ended rules posts.0 playable closed)

@@ -15,8 +15,8 @@ use Rattle.case_match.proofs.EndingLemmas.{AreLaws, IsSafeCase, case-is-safe}
 -- the runs of the machine are true runs
 abbrev RunsAreTrue : (List ℕ → List ℕ) → Type 0
 RunsAreTrue digest =
-    (s : State) (rules : Rules) → IsValid s → length s.output + rules.bound < 2 ^ 64 → rules.ruling ≡ machine_ruling digest s.version → rules.start.0 ≡ root_in digest s.version s →
-    IsRun rules (machine_truth digest s rules.bound)
+    (s : State) (rules : Rules) → IsValid s → length s.output + rules.setup.bound < 2 ^ 64 → rules.ruling ≡ machine_ruling digest s.version → rules.setup.start.0 ≡ root_in digest s.version s →
+    IsRun rules (machine_truth digest s rules.setup.bound)
 
 pub safe-in-cases : (digest : List ℕ → List ℕ) → AreLaws → RunsAreTrue digest → ((version : ℕ) → IsFair (machine_ruling digest version)) → TruthfulProversOfCasesAreSafe digest
 safe-in-cases digest laws runs fair c start p range truthful =

@@ -12,11 +12,12 @@ use Rattle.bisect_game.specs.Says.{Says, AnswerAs}
 use Rattle.bisect_game.specs.Rules.{ArePlayable}
 use Rattle.rv_step.specs.declared.machine.Machine.{Machine}
 use Rattle.rv_step.specs.State.{State, state_of}
-use Rattle.tournament.specs.declared.setup.Setup.{Setup}
+use Rattle.bisect_game.specs.declared.setup.Setup.{Setup}
 use Rattle.tournament.specs.declared.verdict.Verdict.{Verdict}
 use Rattle.tournament.specs.Bracket.{Record}
 use Rattle.step_referee.specs.declared.judge.MachineNames.{MachineNames}
 use Rattle.step_referee.specs.MachineRuling.{machine_ruling}
+use Rattle.board_book.specs.declared.opening.Opening.{Opening}
 use Rattle.board_book.specs.Tasks.{BookOf, openings, sayings_from, sayings}
 use Rattle.board_book.specs.Keeping.{SayInOrder}
 use Rattle.deposits.specs.Balances.{IsSettledUp}
@@ -48,34 +49,35 @@ all_first P (x ∷ xs) ys h = All-cons P x xs (All-head P x (xs ++ ys) h) (all_f
 
 pub opened-as : (digest : List ℕ → List ℕ) (version : ℕ) (c : CaseData) (start : State) (scripts : List Script) (x : CaseScripts) (root : Digest32)
     → version ≡ start.version → scripts ≡ c.provers → x ≡ record { start = start; bound = c.bound; scripts = scripts } → root ≡ start_root digest start
-    → (record { version = version }, x, record { provers = length x.scripts; bound = c.bound; fan = c.fan; patience = c.patience; start = root }) ≡ opening_of_case digest c start
+    → ◌≡◌ {A = Opening MachineNames CaseScripts}
+        (record { judge = record { version = version }; provers = x; setup = record { provers = length x.scripts; bound = c.bound; fan = c.fan; patience = c.patience; start = root } }) (opening_of_case digest c start)
 opened-as digest version c start scripts x root version_is scripts_are x_is root_is =
-    let opened : ℕ → CaseScripts → Digest32 → MachineNames × CaseScripts × Setup =
-    λ v y r. (record { version = v }, y, record { provers = length y.scripts; bound = c.bound; fan = c.fan; patience = c.patience; start = r }) in
+    let opened : ℕ → CaseScripts → Digest32 → Opening MachineNames CaseScripts =
+    λ v y r. record { judge = record { version = v }; provers = y; setup = record { provers = length y.scripts; bound = c.bound; fan = c.fan; patience = c.patience; start = r } } in
     ap (λ (v : ℕ). opened v x root) version_is
     ∙ (ap (λ (y : CaseScripts). opened start.version y root) (x_is ∙ ap (λ (xs : List Script). record { start = start; bound = c.bound; scripts = xs }) scripts_are)
     ∙ ap (opened start.version (record { start = start; bound = c.bound; scripts = c.provers })) root_is)
 
 -- one more opening, before those that come later, and its answerers
 
-pub more-openings : {N M : Type 0} (old middle now : List (BookOf N M)) (b : BookOf N M) (h : N × M × Setup) (hs all : List (N × M × Setup)) → all ≡ h ∷ hs → middle ≡ old ++ b ∷ [] → b.0 ≡ h
+pub more-openings : {N M : Type 0} (old middle now : List (BookOf N M)) (b : BookOf N M) (h : Opening N M) (hs all : List (Opening N M)) → all ≡ h ∷ hs → middle ≡ old ++ b ∷ [] → b.opening ≡ h
     → openings now ≡ openings middle ++ hs → openings now ≡ openings old ++ all
 more-openings {N} {M} old middle now b h hs all all_are pushed is later =
     later
     ∙ (ap (λ (l : List (BookOf N M)). openings l ++ hs) pushed
-    ∙ (ap (λ (l : List (N × M × Setup)). l ++ hs) (map-append (λ (x : BookOf N M). x.0) old (b ∷ []))
-    ∙ (append_assoc (openings old) (b.0 ∷ []) hs
-    ∙ (ap (λ (g : N × M × Setup). openings old ++ g ∷ hs) is ∙ ap (λ (l : List (N × M × Setup)). openings old ++ l) (sym all_are)))))
+    ∙ (ap (λ (l : List (Opening N M)). l ++ hs) (map-append (λ (x : BookOf N M). x.opening) old (b ∷ []))
+    ∙ (append_assoc (openings old) (b.opening ∷ []) hs
+    ∙ (ap (λ (g : Opening N M). openings old ++ g ∷ hs) is ∙ ap (λ (l : List (Opening N M)). openings old ++ l) (sym all_are)))))
 
-pub more-said : {A N M : Type 0} (answers : A → Question → ℕ → Option Answer) (says : M → Says) (old own middle now : List A) (h : N × M × Setup) (hs all : List (N × M × Setup)) → all ≡ h ∷ hs
-    → middle ≡ old ++ own → map answers own ≡ sayings_from (says h.1) 1 h.2.provers → map answers now ≡ map answers middle ++ sayings says hs → map answers now ≡ map answers old ++ sayings says all
+pub more-said : {A N M : Type 0} (answers : A → Question → ℕ → Option Answer) (says : M → Says) (old own middle now : List A) (h : Opening N M) (hs all : List (Opening N M)) → all ≡ h ∷ hs
+    → middle ≡ old ++ own → map answers own ≡ sayings_from (says h.provers) 1 h.setup.provers → map answers now ≡ map answers middle ++ sayings says hs → map answers now ≡ map answers old ++ sayings says all
 more-said {A} {N} {M} answers says old own middle now h hs all all_are joined is later =
     later
     ∙ (ap (λ (l : List A). map answers l ++ sayings says hs) joined
     ∙ (ap (λ (l : List (Question → ℕ → Option Answer)). l ++ sayings says hs) (map-append answers old own)
     ∙ (append_assoc (map answers old) (map answers own) (sayings says hs)
     ∙ (ap (λ (l : List (Question → ℕ → Option Answer)). map answers old ++ (l ++ sayings says hs)) is
-    ∙ ap (λ (l : List (N × M × Setup)). map answers old ++ sayings says l) (sym all_are)))))
+    ∙ ap (λ (l : List (Opening N M)). map answers old ++ sayings says l) (sym all_are)))))
 
 pub as-many-openings : (digest : List ℕ → List ℕ) (cs : List CaseData) (starts : List State) → length starts ≡ length cs → length (openings_of_cases digest cs starts) ≡ length cs
 as-many-openings digest [] starts e = refl
@@ -132,8 +134,8 @@ push-all P [] x all last = All-cons P x [] last (All-nil P)
 push-all P (y ∷ xs) x all last = All-cons P y (xs ++ x ∷ []) (All-head P y xs all) (push-all P xs x (All-tail P y xs all) last)
 
 -- books that are empty, and one more
-pub all-empty : {N M : Type 0} (old now : List (BookOf N M)) (b : BookOf N M) → now ≡ old ++ b ∷ [] → All (λ (x : BookOf N M). x.1 ≡ []) old → b.1 ≡ [] → All (λ (x : BookOf N M). x.1 ≡ []) now
-all-empty {N} {M} old now b pushed all is = subst (All (λ (x : BookOf N M). x.1 ≡ [])) (sym pushed) (push-all (λ (x : BookOf N M). x.1 ≡ []) old b all is)
+pub all-empty : {N M : Type 0} (old now : List (BookOf N M)) (b : BookOf N M) → now ≡ old ++ b ∷ [] → All (λ (x : BookOf N M). x.journal ≡ []) old → b.journal ≡ [] → All (λ (x : BookOf N M). x.journal ≡ []) now
+all-empty {N} {M} old now b pushed all is = subst (All (λ (x : BookOf N M). x.journal ≡ [])) (sym pushed) (push-all (λ (x : BookOf N M). x.journal ≡ []) old b all is)
 
 -- what a case's answerers say
 
@@ -153,7 +155,7 @@ said-in-order answers law digest start bound scripts xs count say =
 
 -- one case that is played
 
-pub ended-as : (digest : List ℕ → List ℕ) (c : CaseData) (start : State) (h : MachineNames × CaseScripts × Setup) (e : Record × Verdict) → h ≡ opening_of_case digest c start
+pub ended-as : (digest : List ℕ → List ℕ) (c : CaseData) (start : State) (h : Opening MachineNames CaseScripts) (e : Record × Verdict) → h ≡ opening_of_case digest c start
     → e ≡ ending (λ (n : MachineNames). machine_ruling digest n.version) (λ (n : CaseScripts). case_says digest n.start n.bound n.scripts) h → e ≡ ending_of_case digest c start
 ended-as digest c start h e opened is =
     is ∙ ap (ending (λ (n : MachineNames). machine_ruling digest n.version) (λ (n : CaseScripts). case_says digest n.start n.bound n.scripts)) opened
@@ -168,10 +170,10 @@ its-record-settled law digest c start e playable is =
 
 -- many cases that are played
 
-pub opened-first : {N M : Type 0} (old now : List (BookOf N M)) (hs : List (N × M × Setup)) → old ≡ [] → openings now ≡ openings old ++ hs → openings now ≡ hs
+pub opened-first : {N M : Type 0} (old now : List (BookOf N M)) (hs : List (Opening N M)) → old ≡ [] → openings now ≡ openings old ++ hs → openings now ≡ hs
 opened-first {N} {M} old now hs none all = all ∙ ap (λ (l : List (BookOf N M)). openings l ++ hs) none
 
-pub said-first : {A N M : Type 0} (answers : A → Question → ℕ → Option Answer) (says : M → Says) (old now slice : List A) (hs others : List (N × M × Setup)) → slice ≡ now → old ≡ []
+pub said-first : {A N M : Type 0} (answers : A → Question → ℕ → Option Answer) (says : M → Says) (old now slice : List A) (hs others : List (Opening N M)) → slice ≡ now → old ≡ []
     → map answers now ≡ map answers old ++ sayings says hs → others ≡ hs → map answers slice ≡ sayings says others
 said-first {A} answers says old now slice hs others same none all are =
     ap (map answers) same ∙ (all ∙ (ap (λ (l : List A). map answers l ++ sayings says hs) none ∙ ap (sayings says) (sym are)))
@@ -179,11 +181,11 @@ said-first {A} answers says old now slice hs others same none all are =
 pub as-many-books : (digest : List ℕ → List ℕ) (cases : List Case) (starts : List Machine) (books : List (BookOf MachineNames CaseScripts))
     → openings books ≡ openings_of_cases digest (map data_of cases) (map state_of starts) → length starts ≡ length cases → length books ≡ length cases
 as-many-books digest cases starts books opened count =
-    sym (length-map books (λ (b : BookOf MachineNames CaseScripts). b.0))
+    sym (length-map books (λ (b : BookOf MachineNames CaseScripts). b.opening))
     ∙ (ap length opened
     ∙ (as-many-openings digest (map data_of cases) (map state_of starts) (length-map starts state_of ∙ (count ∙ sym (length-map cases data_of))) ∙ length-map cases data_of))
 
-pub all-ended : (digest : List ℕ → List ℕ) (cs : List CaseData) (starts : List State) (hs : List (MachineNames × CaseScripts × Setup)) (ends : List (Record × Verdict)) → hs ≡ openings_of_cases digest cs starts
+pub all-ended : (digest : List ℕ → List ℕ) (cs : List CaseData) (starts : List State) (hs : List (Opening MachineNames CaseScripts)) (ends : List (Record × Verdict)) → hs ≡ openings_of_cases digest cs starts
     → ends ≡ map (ending (λ (n : MachineNames). machine_ruling digest n.version) (λ (n : CaseScripts). case_says digest n.start n.bound n.scripts)) hs → ends ≡ endings_of_cases digest cs starts
 all-ended digest cs starts hs ends opened are =
     are

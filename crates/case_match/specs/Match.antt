@@ -8,11 +8,11 @@ use Rattle.bisect_game.specs.Truth.{Truth}
 use Rattle.rv_step.specs.State.{State}
 use Rattle.rv_step.specs.Step.{state_at}
 use Rattle.state_commit.specs.StateRoot.{root_in}
-use Rattle.tournament.specs.declared.setup.Setup.{Setup}
+use Rattle.bisect_game.specs.declared.setup.Setup.{Setup}
 use Rattle.tournament.specs.declared.verdict.Verdict.{Verdict}
 use Rattle.tournament.specs.Bracket.{Record, bracket, verdict_of}
 use Rattle.tournament.specs.Journals.{answers_of}
-use Rattle.tournament.specs.Posting.{rules_of}
+use Rattle.bisect_game.specs.Rules.{rules_of}
 use Rattle.step_referee.specs.MachineRuling.{machine_ruling}
 use Rattle.step_referee.specs.MachineTruth.{machine_truth}
 use Rattle.prover_run.specs.CaseScripts.{case_says}
@@ -68,7 +68,7 @@ endings_of_cases digest (c ∷ cs) (start ∷ starts) = ending_of_case digest c 
 -- whatever the provers of a match say, the record of its case has one settled claim per prover and disputes between two of them, and puts
 -- nobody out twice
 abbrev pub RecordsOfCasesAreSettledUp : Type 0
-RecordsOfCasesAreSettledUp = (rules : Rules) (says : Says) → ArePlayable rules → IsSettledUp rules.provers (bracket rules (answers_of rules says))
+RecordsOfCasesAreSettledUp = (rules : Rules) (says : Says) → ArePlayable rules → IsSettledUp rules.setup.provers (bracket rules (answers_of rules says))
 
 -- so is the record of each of these cases
 abbrev pub AreSettledUp : List CaseData → List (Record × Verdict) → Type 0

@@ -48,8 +48,8 @@ pub fn open_match<D: Replays>(
     requires input { HasInput D.digest_of (state_of start) input.now }
     requires root { root ≡ start_root D.digest_of (state_of start) }
     requires options { AreAtLeastOne options }
-    ensures opening { IfOk result (λ opened. opened.0.0 ≡ opening_of_case D.digest_of (data_of case.now) (state_of start)) }
-    ensures empty { IfOk result (λ opened. opened.0.1 ≡ []) }
+    ensures opening { IfOk result (λ opened. opened.0.opening ≡ opening_of_case D.digest_of (data_of case.now) (state_of start)) }
+    ensures empty { IfOk result (λ opened. opened.0.journal ≡ []) }
     ensures count { IfOk result (λ opened. length opened.1.items ≡ length case.now.provers) }
     ensures says { IfOk result (λ opened. AnswerAs ⟦<Scripted<RunAnswerer<D>, D> as Answerer>⟧.answers (case_says D.digest_of (state_of start) case.now.bound case.now.provers) 1 opened.1.items) }
     ensures playable { ArePlayable (rules_of_case D.digest_of (data_of case.now) (state_of start)) }
@@ -96,9 +96,9 @@ pub fn open_matches<D: Replays>(
     requires silent { All (λ start. start.output.items ≡ []) starts.now }
     requires roots { roots.now ≡ map (λ start. start_root D.digest_of (state_of start)) starts.now }
     requires options { AreAtLeastOne options }
-    requires empty { All (λ b. b.1 ≡ []) books.old.items }
+    requires empty { All (λ b. b.journal ≡ []) books.old.items }
     ensures openings { OnOk result (openings books.new.items ≡ openings books.old.items ++ openings_of_cases D.digest_of (map data_of cases.now) (map state_of starts.now)) }
-    ensures empty { OnOk result (All (λ b. b.1 ≡ []) books.new.items) }
+    ensures empty { OnOk result (All (λ b. b.journal ≡ []) books.new.items) }
     ensures says { OnOk result (map ⟦<Scripted<RunAnswerer<D>, D> as Answerer>⟧.answers answerers.new.items ≡ map ⟦<Scripted<RunAnswerer<D>, D> as Answerer>⟧.answers answerers.old.items ++ sayings ⟦<CaseProvers<D> as Provers>⟧.says (openings_of_cases D.digest_of (map data_of cases.now) (map state_of starts.now))) }
     ensures playable { OnOk result (AreAllPlayable D.digest_of (map data_of cases.now) (map state_of starts.now)) }
 {

@@ -85,8 +85,8 @@ where
 
 /// How the match of a book that is over has ended.
 fn ending_of<J: Judge + Drop, P: Provers + Drop>(book: Book<J, P>) -> (Record, Verdict)
-    requires { is_complete book.2.record_ ≡ true }
-    ensures { result ≡ ending J.ruling P.says book.0 }
+    requires { is_complete book.game.record_ ≡ true }
+    ensures { result ≡ ending J.ruling P.says book.opening }
 {
     book.has_the_record_of_the_case();
     let game = book.into_game();
@@ -99,7 +99,7 @@ fn endings<J: Judge + Drop, P: Provers + Drop>(
     alloc: Global,
     mut books: Vec<Book<J, P>>,
 ) -> Result<Vec<(Record, Verdict)>, Memory>
-    requires { All (λ b. is_complete b.2.record_ ≡ true) books.items }
+    requires { All (λ b. is_complete b.game.record_ ≡ true) books.items }
     ensures { IfOk result (λ ends. ends.items ≡ map (ending J.ruling P.says) (openings books.items)) }
 {
     let mut ends = Vec::with_capacity(alloc, books.len())?;
@@ -128,9 +128,9 @@ where
     J::Names: Send,
     P::Names: Send,
     requires posters { 0 < posters }
-    requires count { length answerers.old ≡ book.0.2.provers }
-    requires says { AnswerAs A.answers (P.says book.0.1) 1 answerers.old }
-    ensures { IfOk result (λ end. end ≡ ending J.ruling P.says book.0) }
+    requires count { length answerers.old ≡ book.opening.setup.provers }
+    requires says { AnswerAs A.answers (P.says book.opening.provers) 1 answerers.old }
+    ensures { IfOk result (λ end. end ≡ ending J.ruling P.says book.opening) }
 {
     answerers_say_in_order::<A>();
     let books = Books::one(alloc, book)?;
@@ -158,7 +158,7 @@ where
     P::Names: Send,
     requires some { 0 < length books.items }
     requires few { length books.items ≤ 8 }
-    requires empty { All (λ b. b.1 ≡ []) books.items }
+    requires empty { All (λ b. b.journal ≡ []) books.items }
     requires posters { 0 < posters }
     requires says { map A.answers answerers.old ≡ sayings P.says (openings books.items) }
     ensures { IfOk result (λ ends. ends.items ≡ map (ending J.ruling P.says) (openings books.items)) }

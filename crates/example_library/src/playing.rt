@@ -2,7 +2,7 @@ ghost use Rattle.std.specs.Prelude.{◌≡◌, ◌<◌, length, IfOk};
 ghost use Rattle.bisect_game.specs.Says.{AnswerAs};
 ghost use Rattle.tournament.specs.Bracket.{bracket, verdict_of};
 ghost use Rattle.tournament.specs.Journals.{answers_of};
-ghost use Rattle.tournament.specs.Posting.{rules_of};
+ghost use Rattle.bisect_game.specs.Rules.{rules_of};
 
 use bisect_game::{Answerer, Judge, Provers, Question};
 use board_book::Book;
@@ -53,9 +53,9 @@ where
     J::Names: Send,
     P::Names: Send,
     requires posters { 0 < posters }
-    requires count { length answerers.old ≡ book.0.2.provers }
-    requires says { AnswerAs A.answers (P.says book.0.1) 1 answerers.old }
-    ensures { let rules = rules_of (J.ruling book.0.0) book.0.2 in IfOk result (λ v. v ≡ verdict_of rules (bracket rules (answers_of rules (P.says book.0.1)))) }
+    requires count { length answerers.old ≡ book.opening.setup.provers }
+    requires says { AnswerAs A.answers (P.says book.opening.provers) 1 answerers.old }
+    ensures { let rules = rules_of (J.ruling book.opening.judge) book.opening.setup in IfOk result (λ v. v ≡ verdict_of rules (bracket rules (answers_of rules (P.says book.opening.provers)))) }
 {
     let book = play(rt, alloc, book, answerers, posters, &OpenGate)?;
     book.has_the_record_of_the_case();

@@ -1,7 +1,8 @@
 ghost use Rattle.std.specs.Prelude.{◌≡◌, ◌<◌, ◌≤◌, IfErr, IfOk};
 ghost use Rattle.std.specs.Result.{result_ok};
 ghost use Rattle.proof_wire.specs.Reading.{answer_in};
-ghost use Rattle.tournament.specs.Posting.{rules_of, posted, reply_to};
+ghost use Rattle.tournament.specs.Posting.{posted, reply_to};
+ghost use Rattle.tournament.specs.Match.{rules_in};
 
 use bisect_game::Judge;
 use proof_wire::{WireFault, decode};
@@ -34,11 +35,11 @@ pub fn post_bytes<J: Judge + Drop>(
     bytes: &[u8],
 ) -> Result<Reply, Memory>
     requires some { 0 < p }
-    requires few { p ≤ game.old.1.provers }
-    ensures setup { game.new.1 ≡ game.old.1 }
+    requires few { p ≤ game.old.setup.provers }
+    ensures setup { game.new.setup ≡ game.old.setup }
     ensures unchanged { IfErr result (λ _. game.new ≡ game.old) }
-    ensures state { IfOk result (λ _. game.new.2 ≡ posted (rules_of (J.ruling game.old.0) game.old.1) game.old.2 p qid (result_ok (answer_in bytes.now))) }
-    ensures reply { IfOk result (λ r. r ≡ reply_to (rules_of (J.ruling game.old.0) game.old.1) game.old.2 p qid (result_ok (answer_in bytes.now))) }
+    ensures state { IfOk result (λ _. game.new.game ≡ posted (rules_in J.ruling game.old) game.old.game p qid (result_ok (answer_in bytes.now))) }
+    ensures reply { IfOk result (λ r. r ≡ reply_to (rules_in J.ruling game.old) game.old.game p qid (result_ok (answer_in bytes.now))) }
 {
     let turn = move_of(answer_with(alloc, bytes)?);
     Ok(game.post(p, qid, turn))

@@ -19,8 +19,8 @@ use Rattle.machine_audit.specs.MachineAudit.{IsAnswerOrCollision, ConfirmedCases
 -- what the machine's law says
 abbrev pub RunsAreTrue : (List ℕ → List ℕ) → Type 0
 RunsAreTrue digest =
-    (s : State) (rules : Rules) → IsValid s → length s.output + rules.bound < 2 ^ 64 → rules.ruling ≡ machine_ruling digest s.version → rules.start.0 ≡ root_in digest s.version s →
-    IsRun rules (machine_truth digest s rules.bound)
+    (s : State) (rules : Rules) → IsValid s → length s.output + rules.setup.bound < 2 ^ 64 → rules.ruling ≡ machine_ruling digest s.version → rules.setup.start.0 ≡ root_in digest s.version s →
+    IsRun rules (machine_truth digest s rules.setup.bound)
 
 answer-of : (digest : List ℕ → List ℕ) (text : FullText) (s : State) (said : Stated)
     → IsRightStated (machine_ruling digest text.head.version) (machine_truth digest s text.head.bound) text.moves said → IsAnswerOrCollision digest text s said

@@ -10,12 +10,13 @@ use Rattle.bisect_game.specs.declared.settled.Close.{Close}
 use Rattle.bisect_game.specs.declared.settled.Close.TheVariants.{Out, Collision}
 use Rattle.bisect_game.specs.Bisection.{Bisection}
 use Rattle.bisect_game.specs.Rules.{Rules}
-use Rattle.bisect_game.specs.Ruling.{Ruling, IsFair}
-use Rattle.tournament.specs.Bracket.{Record, claim_in, also, live_from, live, first_of, collision_with, claims_collision, collided, disputes_collision, lowest, or_lowest, verdict_of, bracket}
+use Rattle.bisect_game.specs.Ruling.{Ruling}
+use Rattle.tournament.specs.Bracket.{Record, claim_in, also, live_from, live, collision_with, claims_collision, collided, disputes_collision, lowest, or_lowest, verdict_of, bracket}
+use Rattle.std.specs.Option.{option_or}
 use Rattle.tournament.specs.Journals.{answers_of}
 use Rattle.tournament.specs.Posting.{record_after}
 use Rattle.step_referee.specs.MachineRuling.{machine_ruling}
-use Rattle.step_referee.specs.MachineFair.{machine_ruling_is_fair}
+use Rattle.step_referee.specs.MachineFair.{steps-collide, claims-collide}
 use Rattle.proof_wire.specs.Wire.{claim, proof_form}
 use Rattle.transcript_text.specs.declared.text.TextMove.{TextMove}
 use Rattle.transcript_text.specs.MoveLists.{qid_of, move_if, moves_of_claims, moves_of_past, moves_of_round, moves_of_dispute, moves_of_disputes, moves_of}
@@ -27,11 +28,11 @@ use Rattle.audit.specs.OwnMatch.{WrittenCasesAreConfirmed}
 use Rattle.machine_audit.specs.WrittenCases.{CollisionsOfPostsHaveStrings, CollisionsOfCasesHaveStrings, MachineCasesAreConfirmed}
 use Rattle.machine_audit.proofs.StringLemmas.{AreStrings, string-among}
 use Rattle.machine_audit.proofs.OpenedLemmas.{proof-strings, claim-strings}
-use Rattle.machine_audit.proofs.MetLemmas.{IsMet, AllMet, met-bracket, met-posts}
+use Rattle.machine_audit.proofs.MetLemmas.{CallsCollisions, IsMet, AllMet, met-bracket, met-posts}
 
--- a judge that keeps the laws, and before which answers with wire forms open strings that a text can state
+-- a judge that calls collisions only what is one, and before which answers with wire forms open strings that a text can state
 record OpensStrings (r : Ruling) : Type 0 where
-  fair : IsFair r
+  fair : CallsCollisions r
   claims_open : (c : claims.Claim) → (claim c).fits → AreStrings (r.opened_by_claim c)
   proofs_open : (p : Proof) → (proof_form p).fits → AreStrings (r.opened_by_step p)
 
@@ -78,7 +79,7 @@ abbrev AreStringsIf : Option (List ℕ × List ℕ) → Type 0
 AreStringsIf (Some pair) = IsString pair.0 × IsString pair.1
 AreStringsIf None = Unit {0}
 
-strings-first : (a b : Option (List ℕ × List ℕ)) → AreStringsIf a → AreStringsIf b → AreStringsIf (first_of a b)
+strings-first : (a b : Option (List ℕ × List ℕ)) → AreStringsIf a → AreStringsIf b → AreStringsIf (option_or a b)
 strings-first (Some pair) b one other = one
 strings-first None b one other = other
 
@@ -104,7 +105,7 @@ live-written p (s ∷ ss) all = also-written p s (live_from [] (p + 1) ss) all.0
 module _ (r : Ruling) (opens : OpensStrings r) where
   pair-strings : (x y : claims.Claim) (o : Option (List ℕ × List ℕ)) → (claim x).fits → (claim y).fits → r.claim_collision x y ≡ o → AreStringsIf o
   pair-strings x y (Some pair) one other e =
-      let found = opens.fair.claim_collisions x y pair e in
+      let found = opens.fair.of_claims x y pair e in
       (string-among (r.opened_by_claim x) pair.0 (opens.claims_open x one) found.first_opened, string-among (r.opened_by_claim y) pair.1 (opens.claims_open y other) found.second_opened)
   pair-strings x y None one other e = tt
 
@@ -157,7 +158,7 @@ module _ (by : List ℕ → List ℕ) (is_digest : (bytes : List ℕ) → length
   machine-opens : (rules : Rules) (version : ℕ) → rules.ruling ≡ machine_ruling by version → OpensStrings rules.ruling
   machine-opens rules version same =
       let opens : OpensStrings (machine_ruling by version) = record {
-        fair = machine_ruling_is_fair by is_digest version;
+        fair = record { of_claims = claims-collide by version; of_steps = steps-collide by version };
         claims_open = λ c fits. claim-strings by is_digest is_bytes c fits;
         proofs_open = λ p fits. proof-strings by is_digest is_bytes p fits;
       } in

@@ -121,17 +121,17 @@ module _ (digest : List ℕ → List ℕ) (laws : RunLaws digest) where
       ((Decides-ltb (ctl_of digest s).out_len (2 ^ 64)).1 (length-fits s.output)))
       (plain-checked s low)
 
-  pub machine-runs : (s : State) (rules : Rules) → IsValid s → length s.output + rules.bound < 2 ^ 64 → rules.ruling ≡ machine_ruling digest s.version
-      → rules.start.0 ≡ root_in digest s.version s → IsRun rules (machine_truth digest s rules.bound)
+  pub machine-runs : (s : State) (rules : Rules) → IsValid s → length s.output + rules.setup.bound < 2 ^ 64 → rules.ruling ≡ machine_ruling digest s.version
+      → rules.setup.start.0 ≡ root_in digest s.version s → IsRun rules (machine_truth digest s rules.setup.bound)
   machine-runs s rules valid low is start =
-      let last = state_at s rules.bound in
-      let short = output-at s rules.bound in
+      let last = state_at s rules.setup.bound in
+      let short = output-at s rules.setup.bound in
       let fits : length last.output < 2 ^ 64 = omega (arith, short, low) in
       record {
         begins = λ i. record { 0 = sym start i };
         leads = λ i below. subst (λ (r : Ruling). r.leads (root-at (state_at s i)) (plain_proof digest (state_at s i)) ≡ Some (root-at (state_at s (i + 1)))) (sym is)
             (subst (λ v. leads_in digest v (root-at (state_at s i)) (plain_proof digest (state_at s i)) ≡ Some (root-at (state_at s (i + 1)))) (laws.version s i)
             (plain-leads (state_at s i) (valid-at s i valid) ∙ ap (λ n. Some (root-at (state_at s n))) (sym (add-one i))));
-        sound = subst (λ (r : Ruling). r.is_sound (plain_claim digest last) ≡ true) (sym is) (plain-sound last (valid-at s rules.bound valid) fits);
+        sound = subst (λ (r : Ruling). r.is_sound (plain_claim digest last) ≡ true) (sym is) (plain-sound last (valid-at s rules.setup.bound valid) fits);
         ends = subst (λ (r : Ruling). r.root_of (plain_claim digest last) ≡ root-at last) (sym is) refl;
       }

@@ -2,8 +2,10 @@
 use Rattle.std.proofs.Common.{◌≡◌, ◌↔◌, ◌≢◌, ℕ, List, length, Option, Some, None, Bool, true, false, refl, sym, ap, ◌∙◌}
 use Rattle.std.specs.Prelude.{if◌then◌else◌}
 use Rattle.rd_base.specs.declared.digest.Digest32.{Digest32}
+use Rattle.rd_base.specs.declared.claim.Claim.{Claim}
 use Rattle.rd_base.specs.declared.proof.Proof.{Proof}
 use Rattle.bisect_game.specs.Ruling.{IsFair, IsCollision}
+use Rattle.out_chain.specs.Collision.{claim_collision}
 use Rattle.out_chain.specs.ClaimLaws.{claims_without_collision, claims_collide, no_collision_of_two_roots, no_collision_of_equal}
 use Rattle.open_proof.specs.Conditions.{LeadsFrom}
 use Rattle.open_proof.specs.Facts.{facts_of}
@@ -45,10 +47,18 @@ steps-apart digest is_digest version from x y b c x_leads y_leads differ =
     let second = (leads-exactly digest version from c y).0 y_leads in
     proofs_apart digest is_digest version from b c x y first.0 second.0 first.1 second.1 differ
 
-steps-collide : (digest : List ℕ → List ℕ) (version : ℕ) (from : Digest32) (x y : Proof) (pair : List ℕ × List ℕ) → step_collision digest version from (facts_of x) (facts_of y) ≡ Some pair →
+-- what the judge calls a collision of proofs is one, whether they lead or not
+pub steps-collide : (digest : List ℕ → List ℕ) (version : ℕ) (from : Digest32) (x y : Proof) (pair : List ℕ × List ℕ) → step_collision digest version from (facts_of x) (facts_of y) ≡ Some pair →
     IsCollision (machine_ruling digest version) (opened_by_facts digest (facts_of x)) (opened_by_facts digest (facts_of y)) pair
 steps-collide digest version from x y pair some =
     let found = proofs_collide digest (facts_of x) (facts_of y) pair version from some in
+    record { differ = found.differ; one_digest = found.one_digest; first_opened = found.first_opened; second_opened = found.second_opened }
+
+-- and what it calls one of claims, whether they are sound or not
+pub claims-collide : (digest : List ℕ → List ℕ) (version : ℕ) (x y : Claim) (pair : List ℕ × List ℕ) → claim_collision digest x y ≡ Some pair →
+    IsCollision (machine_ruling digest version) ((machine_ruling digest version).opened_by_claim x) ((machine_ruling digest version).opened_by_claim y) pair
+claims-collide digest version x y pair some =
+    let found = claims_collide digest x y pair some in
     record { differ = found.differ; one_digest = found.one_digest; first_opened = found.first_opened; second_opened = found.second_opened }
 
 pub machine_ruling_is_fair : (digest : List ℕ → List ℕ) → ((bytes : List ℕ) → length (digest bytes) ≡ 32) → (version : ℕ) → IsFair (machine_ruling digest version)
@@ -56,10 +66,8 @@ machine_ruling_is_fair digest is_digest version = record {
   claims_collide = λ x y x_sound y_sound roots none.
       claims_without_collision digest is_digest x y x_sound y_sound (ap (λ (d : Digest32). d.0) roots) none;
   claims_apart = λ x y x_sound y_sound differ. no_collision_of_two_roots digest x y (λ same. differ (λ i. record { 0 = same i }));
-  claims_equal = λ x sound. no_collision_of_equal digest x;
-  claim_collisions = λ x y pair x_sound y_sound some.
-      let found = claims_collide digest x y pair some in
-      record { differ = found.differ; one_digest = found.one_digest; first_opened = found.first_opened; second_opened = found.second_opened };
+  claims_equal = λ x x_sound. no_collision_of_equal digest x;
+  claim_collisions = λ x y pair x_sound y_sound some. claims-collide digest version x y pair some;
   steps_collide = λ from x y b c x_leads y_leads differ. steps-apart digest is_digest version from x y b c x_leads y_leads differ;
   step_collisions = λ from x y b c pair x_leads y_leads some. steps-collide digest version from x y pair some;
 }

@@ -28,9 +28,9 @@ pub fn judged_leading_is_exact()
 /// the next, and the claim at the bound is sound and has the last root. The run starts from any valid state; its output stays below 2^64
 /// bytes.
 pub fn machine_runs_are_true<D: Digester>()
-    ensures { (s : State) (rules : Rules) → IsValid s → length s.output + rules.bound < 2 ^ 64 →
-        rules.ruling ≡ machine_ruling D.digest_of s.version → rules.start.0 ≡ root_in D.digest_of s.version s →
-        IsRun rules (machine_truth D.digest_of s rules.bound) }
+    ensures { (s : State) (rules : Rules) → IsValid s → length s.output + rules.setup.bound < 2 ^ 64 →
+        rules.ruling ≡ machine_ruling D.digest_of s.version → rules.setup.start.0 ≡ root_in D.digest_of s.version s →
+        IsRun rules (machine_truth D.digest_of s rules.setup.bound) }
 {
     chain_grows();
     steps_keep_valid_states();

@@ -1,4 +1,5 @@
 -- Seats of players, and what these may post.
+use Rattle.board_book.specs.declared.opening.Opening.{Opening}
 use Rattle.std.proofs.Common.{◌≡◌, ℕ, ◌≤◌, List, [], ◌∷◌, Option, Some, None, sym, ap, ap₂, ◌∙◌, subst, arith}
 use Rattle.rd_base.specs.declared.answer.Answer.{Answer}
 use Rattle.rd_base.specs.declared.answer.Qid.{Qid}
@@ -7,26 +8,27 @@ use Rattle.bisect_game.specs.declared.question.Kind.TheVariants as kind
 use Rattle.bisect_game.specs.declared.question.Question.{Question}
 use Rattle.bisect_game.specs.Says.{Says}
 use Rattle.bisect_game.specs.Rules.{Rules}
-use Rattle.tournament.specs.Bracket.{claim_question, bracket}
+use Rattle.tournament.specs.Bracket.{bracket}
+use Rattle.bisect_game.specs.Rules.{claim_question}
 use Rattle.tournament.specs.Journals.{answers_of}
 use Rattle.tournament.specs.Asked.{asked}
 use Rattle.dispute_board.specs.OneHistory.{MayPost}
 use Rattle.toy_game.specs.Toy.{answers}
 use Rattle.toy_game.specs.declared.player.Player.{Player}
 use Rattle.toy_game.specs.declared.cast.Cast.{Cast}
-use Rattle.tournament.specs.declared.setup.Setup.{Setup}
+use Rattle.bisect_game.specs.declared.setup.Setup.{Setup}
 use Rattle.seat_lock.specs.Seats.{LockId, Known}
-use Rattle.test_boards.specs.Seats.{IsSeatOfTwo}
+use Rattle.test_boards.specs.Seats.{opening_of, IsSeatOfTwo}
 
 pub some_is : {A : Type 0} (a b : A) → Some a ≡ Some b → a ≡ b
 some_is {A} a b e = ap (λ (o : Option A). elim o [ None ↦ a | Some x ↦ x ]) e
 
 -- there are two provers
-pub has_prover : (board : LockId) (cast : Cast) (k : Known (ℕ × Cast × Setup)) (p : ℕ) → IsSeatOfTwo board cast k → p ≤ 2 → (head : ℕ × Cast × Setup) × (k.head ≡ Some head) × (p ≤ head.2.provers)
-has_prover board cast k p s few = ((s.judge, cast, s.setup), s.head, subst (λ (n : ℕ). p ≤ n) (sym s.two) few)
+pub has_prover : (board : LockId) (cast : Cast) (k : Known (Opening ℕ Cast)) (p : ℕ) → IsSeatOfTwo board cast k → p ≤ 2 → (head : Opening ℕ Cast) × (k.head ≡ Some head) × (p ≤ head.setup.provers)
+has_prover board cast k p s few = (opening_of s.judge cast s.setup, s.head, subst (λ (n : ℕ). p ≤ n) (sym s.two) few)
 
-pub same_opening : (board : LockId) (cast : Cast) (k : Known (ℕ × Cast × Setup)) (head : ℕ × Cast × Setup) → (s : IsSeatOfTwo board cast k) → k.head ≡ Some head → (s.judge, cast, s.setup) ≡ head
-same_opening board cast k head s e = some_is (s.judge, cast, s.setup) head (sym s.head ∙ e)
+pub same_opening : (board : LockId) (cast : Cast) (k : Known (Opening ℕ Cast)) (head : Opening ℕ Cast) → (s : IsSeatOfTwo board cast k) → k.head ≡ Some head → opening_of s.judge cast s.setup ≡ head
+same_opening board cast k head s e = some_is (opening_of s.judge cast s.setup) head (sym s.head ∙ e)
 
 same_question : (a b : Question) → a.qid ≡ b.qid → a.kind ≡ b.kind → a ≡ b
 same_question a b q k = ap₂ (λ (i : Qid) (j : Kind). record { qid = i; kind = j }) q k

@@ -1,5 +1,5 @@
 ghost use Rattle.std.specs.Prelude.{◌≡◌, ◌<◌, ◌≤◌, IfOk, None};
-ghost use Rattle.tournament.specs.Bracket.{claim_question};
+ghost use Rattle.bisect_game.specs.Rules.{claim_question};
 ghost use Rattle.toy_game.specs.Toy.{answers, says_of};
 ghost use Rattle.posters.specs.Serving.{kept_of};
 ghost use Rattle.test_boards.specs.Seats.{IsSeatOfTwo};

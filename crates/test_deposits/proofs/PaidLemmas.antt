@@ -2,10 +2,11 @@
 use Rattle.std.proofs.Common.{◌≡◌, ◌<◌, ◌≤◌, true, List, sym, ap, ◌∙◌, subst}
 use Rattle.bisect_game.specs.Ruling.{Ruling}
 use Rattle.bisect_game.specs.Rules.{Rules, ArePlayable}
-use Rattle.tournament.specs.declared.setup.Setup.{Setup}
+use Rattle.bisect_game.specs.declared.setup.Setup.{Setup}
 use Rattle.tournament.specs.Bracket.{Record, is_complete}
 use Rattle.tournament.specs.Moves.{MatchState, begun}
-use Rattle.tournament.specs.Posting.{Post, rules_of, after_posts, record_after}
+use Rattle.tournament.specs.Posting.{Post, after_posts, record_after}
+use Rattle.bisect_game.specs.Rules.{rules_of}
 use Rattle.deposits.specs.Balances.{IsSettledUp}
 use Rattle.deposits.specs.Theorem.{EndedIsSettledUp}
 

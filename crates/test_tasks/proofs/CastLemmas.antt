@@ -6,7 +6,8 @@ use Rattle.std.proofs.lemmas.List.Elements.{All-nil, All-cons}
 use Rattle.rd_base.specs.declared.answer.Answer.{Answer}
 use Rattle.bisect_game.specs.declared.question.Question.{Question}
 use Rattle.bisect_game.specs.Says.{Says}
-use Rattle.tournament.specs.declared.setup.Setup.{Setup}
+use Rattle.bisect_game.specs.declared.setup.Setup.{Setup}
+use Rattle.board_book.specs.declared.opening.Opening.{Opening}
 use Rattle.board_book.specs.Tasks.{BookOf, openings, sayings, sayings_from}
 use Rattle.toy_game.specs.declared.cast.Cast.{Cast}
 use Rattle.toy_game.specs.declared.player.Player.{Player}
@@ -20,11 +21,11 @@ map_more {A} {B} f zs i d xs ys b within so_far more is =
 
 pub openings_of : (casts : List Cast) → openings (map book_of casts) ≡ map opening_of casts
 openings_of [] = refl
-openings_of (c ∷ cs) = ap (λ (l : List (ℕ × Cast × Setup)). opening_of c ∷ l) (openings_of cs)
+openings_of (c ∷ cs) = ap (λ (l : List (Opening ℕ Cast)). opening_of c ∷ l) (openings_of cs)
 
-pub all_empty : (casts : List Cast) → All (λ (b : BookOf ℕ Cast). b.1 ≡ []) (map book_of casts)
-all_empty [] = All-nil (λ (b : BookOf ℕ Cast). b.1 ≡ [])
-all_empty (c ∷ cs) = All-cons (λ (b : BookOf ℕ Cast). b.1 ≡ []) (book_of c) (map book_of cs) refl (all_empty cs)
+pub all_empty : (casts : List Cast) → All (λ (b : BookOf ℕ Cast). b.journal ≡ []) (map book_of casts)
+all_empty [] = All-nil (λ (b : BookOf ℕ Cast). b.journal ≡ [])
+all_empty (c ∷ cs) = All-cons (λ (b : BookOf ℕ Cast). b.journal ≡ []) (book_of c) (map book_of cs) refl (all_empty cs)
 
 -- one more prover of a task, and one more task
 
@@ -37,11 +38,11 @@ said_more says p (suc n) =
     let next : p + 1 + n ≡ p + suc n = omega arith in
     ap (sayings_from says p) one ∙ (ap (λ (l : List (Question → ℕ → Option Answer)). says p ∷ l) (said_more says (p + 1) n) ∙ ap (λ (q : ℕ). says p ∷ (sayings_from says (p + 1) n ++ says q ∷ [])) next)
 
-pub said_by_more : {N M : Type 0} (says : M → Says) (hs : List (N × M × Setup)) (h : N × M × Setup) → sayings says (hs ++ h ∷ []) ≡ sayings says hs ++ sayings_from (says h.1) 1 h.2.provers
-said_by_more says [] h = append-nil (sayings_from (says h.1) 1 h.2.provers)
+pub said_by_more : {N M : Type 0} (says : M → Says) (hs : List (Opening N M)) (h : Opening N M) → sayings says (hs ++ h ∷ []) ≡ sayings says hs ++ sayings_from (says h.provers) 1 h.setup.provers
+said_by_more says [] h = append-nil (sayings_from (says h.provers) 1 h.setup.provers)
 said_by_more says (x ∷ hs) h =
-    ap (λ (l : List (Question → ℕ → Option Answer)). sayings_from (says x.1) 1 x.2.provers ++ l) (said_by_more says hs h)
-    ∙ sym (append_assoc (sayings_from (says x.1) 1 x.2.provers) (sayings says hs) (sayings_from (says h.1) 1 h.2.provers))
+    ap (λ (l : List (Question → ℕ → Option Answer)). sayings_from (says x.provers) 1 x.setup.provers ++ l) (said_by_more says hs h)
+    ∙ sym (append_assoc (sayings_from (says x.provers) 1 x.setup.provers) (sayings says hs) (sayings_from (says h.provers) 1 h.setup.provers))
 
 pub seats_more : {A : Type 0} (f : A → Question → ℕ → Option Answer) (says : Says) (start xs ys : List A) (a : A) (n : ℕ) → map f xs ≡ map f start ++ sayings_from says 1 n → ys ≡ xs ++ a ∷ [] → f a ≡ says (1 + n) → map f ys ≡ map f start ++ sayings_from says 1 (n + 1)
 seats_more f says start xs ys a n so_far more is =
@@ -61,7 +62,7 @@ count_at (x ∷ xs) zero d all within = (all.0, all.1)
 count_at (x ∷ xs) (suc i) d all within = count_at xs i d all.2 (omega (arith, within))
 
 pub as_many_books : (books : List (BookOf ℕ Cast)) (casts : List Cast) → openings books ≡ map opening_of casts → length books ≡ length casts
-as_many_books books casts same = sym (length-map books (λ (b : BookOf ℕ Cast). b.0)) ∙ (ap length same ∙ length-map casts opening_of)
+as_many_books books casts same = sym (length-map books (λ (b : BookOf ℕ Cast). b.opening)) ∙ (ap length same ∙ length-map casts opening_of)
 
 -- the books of all casts
 
@@ -71,8 +72,8 @@ whole casts i books end is = is ∙ ap (map book_of) (take_all i casts end)
 pub long_as : (casts : List Cast) (i : ℕ) (books : List (BookOf ℕ Cast)) → length casts ≤ i → books ≡ map book_of (take i casts) → length books ≡ length casts
 long_as casts i books end is = ap length (whole casts i books end is) ∙ length-map casts book_of
 
-pub empty_books : (casts : List Cast) (i : ℕ) (books : List (BookOf ℕ Cast)) → length casts ≤ i → books ≡ map book_of (take i casts) → All (λ (b : BookOf ℕ Cast). b.1 ≡ []) books
-empty_books casts i books end is = subst (All (λ (b : BookOf ℕ Cast). b.1 ≡ [])) (sym (whole casts i books end is)) (all_empty casts)
+pub empty_books : (casts : List Cast) (i : ℕ) (books : List (BookOf ℕ Cast)) → length casts ≤ i → books ≡ map book_of (take i casts) → All (λ (b : BookOf ℕ Cast). b.journal ≡ []) books
+empty_books casts i books end is = subst (All (λ (b : BookOf ℕ Cast). b.journal ≡ [])) (sym (whole casts i books end is)) (all_empty casts)
 
 pub opened_books : (casts : List Cast) (i : ℕ) (books : List (BookOf ℕ Cast)) → length casts ≤ i → books ≡ map book_of (take i casts) → openings books ≡ map opening_of casts
 opened_books casts i books end is = ap openings (whole casts i books end is) ∙ openings_of casts

@@ -1,8 +1,9 @@
 -- To believe for the tests alone: tasks of players of the toy game, each over eight steps, in rounds of two parts, with a patience of 1.
 use Rattle.std.specs.Prelude.{ℕ, ◌<◌, ◌≤◌, ◌==◌, if◌then◌else◌, List, [], ◌∷◌}
-use Rattle.tournament.specs.declared.setup.Setup.{Setup}
+use Rattle.bisect_game.specs.declared.setup.Setup.{Setup}
 use Rattle.tournament.specs.Moves.{begun}
-use Rattle.tournament.specs.Posting.{rules_of}
+use Rattle.bisect_game.specs.Rules.{rules_of}
+use Rattle.board_book.specs.declared.opening.Opening.{Opening}
 use Rattle.board_book.specs.Tasks.{BookOf}
 use Rattle.toy_game.specs.declared.cast.Cast.{Cast}
 use Rattle.toy_game.specs.Toy.{root, toy_ruling}
@@ -10,12 +11,12 @@ use Rattle.toy_game.specs.Toy.{root, toy_ruling}
 abbrev pub setup_of : Cast → Setup
 setup_of cast = record { provers = cast.count; bound = 8; fan = 2; patience = 1; start = root 0 }
 
-abbrev pub opening_of : Cast → ℕ × Cast × Setup
-opening_of cast = (0, cast, setup_of cast)
+abbrev pub opening_of : Cast → Opening ℕ Cast
+opening_of cast = record { judge = 0; provers = cast; setup = setup_of cast }
 
 -- its empty book
 abbrev pub book_of : Cast → BookOf ℕ Cast
-book_of cast = (opening_of cast, [], begun (rules_of (toy_ruling 0) (setup_of cast)))
+book_of cast = record { opening = opening_of cast; journal = []; game = begun (rules_of (toy_ruling 0) (setup_of cast)) }
 
 -- each has 1 to 16 players
 abbrev pub AreCounted : List Cast → Type 0

@@ -142,7 +142,7 @@ fn interleaved<R: Threads + Wait + Sync>(
 ) -> Result<Interleaved, Memory>
     requires one { first.count ≡ 2 }
     requires two { second.count ≡ 2 }
-    ensures { IfOk result (λ played. length played.1.0 ≡ 2) }
+    ensures { IfOk result (λ played. length played.1.books ≡ 2) }
 {
     let (board, mut seat) = board_of_two(alloc, first, second)?;
     let receipts = play_in_order(rt, alloc, &board, &mut seat, first, second, order)?;

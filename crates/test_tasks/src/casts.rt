@@ -40,7 +40,7 @@ pub(crate) fn books_of(alloc: Global, casts: &[Cast]) -> Result<ToyBooks, Memory
     requires some { 0 < length casts.now }
     requires few { length casts.now ≤ 8 }
     requires counts { AreCounted casts.now }
-    ensures { IfOk result (λ books. openings books.0 ≡ map opening_of casts.now) }
+    ensures { IfOk result (λ books. openings books.books ≡ map opening_of casts.now) }
 {
     let mut list = Vec::new(alloc);
     for cast in casts {
@@ -88,7 +88,7 @@ pub(crate) fn played<G: TaskGate + Sync, R: Threads + Wait + Sync>(
     requires few { length casts.now ≤ 8 }
     requires counts { AreCounted casts.now }
     requires posters { 0 < posters }
-    ensures { IfOk result (λ books. length books.0 ≡ length casts.now) }
+    ensures { IfOk result (λ books. length books.books ≡ length casts.now) }
 {
     let books = books_of(alloc, casts)?;
     let mut seats = seats_of(alloc, casts)?;

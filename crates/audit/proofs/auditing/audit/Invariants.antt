@@ -1,14 +1,14 @@
 use Rattle.std.proofs.Common.{◌≡◌, ◌+◌, drop}
-use Rattle.tournament.specs.Posting.{rules_of}
+use Rattle.tournament.specs.Match.{rules_in}
 use Rattle.audit.specs.LineByLine.{audit_from}
 use Rattle.audit.specs.BetweenLines.{fresh}
 use Rattle.audit.proofs.auditing.audit.Given as goal
 
 abbrev pub invariant-moves : goal.invariant-moves
 invariant-moves g l = record {
-  names : l.played.0 ≡ l.initial.played.0;
-  setup : l.played.1 ≡ l.initial.played.1;
-  fresh_ : l.played.2 ≡ fresh (rules_of (g.J.Judge.ruling l.initial.played.0) l.initial.played.1) l.played.2.record_;
-  is : audit_from (rules_of (g.J.Judge.ruling l.initial.played.0) l.initial.played.1) 2 l.moves l.text.stated l.initial.played.2.record_
-      ≡ audit_from (rules_of (g.J.Judge.ruling l.initial.played.0) l.initial.played.1) (l.i + 2) (drop l.i l.moves) l.text.stated l.played.2.record_;
+  names : l.played.judge ≡ l.initial.played.judge;
+  setup : l.played.setup ≡ l.initial.played.setup;
+  fresh_ : l.played.game ≡ fresh (rules_in g.J.Judge.ruling l.initial.played) l.played.game.record_;
+  is : audit_from (rules_in g.J.Judge.ruling l.initial.played) 2 l.moves l.text.stated l.initial.played.game.record_
+      ≡ audit_from (rules_in g.J.Judge.ruling l.initial.played) (l.i + 2) (drop l.i l.moves) l.text.stated l.played.game.record_;
 }

@@ -1,6 +1,6 @@
 use Rattle.std.proofs.Common.{◌<◌, ◌≤◌, ◌∙◌, refl, subst, arith}
-use Rattle.tournament.specs.declared.setup.Setup.{Setup}
-use Rattle.tournament.specs.Posting.{rules_of}
+use Rattle.bisect_game.specs.declared.setup.Setup.{Setup}
+use Rattle.tournament.specs.Match.{rules_in}
 use Rattle.audit.proofs.PassLemmas.{begin_passing, spend_more, spend_last}
 use Rattle.audit.proofs.playing.spend.Goals as goal
 
@@ -8,22 +8,22 @@ pub passes-init : goal.passes-init
 passes-init g c = record {
   names = refl;
   setup = refl;
-  state = c.requires.fresh ∙ begin_passing (rules_of (g.J.Judge.ruling c.args.played.now.0) c.args.played.now.1) c.args.played.now.2.record_ c.args.p;
+  state = c.requires.fresh ∙ begin_passing (rules_in g.J.Judge.ruling c.args.played.now) c.args.played.now.game.record_ c.args.p;
 }
 
 pub passes-preserved : goal.passes-preserved
 passes-preserved g c =
-    let more = subst (λ (s : Setup). c.passes._i < s.patience) c.setup-patience.ensures c.passes-test.true in
+    let more = subst (λ (s : Setup). c.passes._i < s.patience) c.setup-patience.ensures.is c.passes-test.true in
     record {
       names = c.post.ensures.names ∙ c.passes.invariant.names;
       setup = c.post.ensures.setup ∙ c.passes.invariant.setup;
-      state = spend_more (rules_of (g.J.Judge.ruling c.args.played.now.0) c.args.played.now.1) _ _ _ c.args.played.now.2.record_ c.args.p c.passes._i c.args.question
+      state = spend_more (rules_in g.J.Judge.ruling c.args.played.now) _ _ _ c.args.played.now.game.record_ c.args.p c.passes._i c.args.question
           (cc (c.passes.invariant.names, c.passes.invariant.setup)) c.passes.invariant.state c.post.ensures.state c.requires.some c.requires.few c.requires.asked more;
     }
 
 pub returns-clause-state : goal.returns-clause-state
 returns-clause-state g c =
-    let all = subst (λ (s : Setup). s.patience ≤ c.passes._i) c.setup-patience.ensures c.passes-test.false in
-    let most = subst (λ (s : Setup). c.passes._i ≤ s.patience) c.setup-patience.ensures c.passes.auto._i-end in
-    spend_last (rules_of (g.J.Judge.ruling c.args.played.now.0) c.args.played.now.1) (rules_of (g.J.Judge.ruling c.passes.played.0) c.passes.played.1) c.passes.played.2 _ c.args.played.now.2.record_ c.args.p c.passes._i c.args.question
+    let all = subst (λ (s : Setup). s.patience ≤ c.passes._i) c.setup-patience.ensures.is c.passes-test.false in
+    let most = subst (λ (s : Setup). c.passes._i ≤ s.patience) c.setup-patience.ensures.is c.passes.auto._i-end in
+    spend_last (rules_in g.J.Judge.ruling c.args.played.now) (rules_in g.J.Judge.ruling c.passes.played) c.passes.played.game _ c.args.played.now.game.record_ c.args.p c.passes._i c.args.question
     (cc (c.passes.invariant.names, c.passes.invariant.setup)) c.passes.invariant.state c.post-2.ensures.state c.requires.some c.requires.few c.requires.asked (omega (arith, all, most))

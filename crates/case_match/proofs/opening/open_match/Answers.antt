@@ -17,7 +17,7 @@ open-requires-clause-few g c =
 
 pub returns-clause-opening : goal.returns-clause-opening
 returns-clause-opening g c =
-    ap (λ b. b.0) c.in_ok-book.ensures
+    ap (λ b. b.opening) c.in_ok-book.ensures
     ∙ opened-as g.D.Digester.digest_of c.new-judge.result.version (data_of c.args.case.now) (state_of c.args.start) c.as_slice-scripts.result.now c.in_ok-provers.provers c.args.root
     c.new-judge.ensures.version c.as_slice-scripts.ensures c.in_ok-provers.ensures c.requires.root
 

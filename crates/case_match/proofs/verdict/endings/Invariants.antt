@@ -5,8 +5,8 @@ use Rattle.case_match.proofs.verdict.endings.Given as goal
 
 abbrev pub invariant-loop-book : goal.invariant-loop-book
 invariant-loop-book g l = record {
-  all : All (λ b. is_complete b.2.record_ ≡ true) l.books.items;
-  ended : map (λ b. ending g.J.Judge.ruling g.P.Provers.says b.0) l.books.items ++ reverse l.ends.items ≡ map (λ b. ending g.J.Judge.ruling g.P.Provers.says b.0) l.initial.books.items;
+  all : All (λ b. is_complete b.game.record_ ≡ true) l.books.items;
+  ended : map (λ b. ending g.J.Judge.ruling g.P.Provers.says b.opening) l.books.items ++ reverse l.ends.items ≡ map (λ b. ending g.J.Judge.ruling g.P.Provers.says b.opening) l.initial.books.items;
 }
 
 abbrev pub decreases-loop-book : goal.decreases-loop-book

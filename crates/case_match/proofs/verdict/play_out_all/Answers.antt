@@ -7,5 +7,5 @@ use Rattle.case_match.proofs.verdict.play_out_all.Goals as goal
 pub returns : goal.returns
 returns g c =
     IfOk-weaker c.endings.result _ _
-    (λ ends e. e ∙ ap (map (ending g.J.Judge.ruling g.P.Provers.says)) (ap openings c.into_list.ensures ∙ (c.in_ok-played.ensures.openings ∙ ap (λ bs. openings bs.0) c.in_ok-books.ensures)))
+    (λ ends e. e ∙ ap (map (ending g.J.Judge.ruling g.P.Provers.says)) (ap openings c.into_list.ensures ∙ (c.in_ok-played.ensures.openings ∙ ap (λ bs. openings bs.books) c.in_ok-books.ensures)))
     c.endings.ensures

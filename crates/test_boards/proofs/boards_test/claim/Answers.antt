@@ -1,14 +1,16 @@
+use Rattle.board_book.specs.declared.opening.Opening.{Opening}
 use Rattle.std.proofs.Common.{◌≡◌, ℕ, Some, sym, ap, ◌∙◌}
-use Rattle.tournament.specs.declared.setup.Setup.{Setup}
-use Rattle.tournament.specs.Posting.{rules_of}
+use Rattle.bisect_game.specs.declared.setup.Setup.{Setup}
+use Rattle.bisect_game.specs.Rules.{rules_of}
 use Rattle.toy_game.specs.declared.cast.Cast.{Cast}
 use Rattle.toy_game.specs.Toy.{toy_ruling, answers, says_of}
+use Rattle.test_boards.specs.Seats.{opening_of}
 use Rattle.test_boards.proofs.ClaimLemmas.{same_opening, claims_may}
 use Rattle.test_boards.proofs.boards_test.claim.Goals as goal
 
 pub post-posted-requires-clause-may : goal.post-posted-requires-clause-may
 post-posted-requires-clause-may g c = λ head e.
-    let s = c.requires.seat in let p : ℕ = c.args.p in let opening : ℕ × Cast × Setup = (s.judge, c.args.cast, s.setup) in
+    let s = c.requires.seat in let p : ℕ = c.args.p in let opening : Opening ℕ Cast = opening_of s.judge c.args.cast s.setup in
     let same : opening ≡ head = same_opening c.args.board.now c.args.cast c.args.seat.now head s e in
-    let said : says_of head.1.players p ≡ answers c.args.player = ap (λ (h : ℕ × Cast × Setup). says_of h.1.players p) (sym same) ∙ c.requires.player in
-    claims_may (rules_of (toy_ruling head.0) head.2) (says_of head.1.players) p c.args.player (Some c.in-Some.answer) 100 said (sym c.in-Some.is ∙ c.in_ok-answer.ensures.says)
+    let said : says_of head.provers.players p ≡ answers c.args.player = ap (λ (h : Opening ℕ Cast). says_of h.provers.players p) (sym same) ∙ c.requires.player in
+    claims_may (rules_of (toy_ruling head.judge) head.setup) (says_of head.provers.players) p c.args.player (Some c.in-Some.answer) 100 said (sym c.in-Some.is ∙ c.in_ok-answer.ensures.says)

@@ -23,4 +23,4 @@ pub open-requires-clause-empty : goal.open-requires-clause-empty
 open-requires-clause-empty c = empty_books c.args.casts.now c.loop-cast.cast-index c.loop-cast.list.items c.loop-cast-test.false c.loop-cast.invariant
 
 pub returns : goal.returns
-returns c = ap (λ bs. openings bs.0) c.in_ok-books.ensures ∙ opened_books c.args.casts.now c.loop-cast.cast-index c.loop-cast.list.items c.loop-cast-test.false c.loop-cast.invariant
+returns c = ap (λ bs. openings bs.books) c.in_ok-books.ensures ∙ opened_books c.args.casts.now c.loop-cast.cast-index c.loop-cast.list.items c.loop-cast-test.false c.loop-cast.invariant
