@@ -8,8 +8,8 @@ use crate::stating::is_stated;
 use bisect_game::Judge;
 use rd_base::Memory;
 use std::alloc::Global;
-use transcript_text::{FullText, Stated};
 use tournament::Match;
+use transcript_text::{FullText, Stated};
 
 /// The number of the first line of a text that is a move: the head is line 1.
 const FIRST_MOVE: u64 = 2;

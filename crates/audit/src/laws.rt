@@ -6,11 +6,11 @@ ghost use Rattle.audit.specs.LineByLine.{AreOfProvers};
 ghost use Rattle.audit.specs.OwnMatch.{ConfirmedExactly, CaseTextsAreConfirmed, WrittenCasesAreConfirmed};
 ghost use Rattle.audit.specs.TrueLines.{ConfirmedTextIsRight};
 
-use transcript_text::{FullText, a_full_text_is_read_back, reading_is_the_inverse_of_writing};
 use tournament::{
     a_number_names_one_question, nobody_asked_means_over, one_record_of_a_case, spare_is_enough,
     the_verdict_is_right, there_is_a_most_number_of_rounds, true_moves_are_true_answers,
 };
+use transcript_text::{FullText, a_full_text_is_read_back, reading_is_the_inverse_of_writing};
 
 /// A text is confirmed if and only if it is the full text of the match whose provers say what the text says, and the stated verdict is
 /// that match's.

@@ -12,8 +12,8 @@ use crate::next_entry::next;
 use bisect_game::{Judge, Question, Settled};
 use rd_base::{Answer, Memory, same_qid};
 use std::alloc::Global;
-use transcript_text::TextMove;
 use tournament::{Match, Move, Reply};
+use transcript_text::TextMove;
 
 /// A prover spends its open question: it passes once more than the patience.
 fn spend<J: Judge + Drop>(played: &mut Match<J>, p: u32, question: Question)

@@ -6,8 +6,8 @@ ghost use Rattle.audit.specs.LineByLine.{same_status, is_this, is_stated};
 
 use bisect_game::Settled;
 use rd_base::{Answer, Status};
-use transcript_text::{Stated, settled_at};
 use tournament::Verdict;
+use transcript_text::{Stated, settled_at};
 
 /// Whether two statuses are the same.
 fn same_status(first: Status, second: Status) -> bool

@@ -25,8 +25,8 @@ use std::alloc::Global;
 use std::marker::Model;
 use std::thread::Threads;
 use tournament::{
-    Match, Move, Record, Reply, Verdict, a_number_names_one_question, is_pass, move_of, one_record_of_a_case,
-    spare_is_enough, truthful_provers_are_safe,
+    Match, Move, Record, Reply, Verdict, a_number_names_one_question, is_pass, move_of,
+    one_record_of_a_case, spare_is_enough, truthful_provers_are_safe,
 };
 
 /// Whether a reply says that nothing changed.

@@ -50,7 +50,7 @@ all_first P (x ∷ xs) ys h = All-cons P x xs (All-head P x (xs ++ ys) h) (all_f
 pub opened-as : (digest : List ℕ → List ℕ) (version : ℕ) (c : CaseData) (start : State) (scripts : List Script) (x : CaseScripts) (root : Digest32)
     → version ≡ start.version → scripts ≡ c.provers → x ≡ record { start = start; bound = c.bound; scripts = scripts } → root ≡ start_root digest start
     → ◌≡◌ {A = Opening MachineNames CaseScripts}
-        (record { judge = record { version = version }; provers = x; setup = record { provers = length x.scripts; bound = c.bound; fan = c.fan; patience = c.patience; start = root } }) (opening_of_case digest c start)
+    (record { judge = record { version = version }; provers = x; setup = record { provers = length x.scripts; bound = c.bound; fan = c.fan; patience = c.patience; start = root } }) (opening_of_case digest c start)
 opened-as digest version c start scripts x root version_is scripts_are x_is root_is =
     let opened : ℕ → CaseScripts → Digest32 → Opening MachineNames CaseScripts =
     λ v y r. record { judge = record { version = v }; provers = y; setup = record { provers = length y.scripts; bound = c.bound; fan = c.fan; patience = c.patience; start = r } } in

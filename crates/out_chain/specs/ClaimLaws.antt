@@ -205,12 +205,13 @@ no_collision_of_equal digest x = collision-of-one-root digest x x refl ∙ colli
 -- sound claims have none if and only if their roots differ or they are equal
 pub no_collision_exactly : (digest : List ℕ → List ℕ) → ((bytes : List ℕ) → length (digest bytes) ≡ 32) → (x y : Claim)
     → is_sound digest x ≡ true → is_sound digest y ≡ true → (claim_collision digest x y ≡ None) ↔ ((root_of_claim digest x ≢ root_of_claim digest y) ⊎ (x ≡ y))
-no_collision_exactly digest is_digest x y x_sound y_sound =
-    (λ none. go none (bytes_eq (root_of_claim digest x) (root_of_claim digest y)) refl,
-    λ either. ⊎_elim
+no_collision_exactly digest is_digest x y x_sound y_sound = (
+  λ none. go none (bytes_eq (root_of_claim digest x) (root_of_claim digest y)) refl,
+  λ either. ⊎_elim
       (λ apart. no_collision_of_two_roots digest x y apart)
       (λ same. subst (λ (z : Claim). claim_collision digest x z ≡ None) same (no_collision_of_equal digest x))
-      either)
+      either,
+)
   where
     go : claim_collision digest x y ≡ None → (t : Bool) → bytes_eq (root_of_claim digest x) (root_of_claim digest y) ≡ t → (root_of_claim digest x ≢ root_of_claim digest y) ⊎ (x ≡ y)
     go none true e = inr (claims_without_collision digest is_digest x y x_sound y_sound ((bytes_eq-Decides _ _).0 e) none)

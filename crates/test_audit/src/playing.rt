@@ -6,9 +6,9 @@ use bisect_game::Answerer;
 use rd_base::Memory;
 use std::alloc::Global;
 use std::thread::Threads;
-use transcript_text::{DigestName, Head, full};
 use tournament::{Match, Move};
 use toy_game::{Player, Seated, ToyJudge, root};
+use transcript_text::{DigestName, Head, full};
 
 /// How many steps a run has.
 const BOUND: u64 = 8;

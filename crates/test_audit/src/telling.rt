@@ -3,9 +3,9 @@
 use audit::{Audit, Cause, a_read_text_may_be_audited, audit};
 use rd_base::Memory;
 use std::alloc::Global;
-use transcript_text::{TextFault, read_full};
 use tournament::Verdict;
 use toy_game::ToyJudge;
+use transcript_text::{TextFault, read_full};
 
 /// What is told of a text.
 #[derive(Clone, Copy, Debug, PartialEq, Eq)]

@@ -7,9 +7,9 @@ use rd_base::{Answer, Digest32, Memory};
 use std::alloc::Global;
 use std::test::Fail;
 use std::thread::Threads;
-use transcript_text::{DigestName, FullText, Head, Stated, full, read_full};
 use tournament::{Match, Move};
 use toy_game::{HONEST, LIAR, Player, SILENT, Seated, ToyJudge, root};
+use transcript_text::{DigestName, FullText, Head, Stated, full, read_full};
 
 /// The text of a true prover and a liar over 8 steps: claims of the roots 6 and 108, roots at 4, 2 and 1, and two proofs of step 1.
 /// Its wire forms were laid out by hand.

@@ -5,8 +5,8 @@ use crate::asking::claimed_root;
 use digest_core::{Digester, Sha256, leaf_text, register_text, storage_text};
 use mem_plain::PlainMem;
 use merkle_nodes::climb;
-use out_chain::{ClaimCheck, check_claim, parts_root};
 use open_proof::{make_claim, make_proof};
+use out_chain::{ClaimCheck, check_claim, parts_root};
 use proof_wire::encode;
 use rd_base::{
     Answer, Boxed, Claim, Digest32, InOpening, Memory, Opening, Proof, RegOpening, StepProof3,

@@ -26,7 +26,11 @@ fn assert_rules(rt: &impl Abort, alloc: Global, table: &[Row]) -> Result<(), Fai
     for (row, want) in table {
         let bytes = laid_out(alloc, row)?;
         let of_step = rule_for_step(&bytes, *want);
-        assert_eq!(rt; (broken_rule(alloc, &bytes), rule_of_step(&bytes)), (*want, of_step), "{row:?}");
+        assert_eq!(rt;
+            (broken_rule(alloc, &bytes), rule_of_step(&bytes)),
+            (*want, of_step),
+            "{row:?}"
+        );
     }
     Ok(())
 }

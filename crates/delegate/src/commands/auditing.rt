@@ -14,7 +14,9 @@ use rd_base::{Memory, Status};
 use std::alloc::{AllocError, Global};
 use std::fmt::Write;
 use step_referee::MachineJudge;
-use transcript_text::{DigestName, FullText, Stated, TextFault, read_full, reading_is_the_inverse_of_writing};
+use transcript_text::{
+    DigestName, FullText, Stated, TextFault, read_full, reading_is_the_inverse_of_writing,
+};
 
 /// The response to a fault of a text. The text is empty if memory ran out.
 fn text_refusal(alloc: Global, fault: TextFault) -> Result<Response, AllocError>
