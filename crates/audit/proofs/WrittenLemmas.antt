@@ -42,6 +42,8 @@ written-confirmed of_case enough most over back ruling says head limits written 
     let b : IsReadBack rules head r = read-back back ruling head r _ c.driven.posts.0 same c.same playable limits written strings in
     record {
       text = parts_of head r b.stated;
+      head_is = refl;
+      stated_is = b.of_verdict;
       read = b.read;
       confirmed = case-confirmed of_case enough most over ruling says (parts_of head r b.stated) playable (record { moves = refl; stated = b.of_verdict });
     }

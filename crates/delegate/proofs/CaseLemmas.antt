@@ -1,7 +1,6 @@
 -- Arguments and bytes that are a case or tasks: what the program answers, and that each case is in range.
 use Rattle.std.proofs.Common.{◌≡◌, ℕ, ◌+◌, ◌-◌, List, length, nat_lt, Option, Some, None, Result, Ok, Err, Bool, true, false, cond, refl, sym, ap, subst, ◌∙◌, arith}
 use Rattle.std.specs.Option.{option_and_then}
-use Rattle.std.specs.Io.KnownBytes.{Appends}
 use Rattle.rd_base.specs.Results.{◌>>=◌}
 use Rattle.rv_step.specs.State.{State}
 use Rattle.case_reader.specs.Case.{CaseData, case_at}
@@ -17,16 +16,16 @@ use Rattle.command_line.specs.declared.request.Command.TheVariants.{Judge, Run, 
 use Rattle.case_match.specs.TruthfulInCase.{IsInRange}
 use Rattle.delegate.specs.Refusal.{too_long, case_refusal, task_refusal, or_refusal}
 use Rattle.delegate.specs.Loading.{within_limit, case_in, tasks_in, start_in, starts_in}
-use Rattle.delegate.specs.Decided.{Written, report, full, summary, Deciding, written_as, case_for, tasks_of, tasks_for, decided, together, each_decided, StandsUnder}
+use Rattle.delegate.specs.Decided.{digest_of, Written, report, full, summary, Deciding, written_as, case_for, tasks_of, tasks_for, decided, together, each_decided, StandsUnder}
 use Rattle.delegate.specs.commands.Judge.{judging, judged_of, judged}
 use Rattle.delegate.specs.commands.Big.{summing_up, summed_up}
 use Rattle.delegate.specs.Outcome.{bytes_for, carried_out, decides, response_to, outcome}
 use Rattle.delegate.specs.Headline.{Headline, HeadlineOfCases, AnswersTheCase, KeepsTheTruthful, AnswersTheTasks, KeepsTheTruthfulOfTasks}
-use Rattle.delegate.specs.Standing.{AreInRange, AreInRangeIfThere, DecidesInRange, CasesAreInRange}
-use Rattle.delegate.specs.Writing.{ForItsBytes, IsWritten}
+use Rattle.case_match.specs.Match.{record_of_case, verdict_of_record}
+use Rattle.delegate.specs.Standing.{AreByteStrings, IsPlayed, AreInRange, AreInRangeIfThere, DecidesInRange, CasesAreInRange}
 use Rattle.delegate.specs.declared.response.Subject.TheVariants.{Whole}
 use Rattle.delegate.specs.declared.response.Response.{Response}
-use Rattle.delegate.proofs.OutcomeLemmas.{goes_on, both_steps, of_command, outcome-of, for_its_bytes}
+use Rattle.delegate.proofs.OutcomeLemmas.{goes_on, both_steps, of_command, outcome-of}
 use Rattle.delegate.proofs.TaskLemmas.{decided-stands, range-at}
 
 -- a command that decides answers by what it reads
@@ -97,7 +96,7 @@ bytes-one : CasesAreTasks → (bytes : List ℕ) (c : CaseData) (many : Bool) �
 bytes-one law bytes c true is = absurd (cc is)
 bytes-one law bytes c false is = ap (or_refusal task_refusal) ((law.same bytes c).1 (case-ok (case_at bytes) c is))
 
-one-case : CasesAreTasks → (written : Written) (bytes : List ℕ) (c : CaseData) → case_for written bytes ≡ Ok c → tasks_for written bytes ≡ Ok (One c)
+pub one-case : CasesAreTasks → (written : Written) (bytes : List ℕ) (c : CaseData) → case_for written bytes ≡ Ok c → tasks_for written bytes ≡ Ok (One c)
 unfolding case_for tasks_for
 one-case law (summary seed) bytes c is = ap (λ (x : CaseData). Ok (One x)) (cc is)
 one-case law report bytes c is = bytes-one law bytes c (nat_lt 16777216 (length bytes)) is
@@ -117,7 +116,7 @@ outcome-tasks words bytes m cs starts is = outcome-of words bytes _ (tasks-steps
 pub outcome-headline : CasesAreTasks → HeadlineOfCases → (words : List (List ℕ)) (bytes : List ℕ) → CasesAreInRange words bytes → KeepsTheTruthful words bytes (outcome words bytes)
 outcome-headline law headline words bytes in_range m c start p is truthful =
     subst (λ response. Headline m response c start p) (sym (outcome-case law words bytes m c start is))
-    (headline m c start p (in_range m is.asked (One c) (one-case law m.written bytes c is.reads) start is.loads) truthful)
+    (headline m c start p (in_range m is.asked (One c) (one-case law m.written bytes c is.reads) start is.loads).range truthful)
 
 pub outcome-task-headline : HeadlineOfCases → (words : List (List ℕ)) (bytes : List ℕ) → CasesAreInRange words bytes → KeepsTheTruthfulOfTasks words bytes (outcome words bytes)
 outcome-task-headline headline words bytes in_range m cs starts t c start p is some at from truthful =
@@ -185,22 +184,25 @@ carried-is-it words bytes given command response taken read is decided_in_range 
 same-ok : {X E : Type 0} (r : Result X E) (x y : X) → r ≡ Ok x → r ≡ Ok y → x ≡ y
 same-ok r x y one other = (let both = sym one ∙ other in cc both)
 
-pub one-in-range : (c : CaseData) (start : State) → start_in Whole c ≡ Ok start → IsInRange c start → AreInRange (One c)
-one-in-range c start loads range other is = subst (IsInRange c) (same-ok (start_in Whole c) start other loads is) range
+pub one-in-range : (m : Deciding) (c : CaseData) (start : State) → start_in Whole c ≡ Ok start → IsPlayed m c start → AreInRange m (One c)
+one-in-range m c start loads played other is = subst (IsPlayed m c) (same-ok (start_in Whole c) start other loads is) played
 
-pub judged-in-range : (text : MatchText) (bytes : List ℕ) (tasks : TasksData) → tasks_in bytes ≡ Ok tasks → AreInRange tasks → AreInRangeIfThere (tasks_for (written_as text) bytes)
-judged-in-range text bytes tasks reads range other is =
-    subst AreInRange (same-ok (tasks_in bytes) tasks other reads (by (nat_lt 16777216 (length bytes)) (sym (tasks-read text bytes) ∙ is))) range
+pub judged-in-range : (text : MatchText) (name : DigestName) (bytes : List ℕ) (tasks : TasksData) → tasks_in bytes ≡ Ok tasks → AreInRange (judging text name) tasks
+    → AreInRangeIfThere (judging text name) (tasks_for (written_as text) bytes)
+judged-in-range text name bytes tasks reads range other is =
+    subst (AreInRange (judging text name)) (same-ok (tasks_in bytes) tasks other reads (by (nat_lt 16777216 (length bytes)) (sym (tasks-read text bytes) ∙ is))) range
   where
     by : (many : Bool) → (cond many (Err too_long) (Ok bytes) >>= tasks_in) ≡ Ok other → tasks_in bytes ≡ Ok other
     by true e = absurd (cc e)
     by false e = e
 
-pub summary-in-range : (seed : ℕ) (bytes : List ℕ) (c : CaseData) (start : State) → c ≡ big_data seed → start_in Whole c ≡ Ok start → IsInRange c start → AreInRangeIfThere (tasks_for (summary seed) bytes)
+pub summary-in-range : (seed : ℕ) (bytes : List ℕ) (c : CaseData) (start : State) → c ≡ big_data seed → start_in Whole c ≡ Ok start → IsInRange c start
+    → AreByteStrings (verdict_of_record (digest_of (summing_up seed).digest) c start (record_of_case (digest_of (summing_up seed).digest) c start)) → AreInRangeIfThere (summing_up seed) (tasks_for (summary seed) bytes)
 unfolding tasks_for
-summary-in-range seed bytes c start same loads range other is =
+summary-in-range seed bytes c start same loads range strings other is =
     let both : Ok (One c) ≡ Ok other = ap (λ (x : CaseData). Ok (One x)) same ∙ is in
-    subst AreInRange (same-ok (Ok (One c)) (One c) other refl both) (one-in-range c start loads range)
+    subst (AreInRange (summing_up seed)) (same-ok (Ok (One c)) (One c) other refl both)
+    (one-in-range (summing_up seed) c start loads (record { range = range; strings = strings; written = λ is. absurd (cc is) }))
 
 pub big-stands : (seed : ℕ) (c : CaseData) (start : State) (response : Response) → c ≡ big_data seed → start_in Whole c ≡ Ok start → response ≡ decided (summing_up seed) c start → summed_up seed ≡ Ok response
 big-stands seed c start response same loads is =
@@ -210,29 +212,14 @@ big-stands seed c start response same loads is =
 
 -- of a command
 
-pub judge-in-range : (command : Command) (text : MatchText) (name : DigestName) (bytes : List ℕ) → command ≡ Judge text name → AreInRangeIfThere (tasks_for (written_as text) bytes) → DecidesInRange command bytes
+pub judge-in-range : (command : Command) (text : MatchText) (name : DigestName) (bytes : List ℕ) → command ≡ Judge text name → AreInRangeIfThere (judging text name) (tasks_for (written_as text) bytes) → DecidesInRange command bytes
 judge-in-range command text name bytes is range m asked =
     let both : Some (judging text name) ≡ Some m = sym (ap decides is) ∙ asked in
     let m_is : judging text name ≡ m = cc both in
-    subst (λ (x : Deciding). AreInRangeIfThere (tasks_for x.written bytes)) m_is range
+    subst (λ (x : Deciding). AreInRangeIfThere x (tasks_for x.written bytes)) m_is range
 
-pub big-in-range : (command : Command) (seed : ℕ) (bytes : List ℕ) → command ≡ Big seed → AreInRangeIfThere (tasks_for (summary seed) bytes) → DecidesInRange command bytes
+pub big-in-range : (command : Command) (seed : ℕ) (bytes : List ℕ) → command ≡ Big seed → AreInRangeIfThere (summing_up seed) (tasks_for (summary seed) bytes) → DecidesInRange command bytes
 big-in-range command seed bytes is range m asked =
     let both : Some (summing_up seed) ≡ Some m = sym (ap decides is) ∙ asked in
     let m_is : summing_up seed ≡ m = cc both in
-    subst (λ (x : Deciding). AreInRangeIfThere (tasks_for x.written bytes)) m_is range
-
--- a text that was written whole is promised together with what holds of the same bytes
-pub written-with : (left : Option (List ℕ)) (words : List (List ℕ)) (response : Response) (before now : Option (List ℕ)) (P : List ℕ → Type 0)
-    → Appends before now response.text → ((bytes : List ℕ) → CasesAreInRange words bytes → P bytes)
-    → ForItsBytes left (λ bytes. (response ≡ outcome words bytes) × CasesAreInRange words bytes)
-    → ForItsBytes left (λ bytes. IsWritten (outcome words bytes) response.answered before now × P bytes)
-written-with left words response before now P appended holds read =
-    for_its_bytes left _ _
-    (λ bytes its. (
-      record {
-        answered = ap (λ (r : Response). r.answered) its.0;
-        text = subst (λ text. Appends before now text) (ap (λ (r : Response). r.text) its.0) appended;
-      },
-      holds bytes its.1,
-    )) read
+    subst (λ (x : Deciding). AreInRangeIfThere x (tasks_for x.written bytes)) m_is range

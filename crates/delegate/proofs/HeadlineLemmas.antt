@@ -56,7 +56,7 @@ line-of-true t claims (suc k) some claim =
     ap line_of_accepted (subst (λ i. slice_get claims i ≡ Some (Some (settled.Given (answer.Claim t.claim)))) (omega arith) claim)
 
 -- the text is what comes before the verdict's line, and that line
-text-before : (written : Written) (head : Head) (settled : Record) (balances : Option Balances) (verdict : Verdict)
+pub text-before : (written : Written) (head : Head) (settled : Record) (balances : Option Balances) (verdict : Verdict)
     → match_text written head settled balances verdict ≡ before_verdict written head settled balances (text_if_there (line_of_verdict settled.claims verdict))
 text-before report head settled balances verdict = refl
 text-before full head settled balances verdict = refl
@@ -95,6 +95,7 @@ ends m c start (Collision x y) is right =
     inr (record {
       pair = (x, y);
       collision = right;
+      verdict = is;
       answered = ap (answered_for m.written) is;
       text = ap (match_text m.written head settled balances) is ∙ text-before m.written head settled balances (Collision x y);
     })

@@ -14,7 +14,7 @@ use Rattle.transcript_text.specs.MoveLists.{moves_of}
 use Rattle.transcript_text.specs.Lines.{accept_line, collision_line, lines_of_record, are_against}
 use Rattle.transcript_text.specs.Report.{line_text}
 use Rattle.command_line.specs.Words.{chosen}
-use Rattle.case_match.specs.Match.{start_root, rules_of_case, record_of_case, truth_of_case, final_state}
+use Rattle.case_match.specs.Match.{start_root, rules_of_case, record_of_case, verdict_of_record, truth_of_case, final_state}
 use Rattle.case_match.specs.TruthfulInCase.{IsTruthfulInCase, IsInRange}
 use Rattle.delegate.specs.Decided.{digest_of, Deciding, case_for, tasks_for, answered_for, head_of, balances_in, before_verdict, decided, together, each_decided, StandsUnder}
 use Rattle.delegate.specs.Loading.{start_in, starts_in}
@@ -73,6 +73,7 @@ pub record AcceptsTheRun (m : Deciding) (response : Response) (c : CaseData) (st
 pub record ShowsCollision (m : Deciding) (response : Response) (c : CaseData) (start : State) : Type 0 where
   pub pair : List ℕ × List ℕ
   pub collision : IsCollisionIn (rules_of_case (digest_of m.digest) c start) (record_of_case (digest_of m.digest) c start) pair
+  pub verdict : verdict_of_record (digest_of m.digest) c start (record_of_case (digest_of m.digest) c start) ≡ Collision (pair.0) (pair.1)
   pub answered : response.answered ≡ answered_for m.written (Collision (pair.0) (pair.1))
   pub text : response.text ≡ before_verdict m.written (head_of m.digest c (start_root (digest_of m.digest) start)) (record_of_case (digest_of m.digest) c start) (balances_in c (record_of_case (digest_of m.digest) c start)) (line_text (collision_line (pair.0) (pair.1)))
 

@@ -27,5 +27,10 @@ pub mod Outcome
 pub mod Answering
 pub mod Writing
 pub mod Headline
+pub mod InShort
+pub mod Auditable
+pub mod Keeps
+pub mod Sharing
+pub mod InShortLaw
 pub mod Confirmed
 pub mod Standing

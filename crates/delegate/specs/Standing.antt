@@ -10,7 +10,10 @@ use Rattle.command_line.specs.Words.{chosen}
 use Rattle.command_line.specs.declared.request.Command.{Command}
 use Rattle.case_match.specs.TruthfulInCase.{IsInRange}
 use Rattle.delegate.specs.Loading.{start_in, starts_in}
-use Rattle.delegate.specs.Decided.{Deciding, tasks_for, response_of}
+use Rattle.case_match.specs.Match.{record_of_case, verdict_of_record}
+use Rattle.transcript_text.specs.MoveLists.{moves_of}
+use Rattle.transcript_text.specs.FullLines.{AreWritten}
+use Rattle.delegate.specs.Decided.{digest_of, full, Deciding, tasks_for, response_of}
 use Rattle.delegate.specs.Outcome.{decides}
 use Rattle.delegate.specs.declared.response.Subject.TheVariants.{Whole}
 use Rattle.delegate.specs.declared.response.Response.{Response}
@@ -18,6 +21,8 @@ use Rattle.delegate.specs.declared.response.Stop.{Stop}
 use Rattle.delegate.specs.declared.response.Stop.TheVariants.{Refused}
 use Rattle.rd_base.specs.declared.digest.Digest32.{Digest32}
 use Rattle.tournament.specs.declared.verdict.Verdict.{Verdict}
+use Rattle.tournament.specs.declared.verdict.Verdict.TheVariants.{Accept, NoneLeft, Collision}
+use Rattle.delegate.specs.InShort.{AreBytes}
 use Rattle.tournament.specs.Bracket.{Record}
 
 -- a call's value, seen by view, or its refusal is that of the definition, unless memory ran out
@@ -31,22 +36,34 @@ AreAllInRange [] starts = Unit {0}
 AreAllInRange (c ∷ cs) [] = Unit {0}
 AreAllInRange (c ∷ cs) (start ∷ starts) = IsInRange c start × AreAllInRange cs starts
 
--- what was read is in range, if it is loaded
-abbrev pub AreInRange : TasksData → Type 0
-AreInRange (One c) = (start : State) → start_in Whole c ≡ Ok start → IsInRange c start
-AreInRange (Many cs) = (starts : List State) → starts_in 1 cs ≡ Ok starts → AreAllInRange cs starts
+-- the strings of a collision are of bytes
+abbrev pub AreByteStrings : Verdict → Type 0
+AreByteStrings (Collision x y) = AreBytes x × AreBytes y
+AreByteStrings (Accept n) = Unit {0}
+AreByteStrings NoneLeft = Unit {0}
+
+-- what only its run shows of a case that was decided so: it is in range, a collision is of strings of bytes, and if its full text is written each of its answers has a wire form
+pub record IsPlayed (m : Deciding) (c : CaseData) (start : State) : Type 0 where
+  pub range : IsInRange c start
+  pub strings : AreByteStrings (verdict_of_record (digest_of m.digest) c start (record_of_case (digest_of m.digest) c start))
+  pub written : m.written ≡ full → AreWritten (moves_of (record_of_case (digest_of m.digest) c start))
+
+-- so of a case that was read, if it is loaded; and tasks are in range
+abbrev pub AreInRange : Deciding → TasksData → Type 0
+AreInRange m (One c) = (start : State) → start_in Whole c ≡ Ok start → IsPlayed m c start
+AreInRange m (Many cs) = (starts : List State) → starts_in 1 cs ≡ Ok starts → AreAllInRange cs starts
 
 -- what is read here, if there is anything, is in range
-abbrev pub AreInRangeIfThere : Result TasksData Response → Type 0
-AreInRangeIfThere reading = (tasks : TasksData) → reading ≡ Ok tasks → AreInRange tasks
+abbrev pub AreInRangeIfThere : Deciding → Result TasksData Response → Type 0
+AreInRangeIfThere m reading = (tasks : TasksData) → reading ≡ Ok tasks → AreInRange m tasks
 
 -- so is what a command reads that decides
 abbrev pub DecidesInRange : Command → List ℕ → Type 0
-DecidesInRange command bytes = (m : Deciding) → decides command ≡ Some m → AreInRangeIfThere (tasks_for m.written bytes)
+DecidesInRange command bytes = (m : Deciding) → decides command ≡ Some m → AreInRangeIfThere m (tasks_for m.written bytes)
 
 -- what these arguments ask for and these bytes hold, if they do, is in range
 abbrev pub CasesAreInRange : List (List ℕ) → List ℕ → Type 0
-CasesAreInRange words bytes = (m : Deciding) → option_and_then decides (chosen words) ≡ Some m → AreInRangeIfThere (tasks_for m.written bytes)
+CasesAreInRange words bytes = (m : Deciding) → option_and_then decides (chosen words) ≡ Some m → AreInRangeIfThere m (tasks_for m.written bytes)
 
 -- the machines in which the runs of tasks start, the first of which has this number, stand behind those that were there
 pub record AreStarted (number : ℕ) (cs : List CaseData) (before now : List Machine) : Type 0 where

@@ -6,9 +6,12 @@ ghost use Rattle.case_reader.specs.Case.{data_of};
 ghost use Rattle.command_line.specs.Words.{AreAtLeastOne};
 ghost use Rattle.deposits.specs.Balances.{IsSettledUp};
 ghost use Rattle.transcript_text.specs.Report.{report_text};
-ghost use Rattle.case_match.specs.Match.{AreSettledUp};
+ghost use Rattle.transcript_text.specs.MoveLists.{moves_of};
+ghost use Rattle.transcript_text.specs.FullLines.{AreWritten};
+ghost use Rattle.case_match.specs.Match.{record_of_case, verdict_of_record, AreSettledUp};
 ghost use Rattle.delegate.specs.Decided.{written_as, summary, balances_in, match_text, response_of, told, head_of, answered_by, task_line, task_texts, gravest, together, each_told};
-ghost use Rattle.delegate.specs.Standing.{responses};
+ghost use Rattle.delegate.specs.InShort.{AreBytes};
+ghost use Rattle.delegate.specs.Standing.{AreByteStrings, responses};
 ghost use Rattle.delegate.specs.commands.Judge.{judging};
 
 use crate::response::{Answered, Response};
@@ -25,6 +28,25 @@ use std::sync::Wait;
 use std::thread::Threads;
 use tournament::{Record, Verdict};
 use transcript_text::{DigestName, Head};
+
+/// Bytes are below 256.
+fn bytes_are_small(bytes: &[u8])
+    ensures { AreBytes bytes.now }
+{}
+
+/// The strings of a collision consist of bytes.
+fn strings_are_bytes(verdict: &Verdict)
+    ensures { AreByteStrings verdict.now }
+{
+    match verdict {
+        Verdict::Accept(_) => {}
+        Verdict::NoneLeft => {}
+        Verdict::Collision(x, y) => {
+            bytes_are_small(x.as_slice());
+            bytes_are_small(y.as_slice());
+        }
+    }
+}
 
 /// What the match of a case is played over, from the root of the state in which its run starts.
 fn head_of(name: DigestName, case: &Case, start: Digest32) -> Head
@@ -81,7 +103,8 @@ fn text_of(
     verdict: &Verdict,
 ) -> Result<Vec<u8>, Memory>
     requires { IsSettledUp (length case.now.provers) match_record.now }
-    ensures { IfOk result (λ bytes. bytes.items ≡ match_text (written_as text) head.now match_record.now (balances_in (data_of case.now) match_record.now) verdict.now) }
+    ensures text { IfOk result (λ bytes. bytes.items ≡ match_text (written_as text) head.now match_record.now (balances_in (data_of case.now) match_record.now) verdict.now) }
+    ensures written { IfOk result (λ bytes. text ≡ MatchText.Full → AreWritten (moves_of match_record.now)) }
 {
     match text {
         MatchText::Report => report_of(alloc, case, head, match_record, verdict),
@@ -101,7 +124,8 @@ fn response_of(
     verdict: &Verdict,
 ) -> Result<Response, Memory>
     requires { IsSettledUp (length case.now.provers) match_record.now }
-    ensures { IfOk result (λ response. response ≡ response_of (judging text name) (data_of case.now) root match_record.now verdict.now) }
+    ensures response { IfOk result (λ response. response ≡ response_of (judging text name) (data_of case.now) root match_record.now verdict.now) }
+    ensures written { IfOk result (λ response. text ≡ MatchText.Full → AreWritten (moves_of match_record.now)) }
 {
     let head = head_of(name, case, root);
     let bytes = text_of(alloc, text, case, &head, match_record, verdict)?;
@@ -128,11 +152,14 @@ where
     requires chained { IsChained D.digest_of start }
     requires silent { start.output.items ≡ [] }
     requires options { AreAtLeastOne options }
-    ensures { IfOk result (λ response. response ≡ told D.digest_of (judging text name) (data_of case.now) (state_of start)) }
+    ensures told { IfOk result (λ response. response ≡ told D.digest_of (judging text name) (data_of case.now) (state_of start)) }
+    ensures strings { IfOk result (λ response. AreByteStrings (verdict_of_record D.digest_of (data_of case.now) (state_of start) (record_of_case D.digest_of (data_of case.now) (state_of start)))) }
+    ensures written { IfOk result (λ response. text ≡ MatchText.Full → AreWritten (moves_of (record_of_case D.digest_of (data_of case.now) (state_of start)))) }
 {
     let input = SharedInput::of(alloc, d, &start)?;
     let root = state_root_with(d, &start, &input);
     let (match_record, verdict) = verdict_from(rt, alloc, d, case, start, &input, root, options)?;
+    strings_are_bytes(&verdict);
     response_of(alloc, name, text, case, root, &match_record, &verdict)
 }
 
@@ -266,9 +293,11 @@ where
     requires chained { IsChained D.digest_of start }
     requires silent { start.output.items ≡ [] }
     requires options { AreAtLeastOne options }
-    ensures { IfOk result (λ response. (name : DigestName) → response ≡ told D.digest_of (record { digest = name; written = summary seed }) (data_of case.now) (state_of start)) }
+    ensures strings { IfOk result (λ response. AreByteStrings (verdict_of_record D.digest_of (data_of case.now) (state_of start) (record_of_case D.digest_of (data_of case.now) (state_of start)))) }
+    ensures told { IfOk result (λ response. (name : DigestName) → response ≡ told D.digest_of (record { digest = name; written = summary seed }) (data_of case.now) (state_of start)) }
 {
     let (match_record, verdict) = verdict_of_case(rt, alloc, d, case, start, options)?;
+    strings_are_bytes(&verdict);
     let text = transcript_text::summary(alloc, seed, &match_record, &verdict)?;
     Ok(Response {
         answered: Answered::Done,

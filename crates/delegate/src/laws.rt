@@ -1,13 +1,17 @@
 ghost use Rattle.delegate.specs.Answering.{EachCommandHasItsAnswers, EachRefusalSaysWhy};
 ghost use Rattle.delegate.specs.Confirmed.{ConfirmedTextsAreRight};
 ghost use Rattle.delegate.specs.Headline.{HeadlineOfCases};
+ghost use Rattle.delegate.specs.Sharing.{OutcomesAreOfTheCommand, JudgingIsSharedOut, BigIsSharedOut};
+ghost use Rattle.delegate.specs.Auditable.{WrittenTextsAreConfirmed, JudgesEndAlike};
+ghost use Rattle.delegate.specs.InShortLaw.{HeadlineInShort, JudgeAcceptsWhatRunPrints, BigInShort};
 
-use case_match::truthful_provers_of_cases_are_safe;
+use case_match::{truthful_provers_of_cases_are_safe, untouched_provers_are_truthful};
 use case_reader::{no_fault_of_a_case_is_out_of_memory, no_fault_of_tasks_is_out_of_memory};
+use command_line::options_are_taken;
 use deposits::truthful_provers_keep_their_stakes;
 use digest_core::{Sha256, Weak8};
-use machine_audit::confirmed_cases_are_right;
-use transcript_text::{no_fault_of_a_text_is_out_of_memory, nothing_is_said_against_the_truthful};
+use machine_audit::{confirmed_cases_are_right, written_cases_are_confirmed};
+use transcript_text::{a_verdict_is_stated, no_fault_of_a_text_is_out_of_memory, nothing_is_said_against_the_truthful};
 
 /// The headline, of what is written of each case whose numbers are in range and whose run starts in a valid state without output,
 /// by the digest of each name: a prover that claims and answers as the machine's definition says, within its patience, is not
@@ -21,6 +25,22 @@ pub fn the_headline()
     truthful_provers_keep_their_stakes();
 }
 
+/// The same in short, of a case of which one prover is `{}`: whatever the others say, the last line of what is written accepts what the
+/// machine's definition computes, or shows two different strings of one digest.
+/// So ends the line of the large workload of each seed (`big`), of whose provers one is `{}`.
+pub fn the_headline_in_short()
+    ensures short { HeadlineInShort }
+    ensures big { BigInShort }
+{
+    the_headline();
+    untouched_provers_are_truthful();
+}
+
+/// `judge` accepts what `run` prints of the same bytes, if one prover is `{}`, or it shows two different strings of one digest.
+pub fn judge_accepts_what_run_prints()
+    ensures { JudgeAcceptsWhatRunPrints }
+{}
+
 /// What `audit` confirms is right: of every run with the stated root at step 0 in which one prover's lines are all given and true, the
 /// text states the status and the output, or two different strings of one digest that answers of the text open.
 pub fn confirmed_texts_are_right()
@@ -28,6 +48,32 @@ pub fn confirmed_texts_are_right()
 {
     confirmed_cases_are_right::<Sha256>();
     confirmed_cases_are_right::<Weak8>();
+}
+
+/// What `judge --full` writes of a case in range whose answers have wire forms is confirmed by `audit` with its last line, if it isn't
+/// longer than what is read.
+pub fn written_texts_are_confirmed()
+    ensures { WrittenTextsAreConfirmed }
+{
+    written_cases_are_confirmed::<Sha256>();
+    written_cases_are_confirmed::<Weak8>();
+}
+
+/// `judge` and `judge --full` of one case have one answer and one last line.
+pub fn judges_end_alike()
+    ensures { JudgesEndAlike }
+{
+    a_verdict_is_stated();
+}
+
+/// An outcome depends on the bytes and on the command that the arguments choose; so the program's name, `--workers`, `--posters`, `--every` and
+/// the order of options change nothing.
+pub fn sharing_out_changes_nothing()
+    ensures command { OutcomesAreOfTheCommand }
+    ensures judge { JudgingIsSharedOut }
+    ensures big { BigIsSharedOut }
+{
+    options_are_taken();
 }
 
 /// Each outcome has an answer of the command that the arguments name (`own`). Each refusal of arguments, of a case, of its image or of

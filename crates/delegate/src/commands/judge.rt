@@ -5,9 +5,12 @@ ghost use Rattle.rv_step.specs.State.{state_of, IsChained};
 ghost use Rattle.case_reader.specs.Case.{data_of};
 ghost use Rattle.case_reader.specs.Tasks.{tasks_data, AreFew};
 ghost use Rattle.command_line.specs.Words.{AreAtLeastOne};
-ghost use Rattle.delegate.specs.Decided.{written_as, tasks_for, decided, together, each_decided};
+ghost use Rattle.transcript_text.specs.MoveLists.{moves_of};
+ghost use Rattle.transcript_text.specs.FullLines.{AreWritten};
+ghost use Rattle.case_match.specs.Match.{record_of_case, verdict_of_record};
+ghost use Rattle.delegate.specs.Decided.{digest_of, written_as, tasks_for, decided, together, each_decided};
 ghost use Rattle.delegate.specs.commands.Judge.{judging, judged_of, judged};
-ghost use Rattle.delegate.specs.Standing.{Stands, AreInRange, AreInRangeIfThere};
+ghost use Rattle.delegate.specs.Standing.{Stands, AreByteStrings, AreInRange, AreInRangeIfThere};
 
 use crate::deciding;
 use crate::loading::{start_in, starts_in, tasks_in};
@@ -35,7 +38,9 @@ fn decided<R: Threads + Wait + Sync>(
     requires chained { (digest : List ℕ → List ℕ) → IsChained digest start }
     requires silent { start.output.items ≡ [] }
     requires options { AreAtLeastOne options }
-    ensures { IfOk result (λ response. response ≡ decided (judging text name) (data_of case.now) (state_of start)) }
+    ensures decided { IfOk result (λ response. response ≡ decided (judging text name) (data_of case.now) (state_of start)) }
+    ensures strings { IfOk result (λ response. AreByteStrings (verdict_of_record (digest_of name) (data_of case.now) (state_of start) (record_of_case (digest_of name) (data_of case.now) (state_of start)))) }
+    ensures written { IfOk result (λ response. text ≡ MatchText.Full → AreWritten (moves_of (record_of_case (digest_of name) (data_of case.now) (state_of start)))) }
 {
     match name {
         DigestName::Sha256 => deciding::judge(rt, alloc, Sha256, name, text, options, case, start),
@@ -85,7 +90,7 @@ fn judged_of<R: Threads + Wait + Sync>(
     requires few { AreFew tasks.now }
     requires options { AreAtLeastOne options }
     ensures stands { Stands (λ response. response) result (judged_of (judging text name) (tasks_data tasks.now)) }
-    ensures in_range { IfOk result (λ response. AreInRange (tasks_data tasks.now)) }
+    ensures in_range { IfOk result (λ response. AreInRange (judging text name) (tasks_data tasks.now)) }
 {
     match tasks {
         Tasks::One(case) => {
@@ -112,7 +117,7 @@ pub fn judge<R: Threads + Wait + Sync>(
 ) -> Result<Response, Stop>
     requires { AreAtLeastOne options }
     ensures stands { Stands (λ response. response) result (judged text name bytes.items) }
-    ensures in_range { IfOk result (λ response. AreInRangeIfThere (tasks_for (written_as text) bytes.items)) }
+    ensures in_range { IfOk result (λ response. AreInRangeIfThere (judging text name) (tasks_for (written_as text) bytes.items)) }
 {
     let tasks = tasks_in(alloc, bytes)?;
     judged_of(rt, alloc, text, name, options, &tasks)

@@ -1,0 +1,168 @@
+-- What `judge --full` writes is confirmed by `audit`.
+use Rattle.std.proofs.Common.{◌≡◌, ℕ, ◌<◌, ◌≤◌, ◌++◌, List, length, codes, Some, Result, Ok, Err, slice_index, refl, sym, ap, subst, ◌∙◌, arith}
+use Rattle.sha2.proofs.Facts256.{length-sha256}
+use Rattle.rd_base.specs.Results.{◌>>=◌}
+use Rattle.digest_core.specs.Sha256Bytes.{byte-sha256}
+use Rattle.digest_core.specs.Weak8Bytes.{length-weak8, byte-weak8}
+use Rattle.rv_step.specs.State.{State}
+use Rattle.rv_step.specs.Loaded.{started}
+use Rattle.image_reader.specs.Image.{Image}
+use Rattle.case_reader.specs.Case.{CaseData}
+use Rattle.case_reader.specs.Tasks.{One, CasesAreTasks}
+use Rattle.tournament.specs.declared.verdict.Verdict.{Verdict}
+use Rattle.tournament.specs.Bracket.{Record, bracket, verdict_of}
+use Rattle.tournament.specs.Journals.{answers_of}
+use Rattle.bisect_game.specs.Rules.{rules_of}
+use Rattle.bisect_game.specs.Rules.{Rules}
+use Rattle.step_referee.specs.MachineRuling.{machine_ruling}
+use Rattle.transcript_text.specs.declared.text.Head.{Head}
+use Rattle.transcript_text.specs.declared.text.FullText.{FullText}
+use Rattle.transcript_text.specs.declared.text.Stated.{Stated}
+use Rattle.transcript_text.specs.declared.text.DigestName.{DigestName}
+use Rattle.transcript_text.specs.declared.text.DigestName.TheVariants.{Sha256, Weak8}
+use Rattle.transcript_text.specs.MoveLists.{moves_of}
+use Rattle.transcript_text.specs.StatedVerdict.{stated_of, VerdictsAreStated}
+use Rattle.transcript_text.specs.FullLines.{full_text, AreWritten}
+use Rattle.transcript_text.specs.Lines.{line_of_stated, line_if_stated}
+use Rattle.transcript_text.specs.Report.{line_text, text_if_there}
+use Rattle.transcript_text.specs.reader.ReadText.{read_text}
+use Rattle.transcript_text.specs.reader.InLimits.{IsHeadInLimits}
+use Rattle.audit.specs.declared.finding.Audit.{Audit}
+use Rattle.audit.specs.declared.finding.Audit.TheVariants.{Confirmed}
+use Rattle.audit.specs.LineByLine.{audited}
+use Rattle.audit.specs.OwnMatch.{IsReadAndConfirmed}
+use Rattle.machine_audit.specs.WrittenCases.{MachineCasesAreConfirmed}
+use Rattle.command_line.specs.Words.{chosen}
+use Rattle.command_line.specs.declared.request.MatchText.{MatchText}
+use Rattle.command_line.specs.declared.request.MatchText.TheVariants.{Report, Full}
+use Rattle.command_line.specs.declared.request.Command.TheVariants.{Audit as AuditOf}
+use Rattle.case_match.specs.Match.{start_root, rules_of_case, setup_of, says_of_case, record_of_case, verdict_of_record}
+use Rattle.case_match.specs.TruthfulInCase.{IsInRange}
+use Rattle.delegate.specs.Decided.{digest_of, written_as, head_of, balances_in, before_verdict, decided}
+use Rattle.delegate.specs.Loading.{image_in, start_in}
+use Rattle.delegate.specs.Refusal.{or_refusal}
+use Rattle.delegate.specs.commands.Judge.{judging}
+use Rattle.delegate.specs.commands.Audit.{text_refusal, judge_of, found, checked}
+use Rattle.delegate.specs.Auditable.{IsConfirmedByItsLine, IsAuditable, WrittenTextsAreConfirmed, JudgesEndAlike}
+use Rattle.delegate.specs.InShort.{HasLastLine}
+use Rattle.delegate.specs.Outcome.{outcome}
+use Rattle.delegate.specs.Standing.{IsPlayed, CasesAreInRange}
+use Rattle.delegate.specs.declared.response.Subject.TheVariants.{Whole}
+use Rattle.delegate.specs.declared.response.Response.{Response}
+use Rattle.delegate.specs.declared.response.Answered.TheVariants.{Done}
+use Rattle.delegate.proofs.OutcomeLemmas.{goes_on, of_command, outcome-of, under_limit}
+use Rattle.delegate.proofs.CaseLemmas.{outcome-case, one-case}
+use Rattle.delegate.proofs.HeadlineLemmas.{text-before}
+use Rattle.delegate.proofs.InShortLemmas.{line-ends, last-of}
+
+-- a digest has 32 bytes
+
+length-digest : (name : DigestName) (bytes : List ℕ) → length (digest_of name bytes) ≡ 32
+length-digest Sha256 bytes = length-sha256 bytes
+length-digest Weak8 bytes = length-weak8 bytes
+
+byte-digest : (name : DigestName) (bytes : List ℕ) (k : ℕ) → slice_index (digest_of name bytes) k < 256
+byte-digest Sha256 bytes = byte-sha256 bytes
+byte-digest Weak8 bytes = byte-weak8 bytes
+
+-- the head of a case in range is within the limits
+head-in-limits : (name : DigestName) (c : CaseData) (start : State) → IsInRange c start → start.version ≡ c.version → IsHeadInLimits (head_of name c (start_root (digest_of name) start))
+head-in-limits name c start range same = record {
+  provers = (omega (arith, range.some), range.few);
+  bound = (omega (arith, range.steps), range.short);
+  patience = (omega arith, range.patience);
+  version = subst (λ (v : ℕ). (1 ≤ v) × (v ≤ 3)) same range.valid.version;
+  fan = (omega (arith, range.parted), range.few_parts);
+  length = length-digest name _;
+  bytes = byte-digest name _;
+}
+
+-- THE MATCH IN A VERSION, which is that of the state and that of the case
+
+abbrev rules-at : (name : DigestName) (c : CaseData) (start : State) → ℕ → Rules
+rules-at name c start version = rules_of (machine_ruling (digest_of name) version) (setup_of (digest_of name) c start)
+
+abbrev record-at : (name : DigestName) (c : CaseData) (start : State) → ℕ → Record
+record-at name c start version = bracket (rules-at name c start version) (answers_of (rules-at name c start version) (says_of_case (digest_of name) c start))
+
+abbrev text-at : (name : DigestName) (c : CaseData) (start : State) → ℕ → List ℕ
+text-at name c start version =
+    full_text (head_of name c (start_root (digest_of name) start)) (record-at name c start version) (verdict_of (rules-at name c start version) (record-at name c start version))
+
+-- `audit` of bytes that are read and confirmed
+
+checked-is : (bytes : List ℕ) (t : FullText) (v : Verdict) → read_text bytes ≡ Ok t → audited (judge_of t) t ≡ Confirmed v
+    → checked bytes ≡ Ok (record { answered = Done; text = codes "confirmed " ++ line_text (line_of_stated t.stated) })
+unfolding checked
+checked-is bytes t v read confirmed = goes_on _ _ _ (ap (or_refusal text_refusal) read) ∙ ap (λ (finding : Audit). Ok (found t.stated finding)) confirmed
+
+audit-is : (auditing : List (List ℕ)) (bytes : List ℕ) (t : FullText) (v : Verdict) → chosen auditing ≡ Some AuditOf → length bytes ≤ 16777216 → read_text bytes ≡ Ok t
+    → audited (judge_of t) t ≡ Confirmed v → outcome auditing bytes ≡ record { answered = Done; text = codes "confirmed " ++ line_text (line_of_stated t.stated) }
+audit-is auditing bytes t v is short read confirmed =
+    outcome-of auditing bytes _ (of_command auditing bytes AuditOf is ∙ (goes_on _ _ _ (under_limit bytes short) ∙ checked-is bytes t v read confirmed))
+
+-- the line of what is stated is the last line
+stated-last : (asked : MatchText) (name : DigestName) (c : CaseData) (start : State) (t : Stated) (line : List ℕ)
+    → stated_of (record_of_case (digest_of name) c start).claims (verdict_of_record (digest_of name) c start (record_of_case (digest_of name) c start)) ≡ Some t
+    → line_text (line_of_stated t) ≡ line ++ codes "\n" → HasLastLine line (decided (judging asked name) c start).text
+stated-last asked name c start t line is ends =
+    let digest = digest_of name in
+    let r = record_of_case digest c start in
+    let head = head_of name c (start_root digest start) in
+    let v = verdict_of_record digest c start r in
+    last-of asked head r (balances_in c r) line (decided (judging asked name) c start).text
+    (text-before (written_as asked) head r (balances_in c r) v
+    ∙ (ap (λ s. before_verdict (written_as asked) head r (balances_in c r) (text_if_there (line_if_stated s))) is
+    ∙ ap (before_verdict (written_as asked) head r (balances_in c r)) ends))
+
+-- the report and the full text have one answer and one last line
+pub one-last-line : VerdictsAreStated → JudgesEndAlike
+one-last-line stated name c start =
+    let digest = digest_of name in
+    let said = stated (rules_of_case digest c start) (record_of_case digest c start) in
+    let line = line-ends (line_of_stated said.0) in
+    record {
+      line = line.before;
+      answer = refl;
+      of_report = stated-last Report name c start said.0 line.before said.1 line.is;
+      of_full = stated-last Full name c start said.0 line.before said.1 line.is;
+    }
+
+judge-is : (t : FullText) (head : Head) → t.head ≡ head → judge_of t ≡ machine_ruling (digest_of head.digest) head.version
+judge-is t head is = ap (λ (h : Head). machine_ruling (digest_of h.digest) h.version) is
+
+pub texts-confirmed : ((name : DigestName) → MachineCasesAreConfirmed (digest_of name)) → WrittenTextsAreConfirmed
+texts-confirmed law name c start auditing range same written short is =
+    let digest = digest_of name in
+    let head = head_of name c (start_root digest start) in
+    let r = record_of_case digest c start in
+    let b : IsReadAndConfirmed (machine_ruling digest c.version) head (record-at name c start c.version) =
+    law name (says_of_case digest c start) head (head-in-limits name c start range same) (subst (λ (v : ℕ). AreWritten (moves_of (record-at name c start v))) same written) in
+    let read : read_text (decided (judging Full name) c start).text ≡ Ok b.text = ap (λ (v : ℕ). read_text (text-at name c start v)) same ∙ b.read in
+    let confirmed = ap (λ judge. audited judge b.text) (judge-is b.text head b.head_is) ∙ b.confirmed in
+    let stated : stated_of r.claims (verdict_of_record digest c start r) ≡ Some b.text.stated =
+    ap (λ (v : ℕ). stated_of (record-at name c start v).claims (verdict_of (rules-at name c start v) (record-at name c start v))) same ∙ b.stated_is in
+    let line = line-ends (line_of_stated b.text.stated) in
+    record {
+      line = line.before;
+      last = stated-last Full name c start b.text.stated line.before stated line.is;
+      confirmed = audit-is auditing (decided (judging Full name) c start).text b.text _ is short read confirmed
+          ∙ ap (λ (l : List ℕ). record { answered = Done; text = codes "confirmed " ++ l }) line.is;
+    }
+
+-- the run of a case starts in a state of the case's version
+start-version : (c : CaseData) (start : State) → start_in Whole c ≡ Ok start → start.version ≡ c.version
+unfolding start_in
+start-version c start is = by (image_in Whole c) is
+  where
+    by : (r : Result Image Response) → (r >>= (λ (image : Image). Ok (started c.version image.memory image.entry c.input))) ≡ Ok start → start.version ≡ c.version
+    by (Ok image) loads = (let both : started c.version image.memory image.entry c.input ≡ start = cc loads in sym (ap (λ (s : State). s.version) both))
+    by (Err refused) loads = absurd (cc loads)
+
+pub outcome-auditable : CasesAreTasks → WrittenTextsAreConfirmed → (words : List (List ℕ)) (bytes : List ℕ) → CasesAreInRange words bytes → IsAuditable words bytes (outcome words bytes)
+outcome-auditable law confirmed words bytes in_range name c start auditing is short asked =
+    let m = judging Full name in
+    let played : IsPlayed m c start = in_range m is.asked (One c) (one-case law m.written bytes c is.reads) start is.loads in
+    let same : outcome words bytes ≡ decided m c start = outcome-case law words bytes m c start is in
+    subst (λ (r : Response). IsConfirmedByItsLine auditing r.text) (sym same)
+    (confirmed name c start auditing played.range (start-version c start is.loads) (played.written refl) (subst (λ (r : Response). length r.text ≤ 16777216) same short) asked)

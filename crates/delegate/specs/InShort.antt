@@ -1,0 +1,132 @@
+-- To believe. THE SENTENCE IN SHORT: if a prover of the case is `{}`, the last line that is written accepts what the machine's definition computes, or
+-- shows two different strings of one digest. What is named is how arguments, a case and its image are read, the machine, and two lines of text: of the
+-- provers only that one of them is `{}`, and nothing of how a match is played, committed or judged.
+use Rattle.std.specs.Prelude.{◌≡◌, ◌≢◌, ◌<◌, ◌≤◌, slice_index, ◌⊎◌, ℕ, List, Contains, length, codes, ◌++◌, Option, Some, Ok}
+use Rattle.std.specs.Io.KnownBytes.{Appends}
+use Rattle.hex.specs.Hex.{encode_lower}
+use Rattle.rd_base.specs.declared.script.Script.{Script}
+use Rattle.rd_base.specs.declared.script.Manner.TheVariants.{Plain}
+use Rattle.rd_base.specs.declared.tamper.Tamper.TheVariants.{Untouched}
+use Rattle.mem_plain.specs.Contents.{no_bytes, laid}
+use Rattle.rv_step.specs.State.{State}
+use Rattle.rv_step.specs.Step.{state_at}
+use Rattle.rv_step.specs.Loaded.{started}
+use Rattle.case_reader.specs.Case.{CaseData, case_at}
+use Rattle.case_reader.specs.declared.case.Format.{Format}
+use Rattle.case_reader.specs.declared.case.Format.TheVariants.{Flat, Elf, Asm}
+use Rattle.image_reader.specs.Image.{Image, flat_at}
+use Rattle.image_reader.specs.Elf.{elf_at}
+use Rattle.asm_image.specs.AsmImage.{asm_at}
+use Rattle.transcript_text.specs.declared.text.DigestName.{DigestName}
+use Rattle.transcript_text.specs.declared.text.DigestName.TheVariants.{Sha256}
+use Rattle.transcript_text.specs.Report.{answer_text}
+use Rattle.workload.specs.Workload.{input_of}
+use Rattle.workload.specs.Program.{program}
+use Rattle.command_line.specs.Words.{chosen}
+use Rattle.command_line.specs.declared.request.MatchText.{MatchText}
+use Rattle.command_line.specs.declared.request.Command.TheVariants.{Judge, Run, Big}
+use Rattle.delegate.specs.Decided.{digest_of}
+
+-- THE CASE
+
+-- the image of a file by its format
+abbrev pub IsImageOf : Format → List ℕ → Image → Type 0
+IsImageOf Flat file image = flat_at file ≡ Ok image
+IsImageOf Elf file image = elf_at file ≡ Ok image
+IsImageOf Asm text image = asm_at text ≡ Ok image
+
+-- the run of a case starts in this state
+pub record IsStartOf (c : CaseData) (start : State) : Type 0 where
+  pub image : Image
+  pub loads : IsImageOf c.format c.image image
+  pub is : start ≡ started c.version image.memory image.entry c.input
+
+-- the bytes are not too many, and they are this case
+pub record IsCaseOf (bytes : List ℕ) (c : CaseData) : Type 0 where
+  pub short : length bytes ≤ 16777216
+  pub reads : case_at bytes ≡ Ok c
+
+-- the script `{}`, of a prover whose run is untouched and that answers at once
+abbrev pub honest : Script
+honest = record { tamper = Untouched; manner = Plain }
+
+-- THE LAST LINE
+
+-- a line before it ends, and it is the last one
+pub record HasLastLine (line text : List ℕ) : Type 0 where
+  pub before : List ℕ
+  pub whole : text ≡ before ++ (codes "\n" ++ (line ++ codes "\n"))
+
+abbrev pub accepting : State → List ℕ
+accepting final = codes "accept " ++ answer_text final.status final.output
+
+abbrev pub colliding : List ℕ → List ℕ → List ℕ
+colliding x y = codes "collision " ++ (encode_lower x ++ (codes " " ++ encode_lower y))
+
+-- each number is a byte
+abbrev pub AreBytes : List ℕ → Type 0
+AreBytes xs = (k : ℕ) → slice_index xs k < 256
+
+-- two different strings of bytes with one digest
+pub record AreOfOneDigest (name : DigestName) (x y : List ℕ) : Type 0 where
+  pub first : AreBytes x
+  pub second : AreBytes y
+  pub differ : x ≢ y
+  pub one_digest : digest_of name x ≡ digest_of name y
+
+-- EITHER the status is 0, and the last line accepts the status and the output in this state
+pub record Accepts (final : State) (status : ℕ) (text : List ℕ) : Type 0 where
+  pub done : status ≡ 0
+  pub last : HasLastLine (accepting final) text
+
+-- OR the status is 11, and the last line shows two different strings with one digest
+pub record ShowsTwoStrings (name : DigestName) (status : ℕ) (text : List ℕ) : Type 0 where
+  pub x : List ℕ
+  pub y : List ℕ
+  pub strings : AreOfOneDigest name x y
+  pub collision : status ≡ 11
+  pub last : HasLastLine (colliding x y) text
+
+-- `run`: the status is 0, and the one line answers with the status and the output in this state
+pub record Answers (final : State) (status : ℕ) (text : List ℕ) : Type 0 where
+  pub done : status ≡ 0
+  pub line : text ≡ codes "answer " ++ (answer_text final.status final.output ++ codes "\n")
+
+abbrev pub AcceptsOrCollides : DigestName → State → ℕ → List ℕ → Type 0
+AcceptsOrCollides name final status text = Accepts final status text ⊎ ShowsTwoStrings name status text
+
+-- THE SENTENCE, of arguments, bytes, status and text: `judge` ends so if one prover is `{}`, whatever the others say; and `run` writes that answer
+pub record SaysInShort (words : List (List ℕ)) (bytes : List ℕ) (status : ℕ) (text : List ℕ) : Type 0 where
+  pub judge : (asked : MatchText) (name : DigestName) (c : CaseData) (start : State) → chosen words ≡ Some (Judge asked name) →
+      IsCaseOf bytes c → IsStartOf c start → Contains c.provers honest →
+      AcceptsOrCollides name (state_at start c.bound) status text
+  pub run : (c : CaseData) (start : State) → chosen words ≡ Some Run → IsCaseOf bytes c → IsStartOf c start →
+      Answers (state_at start c.bound) status text
+
+-- and of `big`, whose case always has such a prover: its line ends so
+abbrev pub big_start : ℕ → State
+big_start seed = started 1 (laid no_bytes 0x10000 program) 0x10000 (input_of seed)
+
+-- its bound, a definition of its own so that a number of steps stands where nothing computes
+unfoldable pub big_bound : ℕ
+big_bound = 65536
+
+pub record EndsWith (last text : List ℕ) : Type 0 where
+  pub before : List ℕ
+  pub whole : text ≡ before ++ (codes " " ++ (last ++ codes "\n"))
+
+pub record EndsWithTwoStrings (name : DigestName) (text : List ℕ) : Type 0 where
+  pub x : List ℕ
+  pub y : List ℕ
+  pub strings : AreOfOneDigest name x y
+  pub last : EndsWith (colliding x y) text
+
+abbrev pub SaysOfBig : List (List ℕ) → ℕ → List ℕ → Type 0
+SaysOfBig words status text = (seed : ℕ) → chosen words ≡ Some (Big seed) →
+    (status ≡ 0) × (EndsWith (accepting (state_at (big_start seed) big_bound)) text ⊎ EndsWithTwoStrings Sha256 text)
+
+-- WHAT WAS WRITTEN, of bytes that the source may have had: a text, whole, of which P holds
+pub record IsWrittenOf (P : List ℕ → Type 0) (before now : Option (List ℕ)) : Type 0 where
+  pub text : List ℕ
+  pub written : Appends before now text
+  pub says : P text

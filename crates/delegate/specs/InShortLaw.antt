@@ -1,0 +1,47 @@
+-- Derived. The sentence in short, of what is written of a case whose numbers are in range: a law of the definitions.
+use Rattle.std.specs.Prelude.{◌≡◌, ◌⊎◌, ℕ, List, ◌++◌, codes, Some, Contains}
+use Rattle.rv_step.specs.State.{State}
+use Rattle.rv_step.specs.Step.{state_at}
+use Rattle.case_reader.specs.Case.{CaseData}
+use Rattle.transcript_text.specs.declared.text.DigestName.{DigestName}
+use Rattle.command_line.specs.Words.{chosen}
+use Rattle.command_line.specs.declared.request.MatchText.{MatchText}
+use Rattle.command_line.specs.declared.request.Command.TheVariants.{Judge, Run}
+use Rattle.case_match.specs.TruthfulInCase.{IsInRange}
+use Rattle.delegate.specs.Answered.{status_number}
+use Rattle.case_match.specs.Match.{record_of_case, verdict_of_record}
+use Rattle.delegate.specs.Standing.{AreByteStrings}
+use Rattle.delegate.specs.Decided.{digest_of, decided}
+use Rattle.workload.specs.Workload.{big_data}
+use Rattle.delegate.specs.commands.Judge.{judging}
+use Rattle.delegate.specs.commands.Big.{summing_up}
+use Rattle.transcript_text.specs.declared.text.DigestName.TheVariants.{Sha256}
+use Rattle.delegate.specs.InShort.{honest, accepting, EndsWith, EndsWithTwoStrings, big_start, big_bound, HasLastLine, IsCaseOf, IsStartOf, ShowsTwoStrings, AcceptsOrCollides, SaysInShort}
+
+-- whatever the other provers say, what is written of a case with a prover `{}` accepts the run, or shows a collision
+abbrev pub HeadlineInShort : Type 0
+HeadlineInShort =
+    (asked : MatchText) (name : DigestName) (c : CaseData) (start : State) → IsInRange c start → AreByteStrings (verdict_of_record (digest_of name) c start (record_of_case (digest_of name) c start)) → Contains c.provers honest →
+    AcceptsOrCollides name (state_at start c.bound) (status_number (decided (judging asked name) c start).answered) (decided (judging asked name) c start).text
+
+-- `judge` accepts what `run` prints of the same bytes, or shows a collision
+pub record JudgeAccepts (name : DigestName) (judge_status : ℕ) (judge_text : List ℕ) (run_status : ℕ) (run_text : List ℕ) : Type 0 where
+  pub answer : List ℕ
+  pub run_done : run_status ≡ 0
+  pub printed : run_text ≡ codes "answer " ++ (answer ++ codes "\n")
+  pub judged : ((judge_status ≡ 0) × HasLastLine (codes "accept " ++ answer) judge_text) ⊎ ShowsTwoStrings name judge_status judge_text
+
+abbrev pub JudgeAcceptsWhatRunPrints : Type 0
+JudgeAcceptsWhatRunPrints =
+    (judging running : List (List ℕ)) (bytes : List ℕ) (judge_status : ℕ) (judge_text : List ℕ) (run_status : ℕ) (run_text : List ℕ) →
+    SaysInShort judging bytes judge_status judge_text → SaysInShort running bytes run_status run_text →
+    (asked : MatchText) (name : DigestName) (c : CaseData) (start : State) → chosen judging ≡ Some (Judge asked name) → chosen running ≡ Some Run →
+    IsCaseOf bytes c → IsStartOf c start → Contains c.provers honest → JudgeAccepts name judge_status judge_text run_status run_text
+
+-- what is written of the large workload of each seed ends so
+abbrev pub BigInShort : Type 0
+BigInShort = (seed : ℕ) → IsInRange (big_data seed) (big_start seed) →
+    AreByteStrings (verdict_of_record (digest_of Sha256) (big_data seed) (big_start seed) (record_of_case (digest_of Sha256) (big_data seed) (big_start seed))) →
+    (status_number (decided (summing_up seed) (big_data seed) (big_start seed)).answered ≡ 0)
+    × (EndsWith (accepting (state_at (big_start seed) big_bound)) (decided (summing_up seed) (big_data seed) (big_start seed)).text
+    ⊎ EndsWithTwoStrings Sha256 (decided (summing_up seed) (big_data seed) (big_start seed)).text)
