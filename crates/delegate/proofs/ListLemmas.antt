@@ -6,8 +6,8 @@ use Rattle.image_reader.specs.Image.{Image}
 use Rattle.image_reader.specs.declared.fault.ImageFault.TheVariants.{ImageTooLarge}
 use Rattle.case_reader.specs.declared.case.Format.TheVariants.{Asm}
 use Rattle.rv_text.specs.Assembly.{assembled}
-use Rattle.asm_image.specs.AsmImage.{words_at, asm_at}
-use Rattle.asm_image.specs.declared.image.AsmImageFault.TheVariants as asm
+use Rattle.delegate.specs.AsmImage.{words_at, asm_at}
+use Rattle.delegate.specs.declared.asm_image.AsmImageFault.TheVariants as asm
 use Rattle.delegate.specs.Refusal.{asm_refusal, or_refusal}
 use Rattle.delegate.specs.Loading.{image_by}
 use Rattle.delegate.specs.declared.response.Subject.TheVariants.{Whole}

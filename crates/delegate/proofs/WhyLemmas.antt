@@ -13,9 +13,9 @@ use Rattle.image_reader.specs.declared.fault.ImageFault.{ImageFault}
 use Rattle.image_reader.specs.declared.fault.ImageFault.TheVariants as images
 use Rattle.rv_text.specs.declared.fault.AsmFault.{AsmFault}
 use Rattle.rv_text.specs.Assembly.{assembled}
-use Rattle.asm_image.specs.AsmImage.{bytes_of, words_at, asm_at}
-use Rattle.asm_image.specs.declared.image.AsmImageFault.{AsmImageFault}
-use Rattle.asm_image.specs.declared.image.AsmImageFault.TheVariants as asm
+use Rattle.delegate.specs.AsmImage.{bytes_of, words_at, asm_at}
+use Rattle.delegate.specs.declared.asm_image.AsmImageFault.{AsmImageFault}
+use Rattle.delegate.specs.declared.asm_image.AsmImageFault.TheVariants as asm
 use Rattle.tournament.specs.declared.verdict.Verdict.{Verdict}
 use Rattle.tournament.specs.declared.verdict.Verdict.TheVariants.{Accept, NoneLeft, Collision}
 use Rattle.transcript_text.specs.declared.text.Stated.{Stated}

@@ -16,7 +16,7 @@ use Rattle.case_reader.specs.declared.case.Format.{Format}
 use Rattle.case_reader.specs.declared.case.Format.TheVariants.{Flat, Elf, Asm}
 use Rattle.image_reader.specs.Image.{Image, flat_at}
 use Rattle.image_reader.specs.Elf.{elf_at}
-use Rattle.asm_image.specs.AsmImage.{asm_at}
+use Rattle.delegate.specs.AsmImage.{asm_at}
 use Rattle.transcript_text.specs.declared.text.DigestName.{DigestName}
 use Rattle.transcript_text.specs.declared.text.DigestName.TheVariants.{Sha256}
 use Rattle.transcript_text.specs.Report.{answer_text}

@@ -19,6 +19,7 @@ pub use Rattle.machine_audit.specs.MachineAudit
 pub use Rattle.case_match.specs.Match
 pub use Rattle.case_match.specs.TruthfulInCase
 pub mod Answered
+pub mod AsmImage
 pub mod Refusal
 pub mod Loading
 pub mod Decided

@@ -1,3 +1,11 @@
+//! Laws of the definitions, each the contract of a function that does nothing.
+ghost use Rattle.std.specs.Prelude.{◌≡◌, ◌<◌, ◌≤◌, ℕ, List, length, slice_index};
+ghost use Rattle.rd_base.specs.Results.{map_fault};
+ghost use Rattle.image_reader.specs.Image.{flat_at};
+ghost use Rattle.rv_text.specs.Listing.{listing};
+ghost use Rattle.delegate.specs.AsmImage.{asm_at};
+ghost use Rattle.delegate.specs.declared.asm_image.AsmImageFault.TheVariants as fault;
+ghost use Rattle.delegate.specs.commands.List.{words_of};
 ghost use Rattle.delegate.specs.Answering.{EachCommandHasItsAnswers, EachRefusalSaysWhy};
 ghost use Rattle.delegate.specs.Confirmed.{ConfirmedTextsAreRight};
 ghost use Rattle.delegate.specs.Headline.{HeadlineOfCases};
@@ -10,6 +18,8 @@ use case_reader::{no_fault_of_a_case_is_out_of_memory, no_fault_of_tasks_is_out_
 use command_line::options_are_taken;
 use deposits::truthful_provers_keep_their_stakes;
 use digest_core::{Sha256, Weak8};
+use mem_plain::contents_of_a_function;
+use rv_text::listing_is_read_back;
 use machine_audit::{confirmed_cases_are_right, written_cases_are_confirmed};
 use transcript_text::{a_verdict_is_stated, no_fault_of_a_text_is_out_of_memory, nothing_is_said_against_the_truthful};
 
@@ -85,4 +95,14 @@ pub fn answers_are_those_of_the_command()
     no_fault_of_a_case_is_out_of_memory();
     no_fault_of_tasks_is_out_of_memory();
     no_fault_of_a_text_is_out_of_memory();
+}
+
+/// The listing of a flat file, taken as an assembly text, is loaded as the file is: the same memory and entry, or the same rule is broken.
+/// The listing has to be no longer than a text may be.
+pub fn listed_files_load_alike()
+    ensures { (file : List ℕ) → ((k : ℕ) → slice_index file k < 256) → length (listing (words_of file)) ≤ 16777216 →
+        asm_at (listing (words_of file)) ≡ map_fault fault.Image (flat_at file) }
+{
+    listing_is_read_back();
+    contents_of_a_function();
 }

@@ -11,7 +11,7 @@ ghost use Rattle.delegate.specs.Standing.{Stands, AreAllInRange, AddsStarts};
 
 use crate::faults;
 use crate::response::{Stop, Subject};
-use asm_image::{AsmImageFault, load_asm};
+use crate::asm_image::{AsmImageFault, load_asm};
 use case_reader::{Case, CaseFault, Format, TaskFault, Tasks, read_case, read_tasks};
 use image_reader::{ImageFault, Loaded, load_elf, load_flat};
 use rv_step::{Machine, machines_are_valid};
@@ -96,7 +96,7 @@ pub fn start_in(alloc: Global, subject: Subject, case: &Case) -> Result<Machine,
 {
     let loaded = image_in(alloc, subject, case)?;
     let input = case.input.as_slice();
-    let start = Machine::new(alloc, case.version as u8, loaded.mem, loaded.entry, input)?;
+    let start = Machine::new(alloc, case.version, loaded.mem, loaded.entry, input)?;
     machines_are_valid(&start);
     Ok(start)
 }

@@ -14,9 +14,7 @@ use rd_base::{Memory, Status};
 use std::alloc::{AllocError, Global};
 use std::fmt::Write;
 use step_referee::MachineJudge;
-use transcript_text::{
-    DigestName, FullText, Stated, TextFault, read_full, reading_is_the_inverse_of_writing,
-};
+use transcript_text::{DigestName, FullText, Stated, TextFault, read_full};
 
 /// The response to a fault of a text. The text is empty if memory ran out.
 fn text_refusal(alloc: Global, fault: TextFault) -> Result<Response, AllocError>
@@ -44,30 +42,13 @@ fn full_text_in(alloc: Global, bytes: &[u8]) -> Result<FullText, Stop>
     }
 }
 
-/// The head of a text that was read names a version up to 3.
-fn has_a_known_version(bytes: &[u8], text: &FullText)
-    requires { read_text bytes.now ≡ Ok text.now }
-    ensures { text.now.head.version ≤ 3 }
-{
-    reading_is_the_inverse_of_writing();
-}
-
-/// The version that the head of a text names.
-fn version_of(bytes: &[u8], text: &FullText) -> u8
-    requires { read_text bytes.now ≡ Ok text.now }
-    ensures { result ≡ text.now.head.version }
-{
-    has_a_known_version(bytes, text);
-    text.head.version as u8
-}
-
 /// Audits a text that was read before the judge of the machine, in the version and by the digest that the text's head names.
 fn audit_by_name(alloc: Global, bytes: &[u8], text: &FullText) -> Result<Audit, Memory>
     requires { read_text bytes.now ≡ Ok text.now }
     ensures { IfOk result (λ found. found ≡ audited (judge_of text.now) text.now) }
 {
     a_read_text_may_be_audited(bytes, text);
-    let version = version_of(bytes, text);
+    let version = text.head.version;
     match text.head.digest {
         DigestName::Sha256 => audit(alloc, text, MachineJudge::new(Sha256, version)),
         DigestName::Weak8 => audit(alloc, text, MachineJudge::new(Weak8, version)),

@@ -9,7 +9,7 @@ ghost use Rattle.delegate.specs.Standing.{Stands};
 use crate::faults;
 use crate::loading::{asm_image, case_in, flat_image};
 use crate::response::{Answered, Response, Stop, Subject};
-use asm_image::AsmImageFault;
+use crate::asm_image::AsmImageFault;
 use case_reader::{Case, CaseFault, Format, Key};
 use rd_base::{Bytes, Memory};
 use rv_text::{AsmError, assemble};

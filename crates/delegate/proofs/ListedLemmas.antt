@@ -14,9 +14,9 @@ use Rattle.image_reader.specs.declared.fault.ImageFault.{ImageFault}
 use Rattle.image_reader.specs.declared.fault.ImageFault.TheVariants.{ImageTooLarge}
 use Rattle.rv_text.specs.Listing.{listing}
 use Rattle.rv_text.specs.Assembly.{assembled}
-use Rattle.asm_image.specs.AsmImage.{bytes_of, asm_at}
-use Rattle.asm_image.specs.Listed.{word_at, words_of}
-use Rattle.asm_image.specs.declared.image.AsmImageFault.TheVariants as fault
+use Rattle.delegate.specs.AsmImage.{bytes_of, asm_at}
+use Rattle.delegate.specs.commands.List.{word_at, words_of}
+use Rattle.delegate.specs.declared.asm_image.AsmImageFault.TheVariants as fault
 
 abbrev pub AreBytes : List ℕ → Type 0
 AreBytes file = (k : ℕ) → slice_index file k < 256

@@ -1,5 +1,5 @@
-use Rattle.asm_image.proofs.ListedLemmas.{listed-alike}
-use Rattle.asm_image.proofs.laws.listed_files_load_alike.Goals as goal
+use Rattle.delegate.proofs.ListedLemmas.{listed-alike}
+use Rattle.delegate.proofs.laws.listed_files_load_alike.Goals as goal
 
 pub returns : goal.returns
 returns c = listed-alike c.listing_is_read_back.ensures c.contents_of_a_function.ensures.alike c.contents_of_a_function.ensures.nothing c.contents_of_a_function.ensures.laid

@@ -1,8 +1,9 @@
+//! Images that are given as assembly text: the text is assembled, and the flat image of its words loaded.
 ghost use Rattle.std.specs.Prelude.{◌≡◌, ◌≤◌, length, IfOk};
 ghost use Rattle.rd_base.specs.Results.{Gives, map_fault};
 ghost use Rattle.image_reader.specs.Image.{loaded_of};
 ghost use Rattle.rv_text.specs.Assembly.{assembled};
-ghost use Rattle.asm_image.specs.AsmImage.{bytes_of as bytes_of_words, words_at, asm_at};
+ghost use Rattle.delegate.specs.AsmImage.{bytes_of as bytes_of_words, words_at, asm_at};
 
 use image_reader::{ImageFault, Loaded, load_flat};
 use rd_base::Memory;

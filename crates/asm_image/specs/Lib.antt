@@ -1,2 +1,0 @@
-pub mod AsmImage
-pub mod Listed
