@@ -12,8 +12,7 @@ use Rattle.case_reader.specs.Tasks.{One, CasesAreTasks}
 use Rattle.tournament.specs.declared.verdict.Verdict.{Verdict}
 use Rattle.tournament.specs.Bracket.{Record, bracket, verdict_of}
 use Rattle.tournament.specs.Journals.{answers_of}
-use Rattle.bisect_game.specs.Rules.{rules_of}
-use Rattle.bisect_game.specs.Rules.{Rules}
+use Rattle.bisect_game.specs.Rules.{Rules, rules_of}
 use Rattle.step_referee.specs.MachineRuling.{machine_ruling}
 use Rattle.transcript_text.specs.declared.text.Head.{Head}
 use Rattle.transcript_text.specs.declared.text.FullText.{FullText}

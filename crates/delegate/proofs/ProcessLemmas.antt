@@ -1,8 +1,10 @@
 -- What an exit status says of the answer.
-use Rattle.std.proofs.Common.{◌≡◌, true, ℕ, List, Option, Some, ap, sym, subst, ◌∙◌}
-use Rattle.delegate.specs.Answered.{status_number, is_outcome, reads_all}
+use Rattle.std.proofs.Common.{◌≡◌, ◌↔◌, true, ℕ, List, Option, Some, None, codes, ap, sym, subst, ◌∙◌}
+use Rattle.std.specs.Io.KnownBytes.{Appends}
+use Rattle.command_line.specs.Words.{chosen}
+use Rattle.delegate.specs.Answered.{status_number, is_outcome, is_answer_to, reads_all}
 use Rattle.delegate.specs.Outcome.{outcome}
-use Rattle.delegate.specs.Writing.{is_whole, is_read_whole, ForItsBytes, IsWrittenBy, IsWritten}
+use Rattle.delegate.specs.Writing.{is_whole, is_read_whole, ForItsBytes, IsWrittenBy, IsWritten, IsStatusOf}
 use Rattle.delegate.specs.declared.response.Response.{Response}
 use Rattle.delegate.specs.declared.response.Answered.{Answered}
 use Rattle.delegate.specs.declared.response.Answered.TheVariants.{Done, Usage, Case, Image, ReadFault, WriteFault, AuditRefused, Memory, NoneLeft, Collision, TooLong}
@@ -20,6 +22,19 @@ whole Memory is = is
 whole NoneLeft is = is
 whole Collision is = is
 whole TooLong is = is
+
+pub status-2 : (answered : Answered) → status_number answered ≡ 2 → answered ≡ Usage
+status-2 Usage is = cc
+status-2 Done is = absurd (cc)
+status-2 Case is = absurd (cc)
+status-2 Image is = absurd (cc)
+status-2 ReadFault is = absurd (cc)
+status-2 WriteFault is = absurd (cc)
+status-2 AuditRefused is = absurd (cc)
+status-2 Memory is = absurd (cc)
+status-2 NoneLeft is = absurd (cc)
+status-2 Collision is = absurd (cc)
+status-2 TooLong is = absurd (cc)
 
 pub status-5 : (answered : Answered) → status_number answered ≡ 5 → answered ≡ ReadFault
 status-5 ReadFault is = cc
@@ -95,8 +110,23 @@ promised-by left P words other answered status before now same is promised =
     subst (λ (ws : List (List ℕ)). ForItsBytes left (λ bytes. IsWrittenBy (outcome ws bytes) status before now × P ws bytes)) same
     (for_its_bytes left _ _ (λ bytes its. (by-status (outcome words bytes) answered status before now is its.0, its.1)) promised)
 
+-- its status is one of its command, and it is 2 exactly if the arguments name no command
+pub of-command-by : (words other : List (List ℕ)) (answered : Answered) (status : ℕ) → words ≡ other → status ≡ status_number answered
+    → is_answer_to (chosen words) answered ≡ true → IsStatusOf (chosen other) status
+of-command-by words other answered status same is holds = record {
+  answered = answered;
+  status_is = is;
+  of_command = subst (λ (ws : List (List ℕ)). is_answer_to (chosen ws) answered ≡ true) same holds;
+}
+
+pub usage-by : (words other : List (List ℕ)) (answered : Answered) (status : ℕ) → words ≡ other → status ≡ status_number answered
+    → ((answered ≡ Usage) ↔ (chosen words ≡ None)) → ((status ≡ 2) ↔ (chosen other ≡ None))
+usage-by words other answered status same is both =
+    subst (λ (ws : List (List ℕ)). (status ≡ 2) ↔ (chosen ws ≡ None)) same
+    (λ two. both.0 (status-2 answered (sym is ∙ two)), λ none. is ∙ ap status_number (both.1 none))
+
 -- the arguments are those that were given
 pub same-words : (given_words : Option (List (List ℕ))) (words other : List (List ℕ)) → Some words ≡ given_words → given_words ≡ Some other → words ≡ other
 same-words given_words words other is also = (let both = is ∙ also in cc both)
 
-pub ruleset status_facts = (whole, read_whole, status-5, status-6, status-9, not-status-5, not-status-6)
+pub ruleset status_facts = (whole, read_whole, status-2, status-5, status-6, status-9, not-status-5, not-status-6)

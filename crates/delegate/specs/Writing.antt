@@ -1,6 +1,6 @@
 -- To believe. A response that was written whole, of a source whose bytes may not be visible; and, of a process, its arguments and what its
 -- exit status says.
-use Rattle.std.specs.Prelude.{◌≡◌, ℕ, List, Option, IfSome, ◌==◌, ◌||◌, [], Bool, not, Some, None, Result, Ok, Err, String, Vec}
+use Rattle.std.specs.Prelude.{◌≡◌, ℕ, List, Option, IfSome, ◌==◌, ◌||◌, [], Bool, true, not, Some, None, Result, Ok, Err, String, Vec}
 use Rattle.std.specs.Io.KnownBytes.{Appends}
 use Rattle.delegate.specs.declared.response.Response.{Response}
 use Rattle.delegate.specs.declared.response.Answered.{Answered}
@@ -11,7 +11,8 @@ use Rattle.std.specs.declared.io.ErrorKind.{ErrorKind}
 use Rattle.std.specs.declared.io.ErrorKind.TheVariants.{OutOfMemory}
 use Rattle.clap.specs.Walk.{Text}
 use Rattle.command_line.specs.Words.{texts}
-use Rattle.delegate.specs.Answered.{status_number}
+use Rattle.command_line.specs.declared.request.Command.{Command}
+use Rattle.delegate.specs.Answered.{status_number, is_answer_to}
 
 -- THE BYTES OF A SOURCE, which may not be visible
 
@@ -52,3 +53,9 @@ is_read_whole status = not (status == 2 || status == 5 || status == 6 || status 
 pub record IsWrittenBy (response : Response) (status : ℕ) (before now : Option (List ℕ)) : Type 0 where
   pub status_is : status ≡ status_number response.answered
   pub text : Appends before now response.text
+
+-- a status of an answer that the command has, or that arguments have which name none
+pub record IsStatusOf (command : Option Command) (status : ℕ) : Type 0 where
+  pub answered : Answered
+  pub status_is : status ≡ status_number answered
+  pub of_command : is_answer_to command answered ≡ true

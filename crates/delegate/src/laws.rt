@@ -18,10 +18,12 @@ use case_reader::{no_fault_of_a_case_is_out_of_memory, no_fault_of_tasks_is_out_
 use command_line::options_are_taken;
 use deposits::truthful_provers_keep_their_stakes;
 use digest_core::{Sha256, Weak8};
+use machine_audit::{confirmed_cases_are_right, written_cases_are_confirmed};
 use mem_plain::contents_of_a_function;
 use rv_text::listing_is_read_back;
-use machine_audit::{confirmed_cases_are_right, written_cases_are_confirmed};
-use transcript_text::{a_verdict_is_stated, no_fault_of_a_text_is_out_of_memory, nothing_is_said_against_the_truthful};
+use transcript_text::{
+    a_verdict_is_stated, no_fault_of_a_text_is_out_of_memory, nothing_is_said_against_the_truthful,
+};
 
 /// The headline, of what is written of each case whose numbers are in range and whose run starts in a valid state without output,
 /// by the digest of each name: a prover that claims and answers as the machine's definition says, within its patience, is not

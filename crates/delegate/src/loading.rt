@@ -9,9 +9,9 @@ ghost use Rattle.case_match.specs.TruthfulInCase.{IsInRange};
 ghost use Rattle.delegate.specs.Loading.{case_in, tasks_in, image_by, image_in, start_in, starts_in};
 ghost use Rattle.delegate.specs.Standing.{Stands, AreAllInRange, AddsStarts};
 
+use crate::asm_image::{AsmImageFault, load_asm};
 use crate::faults;
 use crate::response::{Stop, Subject};
-use crate::asm_image::{AsmImageFault, load_asm};
 use case_reader::{Case, CaseFault, Format, TaskFault, Tasks, read_case, read_tasks};
 use image_reader::{ImageFault, Loaded, load_elf, load_flat};
 use rv_step::{Machine, machines_are_valid};
