@@ -22,7 +22,7 @@ const EIGHT_STEPS: [u8; 32] = [
 
 /// A machine at the start of these instructions, which lie at 0x10000, in version 2 or 3 of the commitment, and in version 1 for any
 /// other number.
-pub(crate) fn eight_steps(alloc: Global, version: u8) -> Result<Machine, Memory>
+pub(crate) fn eight_steps(alloc: Global, version: u32) -> Result<Machine, Memory>
     ensures chained { IfOk result (λ m. (digest : List ℕ → List ℕ) → IsChained digest m) }
     ensures silent { IfOk result (λ m. m.output.items ≡ []) }
 {

@@ -67,7 +67,7 @@ const STORES_TO_ONE_CHUNK: [u8; 16] = [
 ];
 
 /// A machine at the start of them in a version of the commitment, with an input of at most 4,096 bytes.
-fn storing(alloc: Global, version: u8, input: &[u8]) -> Result<Machine, Memory>
+fn storing(alloc: Global, version: u32, input: &[u8]) -> Result<Machine, Memory>
     requires { length input.now ≤ 4096 }
     ensures chained { IfOk result (λ m. (digest : List ℕ → List ℕ) → IsChained digest m) }
     ensures silent { IfOk result (λ m. m.output.items ≡ []) }
@@ -80,7 +80,7 @@ fn storing(alloc: Global, version: u8, input: &[u8]) -> Result<Machine, Memory>
 fn storing_prover<D: Replays>(
     alloc: Global,
     d: D,
-    version: u8,
+    version: u32,
     workers: u32,
 ) -> Result<RunAnswerer<D>, Memory> {
     let machine = storing(alloc, version, &[7; 40])?;
@@ -105,7 +105,7 @@ fn prover_of<D: Replays>(
 fn takes<R: Threads + Sync>(
     rt: &R,
     alloc: Global,
-    version: u8,
+    version: u32,
     workers: u32,
     wanted: &[(u64, u64)],
 ) -> Result<bool, Memory>

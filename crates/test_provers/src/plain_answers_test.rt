@@ -38,7 +38,7 @@ const ASKS_FOR_INPUT: [u8; 12] = [
 
 /// A machine at the start of an image that lies at 0x10000, in version 2 or 3 of the commitment, and in version 1 for any other
 /// number.
-fn machine_in(alloc: Global, version: u8, image: &[u8], input: &[u8]) -> Result<Machine, Memory>
+fn machine_in(alloc: Global, version: u32, image: &[u8], input: &[u8]) -> Result<Machine, Memory>
     requires image { length image.now ≤ 64 }
     requires input { length input.now ≤ 1 }
     ensures { IfOk result (λ m. (digest : List ℕ → List ℕ) → IsChained digest m) }
@@ -56,7 +56,7 @@ fn machine_in(alloc: Global, version: u8, image: &[u8], input: &[u8]) -> Result<
 fn after<R: Threads + Sync>(
     rt: &R,
     alloc: Global,
-    version: u8,
+    version: u32,
     image: &[u8],
     input: &[u8],
     steps: u32,
@@ -84,7 +84,7 @@ enum Program {
 fn program_after<R: Threads + Sync>(
     rt: &R,
     alloc: Global,
-    version: u8,
+    version: u32,
     program: Program,
     steps: u32,
 ) -> Result<Committed<Sha256>, Memory> {
@@ -99,7 +99,7 @@ fn program_after<R: Threads + Sync>(
 fn proof_bytes<R: Threads + Sync>(
     rt: &R,
     alloc: Global,
-    version: u8,
+    version: u32,
     program: Program,
     step: u32,
 ) -> Result<Vec<u8>, Memory> {
@@ -121,7 +121,7 @@ fn byte_at(bytes: &[u8], place: usize) -> u8 {
 fn form_of<R: Threads + Sync>(
     rt: &R,
     alloc: Global,
-    version: u8,
+    version: u32,
     program: Program,
     step: u32,
     flags: usize,

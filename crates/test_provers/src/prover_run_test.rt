@@ -156,7 +156,7 @@ fn opens_all(proof: &Proof, byte: u8) -> bool {
 }
 
 /// A prover of the eight steps in a version, whose run has a checkpoint at every third.
-fn prover_with(alloc: Global, version: u8, tamper: Tamper) -> Result<RunAnswerer<Sha256>, Memory> {
+fn prover_with(alloc: Global, version: u32, tamper: Tamper) -> Result<RunAnswerer<Sha256>, Memory> {
     let machine = eight_steps(alloc, version)?;
     RunAnswerer::new(alloc, Sha256, &machine, 8, 3, tamper, 2)
 }

@@ -25,7 +25,7 @@ const TOGGLES: [u8; 8] = [0x93, 0xc2, 0x12, 0x00, 0x6f, 0xf0, 0xdf, 0xff];
 
 /// A machine at the start of an image of at most 64 bytes, which lies at 0x10000, with an input of at most 64 bytes, in a version. An
 /// `Err` is out of memory.
-fn machine_in(alloc: Global, version: u8, image: &[u8], input: &[u8]) -> Result<Machine, Memory>
+fn machine_in(alloc: Global, version: u32, image: &[u8], input: &[u8]) -> Result<Machine, Memory>
     requires version { (1 ≤ version) × (version ≤ 3) }
     requires image { length image.now ≤ 64 }
     requires input { length input.now ≤ 64 }
@@ -39,7 +39,7 @@ fn machine_in(alloc: Global, version: u8, image: &[u8], input: &[u8]) -> Result<
 /// `Err` is out of memory.
 fn run_in(
     alloc: Global,
-    version: u8,
+    version: u32,
     image: &[u8],
     input: &[u8],
     every: u32,
@@ -214,7 +214,7 @@ fn are_alike(some: &[Digest32], others: &[Digest32]) -> bool {
 fn roots_in<R: Threads + Sync>(
     rt: &R,
     alloc: Global,
-    version: u8,
+    version: u32,
     image: &[u8],
 ) -> Result<Vec<Digest32>, Memory>
     requires version { (1 ≤ version) × (version ≤ 3) }
@@ -278,7 +278,7 @@ fn digests_with_input<R: Threads + Sync>(
 fn digests_between<R: Threads + Sync>(
     rt: &R,
     alloc: Global,
-    version: u8,
+    version: u32,
     steps: [u64; 2],
 ) -> Result<u64, Memory>
     requires { (1 ≤ version) × (version ≤ 3) }
@@ -326,7 +326,7 @@ fn the_root_of_the_input_is_made_once_for_all_roots(rt: HostRuntime) -> Result<(
 fn digests_without_the_tree<R: Threads + Sync>(
     rt: &R,
     alloc: Global,
-    version: u8,
+    version: u32,
     input: &[u8],
 ) -> Result<[u64; 2], Memory>
     requires version { (1 ≤ version) × (version ≤ 3) }
@@ -349,7 +349,7 @@ fn digests_without_the_tree<R: Threads + Sync>(
 fn kept_toggles<D: Digester>(
     alloc: Global,
     d: D,
-    version: u8,
+    version: u32,
     input: &[u8],
 ) -> Result<KeptRun<D>, Memory>
     requires version { (1 ≤ version) × (version ≤ 3) }
@@ -360,7 +360,7 @@ fn kept_toggles<D: Digester>(
 }
 
 /// How many digests the root of the state takes with the tree of the input at hand. An `Err` is out of memory.
-fn digests_of_root_with_the_tree(alloc: Global, version: u8, input: &[u8]) -> Result<u64, Memory>
+fn digests_of_root_with_the_tree(alloc: Global, version: u32, input: &[u8]) -> Result<u64, Memory>
     requires version { (1 ≤ version) × (version ≤ 3) }
     requires input { length input.now ≤ 64 }
 {
@@ -380,7 +380,7 @@ fn digests_of_root_with_the_tree(alloc: Global, version: u8, input: &[u8]) -> Re
 fn digests_of_machine_with_the_tree<R: Threads + Sync>(
     rt: &R,
     alloc: Global,
-    version: u8,
+    version: u32,
     input: &[u8],
 ) -> Result<u64, Memory>
     requires version { (1 ≤ version) × (version ≤ 3) }
