@@ -133,7 +133,7 @@ fn takes<R: Threads + Sync>(
 /// register takes 6, its own and the 5 above it, and in version 3 the storage string takes one. The input's root is made no more.
 #[test]
 fn a_root_takes_the_digests_of_what_changed(rt: HostRuntime) -> Result<(), Fail> {
-    let rows: [(u8, [(u64, u64); 5]); 3] = [
+    let rows: [(u32, [(u64, u64); 5]); 3] = [
         (1, [(6, 31), (9, 31), (10, 3), (11, 3), (10, 0)]),
         (2, [(6, 36), (9, 36), (10, 2), (11, 8), (10, 0)]),
         (3, [(6, 37), (9, 37), (10, 3), (11, 9), (10, 0)]),

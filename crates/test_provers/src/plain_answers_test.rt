@@ -136,7 +136,7 @@ fn form_of<R: Threads + Sync>(
 type Form = (u8, usize, [u8; 2]);
 
 /// A version, a program and its step; where the flags stand in the wire form of the true proof; and what is read of it.
-type WireRow = (u8, Program, u32, usize, Form);
+type WireRow = (u32, Program, u32, usize, Form);
 
 /// With a chunk of memory a proof has 896 bytes more, with a register 164, and with a chunk of the input 512.
 const WIRE_ROWS: [WireRow; 5] = [
@@ -272,7 +272,7 @@ fn is_claim(claim: &Option<Claim>, root: u64, output: &[u8]) -> bool {
 }
 
 /// How the root of the eighth state of the program of eight steps begins, in each version.
-const LAST_ROOTS: [(u8, u64); 3] = [
+const LAST_ROOTS: [(u32, u64); 3] = [
     (1, 0x82f8_4640_36cd_320e),
     (2, 0x7a26_ece6_2c7e_e261),
     (3, 0xc82f_3d3f_1476_3045),

@@ -12,7 +12,7 @@ use std::test::Fail;
 use std::thread::Threads;
 
 /// A version and a tamper; how the roots of the steps 0, 3, 4 and 8 begin; the byte at 0x20003 in step 3, and the byte of its output.
-type Row = (u8, Tamper, [u64; 4], u8, Option<u8>);
+type Row = (u32, Tamper, [u64; 4], u8, Option<u8>);
 
 /// The rows of a run without a tamper, with a flipped byte, and with an early end.
 const ROWS_OF_VERSION_1: [Row; 3] = [

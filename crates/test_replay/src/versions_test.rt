@@ -310,7 +310,7 @@ fn a_root_after_one_changed_register_takes_its_path(rt: HostRuntime) -> Result<(
 #[test]
 fn the_root_of_the_input_is_made_once_for_all_roots(rt: HostRuntime) -> Result<(), Fail> {
     let input: [u8; 33] = [7; 33];
-    for (version, wanted) in [(2u8, 0), (3, 33)] {
+    for (version, wanted) in [(2u32, 0), (3, 33)] {
         let run = run_in(rt.alloc(), version, &TOGGLES, &input, 3, Tamper::Untouched)?;
         for steps in [&[0u64][..], &[0, 1, 2, 3, 4, 5, 6, 7, 8, 8][..]] {
             let whole = digests_of(&rt, rt.alloc(), &run, steps)?;
@@ -401,7 +401,7 @@ fn digests_of_machine_with_the_tree<R: Threads + Sync>(
 #[test]
 fn the_tree_of_the_input_is_made_once_for_all_states(rt: HostRuntime) -> Result<(), Fail> {
     let input = &[7; 33];
-    for (version, wanted) in [(2u8, 0), (3, 33)] {
+    for (version, wanted) in [(2u32, 0), (3, 33)] {
         let [root, committed] = digests_without_the_tree(&rt, rt.alloc(), version, input)?;
         let root_with = digests_of_root_with_the_tree(rt.alloc(), version, input)?;
         let committed_with = digests_of_machine_with_the_tree(&rt, rt.alloc(), version, input)?;
