@@ -48,7 +48,7 @@ fn led<R: Threads + Sync>(
 
 /// How often the proof led, as a line. `None` if the words don't begin with the subject's numbers, or memory ran out.
 pub fn line<R: Threads + Sync>(rt: &R, alloc: Global, words: &[String]) -> Option<String> {
-    let version = words.first()?.as_str().parse::<u8>().ok()?;
+    let version = words.first()?.as_str().parse::<u32>().ok()?;
     let steps = words.get(1)?.as_str().parse::<u64>().ok()?;
     let rulings = words.get(2)?.as_str().parse::<u64>().ok()?;
     if version < 1 || version > 3 {
