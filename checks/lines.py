@@ -6,7 +6,7 @@
     checks/lines.py --stored FILE   the same of each of several texts, one behind the other, for texts that are cut and lines that are exchanged,
                                     left out and doubled: crates/test_lines/stdout for crates/test_lines/stdin, which `rt ci` compares
 
-It is written from docs/TEXTS.md, docs/AUDIT.md and docs/COMMITMENTS.md, and no code is taken from the crates. FILE has to be the full
+It is written from docs/PROGRAM.md, docs/AUDIT.md and docs/COMMITMENTS.md, and no code is taken from the crates. FILE has to be the full
 text of a match, which `refcli audit` confirms. Its order of lines, who is asked what, and whether each claim is sound are tested here
 too; which side of a dispute is right isn't, as it takes the check of a proof. So no change is tried after which another match is
 played, such as another root, or `spent` in the place of an answer.

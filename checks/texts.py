@@ -1,5 +1,5 @@
 #!/usr/bin/env python3
-"""A second reader of full texts, written from docs/TEXTS.md and docs/COMMITMENTS.md.
+"""A second reader of full texts, written from docs/PROGRAM.md and docs/COMMITMENTS.md.
 
     checks/texts.py <FILE           says how the text on standard input is read: `read`, or its fault as `refcli audit` prints it
     checks/texts.py --mutants FILE  the same for each of the mutants of a text, a line each
