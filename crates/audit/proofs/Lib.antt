@@ -7,5 +7,4 @@ pub mod OrderLemmas
 pub mod GrowLemmas
 pub mod ExactLemmas
 pub mod WrittenLemmas
-pub mod GivenLemmas
 pub mod TrueLemmas

@@ -34,7 +34,6 @@ use Rattle.audit.proofs.NextLemmas.{next_is_open}
 use Rattle.audit.proofs.LegalLemmas.{after_moves, IsLegalEntry, AllLegal, fit-given, unfit-faulty, not-true}
 use Rattle.audit.proofs.GrowLemmas.{IsInOrder, order-nothing}
 use Rattle.audit.proofs.ExactLemmas.{IsPlayedTo, play-on, play-none, fewer-moves, qid-is, IsPlayedLine, line-turns, nothing-moves, IsOwn, confirmed-own}
-use Rattle.audit.proofs.GivenLemmas.{collision-in-lines}
 
 -- if a line is this prover's, it is given, and the true answer to its open question
 abbrev IsTrueEntry : Rules → Truth → ℕ → Record → TextMove → Type 0
@@ -146,13 +145,13 @@ claim-states claims (suc n) claim said true_ e =
     let states : Some (stated.Accept claim.ctl.status claim.output) ≡ Some said = sym (ap (λ (o : Option (Option Settled)). stated_claim (given_claim o)) is) ∙ e in
     cc
 
-right-stated : (rules : Rules) (truth : Truth) (t : Record) (ms : List TextMove) (v : Verdict) (said : Stated) → moves_of t ≡ ms → stated_of t.claims v ≡ Some said → IsRightVerdict rules truth t v →
-    IsRightStated rules.ruling truth ms said
-right-stated rules truth t ms (verdict.Accept n) said lines e right = rw (claim-states t.claims n truth.claim said right e) (refl, refl)
-right-stated rules truth t ms verdict.NoneLeft said lines e right = absurd right
-right-stated rules truth t ms (verdict.Collision x y) said lines e right =
+right-stated : (rules : Rules) (truth : Truth) (ms : List TextMove) (v : Verdict) (said : Stated) → stated_of (own_record rules ms).claims v ≡ Some said → IsRightVerdict rules truth (own_record rules ms) v →
+    IsRightStated rules truth ms said
+right-stated rules truth ms (verdict.Accept n) said e right = rw (claim-states (own_record rules ms).claims n truth.claim said right e) (refl, refl)
+right-stated rules truth ms verdict.NoneLeft said e right = absurd right
+right-stated rules truth ms (verdict.Collision x y) said e right =
     let is : said ≡ stated.Collision x y = cc in
-    rw is (collision-in-lines rules t ms (x, y) lines right)
+    rw is right
 
 -- what the laws of a match say together
 pub record AreLaws : Type 0 where
@@ -174,4 +173,4 @@ confirmed_text_is_right laws ruling truth text v p playable fair run some few of
     let right : IsRightVerdict rules truth (record_after rules posts.posts) (verdict_of rules (record_after rules posts.posts)) =
     laws.right rules truth posts.posts p playable fair run some true_ (rw same own.confirmed.complete) in
     let now : IsRightVerdict rules truth (after_moves rules text.moves (nothing_settled rules)) v = rw (← own.confirmed.verdict) (rw same at right) in
-    right-stated rules truth (after_moves rules text.moves (nothing_settled rules)) text.moves v text.stated own.moves own.confirmed.stated now
+    right-stated rules truth text.moves v text.stated (rw (← own.same) own.confirmed.stated) (rw own.same at now)

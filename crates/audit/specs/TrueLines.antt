@@ -3,12 +3,12 @@ use Rattle.std.specs.Prelude.{◌≡◌, ℕ, ◌<◌, ◌≤◌, List, [], ◌�
 use Rattle.rd_base.specs.declared.answer.Answer.{Answer}
 use Rattle.bisect_game.specs.declared.question.Kind.{Kind}
 use Rattle.bisect_game.specs.declared.settled.Settled.TheVariants.{Given}
-use Rattle.bisect_game.specs.Ruling.{Ruling, IsFair, IsCollision}
+use Rattle.bisect_game.specs.Ruling.{Ruling, IsFair}
 use Rattle.bisect_game.specs.Rules.{Rules, ArePlayable}
 use Rattle.bisect_game.specs.Truth.{Truth, IsRun, IsTrueSettled}
 use Rattle.tournament.specs.declared.verdict.Verdict.{Verdict}
 use Rattle.tournament.specs.Asked.{asked}
-use Rattle.tournament.specs.Theorem.{opened_by}
+use Rattle.tournament.specs.Theorem.{IsCollisionIn}
 use Rattle.transcript_text.specs.declared.text.TextMove.{TextMove}
 use Rattle.transcript_text.specs.declared.text.Stated.{Stated}
 use Rattle.transcript_text.specs.declared.text.Stated.TheVariants as stated
@@ -24,24 +24,11 @@ IsTrueLine rules truth p ms m = m.prover ≡ p → (k : Kind) → asked rules (o
 abbrev pub AreTrueLines : Rules → Truth → ℕ → List TextMove → Type 0
 AreTrueLines rules truth p ms = All (IsTrueLine rules truth p ms) ms
 
--- an answer is given in a line of the text
-abbrev pub IsGivenIn : Answer → List TextMove → Type 0
-IsGivenIn a [] = ⊥
-IsGivenIn a (m ∷ ms) = (m.settled ≡ Given a) ⊎ IsGivenIn a ms
-
--- two different strings of one digest, each opened by an answer that a line of the text gives
-pub record IsCollisionIn (ruling : Ruling) (ms : List TextMove) (pair : List ℕ × List ℕ) : Type 0 where
-  pub first : Answer
-  pub second : Answer
-  pub first_in : IsGivenIn first ms
-  pub second_in : IsGivenIn second ms
-  pub collision : IsCollision ruling (opened_by ruling first) (opened_by ruling second) pair
-
--- what is stated is right: the status and the output of the run, or a collision in the text
-abbrev pub IsRightStated : Ruling → Truth → List TextMove → Stated → Type 0
-IsRightStated ruling truth ms (stated.Accept status output) = (status ≡ truth.claim.ctl.status) × (output ≡ truth.claim.output)
-IsRightStated ruling truth ms stated.NoneLeft = ⊥
-IsRightStated ruling truth ms (stated.Collision x y) = IsCollisionIn ruling ms (x, y)
+-- what is stated is right: the status and the output of the run, or a collision in the text's own match
+abbrev pub IsRightStated : Rules → Truth → List TextMove → Stated → Type 0
+IsRightStated rules truth ms (stated.Accept status output) = (status ≡ truth.claim.ctl.status) × (output ≡ truth.claim.output)
+IsRightStated rules truth ms stated.NoneLeft = ⊥
+IsRightStated rules truth ms (stated.Collision x y) = IsCollisionIn rules (own_record rules ms) (x, y)
 
 -- of every run over the stated bound from the stated root, of which one prover's lines are all given and true, a confirmed text states
 -- the answer, or a collision
@@ -50,4 +37,4 @@ ConfirmedTextIsRight =
     (ruling : Ruling) (truth : Truth) (text : FullText) (v : Verdict) (p : ℕ) →
     let rules : Rules = rules_of_head ruling text.head in
     ArePlayable rules → IsFair ruling → IsRun rules truth → 0 < p → p ≤ rules.setup.provers → AreOfProvers rules.setup.provers text.moves →
-    audited ruling text ≡ Confirmed v → AreTrueLines rules truth p text.moves → IsRightStated ruling truth text.moves text.stated
+    audited ruling text ≡ Confirmed v → AreTrueLines rules truth p text.moves → IsRightStated rules truth text.moves text.stated

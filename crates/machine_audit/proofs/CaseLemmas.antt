@@ -11,10 +11,12 @@ use Rattle.step_referee.specs.MachineFair.{machine_ruling_is_fair}
 use Rattle.transcript_text.specs.declared.text.Stated.{Stated}
 use Rattle.transcript_text.specs.declared.text.Stated.TheVariants.{Accept, NoneLeft, Collision}
 use Rattle.transcript_text.specs.declared.text.FullText.{FullText}
+use Rattle.transcript_text.specs.reader.InLimits.{IsStatedInLimits}
+use Rattle.transcript_text.specs.reader.Laws.{ReadsExactly}
 use Rattle.audit.specs.Auditable.{IsAuditable, ReadTextsMayBeAudited}
 use Rattle.audit.specs.LineByLine.{rules_of_head}
 use Rattle.audit.specs.TrueLines.{IsRightStated, ConfirmedTextIsRight}
-use Rattle.machine_audit.specs.MachineAudit.{IsAnswerOrCollision, ConfirmedCasesAreRight}
+use Rattle.machine_audit.specs.MachineAudit.{rules_of_text, IsAnswerOrCollision, ConfirmedCasesAreRight}
 
 -- what the machine's law says
 abbrev pub RunsAreTrue : (List ℕ → List ℕ) → Type 0
@@ -23,13 +25,13 @@ RunsAreTrue digest =
     IsRun rules (machine_truth digest s rules.setup.bound)
 
 answer-of : (digest : List ℕ → List ℕ) (text : FullText) (s : State) (said : Stated)
-    → IsRightStated (machine_ruling digest text.head.version) (machine_truth digest s text.head.bound) text.moves said → IsAnswerOrCollision digest text s said
-answer-of digest text s (Accept status output) right = right
-answer-of digest text s NoneLeft right = right
-answer-of digest text s (Collision x y) right = right
+    → IsRightStated (rules_of_text digest text) (machine_truth digest s text.head.bound) text.moves said → IsStatedInLimits said → IsAnswerOrCollision digest text s said
+answer-of digest text s (Accept status output) right within = right
+answer-of digest text s NoneLeft right within = right
+answer-of digest text s (Collision x y) right within = (right, (within.0.2, within.1.2))
 
-pub cases-right : (digest : List ℕ → List ℕ) → ((bytes : List ℕ) → length (digest bytes) ≡ 32) → RunsAreTrue digest → ConfirmedTextIsRight → ReadTextsMayBeAudited → ConfirmedCasesAreRight digest
-cases-right digest is_digest runs right auditable bytes text v s p read confirmed start some few lines =
+pub cases-right : (digest : List ℕ → List ℕ) → ((bytes : List ℕ) → length (digest bytes) ≡ 32) → RunsAreTrue digest → ConfirmedTextIsRight → ReadTextsMayBeAudited → ReadsExactly → ConfirmedCasesAreRight digest
+cases-right digest is_digest runs right auditable exactly bytes text v s p read confirmed start some few lines =
     let ruling = machine_ruling digest text.head.version in
     let rules : Rules = rules_of_head ruling text.head in
     let fit : IsAuditable text = auditable bytes text read in
@@ -39,3 +41,4 @@ cases-right digest is_digest runs right auditable bytes text v s p read confirme
     let playable : ArePlayable rules = record { some = fit.some; parted = fit.parted; few_parts = fit.few_parts; steps = fit.steps } in
     answer-of digest text s text.stated
     (right ruling (machine_truth digest s text.head.bound) text v p playable (machine_ruling_is_fair digest is_digest text.head.version) run some few fit.provers confirmed lines)
+    ((exactly bytes text).0 read).0.stated

@@ -5,15 +5,17 @@ ghost use Rattle.machine_audit.specs.WrittenCases.{CollisionsOfPostsHaveStrings,
 use audit::{a_confirmed_text_is_right, read_texts_may_be_audited};
 use digest_core::Digester;
 use step_referee::machine_runs_are_true;
+use transcript_text::reading_is_the_inverse_of_writing;
 
-/// A confirmed text states the answer of the run, or a collision, of every case with the stated root at step 0, in the head's version,
-/// in which one prover's lines are all given and true.
+/// A confirmed text states the answer of the run, or two different strings of bytes with one digest, of every case with the stated root at
+/// step 0, in the head's version, in which one prover's lines are all given and true.
 pub fn confirmed_cases_are_right<D: Digester>()
     ensures { ConfirmedCasesAreRight D.digest_of }
 {
     machine_runs_are_true::<D>();
     a_confirmed_text_is_right();
     read_texts_may_be_audited();
+    reading_is_the_inverse_of_writing();
 }
 
 /// Each collision that the machine's judge calls, in each version, is of two strings of 1 to 129 bytes, as a text can state: in a match

@@ -5,11 +5,13 @@ use Rattle.rd_base.specs.declared.answer.Answer.{Answer}
 use Rattle.rd_base.specs.declared.answer.Answer.TheVariants as answer
 use Rattle.bisect_game.specs.declared.settled.Settled.{Settled}
 use Rattle.bisect_game.specs.declared.settled.Settled.TheVariants.{Given, Faulty, Spent}
+use Rattle.bisect_game.specs.declared.settled.Side.{Side}
 use Rattle.bisect_game.specs.declared.settled.Side.TheVariants.{First, Second}
 use Rattle.bisect_game.specs.Ruling.{Ruling, IsFair, IsCollision}
 use Rattle.bisect_game.specs.Rules.{Rules, ArePlayable}
 use Rattle.bisect_game.specs.Bisection.{Bisection, rounds_of, proof_rounds_of}
-use Rattle.bisect_game.specs.Truth.{Truth, IsRun, IsTruthful, IsRight, IsProved}
+use Rattle.bisect_game.specs.Closing.{is_proved}
+use Rattle.bisect_game.specs.Truth.{Truth, IsRun, IsTruthful, IsRight, IsProved, own_open, own_root}
 use Rattle.tournament.specs.declared.verdict.Verdict.{Verdict}
 use Rattle.tournament.specs.declared.verdict.Verdict.TheVariants.{Accept, NoneLeft, Collision}
 use Rattle.tournament.specs.Bracket.{Record, live, is_out_in, is_complete, verdict_of}
@@ -89,21 +91,27 @@ opened_by r (answer.Root x) = []
 opened_by r (answer.Roots xs) = []
 opened_by r (answer.Step p) = r.opened_by_step p
 
--- an answer of the record: a claim, or one of the last round of a dispute
+-- a claim that is given in the record
 abbrev pub IsInClaims : Answer → List (Option Settled) → Type 0
 IsInClaims a [] = ⊥
 IsInClaims a (s ∷ ss) = (s ≡ Some (Given a)) ⊎ IsInClaims a ss
 
-abbrev pub IsInDisputes : Answer → List Bisection → Type 0
-IsInDisputes a [] = ⊥
-IsInDisputes a (d ∷ ds) = (d.by_first ≡ Some (Given a)) ⊎ ((d.by_second ≡ Some (Given a)) ⊎ IsInDisputes a ds)
+-- a proof that is given by a side of a dispute, and that leads from the root on which both sides agree to the side's own
+pub record IsProofOf (ruling : Ruling) (side : Side) (a : Answer) (d : Bisection) : Type 0 where
+  pub given : own_open side d ≡ Some (Given a)
+  pub leads : is_proved ruling d.place.agreed (own_root side d.place) a ≡ true
 
--- two different strings of one digest, each opened by an answer of the record
+-- such a proof of one of these disputes
+abbrev pub IsInDisputes : Ruling → Answer → List Bisection → Type 0
+IsInDisputes ruling a [] = ⊥
+IsInDisputes ruling a (d ∷ ds) = IsProofOf ruling First a d ⊎ (IsProofOf ruling Second a d ⊎ IsInDisputes ruling a ds)
+
+-- two different strings of one digest, each opened by a claim that is given, or by a proof that leads from its dispute's agreed root
 pub record IsCollisionIn (rules : Rules) (r : Record) (pair : List ℕ × List ℕ) : Type 0 where
   pub first : Answer
   pub second : Answer
-  pub first_in : IsInClaims first r.claims ⊎ IsInDisputes first r.disputes
-  pub second_in : IsInClaims second r.claims ⊎ IsInDisputes second r.disputes
+  pub first_in : IsInClaims first r.claims ⊎ IsInDisputes rules.ruling first r.disputes
+  pub second_in : IsInClaims second r.claims ⊎ IsInDisputes rules.ruling second r.disputes
   pub collision : IsCollision rules.ruling (opened_by rules.ruling first) (opened_by rules.ruling second) pair
 
 abbrev pub IsRightVerdict : Rules → Truth → Record → Verdict → Type 0

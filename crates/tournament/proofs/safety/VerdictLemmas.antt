@@ -12,7 +12,7 @@ use Rattle.bisect_game.specs.declared.settled.Close.{Close}
 use Rattle.bisect_game.specs.declared.settled.Close.TheVariants.{Out, Collision}
 use Rattle.tournament.specs.declared.verdict.Verdict.TheVariants.{Collision}
 use Rattle.bisect_game.specs.Bisection.{Bisection, is_closed, settle_first, settle_second, closed_or, closed_with, went_on, decided, advanced}
-use Rattle.bisect_game.specs.Closing.{both_proved, closed_by, close_of, is_out, is_root, is_step}
+use Rattle.bisect_game.specs.Closing.{both_proved, closed_by, close_of, is_out, is_proved, is_root, is_step}
 use Rattle.bisect_game.specs.Rules.{Rules, ArePlayable}
 use Rattle.bisect_game.specs.Ruling.{Ruling, IsFair, IsCollision, same_digest}
 use Rattle.bisect_game.specs.Truth.{Truth, IsRun}
@@ -34,6 +34,8 @@ record MetBy (r : Ruling) (d : Bisection) (pair : List ℕ × List ℕ) : Type 0
   other : Proof
   by_one : d.by_first ≡ Some (Given (answer.Step one))
   by_other : d.by_second ≡ Some (Given (answer.Step other))
+  one_leads : is_proved r d.place.agreed d.place.first (answer.Step one) ≡ true
+  other_leads : is_proved r d.place.agreed d.place.second (answer.Step other) ≡ true
   collision_with : IsCollision r (r.opened_by_step one) (r.opened_by_step other) pair
 
 abbrev IsMet : Ruling → Bisection → Option Close → Type 0
@@ -57,19 +59,29 @@ module _ (laws : BisectionLaws) where
   root-led own (Some b) e = (b, refl)
   root-led own None e = absurd (cc)
 
-  met-out : (r : Ruling) (d : Bisection) (agreed : Digest32) (one other : Proof) (b c : Digest32) (o : Option (List ℕ × List ℕ)) → IsFair r → r.leads agreed one ≡ Some b → r.leads agreed other ≡ Some c → r.step_collision agreed one other ≡ o →
+  met-out : (r : Ruling) (d : Bisection) (one other : Proof) (b c : Digest32) (o : Option (List ℕ × List ℕ)) → IsFair r → r.leads d.place.agreed one ≡ Some b → r.leads d.place.agreed other ≡ Some c → r.step_collision d.place.agreed one other ≡ o →
+      is_root d.place.first (r.leads d.place.agreed one) ≡ true → is_root d.place.second (r.leads d.place.agreed other) ≡ true →
       d.by_first ≡ Some (Given (answer.Step one)) → d.by_second ≡ Some (Given (answer.Step other)) → IsMet r d (Some (closed_by o))
-  met-out r d agreed one other b c (Some pair) fair lb lc e ea eb =
-      record { one = one; other = other; by_one = ea; by_other = eb; collision_with = fair.step_collisions agreed one other b c pair lb lc e }
-  met-out r d agreed one other b c None fair lb lc e ea eb = tt
+  met-out r d one other b c (Some pair) fair lb lc e pa pb ea eb = record {
+    one = one;
+    other = other;
+    by_one = ea;
+    by_other = eb;
+    one_leads = pa;
+    other_leads = pb;
+    collision_with = fair.step_collisions d.place.agreed one other b c pair lb lc e;
+  }
+  met-out r d one other b c None fair lb lc e pa pb ea eb = tt
 
   -- nobody is out in a proof round, so both proofs lead
   met-meeting : (r : Ruling) (d : Bisection) (a b : Settled) → IsFair r → d.by_first ≡ Some a → d.by_second ≡ Some b → is_out r d.place d.place.first a ≡ false → is_out r d.place d.place.second b ≡ false → is_step d.place ≡ true →
       IsMet r d (Some (both_proved r d.place.agreed a b))
   met-meeting r d (Given (answer.Step one)) (Given (answer.Step other)) fair ea eb na nb step =
-      let first : (x : Digest32) × (r.leads d.place.agreed one ≡ Some x) = root-led d.place.first (r.leads d.place.agreed one) (led (is_step d.place) (is_root d.place.first (r.leads d.place.agreed one)) na step) in
-      let second : (x : Digest32) × (r.leads d.place.agreed other ≡ Some x) = root-led d.place.second (r.leads d.place.agreed other) (led (is_step d.place) (is_root d.place.second (r.leads d.place.agreed other)) nb step) in
-      met-out r d d.place.agreed one other first.0 second.0 (r.step_collision d.place.agreed one other) fair first.1 second.1 refl ea eb
+      let one_leads : is_root d.place.first (r.leads d.place.agreed one) ≡ true = led (is_step d.place) (is_root d.place.first (r.leads d.place.agreed one)) na step in
+      let other_leads : is_root d.place.second (r.leads d.place.agreed other) ≡ true = led (is_step d.place) (is_root d.place.second (r.leads d.place.agreed other)) nb step in
+      let first : (x : Digest32) × (r.leads d.place.agreed one ≡ Some x) = root-led d.place.first (r.leads d.place.agreed one) one_leads in
+      let second : (x : Digest32) × (r.leads d.place.agreed other ≡ Some x) = root-led d.place.second (r.leads d.place.agreed other) other_leads in
+      met-out r d one other first.0 second.0 (r.step_collision d.place.agreed one other) fair first.1 second.1 refl one_leads other_leads ea eb
   met-meeting r d _ _ fair ea eb na nb step = tt
 
   met-close : (r : Ruling) (d : Bisection) (x y z : Bool) (m c : Close) → (if x || y then Some (Out x y) else if z then Some m else None) ≡ Some c → (x ≡ false → y ≡ false → z ≡ true → IsMet r d (Some m)) → IsMet r d (Some c)
@@ -83,14 +95,22 @@ module _ (laws : BisectionLaws) where
   met-of r d a b c fair e ea eb =
       met-close r d (is_out r d.place d.place.first a) (is_out r d.place d.place.second b) (is_step d.place) (both_proved r d.place.agreed a b) c e (λ na nb step. met-meeting r d a b fair ea eb na nb step)
 
-  met-moved : (r : Ruling) (d e : Bisection) (c : Option Close) → e.by_first ≡ d.by_first → e.by_second ≡ d.by_second → IsMet r d c → IsMet r e c
-  met-moved r d e (Some (Collision s u)) ea eb h = record { one = h.one; other = h.other; by_one = ea ∙ h.by_one; by_other = eb ∙ h.by_other; collision_with = h.collision_with }
-  met-moved r d e (Some (Out a b)) ea eb h = tt
-  met-moved r d e None ea eb h = tt
+  met-closed : (r : Ruling) (d : Bisection) (by c : Option Close) → IsMet r d c → IsMet r (record d { close = by }) c
+  met-closed r d by (Some (Collision s u)) h = record {
+    one = h.one;
+    other = h.other;
+    by_one = h.by_one;
+    by_other = h.by_other;
+    one_leads = h.one_leads;
+    other_leads = h.other_leads;
+    collision_with = h.collision_with;
+  }
+  met-closed r d by (Some (Out a b)) h = tt
+  met-closed r d by None h = tt
 
   met-by : (ruling : Ruling) (d : Bisection) (a b : Settled) (o : Option Close) → IsFair ruling → close_of ruling d.place a b ≡ o → d.by_first ≡ Some a → d.by_second ≡ Some b → d.close ≡ None →
       IsMet ruling (closed_or d (went_on d a b) o) (closed_or d (went_on d a b) o).close
-  met-by ruling d a b (Some c) fair e ea eb still = met-moved ruling d (closed_with d c) (Some c) refl refl (met-of ruling d a b c fair e ea eb)
+  met-by ruling d a b (Some c) fair e ea eb still = met-closed ruling d (Some c) (Some c) (met-of ruling d a b c fair e ea eb)
   met-by ruling d a b None fair e ea eb still = rw still tt
 
   met-advanced : (ruling : Ruling) (d : Bisection) (a b : Option Settled) → IsFair ruling → d.by_first ≡ a → d.by_second ≡ b → d.close ≡ None → IsMet ruling (advanced ruling d a b) (advanced ruling d a b).close
@@ -151,21 +171,21 @@ module _ (laws : BisectionLaws) where
   -- so the collision of the disputes is one of the record
 
   collision-by : (rules : Rules) (r : Record) (d : Bisection) (ds : List Bisection) (pair : List ℕ × List ℕ) (c : Option Close) → option_or (collided c) (disputes_collision ds) ≡ Some pair → IsMet rules.ruling d c →
-      ((a : Answer) → IsInDisputes a (d ∷ ds) → IsInDisputes a r.disputes) → (disputes_collision ds ≡ Some pair → IsCollisionIn rules r pair) → IsCollisionIn rules r pair
+      ((a : Answer) → IsInDisputes rules.ruling a (d ∷ ds) → IsInDisputes rules.ruling a r.disputes) → (disputes_collision ds ≡ Some pair → IsCollisionIn rules r pair) → IsCollisionIn rules r pair
   collision-by rules r d ds pair (Some (Collision s u)) e h sub rest =
       let same : (s, u) ≡ pair = cc in
       rw (← same) (record {
         first = answer.Step h.one;
         second = answer.Step h.other;
-        first_in = inr (sub (answer.Step h.one) (inl h.by_one));
-        second_in = inr (sub (answer.Step h.other) (inr (inl h.by_other)));
+        first_in = inr (sub (answer.Step h.one) (inl (record { given = h.by_one; leads = h.one_leads })));
+        second_in = inr (sub (answer.Step h.other) (inr (inl (record { given = h.by_other; leads = h.other_leads }))));
         collision = h.collision_with;
       })
   collision-by rules r d ds pair (Some (Out a b)) e h sub rest = rest e
   collision-by rules r d ds pair None e h sub rest = rest e
 
   dispute-collision : (rules : Rules) (r : Record) (ds : List Bisection) (pair : List ℕ × List ℕ) → disputes_collision ds ≡ Some pair → AllMet rules.ruling ds →
-      ((a : Answer) → IsInDisputes a ds → IsInDisputes a r.disputes) → IsCollisionIn rules r pair
+      ((a : Answer) → IsInDisputes rules.ruling a ds → IsInDisputes rules.ruling a r.disputes) → IsCollisionIn rules r pair
   dispute-collision rules r [] pair e h sub = absurd (cc)
   dispute-collision rules r (d ∷ ds) pair e h sub =
       collision-by rules r d ds pair d.close e h.0 sub (λ further. dispute-collision rules r ds pair further h.1 (λ a i. sub a (inr (inr i))))
