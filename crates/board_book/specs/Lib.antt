@@ -1,4 +1,5 @@
 pub mod Entries
 pub mod Tasks
 pub mod Alone
+pub mod CaseRecords
 pub mod Keeping

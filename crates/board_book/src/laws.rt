@@ -1,8 +1,10 @@
 //! Laws: each function has an empty body, and its clauses hold of all journals, openings and answerers.
 ghost use Rattle.board_book.specs.Alone.{TasksAreAlone, OwnEntriesDecide};
+ghost use Rattle.board_book.specs.CaseRecords.{JournalsHaveTheRecordOfTheCase, TasksHaveTheRecordOfTheirCase};
 ghost use Rattle.board_book.specs.Keeping.{AreNumbered, AreToldApart, SayInOrder};
 
 use bisect_game::{Answerer, Judge, Provers};
+use tournament::one_record_of_a_case;
 
 /// Each task is alone: the entries of a task in a legal journal of all are a legal journal of that task, with the same replies, and
 /// the task comes to where these alone lead (`alone`). Two journals that agree on them come to the same question, the same reply and
@@ -11,6 +13,17 @@ pub fn tasks_are_alone()
     ensures alone { TasksAreAlone }
     ensures decide { OwnEntriesDecide }
 {}
+
+/// No schedule shows in what comes of a case. Each legal journal of a match, a list of entries, after which the match is over comes to the
+/// record of the case and to its verdict (`case_`); and so do the entries of each task in every legal journal of all tasks after which the
+/// match of that task is over (`task`).
+#[tactic(auto, using(crate::proofs::CaseLemmas::journals_have_the_record))]
+pub fn journals_have_the_record_of_the_case()
+    ensures case_ { JournalsHaveTheRecordOfTheCase }
+    ensures task { TasksHaveTheRecordOfTheirCase }
+{
+    one_record_of_a_case();
+}
 
 /// An opening has the number of its book, and a task the number of its opening, from 1 to their count.
 #[tactic(auto, using(crate::proofs::KeepingLemmas::are_numbered))]

@@ -8,7 +8,8 @@
 //!
 //! Of many books: the joint journal is legal, entry by entry, where the entry's task stands, and the entries of a task are the journal
 //! of that task's own book (`Books::is_legal`). Each task is alone: its entries are a legal journal of it, and fix what it asks, what a
-//! post is answered and its record (`tasks_are_alone`). The memory of all tasks is taken at the opening.
+//! post is answered and its record (`tasks_are_alone`). Every legal journal after which a match is over comes to the record and the verdict of
+//! its case (`journals_have_the_record_of_the_case`). The memory of all tasks is taken at the opening.
 //!
 //! Read `opening` and `entry` first, then `book`, `specs/Tasks.antt`, `specs/Alone.antt` and `books`.
 #![tactic(auto)]
@@ -24,6 +25,7 @@ pub use book::Book;
 pub use books::Books;
 pub use entry::{Ask, Entry};
 pub use laws::{
-    answerers_say_in_order, entries_are_told_apart, tasks_are_alone, tasks_are_numbered,
+    answerers_say_in_order, entries_are_told_apart, journals_have_the_record_of_the_case,
+    tasks_are_alone, tasks_are_numbered,
 };
 pub use opening::Opening;
