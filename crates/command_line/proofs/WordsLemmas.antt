@@ -1,7 +1,8 @@
 -- What the clauses of `clap` say of our command line.
-use Rattle.std.proofs.Common.{ℕ, Bool, false, ◌<◌, ◌≤◌, ◌^◌, max, Result, Ok, Err, arith, ◌≡◌, ◌≢◌, inl, inr, subst, ◌∙◌, List, [], ◌∷◌, true, Option, Some, None, codes, refl, sym, ap, cond}
+use Rattle.std.proofs.Common.{ℕ, Bool, false, ◌++◌, ◌<◌, ◌≤◌, ◌^◌, max, Result, Ok, Err, arith, ◌≡◌, ◌≢◌, inl, inr, subst, ◌∙◌, List, [], ◌∷◌, true, Option, Some, None, codes, refl, sym, ap, cond}
 use Rattle.std.specs.Prelude.{unwrap_or}
 use Rattle.std.specs.Option.{option_and_then}
+use Rattle.std.specs.List.{list_all}
 use Rattle.std.specs.Str.{bytes_eq}
 use Rattle.std.specs.Str.Parse.{IsNumeral, ParsesBool, ParsesUnsigned, digits_value, without_leading_plus}
 use Rattle.std.proofs.lemmas.Slice.Eq.{bytes_eq-Decides}
@@ -20,6 +21,7 @@ use Rattle.clap.specs.declared.error.kind.ErrorKind.{ErrorKind}
 use Rattle.clap.specs.declared.parser.matches.ArgMatches.{ArgMatches}
 use Rattle.clap.proofs.OnLiterals.{clap_on_literals}
 use Rattle.command_line.specs.Words.{command_line, is_faultless, is_taken, command_of, named, text_in, seed_in, chosen, rows_given, given_options, IsNumberOf}
+use Rattle.command_line.specs.Options.{help_words, plain_commands, is_refused}
 use Rattle.transcript_text.specs.declared.text.DigestName.TheVariants.{Sha256, Weak8}
 use Rattle.command_line.specs.declared.request.MatchText.TheVariants.{Report, Full}
 use Rattle.command_line.specs.declared.request.Command.{Command}
@@ -70,6 +72,22 @@ audit_is_taken program = refl
 pub list_is_taken : (program : Text) → chosen (program ∷ codes "list" ∷ []) ≡ Some Listing
 unfolding clap_on_literals command_line is_taken command_of
 list_is_taken program = refl
+
+pub nothing_is_refused : chosen [] ≡ None
+unfolding clap_on_literals command_line is_taken command_of
+nothing_is_refused = refl
+
+pub name_alone_is_refused : (program : Text) → chosen (program ∷ []) ≡ None
+unfolding clap_on_literals command_line is_taken command_of
+name_alone_is_refused program = refl
+
+pub help_is_refused_alone : (program : Text) → list_all (λ word. is_refused program (word ∷ [])) help_words ≡ true
+unfolding clap_on_literals command_line is_taken command_of
+help_is_refused_alone program = refl
+
+pub help_is_refused_behind : (program : Text) → list_all (λ word. list_all (λ command. is_refused program (command ++ word ∷ [])) plain_commands) help_words ≡ true
+unfolding clap_on_literals command_line is_taken command_of
+help_is_refused_behind program = refl
 
 pub valued_full_is_refused : (program : Text) → chosen (program ∷ codes "judge" ∷ codes "--full=true" ∷ []) ≡ None
 unfolding clap_on_literals command_line is_taken command_of

@@ -1,5 +1,6 @@
--- Derived. The options of `judge` and of `big` as they are written, and which lists of them are taken. The law `options_are_taken` shows it.
-use Rattle.std.specs.Prelude.{◌≡◌, ℕ, ◌&&◌, List, [], ◌∷◌, ◌++◌, Bool, true, false, not, codes, find, is_some, nat_le, Option, Some, if◌then◌else◌}
+-- Derived. The options of `judge` and of `big` as they are written, and which lists of them are taken; and words that ask for help. The laws
+-- `options_are_taken` and `help_is_refused` show it.
+use Rattle.std.specs.Prelude.{◌≡◌, ℕ, ◌&&◌, List, [], ◌∷◌, ◌++◌, Bool, true, false, not, codes, find, is_none, is_some, nat_le, Option, Some, if◌then◌else◌}
 use Rattle.std.specs.Str.{bytes_eq}
 use Rattle.clap.specs.ValueTests.{is_unsigned_in}
 use Rattle.clap.specs.Walk.{Text}
@@ -10,6 +11,7 @@ use Rattle.command_line.specs.declared.request.MatchText.{MatchText}
 use Rattle.command_line.specs.declared.request.MatchText.TheVariants.{Report, Full}
 use Rattle.command_line.specs.declared.request.Command.{Command}
 use Rattle.command_line.specs.declared.request.Command.TheVariants.{Judge}
+use Rattle.command_line.specs.Words.{chosen}
 
 -- an option with a number
 pub data OptionName : Type 0 where
@@ -105,3 +107,16 @@ digest_asked gs = digest_or (given_by (codes "digest") gs)
 -- `judge` with these options
 abbrev pub judge_of : List Given → Command
 judge_of gs = Judge (text_asked gs) (digest_asked gs)
+
+-- HELP AND VERSION: the words by which programs are asked for them
+abbrev pub help_words : List Text
+help_words = codes "--help" ∷ codes "-h" ∷ codes "help" ∷ codes "--version" ∷ codes "-V" ∷ []
+
+-- each command with what has to be given to it
+abbrev pub plain_commands : List (List Text)
+plain_commands =
+    (codes "judge" ∷ []) ∷ (codes "run" ∷ []) ∷ (codes "roots" ∷ []) ∷ (codes "audit" ∷ []) ∷ (codes "list" ∷ []) ∷ (codes "big" ∷ codes "0" ∷ []) ∷ []
+
+-- the words behind a program's name name no command
+abbrev pub is_refused : Text → List Text → Bool
+is_refused program words = is_none (chosen (program ∷ words))

@@ -68,7 +68,8 @@ abbrev pub is_faultless : Kinds → Bool
 is_faultless [] = true
 is_faultless (kind ∷ kinds) = false
 
--- arguments that are taken: `clap` finds no fault in them, the first being the program's name
+-- arguments in which `clap` finds no fault, the first being the program's name. It is `clap`'s part alone: which names `--digest` may have
+-- says `digest_in`.
 unfoldable pub is_taken : List Text → Bool
 is_taken words = is_faultless (fault_of command_line words)
 

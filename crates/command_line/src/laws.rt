@@ -1,8 +1,9 @@
 //! Which arguments name a command.
-ghost use Rattle.std.specs.Prelude.{◌≡◌, ◌≤◌, ℕ, List, [], ◌∷◌, All, true, Some, None, codes, option_map, if◌then◌else◌};
+ghost use Rattle.std.specs.Prelude.{◌≡◌, ◌≤◌, ℕ, List, [], ◌∷◌, ◌++◌, All, true, Some, None, codes, option_map, if◌then◌else◌};
+ghost use Rattle.std.specs.List.{list_all};
 ghost use Rattle.transcript_text.specs.declared.text.DigestName.TheVariants.{Sha256, Weak8};
 ghost use Rattle.command_line.specs.Words.{chosen, seed_in};
-ghost use Rattle.command_line.specs.Options.{Given, IsOfJudge, IsOfBig, begins_with_digit, words_of, are_taken, judge_of};
+ghost use Rattle.command_line.specs.Options.{Given, IsOfJudge, IsOfBig, begins_with_digit, words_of, are_taken, judge_of, help_words, plain_commands, is_refused};
 
 use crate::request::{Command, MatchText};
 
@@ -16,6 +17,20 @@ pub fn plain_words()
     ensures roots { (program : List ℕ) → chosen (program ∷ codes "roots" ∷ []) ≡ Some Command.Roots }
     ensures audit { (program : List ℕ) → chosen (program ∷ codes "audit" ∷ []) ≡ Some Command.Audit }
     ensures list { (program : List ℕ) → chosen (program ∷ codes "list" ∷ []) ≡ Some Command.Listing }
+{}
+
+/// No arguments name no command, and neither does the program's name alone.
+#[tactic(auto, using(crate::proofs::WordsLemmas::nothing_is_refused, crate::proofs::WordsLemmas::name_alone_is_refused))]
+pub fn a_command_is_required()
+    ensures nothing { chosen [] ≡ None }
+    ensures name_alone { (program : List ℕ) → chosen (program ∷ []) ≡ None }
+{}
+
+/// `--help`, `-h`, `help`, `--version` and `-V` are refused, alone and behind each command.
+#[tactic(auto, using(crate::proofs::WordsLemmas::help_is_refused_alone, crate::proofs::WordsLemmas::help_is_refused_behind))]
+pub fn help_is_refused()
+    ensures alone { (program : List ℕ) → list_all (λ word. is_refused program (word ∷ [])) help_words ≡ true }
+    ensures behind { (program : List ℕ) → list_all (λ word. list_all (λ command. is_refused program (command ++ word ∷ [])) plain_commands) help_words ≡ true }
 {}
 
 /// `--full=true` is refused, as the option takes no value; and so is `--full` alone, or `--digest sha256` alone, behind each command but `judge`.

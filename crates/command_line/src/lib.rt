@@ -16,6 +16,7 @@ mod request;
 
 pub use given::command_given;
 pub use laws::{
-    digests_by_name, options_are_taken, own_options, plain_seeds, plain_words, seeds_are_numbers,
+    a_command_is_required, digests_by_name, help_is_refused, options_are_taken, own_options,
+    plain_seeds, plain_words, seeds_are_numbers,
 };
 pub use request::{Command, MatchText, Options, Request};
