@@ -68,7 +68,7 @@ fn places_of<J: Judge + Drop, P: Provers + Drop>(
     Ok(places)
 }
 
-/// The most posts that the matches of these books have room for. A saturated sum bounds them, too.
+/// The most posts that the matches of these books have room for, or 2^64 - 1 if they are more, which no run reaches.
 fn most_posts_of<J: Judge + Drop, P: Provers + Drop>(books: &Books<J, P>) -> u64 {
     let mut total = 0_u64;
     for i in 0..books.count() {
@@ -120,7 +120,7 @@ fn join_posters<J: Judge + Drop, P: Provers + Drop>(
 /// i of k serves those whose number modulo k is i, each poster in a thread of its own if one can be made. With one poster no thread
 /// is started. There is one answerer for each prover, which answers as that prover; answers are made while other posters post.
 ///
-/// A poster ends when the matches of all its provers are over. It ends early when its answerer finds no memory, after 1,000,000 turns in
+/// A poster ends when the matches of all its provers are over. It ends early when its answerer finds no memory, after 10,000,000 turns in
 /// a row in which none of its provers had anything to do, after a second without a post if some poster hasn't begun, and when another
 /// ended early; what is left undone is played alone then. One with nothing to do sleeps until another has posted, for a tenth of a second
 /// at most. In the books that are given back each match is over, whatever the threads did, and their journal begins with the one that

@@ -1,7 +1,9 @@
 //! What one poster does, and what the posters share.
 //!
-//! No run can sleep for good: each sleep ends by itself after at most a tenth of a second, and the loop of each poster is bounded by
-//! what there is to do. Posters wake each other for speed alone, so that a lost wake costs time.
+//! No run can sleep for good. Each sleep ends by itself after at most a tenth of a second, and the loop of each poster is bounded by the room
+//! for posts and by `MOST_IDLE_TURNS`. The board's lock isn't held while a poster answers, stands at its gate or sleeps. As long as a
+//! match isn't over it asks one of its provers (`Match::is_never_stuck`), and that prover's poster serves it. Posters wake each other for
+//! speed alone, so that a lost wake costs time.
 ghost use Rattle.std.specs.Prelude.{◌≡◌, List, map, slice_get};
 ghost use Rattle.std.specs.Thread.{IsSync};
 ghost use Rattle.board_book.specs.declared.opening.Opening.{Opening};
@@ -20,18 +22,18 @@ use tournament::move_of;
 
 /// After this many idle turns in a row a poster ends early. In an idle turn none of its provers had anything to do.
 ///
-/// It sleeps after each of them, so that they take 28 hours if nobody posts. Posts of others, which end a sleep, are too few to reach
-/// the limit: eight tasks have at most 812,848.
-const MOST_IDLE_TURNS: u32 = 1_000_000;
+/// It sleeps after each of them, so that they take eleven days if nobody posts. They take three days at least if others post: a post ends
+/// a sleep and shortens the seven after it, and the matches of eight tasks have room for at most 812,848.
+const MOST_IDLE_TURNS: u32 = 10_000_000;
 
-/// As long as some poster hasn't begun, a poster ends early after this many idle turns in a row without a post, which are 0.927 seconds.
-/// If a thread can't be made, the poster that hasn't begun may stand behind this one in the same thread.
-const MOST_QUIET_TURNS: u32 = 15;
+/// As long as some poster hasn't begun, a poster ends early after this many idle turns in a row without a post, whose sleeps add up to 0.927
+/// seconds. If a thread can't be made, the poster that hasn't begun may stand behind this one in the same thread.
+const MOST_QUIET_TURNS_BEFORE_ALL_BEGIN: u32 = 15;
 
 /// The longest sleep, in milliseconds.
 const LONGEST_SLEEP: u64 = 100;
 
-/// What `news` is set to when a poster ends early. There are always fewer posts.
+/// What `news` is set to when a poster ends early. Posts alone never reach it.
 const ENDED_EARLY: u64 = u64::MAX / 2;
 
 /// What the posters share.
@@ -48,7 +50,7 @@ pub struct Hall<'g, J: Judge + Drop, P: Provers + Drop, G: TaskGate> {
     /// How many posters have begun.
     pub begun: AtomicU32,
     /// How many posts there were, or at least `ENDED_EARLY` once a poster ended before the matches of its provers were over. A poster
-    /// with nothing to do sleeps until this changes.
+    /// with nothing to do sleeps until this changes, or for `LONGEST_SLEEP`.
     pub news: AtomicU64,
 }
 
@@ -68,7 +70,7 @@ enum Turn {
     Posted,
     /// There was nothing to do.
     Idle,
-    /// An answerer found no memory, or a poster ended early.
+    /// An answerer found no memory, this poster waited too long, or another ended early.
     EndsEarly,
 }
 
@@ -82,7 +84,7 @@ fn place_at(places: &Vec<Place>, number: u32) -> Option<Place>
     }
 }
 
-/// How long a poster sleeps, in milliseconds, after this many idle turns in a row without a post.
+/// How long a poster sleeps after an idle turn, in milliseconds, if this many idle turns in a row before it were without a post.
 fn sleep_after(quiet: u32) -> u64 {
     if quiet < 7 { 1 << quiet } else { LONGEST_SLEEP }
 }
@@ -93,20 +95,20 @@ impl<'g, J: Judge + Drop, P: Provers + Drop, G: TaskGate> Hall<'g, J, P, G> {
         self.news.load(Ordering::SeqCst) >= ENDED_EARLY
     }
 
-    /// Tells the posters that sleep of one more post.
-    fn tell_of_post(&self) {
+    /// Counts a post, and wakes the posters that sleep.
+    fn note_post(&self) {
         self.news.fetch_add(1, Ordering::SeqCst);
         self.news.wake_all();
     }
 
-    /// Tells the others that this poster ends early.
+    /// Makes the others end early with this poster.
     fn end_early(&self) {
         self.news.store(ENDED_EARLY, Ordering::SeqCst);
         self.news.wake_all();
     }
 
-    /// Sleeps until there is news since it stood at `seen`, and for a while at most. `quiet` idle turns in a row were without news before
-    /// this one; what comes back is how many are with it.
+    /// Sleeps until `news` no longer stands at `seen`, and for a while at most. `quiet` counts the idle turns in a row without news before
+    /// this one. What comes back is that count with this turn, or 0 if there was news.
     fn sleep<R: Wait>(&self, rt: &R, seen: u64, quiet: u32) -> u32 {
         let longest = Duration::from_millis(sleep_after(quiet));
         self.news
@@ -120,7 +122,8 @@ impl<'g, J: Judge + Drop, P: Provers + Drop, G: TaskGate> Hall<'g, J, P, G> {
 
     /// Whether a poster ends early after this many idle turns in a row without news: some poster hasn't begun, and it waited long.
     fn has_waited_long(&self, quiet: u32) -> bool {
-        quiet >= MOST_QUIET_TURNS && self.begun.load(Ordering::SeqCst) < self.posters
+        quiet >= MOST_QUIET_TURNS_BEFORE_ALL_BEGIN
+            && self.begun.load(Ordering::SeqCst) < self.posters
     }
 
     /// One turn for a prover: it is asked, and what it answers is posted. The answer is made between the two turns at the board.
@@ -147,7 +150,7 @@ impl<'g, J: Judge + Drop, P: Provers + Drop, G: TaskGate> Hall<'g, J, P, G> {
                     self.gate.before_post(task, prover, question.qid);
                     self.board
                         .post(rt, seat, task, prover, question.qid, move_of(answer));
-                    self.tell_of_post();
+                    self.note_post();
                     Turn::Posted
                 }
                 Err(_) => Turn::EndsEarly,
@@ -223,7 +226,7 @@ impl<'g, J: Judge + Drop, P: Provers + Drop, G: TaskGate> Hall<'g, J, P, G> {
     }
 
     /// Serves the provers of these numbers until the matches of all are over, and says whether they are. There are at most as many posts
-    /// as the matches have room for, and at most `MOST_IDLE_TURNS` between two of them, so this ends whatever the other posters do.
+    /// as the matches have room for, and at most `MOST_IDLE_TURNS` before each, so this ends whatever the other posters do.
     fn serve_until_over<A: Answerer, R: Threads + Wait + Sync>(
         &self,
         rt: &R,
