@@ -1,4 +1,5 @@
 pub mod RunLemmas
+pub mod ValidRunLemmas
 pub mod QuietLemmas
 pub mod PlaceLemmas
 pub mod VersionLemmas

@@ -1,6 +1,7 @@
 pub use Rattle.rv_step.specs.State
 pub use Rattle.rv_step.specs.Step
 pub mod TamperedRun
+pub mod ValidRuns
 pub mod NamedPages
 pub mod WrittenPages
 pub mod AtRest

@@ -6,10 +6,12 @@ ghost use Rattle.rv_step.specs.State.{State};
 ghost use Rattle.rv_step.specs.Step.{state_at};
 ghost use Rattle.checkpoint_run.specs.NamedPages.{IsNamed};
 ghost use Rattle.checkpoint_run.specs.TamperedRun.{run_from, run_at, tampered, first_stop, still};
+ghost use Rattle.checkpoint_run.specs.ValidRuns.{TamperedRunsKeepValidStates};
 ghost use Rattle.checkpoint_run.specs.AtRest.{rests};
 ghost use Rattle.rd_base.specs.Status.{is_running};
 
-use rv_step::{runs_keep_the_input, stopped_states_stay};
+use mem_plain::memories_are_their_bytes;
+use rv_step::{runs_keep_the_input, steps_keep_valid_states, stopped_states_stay};
 
 /// The run of a prover in the words of the machine's own. Without a tamper it is the machine's (`plain`). Before the step at
 /// which a byte is flipped or a register set it is the machine's too (`flip_before`, `register_before`); there the state is
@@ -40,6 +42,14 @@ pub fn tampered_runs_keep_the_input()
     ensures input { (t : Tamper) (first : State) (i : ℕ) → (run_from t first i).input ≡ first.input }
 {
     runs_keep_the_input();
+}
+
+/// A tamper whose numbers are in range makes no invalid state: each state of the run from a valid one is valid.
+pub fn tampered_runs_keep_valid_states()
+    ensures { TamperedRunsKeepValidStates }
+{
+    memories_are_their_bytes();
+    steps_keep_valid_states();
 }
 
 /// The first stop of a run below a step is the first: below it each state runs (`runs_before`), and if it is itself below

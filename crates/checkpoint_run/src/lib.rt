@@ -6,7 +6,7 @@
 //! step, and returns the pages that were written; `advance` takes it towards a goal, over a stretch in which nothing happens at once. So
 //! each state of the run is had by replaying fewer steps than lie between two checkpoints. All keep the chain by the digester that
 //! recorded the run. Laws of the run, in the words of the machine's own, are `tampered_runs` and `stops_come_first`; by
-//! `tampered_runs_keep_the_input` each state has the run's version and input.
+//! `tampered_runs_keep_the_input` each state has the run's version and input, and by `tampered_runs_keep_valid_states` it is valid.
 //!
 //! Time and memory of a run go with the steps that change something. A run that has stopped, and that a tamper changes at a later step,
 //! stands still in between: one checkpoint has the state of this stretch, and it is found for each checkpoint of the stretch
@@ -31,5 +31,6 @@ mod version;
 
 pub use laws::{
     pages_of_two_places, stops_come_first, tampered_runs, tampered_runs_keep_the_input,
+    tampered_runs_keep_valid_states,
 };
 pub use run::{Run, advance, machine_at, next, record_run};
