@@ -14,10 +14,13 @@ use Rattle.tournament.specs.Moves.{MatchState, begun, passes_of}
 use Rattle.tournament.specs.Journals.{turn, turn_on, turns, IsAskedOf, Legal, answers_of, RecordOfCase}
 use Rattle.rd_base.specs.Questions.{same_qid}
 use Rattle.tournament.specs.Posting.{posted, posted_on, Post, after_posts, record_after, NobodyAskedIsOver}
+use Rattle.tournament.specs.Theorem.{lives}
 use Rattle.tournament.specs.Length.{IsMost, most_entries, SpareIsEnough, ThereIsAMost}
 use Rattle.tournament.specs.Truthful.{IsTruthfulProver, IsSafe, TruthfulProversAreSafe}
 use Rattle.deposits.specs.Balances.{IsSettledUp}
 use Rattle.deposits.specs.Theorem.{EndedIsSettledUp}
+use Rattle.deposits.specs.ExactBalance.{HasWonAll, WhoLivesWinsAll}
+use Rattle.case_match.specs.Earnings.{WhoLivesInACaseWinsAll}
 use Rattle.case_match.specs.Match.{RecordsOfCasesAreSettledUp}
 
 -- one more move
@@ -117,12 +120,40 @@ case-is-safe laws rules says t p playable fair run some few truthful =
       safe = subst (IsSafe rules t p) e (laws.safe rules says t ending.0 p playable fair run some few truthful ending.1.legal);
     }
 
--- the record of a case is that of posts after which nothing is open, and may be paid
-pub case-is-settled-up : SpareIsEnough → NobodyAskedIsOver → ThereIsAMost → RecordOfCase → EndedIsSettledUp → RecordsOfCasesAreSettledUp
-case-is-settled-up enough over most of_case ended rules says playable =
+-- legal moves, and posts, that come to the record of a case, in which nothing is open
+pub record IsComeTo (rules : Rules) (says : Says) : Type 0 where
+  pub moves : List ℕ
+  pub legal : Legal rules says moves (begun rules)
+  pub by_moves : (turns rules says moves (begun rules)).record_ ≡ bracket rules (answers_of rules says)
+  pub posts : List Post
+  pub by_posts : record_after rules posts ≡ bracket rules (answers_of rules says)
+  pub complete : is_complete (bracket rules (answers_of rules says)) ≡ true
+
+pub come-to : SpareIsEnough → NobodyAskedIsOver → ThereIsAMost → RecordOfCase → (rules : Rules) (says : Says) → ArePlayable rules → IsComeTo rules says
+come-to enough over most of_case rules says playable =
     let ending = case-ends enough over most rules says playable in
     let posts = posts-of rules says ending.0 (begun rules) ending.1.legal in
-    let closed : is_complete (record_after rules posts.0) ≡ true = subst (λ (st : MatchState). is_complete st.record_ ≡ true) (sym posts.1) ending.1.complete in
-    let comes : record_after rules posts.0 ≡ bracket rules (answers_of rules says) =
-    ap (λ (st : MatchState). st.record_) posts.1 ∙ of_case rules says ending.0 playable ending.1.legal ending.1.complete in
-    subst (λ (r : Record). IsSettledUp rules.setup.provers r) comes (ended rules posts.0 playable closed)
+    let comes = of_case rules says ending.0 playable ending.1.legal ending.1.complete in
+    record {
+      moves = ending.0;
+      legal = ending.1.legal;
+      by_moves = comes;
+      posts = posts.0;
+      by_posts = ap (λ (st : MatchState). st.record_) posts.1 ∙ comes;
+      complete = subst (λ (r : Record). is_complete r ≡ true) comes ending.1.complete;
+    }
+
+-- it may be paid
+pub case-is-settled-up : SpareIsEnough → NobodyAskedIsOver → ThereIsAMost → RecordOfCase → EndedIsSettledUp → RecordsOfCasesAreSettledUp
+case-is-settled-up enough over most of_case ended rules says playable =
+    let case : IsComeTo rules says = come-to enough over most of_case rules says playable in
+    subst (λ (r : Record). IsSettledUp rules.setup.provers r) case.by_posts
+    (ended rules case.posts playable (subst (λ (r : Record). is_complete r ≡ true) (sym case.by_posts) case.complete))
+
+-- and who is live in it has won all
+pub who-lives-in-a-case-wins-all : SpareIsEnough → NobodyAskedIsOver → ThereIsAMost → RecordOfCase → WhoLivesWinsAll → WhoLivesInACaseWinsAll
+who-lives-in-a-case-wins-all enough over most of_case wins stake rules says p playable some few stays =
+    let case : IsComeTo rules says = come-to enough over most of_case rules says playable in
+    subst (λ (r : Record). HasWonAll stake rules.setup.provers p r) case.by_posts
+    (wins stake rules case.posts p playable some few (subst (λ (r : Record). is_complete r ≡ true) (sym case.by_posts) case.complete)
+    (subst (λ (r : Record). lives r p ≡ true) (sym case.by_posts) stays))

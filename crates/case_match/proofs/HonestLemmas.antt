@@ -2,7 +2,9 @@
 use Rattle.std.proofs.Common.{◌≡◌, ℕ, zero, suc, ◌+◌, ◌-◌, ◌<◌, ◌≤◌, min, nat_lt, nat_le, Bool, true, false, ◌&&◌, if◌then◌else◌, List, [], ◌∷◌, length, map, slice_get, slice_index, Option, Some, None, IsSomeAnd, refl, ◌∙◌, ap, ap₂, arith}
 use Rattle.std.proofs.lemmas.Bool.Decides.{nat_tests}
 use Rattle.rd_base.specs.declared.answer.Answer.{Answer}
+use Rattle.rd_base.specs.declared.claim.Claim.{Claim}
 use Rattle.rd_base.specs.declared.digest.Digest32.{Digest32}
+use Rattle.rd_base.specs.declared.proof.Proof.{Proof}
 use Rattle.rd_base.specs.declared.script.Script.{Script}
 use Rattle.rd_base.specs.declared.script.Manner.{Manner}
 use Rattle.rd_base.specs.declared.script.Manner.TheVariants.{Plain, Late, Silent, Output, Forge, Noise, Tape}
@@ -45,7 +47,7 @@ abbrev OutputSays : Type 0
 OutputSays = (digest : List ℕ → List ℕ) (start : State) (bound : ℕ) (q : Question) (passes : ℕ) →
     script_says digest start bound (untampered (Output (state_at start bound).output)) q passes ≡ Some (plain digest (state_at start) bound q.kind)
 
-abbrev SaysByScript : Type 0
+abbrev pub SaysByScript : Type 0
 SaysByScript = (digest : List ℕ → List ℕ) (start : State) (bound : ℕ) (scripts : List Script) (p : ℕ) (script : Script) →
     slice_get scripts (p - 1) ≡ Some script → case_says digest start bound scripts p ≡ script_says digest start bound script
 
@@ -70,7 +72,7 @@ pub record ScriptLaws : Type 0 where
   pub tape : TapeSays
   pub by_script : SaysByScript
 
--- the roots at the cuts of an interval within the bound are those of the run
+-- the cuts of an interval within the bound are steps of the run, and none is the first
 
 if-true : {A : Type 0} (b : Bool) (x y : A) → b ≡ true → (if b then x else y) ≡ x
 if-true true x y e = refl
@@ -99,26 +101,54 @@ cut-below divide lo hi parts j (suc m) some long is =
     let rest = cut-below divide lo hi parts (j + 1) m some long (omega (arith, is)) in
     omega (arith, rise, rest)
 
-root-true : (digest : List ℕ → List ℕ) (start : State) (bound i : ℕ) → i ≤ bound → plain_root digest (state_at start) bound i ≡ (machine_truth digest start bound).root i
-root-true digest start bound i low = let e : min i bound ≡ i = omega (arith, low) in ap (machine_truth digest start bound).root e
+cut-above : CutsDivide → (lo hi parts j : ℕ) → 0 < parts → parts ≤ hi - lo → 0 < j → j ≤ parts → 0 < cut lo hi parts j
+cut-above divide lo hi parts j some long first room =
+    let back : j - 1 + 1 ≡ j = omega (arith, first) in
+    let rise = divide.rise lo hi parts (j - 1) some long (omega (arith, first, room)) in
+    let here : cut lo hi parts (j - 1 + 1) ≡ cut lo hi parts j = ap (cut lo hi parts) back in
+    omega (arith, rise, here)
 
-roots-true : (digest : List ℕ → List ℕ) (start : State) (bound : ℕ) → CutsDivide → (lo hi parts j n : ℕ) → 0 < parts → parts ≤ hi - lo → hi ≤ bound → j + n ≤ parts →
-    map (plain_root digest (state_at start) bound) (cuts_from lo hi parts j n) ≡ map (machine_truth digest start bound).root (cuts_from lo hi parts j n)
-roots-true digest start bound divide lo hi parts j zero some long high room = refl
-roots-true digest start bound divide lo hi parts j (suc n) some long high room =
+-- the proof and the claim of a state
+
+abbrev pub proof-of : (List ℕ → List ℕ) → State → Proof
+proof-of digest s = (machine_truth digest s 0).proof 0
+
+abbrev pub claim-of : (List ℕ → List ℕ) → State → Claim
+claim-of digest s = (machine_truth digest s 0).claim
+
+-- the plain answers of a run are those of a run as the game sees it, whose root at step 0 is never asked
+pub record IsPlainRun (digest : List ℕ → List ℕ) (run : ℕ → State) (bound : ℕ) (t : Truth) : Type 0 where
+  pub root : (i : ℕ) → 0 < i → i ≤ bound → plain_root digest run bound i ≡ t.root i
+  pub proof : (i : ℕ) → i < bound → proof-of digest (run (min i bound)) ≡ t.proof i
+  pub claim : claim-of digest (run bound) ≡ t.claim
+
+roots-true : (digest : List ℕ → List ℕ) (run : ℕ → State) (bound : ℕ) (t : Truth) → IsPlainRun digest run bound t → CutsDivide → (lo hi parts j n : ℕ) → 0 < parts → parts ≤ hi - lo → hi ≤ bound →
+    0 < j → j + n ≤ parts → map (plain_root digest run bound) (cuts_from lo hi parts j n) ≡ map t.root (cuts_from lo hi parts j n)
+roots-true digest run bound t is divide lo hi parts j zero some long high first room = refl
+roots-true digest run bound t is divide lo hi parts j (suc n) some long high first room =
     let below = cut-below divide lo hi parts j (parts - j) some long (omega (arith, room)) in
-    ap₂ (λ (x : Digest32) (xs : List Digest32). x ∷ xs) (root-true digest start bound (cut lo hi parts j) (omega (arith, below, high)))
-    (roots-true digest start bound divide lo hi parts (j + 1) n some long high (omega (arith, room)))
+    let above = cut-above divide lo hi parts j some long first (omega (arith, room)) in
+    ap₂ (λ (x : Digest32) (xs : List Digest32). x ∷ xs) (is.root (cut lo hi parts j) above (omega (arith, below, high)))
+    (roots-true digest run bound t is divide lo hi parts (j + 1) n some long high (omega arith) (omega (arith, room)))
 
--- the plain answer within the bound is true
-plain-true : (digest : List ℕ → List ℕ) → CutsDivide → (start : State) (bound : ℕ) (k : Kind) → IsWithinBound bound k → IsTrueAnswer (machine_truth digest start bound) k (plain digest (state_at start) bound k)
-plain-true digest divide start bound kind.Claim within = refl
-plain-true digest divide start bound (kind.Root i) within = root-true digest start bound i (omega (arith, within.1))
-plain-true digest divide start bound (kind.Roots lo hi parts) is =
-    let parted = is.parted in
-    ap (map (plain_root digest (state_at start) bound)) (if-true (can_cut lo hi parts) (cuts lo hi parts) (lo ∷ []) (is-cut bound lo hi parts is))
-    ∙ roots-true digest start bound divide lo hi parts 1 (parts - 1) (omega (arith, parted)) is.long is.high (omega (arith, parted))
-plain-true digest divide start bound (kind.Proof i) within = let e : min i bound ≡ i = omega (arith, within) in ap (machine_truth digest start bound).proof e
+-- the plain answer within the bound is that of the run
+pub plain-true : (digest : List ℕ → List ℕ) → CutsDivide → (run : ℕ → State) (bound : ℕ) (t : Truth) (k : Kind) → IsPlainRun digest run bound t → IsWithinBound bound k →
+    IsTrueAnswer t k (plain digest run bound k)
+plain-true digest divide run bound t kind.Claim is within = is.claim
+plain-true digest divide run bound t (kind.Root i) is within = is.root i within.0 (omega (arith, within.1))
+plain-true digest divide run bound t (kind.Roots lo hi parts) is within =
+    let parted = within.parted in
+    ap (map (plain_root digest run bound)) (if-true (can_cut lo hi parts) (cuts lo hi parts) (lo ∷ []) (is-cut bound lo hi parts within))
+    ∙ roots-true digest run bound t is divide lo hi parts 1 (parts - 1) (omega (arith, parted)) within.long within.high (omega arith) (omega (arith, parted))
+plain-true digest divide run bound t (kind.Proof i) is within = is.proof i within
+
+-- the sequential run is one
+sequential : (digest : List ℕ → List ℕ) (start : State) (bound : ℕ) → IsPlainRun digest (state_at start) bound (machine_truth digest start bound)
+sequential digest start bound = record {
+  root = λ i some low. let e : min i bound ≡ i = omega (arith, low) in ap (machine_truth digest start bound).root e;
+  proof = λ i low. let e : min i bound ≡ i = omega (arith, low) in ap (machine_truth digest start bound).proof e;
+  claim = refl;
+}
 
 -- a step whose proof is asked within the bound is below the bound
 proof-below : (bound step : ℕ) (k : Kind) → IsWithinBound bound k → k ≡ kind.Proof step → step < bound
@@ -134,7 +164,7 @@ no-root-of-one bound (kind.Root i) one within = absurd (omega (arith, one, withi
 no-root-of-one bound (kind.Roots lo hi parts) one within = absurd (omega (arith, one, within.parted, within.long, within.high))
 no-root-of-one bound (kind.Proof i) one within = refl
 
-passes-by : (o : Option Answer) (b : Bool) → b ≡ true → (if b then None else o) ≡ None
+pub passes-by : (o : Option Answer) (b : Bool) → b ≡ true → (if b then None else o) ≡ None
 passes-by o true e = refl
 passes-by o false e = absurd (cc)
 
@@ -202,7 +232,7 @@ answers-by digest laws c start p (Noise seed) q is honest within true_ =
     }
 answers-by digest laws c start p (Tape entries) q is honest within true_ = absurd honest
 
-there-at : (scripts : List Script) (k : ℕ) (script : Script) → slice_get scripts k ≡ Some script → k < length scripts
+pub there-at : (scripts : List Script) (k : ℕ) (script : Script) → slice_get scripts k ≡ Some script → k < length scripts
 there-at [] k script e = absurd (cc)
 there-at (x ∷ xs) zero script e = omega arith
 there-at (x ∷ xs) (suc k) script e = omega (arith, there-at xs k script e)
@@ -215,7 +245,8 @@ untouched-are-truthful digest laws divide within c start p manner range some is 
       let below : IsWithinBound c.bound q.kind =
       within (rules_of_case digest c start) (answers_of (rules_of_case digest c start) (says_of_case digest c start)) p q.qid q.kind
       (record { some = range.some; parted = range.parted; few_parts = range.few_parts; steps = range.steps }) asked_ in
-      answers-by digest laws c start p manner q is honest below (plain-true digest divide start c.bound q.kind below);
+      answers-by digest laws c start p manner q is honest below
+      (plain-true digest divide (state_at start) c.bound (truth_of_case digest c start) q.kind (sequential digest start c.bound) below);
 }
 
 -- what is written down, and true

@@ -2,4 +2,5 @@ pub mod EndingLemmas
 pub mod PlayLemmas
 pub mod SafetyLemmas
 pub mod HonestLemmas
+pub mod RefutedLemmas
 pub mod TaskLemmas

@@ -13,7 +13,7 @@ use Rattle.case_match.specs.TruthfulInCase.{TruthfulProversOfCasesAreSafe}
 use Rattle.case_match.proofs.EndingLemmas.{AreLaws, IsSafeCase, case-is-safe}
 
 -- the runs of the machine are true runs
-abbrev RunsAreTrue : (List ℕ → List ℕ) → Type 0
+abbrev pub RunsAreTrue : (List ℕ → List ℕ) → Type 0
 RunsAreTrue digest =
     (s : State) (rules : Rules) → IsValid s → length s.output + rules.setup.bound < 2 ^ 64 → rules.ruling ≡ machine_ruling digest s.version → rules.setup.start.0 ≡ root_in digest s.version s →
     IsRun rules (machine_truth digest s rules.setup.bound)

@@ -6,3 +6,5 @@ pub mod Match
 pub mod Openings
 pub mod TruthfulInCase
 pub mod HonestScripts
+pub mod Earnings
+pub mod RefutedTampers

@@ -3,15 +3,21 @@ ghost use Rattle.std.specs.Prelude.{ℕ, List};
 ghost use Rattle.case_match.specs.TruthfulInCase.{TruthfulProversOfCasesAreSafe};
 ghost use Rattle.case_match.specs.Match.{RecordsOfCasesAreSettledUp};
 ghost use Rattle.case_match.specs.HonestScripts.{UntouchedProversAreTruthful, TrueTapesAreTruthful};
+ghost use Rattle.case_match.specs.Earnings.{WhoLivesInACaseWinsAll};
+ghost use Rattle.case_match.specs.RefutedTampers.{TampersAreRefuted};
 
 use bisect_game::cuts_divide;
-use deposits::a_match_that_has_ended_is_settled_up;
+use checkpoint_run::{
+    tampered_runs, tampered_runs_keep_the_input, tampered_runs_keep_valid_states,
+};
+use deposits::{a_match_that_has_ended_is_settled_up, who_lives_wins_all};
 use digest_core::Digester;
-use prover_run::{harmless_manners, untouched_provers};
+use prover_run::{harmless_manners, outputs_grow_slowly, untouched_provers};
 use step_referee::machine_runs_are_true;
 use tournament::{
-    nobody_asked_means_over, one_record_of_a_case, questions_are_within_the_bound, spare_is_enough,
-    there_is_a_most_number_of_rounds, truthful_provers_are_safe,
+    answers_are_of_their_run, lies_are_found, nobody_asked_means_over, one_record_of_a_case,
+    questions_are_within_the_bound, spare_is_enough, there_is_a_most_number_of_rounds,
+    truthful_provers_are_safe,
 };
 
 /// In the record of each case whose numbers are in range, and whose run starts in a valid state without output, nothing is open,
@@ -37,6 +43,42 @@ pub fn records_of_cases_are_settled_up()
     there_is_a_most_number_of_rounds();
     one_record_of_a_case();
     a_match_that_has_ended_is_settled_up();
+}
+
+/// Who is live in the record of a case has its stake and one more for each of its disputes but that of a collision, of which there is one at
+/// most, and the others and the pool have exactly the rest, whatever the provers say.
+pub fn who_lives_in_a_case_wins_all()
+    ensures { WhoLivesInACaseWinsAll }
+{
+    spare_is_enough();
+    nobody_asked_means_over();
+    there_is_a_most_number_of_rounds();
+    one_record_of_a_case();
+    who_lives_wins_all();
+}
+
+/// A tampered run is refuted where it was tampered with. In each dispute of a case between a prover that claims and answers as the machine's
+/// definition says and one that answers by its own tampered run, at once or after no more passes than the patience, the second alone is
+/// out, or there is a collision. It is out in the proof of step s - 1 if a byte or a register is changed in the state of step s, which is
+/// that of step 0 if s is 0; and if its run ends early at step s, in that of step s, or of a later one before which the sequential run has come
+/// back to the root of step s. The case's numbers are in range, and the tamper's too.
+pub fn tampers_are_refuted<D: Digester>()
+    ensures { TampersAreRefuted D.digest_of }
+{
+    machine_runs_are_true::<D>();
+    tampered_runs();
+    tampered_runs_keep_the_input();
+    tampered_runs_keep_valid_states();
+    outputs_grow_slowly();
+    untouched_provers();
+    cuts_divide();
+    questions_are_within_the_bound();
+    spare_is_enough();
+    nobody_asked_means_over();
+    there_is_a_most_number_of_rounds();
+    one_record_of_a_case();
+    answers_are_of_their_run();
+    lies_are_found();
 }
 
 /// Which provers answer truly in every case, by any digest function: those with an untouched run that answer at once, after no more
