@@ -12,7 +12,6 @@ use Rattle.tournament.specs.declared.verdict.Verdict.TheVariants.{Accept, NoneLe
 use Rattle.tournament.specs.Bracket.{Record, live_from, lowest, or_lowest, is_out_in, claim_in, also, verdict_of}
 use Rattle.tournament.specs.Theorem.{HasTrueClaim, IsRightVerdict}
 use Rattle.deposits.specs.declared.amounts.Balances.{Balances}
-use Rattle.deposits.specs.Theorem.{WhoStaysKeepsStake}
 use Rattle.rv_step.specs.State.{State}
 use Rattle.case_reader.specs.Case.{CaseData}
 use Rattle.transcript_text.specs.declared.text.DigestName.{DigestName}
@@ -20,7 +19,8 @@ use Rattle.transcript_text.specs.declared.text.DigestName.TheVariants.{Sha256, W
 use Rattle.transcript_text.specs.Lines.{accept_line, line_of_accepted, line_of_verdict}
 use Rattle.transcript_text.specs.Report.{text_if_there}
 use Rattle.transcript_text.specs.Laws.{NothingIsSaidAgainstTheTruthful}
-use Rattle.case_match.specs.Match.{start_root, rules_of_case, record_of_case, verdict_of_record, truth_of_case}
+use Rattle.case_match.specs.Earnings.{WhoLivesInACaseWinsAll}
+use Rattle.case_match.specs.Match.{start_root, rules_of_case, says_of_case, record_of_case, verdict_of_record, truth_of_case}
 use Rattle.case_match.specs.TruthfulInCase.{IsSafeInCase, TruthfulProversOfCasesAreSafe}
 use Rattle.command_line.specs.declared.request.MatchText.{MatchText}
 use Rattle.command_line.specs.declared.request.MatchText.TheVariants.{Report, Full}
@@ -106,8 +106,8 @@ pub by-name : (P : (List ℕ → List ℕ) → Type 0) → P (digest_of Sha256) 
 by-name P of_sha256 of_weak8 Sha256 = of_sha256
 by-name P of_sha256 of_weak8 Weak8 = of_weak8
 
-pub headline-of-cases : ((name : DigestName) → TruthfulProversOfCasesAreSafe (digest_of name)) → NothingIsSaidAgainstTheTruthful → WhoStaysKeepsStake → HeadlineOfCases
-headline-of-cases safe_by spared keep m c start p range truthful =
+pub headline-of-cases : ((name : DigestName) → TruthfulProversOfCasesAreSafe (digest_of name)) → NothingIsSaidAgainstTheTruthful → WhoLivesInACaseWinsAll → HeadlineOfCases
+headline-of-cases safe_by spared win m c start p range truthful =
     let case : IsSafeInCase (digest_of m.digest) c start p = safe_by m.digest c start p range truthful in
     record {
       stays = record {
@@ -116,7 +116,9 @@ headline-of-cases safe_by spared keep m c start p range truthful =
         stays = case.safe.stays;
         spared = spared (rules_of_case (digest_of m.digest) c start) (truth_of_case (digest_of m.digest) c start) p (record_of_case (digest_of m.digest) c start) case.safe;
         spared_in_full = no-moves-against (rules_of_case (digest_of m.digest) c start) (truth_of_case (digest_of m.digest) c start) p (record_of_case (digest_of m.digest) c start) case.safe;
-        keeps = λ stake is. keep stake (rules_of_case (digest_of m.digest) c start) (truth_of_case (digest_of m.digest) c start) p (record_of_case (digest_of m.digest) c start) case.safe.stays;
+        wins = λ stake is.
+            (win stake (rules_of_case (digest_of m.digest) c start) (says_of_case (digest_of m.digest) c start) p
+            (record { some = range.some; parted = range.parted; few_parts = range.few_parts; steps = range.steps }) truthful.some truthful.there case.safe.stays.is_live).balance_;
       };
       ends = ends m c start _ refl (case.safe.verdict case.complete);
     }

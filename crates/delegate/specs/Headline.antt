@@ -1,14 +1,16 @@
 -- To believe. The headline: a prover that claims and answers as the machine's definition says, within its patience, is not
--- eliminated, keeps its stake if there are deposits, and the text accepts the sequential run's status and output or shows a collision.
-use Rattle.std.specs.Prelude.{◌≡◌, ℕ, ◌-◌, ◌<◌, ◌≤◌, ◌⊎◌, false, List, Contains, Some, Ok, slice_get, Bool, true, ◌&&◌, ◌||◌, ◌==◌, [], ◌∷◌}
+-- eliminated, wins each of its disputes but that of a collision, and the text accepts the sequential run's status and output or shows a collision.
+use Rattle.std.specs.Prelude.{◌≡◌, ℕ, ◌+◌, ◌-◌, ◌*◌, ◌<◌, ◌⊎◌, false, List, Contains, Some, Ok, slice_get, Bool, true, ◌&&◌, ◌||◌, ◌==◌, [], ◌∷◌}
 use Rattle.std.specs.Option.{option_and_then}
 use Rattle.rv_step.specs.State.{State}
 use Rattle.case_reader.specs.Case.{CaseData}
 use Rattle.case_reader.specs.Tasks.{Many}
 use Rattle.tournament.specs.declared.verdict.Verdict.TheVariants.{Collision}
 use Rattle.tournament.specs.Bracket.{live}
+use Rattle.tournament.specs.FewPosts.{disputes_played}
 use Rattle.tournament.specs.Theorem.{AreTrue, Stays, IsCollisionIn}
 use Rattle.deposits.specs.Balances.{balance}
+use Rattle.deposits.specs.ExactBalance.{collisions_of}
 use Rattle.transcript_text.specs.declared.text.DigestName.{DigestName}
 use Rattle.transcript_text.specs.MoveLists.{moves_of}
 use Rattle.transcript_text.specs.Lines.{accept_line, collision_line, lines_of_record, are_against}
@@ -55,14 +57,15 @@ pub record AreTasks (words : List (List ℕ)) (bytes : List ℕ) (m : Deciding) 
   pub loads : starts_in 1 cs ≡ Ok starts
 
 -- IT IS NOT ELIMINATED: it is live at the end, with the true claim; its answers in each of its disputes are given and true;
--- no line of the report or of the full text calls it faulty, spent or refuted; and if there are deposits it ends with at least its stake
+-- no line of the report or of the full text calls it faulty, spent or refuted; and if there are deposits it ends with its stake and one more
+-- for each of its disputes but those that closed by a collision
 pub record IsNotEliminated (name : DigestName) (c : CaseData) (start : State) (p : ℕ) : Type 0 where
   pub is_live : Contains (live (record_of_case (digest_of name) c start)) (p, (truth_of_case (digest_of name) c start).claim)
   pub answers : AreTrue (rules_of_case (digest_of name) c start) (truth_of_case (digest_of name) c start) p (record_of_case (digest_of name) c start)
   pub stays : Stays (rules_of_case (digest_of name) c start) (truth_of_case (digest_of name) c start) p (record_of_case (digest_of name) c start)
   pub spared : are_against p (lines_of_record (record_of_case (digest_of name) c start)) ≡ false
   pub spared_in_full : are_moves_against p (moves_of (record_of_case (digest_of name) c start)) ≡ false
-  pub keeps : (stake : ℕ) → c.stake ≡ Some stake → stake ≤ balance stake (record_of_case (digest_of name) c start) p
+  pub wins : (stake : ℕ) → c.stake ≡ Some stake → balance stake (record_of_case (digest_of name) c start) p ≡ stake * (1 + (disputes_played p (record_of_case (digest_of name) c start) - collisions_of p (record_of_case (digest_of name) c start)))
 
 -- EITHER the verdict's line accepts the status and the output of the sequential run
 pub record AcceptsTheRun (m : Deciding) (response : Response) (c : CaseData) (start : State) : Type 0 where

@@ -13,10 +13,12 @@ ghost use Rattle.delegate.specs.Sharing.{OutcomesAreOfTheCommand, JudgingIsShare
 ghost use Rattle.delegate.specs.Auditable.{WrittenTextsAreConfirmed, JudgesEndAlike};
 ghost use Rattle.delegate.specs.InShortLaw.{HeadlineInShort, JudgeAcceptsWhatRunPrints, BigInShort};
 
-use case_match::{truthful_provers_of_cases_are_safe, untouched_provers_are_truthful};
+use case_match::{
+    truthful_provers_of_cases_are_safe, untouched_provers_are_truthful,
+    who_lives_in_a_case_wins_all,
+};
 use case_reader::{no_fault_of_a_case_is_out_of_memory, no_fault_of_tasks_is_out_of_memory};
 use command_line::options_are_taken;
-use deposits::truthful_provers_keep_their_stakes;
 use digest_core::{Sha256, Weak8};
 use machine_audit::{confirmed_cases_are_right, written_cases_are_confirmed};
 use mem_plain::contents_of_a_function;
@@ -27,14 +29,15 @@ use transcript_text::{
 
 /// The headline, of what is written of each case whose numbers are in range and whose run starts in a valid state without output,
 /// by the digest of each name: a prover that claims and answers as the machine's definition says, within its patience, is not
-/// eliminated, keeps its stake if there are deposits, and the text accepts the sequential run's status and output or shows a collision.
+/// eliminated, has its stake and one more for each of its disputes but that of a collision, if there are deposits, and the text accepts the
+/// sequential run's status and output or shows a collision.
 pub fn the_headline()
     ensures { HeadlineOfCases }
 {
     truthful_provers_of_cases_are_safe::<Sha256>();
     truthful_provers_of_cases_are_safe::<Weak8>();
     nothing_is_said_against_the_truthful();
-    truthful_provers_keep_their_stakes();
+    who_lives_in_a_case_wins_all();
 }
 
 /// The same in short, of a case of which one prover is `{}`: whatever the others say, the last line of what is written accepts what the
