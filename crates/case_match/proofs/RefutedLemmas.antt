@@ -40,8 +40,9 @@ use Rattle.prover_run.specs.CaseScripts.{script_says, case_says}
 use Rattle.prover_run.specs.Growing.{OutputGrowsSlowly}
 use Rattle.prover_run.specs.Plain.{plain, plain_says}
 use Rattle.case_reader.specs.Case.{CaseData}
-use Rattle.case_match.specs.Match.{start_root, rules_of_case, says_of_case, record_of_case, truth_of_case}
+use Rattle.case_match.specs.Match.{rules_of_case, says_of_case, record_of_case, truth_of_case}
 use Rattle.case_match.specs.TruthfulInCase.{IsInRange}
+use Rattle.case_match.specs.PartingRuns.{root_in_game, run_in_game, DisputesOfCasesEndWhereRunsPart}
 use Rattle.case_match.specs.RefutedTampers.{AnswersByItsRun, IsRefutingStep, IsRefutedByStep, AllTampersRefuted, TampersAreRefuted}
 use Rattle.case_match.proofs.EndingLemmas.{IsComeTo, come-to}
 use Rattle.case_match.proofs.HonestLemmas.{SaysByScript, proof-of, claim-of, IsPlainRun, plain-true, passes-by, there-at}
@@ -180,26 +181,20 @@ module _ (digest : List ℕ → List ℕ) (laws : TamperLaws digest) where
   abbrev root-of : State → Digest32
   root-of s = record { 0 = own_root digest s }
 
-  -- THE RUN OF A PROVER as the game sees it: its root at step 0 is the referee's, whatever the run's own is
-  lie-root : State → Tamper → ℕ → Digest32
-  lie-root start t zero = start_root digest start
-  lie-root start t (suc i) = root-of (run_at t start (suc i))
+  -- THE RUN OF A PROVER as the game sees it
 
-  abbrev lie-of : CaseData → State → Tamper → Truth
-  lie-of c start t = record { root = lie-root start t; proof = λ i. proof-of digest (run_at t start i); claim = claim-of digest (run_at t start c.bound) }
-
-  lie-root-is : (start : State) (t : Tamper) (i : ℕ) → 0 < i → lie-root start t i ≡ root-of (run_at t start i)
-  unfolding lie-root
+  lie-root-is : (start : State) (t : Tamper) (i : ℕ) → 0 < i → root_in_game digest start t i ≡ root-of (run_at t start i)
+  unfolding root_in_game
   lie-root-is start t zero some = absurd (omega (arith, some))
   lie-root-is start t (suc i) some = refl
 
-  lie-root-true : (start : State) (t : Tamper) (i : ℕ) → run_at t start i ≡ state_at start i → lie-root start t i ≡ root-of (state_at start i)
-  unfolding lie-root
+  lie-root-true : (start : State) (t : Tamper) (i : ℕ) → run_at t start i ≡ state_at start i → root_in_game digest start t i ≡ root-of (state_at start i)
+  unfolding root_in_game
   lie-root-true start t zero same = refl
   lie-root-true start t (suc i) same = ap root-of same
 
-  lie-root-early : (start : State) (n i : ℕ) → n ≤ i → lie-root start (Early n) i ≡ root-of (state_at start n)
-  unfolding lie-root
+  lie-root-early : (start : State) (n i : ℕ) → n ≤ i → root_in_game digest start (Early n) i ≡ root-of (state_at start n)
+  unfolding root_in_game
   lie-root-early start n zero late = let none : 0 ≡ n = omega (arith, late) in ap (λ (j : ℕ). root-of (state_at start j)) none
   lie-root-early start n (suc i) late = let e : min (suc i) n ≡ n = omega (arith, late) in ap root-of (laws.early n start (suc i) ∙ ap (state_at start) e)
 
@@ -234,18 +229,18 @@ module _ (digest : List ℕ → List ℕ) (laws : TamperLaws digest) where
         omega (arith, grown, none, low, range.short)
 
     follows : (i : ℕ) → 0 < i → i < c.bound → at-step (suc i) ≡ step (at-step i) →
-        (machine_ruling digest start.version).leads (lie-root start t i) (proof-of digest (at-step i)) ≡ Some (lie-root start t (i + 1))
+        (machine_ruling digest start.version).leads (root_in_game digest start t i) (proof-of digest (at-step i)) ≡ Some (root_in_game digest start t (i + 1))
     follows i some low next =
-        let here : lie-root start t i ≡ root-of (at-step i) = lie-root-is start t i some in
-        let there : lie-root start t (i + 1) ≡ root-of (step (at-step i)) =
+        let here : root_in_game digest start t i ≡ root-of (at-step i) = lie-root-is start t i some in
+        let there : root_in_game digest start t (i + 1) ≡ root-of (step (at-step i)) =
         lie-root-is start t (i + 1) (omega arith) ∙ ap root-of (ap (run_at t start) (add-one i) ∙ next) in
         let leads : (machine_ruling digest start.version).leads (root-of (at-step i)) (proof-of digest (at-step i)) ≡ Some (root-of (step (at-step i))) =
         subst (λ (v : ℕ). (machine_ruling digest v).leads (root-of (at-step i)) (proof-of digest (at-step i)) ≡ Some (root-of (step (at-step i)))) (version-at i)
         (state-leads (at-step i) (valid-at i) (short-at i (omega (arith, low)))) in
         ap (λ (x : Digest32). (machine_ruling digest start.version).leads x (proof-of digest (at-step i))) here ∙ (leads ∙ ap Some (sym there))
 
-    claims : ClaimsItsRun (rules_of_case digest c start) (lie-of c start t)
-    unfolding lie-root
+    claims : ClaimsItsRun (rules_of_case digest c start) (run_in_game digest c start t)
+    unfolding root_in_game
     claims = record {
       begins = refl;
       ends = claim-ends (at-step c.bound) (valid-at c.bound) (short-at c.bound (omega arith)) ∙ sym (lie-root-is start t c.bound range.steps);
@@ -254,7 +249,7 @@ module _ (digest : List ℕ → List ℕ) (laws : TamperLaws digest) where
 
     -- its answers are those of this run
 
-    plain-run : IsPlainRun digest (run_at t start) c.bound (lie-of c start t)
+    plain-run : IsPlainRun digest (run_at t start) c.bound (run_in_game digest c start t)
     plain-run = record {
       root = λ i some low. let e : min i c.bound ≡ i = omega (arith, low) in ap (λ (j : ℕ). root-of (run_at t start j)) e ∙ sym (lie-root-is start t i some);
       proof = λ i low. let e : min i c.bound ≡ i = omega (arith, low) in ap (λ (j : ℕ). proof-of digest (run_at t start j)) e;
@@ -264,8 +259,8 @@ module _ (digest : List ℕ → List ℕ) (laws : TamperLaws digest) where
     abbrev SaysIts : ℕ → Manner → Type 0
     SaysIts q manner = case_says digest start c.bound c.provers q ≡ script_says digest start c.bound (record { tamper = t; manner = manner })
 
-    answered : (manner : Manner) (q : ℕ) (asked_ : Question) → AnswersByItsRun c manner → SaysIts q manner → IsTrueAnswer (lie-of c start t) asked_.kind (plain digest (run_at t start) c.bound asked_.kind) →
-        AnswersTruly (says_of_case digest c start) c.patience (lie-of c start t) q asked_
+    answered : (manner : Manner) (q : ℕ) (asked_ : Question) → AnswersByItsRun c manner → SaysIts q manner → IsTrueAnswer (run_in_game digest c start t) asked_.kind (plain digest (run_at t start) c.bound asked_.kind) →
+        AnswersTruly (says_of_case digest c start) c.patience (run_in_game digest c start t) q asked_
     answered Plain q asked_ by says true_ = record {
       passes = 0;
       few = omega arith;
@@ -296,27 +291,27 @@ module _ (digest : List ℕ → List ℕ) (laws : TamperLaws digest) where
     playable = record { some = range.some; parted = range.parted; few_parts = range.few_parts; steps = range.steps }
 
     keeps-to : (manner : Manner) (q : ℕ) → slice_get c.provers (q - 1) ≡ Some (record { tamper = t; manner = manner }) → AnswersByItsRun c manner →
-        IsTruthfulProver (rules_of_case digest c start) (says_of_case digest c start) (lie-of c start t) q
+        IsTruthfulProver (rules_of_case digest c start) (says_of_case digest c start) (run_in_game digest c start t) q
     keeps-to manner q is by asked_ asks =
         let below : IsWithinBound c.bound asked_.kind =
         laws.within (rules_of_case digest c start) (answers_of (rules_of_case digest c start) (says_of_case digest c start)) q asked_.qid asked_.kind playable asks in
         answered manner q asked_ by (laws.by_script digest start c.bound c.provers q (record { tamper = t; manner = manner }) is)
-        (plain-true digest laws.divide (run_at t start) c.bound (lie-of c start t) asked_.kind plain-run below)
+        (plain-true digest laws.divide (run_at t start) c.bound (run_in_game digest c start t) asked_.kind plain-run below)
 
   -- WHERE IT IS REFUTED
 
   true-but : (c : CaseData) (start : State) → IsInRange c start → (t : Tamper) → IsTamperInRange t →
-      IsTrueBut (rules_of_case digest c start) (truth_of_case digest c start) (lie-of c start t) (IsRefutingStep digest c start t)
+      IsTrueBut (rules_of_case digest c start) (truth_of_case digest c start) (run_in_game digest c start t) (IsRefutingStep digest c start t)
   true-but c start range Untouched fits i low same differ = absurd (differ (sym (lie-root-true start Untouched (i + 1) (laws.plain_ start (i + 1)))))
   true-but c start range (Flip at addr mask) fits i low same differ = by (place-of at i)
     where
-      by : Place at i → (i ≡ at - 1) ⊎ ((rules_of_case digest c start).ruling.leads ((lie-of c start (Flip at addr mask)).root i) ((lie-of c start (Flip at addr mask)).proof i) ≡ Some ((lie-of c start (Flip at addr mask)).root (i + 1)))
+      by : Place at i → (i ≡ at - 1) ⊎ ((rules_of_case digest c start).ruling.leads ((run_in_game digest c start (Flip at addr mask)).root i) ((run_in_game digest c start (Flip at addr mask)).proof i) ≡ Some ((run_in_game digest c start (Flip at addr mask)).root (i + 1)))
       by (Before early) = absurd (differ (sym (lie-root-true start (Flip at addr mask) (i + 1) (laws.flip_before at addr mask start (i + 1) early))))
       by (At now) = inl now
       by (Behind late some) = inr (follows c start range (Flip at addr mask) fits i some low (after-flip at addr mask start i late))
   true-but c start range (Register at reg value) fits i low same differ = by (place-of at i)
     where
-      by : Place at i → (i ≡ at - 1) ⊎ ((rules_of_case digest c start).ruling.leads ((lie-of c start (Register at reg value)).root i) ((lie-of c start (Register at reg value)).proof i) ≡ Some ((lie-of c start (Register at reg value)).root (i + 1)))
+      by : Place at i → (i ≡ at - 1) ⊎ ((rules_of_case digest c start).ruling.leads ((run_in_game digest c start (Register at reg value)).root i) ((run_in_game digest c start (Register at reg value)).proof i) ≡ Some ((run_in_game digest c start (Register at reg value)).root (i + 1)))
       by (Before early) = absurd (differ (sym (lie-root-true start (Register at reg value) (i + 1) (laws.register_before at reg value start (i + 1) early))))
       by (At now) = inl now
       by (Behind late some) = inr (follows c start range (Register at reg value) fits i some low (after-register at reg value start i late))
@@ -334,8 +329,8 @@ module _ (digest : List ℕ → List ℕ) (laws : TamperLaws digest) where
   ]
 
   all-refuted : (c : CaseData) (start : State) → IsInRange c start → (t : Tamper) → IsTamperInRange t → IsRun (rules_of_case digest c start) (truth_of_case digest c start) → (p q : ℕ) (ds : List Bisection) → all_closed ds ≡ true →
-      AllEndWhereTheyPart (rules_of_case digest c start) (truth_of_case digest c start) (lie-of c start t) p q ds →
-      AllEndWhereTheyPart (rules_of_case digest c start) (lie-of c start t) (truth_of_case digest c start) q p ds → AllTampersRefuted digest c start t p q ds
+      AllEndWhereTheyPart (rules_of_case digest c start) (truth_of_case digest c start) (run_in_game digest c start t) p q ds →
+      AllEndWhereTheyPart (rules_of_case digest c start) (run_in_game digest c start t) (truth_of_case digest c start) q p ds → AllTampersRefuted digest c start t p q ds
   all-refuted c start range t fits run p q [] shut a b = tt
   all-refuted c start range t fits run p q (d ∷ ds) shut a b =
       let two : (is_closed d ≡ true) × (all_closed ds ≡ true) = and_parts (is_closed d) (all_closed ds) shut in
@@ -344,9 +339,9 @@ module _ (digest : List ℕ → List ℕ) (laws : TamperLaws digest) where
       let but = true-but c start range t fits in (
         record {
           as_second = λ first second.
-              as-step (Out false true) (refuted-second rules (truth_of_case digest c start) (lie-of c start t) fair run (IsRefutingStep digest c start t) d but (a.0 first second two.0));
+              as-step (Out false true) (refuted-second rules (truth_of_case digest c start) (run_in_game digest c start t) fair run (IsRefutingStep digest c start t) d but (a.0 first second two.0));
           as_first = λ first second.
-              as-step (Out true false) (refuted-first rules (truth_of_case digest c start) (lie-of c start t) fair run (IsRefutingStep digest c start t) d but (b.0 first second two.0));
+              as-step (Out true false) (refuted-first rules (truth_of_case digest c start) (run_in_game digest c start t) fair run (IsRefutingStep digest c start t) d but (b.0 first second two.0));
         },
         all-refuted c start range t fits run p q ds two.1 a.1 b.1,
       )
@@ -361,7 +356,7 @@ module _ (digest : List ℕ → List ℕ) (laws : TamperLaws digest) where
       let says : Says = says_of_case digest c start in
       let t : Tamper = script.tamper in
       let truth : Truth = truth_of_case digest c start in
-      let lie : Truth = lie-of c start t in
+      let lie : Truth = run_in_game digest c start t in
       let can : ArePlayable rules = playable c start range t fits in
       let none : length start.output ≡ 0 = ap (λ (o : List ℕ). length o) range.silent in
       let run : IsRun rules truth = laws.runs start rules range.valid (omega (arith, none, range.short)) refl refl in
@@ -378,3 +373,22 @@ module _ (digest : List ℕ → List ℕ) (laws : TamperLaws digest) where
       (and_parts (all_there (record_of_case digest c start).claims) (all_closed (record_of_case digest c start).disputes) case.complete).1
       (subst (λ (r : Record). AllEndWhereTheyPart rules truth lie p q r.disputes) case.by_posts (laws.ends rules case.posts truth lie p q can own theirs tp tq))
       (subst (λ (r : Record). AllEndWhereTheyPart rules lie truth q p r.disputes) case.by_posts (laws.ends rules case.posts lie truth q p can theirs own tq tp))
+
+  pub disputes-of-cases-end-where-runs-part : DisputesOfCasesEndWhereRunsPart digest
+  disputes-of-cases-end-where-runs-part c start p q one other range some_p some_q is_p is_q fits_p fits_q by_p by_q =
+      let rules : Rules = rules_of_case digest c start in
+      let says : Says = says_of_case digest c start in
+      let mine : Truth = run_in_game digest c start one.tamper in
+      let theirs : Truth = run_in_game digest c start other.tamper in
+      let can : ArePlayable rules = playable c start range one.tamper fits_p in
+      let claims_p : ClaimsItsRun rules mine = claims c start range one.tamper fits_p in
+      let claims_q : ClaimsItsRun rules theirs = claims c start range other.tamper fits_q in
+      let case : IsComeTo rules says = come-to laws.spare laws.over laws.most laws.of_case rules says can in
+      let few_p : p ≤ length c.provers = omega (arith, some_p, there-at c.provers (p - 1) one is_p) in
+      let few_q : q ≤ length c.provers = omega (arith, some_q, there-at c.provers (q - 1) other is_q) in
+      let to_posts : (turns rules says case.moves (begun rules)).record_ ≡ record_after rules case.posts = case.by_moves ∙ sym case.by_posts in
+      let tp : AreTrue rules mine p (record_after rules case.posts) =
+      subst (AreTrue rules mine p) to_posts (laws.answers rules says mine case.moves p can claims_p.sound some_p few_p (keeps-to c start range one.tamper fits_p one.manner p is_p by_p) case.legal) in
+      let tq : AreTrue rules theirs q (record_after rules case.posts) =
+      subst (AreTrue rules theirs q) to_posts (laws.answers rules says theirs case.moves q can claims_q.sound some_q few_q (keeps-to c start range other.tamper fits_q other.manner q is_q by_q) case.legal) in
+      subst (λ (r : Record). AllEndWhereTheyPart rules mine theirs p q r.disputes) case.by_posts (laws.ends rules case.posts mine theirs p q can claims_p claims_q tp tq)

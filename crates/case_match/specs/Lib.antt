@@ -8,3 +8,4 @@ pub mod TruthfulInCase
 pub mod HonestScripts
 pub mod Earnings
 pub mod RefutedTampers
+pub mod PartingRuns

@@ -5,6 +5,7 @@ ghost use Rattle.case_match.specs.Match.{RecordsOfCasesAreSettledUp};
 ghost use Rattle.case_match.specs.HonestScripts.{UntouchedProversAreTruthful, TrueTapesAreTruthful};
 ghost use Rattle.case_match.specs.Earnings.{WhoLivesInACaseWinsAll};
 ghost use Rattle.case_match.specs.RefutedTampers.{TampersAreRefuted};
+ghost use Rattle.case_match.specs.PartingRuns.{DisputesOfCasesEndWhereRunsPart};
 
 use bisect_game::cuts_divide;
 use checkpoint_run::{
@@ -61,9 +62,11 @@ pub fn who_lives_in_a_case_wins_all()
 /// definition says and one that answers by its own tampered run, at once or after no more passes than the patience, the second alone is
 /// out, or there is a collision. It is out in the proof of step s - 1 if a byte or a register is changed in the state of step s, which is
 /// that of step 0 if s is 0; and if its run ends early at step s, in that of step s, or of a later one before which the sequential run has come
-/// back to the root of step s. The case's numbers are in range, and the tamper's too.
+/// back to the root of step s (`refuted`). Each dispute between two provers that answer by their own runs, tampered with or not, ends at a step
+/// from which these part, by their proofs of it (`part`). The case's numbers are in range, and the tampers' too.
 pub fn tampers_are_refuted<D: Digester>()
-    ensures { TampersAreRefuted D.digest_of }
+    ensures refuted { TampersAreRefuted D.digest_of }
+    ensures part { DisputesOfCasesEndWhereRunsPart D.digest_of }
 {
     machine_runs_are_true::<D>();
     tampered_runs();

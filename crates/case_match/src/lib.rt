@@ -5,7 +5,8 @@
 //! same to a caller that has the tree of the input and the start's root. `verdict_of_tasks` plays many together, of which each ends as
 //! it ends alone (`endings_of_cases`). A prover that claims and answers as the machine's definition says is safe in that record, which
 //! a law says for any digester (`specs/TruthfulInCase.antt`). Which scripts make a prover one of these says `specs/HonestScripts.antt`; in the
-//! proof of which step one with a tamper is refuted says `specs/RefutedTampers.antt`, and what a prover has at the end `specs/Earnings.antt`.
+//! proof of which step one with a tamper is refuted says `specs/RefutedTampers.antt`, where a dispute of two tampered runs ends
+//! `specs/PartingRuns.antt`, and what a prover has at the end `specs/Earnings.antt`.
 //! The crate reads no device and writes no text. Read `specs/Match.antt` first, then `verdict`.
 #![tactic(auto)]
 
