@@ -1,5 +1,4 @@
 pub mod EndingLemmas
-pub mod PlayLemmas
 pub mod SafetyLemmas
 pub mod HonestLemmas
 pub mod RefutedLemmas

@@ -1,8 +1,7 @@
 -- Many cases: opened one after another, and how they end.
-use Rattle.std.proofs.Common.{◌≡◌, ℕ, suc, ◌-◌, ◌≤◌, List, [], ◌∷◌, ◌++◌, All, map, length, reverse, take, drop, Option, refl, sym, ap, ap₂, subst, ◌∙◌, arith, append_assoc}
-use Rattle.std.specs.Prelude.{slice_index_or}
-use Rattle.std.proofs.Math.Seq.{take-length}
-use Rattle.std.proofs.lemmas.List.{map-append, reverse-append, length-map, append-nil}
+use Rattle.std.proofs.Common.{◌≡◌, ℕ, ◌+◌, ◌<◌, List, [], ◌∷◌, ◌++◌, All, map, zip, length, reverse, take, get_or, length-append, Option, Some, refl, sym, ap, ap₂, subst, ◌∙◌, arith, append_assoc}
+use Rattle.std.proofs.lemmas.List.{take_more, map-append, reverse-append, length-map, append-nil}
+use Rattle.std.specs.Option.{option_to_list}
 use Rattle.std.proofs.lemmas.List.Elements.{All-nil, All-cons, All-head, All-tail}
 use Rattle.rd_base.specs.declared.answer.Answer.{Answer}
 use Rattle.rd_base.specs.declared.digest.Digest32.{Digest32}
@@ -11,8 +10,7 @@ use Rattle.bisect_game.specs.declared.question.Question.{Question}
 use Rattle.bisect_game.specs.Says.{Says, AnswerAs}
 use Rattle.bisect_game.specs.Rules.{ArePlayable}
 use Rattle.rv_step.specs.declared.machine.Machine.{Machine}
-use Rattle.rv_step.specs.State.{State, state_of}
-use Rattle.bisect_game.specs.declared.setup.Setup.{Setup}
+use Rattle.rv_step.specs.State.{State, state_of, IsChained}
 use Rattle.tournament.specs.declared.verdict.Verdict.{Verdict}
 use Rattle.tournament.specs.Bracket.{Record}
 use Rattle.step_referee.specs.declared.judge.MachineNames.{MachineNames}
@@ -24,8 +22,10 @@ use Rattle.deposits.specs.Balances.{IsSettledUp}
 use Rattle.prover_run.specs.CaseScripts.{CaseScripts, case_says}
 use Rattle.case_reader.specs.declared.case.Case.{Case}
 use Rattle.case_reader.specs.Case.{CaseData, data_of}
-use Rattle.case_match.specs.Match.{start_root, rules_of_case, says_of_case, verdict_of_record, ending_of_case, endings_of_cases, AreSettledUp, RecordsOfCasesAreSettledUp}
-use Rattle.case_match.specs.Openings.{ending, opening_of_case, openings_of_cases, AreAllPlayable}
+use Rattle.case_match.specs.declared.loaded.LoadedCase.{LoadedCase}
+use Rattle.case_match.specs.declared.referee.Ended.{Ended}
+use Rattle.case_match.specs.Match.{start_root, rules_of_case, says_of_case, ending_of_case, endings_of_cases, AreSettledUp, RecordsOfCasesAreSettledUp}
+use Rattle.case_match.specs.Openings.{IsFresh, ended_alone, ended_of, opening_of_case, opening_of}
 
 -- endings, the last first
 
@@ -58,84 +58,38 @@ opened-as digest version c start scripts x root version_is scripts_are x_is root
     ∙ (ap (λ (y : CaseScripts). opened start.version y root) (x_is ∙ ap (λ (xs : List Script). record { start = start; bound = c.bound; scripts = xs }) scripts_are)
     ∙ ap (opened start.version (record { start = start; bound = c.bound; scripts = c.provers })) root_is)
 
--- one more opening, before those that come later, and its answerers
-
-pub more-openings : {N M : Type 0} (old middle now : List (BookOf N M)) (b : BookOf N M) (h : Opening N M) (hs all : List (Opening N M)) → all ≡ h ∷ hs → middle ≡ old ++ b ∷ [] → b.opening ≡ h
-    → openings now ≡ openings middle ++ hs → openings now ≡ openings old ++ all
-more-openings {N} {M} old middle now b h hs all all_are pushed is later =
-    later
-    ∙ (ap (λ (l : List (BookOf N M)). openings l ++ hs) pushed
-    ∙ (ap (λ (l : List (Opening N M)). l ++ hs) (map-append (λ (x : BookOf N M). x.opening) old (b ∷ []))
-    ∙ (append_assoc (openings old) (b.opening ∷ []) hs
-    ∙ (ap (λ (g : Opening N M). openings old ++ g ∷ hs) is ∙ ap (λ (l : List (Opening N M)). openings old ++ l) (sym all_are)))))
-
-pub more-said : {A N M : Type 0} (answers : A → Question → ℕ → Option Answer) (says : M → Says) (old own middle now : List A) (h : Opening N M) (hs all : List (Opening N M)) → all ≡ h ∷ hs
-    → middle ≡ old ++ own → map answers own ≡ sayings_from (says h.provers) 1 h.setup.provers → map answers now ≡ map answers middle ++ sayings says hs → map answers now ≡ map answers old ++ sayings says all
-more-said {A} {N} {M} answers says old own middle now h hs all all_are joined is later =
-    later
-    ∙ (ap (λ (l : List A). map answers l ++ sayings says hs) joined
-    ∙ (ap (λ (l : List (Question → ℕ → Option Answer)). l ++ sayings says hs) (map-append answers old own)
-    ∙ (append_assoc (map answers old) (map answers own) (sayings says hs)
-    ∙ (ap (λ (l : List (Question → ℕ → Option Answer)). map answers old ++ (l ++ sayings says hs)) is
-    ∙ ap (λ (l : List (Opening N M)). map answers old ++ sayings says l) (sym all_are)))))
-
-pub as-many-openings : (digest : List ℕ → List ℕ) (cs : List CaseData) (starts : List State) → length starts ≡ length cs → length (openings_of_cases digest cs starts) ≡ length cs
-as-many-openings digest [] starts e = refl
-as-many-openings digest (c ∷ cs) [] e = e
-as-many-openings digest (c ∷ cs) (start ∷ starts) e = ap suc (as-many-openings digest cs starts (omega (arith, e)))
-
--- how the cases of openings end
-
-pub ended-as-cases : (digest : List ℕ → List ℕ) (cs : List CaseData) (starts : List State)
-    → map (ending (λ (n : MachineNames). machine_ruling digest n.version) (λ (n : CaseScripts). case_says digest n.start n.bound n.scripts)) (openings_of_cases digest cs starts)
-    ≡ endings_of_cases digest cs starts
-ended-as-cases digest [] starts = refl
-ended-as-cases digest (c ∷ cs) [] = refl
-ended-as-cases digest (c ∷ cs) (start ∷ starts) = ap (λ (l : List (Record × Verdict)). ending_of_case digest c start ∷ l) (ended-as-cases digest cs starts)
-
-pub all-settled-up : RecordsOfCasesAreSettledUp → (digest : List ℕ → List ℕ) (cs : List CaseData) (starts : List State) → AreAllPlayable digest cs starts
-    → AreSettledUp cs (endings_of_cases digest cs starts)
-all-settled-up law digest [] starts playable = tt
-all-settled-up law digest (c ∷ cs) [] playable = tt
-all-settled-up law digest (c ∷ cs) (start ∷ starts) playable =
-    (law (rules_of_case digest c start) (says_of_case digest c start) playable.0, all-settled-up law digest cs starts playable.1)
-
--- a pattern of the first element and the rest
-
-pub first-rest : {A : Type 0} (xs : List A) (x : A) → 1 ≤ length xs → x ≡ slice_index_or xs 0 x → xs ≡ x ∷ take (length xs - 1) (drop 1 xs)
-first-rest [] x some is = absurd (omega (arith, some))
-first-rest (y ∷ ys) x some is =
-    let fewer : suc (length ys) - 1 ≡ length ys = omega arith in
-    ap₂ (λ a l. a ∷ l) (sym is) (sym (ap (λ n. take n ys) fewer ∙ take-length ys))
-
-module _ (digest : List ℕ → List ℕ) where
-  pub more-opened : (cs later : List CaseData) (c : CaseData) (starts later_starts : List State) (start : State) → cs ≡ c ∷ later → starts ≡ start ∷ later_starts
-      → openings_of_cases digest cs starts ≡ opening_of_case digest c start ∷ openings_of_cases digest later later_starts
-  more-opened cs later c starts later_starts start cs_are starts_are = rw cs_are (rw starts_are refl)
-
-  pub more-playable : (cs later : List CaseData) (c : CaseData) (starts later_starts : List State) (start : State) → cs ≡ c ∷ later → starts ≡ start ∷ later_starts
-      → ArePlayable (rules_of_case digest c start) → AreAllPlayable digest later later_starts → AreAllPlayable digest cs starts
-  more-playable cs later c starts later_starts start cs_are starts_are here there = rw cs_are (rw starts_are (here, there))
-
--- the rest of a list, and of its image
-whole-rest : {A : Type 0} (xs : List A) → take (suc (length xs) - 1) xs ≡ xs
-whole-rest xs = let fewer : suc (length xs) - 1 ≡ length xs = omega arith in ap (λ n. take n xs) fewer ∙ take-length xs
-
-pub rest-map : {A B : Type 0} (f : A → B) (xs : List A) (ys : List B) → ys ≡ map f xs → take (length ys - 1) (drop 1 ys) ≡ map f (take (length xs - 1) (drop 1 xs))
-rest-map f [] ys is = rw is refl
-rest-map f (x ∷ xs) ys is = rw is (whole-rest (map f xs) ∙ ap (map f) (sym (whole-rest xs)))
-
-pub rest-all : {A : Type 0} (P : A → Type 0) (xs : List A) → All P xs → All P (take (length xs - 1) (drop 1 xs))
-rest-all P [] all = All-nil P
-rest-all P (x ∷ xs) all = subst (All P) (sym (whole-rest xs)) (All-tail P x xs all)
+-- one more opening behind others, and its answerers
 
 push-all : {A : Type 0} (P : A → Type 0) (xs : List A) (x : A) → All P xs → P x → All P (xs ++ x ∷ [])
 push-all P [] x all last = All-cons P x [] last (All-nil P)
 push-all P (y ∷ xs) x all last = All-cons P y (xs ++ x ∷ []) (All-head P y xs all) (push-all P xs x (All-tail P y xs all) last)
 
--- books that are empty, and one more
-pub all-empty : {N M : Type 0} (old now : List (BookOf N M)) (b : BookOf N M) → now ≡ old ++ b ∷ [] → All (λ (x : BookOf N M). x.journal ≡ []) old → b.journal ≡ [] → All (λ (x : BookOf N M). x.journal ≡ []) now
-all-empty {N} {M} old now b pushed all is = subst (All (λ (x : BookOf N M). x.journal ≡ [])) (sym pushed) (push-all (λ (x : BookOf N M). x.journal ≡ []) old b all is)
+pub one-more-empty : {N M : Type 0} (old now : List (BookOf N M)) (b : BookOf N M) → now ≡ old ++ b ∷ [] → b.journal ≡ [] → All (λ (x : BookOf N M). x.journal ≡ []) old
+    → All (λ (x : BookOf N M). x.journal ≡ []) now
+one-more-empty {N} {M} old now b pushed is all = subst (All (λ (x : BookOf N M). x.journal ≡ [])) (sym pushed) (push-all (λ (x : BookOf N M). x.journal ≡ []) old b all is)
+
+pub one-more-opened : {A N M : Type 0} (f : A → Opening N M) (old now : List (BookOf N M)) (b : BookOf N M) (xs : List A) (x : A) → now ≡ old ++ b ∷ [] → b.opening ≡ f x
+    → openings old ≡ map f xs → openings now ≡ map f (xs ++ x ∷ [])
+one-more-opened {A} {N} {M} f old now b xs x pushed is so_far =
+    ap openings pushed
+    ∙ (map-append (λ (y : BookOf N M). y.opening) old (b ∷ [])
+    ∙ (ap₂ (λ (l : List (Opening N M)) (h : Opening N M). l ++ h ∷ []) so_far is ∙ sym (map-append f xs (x ∷ []))))
+
+sayings-last : {N M : Type 0} (says : M → Says) (hs : List (Opening N M)) (h : Opening N M) → sayings says (hs ++ h ∷ []) ≡ sayings says hs ++ sayings_from (says h.provers) 1 h.setup.provers
+sayings-last says [] h = append-nil (sayings_from (says h.provers) 1 h.setup.provers)
+sayings-last says (g ∷ gs) h =
+    ap (λ (l : List (Question → ℕ → Option Answer)). sayings_from (says g.provers) 1 g.setup.provers ++ l) (sayings-last says gs h)
+    ∙ sym (append_assoc (sayings_from (says g.provers) 1 g.setup.provers) (sayings says gs) (sayings_from (says h.provers) 1 h.setup.provers))
+
+pub one-more-said : {A N M : Type 0} (answers : A → Question → ℕ → Option Answer) (says : M → Says) (old own now : List A) (books later : List (BookOf N M)) (b : BookOf N M)
+    → now ≡ old ++ own → later ≡ books ++ b ∷ [] → map answers own ≡ sayings_from (says b.opening.provers) 1 b.opening.setup.provers → map answers old ≡ sayings says (openings books)
+    → map answers now ≡ sayings says (openings later)
+one-more-said {A} {N} {M} answers says old own now books later b joined pushed say so_far =
+    ap (map answers) joined
+    ∙ (map-append answers old own
+    ∙ (ap₂ (λ (l m : List (Question → ℕ → Option Answer)). l ++ m) so_far say
+    ∙ (sym (sayings-last says (openings books) b.opening)
+    ∙ ap (sayings says) (sym (ap openings pushed ∙ map-append (λ (y : BookOf N M). y.opening) books (b ∷ []))))))
 
 -- what a case's answerers say
 
@@ -143,56 +97,103 @@ pub scripts-said : {A : Type 0} (answers : A → Question → ℕ → Option Ans
     → scripts ≡ others → AnswerAs answers (case_says digest start bound scripts) 1 xs → AnswerAs answers (case_says digest start bound others) 1 xs
 scripts-said answers digest start bound scripts others xs same say = subst (λ (ss : List Script). AnswerAs answers (case_says digest start bound ss) 1 xs) same say
 
--- a copy of the start says the same
-pub said-as : {A : Type 0} (answers : A → Question → ℕ → Option Answer) (digest : List ℕ → List ℕ) (s start : State) (bound : ℕ) (scripts : List Script) (xs : List A)
-    → s ≡ start → AnswerAs answers (case_says digest s bound scripts) 1 xs → AnswerAs answers (case_says digest start bound scripts) 1 xs
-said-as answers digest s start bound scripts xs same say = subst (λ (t : State). AnswerAs answers (case_says digest t bound scripts) 1 xs) same say
-
 pub said-in-order : {A : Type 0} (answers : A → Question → ℕ → Option Answer) → SayInOrder answers → (digest : List ℕ → List ℕ) (start : State) (bound : ℕ) (scripts : List Script) (xs : List A)
     → length xs ≡ length scripts → AnswerAs answers (case_says digest start bound scripts) 1 xs → map answers xs ≡ sayings_from (case_says digest start bound scripts) 1 (length scripts)
 said-in-order answers law digest start bound scripts xs count say =
     law (case_says digest start bound scripts) 1 xs say ∙ ap (sayings_from (case_says digest start bound scripts) 1) count
 
--- one case that is played
+-- the answerers of a book that is opened for a case
+pub said-by-book : {A : Type 0} (answers : A → Question → ℕ → Option Answer) → SayInOrder answers → (digest : List ℕ → List ℕ) (c : CaseData) (start : State) (h : Opening MachineNames CaseScripts) (xs : List A)
+    → h ≡ opening_of_case digest c start → length xs ≡ length c.provers → AnswerAs answers (case_says digest start c.bound c.provers) 1 xs
+    → map answers xs ≡ sayings_from (case_says digest h.provers.start h.provers.bound h.provers.scripts) 1 h.setup.provers
+said-by-book answers law digest c start h xs is count say =
+    said-in-order answers law digest start c.bound c.provers xs count say
+    ∙ ap (λ (g : Opening MachineNames CaseScripts). sayings_from (case_says digest g.provers.start g.provers.bound g.provers.scripts) 1 g.setup.provers) (sym is)
 
-pub ended-as : (digest : List ℕ → List ℕ) (c : CaseData) (start : State) (h : Opening MachineNames CaseScripts) (e : Record × Verdict) → h ≡ opening_of_case digest c start
-    → e ≡ ending (λ (n : MachineNames). machine_ruling digest n.version) (λ (n : CaseScripts). case_says digest n.start n.bound n.scripts) h → e ≡ ending_of_case digest c start
-ended-as digest c start h e opened is =
-    is ∙ ap (ending (λ (n : MachineNames). machine_ruling digest n.version) (λ (n : CaseScripts). case_says digest n.start n.bound n.scripts)) opened
+-- the last one
 
-pub its-verdict : (digest : List ℕ → List ℕ) (c : CaseData) (start : State) (e : Record × Verdict) → e ≡ ending_of_case digest c start → e.1 ≡ verdict_of_record digest c start e.0
-its-verdict digest c start e is = ap (λ (x : Record × Verdict). x.1) is ∙ ap (verdict_of_record digest c start) (sym (ap (λ (x : Record × Verdict). x.0) is))
+pub last-all : {X : Type 0} (P : X → Type 0) (xs : List X) (x : X) → All P (xs ++ x ∷ []) → P x
+last-all P [] x h = All-head P x [] h
+last-all P (y ∷ xs) x h = last-all P xs x (All-tail P y (xs ++ x ∷ []) h)
 
-pub its-record-settled : RecordsOfCasesAreSettledUp → (digest : List ℕ → List ℕ) (c : CaseData) (start : State) (e : Record × Verdict) → ArePlayable (rules_of_case digest c start)
-    → e ≡ ending_of_case digest c start → IsSettledUp (length c.provers) e.0
-its-record-settled law digest c start e playable is =
-    subst (λ (x : Record × Verdict). IsSettledUp (length c.provers) x.0) (sym is) (law (rules_of_case digest c start) (says_of_case digest c start) playable)
+-- the list of one
 
--- many cases that are played
+pub one-loaded : {A : Type 0} (old now : List A) (x : A) → old ≡ [] → now ≡ old ++ x ∷ [] → now ≡ x ∷ []
+one-loaded old now x none pushed = pushed ∙ ap (λ l. l ++ x ∷ []) none
 
-pub opened-first : {N M : Type 0} (old now : List (BookOf N M)) (hs : List (Opening N M)) → old ≡ [] → openings now ≡ openings old ++ hs → openings now ≡ hs
-opened-first {N} {M} old now hs none all = all ∙ ap (λ (l : List (BookOf N M)). openings l ++ hs) none
+pub only-last : {A : Type 0} (xs rest : List A) (o : Option A) (x y : A) → xs ≡ x ∷ [] → xs ≡ rest ++ option_to_list o → o ≡ Some y → y ≡ x
+only-last {A} xs rest o x y one parts is = by rest (sym one ∙ (parts ∙ ap (λ (p : Option A). rest ++ option_to_list p) is))
+  where
+    by : (zs : List A) → x ∷ [] ≡ zs ++ y ∷ [] → y ≡ x
+    by [] e = sym (ap (λ (l : List A). get_or l 0 x) e)
+    by (z ∷ zs) e = absurd (omega (arith, ap length e, length-append zs (y ∷ [])))
 
-pub said-first : {A N M : Type 0} (answers : A → Question → ℕ → Option Answer) (says : M → Says) (old now slice : List A) (hs others : List (Opening N M)) → slice ≡ now → old ≡ []
-    → map answers now ≡ map answers old ++ sayings says hs → others ≡ hs → map answers slice ≡ sayings says others
-said-first {A} answers says old now slice hs others same none all are =
-    ap (map answers) same ∙ (all ∙ (ap (λ (l : List A). map answers l ++ sayings says hs) none ∙ ap (sayings says) (sym are)))
+-- how the cases of openings end
 
-pub as-many-books : (digest : List ℕ → List ℕ) (cases : List Case) (starts : List Machine) (books : List (BookOf MachineNames CaseScripts))
-    → openings books ≡ openings_of_cases digest (map data_of cases) (map state_of starts) → length starts ≡ length cases → length books ≡ length cases
-as-many-books digest cases starts books opened count =
-    sym (length-map books (λ (b : BookOf MachineNames CaseScripts). b.opening))
-    ∙ (ap length opened
-    ∙ (as-many-openings digest (map data_of cases) (map state_of starts) (length-map starts state_of ∙ (count ∙ sym (length-map cases data_of))) ∙ length-map cases data_of))
-
-pub all-ended : (digest : List ℕ → List ℕ) (cs : List CaseData) (starts : List State) (hs : List (Opening MachineNames CaseScripts)) (ends : List (Record × Verdict)) → hs ≡ openings_of_cases digest cs starts
-    → ends ≡ map (ending (λ (n : MachineNames). machine_ruling digest n.version) (λ (n : CaseScripts). case_says digest n.start n.bound n.scripts)) hs → ends ≡ endings_of_cases digest cs starts
-all-ended digest cs starts hs ends opened are =
+pub ended-as-loaded : (digest : List ℕ → List ℕ) (ls : List LoadedCase) (hs : List (Opening MachineNames CaseScripts)) (ends : List Ended) → hs ≡ map (opening_of digest) ls
+    → ends ≡ map (ended_alone (λ (n : MachineNames). machine_ruling digest n.version) (λ (n : CaseScripts). case_says digest n.start n.bound n.scripts)) hs → ends ≡ map (ended_of digest) ls
+ended-as-loaded digest ls hs ends opened are =
     are
-    ∙ (ap (map (ending (λ (n : MachineNames). machine_ruling digest n.version) (λ (n : CaseScripts). case_says digest n.start n.bound n.scripts))) opened
-    ∙ ended-as-cases digest cs starts)
+    ∙ (ap (map (ended_alone (λ (n : MachineNames). machine_ruling digest n.version) (λ (n : CaseScripts). case_says digest n.start n.bound n.scripts))) opened
+    ∙ sym (map_twice (ended_alone (λ (n : MachineNames). machine_ruling digest n.version) (λ (n : CaseScripts). case_says digest n.start n.bound n.scripts)) (opening_of digest) ls))
 
--- what the answerers of one task say
+pub as-many-books : (digest : List ℕ → List ℕ) (ls : List LoadedCase) (books : List (BookOf MachineNames CaseScripts)) → openings books ≡ map (opening_of digest) ls → length books ≡ length ls
+as-many-books digest ls books opened = sym (length-map books (λ (b : BookOf MachineNames CaseScripts). b.opening)) ∙ (ap length opened ∙ length-map ls (opening_of digest))
 
-pub single_said : {A : Type 0} (answers : A → Question → ℕ → Option Answer) → SayInOrder answers → (says : Says) (m : ℕ) (xs : List A) → length xs ≡ m → AnswerAs answers says 1 xs → map answers xs ≡ sayings_from says 1 m ++ []
-single_said answers law says m xs long a = law says 1 xs a ∙ (ap (sayings_from says 1) long ∙ sym (append-nil (sayings_from says 1 m)))
+-- a case that was read can be played
+
+playable : (digest : List ℕ → List ℕ) (c : Case) (start : State) → ArePlayable (rules_of_case digest (data_of c) start)
+playable digest c start =
+    record { some = omega (arith, c.somebody_plays); parted = omega (arith, c.parted); few_parts = c.few_parts; steps = omega (arith, c.bound_is_positive) }
+
+pub record-settled : RecordsOfCasesAreSettledUp → (digest : List ℕ → List ℕ) (c : Case) (start : State) (r : Record) → r ≡ (ending_of_case digest (data_of c) start).0 → IsSettledUp (length c.provers) r
+record-settled law digest c start r is =
+    subst (IsSettledUp (length c.provers)) (sym is) (law (rules_of_case digest (data_of c) start) (says_of_case digest (data_of c) start) (playable digest c start))
+
+-- cases and machines, and how they end
+
+abbrev pub endings-of-loaded : (List ℕ → List ℕ) → List LoadedCase → List (Record × Verdict)
+endings-of-loaded digest ls = map (λ (end : Ended). (end.match_record, end.verdict)) (map (ended_of digest) ls)
+
+pub all-fresh : (digest : List ℕ → List ℕ) (ls : List LoadedCase) (starts : List Machine) → map (λ (l : LoadedCase). l.start) ls ≡ starts → All (IsChained digest) starts
+    → All (λ (m : Machine). m.output.items ≡ []) starts → All (λ (l : LoadedCase). IsFresh digest l.start) ls
+all-fresh digest ls starts are chained silent =
+    by ls (subst (All (IsChained digest)) (sym are) chained) (subst (All (λ (m : Machine). m.output.items ≡ [])) (sym are) silent)
+  where
+    by : (ks : List LoadedCase) → All (IsChained digest) (map (λ (l : LoadedCase). l.start) ks) → All (λ (m : Machine). m.output.items ≡ []) (map (λ (l : LoadedCase). l.start) ks)
+        → All (λ (l : LoadedCase). IsFresh digest l.start) ks
+    by [] c s = All-nil (λ (l : LoadedCase). IsFresh digest l.start)
+    by (k ∷ ks) c s =
+        All-cons (λ (l : LoadedCase). IsFresh digest l.start) k ks
+        (record { chained = All-head (IsChained digest) k.start (map (λ (l : LoadedCase). l.start) ks) c; silent = All-head (λ (m : Machine). m.output.items ≡ []) k.start (map (λ (l : LoadedCase). l.start) ks) s })
+        (by ks (All-tail (IsChained digest) k.start (map (λ (l : LoadedCase). l.start) ks) c) (All-tail (λ (m : Machine). m.output.items ≡ []) k.start (map (λ (l : LoadedCase). l.start) ks) s))
+
+-- one more case with its machine
+pub one-more-loaded : (cs : List Case) (i : ℕ) (old now : List LoadedCase) (l : LoadedCase) → now ≡ old ++ l ∷ [] → i < length cs → l.case.now ≡ get_or cs i l.case.now
+    → map (λ (k : LoadedCase). data_of k.case.now) old ≡ map data_of (take i cs) → map (λ (k : LoadedCase). data_of k.case.now) now ≡ map data_of (take (i + 1) cs)
+one-more-loaded cs i old now l pushed within read so_far =
+    ap (map (λ (k : LoadedCase). data_of k.case.now)) pushed
+    ∙ (map-append (λ (k : LoadedCase). data_of k.case.now) old (l ∷ [])
+    ∙ (ap (λ (ds : List CaseData). ds ++ data_of l.case.now ∷ []) so_far
+    ∙ (sym (map-append data_of (take i cs) (l.case.now ∷ []))
+    ∙ ap (map data_of) (sym (take_more cs i l.case.now within ∙ ap (λ (y : Case). take i cs ++ y ∷ []) (sym read))))))
+
+zipped : (digest : List ℕ → List ℕ) (ls : List LoadedCase)
+    → endings-of-loaded digest ls ≡ endings_of_cases digest (map (λ (l : LoadedCase). data_of l.case.now) ls) (map state_of (map (λ (l : LoadedCase). l.start) ls))
+zipped digest [] = refl
+zipped digest (l ∷ ls) = ap (λ (es : List (Record × Verdict)). ending_of_case digest (data_of l.case.now) (state_of l.start) ∷ es) (zipped digest ls)
+
+pub as-alone : (digest : List ℕ → List ℕ) (ls : List LoadedCase) (cs : List CaseData) (starts : List Machine) (es : List (Record × Verdict)) → map (λ (l : LoadedCase). data_of l.case.now) ls ≡ cs
+    → map (λ (l : LoadedCase). l.start) ls ≡ starts → es ≡ endings-of-loaded digest ls → es ≡ endings_of_cases digest cs (map state_of starts)
+as-alone digest ls cs starts es cases_are starts_are is =
+    is ∙ (zipped digest ls ∙ ap₂ (λ (ds : List CaseData) (ms : List Machine). endings_of_cases digest ds (map state_of ms)) cases_are starts_are)
+
+settled : RecordsOfCasesAreSettledUp → (digest : List ℕ → List ℕ) (ls : List LoadedCase) → AreSettledUp (map (λ (l : LoadedCase). data_of l.case.now) ls) (endings-of-loaded digest ls)
+settled law digest [] = All-nil (λ (x : CaseData × (Record × Verdict)). IsSettledUp (length x.0.provers) x.1.0)
+settled law digest (l ∷ ls) =
+    All-cons (λ (x : CaseData × (Record × Verdict)). IsSettledUp (length x.0.provers) x.1.0) (data_of l.case.now, ending_of_case digest (data_of l.case.now) (state_of l.start))
+    (zip (map (λ (k : LoadedCase). data_of k.case.now) ls) (endings-of-loaded digest ls)) (record-settled law digest l.case.now (state_of l.start) _ refl) (settled law digest ls)
+
+pub all-settled-up : RecordsOfCasesAreSettledUp → (digest : List ℕ → List ℕ) (ls : List LoadedCase) (cs : List CaseData) (es : List (Record × Verdict)) → map (λ (l : LoadedCase). data_of l.case.now) ls ≡ cs
+    → es ≡ endings-of-loaded digest ls → AreSettledUp cs es
+all-settled-up law digest ls cs es cases_are is = subst (λ (ds : List CaseData). AreSettledUp ds es) cases_are (subst (AreSettledUp (map (λ (l : LoadedCase). data_of l.case.now) ls)) (sym is) (settled law digest ls))

@@ -1,6 +1,6 @@
 -- To believe. The match of a case by a digest function: by what it is played, what its provers say, and what comes of it. The referee sees no state
 -- but the first, of which it makes the root, and decides about claims and proofs of single steps.
-use Rattle.std.specs.Prelude.{ℕ, List, length, [], ◌∷◌}
+use Rattle.std.specs.Prelude.{ℕ, List, All, length, map, zip}
 use Rattle.rd_base.specs.declared.digest.Digest32.{Digest32}
 use Rattle.bisect_game.specs.Says.{Says}
 use Rattle.bisect_game.specs.Rules.{Rules, ArePlayable}
@@ -59,9 +59,7 @@ ending_of_case digest c start = (record_of_case digest c start, verdict_of_recor
 
 -- how cases end whose runs start in these states, one for each case
 abbrev pub endings_of_cases : (List ℕ → List ℕ) → List CaseData → List State → List (Record × Verdict)
-endings_of_cases digest [] starts = []
-endings_of_cases digest (c ∷ cs) [] = []
-endings_of_cases digest (c ∷ cs) (start ∷ starts) = ending_of_case digest c start ∷ endings_of_cases digest cs starts
+endings_of_cases digest cs starts = map (λ (x : CaseData × State). ending_of_case digest x.0 x.1) (zip cs starts)
 
 -- DEPOSITS may be paid by the record of a case, which is one of a match that has ended
 
@@ -72,6 +70,4 @@ RecordsOfCasesAreSettledUp = (rules : Rules) (says : Says) → ArePlayable rules
 
 -- so is the record of each of these cases
 abbrev pub AreSettledUp : List CaseData → List (Record × Verdict) → Type 0
-AreSettledUp [] ends = Unit {0}
-AreSettledUp (c ∷ cs) [] = Unit {0}
-AreSettledUp (c ∷ cs) (end ∷ ends) = IsSettledUp (length c.provers) end.0 × AreSettledUp cs ends
+AreSettledUp cs ends = All (λ (x : CaseData × (Record × Verdict)). IsSettledUp (length x.0.provers) x.1.0) (zip cs ends)

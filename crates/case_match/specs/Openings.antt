@@ -1,41 +1,50 @@
--- Derived. What the matches of cases are opened with, and how a match ends of its opening alone.
+-- Derived. Cases that are loaded, what their matches are opened with, and what comes of a match by its opening alone.
 use Rattle.board_book.specs.declared.opening.Opening.{Opening}
-use Rattle.std.specs.Prelude.{ℕ, List, [], ◌∷◌}
+use Rattle.std.specs.Prelude.{◌≡◌, ℕ, List, []}
 use Rattle.bisect_game.specs.Ruling.{Ruling}
 use Rattle.bisect_game.specs.Says.{Says}
-use Rattle.bisect_game.specs.Rules.{ArePlayable}
-use Rattle.rv_step.specs.State.{State}
-use Rattle.bisect_game.specs.declared.setup.Setup.{Setup}
-use Rattle.tournament.specs.declared.verdict.Verdict.{Verdict}
+use Rattle.bisect_game.specs.Rules.{rules_of}
+use Rattle.rv_step.specs.declared.machine.Machine.{Machine}
+use Rattle.rv_step.specs.State.{State, state_of, IsChained}
 use Rattle.tournament.specs.Bracket.{Record, bracket, verdict_of}
 use Rattle.tournament.specs.Journals.{answers_of}
-use Rattle.bisect_game.specs.Rules.{rules_of}
 use Rattle.step_referee.specs.declared.judge.MachineNames.{MachineNames}
 use Rattle.prover_run.specs.CaseScripts.{CaseScripts}
-use Rattle.case_reader.specs.Case.{CaseData}
-use Rattle.case_match.specs.Match.{setup_of, rules_of_case}
+use Rattle.case_reader.specs.Case.{CaseData, data_of}
+use Rattle.case_match.specs.declared.loaded.LoadedCase.{LoadedCase}
+use Rattle.case_match.specs.declared.referee.Ended.{Ended}
+use Rattle.case_match.specs.Match.{setup_of, record_of_case, verdict_of_record}
+
+-- a machine that has output nothing, and whose chain is that of no output by a digest function
+pub record IsFresh (digest : List ℕ → List ℕ) (m : Machine) : Type 0 where
+  pub chained : IsChained digest m
+  pub silent : m.output.items ≡ []
+
+-- WHAT COMES OF A MATCH
 
 -- the record of an opening: of the names of its judge and its provers, and the numbers of its match
 abbrev pub record_alone : {N M : Type 0} → (N → Ruling) → (M → Says) → Opening N M → Record
 record_alone ruling says h = bracket (rules_of (ruling h.judge) h.setup) (answers_of (rules_of (ruling h.judge) h.setup) (says h.provers))
 
--- that record, and its verdict
-abbrev pub ending : {N M : Type 0} → (N → Ruling) → (M → Says) → Opening N M → Record × Verdict
-ending ruling says h = (record_alone ruling says h, verdict_of (rules_of (ruling h.judge) h.setup) (record_alone ruling says h))
+-- its numbers, that record, and its verdict
+abbrev pub ended_alone : {N M : Type 0} → (N → Ruling) → (M → Says) → Opening N M → Ended
+ended_alone ruling says h =
+    record { setup = h.setup; match_record = record_alone ruling says h; verdict = verdict_of (rules_of (ruling h.judge) h.setup) (record_alone ruling says h) }
+
+-- the same of a case whose run starts in this state
+abbrev pub ended_case : (List ℕ → List ℕ) → CaseData → State → Ended
+ended_case digest c start =
+    record { setup = setup_of digest c start; match_record = record_of_case digest c start; verdict = verdict_of_record digest c start (record_of_case digest c start) }
 
 -- what the match of a case is opened with, whose run starts in this state
 abbrev pub opening_of_case : (List ℕ → List ℕ) → CaseData → State → Opening MachineNames CaseScripts
 opening_of_case digest c start =
     record { judge = record { version = start.version }; provers = record { start = start; bound = c.bound; scripts = c.provers }; setup = setup_of digest c start }
 
--- the matches of cases, one for each
-abbrev pub openings_of_cases : (List ℕ → List ℕ) → List CaseData → List State → List (Opening MachineNames CaseScripts)
-openings_of_cases digest [] starts = []
-openings_of_cases digest (c ∷ cs) [] = []
-openings_of_cases digest (c ∷ cs) (start ∷ starts) = opening_of_case digest c start ∷ openings_of_cases digest cs starts
+-- OF A LOADED CASE
 
--- each can be played
-abbrev pub AreAllPlayable : (List ℕ → List ℕ) → List CaseData → List State → Type 0
-AreAllPlayable digest [] starts = Unit {0}
-AreAllPlayable digest (c ∷ cs) [] = Unit {0}
-AreAllPlayable digest (c ∷ cs) (start ∷ starts) = ArePlayable (rules_of_case digest c start) × AreAllPlayable digest cs starts
+abbrev pub opening_of : (List ℕ → List ℕ) → LoadedCase → Opening MachineNames CaseScripts
+opening_of digest l = opening_of_case digest (data_of l.case.now) (state_of l.start)
+
+abbrev pub ended_of : (List ℕ → List ℕ) → LoadedCase → Ended
+ended_of digest l = ended_case digest (data_of l.case.now) (state_of l.start)

@@ -1,17 +1,22 @@
 //! The match of a case: its provers' runs, the judge of the machine, and the bracket that they are played in; and those of many tasks.
 //!
-//! The layers above may rely on this: `verdict_of_case` gives the record of the case and its verdict, functions of the case, the
-//! state that its run starts in and the digester's function (`specs/Match.antt`), however many threads play it; `verdict_from` gives the
-//! same to a caller that has the tree of the input and the start's root. `verdict_of_tasks` plays many together, of which each ends as
-//! it ends alone (`endings_of_cases`). A prover that claims and answers as the machine's definition says is safe in that record, which
-//! a law says for any digester (`specs/TruthfulInCase.antt`). Which scripts make a prover one of these says `specs/HonestScripts.antt`; in the
-//! proof of which step one with a tamper is refuted says `specs/RefutedTampers.antt`, where a dispute of two tampered runs ends
-//! `specs/PartingRuns.antt`, and what a prover has at the end `specs/Earnings.antt`.
-//! The crate reads no device and writes no text. Read `specs/Match.antt` first, then `verdict`.
+//! The layers above may rely on this: `ended_tasks` gives what came of the matches of loaded cases: the root at step 0, the record and the
+//! verdict of each, which are functions of the case, the state that its run starts in and the digester's function (`specs/Match.antt`),
+//! however many threads play them and whatever the others do. `verdict_of_case` is the same of one case, and `verdict_of_tasks` of cases and
+//! machines. A prover that claims and answers as the machine's definition says is safe in that record, which a law says for any digester
+//! (`specs/TruthfulInCase.antt`). Which scripts make a prover one of these says `specs/HonestScripts.antt`; in the proof of which step one
+//! with a tamper is refuted, `specs/RefutedTampers.antt`; where a dispute of two tampered runs ends, `specs/PartingRuns.antt`; and what a
+//! prover has at the end, `specs/Earnings.antt`.
+//!
+//! What decides a match is `referee`, which gets no case, no image and no machine. The crate reads no device and writes no text. Read
+//! `specs/Match.antt` first, then `playing`.
 #![tactic(auto)]
 
 mod laws;
+mod loaded;
 mod opening;
+mod playing;
+mod referee;
 mod tasks;
 mod verdict;
 
@@ -19,5 +24,8 @@ pub use laws::{
     records_of_cases_are_settled_up, tampers_are_refuted, truthful_provers_of_cases_are_safe,
     untouched_provers_are_truthful, who_lives_in_a_case_wins_all,
 };
-pub use tasks::{start_roots, verdict_of_tasks, verdicts_from};
-pub use verdict::{verdict_from, verdict_of_case};
+pub use loaded::LoadedCase;
+pub use playing::{ended_one, ended_tasks};
+pub use referee::Ended;
+pub use tasks::{loaded_cases, verdict_of_tasks};
+pub use verdict::verdict_of_case;

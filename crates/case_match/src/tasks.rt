@@ -1,40 +1,64 @@
-//! The matches of many tasks, played together.
-ghost use Rattle.std.specs.Prelude.{◌≡◌, ◌<◌, ◌≤◌, [], map, length, IfOk};
+//! The matches of many tasks, as a call of its own over the path of loaded cases.
+ghost use Rattle.std.specs.Prelude.{◌≡◌, ◌<◌, ◌≤◌, ℕ, List, [], map, length, IfOk};
 ghost use Rattle.std.specs.List.{All};
 ghost use Rattle.rv_step.specs.State.{state_of, IsChained};
 ghost use Rattle.case_reader.specs.Case.{data_of};
 ghost use Rattle.command_line.specs.Words.{AreAtLeastOne};
-ghost use Rattle.case_match.specs.Match.{start_root, endings_of_cases, AreSettledUp};
+ghost use Rattle.case_match.specs.Match.{endings_of_cases, AreSettledUp};
+ghost use Rattle.case_match.specs.Openings.{IsFresh};
 
 use crate::laws::records_of_cases_are_settled_up;
-use crate::opening::open_matches;
-use crate::verdict::play_out_all;
+use crate::loaded::LoadedCase;
+use crate::playing::ended_tasks;
+use crate::referee::Ended;
 use case_reader::Case;
 use command_line::Options;
-use rd_base::{Digest32, Memory};
+use rd_base::Memory;
 use rv_step::Machine;
 use segment_replay::Replays;
-use state_commit::state_root;
 use std::alloc::Global;
 use std::sync::Wait;
 use std::thread::Threads;
 use tournament::{Record, Verdict};
 
-/// The root of each machine, in its own version. The chain of each is that of its output, by the digester `d`. An `Err` is out of
-/// memory.
-pub fn start_roots<D: Replays>(
+/// Cases with the machines in which their runs start, one for each. No machine has output anything. An `Err` is out of memory.
+pub fn loaded_cases<'a>(
     alloc: Global,
-    d: D,
-    starts: &[Machine],
-) -> Result<Vec<Digest32>, Memory>
-    requires { All (IsChained D.digest_of) starts.now }
-    ensures { IfOk result (λ roots. roots.items ≡ map (λ start. start_root D.digest_of (state_of start)) starts.now) }
+    cases: &'a [Case],
+    starts: Vec<Machine>,
+) -> Result<Vec<LoadedCase<'a>>, Memory>
+    requires count { length starts.items ≡ length cases.now }
+    requires silent { All (λ start. start.output.items ≡ []) starts.items }
+    ensures cases { IfOk result (λ loads. map (λ l. data_of l.case.now) loads.items ≡ map data_of cases.now) }
+    ensures starts { IfOk result (λ loads. map (λ l. l.start) loads.items ≡ starts.items) }
+    ensures fresh { IfOk result (λ loads. (digest : List ℕ → List ℕ) → All (IsChained digest) starts.items → All (λ l. IsFresh digest l.start) loads.items) }
 {
-    let mut roots = Vec::with_capacity(alloc, starts.len())?;
+    let mut loads = Vec::with_capacity(alloc, starts.len())?;
+    let mut at = 0;
     'starts: for start in starts {
-        roots.push(state_root(d, start.version, start))?;
+        loads.push(LoadedCase {
+            case: &cases[at],
+            start,
+        })?;
+        at += 1;
     }
-    Ok(roots)
+    Ok(loads)
+}
+
+/// The record and the verdict of each match, in their order. An `Err` is out of memory.
+fn endings(alloc: Global, ends: Vec<Ended>) -> Result<Vec<(Record, Verdict)>, Memory>
+    ensures { IfOk result (λ endings. endings.items ≡ map (λ end. (end.match_record, end.verdict)) ends.items) }
+{
+    let mut endings = Vec::with_capacity(alloc, ends.len())?;
+    'ends: for end in ends {
+        let Ended {
+            setup: _,
+            match_record,
+            verdict,
+        } = end;
+        endings.push((match_record, verdict))?;
+    }
+    Ok(endings)
 }
 
 /// The matches of the cases of 1 to 8 tasks, whose runs start in these machines, one for each: what is settled in each, and how it
@@ -59,44 +83,8 @@ where
     ensures as_alone { IfOk result (λ ends. ends.items ≡ endings_of_cases D.digest_of (map data_of cases.now) (map state_of starts.items)) }
     ensures settled_up { IfOk result (λ ends. AreSettledUp (map data_of cases.now) ends.items) }
 {
-    let roots = start_roots(alloc, d, starts.as_slice())?;
-    verdicts_from(rt, alloc, d, cases, starts, roots.as_slice(), options)
-}
-
-/// The same, from the roots of the start states, each in its version.
-pub fn verdicts_from<R: Threads + Wait + Sync, D: Replays>(
-    rt: &R,
-    alloc: Global,
-    d: D,
-    cases: &[Case],
-    starts: Vec<Machine>,
-    roots: &[Digest32],
-    options: Options,
-) -> Result<Vec<(Record, Verdict)>, Memory>
-where
-    D: Send + Sync,
-    requires some { 0 < length cases.now }
-    requires few { length cases.now ≤ 8 }
-    requires count { length starts.items ≡ length cases.now }
-    requires chained { All (IsChained D.digest_of) starts.items }
-    requires silent { All (λ start. start.output.items ≡ []) starts.items }
-    requires roots { roots.now ≡ map (λ start. start_root D.digest_of (state_of start)) starts.items }
-    requires options { AreAtLeastOne options }
-    ensures as_alone { IfOk result (λ ends. ends.items ≡ endings_of_cases D.digest_of (map data_of cases.now) (map state_of starts.items)) }
-    ensures settled_up { IfOk result (λ ends. AreSettledUp (map data_of cases.now) ends.items) }
-{
-    let mut books = Vec::with_capacity(alloc, cases.len())?;
-    let mut answerers = Vec::new(alloc);
-    open_matches(
-        alloc,
-        d,
-        cases,
-        starts.as_slice(),
-        roots,
-        options,
-        &mut books,
-        &mut answerers,
-    )?;
     records_of_cases_are_settled_up();
-    play_out_all(rt, alloc, books, answerers.as_mut_slice(), options.posters)
+    let loads = loaded_cases(alloc, cases, starts)?;
+    let ends = ended_tasks(rt, alloc, d, loads, options)?;
+    endings(alloc, ends)
 }

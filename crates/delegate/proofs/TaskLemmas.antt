@@ -5,18 +5,19 @@ use Rattle.std.proofs.Math.Seq.{take-length}
 use Rattle.std.proofs.lemmas.List.{append-nil}
 use Rattle.std.proofs.lemmas.List.Elements.{All-nil, All-cons}
 use Rattle.std.proofs.lemmas.Option.{same_Some, none-some}
-use Rattle.rd_base.specs.declared.digest.Digest32.{Digest32}
-use Rattle.tournament.specs.declared.verdict.Verdict.{Verdict}
-use Rattle.tournament.specs.Bracket.{Record}
+use Rattle.bisect_game.specs.Rules.{ArePlayable}
 use Rattle.rv_step.specs.declared.machine.Machine.{Machine}
 use Rattle.rv_step.specs.State.{State, state_of, IsChained}
 use Rattle.case_reader.specs.declared.case.Case.{Case as CaseOf}
 use Rattle.case_reader.specs.Case.{CaseData, data_of}
 use Rattle.case_match.specs.TruthfulInCase.{IsInRange}
-use Rattle.case_match.specs.Match.{start_root, endings_of_cases}
+use Rattle.case_match.specs.declared.loaded.LoadedCase.{LoadedCase}
+use Rattle.case_match.specs.declared.referee.Ended.{Ended}
+use Rattle.case_match.specs.Match.{rules_of_case, says_of_case, RecordsOfCasesAreSettledUp}
+use Rattle.case_match.specs.Openings.{ended_of}
 use Rattle.delegate.specs.Answered.{graver}
 use Rattle.delegate.specs.Decided.{digest_of, Deciding, decided, told, task_line, task_texts, gravest, together, each_told, each_decided, StandsUnder}
-use Rattle.delegate.specs.Standing.{responses, AreAllInRange, AreStarted, AddsStarts}
+use Rattle.delegate.specs.Standing.{responses, CanBePaid, AreAllInRange, AreStarted, AddsStarts}
 use Rattle.delegate.specs.Loading.{start_in, starts_in}
 use Rattle.delegate.specs.declared.response.Subject.TheVariants.{Task}
 use Rattle.delegate.specs.declared.response.Response.{Response}
@@ -56,11 +57,27 @@ gravest-is is x done none collision (r ∷ rs) = graver-is is x none collision r
 
 -- the responses of endings are those to each task
 
-pub same-responses : (digest : List ℕ → List ℕ) (m : Deciding) (cs : List CaseData) (starts : List State)
-    → responses m cs (map (start_root digest) starts) (endings_of_cases digest cs starts) ≡ each_told digest m cs starts
-same-responses digest m [] starts = refl
-same-responses digest m (c ∷ cs) [] = refl
-same-responses digest m (c ∷ cs) (start ∷ starts) = ap (λ rs. told digest m c start ∷ rs) (same-responses digest m cs starts)
+pub same-responses : (digest : List ℕ → List ℕ) (m : Deciding) (ls : List LoadedCase) → responses m (map (λ (l : LoadedCase). data_of l.case.now) ls) (map (ended_of digest) ls)
+    ≡ each_told digest m (map (λ (l : LoadedCase). data_of l.case.now) ls) (map state_of (map (λ (l : LoadedCase). l.start) ls))
+same-responses digest m [] = refl
+same-responses digest m (l ∷ ls) = ap (λ (rs : List Response). told digest m (data_of l.case.now) (state_of l.start) ∷ rs) (same-responses digest m ls)
+
+-- a case that was read can be played, so each record may be paid
+
+playable : (digest : List ℕ → List ℕ) (c : CaseOf) (start : State) → ArePlayable (rules_of_case digest (data_of c) start)
+playable digest c start =
+    record { some = omega (arith, c.somebody_plays); parted = omega (arith, c.parted); few_parts = c.few_parts; steps = omega (arith, c.bound_is_positive) }
+
+settled : RecordsOfCasesAreSettledUp → (digest : List ℕ → List ℕ) (ls : List LoadedCase) → CanBePaid (map (λ (l : LoadedCase). data_of l.case.now) ls) (map (ended_of digest) ls)
+settled law digest [] = tt
+settled law digest (l ∷ ls) =
+    (law (rules_of_case digest (data_of l.case.now) (state_of l.start)) (says_of_case digest (data_of l.case.now) (state_of l.start)) (playable digest l.case.now (state_of l.start)), settled law digest ls)
+
+pub all-settled : RecordsOfCasesAreSettledUp → (digest : List ℕ → List ℕ) (ls : List LoadedCase) (cs : List CaseData) (own_ends ends : List Ended) → map (λ (l : LoadedCase). data_of l.case.now) ls ≡ cs
+    → own_ends ≡ map (ended_of digest) ls → ends ≡ own_ends → CanBePaid cs ends
+all-settled law digest ls cs own_ends ends cases_are own_are ends_are =
+    subst (λ (ds : List CaseData). CanBePaid ds ends) cases_are
+    (subst (CanBePaid (map (λ (l : LoadedCase). data_of l.case.now) ls)) (sym (ends_are ∙ own_are)) (settled law digest ls))
 
 -- the text of a task stands under its line
 
@@ -167,16 +184,12 @@ adds-first-refused number cs c later response are refused = subst (λ (l : List 
 
 -- what is written of tasks that are decided
 
-map-twice : {A B C : Type 0} (f : B → C) (g : A → B) (xs : List A) → map (λ (x : A). f (g x)) xs ≡ map f (map g xs)
-map-twice f g [] = refl
-map-twice f g (x ∷ xs) = ap (λ l. f (g x) ∷ l) (map-twice f g xs)
-
-pub told-together : (digest : List ℕ → List ℕ) (m : Deciding) (cs : List CaseData) (machines starts : List Machine) (roots own_roots : List Digest32) (ends own_ends : List (Record × Verdict))
-    (answered : Answered) (before out text : List ℕ) → machines ≡ starts → own_roots ≡ map (λ (start : Machine). start_root digest (state_of start)) machines → roots ≡ own_roots
-    → own_ends ≡ endings_of_cases digest cs (map state_of starts) → ends ≡ own_ends → before ≡ [] → out ≡ before ++ task_texts 1 (responses m cs roots ends)
-    → answered ≡ gravest (responses m cs roots ends) → text ≡ out → record { answered = answered; text = text } ≡ together (each_told digest m cs (map state_of starts))
-told-together digest m cs machines starts roots own_roots ends own_ends answered before out text machines_are own_roots_are roots_are own_ends_are ends_are none written gravest_is text_is =
-    let rs = roots_are ∙ (own_roots_are ∙ (ap (map (λ (start : Machine). start_root digest (state_of start))) machines_are ∙ map-twice (start_root digest) state_of starts)) in
-    let all : responses m cs roots ends ≡ each_told digest m cs (map state_of starts) = ap₂ (responses m cs) rs (ends_are ∙ own_ends_are) ∙ same-responses digest m cs (map state_of starts) in
+pub told-together : (digest : List ℕ → List ℕ) (m : Deciding) (ls : List LoadedCase) (cs : List CaseData) (starts : List Machine) (own_ends ends : List Ended) (answered : Answered) (before out text : List ℕ)
+    → map (λ (l : LoadedCase). data_of l.case.now) ls ≡ cs → map (λ (l : LoadedCase). l.start) ls ≡ starts → own_ends ≡ map (ended_of digest) ls → ends ≡ own_ends → before ≡ []
+    → out ≡ before ++ task_texts 1 (responses m cs ends) → answered ≡ gravest (responses m cs ends) → text ≡ out
+    → record { answered = answered; text = text } ≡ together (each_told digest m cs (map state_of starts))
+told-together digest m ls cs starts own_ends ends answered before out text cases_are starts_are own_are ends_are none written gravest_is text_is =
+    let all : responses m cs ends ≡ each_told digest m cs (map state_of starts) =
+    ap₂ (responses m) (sym cases_are) (ends_are ∙ own_are) ∙ (same-responses digest m ls ∙ ap₂ (λ (ds : List CaseData) (ms : List Machine). each_told digest m ds (map state_of ms)) cases_are starts_are) in
     ap₂ (λ (a : Answered) (t : List ℕ). record { answered = a; text = t }) (gravest_is ∙ ap gravest all)
-    (text_is ∙ (written ∙ (ap (λ (l : List ℕ). l ++ task_texts 1 (responses m cs roots ends)) none ∙ ap (task_texts 1) all)))
+    (text_is ∙ (written ∙ (ap (λ (l : List ℕ). l ++ task_texts 1 (responses m cs ends)) none ∙ ap (task_texts 1) all)))

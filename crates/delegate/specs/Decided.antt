@@ -1,6 +1,6 @@
 -- To believe. What is written of a match that is decided: by `judge` its report or its full text, and by `big` a summary in one line; and
 -- of many tasks: under the line of each its text, as it has it alone.
-use Rattle.std.specs.Prelude.{ℕ, List, ◌++◌, length, codes, Option, option_map, Result, Ok, ◌≡◌, ◌+◌, [], ◌∷◌, decimal}
+use Rattle.std.specs.Prelude.{ℕ, List, ◌++◌, length, codes, Option, option_map, Result, Ok, ◌≡◌, ◌+◌, [], ◌∷◌, decimal, map, zip}
 use Rattle.rd_base.specs.Results.{◌>>=◌}
 use Rattle.rd_base.specs.declared.digest.Digest32.{Digest32}
 use Rattle.rv_step.specs.State.{State}
@@ -148,9 +148,7 @@ together rs = record { answered = gravest rs; text = task_texts 1 rs }
 
 -- the responses to tasks whose runs start in these states, by a digest function, each as to its case alone
 abbrev pub each_told : (List ℕ → List ℕ) → Deciding → List CaseData → List State → List Response
-each_told digest m [] starts = []
-each_told digest m (c ∷ cs) [] = []
-each_told digest m (c ∷ cs) (start ∷ starts) = told digest m c start ∷ each_told digest m cs starts
+each_told digest m cs starts = map (λ (x : CaseData × State). told digest m x.0 x.1) (zip cs starts)
 
 -- by the digest function that is asked for
 abbrev pub each_decided : Deciding → List CaseData → List State → List Response

@@ -19,11 +19,11 @@ use Rattle.delegate.specs.declared.response.Subject.TheVariants.{Whole}
 use Rattle.delegate.specs.declared.response.Response.{Response}
 use Rattle.delegate.specs.declared.response.Stop.{Stop}
 use Rattle.delegate.specs.declared.response.Stop.TheVariants.{Refused}
-use Rattle.rd_base.specs.declared.digest.Digest32.{Digest32}
+use Rattle.deposits.specs.Balances.{IsSettledUp}
+use Rattle.case_match.specs.declared.referee.Ended.{Ended}
 use Rattle.tournament.specs.declared.verdict.Verdict.{Verdict}
 use Rattle.tournament.specs.declared.verdict.Verdict.TheVariants.{Accept, NoneLeft, Collision}
 use Rattle.delegate.specs.InShort.{AreBytes}
-use Rattle.tournament.specs.Bracket.{Record}
 
 -- a call's value, seen by view, or its refusal is that of the definition, unless memory ran out
 abbrev pub Stands : {X Y : Type 0} → (X → Y) → Result X Stop → Result Y Response → Type 0
@@ -80,9 +80,14 @@ abbrev pub AddsStarts : ℕ → List CaseData → List Machine → List Machine 
 AddsStarts number cs before now (Ok done) = AreStarted number cs before now
 AddsStarts number cs before now (Err stop) = (response : Response) → stop ≡ Refused response → starts_in number cs ≡ Err response
 
--- the responses to tasks whose matches have ended, from their cases, roots and endings
-abbrev pub responses : Deciding → List CaseData → List Digest32 → List (Record × Verdict) → List Response
-responses m [] roots ends = []
-responses m (c ∷ cs) [] ends = []
-responses m (c ∷ cs) (root ∷ roots) [] = []
-responses m (c ∷ cs) (root ∷ roots) (end ∷ ends) = response_of m c root end.0 end.1 ∷ responses m cs roots ends
+-- the responses to tasks, from their cases and what came of their matches
+abbrev pub responses : Deciding → List CaseData → List Ended → List Response
+responses m [] ends = []
+responses m (c ∷ cs) [] = []
+responses m (c ∷ cs) (end ∷ ends) = response_of m c end.setup.start end.match_record end.verdict ∷ responses m cs ends
+
+-- the records of these cases may be paid
+abbrev pub CanBePaid : List CaseData → List Ended → Type 0
+CanBePaid [] ends = Unit {0}
+CanBePaid (c ∷ cs) [] = Unit {0}
+CanBePaid (c ∷ cs) (end ∷ ends) = IsSettledUp (length c.provers) end.match_record × CanBePaid cs ends

@@ -8,26 +8,34 @@ ghost use Rattle.deposits.specs.Balances.{IsSettledUp};
 ghost use Rattle.transcript_text.specs.Report.{report_text};
 ghost use Rattle.transcript_text.specs.MoveLists.{moves_of};
 ghost use Rattle.transcript_text.specs.FullLines.{AreWritten};
-ghost use Rattle.case_match.specs.Match.{record_of_case, verdict_of_record, AreSettledUp};
+ghost use Rattle.case_match.specs.Match.{record_of_case, verdict_of_record};
 ghost use Rattle.delegate.specs.Decided.{written_as, summary, balances_in, match_text, response_of, told, head_of, answered_by, task_line, task_texts, gravest, together, each_told};
 ghost use Rattle.delegate.specs.InShort.{AreBytes};
-ghost use Rattle.delegate.specs.Standing.{AreByteStrings, responses};
+ghost use Rattle.delegate.specs.Standing.{AreByteStrings, CanBePaid, responses};
 ghost use Rattle.delegate.specs.commands.Judge.{judging};
 
 use crate::response::{Answered, Response};
-use case_match::{start_roots, verdict_from, verdict_of_case, verdicts_from};
+use case_match::{
+    Ended, LoadedCase, ended_one, ended_tasks, loaded_cases, records_of_cases_are_settled_up,
+};
 use case_reader::Case;
 use command_line::{MatchText, Options};
 use deposits::balances;
 use rd_base::{Bytes, Digest32, Memory};
 use rv_step::Machine;
 use segment_replay::Replays;
-use state_commit::{SharedInput, state_root_with};
 use std::alloc::Global;
 use std::sync::Wait;
 use std::thread::Threads;
 use tournament::{Record, Verdict};
 use transcript_text::{DigestName, Head};
+
+/// What `judge` is asked for: the digest of the match's commitments, by its name, and the text.
+#[derive(Clone, Copy, Debug)]
+pub struct Asked {
+    pub name: DigestName,
+    pub text: MatchText,
+}
 
 /// Bytes are below 256.
 fn bytes_are_small(bytes: &[u8])
@@ -112,37 +120,44 @@ fn text_of(
     }
 }
 
-/// The response to a case whose match, from this root, has ended. An `Err` is out of memory.
-#[tactic(auto, using(crate::proofs::HeadlineLemmas::answered_as))]
-fn response_of(
-    alloc: Global,
-    name: DigestName,
-    text: MatchText,
-    case: &Case,
-    root: Digest32,
-    match_record: &Record,
-    verdict: &Verdict,
-) -> Result<Response, Memory>
-    requires { IsSettledUp (length case.now.provers) match_record.now }
-    ensures response { IfOk result (λ response. response ≡ response_of (judging text name) (data_of case.now) root match_record.now verdict.now) }
-    ensures written { IfOk result (λ response. text ≡ MatchText.Full → AreWritten (moves_of match_record.now)) }
+/// The text of the match of a case that is asked for.
+fn text_in(alloc: Global, asked: Asked, case: &Case, end: &Ended) -> Result<Vec<u8>, Memory>
+    requires { IsSettledUp (length case.now.provers) end.now.match_record }
+    ensures text { IfOk result (λ bytes. bytes.items ≡ (response_of (judging asked.text asked.name) (data_of case.now) end.now.setup.start end.now.match_record end.now.verdict).text) }
+    ensures written { IfOk result (λ bytes. asked.text ≡ MatchText.Full → AreWritten (moves_of end.now.match_record)) }
 {
-    let head = head_of(name, case, root);
-    let bytes = text_of(alloc, text, case, &head, match_record, verdict)?;
+    let head = head_of(asked.name, case, end.setup.start);
+    text_of(
+        alloc,
+        asked.text,
+        case,
+        &head,
+        &end.match_record,
+        &end.verdict,
+    )
+}
+
+/// The response to a case whose match has ended so. An `Err` is out of memory.
+#[tactic(auto, using(crate::proofs::HeadlineLemmas::answered_as))]
+fn response_of(alloc: Global, asked: Asked, case: &Case, end: &Ended) -> Result<Response, Memory>
+    requires { IsSettledUp (length case.now.provers) end.now.match_record }
+    ensures response { IfOk result (λ response. response ≡ response_of (judging asked.text asked.name) (data_of case.now) end.now.setup.start end.now.match_record end.now.verdict) }
+    ensures written { IfOk result (λ response. asked.text ≡ MatchText.Full → AreWritten (moves_of end.now.match_record)) }
+{
+    let bytes = text_in(alloc, asked, case, end)?;
     Ok(Response {
-        answered: answered_by(verdict),
+        answered: answered_by(&end.verdict),
         text: Bytes::new(bytes),
     })
 }
 
-/// Plays the match of a case by the digester `d`, which has this name, and writes the text of it that is asked for. The machine and
-/// the options are as for `verdict_from`. An `Err` is out of memory.
+/// Plays the match of a case by the digester `d`, which has the name that is asked for, and writes its text. The machine and the options are
+/// as for `ended_one`. An `Err` is out of memory.
 pub fn judge<R: Threads + Wait + Sync, D: Replays>(
     rt: &R,
     alloc: Global,
     d: D,
-    name: DigestName,
-    text: MatchText,
+    asked: Asked,
     options: Options,
     case: &Case,
     start: Machine,
@@ -152,98 +167,67 @@ where
     requires chained { IsChained D.digest_of start }
     requires silent { start.output.items ≡ [] }
     requires options { AreAtLeastOne options }
-    ensures told { IfOk result (λ response. response ≡ told D.digest_of (judging text name) (data_of case.now) (state_of start)) }
+    ensures told { IfOk result (λ response. response ≡ told D.digest_of (judging asked.text asked.name) (data_of case.now) (state_of start)) }
     ensures strings { IfOk result (λ response. AreByteStrings (verdict_of_record D.digest_of (data_of case.now) (state_of start) (record_of_case D.digest_of (data_of case.now) (state_of start)))) }
-    ensures written { IfOk result (λ response. text ≡ MatchText.Full → AreWritten (moves_of (record_of_case D.digest_of (data_of case.now) (state_of start)))) }
+    ensures written { IfOk result (λ response. asked.text ≡ MatchText.Full → AreWritten (moves_of (record_of_case D.digest_of (data_of case.now) (state_of start)))) }
 {
-    let input = SharedInput::of(alloc, d, &start)?;
-    let root = state_root_with(d, &start, &input);
-    let (match_record, verdict) = verdict_from(rt, alloc, d, case, start, &input, root, options)?;
-    strings_are_bytes(&verdict);
-    response_of(alloc, name, text, case, root, &match_record, &verdict)
+    let end = ended_one(rt, alloc, d, LoadedCase { case, start }, options)?;
+    strings_are_bytes(&end.verdict);
+    response_of(alloc, asked, case, &end)
 }
 
 /// Adds the texts of the matches of tasks that have ended, the first of which has this number, each under its line, and gives the
-/// gravest answer. There is one root and one ending for each case. An `Err` is out of memory, after some were added.
+/// gravest answer. There is one end for each case. An `Err` is out of memory, after some were added.
 fn add_texts(
     out: &mut Vec<u8>,
     alloc: Global,
-    name: DigestName,
-    text: MatchText,
+    asked: Asked,
     number: u32,
     cases: &[Case],
-    roots: &[Digest32],
-    ends: &[(Record, Verdict)],
+    ends: &[Ended],
 ) -> Result<Answered, Memory>
     requires few { number + length cases.now ≤ 9 }
-    requires settled_up { AreSettledUp (map data_of cases.now) ends.now }
-    ensures texts { OnOk result (out.new.items ≡ out.old.items ++ task_texts number (responses (judging text name) (map data_of cases.now) roots.now ends.now)) }
-    ensures answered { IfOk result (λ answered. answered ≡ gravest (responses (judging text name) (map data_of cases.now) roots.now ends.now)) }
+    requires settled_up { CanBePaid (map data_of cases.now) ends.now }
+    ensures texts { OnOk result (out.new.items ≡ out.old.items ++ task_texts number (responses (judging asked.text asked.name) (map data_of cases.now) ends.now)) }
+    ensures answered { IfOk result (λ answered. answered ≡ gravest (responses (judging asked.text asked.name) (map data_of cases.now) ends.now)) }
 {
     let [case, later_cases @ ..] = cases else {
         return Ok(Answered::Done);
     };
-    let [root, later_roots @ ..] = roots else {
+    let [end, later_ends @ ..] = ends else {
         return Ok(Answered::Done);
     };
-    let [(match_record, verdict), later_ends @ ..] = ends else {
-        return Ok(Answered::Done);
-    };
-    add_text(
-        out,
-        alloc,
-        name,
-        text,
-        number,
-        case,
-        *root,
-        match_record,
-        verdict,
-    )?;
-    let later = add_texts(
-        out,
-        alloc,
-        name,
-        text,
-        number + 1,
-        later_cases,
-        later_roots,
-        later_ends,
-    )?;
-    Ok(answered_by(verdict).or_graver(later))
+    add_text(out, alloc, asked, number, case, end)?;
+    let later = add_texts(out, alloc, asked, number + 1, later_cases, later_ends)?;
+    Ok(answered_by(&end.verdict).or_graver(later))
 }
 
 /// Adds the line of a task, and the text of its match, which has ended. An `Err` is out of memory, after some of it was added.
 fn add_text(
     out: &mut Vec<u8>,
     alloc: Global,
-    name: DigestName,
-    text: MatchText,
+    asked: Asked,
     number: u32,
     case: &Case,
-    root: Digest32,
-    match_record: &Record,
-    verdict: &Verdict,
+    end: &Ended,
 ) -> Result<(), Memory>
-    requires { IsSettledUp (length case.now.provers) match_record.now }
-    ensures { OnOk result (out.new.items ≡ out.old.items ++ (task_line number ++ (response_of (judging text name) (data_of case.now) root match_record.now verdict.now).text)) }
+    requires { IsSettledUp (length case.now.provers) end.now.match_record }
+    ensures { OnOk result (out.new.items ≡ out.old.items ++ (task_line number ++ (response_of (judging asked.text asked.name) (data_of case.now) end.now.setup.start end.now.match_record end.now.verdict).text)) }
 {
     let line = format!(in alloc; "task {number}\n")?;
-    let head = head_of(name, case, root);
-    let bytes = text_of(alloc, text, case, &head, match_record, verdict)?;
+    let bytes = text_in(alloc, asked, case, end)?;
     out.extend_from_slice(line.as_bytes())?;
     out.extend_from_slice(bytes.as_slice())?;
     Ok(())
 }
 
-/// Plays the matches of the cases of tasks by the digester `d`, which has this name, and writes the text of each that is asked for under
+/// Plays the matches of the cases of tasks by the digester `d`, which has the name that is asked for, and writes the text of each under
 /// its line. The machines and the options are as for `verdict_of_tasks`. An `Err` is out of memory.
 pub fn judge_tasks<R: Threads + Wait + Sync, D: Replays>(
     rt: &R,
     alloc: Global,
     d: D,
-    name: DigestName,
-    text: MatchText,
+    asked: Asked,
     options: Options,
     cases: &[Case],
     starts: Vec<Machine>,
@@ -256,21 +240,13 @@ where
     requires chained { All (IsChained D.digest_of) starts.items }
     requires silent { All (λ start. start.output.items ≡ []) starts.items }
     requires options { AreAtLeastOne options }
-    ensures { IfOk result (λ response. response ≡ together (each_told D.digest_of (judging text name) (map data_of cases.now) (map state_of starts.items))) }
+    ensures { IfOk result (λ response. response ≡ together (each_told D.digest_of (judging asked.text asked.name) (map data_of cases.now) (map state_of starts.items))) }
 {
-    let roots = start_roots(alloc, d, starts.as_slice())?;
-    let ends = verdicts_from(rt, alloc, d, cases, starts, roots.as_slice(), options)?;
+    records_of_cases_are_settled_up();
+    let loads = loaded_cases(alloc, cases, starts)?;
+    let ends = ended_tasks(rt, alloc, d, loads, options)?;
     let mut bytes = Vec::new(alloc);
-    let answered = add_texts(
-        &mut bytes,
-        alloc,
-        name,
-        text,
-        1,
-        cases,
-        roots.as_slice(),
-        ends.as_slice(),
-    )?;
+    let answered = add_texts(&mut bytes, alloc, asked, 1, cases, ends.as_slice())?;
     Ok(Response {
         answered,
         text: Bytes::new(bytes),
@@ -278,7 +254,7 @@ where
 }
 
 /// Plays the match of the large workload of a seed by the digester `d`, which has this name, and sums it up. The machine and the
-/// options are as for `verdict_of_case`. An `Err` is out of memory.
+/// options are as for `ended_one`. An `Err` is out of memory.
 pub fn summary<R: Threads + Wait + Sync, D: Replays>(
     rt: &R,
     alloc: Global,
@@ -296,9 +272,9 @@ where
     ensures strings { IfOk result (λ response. AreByteStrings (verdict_of_record D.digest_of (data_of case.now) (state_of start) (record_of_case D.digest_of (data_of case.now) (state_of start)))) }
     ensures told { IfOk result (λ response. (name : DigestName) → response ≡ told D.digest_of (record { digest = name; written = summary seed }) (data_of case.now) (state_of start)) }
 {
-    let (match_record, verdict) = verdict_of_case(rt, alloc, d, case, start, options)?;
-    strings_are_bytes(&verdict);
-    let text = transcript_text::summary(alloc, seed, &match_record, &verdict)?;
+    let end = ended_one(rt, alloc, d, LoadedCase { case, start }, options)?;
+    strings_are_bytes(&end.verdict);
+    let text = transcript_text::summary(alloc, seed, &end.match_record, &end.verdict)?;
     Ok(Response {
         answered: Answered::Done,
         text: Bytes::new(text),

@@ -12,7 +12,7 @@ ghost use Rattle.delegate.specs.Decided.{digest_of, written_as, tasks_for, decid
 ghost use Rattle.delegate.specs.commands.Judge.{judging, judged_of, judged};
 ghost use Rattle.delegate.specs.Standing.{Stands, AreByteStrings, AreInRange, AreInRangeIfThere};
 
-use crate::deciding;
+use crate::deciding::{self, Asked};
 use crate::loading::{start_in, starts_in, tasks_in};
 use crate::response::{Response, Stop, Subject};
 use case_reader::{Case, Tasks};
@@ -29,8 +29,7 @@ use transcript_text::DigestName;
 fn decided<R: Threads + Wait + Sync>(
     rt: &R,
     alloc: Global,
-    name: DigestName,
-    text: MatchText,
+    asked: Asked,
     options: Options,
     case: &Case,
     start: Machine,
@@ -38,13 +37,13 @@ fn decided<R: Threads + Wait + Sync>(
     requires chained { (digest : List ℕ → List ℕ) → IsChained digest start }
     requires silent { start.output.items ≡ [] }
     requires options { AreAtLeastOne options }
-    ensures decided { IfOk result (λ response. response ≡ decided (judging text name) (data_of case.now) (state_of start)) }
-    ensures strings { IfOk result (λ response. AreByteStrings (verdict_of_record (digest_of name) (data_of case.now) (state_of start) (record_of_case (digest_of name) (data_of case.now) (state_of start)))) }
-    ensures written { IfOk result (λ response. text ≡ MatchText.Full → AreWritten (moves_of (record_of_case (digest_of name) (data_of case.now) (state_of start)))) }
+    ensures decided { IfOk result (λ response. response ≡ decided (judging asked.text asked.name) (data_of case.now) (state_of start)) }
+    ensures strings { IfOk result (λ response. AreByteStrings (verdict_of_record (digest_of asked.name) (data_of case.now) (state_of start) (record_of_case (digest_of asked.name) (data_of case.now) (state_of start)))) }
+    ensures written { IfOk result (λ response. asked.text ≡ MatchText.Full → AreWritten (moves_of (record_of_case (digest_of asked.name) (data_of case.now) (state_of start)))) }
 {
-    match name {
-        DigestName::Sha256 => deciding::judge(rt, alloc, Sha256, name, text, options, case, start),
-        DigestName::Weak8 => deciding::judge(rt, alloc, Weak8, name, text, options, case, start),
+    match asked.name {
+        DigestName::Sha256 => deciding::judge(rt, alloc, Sha256, asked, options, case, start),
+        DigestName::Weak8 => deciding::judge(rt, alloc, Weak8, asked, options, case, start),
     }
 }
 
@@ -53,8 +52,7 @@ fn decided<R: Threads + Wait + Sync>(
 fn tasks_decided<R: Threads + Wait + Sync>(
     rt: &R,
     alloc: Global,
-    name: DigestName,
-    text: MatchText,
+    asked: Asked,
     options: Options,
     cases: &[Case],
     starts: Vec<Machine>,
@@ -65,15 +63,15 @@ fn tasks_decided<R: Threads + Wait + Sync>(
     requires chained { (digest : List ℕ → List ℕ) → All (IsChained digest) starts.items }
     requires silent { All (λ start. start.output.items ≡ []) starts.items }
     requires options { AreAtLeastOne options }
-    ensures { IfOk result (λ response. response ≡ together (each_decided (judging text name) (map data_of cases.now) (map state_of starts.items))) }
+    ensures { IfOk result (λ response. response ≡ together (each_decided (judging asked.text asked.name) (map data_of cases.now) (map state_of starts.items))) }
 {
-    match name {
-        DigestName::Sha256 => deciding::judge_tasks(
-            rt, alloc, Sha256, name, text, options, cases, starts,
-        ),
-        DigestName::Weak8 => deciding::judge_tasks(
-            rt, alloc, Weak8, name, text, options, cases, starts,
-        ),
+    match asked.name {
+        DigestName::Sha256 => {
+            deciding::judge_tasks(rt, alloc, Sha256, asked, options, cases, starts)
+        }
+        DigestName::Weak8 => {
+            deciding::judge_tasks(rt, alloc, Weak8, asked, options, cases, starts)
+        }
     }
 }
 
@@ -82,24 +80,23 @@ fn tasks_decided<R: Threads + Wait + Sync>(
 fn judged_of<R: Threads + Wait + Sync>(
     rt: &R,
     alloc: Global,
-    text: MatchText,
-    name: DigestName,
+    asked: Asked,
     options: Options,
     tasks: &Tasks,
 ) -> Result<Response, Stop>
     requires few { AreFew tasks.now }
     requires options { AreAtLeastOne options }
-    ensures stands { Stands (λ response. response) result (judged_of (judging text name) (tasks_data tasks.now)) }
-    ensures in_range { IfOk result (λ response. AreInRange (judging text name) (tasks_data tasks.now)) }
+    ensures stands { Stands (λ response. response) result (judged_of (judging asked.text asked.name) (tasks_data tasks.now)) }
+    ensures in_range { IfOk result (λ response. AreInRange (judging asked.text asked.name) (tasks_data tasks.now)) }
 {
     match tasks {
         Tasks::One(case) => {
             let start = start_in(alloc, Subject::Whole, case)?;
-            Ok(decided(rt, alloc, name, text, options, case, start)?)
+            Ok(decided(rt, alloc, asked, options, case, start)?)
         }
         Tasks::Many(cases) => {
             let starts = starts_in(alloc, cases.as_slice())?;
-            Ok(tasks_decided(rt, alloc, name, text, options, cases.as_slice(), starts)?)
+            Ok(tasks_decided(rt, alloc, asked, options, cases.as_slice(), starts)?)
         }
     }
 }
@@ -120,5 +117,5 @@ pub fn judge<R: Threads + Wait + Sync>(
     ensures in_range { IfOk result (λ response. AreInRangeIfThere (judging text name) (tasks_for (written_as text) bytes.items)) }
 {
     let tasks = tasks_in(alloc, bytes)?;
-    judged_of(rt, alloc, text, name, options, &tasks)
+    judged_of(rt, alloc, Asked { name, text }, options, &tasks)
 }

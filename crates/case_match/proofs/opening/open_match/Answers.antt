@@ -1,4 +1,5 @@
-use Rattle.std.proofs.Common.{◌∙◌, length, ap, arith}
+use Rattle.std.proofs.Common.{ℕ, List, ◌∙◌, length, ap, arith}
+use Rattle.rd_base.specs.declared.digest.Digest32.{Digest32}
 use Rattle.rv_step.specs.State.{state_of}
 use Rattle.prover_run.specs.CaseScripts.{CaseScripts}
 use Rattle.case_reader.specs.Case.{data_of}
@@ -18,8 +19,8 @@ open-requires-clause-few g c =
 pub returns-clause-opening : goal.returns-clause-opening
 returns-clause-opening g c =
     ap (λ b. b.opening) c.in_ok-book.ensures
-    ∙ opened-as g.D.Digester.digest_of c.new-judge.result.version (data_of c.args.case.now) (state_of c.args.start) c.as_slice-scripts.result.now c.in_ok-provers.provers c.args.root
-    c.new-judge.ensures.version c.as_slice-scripts.ensures c.in_ok-provers.ensures c.requires.root
+    ∙ opened-as g.D.Digester.digest_of c.new-judge.result.version (data_of c.args.case.now) (state_of c.args.start) c.as_slice-scripts.result.now c.in_ok-provers.provers c.state_root_with-root.result
+    c.new-judge.ensures.version c.as_slice-scripts.ensures c.in_ok-provers.ensures (let made : List ℕ → Digest32 = λ xs. record { 0 = xs } in ap made c.state_root_with-root.ensures)
 
 pub returns-clause-count : goal.returns-clause-count
 returns-clause-count g c = c.in_ok-answerers.ensures.count ∙ ap length c.as_slice-scripts.ensures

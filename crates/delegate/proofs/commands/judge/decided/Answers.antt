@@ -13,13 +13,13 @@ use Rattle.delegate.proofs.commands.judge.decided.Goals as goal
 pub returns-in-Sha256-clause-decided : goal.returns-in-Sha256-clause-decided
 returns-in-Sha256-clause-decided g c =
     IfOk-weaker c.judge.result _ _
-    (λ response is. is ∙ ap (λ name. told (digest_of name) (judging c.args.text c.args.name) (data_of c.args.case.now) (state_of c.args.start)) (sym c.in-Sha256.is))
+    (λ response is. is ∙ ap (λ name. told (digest_of name) (judging c.args.asked.text c.args.asked.name) (data_of c.args.case.now) (state_of c.args.start)) (sym c.in-Sha256.is))
     c.judge.ensures.told
 
 pub returns-in-Weak8-clause-decided : goal.returns-in-Weak8-clause-decided
 returns-in-Weak8-clause-decided g c =
     IfOk-weaker c.judge-in-Weak8.result _ _
-    (λ response is. is ∙ ap (λ name. told (digest_of name) (judging c.args.text c.args.name) (data_of c.args.case.now) (state_of c.args.start)) (sym c.in-Weak8.is))
+    (λ response is. is ∙ ap (λ name. told (digest_of name) (judging c.args.asked.text c.args.asked.name) (data_of c.args.case.now) (state_of c.args.start)) (sym c.in-Weak8.is))
     c.judge-in-Weak8.ensures.told
 
 pub returns-in-Sha256-clause-written : goal.returns-in-Sha256-clause-written
