@@ -15,7 +15,7 @@ use Rattle.case_match.specs.declared.loaded.LoadedCase.{LoadedCase}
 use Rattle.case_match.specs.declared.referee.Ended.{Ended}
 use Rattle.case_match.specs.Match.{setup_of, record_of_case, verdict_of_record}
 
--- a machine that has output nothing, and whose chain is that of no output by a digest function
+-- a machine without output, whose chain is that of no output by a digest function
 pub record IsFresh (digest : List ℕ → List ℕ) (m : Machine) : Type 0 where
   pub chained : IsChained digest m
   pub silent : m.output.items ≡ []

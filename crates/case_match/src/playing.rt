@@ -17,7 +17,7 @@ use std::sync::Wait;
 use std::thread::Threads;
 
 /// What came of the matches of 1 to 8 loaded cases, in their order, played by commitments of the digester `d`. Posters go over the provers of
-/// all cases. Each case ends as it ends alone, whatever the others' provers do. Each machine has output nothing, and its chain is that of no
+/// all cases. Each case ends as it ends alone, whatever the others' provers do. Each machine has no output, and its chain is that of no
 /// output by `d`; each option is at least 1, and none changes the answer. An `Err` is out of memory.
 pub fn ended_tasks<R: Threads + Wait + Sync, D: Replays>(
     rt: &R,

@@ -21,7 +21,7 @@ use std::sync::Wait;
 use std::thread::Threads;
 use tournament::{Record, Verdict};
 
-/// Cases with the machines in which their runs start, one for each. No machine has output anything. An `Err` is out of memory.
+/// Cases with the machines in which their runs start, one for each. No machine has any output. An `Err` is out of memory.
 pub fn loaded_cases<'a>(
     alloc: Global,
     cases: &'a [Case],
