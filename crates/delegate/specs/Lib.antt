@@ -25,6 +25,7 @@ pub mod Loading
 pub mod Decided
 pub mod commands
 pub mod Outcome
+pub mod Alone
 pub mod Answering
 pub mod Writing
 pub mod Headline
