@@ -5,4 +5,7 @@
 //! export has a condition: each tests what it needs. `include/coshalit.h` declares them; read `step` first, then `texts`.
 #![tactic(auto)]
 
+#[cfg(test)]
+mod calls_test;
 mod step;
+mod texts;
