@@ -1,1 +1,7 @@
+pub mod AskLemmas
+pub mod CastLemmas
 pub mod ClaimLemmas
+pub mod ForTests
+pub mod PaidLemmas
+pub mod TaskLemmas
+pub mod TellLemmas

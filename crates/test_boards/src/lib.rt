@@ -1,9 +1,41 @@
-//! Tests of boards and posters of one task, over the toy game. Those of many tasks stand in `test_tasks`.
+//! Tests of the game and of the board, over the toy game: of disputes and rounds of several parts, of books, of what threads share, of
+//! boards and posters of one task and of many, and of deposits.
 //!
-//! No layer of the product stands on this crate. Read `boards_test` and `posters_test`, each for one layer.
+//! No layer of the product stands on this crate. Read `disputes_test` and `books_test` first, then `boards_test` and `posters_test`, each for one
+//! layer; those of many tasks stand in `task_boards_test` and `task_posters_test`, whose tasks are in `casts`. `seat_lock_test` and
+//! `round_robin_test` have the tests of the lock and of many items served by a few workers. `ledger_test` and `balances_test` are of
+//! deposits: `telling` is how a ledger is told events, and `playing` how a match is played.
 #![tactic(auto)]
 
 #[cfg(test)]
+mod balances_test;
+#[cfg(test)]
 mod boards_test;
 #[cfg(test)]
+mod books_test;
+#[cfg(test)]
+mod casts;
+#[cfg(test)]
+mod dispute_play;
+#[cfg(test)]
+mod disputes_test;
+#[cfg(test)]
+mod in_short;
+#[cfg(test)]
+mod ledger_test;
+#[cfg(test)]
+mod parts_test;
+#[cfg(test)]
+mod playing;
+#[cfg(test)]
 mod posters_test;
+#[cfg(test)]
+mod round_robin_test;
+#[cfg(test)]
+mod seat_lock_test;
+#[cfg(test)]
+mod task_boards_test;
+#[cfg(test)]
+mod task_posters_test;
+#[cfg(test)]
+mod telling;

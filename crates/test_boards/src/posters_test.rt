@@ -133,11 +133,8 @@ fn all_numbers_of_posters_give_one_match(rt: HostRuntime) -> Result<(), Fail> {
     for posters in [1, 2, 3, 16] {
         let gate = no_posts();
         let book = played(&rt, rt.alloc(), posters, 0, 0, &gate)?;
-        assert!(rt; has_the_match(rt.alloc(), &book)?, "{posters}");
-        assert!(rt;
-            are_moves(posts_of(&gate), [5, 14, 4], posters),
-            "{posters}"
-        );
+        let is_alone = has_the_match(rt.alloc(), &book)?;
+        assert!(rt; is_alone && are_moves(posts_of(&gate), [5, 14, 4], posters));
     }
     Ok(())
 }
@@ -159,8 +156,9 @@ fn an_answerer_without_memory_ends_its_poster(rt: HostRuntime) -> Result<(), Fai
     for posters in [1, 2, 16] {
         for call in 1..6 {
             let book = played(&rt, rt.alloc(), posters, call, call + 1, &OpenGate)?;
-            assert!(rt; has_the_match(rt.alloc(), &book)?, "{posters}, {call}");
-            assert!(rt; played(&rt, rt.alloc(), posters, call, u32::MAX, &OpenGate).is_err());
+            let is_alone = has_the_match(rt.alloc(), &book)?;
+            let none = played(&rt, rt.alloc(), posters, call, u32::MAX, &OpenGate).is_err();
+            assert!(rt; is_alone && none);
         }
     }
     Ok(())
@@ -245,11 +243,16 @@ fn posters_side_by_side(rt: HostRuntime) -> Result<(), Fail> {
     let gate = empty_meeting();
     let book = played_by_two(&rt, rt.alloc(), &gate)?;
     let lines = lines(rt.alloc(), book.game().record())?;
-    assert_eq!(rt; lines.as_slice(), [(1, 1, 1, 2, 3, false, true)].as_slice());
+    let met = gate.met.load(Ordering::SeqCst);
+    let end = how(book.game().verdict());
     assert_eq!(rt;
-        (book.journal().len(), how(book.game().verdict())),
-        (10, Ended::Accepted(1))
+        (lines.as_slice(), book.journal().len(), end, met),
+        (
+            [(1, 1, 1, 2, 3, false, true)].as_slice(),
+            10,
+            Ended::Accepted(1),
+            10
+        )
     );
-    assert_eq!(rt; gate.met.load(Ordering::SeqCst), 10);
     Ok(())
 }

@@ -14,7 +14,7 @@ use std::alloc::Global;
 use std::thread::Threads;
 
 /// The number of a player's state at a step.
-pub(crate) fn number_at(player: &Player, step: u64) -> u8
+pub fn number_at(player: &Player, step: u64) -> u8
     ensures { result ≡ number_at player.now step }
 {
     if step < player.from {
@@ -63,7 +63,7 @@ fn roots_at(alloc: Global, player: &Player, steps: &[u64]) -> Result<Vec<Digest3
 }
 
 /// What a player gives once it answers.
-pub(crate) fn given(alloc: Global, player: &Player, kind: Kind) -> Result<Answer, Memory>
+pub fn given(alloc: Global, player: &Player, kind: Kind) -> Result<Answer, Memory>
     ensures { IfOk result (λ a. a ≡ given player.now kind) }
 {
     match kind {
@@ -94,7 +94,7 @@ pub(crate) fn given(alloc: Global, player: &Player, kind: Kind) -> Result<Answer
 }
 
 /// Whether a player passes on a question after this many passes.
-pub(crate) fn passes_now(player: &Player, question: &Question, passes: u32) -> bool
+pub fn passes_now(player: &Player, question: &Question, passes: u32) -> bool
     ensures { result ≡ is_none (answers player.now question.now passes) }
 {
     player.silent_from <= question.qid.round || passes < player.late

@@ -1,2 +1,0 @@
-pub mod CastLemmas
-pub mod TaskLemmas

@@ -1,7 +1,0 @@
-use Rattle.std.proofs.Common.{◌≡◌}
-use Rattle.posters.specs.Serving.{kept_of}
-use Rattle.test_tasks.specs.Seats.{IsSeatOfTasks}
-use Rattle.test_tasks.proofs.boards_test.play_in_order.Given as goal
-
-abbrev pub invariant-loop : goal.invariant-loop
-invariant-loop g l = IsSeatOfTasks l.fn.board l.fn.first l.fn.second l.seat × (kept_of l.seat ≡ kept_of l.initial.seat)
