@@ -1,39 +1,13 @@
-//! What the tests of provers share: a program of eight steps, questions, and what answers stand for.
+//! What the tests of provers share: questions, and what answers stand for.
 ghost use denote.Param.Send.{IsSync};
-ghost use Rattle.std.specs.Prelude.{◌≡◌, ℕ, [], List, IfOk};
-ghost use Rattle.rv_step.specs.State.{IsChained};
 
 use bisect_game::{Answerer, Kind, Question};
 use digest_core::{Digester, Sha256, registers_text, storage_text};
-use mem_plain::PlainMem;
 use out_chain::{ClaimCheck, check_claim, parts_root};
 use rd_base::{Answer, Claim, Digest32, Memory, Proof, Qid, Tamper};
-use rv_step::Machine;
 use std::alloc::Global;
 use std::thread::Threads;
 use toy_machine::first_eight;
-
-/// lui x5, 0x20; addi x6, x0, 122; sb x6, 3(x5); lw x10, 0(x5); srli x10, x10, 24; addi x17, x0, 1; ecall; lw x10, 1(x5): it
-/// stores in step 2, and traps in step 7
-const EIGHT_STEPS: [u8; 32] = [
-    0xb7, 0x02, 0x02, 0x00, 0x13, 0x03, 0xa0, 0x07, 0xa3, 0x81, 0x62, 0x00, 0x03, 0xa5, 0x02, 0x00,
-    0x13, 0x55, 0x85, 0x01, 0x93, 0x08, 0x10, 0x00, 0x73, 0x00, 0x00, 0x00, 0x03, 0xa5, 0x12, 0x00,
-];
-
-/// A machine at the start of these instructions, which lie at 0x10000, in version 2 or 3 of the commitment, and in version 1 for any
-/// other number.
-pub(crate) fn eight_steps(alloc: Global, version: u32) -> Result<Machine, Memory>
-    ensures chained { IfOk result (λ m. (digest : List ℕ → List ℕ) → IsChained digest m) }
-    ensures silent { IfOk result (λ m. m.output.items ≡ []) }
-{
-    let mem = PlainMem::new(alloc).lay(0x1_0000, &EIGHT_STEPS)?;
-    let version = if version == 2 || version == 3 {
-        version
-    } else {
-        1
-    };
-    Machine::new(alloc, version, mem, 0x1_0000, &[])
-}
 
 /// The question of this kind in a round.
 pub(crate) fn asked(round: u32, kind: Kind) -> Question {

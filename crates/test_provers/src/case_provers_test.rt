@@ -1,107 +1,60 @@
 //! Tests of the provers of a case: each answers by its script, and waits when its script has it wait.
 ghost use denote.Param.Send.{IsSync};
-ghost use Rattle.std.specs.Prelude.{◌<◌, ◌≤◌, length, IfOk};
+ghost use Rattle.std.specs.Prelude.{◌<◌};
 
-use crate::asking::{FLIPPED, answer_of, asked, eight_steps, root_said};
+use crate::asking::{FLIPPED, answer_of, asked, root_said};
+use crate::manners::{Named, OnTape, manner_of};
+use crate::programs::{EIGHT_STEPS, machine_in};
 use bisect_game::{Kind, Provers, Question};
 use digest_core::Sha256;
 use prover_run::{CaseProvers, RunAnswerer, answerers_of};
 use prover_script::Scripted;
-use rd_base::{
-    Answer, ClaimOutput, Digest32, FirstSilentRound, Manner, Memory, PassCount, Qid, Script,
-    Tamper, Tape, TapeAnswer,
-};
+use rd_base::{Memory, Script, Tamper};
 use std::alloc::Global;
 use std::test::Fail;
 use std::thread::Threads;
 
-/// A script without a tamper.
-fn untouched(manner: Manner) -> Script {
-    Script {
-        tamper: Tamper::Untouched,
-        manner,
-    }
-}
-
 /// A tape with a root of ones for round 1.
-fn tape_of_round_1(alloc: Global) -> Result<Option<Tape>, Memory> {
-    let qid = Qid {
-        dispute: 1,
-        round: 1,
-    };
-    let answer = Answer::Root(Digest32([1; 32]));
-    Ok(Tape::new(vec![in alloc; TapeAnswer { qid, answer }]?))
-}
+const TAPE: [OnTape; 1] = [(1, 1, Some(1))];
 
-/// The manner of one that passes twice.
-fn late() -> Manner {
-    match PassCount::new(2) {
-        Some(passes) => Manner::Late(passes),
-        None => Manner::Plain,
+/// An honest prover, one that passes twice, one that is silent from round 2 on, one that claims the output `2b`, one with a flipped byte,
+/// one that makes noise, and one with a tape.
+const SEVEN: [(Tamper, Named); 7] = [
+    (Tamper::Untouched, Named::Plain),
+    (Tamper::Untouched, Named::Late(2)),
+    (Tamper::Untouched, Named::Silent(2)),
+    (Tamper::Untouched, Named::Output),
+    (FLIPPED, Named::Plain),
+    (Tamper::Untouched, Named::Noise(7)),
+    (Tamper::Untouched, Named::Tape(&TAPE)),
+];
+
+/// The scripts of these.
+fn scripts_of(alloc: Global, provers: &[(Tamper, Named)]) -> Result<Vec<Script>, Memory> {
+    let mut scripts = Vec::new(alloc);
+    for (tamper, named) in provers {
+        let manner = manner_of(alloc, *named)?;
+        scripts.push(Script {
+            tamper: *tamper,
+            manner,
+        })?;
     }
+    Ok(scripts)
 }
 
-/// The manner of one that is silent from round 2 on.
-fn silent() -> Manner {
-    match FirstSilentRound::new(2) {
-        Some(round) => Manner::Silent(round),
-        None => Manner::Plain,
-    }
-}
+/// The provers of the eight steps with these scripts, and their answerers.
+type Playing = (
+    CaseProvers<Sha256>,
+    Vec<Scripted<RunAnswerer<Sha256>, Sha256>>,
+);
 
-/// The manner of one that claims the output `2b`. An `Err` is out of memory.
-fn other_output(alloc: Global) -> Result<Manner, Memory> {
-    match ClaimOutput::new(vec![in alloc; 0x2b]?) {
-        Some(output) => Ok(Manner::Output(output)),
-        None => Ok(Manner::Plain),
-    }
-}
-
-/// The manner of one with a tape. An `Err` is out of memory.
-fn with_tape(alloc: Global) -> Result<Manner, Memory> {
-    match tape_of_round_1(alloc)? {
-        Some(tape) => Ok(Manner::Tape(tape)),
-        None => Ok(Manner::Plain),
-    }
-}
-
-/// Scripts of an honest prover, of one that passes twice, of one that is silent from round 2 on, of one that claims the output
-/// `2b`, of one with a flipped byte, of one that makes noise, and of one with a tape.
-fn seven_scripts(alloc: Global) -> Result<Vec<Script>, Memory>
-    ensures { IfOk result (λ v. length v.items ≤ 7) }
-{
-    let output = other_output(alloc)?;
-    let tape = with_tape(alloc)?;
-    let flipped = Script {
-        tamper: FLIPPED,
-        manner: Manner::Plain,
-    };
-    Ok(vec![in alloc;
-        untouched(Manner::Plain),
-        untouched(late()),
-        untouched(silent()),
-        untouched(output),
-        flipped,
-        untouched(Manner::Noise { seed: 7 }),
-        untouched(tape),
-    ]?)
-}
-
-/// The provers of the eight steps with these scripts.
-fn provers_with(alloc: Global, scripts: &[Script]) -> Result<CaseProvers<Sha256>, Memory>
-    requires { length scripts.now ≤ 7 }
-{
-    let machine = eight_steps(alloc, 1)?;
-    CaseProvers::new(alloc, Sha256, scripts, machine, 8)
-}
-
-/// Their answerers.
-fn answerers_with(
-    alloc: Global,
-    scripts: &[Script],
-) -> Result<Vec<Scripted<RunAnswerer<Sha256>, Sha256>>, Memory> {
-    let machine = eight_steps(alloc, 1)?;
-    answerers_of(alloc, Sha256, scripts, &machine, 8, 1024, 1)
+fn playing(alloc: Global, provers: &[(Tamper, Named)]) -> Result<Playing, Memory> {
+    let scripts = scripts_of(alloc, provers)?;
+    let scripts = &scripts[..scripts.len().min(16)];
+    let machine = machine_in(alloc, 1, &EIGHT_STEPS, &[])?;
+    let answerers = answerers_of(alloc, Sha256, scripts, &machine, 8, 1024, 1)?;
+    let provers = CaseProvers::new(alloc, Sha256, scripts, machine, 8)?;
+    Ok((provers, answerers))
 }
 
 /// How the root of step 4 begins, without a tamper, and with the flipped byte.
@@ -193,12 +146,25 @@ fn is_said<R: Threads + Sync>(
     Ok(true)
 }
 
-/// How many provers and answerers these scripts make.
-fn counts(alloc: Global, scripts: &[Script]) -> Result<(u32, usize), Memory>
-    requires { length scripts.now ≤ 7 }
+/// The place of the first row that isn't said so, counted from 0.
+fn first_wrong<R: Threads + Sync>(
+    rt: &R,
+    provers: &CaseProvers<Sha256>,
+    answerers: &mut [Scripted<RunAnswerer<Sha256>, Sha256>],
+) -> Result<Option<usize>, Memory>
+    requires { IsSync R.row }
 {
-    let provers = provers_with(alloc, scripts)?;
-    let answerers = answerers_with(alloc, scripts)?;
+    for (place, said) in SAID.iter().enumerate() {
+        if !is_said(rt, provers, answerers, *said)? {
+            return Ok(Some(place));
+        }
+    }
+    Ok(None)
+}
+
+/// How many provers and answerers none make.
+fn counts_of_none(alloc: Global) -> Result<(u32, usize), Memory> {
+    let (provers, answerers) = playing(alloc, &[])?;
     Ok((provers.count(), answerers.len()))
 }
 
@@ -209,15 +175,12 @@ fn may_be_sent<T: Send>(_sent: &T) {}
 /// That threads may hold them is proved where they are handed to one.
 #[test]
 fn each_prover_answers_by_its_script(rt: HostRuntime) -> Result<(), Fail> {
-    let scripts = seven_scripts(rt.alloc())?;
-    let provers = provers_with(rt.alloc(), &scripts)?;
-    let mut answerers = answerers_with(rt.alloc(), &scripts)?;
+    let (provers, mut answerers) = playing(rt.alloc(), &SEVEN)?;
     may_be_shared(&provers);
     may_be_sent(&answerers);
-    assert_eq!(rt; counts(rt.alloc(), &scripts)?, (7, 7));
-    for said in SAID {
-        assert!(rt; is_said(&rt, &provers, &mut answerers, said)?);
-    }
-    assert_eq!(rt; counts(rt.alloc(), &[])?, (0, 0));
+    let counts = (provers.count(), answerers.len());
+    let wrong = first_wrong(&rt, &provers, &mut answerers)?;
+    let none = counts_of_none(rt.alloc())?;
+    assert_eq!(rt; (counts, wrong, none), ((7, 7), None, (0, 0)));
     Ok(())
 }

@@ -1,9 +1,8 @@
-ghost use Rattle.std.specs.Prelude.{◌≡◌, ◌≤◌, ℕ, List, length, IfOk};
-ghost use Rattle.rv_step.specs.State.{IsChained};
+ghost use Rattle.std.specs.Prelude.{◌≡◌, length};
 
 use crate::asking::claimed_root;
+use crate::programs::{EIGHT_STEPS, SIX_STEPS, machine_in};
 use digest_core::{Digester, Sha256, leaf_text, register_text, storage_text};
-use mem_plain::PlainMem;
 use merkle_nodes::climb;
 use open_proof::{make_claim, make_proof};
 use out_chain::{ClaimCheck, check_claim, parts_root};
@@ -11,66 +10,16 @@ use proof_wire::encode;
 use rd_base::{
     Answer, Boxed, Claim, Digest32, InOpening, Memory, Opening, Proof, RegOpening, StepProof3,
 };
-use rv_step::Machine;
 use state_commit::Committed;
 use std::alloc::Global;
 use std::test::Fail;
 use std::thread::Threads;
 use toy_machine::first_eight;
 
-/// addi x10, x0, 42; addi x17, x0, 1; ecall; addi x10, x0, 0; addi x17, x0, 93; ecall: it has ended in step 6.
-const SIX_STEPS: [u8; 24] = [
-    0x13, 0x05, 0xa0, 0x02, 0x93, 0x08, 0x10, 0x00, 0x73, 0x00, 0x00, 0x00, 0x13, 0x05, 0x00, 0x00,
-    0x93, 0x08, 0xd0, 0x05, 0x73, 0x00, 0x00, 0x00,
-];
-
-/// lui x5, 0x20; addi x6, x0, 122; sb x6, 3(x5); lw x10, 0(x5); srli x10, x10, 24; addi x17, x0, 1; ecall; lw x10, 1(x5): it
-/// stores in step 2, and traps in step 7.
-const EIGHT_STEPS: [u8; 32] = [
-    0xb7, 0x02, 0x02, 0x00, 0x13, 0x03, 0xa0, 0x07, 0xa3, 0x81, 0x62, 0x00, 0x03, 0xa5, 0x02, 0x00,
-    0x13, 0x55, 0x85, 0x01, 0x93, 0x08, 0x10, 0x00, 0x73, 0x00, 0x00, 0x00, 0x03, 0xa5, 0x12, 0x00,
-];
-
 /// addi x10, x0, 0; addi x17, x0, 2; ecall: in step 2 it asks for the first byte of its input.
 const ASKS_FOR_INPUT: [u8; 12] = [
     0x13, 0x05, 0x00, 0x00, 0x93, 0x08, 0x20, 0x00, 0x73, 0x00, 0x00, 0x00,
 ];
-
-/// A machine at the start of an image that lies at 0x10000, in version 2 or 3 of the commitment, and in version 1 for any other
-/// number.
-fn machine_in(alloc: Global, version: u32, image: &[u8], input: &[u8]) -> Result<Machine, Memory>
-    requires image { length image.now ≤ 64 }
-    requires input { length input.now ≤ 1 }
-    ensures { IfOk result (λ m. (digest : List ℕ → List ℕ) → IsChained digest m) }
-{
-    let mem = PlainMem::new(alloc).lay(0x1_0000, image)?;
-    let version = if version == 2 || version == 3 {
-        version
-    } else {
-        1
-    };
-    Machine::new(alloc, version, mem, 0x1_0000, input)
-}
-
-/// The machine with its trees after this many steps.
-fn after<R: Threads + Sync>(
-    rt: &R,
-    alloc: Global,
-    version: u32,
-    image: &[u8],
-    input: &[u8],
-    steps: u32,
-) -> Result<Committed<Sha256>, Memory>
-    requires image { length image.now ≤ 64 }
-    requires input { length input.now ≤ 1 }
-{
-    let machine = machine_in(alloc, version, image, input)?;
-    let mut committed = Committed::new(rt, alloc, Sha256, machine)?;
-    for _ in 0..steps {
-        committed = committed.step()?;
-    }
-    Ok(committed)
-}
 
 /// A program of these tests.
 #[derive(Clone, Copy)]
@@ -80,7 +29,16 @@ enum Program {
     AsksForInput,
 }
 
-/// A program after this many steps; the one that asks for its input has the byte `41`.
+/// The image of a program, and its input: the one that asks for it has the byte `41`.
+fn image_of(program: Program) -> (&'static [u8], &'static [u8]) {
+    match program {
+        Program::SixSteps => (&SIX_STEPS, &[]),
+        Program::EightSteps => (&EIGHT_STEPS, &[]),
+        Program::AsksForInput => (&ASKS_FOR_INPUT, &[0x41]),
+    }
+}
+
+/// A program with its trees after this many steps.
 fn program_after<R: Threads + Sync>(
     rt: &R,
     alloc: Global,
@@ -88,11 +46,15 @@ fn program_after<R: Threads + Sync>(
     program: Program,
     steps: u32,
 ) -> Result<Committed<Sha256>, Memory> {
-    match program {
-        Program::SixSteps => after(rt, alloc, version, &SIX_STEPS, &[], steps),
-        Program::EightSteps => after(rt, alloc, version, &EIGHT_STEPS, &[], steps),
-        Program::AsksForInput => after(rt, alloc, version, &ASKS_FOR_INPUT, &[0x41], steps),
+    let (image, input) = image_of(program);
+    let image = &image[..image.len().min(64)];
+    let input = &input[..input.len().min(1)];
+    let machine = machine_in(alloc, version, image, input)?;
+    let mut committed = Committed::new(rt, alloc, Sha256, machine)?;
+    for _ in 0..steps {
+        committed = committed.step()?;
     }
+    Ok(committed)
 }
 
 /// The wire form of the true proof of a program's step.
@@ -149,11 +111,9 @@ const WIRE_ROWS: [WireRow; 5] = [
 
 #[test]
 fn true_proofs_have_the_lengths_of_what_they_open(rt: HostRuntime) -> Result<(), Fail> {
-    for (version, program, step, flags, (tag, len, bytes)) in WIRE_ROWS {
-        let (first, length, read) = form_of(&rt, rt.alloc(), version, program, step, flags)?;
-        assert_eq!(rt; first, tag);
-        assert_eq!(rt; length, len);
-        assert_eq!(rt; read, bytes);
+    for (version, program, step, flags, form) in WIRE_ROWS {
+        let found = form_of(&rt, rt.alloc(), version, program, step, flags)?;
+        assert_eq!(rt; found, form);
     }
     Ok(())
 }
@@ -283,7 +243,7 @@ fn a_true_claim_has_the_root_of_its_version(rt: HostRuntime) -> Result<(), Fail>
     for (version, root) in LAST_ROOTS {
         let committed = program_after(&rt, rt.alloc(), version, Program::EightSteps, 8)?;
         let claim = claim_made(rt.alloc(), &committed)?;
-        assert!(rt; is_claim(&claim, root, &[0x7a]), "{version}");
+        assert!(rt; is_claim(&claim, root, &[0x7a]));
     }
     Ok(())
 }

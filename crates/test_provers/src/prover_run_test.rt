@@ -1,7 +1,8 @@
 //! Tests of one prover: the answers of its run.
 ghost use denote.Param.Send.{IsSync};
 
-use crate::asking::{FLIPPED, answer_of, asked, eight_steps, root_in};
+use crate::asking::{FLIPPED, answer_of, asked, root_in};
+use crate::programs::{EIGHT_STEPS, machine_in};
 use bisect_game::Kind;
 use digest_core::{Sha256, leaf_text, register_text};
 use merkle_nodes::climb;
@@ -14,8 +15,8 @@ use std::thread::Threads;
 /// A version and a tamper; how the roots of the steps 0, 3, 4 and 8 begin; the byte at 0x20003 in step 3, and the byte of its output.
 type Row = (u32, Tamper, [u64; 4], u8, Option<u8>);
 
-/// The rows of a run without a tamper, with a flipped byte, and with an early end.
-const ROWS_OF_VERSION_1: [Row; 3] = [
+/// The rows of a run without a tamper and with a flipped byte, in each version, and in version 1 with an early end.
+const ROWS: [Row; 7] = [
     (
         1,
         Tamper::Untouched,
@@ -52,10 +53,6 @@ const ROWS_OF_VERSION_1: [Row; 3] = [
         0x7a,
         None,
     ),
-];
-
-/// The rows of a run without a tamper, and with a flipped byte.
-const ROWS_OF_VERSION_2: [Row; 2] = [
     (
         2,
         Tamper::Untouched,
@@ -80,10 +77,6 @@ const ROWS_OF_VERSION_2: [Row; 2] = [
         0x85,
         Some(0x85),
     ),
-];
-
-/// The same.
-const ROWS_OF_VERSION_3: [Row; 2] = [
     (
         3,
         Tamper::Untouched,
@@ -157,7 +150,7 @@ fn opens_all(proof: &Proof, byte: u8) -> bool {
 
 /// A prover of the eight steps in a version, whose run has a checkpoint at every third.
 fn prover_with(alloc: Global, version: u32, tamper: Tamper) -> Result<RunAnswerer<Sha256>, Memory> {
-    let machine = eight_steps(alloc, version)?;
+    let machine = machine_in(alloc, version, &EIGHT_STEPS, &[])?;
     RunAnswerer::new(alloc, Sha256, &machine, 8, 3, tamper, 2)
 }
 
@@ -234,13 +227,7 @@ fn has_answers<R: Threads + Sync>(rt: &R, alloc: Global, row: Row) -> Result<boo
 
 #[test]
 fn an_answerer_gives_the_answers_of_its_run(rt: HostRuntime) -> Result<(), Fail> {
-    for row in ROWS_OF_VERSION_1 {
-        assert!(rt; has_answers(&rt, rt.alloc(), row)?);
-    }
-    for row in ROWS_OF_VERSION_2 {
-        assert!(rt; has_answers(&rt, rt.alloc(), row)?);
-    }
-    for row in ROWS_OF_VERSION_3 {
+    for row in ROWS {
         assert!(rt; has_answers(&rt, rt.alloc(), row)?);
     }
     Ok(())

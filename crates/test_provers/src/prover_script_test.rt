@@ -1,12 +1,13 @@
 ghost use denote.Param.Send.{IsSync};
 
+use crate::asking::answer_of;
+use crate::manners::{CTL, Named, OnTape, claim_of, manner_of, output_of};
 use bisect_game::{Answerer, Kind, Question};
 use digest_core::Sha256;
 use prover_script::{Scripted, waits};
 use rd_base::{
-    Answer, Boxed, Claim, ClaimOutput, Ctl, Digest32, FirstSilentRound, Manner, Memory, Opening,
-    PassCount, Path, Proof, Qid, RegOpening, RegOpenings, RegPath, RegisterNumber, Regs, RootList,
-    Status, StepProof, StepProof2, StepProof3, Tape, TapeAnswer,
+    Answer, Boxed, Digest32, Memory, Opening, Path, Proof, Qid, RegOpening, RegOpenings, RegPath,
+    Regs, RootList, StepProof, StepProof2, StepProof3,
 };
 use std::alloc::{AllocError, Global};
 use std::test::Fail;
@@ -36,98 +37,6 @@ impl Answerer for Fixed {
     }
 }
 
-/// The output of one byte.
-fn output_of(alloc: Global, byte: u8) -> Result<Option<ClaimOutput>, AllocError> {
-    Ok(ClaimOutput::new(vec![in alloc; byte]?))
-}
-
-/// A manner, by its numbers.
-#[derive(Clone, Copy)]
-enum Named {
-    Plain,
-    Late(u32),
-    Silent(u32),
-    Output,
-    /// In the proof of step 2 it shows 77 in x5.
-    Forge,
-    Noise(u32),
-    Tape,
-}
-
-/// A tape with a claim, the root of ones for round 1 of dispute 1 and after it another for the same round, and a claim for round 2.
-fn tape_of(alloc: Global) -> Result<Option<Tape>, Memory> {
-    let mut answers = Vec::new(alloc);
-    for (dispute, round, byte) in [
-        (0, 0, None),
-        (1, 1, Some(1)),
-        (1, 1, Some(2)),
-        (1, 2, None),
-        (3, 1, Some(3)),
-    ] {
-        let answer = match byte {
-            Some(byte) => Answer::Root(Digest32([byte; 32])),
-            None => match output_of(alloc, 0x2b)? {
-                Some(output) => claim_of(output),
-                None => Answer::Root(Digest32([0; 32])),
-            },
-        };
-        let qid = Qid { dispute, round };
-        answers.push(TapeAnswer { qid, answer })?;
-    }
-    Ok(Tape::new(answers))
-}
-
-fn manner_of(alloc: Global, named: Named) -> Result<Manner, Memory> {
-    match named {
-        Named::Plain => Ok(Manner::Plain),
-        Named::Late(passes) => Ok(late(passes)),
-        Named::Silent(from) => Ok(silent(from)),
-        Named::Output => with_output(alloc),
-        Named::Forge => Ok(forging()),
-        Named::Noise(seed) => Ok(Manner::Noise { seed }),
-        Named::Tape => with_tape(alloc),
-    }
-}
-
-fn late(passes: u32) -> Manner {
-    match PassCount::new(passes) {
-        Some(passes) => Manner::Late(passes),
-        None => Manner::Plain,
-    }
-}
-
-fn silent(from: u32) -> Manner {
-    match FirstSilentRound::new(from) {
-        Some(from) => Manner::Silent(from),
-        None => Manner::Plain,
-    }
-}
-
-fn with_output(alloc: Global) -> Result<Manner, Memory> {
-    match output_of(alloc, 0x2b)? {
-        Some(output) => Ok(Manner::Output(output)),
-        None => Ok(Manner::Plain),
-    }
-}
-
-fn forging() -> Manner {
-    match RegisterNumber::new(5) {
-        Some(reg) => Manner::Forge {
-            step: 2,
-            reg,
-            value: 77,
-        },
-        None => Manner::Plain,
-    }
-}
-
-fn with_tape(alloc: Global) -> Result<Manner, Memory> {
-    match tape_of(alloc)? {
-        Some(tape) => Ok(Manner::Tape(tape)),
-        None => Ok(Manner::Plain),
-    }
-}
-
 /// What an answerer without a manner gives: a claim of the output `2a`, a root of sevens, three roots of sevens, a proof in which
 /// x5 holds 5 and x6 holds 6, a proof of version 2 or 3 that opens some registers, or a pass.
 #[derive(Clone, Copy)]
@@ -151,13 +60,6 @@ enum Opens {
     NoRegister,
     NoWord,
 }
-
-const CTL: Ctl = Ctl {
-    pc: 65536,
-    status: Status::Running,
-    out_len: 1,
-    chain: Digest32([3; 32]),
-};
 
 fn proof_of_version_1() -> Proof {
     let mut regs = Regs::new();
@@ -264,15 +166,6 @@ fn three_roots(alloc: Global) -> Result<Option<Answer>, AllocError> {
     }
 }
 
-fn claim_of(output: ClaimOutput) -> Answer {
-    Answer::Claim(Claim {
-        mem: Digest32([1; 32]),
-        regs: Digest32([2; 32]),
-        ctl: CTL,
-        output,
-    })
-}
-
 /// What was answered: of a root how it begins, of several how many there are and how the first and the last begin, of a proof of
 /// version 1 what x5 and x6 hold in it, of one of version 2 or 3 what the opened registers hold, and 0 if there is none, of a
 /// claim the first byte of its output.
@@ -368,18 +261,6 @@ const ROOTS: Kind = Kind::Roots {
 /// answered.
 type Row = (Gives, (u32, u32), Kind, u32, Heard);
 
-/// What an answerer answers. No clause says what, so that the proofs of the tests don't carry it. An `Err` is out of memory.
-fn answer_of<R: Threads + Sync, A: Answerer>(
-    rt: &R,
-    answerer: &mut A,
-    question: &Question,
-    passes: u32,
-) -> Result<Option<Answer>, Memory>
-    requires { IsSync R.row }
-{
-    answerer.answer(rt, question, passes)
-}
-
 /// Whether the answer is the wanted one, and `waits` tells whether it is a pass of the manner.
 fn answers_so<R: Threads + Sync>(
     rt: &R,
@@ -411,21 +292,40 @@ fn is_pass_of_the_manner(want: Heard, gives: Gives) -> bool {
     }
 }
 
-/// How many rows come before the first one that isn't answered so: all of them, if each is.
-fn answered<R: Threads + Sync>(
+/// The place of the first row that isn't answered so, counted from 0.
+fn first_wrong<R: Threads + Sync>(
     rt: &R,
     alloc: Global,
     named: Named,
     rows: &[Row],
-) -> Result<usize, Memory>
+) -> Result<Option<usize>, Memory>
     requires { IsSync R.row }
 {
     for (place, row) in rows.iter().enumerate() {
         if !answers_so(rt, alloc, named, *row)? {
-            return Ok(place);
+            return Ok(Some(place));
         }
     }
-    Ok(rows.len())
+    Ok(None)
+}
+
+/// Manners, each with its rows.
+type Table = (Named, &'static [Row]);
+
+/// The places of the first manner and of its first row that isn't answered so, counted from 0.
+fn first_wrong_of<R: Threads + Sync>(
+    rt: &R,
+    alloc: Global,
+    tables: &[Table],
+) -> Result<Option<(usize, usize)>, Memory>
+    requires { IsSync R.row }
+{
+    for (manner, (named, rows)) in tables.iter().enumerate() {
+        if let Some(place) = first_wrong(rt, alloc, *named, *rows)? {
+            return Ok(Some((manner, place)));
+        }
+    }
+    Ok(None)
 }
 
 const UNCHANGED: [Row; 2] = [
@@ -449,13 +349,16 @@ const AFTER_A_THOUSAND: [Row; 2] = [
     (Gives::Root, (1, 1), Kind::Root(4), 1000, TRUE_ROOT),
 ];
 
+const LATE: [Table; 4] = [
+    (Named::Plain, &UNCHANGED),
+    (Named::Late(0), &AT_ONCE),
+    (Named::Late(3), &AFTER_THREE),
+    (Named::Late(1000), &AFTER_A_THOUSAND),
+];
+
 #[test]
 fn a_late_prover_passes_so_many_times_on_each_question(rt: HostRuntime) -> Result<(), Fail> {
-    assert_eq!(rt; answered(&rt, rt.alloc(), Named::Plain, &UNCHANGED)?, 2);
-    assert_eq!(rt; answered(&rt, rt.alloc(), Named::Late(0), &AT_ONCE)?, 1);
-    assert_eq!(rt; answered(&rt, rt.alloc(), Named::Late(3), &AFTER_THREE)?, 5);
-    let late = Named::Late(1000);
-    assert_eq!(rt; answered(&rt, rt.alloc(), late, &AFTER_A_THOUSAND)?, 2);
+    assert_eq!(rt; first_wrong_of(&rt, rt.alloc(), &LATE)?, None);
     Ok(())
 }
 
@@ -469,11 +372,14 @@ const SILENT_FROM_ROUND_2: [Row; 4] = [
     (Gives::Root, (1, 3), Kind::Root(4), 4294967295, Heard::Pass),
 ];
 
+const SILENT: [Table; 2] = [
+    (Named::Silent(0), &SILENT_AT_ONCE),
+    (Named::Silent(2), &SILENT_FROM_ROUND_2),
+];
+
 #[test]
 fn a_silent_prover_passes_from_a_round_on(rt: HostRuntime) -> Result<(), Fail> {
-    let (first, second) = (Named::Silent(0), Named::Silent(2));
-    assert_eq!(rt; answered(&rt, rt.alloc(), first, &SILENT_AT_ONCE)?, 1);
-    assert_eq!(rt; answered(&rt, rt.alloc(), second, &SILENT_FROM_ROUND_2)?, 4);
+    assert_eq!(rt; first_wrong_of(&rt, rt.alloc(), &SILENT)?, None);
     Ok(())
 }
 
@@ -485,10 +391,11 @@ const WITH_ANOTHER_OUTPUT: [Row; 5] = [
     (Gives::Pass, (0, 0), Kind::Claim, 0, Heard::Pass),
 ];
 
+const OUTPUT: [Table; 1] = [(Named::Output, &WITH_ANOTHER_OUTPUT)];
+
 #[test]
 fn another_output_stands_in_the_claim_alone(rt: HostRuntime) -> Result<(), Fail> {
-    let right = answered(&rt, rt.alloc(), Named::Output, &WITH_ANOTHER_OUTPUT)?;
-    assert_eq!(rt; right, 5);
+    assert_eq!(rt; first_wrong_of(&rt, rt.alloc(), &OUTPUT)?, None);
     Ok(())
 }
 
@@ -501,10 +408,11 @@ const FORGED_BY_STEP: [Row; 5] = [
     (Gives::Step, (1, 4), Kind::Proof(4294967298), 0, TRUE_STEP),
 ];
 
+const FORGED: [Table; 1] = [(Named::Forge, &FORGED_BY_STEP)];
+
 #[test]
 fn a_forgery_shows_another_value_in_the_proof_of_its_step(rt: HostRuntime) -> Result<(), Fail> {
-    let right = answered(&rt, rt.alloc(), Named::Forge, &FORGED_BY_STEP)?;
-    assert_eq!(rt; right, 5);
+    assert_eq!(rt; first_wrong_of(&rt, rt.alloc(), &FORGED)?, None);
     Ok(())
 }
 
@@ -517,33 +425,114 @@ const NOT_FORGED: [Row; 5] = [
     (Gives::Pass, (1, 4), Kind::Proof(2), 0, Heard::Pass),
 ];
 
+const UNFORGED: [Table; 1] = [(Named::Forge, &NOT_FORGED)];
+
 #[test]
 fn a_forgery_changes_no_other_answer(rt: HostRuntime) -> Result<(), Fail> {
-    assert_eq!(rt; answered(&rt, rt.alloc(), Named::Forge, &NOT_FORGED)?, 5);
+    assert_eq!(rt; first_wrong_of(&rt, rt.alloc(), &UNFORGED)?, None);
     Ok(())
 }
 
-/// What a proof opens, the step that is asked for, and what the opened registers then hold.
-const FORGED_REGISTERS: [(Opens, u64, [u32; 3]); 6] = [
-    (Opens::X5First, 2, [77, 2, 3]),
-    (Opens::X5Second, 2, [1, 77, 3]),
-    (Opens::NotX5, 2, [1, 2, 3]),
-    (Opens::NoRegister, 2, [0, 0, 0]),
-    (Opens::NoWord, 2, [1, 2, 3]),
-    (Opens::X5First, 3, [1, 2, 3]),
+/// The registers that a proof opens, in the proof of step 2 and in that of step 3: each opening is that of the register that is named at its
+/// place.
+const FORGED_REGISTERS_2: [Row; 6] = [
+    (
+        Gives::Step2(Opens::X5First),
+        (1, 4),
+        Kind::Proof(2),
+        0,
+        Heard::Opened([77, 2, 3]),
+    ),
+    (
+        Gives::Step2(Opens::X5Second),
+        (1, 4),
+        Kind::Proof(2),
+        0,
+        Heard::Opened([1, 77, 3]),
+    ),
+    (
+        Gives::Step2(Opens::NotX5),
+        (1, 4),
+        Kind::Proof(2),
+        0,
+        Heard::Opened([1, 2, 3]),
+    ),
+    (
+        Gives::Step2(Opens::NoRegister),
+        (1, 4),
+        Kind::Proof(2),
+        0,
+        Heard::Opened([0, 0, 0]),
+    ),
+    (
+        Gives::Step2(Opens::NoWord),
+        (1, 4),
+        Kind::Proof(2),
+        0,
+        Heard::Opened([1, 2, 3]),
+    ),
+    (
+        Gives::Step2(Opens::X5First),
+        (1, 4),
+        Kind::Proof(3),
+        0,
+        Heard::Opened([1, 2, 3]),
+    ),
 ];
 
-/// Each opening is that of the register that is named at its place.
+const FORGED_REGISTERS_3: [Row; 6] = [
+    (
+        Gives::Step3(Opens::X5First),
+        (1, 4),
+        Kind::Proof(2),
+        0,
+        Heard::Opened([77, 2, 3]),
+    ),
+    (
+        Gives::Step3(Opens::X5Second),
+        (1, 4),
+        Kind::Proof(2),
+        0,
+        Heard::Opened([1, 77, 3]),
+    ),
+    (
+        Gives::Step3(Opens::NotX5),
+        (1, 4),
+        Kind::Proof(2),
+        0,
+        Heard::Opened([1, 2, 3]),
+    ),
+    (
+        Gives::Step3(Opens::NoRegister),
+        (1, 4),
+        Kind::Proof(2),
+        0,
+        Heard::Opened([0, 0, 0]),
+    ),
+    (
+        Gives::Step3(Opens::NoWord),
+        (1, 4),
+        Kind::Proof(2),
+        0,
+        Heard::Opened([1, 2, 3]),
+    ),
+    (
+        Gives::Step3(Opens::X5First),
+        (1, 4),
+        Kind::Proof(3),
+        0,
+        Heard::Opened([1, 2, 3]),
+    ),
+];
+
+const FORGED_REGISTERS: [Table; 2] = [
+    (Named::Forge, &FORGED_REGISTERS_2),
+    (Named::Forge, &FORGED_REGISTERS_3),
+];
+
 #[test]
 fn a_forgery_replaces_a_register_where_it_is_opened(rt: HostRuntime) -> Result<(), Fail> {
-    for (opens, step, want) in FORGED_REGISTERS {
-        let (kind, want) = (Kind::Proof(step), Heard::Opened(want));
-        let rows = [
-            (Gives::Step2(opens), (1, 4), kind, 0, want),
-            (Gives::Step3(opens), (1, 4), kind, 0, want),
-        ];
-        assert_eq!(rt; answered(&rt, rt.alloc(), Named::Forge, &rows)?, 2);
-    }
+    assert_eq!(rt; first_wrong_of(&rt, rt.alloc(), &FORGED_REGISTERS)?, None);
     Ok(())
 }
 
@@ -559,11 +548,14 @@ const NOISE_OF_SEED_7: [Row; 6] = [
 
 const OTHER_SEED: [Row; 1] = [(Gives::Root, (1, 1), Kind::Root(4), 0, NOISE_OF_SEED_8)];
 
+const NOISY: [Table; 2] = [
+    (Named::Noise(7), &NOISE_OF_SEED_7),
+    (Named::Noise(8), &OTHER_SEED),
+];
+
 #[test]
 fn noise_stands_in_place_of_roots(rt: HostRuntime) -> Result<(), Fail> {
-    let (seven, eight) = (Named::Noise(7), Named::Noise(8));
-    assert_eq!(rt; answered(&rt, rt.alloc(), seven, &NOISE_OF_SEED_7)?, 6);
-    assert_eq!(rt; answered(&rt, rt.alloc(), eight, &OTHER_SEED)?, 1);
+    assert_eq!(rt; first_wrong_of(&rt, rt.alloc(), &NOISY)?, None);
     Ok(())
 }
 
@@ -575,12 +567,23 @@ const WITHOUT_NOISE: [Row; 5] = [
     (Gives::Pass, (1, 1), Kind::Root(4), 0, Heard::Pass),
 ];
 
+const UNNOISY: [Table; 1] = [(Named::Noise(7), &WITHOUT_NOISE)];
+
 #[test]
 fn noise_changes_no_other_answer(rt: HostRuntime) -> Result<(), Fail> {
-    let right = answered(&rt, rt.alloc(), Named::Noise(7), &WITHOUT_NOISE)?;
-    assert_eq!(rt; right, 5);
+    assert_eq!(rt; first_wrong_of(&rt, rt.alloc(), &UNNOISY)?, None);
     Ok(())
 }
+
+/// A tape with a claim, the root of ones for round 1 of dispute 1 and after it another for the same round, a claim for round 2, and the
+/// root of threes for round 1 of dispute 3.
+const TAPE: [OnTape; 5] = [
+    (0, 0, None),
+    (1, 1, Some(1)),
+    (1, 1, Some(2)),
+    (1, 2, None),
+    (3, 1, Some(3)),
+];
 
 /// Whatever is asked under that number, and whatever it would be answered without the tape.
 const ON_THE_TAPE: [Row; 6] = [
@@ -600,10 +603,13 @@ const NOT_ON_THE_TAPE: [Row; 4] = [
     (Gives::Claim, (0, 1), Kind::Claim, 1000, Heard::Pass),
 ];
 
+const TAPES: [Table; 2] = [
+    (Named::Tape(&TAPE), &ON_THE_TAPE),
+    (Named::Tape(&TAPE), &NOT_ON_THE_TAPE),
+];
+
 #[test]
 fn a_tape_answers_its_first_entry_for_a_question_or_passes(rt: HostRuntime) -> Result<(), Fail> {
-    let tape = Named::Tape;
-    assert_eq!(rt; answered(&rt, rt.alloc(), tape, &ON_THE_TAPE)?, 6);
-    assert_eq!(rt; answered(&rt, rt.alloc(), tape, &NOT_ON_THE_TAPE)?, 4);
+    assert_eq!(rt; first_wrong_of(&rt, rt.alloc(), &TAPES)?, None);
     Ok(())
 }

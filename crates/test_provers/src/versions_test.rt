@@ -1,17 +1,14 @@
 //! Tests of roots and of committed machines in each version of the commitment.
-ghost use Rattle.std.specs.Prelude.{ℕ, ◌≤◌, ◌<◌, List, length, IfOk};
-ghost use Rattle.rv_step.specs.State.{IsChained};
+ghost use Rattle.std.specs.Prelude.{◌≤◌, ◌<◌, length, IfOk};
 ghost use Rattle.checkpoint_run.specs.Recorded.{AreChained};
 ghost use Rattle.sha2.specs.Sha256.{sha256};
 
 use crate::kept::kept_run;
-use crate::programs::SIX_STEPS;
+use crate::programs::{SIX_STEPS, machine_in};
 use crate::tampers::register;
 use checkpoint_run::{Run, record_run};
 use digest_core::{Digester, Sha256};
-use mem_plain::PlainMem;
 use rd_base::{Digest32, Memory, Tamper};
-use rv_step::Machine;
 use segment_replay::{KeptRun, committed_at, roots, roots_with_input, run_input_root};
 use state_commit::{SharedInput, state_root, state_root_with};
 use std::alloc::Global;
@@ -23,19 +20,7 @@ use toy_machine::{Counted, first_eight};
 /// xori x5, x5, 1; jal x0, -4: its register changes in each even step, and every fourth state is the same
 const TOGGLES: [u8; 8] = [0x93, 0xc2, 0x12, 0x00, 0x6f, 0xf0, 0xdf, 0xff];
 
-/// A machine at the start of an image of at most 64 bytes, which lies at 0x10000, with an input of at most 64 bytes, in a version. An
-/// `Err` is out of memory.
-fn machine_in(alloc: Global, version: u32, image: &[u8], input: &[u8]) -> Result<Machine, Memory>
-    requires version { (1 ≤ version) × (version ≤ 3) }
-    requires image { length image.now ≤ 64 }
-    requires input { length input.now ≤ 64 }
-    ensures { IfOk result (λ m. (digest : List ℕ → List ℕ) → IsChained digest m) }
-{
-    let mem = PlainMem::new(alloc).lay(0x1_0000, image)?;
-    Machine::new(alloc, version, mem, 0x1_0000, input)
-}
-
-/// The run of an image of at most 64 bytes, which lies at 0x10000, with an input of at most 64 bytes, in a version, up to step 8. An
+/// The run of an image of at most 64 bytes, which lies at 0x10000, with an input of at most 4,096 bytes, in a version, up to step 8. An
 /// `Err` is out of memory.
 fn run_in(
     alloc: Global,
@@ -45,9 +30,8 @@ fn run_in(
     every: u32,
     tamper: Tamper,
 ) -> Result<Run, Memory>
-    requires version { (1 ≤ version) × (version ≤ 3) }
     requires image { length image.now ≤ 64 }
-    requires input { length input.now ≤ 64 }
+    requires input { length input.now ≤ 4096 }
     requires every { 0 < every }
     ensures { IfOk result (λ r. AreChained sha256 r) }
 {
@@ -217,7 +201,6 @@ fn roots_in<R: Threads + Sync>(
     version: u32,
     image: &[u8],
 ) -> Result<Vec<Digest32>, Memory>
-    requires version { (1 ≤ version) × (version ≤ 3) }
     requires image { length image.now ≤ 64 }
 {
     let run = run_in(alloc, version, image, b"", 3, Tamper::Untouched)?;
@@ -280,28 +263,32 @@ fn digests_between<R: Threads + Sync>(
     alloc: Global,
     version: u32,
     steps: [u64; 2],
-) -> Result<u64, Memory>
-    requires { (1 ≤ version) × (version ≤ 3) }
-{
+) -> Result<u64, Memory> {
     let run = run_in(alloc, version, &TOGGLES, b"", 3, Tamper::Untouched)?;
     let first = digests_of(rt, alloc, &run, &steps[..1])?;
     let both = digests_of(rt, alloc, &run, &steps)?;
     Ok(both.wrapping_sub(first))
 }
 
+/// A version, two steps, and the digests: the register changes in step 0, and not in step 1, and in step 5 the state is that of step 1 again.
+const CHANGED_OR_KEPT: [(u32, [u64; 2], u64); 9] = [
+    (1, [0, 1], 3),
+    (1, [1, 2], 3),
+    (1, [1, 5], 3),
+    (2, [0, 1], 8),
+    (2, [1, 2], 2),
+    (2, [1, 5], 2),
+    (3, [0, 1], 9),
+    (3, [1, 2], 3),
+    (3, [1, 5], 3),
+];
+
 /// Each root takes the digests of the control and the state string, and in version 3 that of the storage string. A changed register
 /// takes the digest of all of them in version 1, and else its leaf and the five nodes above it.
 #[test]
 fn a_root_after_one_changed_register_takes_its_path(rt: HostRuntime) -> Result<(), Fail> {
-    // the register changes in step 0, and not in step 1
-    for (version, changed, kept) in [(1, 3, 3), (2, 8, 2), (3, 9, 3)] {
-        let count = digests_between(&rt, rt.alloc(), version, [0, 1])?;
-        assert_eq!(rt; count, changed, "version {version}");
-        let count = digests_between(&rt, rt.alloc(), version, [1, 2])?;
-        assert_eq!(rt; count, kept, "version {version}");
-        // the same state again, four steps later
-        let count = digests_between(&rt, rt.alloc(), version, [1, 5])?;
-        assert_eq!(rt; count, kept, "version {version}");
+    for (version, steps, digests) in CHANGED_OR_KEPT {
+        assert_eq!(rt; digests_between(&rt, rt.alloc(), version, steps)?, digests);
     }
     Ok(())
 }
@@ -315,22 +302,33 @@ fn the_root_of_the_input_is_made_once_for_all_roots(rt: HostRuntime) -> Result<(
         for steps in [&[0u64][..], &[0, 1, 2, 3, 4, 5, 6, 7, 8, 8][..]] {
             let whole = digests_of(&rt, rt.alloc(), &run, steps)?;
             let rest = digests_with_input(&rt, rt.alloc(), &run, steps)?;
-            assert_eq!(rt; whole.wrapping_sub(rest), wanted, "version {version}");
+            assert_eq!(rt; whole.wrapping_sub(rest), wanted);
         }
     }
     Ok(())
 }
 
-/// How many digests a machine at the start of TOGGLES takes, with an input of at most 64 bytes: the root of its state, then the machine
-/// of step 8 of its run with its trees, both without the tree of the input at hand. An `Err` is out of memory.
-fn digests_without_the_tree<R: Threads + Sync>(
+/// How many digests are saved for a machine of TOGGLES with an input of at most 4,096 bytes if the tree of the input is at hand. An `Err` is
+/// out of memory.
+fn saved_by_the_tree<R: Threads + Sync>(
     rt: &R,
     alloc: Global,
     version: u32,
     input: &[u8],
 ) -> Result<[u64; 2], Memory>
-    requires version { (1 ≤ version) × (version ≤ 3) }
-    requires input { length input.now ≤ 64 }
+    requires { length input.now ≤ 4096 }
+{
+    let root = digests_of_root(alloc, version, input)?;
+    let committed = digests_of_machine(rt, alloc, version, input)?;
+    Ok([
+        root[0].wrapping_sub(root[1]),
+        committed[0].wrapping_sub(committed[1]),
+    ])
+}
+
+/// How many digests the root of its state takes at the start, without the tree at hand and with it. An `Err` is out of memory.
+fn digests_of_root(alloc: Global, version: u32, input: &[u8]) -> Result<[u64; 2], Memory>
+    requires { length input.now ≤ 4096 }
 {
     let made = AtomicU64::new(0);
     let counted = Counted {
@@ -338,11 +336,12 @@ fn digests_without_the_tree<R: Threads + Sync>(
         made: &made,
     };
     let machine = machine_in(alloc, version, &TOGGLES, input)?;
-    state_root(counted, version, &machine);
-    let root = made.swap(0, Ordering::SeqCst);
-    let run = run_in(alloc, version, &TOGGLES, input, 3, Tamper::Untouched)?;
-    committed_at(rt, alloc, counted, &run, 8)?;
-    Ok([root, made.load(Ordering::SeqCst)])
+    state_root(counted, machine.version, &machine);
+    let without = made.load(Ordering::SeqCst);
+    let tree = SharedInput::of(alloc, counted, &machine)?;
+    made.store(0, Ordering::SeqCst);
+    state_root_with(counted, &machine, &tree);
+    Ok([without, made.load(Ordering::SeqCst)])
 }
 
 /// The run of TOGGLES up to step 8, from which no root was made so far. An `Err` is out of memory.
@@ -352,62 +351,41 @@ fn kept_toggles<D: Digester>(
     version: u32,
     input: &[u8],
 ) -> Result<KeptRun<D>, Memory>
-    requires version { (1 ≤ version) × (version ≤ 3) }
-    requires input { length input.now ≤ 64 }
+    requires { length input.now ≤ 4096 }
 {
     let machine = machine_in(alloc, version, &TOGGLES, input)?;
     kept_run(alloc, d, &machine, 8, 3)
 }
 
-/// How many digests the root of the state takes with the tree of the input at hand. An `Err` is out of memory.
-fn digests_of_root_with_the_tree(alloc: Global, version: u32, input: &[u8]) -> Result<u64, Memory>
-    requires version { (1 ≤ version) × (version ≤ 3) }
-    requires input { length input.now ≤ 64 }
-{
-    let made = AtomicU64::new(0);
-    let counted = Counted {
-        of: Sha256,
-        made: &made,
-    };
-    let machine = machine_in(alloc, version, &TOGGLES, input)?;
-    let tree = SharedInput::of(alloc, counted, &machine)?;
-    made.store(0, Ordering::SeqCst);
-    state_root_with(counted, &machine, &tree);
-    Ok(made.load(Ordering::SeqCst))
-}
-
-/// How many digests the machine of step 8 takes with its trees, with the tree of the input at hand. An `Err` is out of memory.
-fn digests_of_machine_with_the_tree<R: Threads + Sync>(
+/// How many digests the machine of step 8 takes with its trees, without that of the input at hand and with it. An `Err` is out of memory.
+fn digests_of_machine<R: Threads + Sync>(
     rt: &R,
     alloc: Global,
     version: u32,
     input: &[u8],
-) -> Result<u64, Memory>
-    requires version { (1 ≤ version) × (version ≤ 3) }
-    requires input { length input.now ≤ 64 }
+) -> Result<[u64; 2], Memory>
+    requires { length input.now ≤ 4096 }
 {
     let made = AtomicU64::new(0);
     let counted = Counted {
         of: Sha256,
         made: &made,
     };
+    let run = run_in(alloc, version, &TOGGLES, input, 3, Tamper::Untouched)?;
+    committed_at(rt, alloc, counted, &run, 8)?;
+    let without = made.load(Ordering::SeqCst);
     let kept = kept_toggles(alloc, counted, version, input)?;
     made.store(0, Ordering::SeqCst);
     kept.committed(rt, alloc, 8)?;
-    Ok(made.load(Ordering::SeqCst))
+    Ok([without, made.load(Ordering::SeqCst)])
 }
 
 /// The 33 digests of the tree of an input of 33 bytes aren't made again if the tree is at hand.
 #[test]
 fn the_tree_of_the_input_is_made_once_for_all_states(rt: HostRuntime) -> Result<(), Fail> {
-    let input = &[7; 33];
-    for (version, wanted) in [(2u32, 0), (3, 33)] {
-        let [root, committed] = digests_without_the_tree(&rt, rt.alloc(), version, input)?;
-        let root_with = digests_of_root_with_the_tree(rt.alloc(), version, input)?;
-        let committed_with = digests_of_machine_with_the_tree(&rt, rt.alloc(), version, input)?;
-        assert_eq!(rt; root.wrapping_sub(root_with), wanted, "version {version}");
-        let saved = committed.wrapping_sub(committed_with);
-        assert_eq!(rt; saved, wanted, "version {version}");
+    for (version, wanted) in [(2, 0), (3, 33)] {
+        let saved = saved_by_the_tree(&rt, rt.alloc(), version, &[7; 33])?;
+        assert_eq!(rt; saved, [wanted, wanted]);
     }
     Ok(())
 }
