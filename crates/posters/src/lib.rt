@@ -5,7 +5,7 @@
 //! (`Book::has_the_record_of_the_case`), and no schedule shows in it. `play` does the same for one task. Each poster serves the provers of
 //! its class alone, in turns of its own seat at the board; answers are made between two turns, while others post. No clause says that two
 //! posters ran at once, or how long a poster takes. Read `playing`, then `serving`, which is what one poster does; `round_robin`, over
-//! `order`, shares the provers among the posters and starts the threads, and knows nothing of boards.
+//! `order`, shares the provers among the posters and starts the threads, and knows nothing of boards. The tests stand in `test_boards`.
 #![tactic(auto)]
 
 mod one_task;

@@ -13,7 +13,7 @@
 //! step with one tree of memory and, from version 2 on, one of registers, so that what differs alone is digested. It carries out the
 //! steps in between if the next step lies ahead, and either is near, measured by the pages in use, or has no checkpoint before it; else
 //! it replays from the last checkpoint up to the step, and compares all pages in use. That is not proved: it is read in `cursor`, and tests
-//! in `test_replay` count the digests. Read `specs/Roots.antt` first, then `kept_run`, `replaying` and `cursor`.
+//! in `test_provers` count the digests. Read `specs/Roots.antt` first, then `kept_run`, `replaying` and `cursor`.
 #![tactic(auto)]
 
 mod cursor;
