@@ -1,153 +1,276 @@
-//! What the judge says of claims: the root of the state that one names, and the collision of two.
+//! The chain of an output and claims, of `out_chain`, and what the judge of `step_referee` says of claims.
 
 use bisect_game::Judge;
 use digest_core::{Digester, Sha256, control_text, link_text, state_text};
+use out_chain::{
+    ClaimCheck, chain_of, check_claim, claim_collision, parts_root, parts_text, root_of_claim,
+};
 use rd_base::{Claim, ClaimOutput, Ctl, Digest32, OpenText, Status};
 use std::alloc::Global;
+use std::test::Fail;
 use step_referee::MachineJudge;
 use toy_machine::OneValue;
 
-const DIGESTER: OneValue<Sha256> = OneValue { of: Sha256 };
+/// The chain of the one byte 2a, as `chain(b'\x2a')` of this program in Python gives it:
+///
+/// ```python
+///     import functools, hashlib
+///     sha = lambda b: hashlib.sha256(b).digest()
+///     link = lambda chain, byte: sha(b'\5' + chain + bytes([byte]))
+///     chain = lambda output: functools.reduce(link, output, bytes(32))
+///     print(chain(bytes(k % 256 for k in range(300))).hex())
+/// ```
+const CHAIN_OF_ONE: Digest32 = Digest32(
+    *b"\xa7\x94\x12\xe4\x11\x79\x58\x3a\x65\x7f\x07\x1b\xd0\x37\xa7\xc3\x0d\x1c\xd9\xc7\x53\x8b\x84\xce\xec\x93\x2e\x58\xd5\x06\xb0\x47",
+);
 
-/// The control fields of a machine that exited with 0 after an output of three bytes, whose chain is the digest function's one value.
-fn exited(pc: u32) -> Ctl {
-    Ctl {
-        pc,
-        status: Status::Exited(0),
-        out_len: 3,
-        chain: DIGESTER.digest(&[]),
+const CHAIN_OF_300: Digest32 = Digest32(
+    *b"\x05\x58\x37\xe2\xfb\xb0\x27\x73\x2d\xf4\x77\xa8\x51\x45\x3f\x42\xdb\x8d\x25\x12\x16\x14\xdc\x21\x1e\xa6\x9f\x42\x7f\x42\x85\x8b",
+);
+
+#[test]
+fn chains_of_0_1_and_300_bytes(rt: HostRuntime) -> Result<(), Fail> {
+    let mut bytes = Vec::new(rt.alloc());
+    for k in 0..300u32 {
+        bytes.push((k % 256) as u8)?;
     }
+    assert!(rt;
+        chain_of(Sha256, &[]) == Digest32([0; 32])
+            && chain_of(Sha256, b"\x2a") == CHAIN_OF_ONE
+            && chain_of(Sha256, &bytes) == CHAIN_OF_300
+    );
+    Ok(())
 }
 
-/// A claim with this first digest, pc and output, of three bytes, which is sound by the digest function with one value.
-fn claim_by_one_value(alloc: Global, row: (u8, u32, &[u8])) -> Option<Claim> {
-    let bytes = row.2.to_vec(alloc).ok()?;
-    Some(Claim {
-        mem: Digest32([row.0; 32]),
-        regs: Digest32([2; 32]),
-        ctl: exited(row.1),
-        output: ClaimOutput::new(bytes)?,
+/// A claim with these digests of memory and registers, of a machine that exited with 0.
+fn claim(
+    alloc: Global,
+    parts: (Digest32, Digest32),
+    pc: u32,
+    out_len: u64,
+    chain: Digest32,
+    output: &[u8],
+) -> Result<Claim, Fail> {
+    let Some(output) = ClaimOutput::new(output.to_vec(alloc)?) else {
+        return Err(Fail::new("the output is too long"));
+    };
+    let status = Status::Exited(0);
+    Ok(Claim {
+        mem: parts.0,
+        regs: parts.1,
+        ctl: Ctl {
+            pc,
+            status,
+            out_len,
+            chain,
+        },
+        output,
     })
 }
 
-/// What two such claims have as their collision.
-fn collision_of(
-    alloc: Global,
-    first: (u8, u32, &[u8]),
-    second: (u8, u32, &[u8]),
-) -> Option<Option<(OpenText, OpenText)>> {
-    let x = claim_by_one_value(alloc, first)?;
-    let y = claim_by_one_value(alloc, second)?;
-    Some(MachineJudge::new(DIGESTER, 1).claim_collision(&x, &y))
+/// The last state of the program that writes the byte 2a and exits with 0: its memory, its registers and its root, by
+/// an independent program in Python that carries it out and hashes its memory from scratch.
+const PARTS: (Digest32, Digest32) = (
+    Digest32(
+        *b"\x2a\x6d\xe9\xff\xcf\x27\xc7\x61\x2e\x0b\xae\x4f\xeb\x45\x4d\xcc\x42\x95\xe9\xf0\x51\x81\xae\x90\x2d\x92\xdd\x19\xe0\x75\xab\xf2",
+    ),
+    Digest32(
+        *b"\x71\x50\xa1\xe3\x7d\x70\x17\xca\x14\xdf\xf4\x5e\x79\x40\x9c\x74\x74\x1b\xac\x42\xea\x6b\x75\xf7\x43\x05\xcf\xc5\x18\x5a\xbf\xc2",
+    ),
+);
+
+const ROOT: Digest32 = Digest32(
+    *b"\x07\x8a\xdd\x20\xbc\x2c\x81\x2f\xca\xf7\x4f\x52\x08\x28\xc1\xa8\x27\xc4\x68\xf5\x04\xd5\x83\xb6\x59\x92\xe2\x76\x24\x17\x9d\x46",
+);
+
+#[test]
+fn the_claim_of_a_run_is_sound_and_has_the_root_of_its_state(rt: HostRuntime) -> Result<(), Fail> {
+    let claim = claim(rt.alloc(), PARTS, 0x10014, 1, CHAIN_OF_ONE, b"\x2a")?;
+    let text = parts_text(Sha256, PARTS.0, PARTS.1, &claim.ctl);
+    let judge = MachineJudge::new(Sha256, 1);
+    let roots = [
+        Sha256.digest(text.as_slice()),
+        parts_root(Sha256, PARTS.0, PARTS.1, &claim.ctl),
+        root_of_claim(Sha256, &claim),
+        judge.root_of(&claim),
+    ];
+    assert!(rt; roots == [ROOT; 4] && judge.sound(&claim));
+    Ok(())
 }
 
-/// Whether a collision is these two strings.
-fn is_pair(
-    found: &Option<Option<(OpenText, OpenText)>>,
-    first: &OpenText,
-    second: &OpenText,
+const OTHER: Digest32 = Digest32([3; 32]);
+
+/// The length and the chain of a claim, its output, and what its check says.
+const CHECKS: [(u64, Digest32, &[u8], ClaimCheck); 6] = [
+    (1, CHAIN_OF_ONE, b"\x2a", ClaimCheck::Sound),
+    (0, Digest32::ZERO, b"", ClaimCheck::Sound),
+    (1, OTHER, b"\x2a", ClaimCheck::WrongChain),
+    (1, CHAIN_OF_ONE, b"\x2b", ClaimCheck::WrongChain),
+    (2, CHAIN_OF_ONE, b"\x2a", ClaimCheck::WrongLength),
+    (2, OTHER, b"\x2a", ClaimCheck::WrongLength),
+];
+
+/// The first row that is checked otherwise.
+fn first_other_check(alloc: Global) -> Result<Option<usize>, Fail> {
+    let parts = (Digest32([1; 32]), Digest32([2; 32]));
+    for (row, (out_len, chain, output, want)) in CHECKS.iter().enumerate() {
+        let claim = claim(alloc, parts, 4, *out_len, *chain, *output)?;
+        if check_claim(Sha256, &claim) != *want {
+            return Ok(Some(row));
+        }
+    }
+    Ok(None)
+}
+
+#[test]
+fn a_claim_is_checked_length_first(rt: HostRuntime) -> Result<(), Fail> {
+    assert_eq!(rt; first_other_check(rt.alloc())?, None);
+    Ok(())
+}
+
+const ONE_VALUE: OneValue<Sha256> = OneValue { of: Sha256 };
+
+/// A claim with this first digest, pc and output. It is sound by the digest function with one value, by which all claims have one root.
+type Near = (u8, u32, &'static [u8]);
+
+fn near_claim(alloc: Global, near: Near) -> Result<Claim, Fail> {
+    let parts = (Digest32([near.0; 32]), Digest32([2; 32]));
+    let chain = ONE_VALUE.digest(&[]);
+    claim(alloc, parts, near.1, near.2.len() as u64, chain, near.2)
+}
+
+/// The strings that collide.
+#[derive(Clone, Copy)]
+enum Pair {
+    /// None do.
+    None,
+    /// The state strings with these digests of memory.
+    State(u8, u8),
+    /// The control strings with this length of the output and these pcs.
+    Control(u64, u32, u32),
+    /// The strings of the first link, with these bytes.
+    First(u8, u8),
+    /// The strings of a later link, with these bytes.
+    Later(u8, u8),
+}
+
+fn state_of(mem: u8) -> OpenText {
+    state_text(
+        &Digest32([mem; 32]),
+        &Digest32([2; 32]),
+        &ONE_VALUE.digest(&[]),
+    )
+}
+
+fn control_of(out_len: u64, pc: u32) -> OpenText {
+    control_text(&Ctl {
+        pc,
+        status: Status::Exited(0),
+        out_len,
+        chain: ONE_VALUE.digest(&[]),
+    })
+}
+
+/// Whether a collision is these two strings, of this length.
+fn is_of(
+    found: Option<(OpenText, OpenText)>,
+    first: OpenText,
+    second: OpenText,
+    length: usize,
 ) -> bool {
     match found {
-        Some(Some((x, y))) => {
-            x.as_slice() == first.as_slice() && y.as_slice() == second.as_slice()
+        Some((x, y)) => {
+            x.as_slice() == first.as_slice()
+                && y.as_slice() == second.as_slice()
+                && x.as_slice().len() == length
         }
-        Some(None) => false,
         None => false,
     }
 }
 
-/// By a digest function with one value all claims have one root, so that the order of the strings decides.
-#[test]
-fn claims_collide_in_their_first_different_strings(rt: HostRuntime) {
-    let alloc = rt.alloc();
-    let one = DIGESTER.digest(&[]);
+/// Whether a collision is the one that is wanted.
+fn is_pair(found: Option<(OpenText, OpenText)>, pair: Pair) -> bool {
+    let one = ONE_VALUE.digest(&[]);
     let zero = Digest32::ZERO;
-    let a: (u8, u32, &[u8]) = (1, 4, &[1, 2, 3]);
-    let state = state_text(&Digest32([1; 32]), &Digest32([2; 32]), &one);
-    let other = state_text(&Digest32([9; 32]), &Digest32([2; 32]), &one);
-    assert!(rt; is_pair(&collision_of(alloc, a, (9, 8, &[7, 5, 6])), &state, &other));
-    assert!(rt; is_pair(&collision_of(alloc, (9, 8, &[7, 5, 6]), a), &other, &state));
-    let control = control_text(&exited(4));
-    assert!(rt;
-        is_pair(
-            &collision_of(alloc, a, (1, 8, &[7, 5, 6])),
-            &control,
-            &control_text(&exited(8))
-        )
-    );
-    let link = link_text(&one, 2);
-    assert!(rt;
-        is_pair(
-            &collision_of(alloc, a, (1, 4, &[1, 5, 6])),
-            &link,
-            &link_text(&one, 5)
-        )
-    );
-    let link = link_text(&zero, 1);
-    assert!(rt;
-        is_pair(
-            &collision_of(alloc, a, (1, 4, &[7, 2, 6])),
-            &link,
-            &link_text(&zero, 7)
-        )
-    );
+    match pair {
+        Pair::None => found.is_none(),
+        Pair::State(x, y) => is_of(found, state_of(x), state_of(y), 97),
+        Pair::Control(len, x, y) => is_of(found, control_of(len, x), control_of(len, y), 50),
+        Pair::First(x, y) => is_of(found, link_text(&zero, x), link_text(&zero, y), 34),
+        Pair::Later(x, y) => is_of(found, link_text(&one, x), link_text(&one, y), 34),
+    }
 }
 
-/// Equal claims have no collision, whatever the digest, and claims of two roots have none.
-#[test]
-fn equal_claims_and_claims_of_two_roots_have_no_collision(rt: HostRuntime) {
-    let alloc = rt.alloc();
-    match collision_of(alloc, (1, 4, &[1, 2, 3]), (1, 4, &[1, 2, 3])) {
-        Some(found) => assert!(rt; found.is_none()),
-        None => assert!(rt; false, "no claims were made"),
-    }
-    let first = claim_by_one_value(alloc, (1, 4, &[1, 2, 3]));
-    let second = claim_by_one_value(alloc, (1, 8, &[1, 2, 3]));
-    assert!(rt; first.is_some() && second.is_some());
-    if let Some(x) = first {
-        if let Some(y) = second {
-            assert!(rt;
-                MachineJudge::new(Sha256, 1)
-                    .claim_collision(&x, &y)
-                    .is_none()
-            );
+/// Two claims, and the strings of theirs that collide by the digest function with one value.
+const OF_THREE_BYTES: [(Near, Near, Pair); 7] = [
+    (
+        (1, 4, b"\x01\x02\x03"),
+        (9, 8, b"\x07\x05\x06"),
+        Pair::State(1, 9),
+    ),
+    (
+        (9, 8, b"\x07\x05\x06"),
+        (1, 4, b"\x01\x02\x03"),
+        Pair::State(9, 1),
+    ),
+    (
+        (1, 4, b"\x01\x02\x03"),
+        (1, 8, b"\x07\x05\x06"),
+        Pair::Control(3, 4, 8),
+    ),
+    (
+        (1, 4, b"\x01\x02\x03"),
+        (1, 8, b"\x01\x02\x03"),
+        Pair::Control(3, 4, 8),
+    ),
+    (
+        (1, 4, b"\x01\x02\x03"),
+        (1, 4, b"\x01\x05\x06"),
+        Pair::Later(2, 5),
+    ),
+    (
+        (1, 4, b"\x01\x02\x03"),
+        (1, 4, b"\x07\x02\x06"),
+        Pair::First(1, 7),
+    ),
+    ((1, 4, b"\x01\x02\x03"), (1, 4, b"\x01\x02\x03"), Pair::None),
+];
+
+const OF_ONE_BYTE: [(Near, Near, Pair); 6] = [
+    ((1, 4, b"\x2a"), (1, 4, b"\x2a"), Pair::None),
+    ((1, 4, b"\x2a"), (3, 4, b"\x2a"), Pair::State(1, 3)),
+    ((1, 4, b"\x2a"), (3, 8, b"\x2b"), Pair::State(1, 3)),
+    ((1, 4, b"\x2a"), (1, 8, b"\x2a"), Pair::Control(1, 4, 8)),
+    ((1, 4, b"\x2a"), (1, 8, b"\x2b"), Pair::Control(1, 4, 8)),
+    ((1, 4, b"\x2a"), (1, 4, b"\x2b"), Pair::First(0x2a, 0x2b)),
+];
+
+/// Whether two claims collide in these strings by the digest function with one value, also for the judge, and by SHA-256, by which
+/// different claims have different roots, not at all.
+fn collide(x: &Claim, y: &Claim, pair: Pair) -> bool {
+    is_pair(claim_collision(ONE_VALUE, x, y), pair)
+        && is_pair(MachineJudge::new(ONE_VALUE, 1).claim_collision(x, y), pair)
+        && claim_collision(Sha256, x, y).is_none()
+        && MachineJudge::new(Sha256, 1).claim_collision(x, y).is_none()
+}
+
+/// The first row whose claims don't collide so.
+fn first_other_pair(alloc: Global, rows: &[(Near, Near, Pair)]) -> Result<Option<usize>, Fail> {
+    for (row, (x, y, pair)) in rows.iter().enumerate() {
+        if !collide(&near_claim(alloc, *x)?, &near_claim(alloc, *y)?, *pair) {
+            return Ok(Some(row));
         }
     }
+    Ok(None)
 }
 
-/// The claim of the last state of the program that puts out the byte 2a and exits with 0: its memory, its registers, its chain and its root,
-/// by an independent program in Python that carries it out and hashes its memory from scratch.
-fn claim_of_a_run(alloc: Global) -> Option<Claim> {
-    let bytes = b"\x2a".to_vec(alloc).ok()?;
-    Some(Claim {
-        mem: Digest32(
-            *b"\x2a\x6d\xe9\xff\xcf\x27\xc7\x61\x2e\x0b\xae\x4f\xeb\x45\x4d\xcc\x42\x95\xe9\xf0\x51\x81\xae\x90\x2d\x92\xdd\x19\xe0\x75\xab\xf2",
-        ),
-        regs: Digest32(
-            *b"\x71\x50\xa1\xe3\x7d\x70\x17\xca\x14\xdf\xf4\x5e\x79\x40\x9c\x74\x74\x1b\xac\x42\xea\x6b\x75\xf7\x43\x05\xcf\xc5\x18\x5a\xbf\xc2",
-        ),
-        ctl: Ctl {
-            pc: 0x10014,
-            status: Status::Exited(0),
-            out_len: 1,
-            chain: Digest32(
-                *b"\xa7\x94\x12\xe4\x11\x79\x58\x3a\x65\x7f\x07\x1b\xd0\x37\xa7\xc3\x0d\x1c\xd9\xc7\x53\x8b\x84\xce\xec\x93\x2e\x58\xd5\x06\xb0\x47",
-            ),
-        },
-        output: ClaimOutput::new(bytes)?,
-    })
-}
-
+/// The first strings that differ collide: state strings before control strings before links.
 #[test]
-fn the_claim_of_a_run_is_sound_and_has_the_root_of_its_state(rt: HostRuntime) {
-    let root = Digest32(
-        *b"\x07\x8a\xdd\x20\xbc\x2c\x81\x2f\xca\xf7\x4f\x52\x08\x28\xc1\xa8\x27\xc4\x68\xf5\x04\xd5\x83\xb6\x59\x92\xe2\x76\x24\x17\x9d\x46",
-    );
-    let judge = MachineJudge::new(Sha256, 1);
-    match claim_of_a_run(rt.alloc()) {
-        Some(claim) => {
-            assert!(rt; judge.sound(&claim) && judge.root_of(&claim) == root);
-        }
-        None => assert!(rt; false, "no claim was made"),
-    }
+fn claims_collide_in_their_first_different_strings(rt: HostRuntime) -> Result<(), Fail> {
+    let others = [
+        first_other_pair(rt.alloc(), &OF_THREE_BYTES)?,
+        first_other_pair(rt.alloc(), &OF_ONE_BYTE)?,
+    ];
+    assert_eq!(rt; others, [None; 2]);
+    Ok(())
 }

@@ -1,9 +1,8 @@
-//! Tests of `merkle_nodes`.
+//! Nodes of Merkle trees, of `merkle_nodes`.
 
 use digest_core::{Digester, Sha256, leaf_text, node_text};
 use merkle_nodes::{climb, fill_empty_nodes};
-use rd_base::Digest32;
-use std::test::Fail;
+use rd_base::{Digest32, OpenText};
 use toy_machine::first_eight;
 
 fn leaf(k: u8) -> Digest32 {
@@ -12,6 +11,11 @@ fn leaf(k: u8) -> Digest32 {
 
 fn node(left: Digest32, right: Digest32) -> Digest32 {
     Sha256.digest(node_text(&left, &right).as_slice())
+}
+
+/// Whether a leaf climbs by its path to a root.
+pub(crate) fn climbs(index: u32, leaf: &OpenText, siblings: &[Digest32], root: Digest32) -> bool {
+    climb(Sha256, index, leaf, siblings).0 == root.0
 }
 
 /// Computed by this program in Python:
@@ -27,14 +31,28 @@ fn node(left: Digest32, right: Digest32) -> Digest32 {
 fn the_empty_nodes_of_memory(rt: HostRuntime) {
     let mut nodes = [Digest32::ZERO; 28];
     fill_empty_nodes(Sha256, &leaf_text(&[0; 32]), &mut nodes);
-    for (level, want) in [
-        (0, 0x7f9c_9e31_ac82_56ca),
-        (1, 0xa4b8_c787_3a49_d5d5),
-        (5, 0xcc04_e6c4_1112_1fdb),
-        (27, 0x42cf_a9b6_ff39_0040),
-    ] {
-        assert_eq!(rt; first_eight(nodes[level]), want, "level {level}");
-    }
+    let of_levels = [
+        first_eight(nodes[0]),
+        first_eight(nodes[1]),
+        first_eight(nodes[5]),
+        first_eight(nodes[27]),
+    ];
+    assert_eq!(rt;
+        of_levels,
+        [
+            0x7f9c_9e31_ac82_56ca,
+            0xa4b8_c787_3a49_d5d5,
+            0xcc04_e6c4_1112_1fdb,
+            0x42cf_a9b6_ff39_0040,
+        ]
+    );
+}
+
+/// Whether leaf `k` climbs by a path to the root of the next test, and at another place doesn't.
+fn climbs_from_its_place(k: u8, path: &[Digest32; 3]) -> bool {
+    let text = leaf_text(&[k; 32]);
+    let root = climb(Sha256, u32::from(k), &text, path);
+    first_eight(root) == 0xf907_f23f_76aa_01b7 && !climbs(u32::from(k ^ 2), &text, path, root)
 }
 
 /// Leaf k of eight is k, 32 times. The root was computed by this program in Python:
@@ -56,15 +74,11 @@ fn each_path_climbs_to_the_root(rt: HostRuntime) {
     ];
     let low = node(pairs[0], pairs[1]);
     let high = node(pairs[2], pairs[3]);
-    for (k, path) in [
-        (0, [leaf(1), pairs[1], high]),
-        (3, [leaf(2), pairs[0], high]),
-        (5, [leaf(4), pairs[3], low]),
-        (7, [leaf(6), pairs[2], low]),
-    ] {
-        let root = climb(Sha256, k, &leaf_text(&[k as u8; 32]), &path);
-        assert_eq!(rt; first_eight(root), 0xf907_f23f_76aa_01b7, "leaf {k}");
-        let other = climb(Sha256, k ^ 2, &leaf_text(&[k as u8; 32]), &path);
-        assert!(rt; other.0 != root.0, "leaf {k} at another place");
-    }
+    let climb = [
+        climbs_from_its_place(0, &[leaf(1), pairs[1], high]),
+        climbs_from_its_place(3, &[leaf(2), pairs[0], high]),
+        climbs_from_its_place(5, &[leaf(4), pairs[3], low]),
+        climbs_from_its_place(7, &[leaf(6), pairs[2], low]),
+    ];
+    assert_eq!(rt; climb, [true; 4]);
 }

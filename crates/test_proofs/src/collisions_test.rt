@@ -1,4 +1,4 @@
-//! Collisions of two proofs by a digest function with one value, which finds them in any two different strings.
+//! Collisions of two proofs, of `open_proof`, by a digest function with one value, which finds them in any two different strings.
 
 use crate::changed::registers;
 use digest_core::{
@@ -131,20 +131,16 @@ fn proofs_collide_in_their_first_different_strings(rt: HostRuntime) {
     let base = whole(64, 1, 7, 1);
     let other = whole(96, 2, 9, 2);
     let (x, y) = (registers_text(&base.regs), registers_text(&other.regs));
-    assert!(rt; is_pair_of(base, other, &x, &y), "registers");
-    let other = whole(64, 2, 9, 2);
-    let (x, y) = (control_text(&base.ctl), control_text(&other.ctl));
-    assert!(rt; is_pair_of(base, other, &x, &y), "control");
-    let (x, y) = (node_of(7), node_of(9));
-    assert!(rt;
-        is_pair_of(base, whole(64, 1, 9, 2), &x, &y),
-        "a sibling of the fetched chunk"
-    );
-    let (x, y) = (leaf_of(1), leaf_of(2));
-    assert!(rt;
-        is_pair_of(base, whole(64, 1, 7, 2), &x, &y),
-        "the data chunk"
-    );
+    let (a, b) = (control_text(&base.ctl), control_text(&other.ctl));
+    let found = [
+        is_pair_of(base, other, &x, &y),
+        is_pair_of(base, whole(64, 2, 9, 2), &a, &b),
+        // a sibling of the fetched chunk
+        is_pair_of(base, whole(64, 1, 9, 2), &node_of(7), &node_of(9)),
+        // the data chunk
+        is_pair_of(base, whole(64, 1, 7, 2), &leaf_of(1), &leaf_of(2)),
+    ];
+    assert_eq!(rt; found, [true; 4]);
 }
 
 /// Whether two proofs have a collision from a root, for a judge of a version.
@@ -152,51 +148,46 @@ fn collide(version: u32, root: Digest32, first: &Proof, second: &Proof) -> bool 
     step_collision(DIGESTER, version, root, first, second).is_some()
 }
 
+/// Two different proofs have one; equal ones, from another root and in another version there is none.
 #[test]
 fn proofs_that_are_equal_or_open_another_root_have_no_collision(rt: HostRuntime) {
     let one = DIGESTER.digest(&[]);
     let (plain, other) = (Proof::V1(whole(64, 1, 7, 1)), Proof::V1(whole(64, 2, 9, 2)));
-    assert!(rt; collide(1, one, &plain, &other));
-    assert!(rt; !collide(1, one, &plain, &plain), "equal proofs");
-    assert!(rt; !collide(1, Digest32::ZERO, &plain, &other), "another root");
-    assert!(rt; !collide(2, one, &plain, &other), "another version");
     let base = opened(64, 5, 1);
-    assert!(rt; !collide(2, one, &base, &base), "equal proofs of version 2");
+    let have = [
+        collide(1, one, &plain, &other),
+        collide(1, one, &plain, &plain),
+        collide(1, Digest32::ZERO, &plain, &other),
+        collide(2, one, &plain, &other),
+        collide(2, one, &base, &base),
+    ];
+    assert_eq!(rt; have, [true, false, false, false, false]);
 }
 
-/// In version 2 the opened registers come between the fetched chunk and the data.
+/// In version 2 the opened registers come between the fetched chunk and the data: what one holds, a sibling, and then the data chunk.
 #[test]
 fn opened_registers_collide_in_their_place(rt: HostRuntime) {
     let base = opened(64, 5, 1);
     let (x, y) = (register_text(64), register_text(96));
-    assert!(rt;
+    let found = [
         is_pair(2, &base, &opened(96, 9, 2), &x, &y),
-        "what is held"
-    );
-    let (x, y) = (node_of(5), node_of(9));
-    assert!(rt; is_pair(2, &base, &opened(64, 9, 2), &x, &y), "a sibling");
-    let (x, y) = (leaf_of(1), leaf_of(2));
-    assert!(rt;
-        is_pair(2, &base, &opened(64, 5, 2), &x, &y),
-        "the data chunk"
-    );
+        is_pair(2, &base, &opened(64, 9, 2), &node_of(5), &node_of(9)),
+        is_pair(2, &base, &opened(64, 5, 2), &leaf_of(1), &leaf_of(2)),
+    ];
+    assert_eq!(rt; found, [true; 3]);
 }
 
-/// In version 3 the storage string comes behind the state string, and the chunk of the input last.
+/// In version 3 the storage string comes behind the state string, then a register, and the chunk of the input last.
 #[test]
 fn inputs_collide_in_their_place(rt: HostRuntime) {
     let one = DIGESTER.digest(&[]);
     let base = reading(1, 2, 1);
     let (x, y) = (storage_text(&one, 1, &one), storage_text(&one, 2, &one));
-    assert!(rt;
+    let (a, b) = (register_text(2), register_text(3));
+    let found = [
         is_pair(3, &base, &reading(2, 2, 2), &x, &y),
-        "the storage string"
-    );
-    let (x, y) = (register_text(2), register_text(3));
-    assert!(rt; is_pair(3, &base, &reading(1, 3, 2), &x, &y), "a register");
-    let (x, y) = (leaf_of(1), leaf_of(2));
-    assert!(rt;
-        is_pair(3, &base, &reading(1, 2, 2), &x, &y),
-        "the chunk of the input"
-    );
+        is_pair(3, &base, &reading(1, 3, 2), &a, &b),
+        is_pair(3, &base, &reading(1, 2, 2), &leaf_of(1), &leaf_of(2)),
+    ];
+    assert_eq!(rt; found, [true; 3]);
 }

@@ -1,13 +1,11 @@
-//! What plain proofs open, step by step: chunks, registers, chunks of the input.
-ghost use Rattle.std.specs.Prelude.{◌≤◌, length};
+//! What plain proofs open, step by step: chunks, registers, chunks of the input, of `open_proof`.
 
-use crate::machines::{machine_after, machine_of};
-use crate::programs::{DIVIDES, EDGES, JUMPS, PUTS, READS, STORES};
+use crate::machines::{climbs, machine_after};
+use crate::programs::{DIVIDES, EDGES, JUMPS, OVERWRITES, PUTS, READS, STORES};
 use digest_core::{Sha256, leaf_text, register_text};
-use merkle_nodes::climb;
 use open_proof::{Facts, HeldRegisters, facts_of, make_proof};
 use proof_wire::encode;
-use rd_base::{Answer, Boxed, Digest32, Memory, Opening, RegOpening};
+use rd_base::{Answer, Boxed, Digest32, Opening, RegOpening};
 use state_commit::Committed;
 use std::alloc::Global;
 use std::test::Fail;
@@ -17,7 +15,7 @@ use std::thread::Threads;
 fn opens(chunk: &Option<Opening>, index: Option<u32>, mem: &Digest32) -> bool {
     match chunk {
         Some(opening) => match index {
-            Some(k) => climb(Sha256, k, &leaf_text(&opening.chunk), &opening.path.0).0 == mem.0,
+            Some(k) => climbs(k, &leaf_text(&opening.chunk), &opening.path.0, *mem),
             None => false,
         },
         None => index.is_none(),
@@ -38,7 +36,7 @@ const STOPPED: Chunks = (None, None);
 const DATA: Chunks = (Some(0x800), Some(0x1000));
 
 /// Programs, and the chunks of each of their steps, by hand from their listings.
-const CHUNKS: [(&[u8], &[Chunks]); 5] = [
+const CHUNKS: [(&[u8], &[Chunks]); 6] = [
     (
         PUTS,
         &[
@@ -77,6 +75,17 @@ const CHUNKS: [(&[u8], &[Chunks]); 5] = [
             (Some(0x800), Some(0x800)),
         ],
     ),
+    (
+        OVERWRITES,
+        &[
+            FETCHED,
+            FETCHED,
+            (Some(0x800), Some(0x800)),
+            (Some(0x800), Some(0x800)),
+            FETCHED,
+            STOPPED,
+        ],
+    ),
 ];
 
 /// Whether the plain proof of a machine opens these chunks.
@@ -85,37 +94,46 @@ fn chunks_open(committed: &Committed<Sha256>, chunks: Chunks) -> bool {
     opens(&facts.fetch, chunks.0, &facts.mem) && opens(&facts.operand, chunks.1, &facts.mem)
 }
 
-/// Carries out a program in a version. Whether the proof of the i-th step opens the chunks of the i-th row.
-fn all_open<R: Threads + Sync>(
+/// The first step of a program in a version whose proof doesn't open the chunks of its row.
+fn first_other_chunks<R: Threads + Sync>(
     rt: &R,
     alloc: Global,
     version: u32,
     image: &[u8],
     rows: &[Chunks],
-) -> Result<bool, Memory>
-    requires version { (1 ≤ version) × (version ≤ 3) }
-    requires image { length image.now ≤ 256 }
-{
-    let mut committed = machine_of(rt, alloc, version, image, b"")?;
-    for chunks in rows {
+) -> Result<Option<usize>, Fail> {
+    let mut committed = machine_after(rt, alloc, version, image, b"", 0)?;
+    for (step, chunks) in rows.iter().enumerate() {
         if !chunks_open(&committed, *chunks) {
-            return Ok(false);
+            return Ok(Some(step));
         }
         committed = committed.step()?;
     }
-    Ok(true)
+    Ok(None)
+}
+
+/// The first program whose proofs open other chunks in a version, and its step.
+fn first_other_program<R: Threads + Sync>(
+    rt: &R,
+    alloc: Global,
+    version: u32,
+) -> Result<Option<(usize, usize)>, Fail> {
+    for (row, (image, rows)) in CHUNKS.iter().enumerate() {
+        if let Some(step) = first_other_chunks(rt, alloc, version, *image, *rows)? {
+            return Ok(Some((row, step)));
+        }
+    }
+    Ok(None)
 }
 
 #[test]
 fn proofs_of_each_step_open_the_chunks_that_the_step_reads(rt: HostRuntime) -> Result<(), Fail> {
-    for (image, rows) in CHUNKS {
-        assert!(rt; image.len() <= 256);
-        for version in [1, 2, 3] {
-            assert!(rt; version >= 1 && version <= 3);
-            let all = all_open(&rt, rt.alloc(), version, image, rows)?;
-            assert!(rt; all, "{image:?} in version {version}");
-        }
-    }
+    let others = [
+        first_other_program(&rt, rt.alloc(), 1)?,
+        first_other_program(&rt, rt.alloc(), 2)?,
+        first_other_program(&rt, rt.alloc(), 3)?,
+    ];
+    assert_eq!(rt; others, [None; 3]);
     Ok(())
 }
 
@@ -125,13 +143,12 @@ fn each_opens(named: &[u8], opened: &[RegOpening], root: &Digest32) -> bool {
         return false;
     }
     for (reg, opening) in named.iter().zip(opened.iter()) {
-        let climbed = climb(
-            Sha256,
+        if !climbs(
             u32::from(*reg),
             &register_text(opening.value),
             &opening.path.0,
-        );
-        if climbed.0 != root.0 {
+            *root,
+        ) {
             return false;
         }
     }
@@ -146,25 +163,22 @@ fn registers_open(facts: &Facts, named: &[u8]) -> bool {
     }
 }
 
-/// Carries out a program in a version. Whether the proof of the i-th step opens the registers of the i-th row.
-fn names_open<R: Threads + Sync>(
+/// The first step of a program in a version whose proof doesn't open the registers of its row.
+fn first_other_names<R: Threads + Sync>(
     rt: &R,
     alloc: Global,
     version: u32,
     image: &[u8],
     rows: &[&[u8]],
-) -> Result<bool, Memory>
-    requires version { (1 ≤ version) × (version ≤ 3) }
-    requires image { length image.now ≤ 256 }
-{
-    let mut committed = machine_of(rt, alloc, version, image, b"")?;
-    for named in rows {
+) -> Result<Option<usize>, Fail> {
+    let mut committed = machine_after(rt, alloc, version, image, b"", 0)?;
+    for (step, named) in rows.iter().enumerate() {
         if !registers_open(&facts_of(&make_proof(&committed)), *named) {
-            return Ok(false);
+            return Ok(Some(step));
         }
         committed = committed.step()?;
     }
-    Ok(true)
+    Ok(None)
 }
 
 /// The registers that the instructions of `PUTS` and of `STORES` name, by hand; `x0` is none of them.
@@ -184,13 +198,14 @@ const NAMED_BY_STORES: [&[u8]; 9] = [
 
 #[test]
 fn proofs_open_the_registers_that_are_named(rt: HostRuntime) -> Result<(), Fail> {
-    for version in [2, 3] {
-        assert!(rt; version >= 1 && version <= 3);
-        let puts = names_open(&rt, rt.alloc(), version, PUTS, &NAMED_BY_PUTS)?;
-        assert!(rt; puts, "puts out a byte in version {version}");
-        let stores = names_open(&rt, rt.alloc(), version, STORES, &NAMED_BY_STORES)?;
-        assert!(rt; stores, "stores in version {version}");
-    }
+    let alloc = rt.alloc();
+    let others = [
+        first_other_names(&rt, alloc, 2, PUTS, &NAMED_BY_PUTS)?,
+        first_other_names(&rt, alloc, 3, PUTS, &NAMED_BY_PUTS)?,
+        first_other_names(&rt, alloc, 2, STORES, &NAMED_BY_STORES)?,
+        first_other_names(&rt, alloc, 3, STORES, &NAMED_BY_STORES)?,
+    ];
+    assert_eq!(rt; others, [None; 4]);
     Ok(())
 }
 
@@ -201,25 +216,30 @@ fn input_opens(facts: &Facts, index: Option<u32>) -> bool {
     };
     match &facts.input {
         Some(opening) => match index {
-            Some(k) => {
-                climb(Sha256, k, &leaf_text(&opening.chunk), &opening.path.0).0 == tree.root.0
-            }
+            Some(k) => climbs(k, &leaf_text(&opening.chunk), &opening.path.0, tree.root),
             None => false,
         },
         None => index.is_none(),
     }
 }
 
+/// The first of twelve steps of `READS` over one byte whose proof opens another chunk of the input.
+fn first_other_input<R: Threads + Sync>(rt: &R, alloc: Global) -> Result<Option<u32>, Fail> {
+    let mut committed = machine_after(rt, alloc, 3, READS, b"A", 0)?;
+    for step in 0..12 {
+        let wanted = if step == 2 { Some(0) } else { None };
+        if !input_opens(&facts_of(&make_proof(&committed)), wanted) {
+            return Ok(Some(step));
+        }
+        committed = committed.step()?;
+    }
+    Ok(None)
+}
+
 /// Of the two calls that read the input only the first asks for a byte that it has.
 #[test]
 fn proofs_open_the_chunk_of_the_input_that_is_read(rt: HostRuntime) -> Result<(), Fail> {
-    let mut committed = machine_of(&rt, rt.alloc(), 3, READS, b"A")?;
-    for step in 0..12 {
-        let facts = facts_of(&make_proof(&committed));
-        let wanted = if step == 2 { Some(0) } else { None };
-        assert!(rt; input_opens(&facts, wanted), "step {step}");
-        committed = committed.step()?;
-    }
+    assert_eq!(rt; first_other_input(&rt, rt.alloc())?, None);
     Ok(())
 }
 
@@ -231,11 +251,7 @@ fn length_after<R: Threads + Sync>(
     image: &[u8],
     input: &[u8],
     steps: u32,
-) -> Result<usize, Fail>
-    requires version { (1 ≤ version) × (version ≤ 3) }
-    requires image { length image.now ≤ 256 }
-    requires input { length input.now ≤ 256 }
-{
+) -> Result<usize, Fail> {
     let proof = make_proof(&machine_after(rt, alloc, version, image, input, steps)?);
     let answer = Answer::Step(Boxed::new(Box::new(alloc, proof)?));
     Ok(encode(alloc, &answer)?.len())
@@ -245,8 +261,11 @@ fn length_after<R: Threads + Sync>(
 #[test]
 fn proofs_have_the_lengths_of_what_they_open(rt: HostRuntime) -> Result<(), Fail> {
     let alloc = rt.alloc();
-    assert_eq!(rt; length_after(&rt, alloc, 2, PUTS, b"", 6)?, 116);
-    assert_eq!(rt; length_after(&rt, alloc, 2, STORES, b"", 2)?, 2236);
-    assert_eq!(rt; length_after(&rt, alloc, 3, READS, b"A", 2)?, 1888);
+    let lengths = [
+        length_after(&rt, alloc, 2, PUTS, b"", 6)?,
+        length_after(&rt, alloc, 2, STORES, b"", 2)?,
+        length_after(&rt, alloc, 3, READS, b"A", 2)?,
+    ];
+    assert_eq!(rt; lengths, [116, 2236, 1888]);
     Ok(())
 }

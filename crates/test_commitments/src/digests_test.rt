@@ -1,11 +1,11 @@
-//! Tests of `digest_core`.
+//! Digested strings, of `digest_core`.
 
-use byteorder::{BigEndian, ByteOrder, LittleEndian};
 use digest_core::{
-    Digester, Sha256, control_text, leaf_text, link, link_text, node_text, registers_text,
-    state_text,
+    Digester, Sha256, control_text, leaf_text, link, link_text, node_text, register_text,
+    registers_text, state_text, storage_text,
 };
 use rd_base::{Ctl, Digest32, OpenText, Regs, Status};
+use toy_machine::first_eight;
 
 /// The parts of the strings of row `n` are digests of `n` and a number, and numbers from their first bytes.
 fn part(n: u8, k: u8) -> Digest32 {
@@ -13,7 +13,13 @@ fn part(n: u8, k: u8) -> Digest32 {
 }
 
 fn number(n: u8, k: u8) -> u32 {
-    LittleEndian::read_u32(&part(n, k).0)
+    let [a, b, c, d, ..] = part(n, k).0;
+    u32::from_le_bytes([a, b, c, d])
+}
+
+fn length(n: u8) -> u64 {
+    let [a, b, c, d, e, f, g, h, ..] = part(n, 2).0;
+    u64::from_le_bytes([a, b, c, d, e, f, g, h])
 }
 
 fn registers(n: u8) -> Regs {
@@ -33,7 +39,7 @@ fn control(n: u8) -> Ctl {
     Ctl {
         pc: number(n, 0),
         status,
-        out_len: LittleEndian::read_u64(&part(n, 2).0),
+        out_len: length(n),
         chain: part(n, 3),
     }
 }
@@ -49,7 +55,37 @@ fn text_of_kind(kind: usize, n: u8) -> OpenText {
     }
 }
 
-/// The first eight bytes of the digests of 17 strings of each kind, as this program in Python makes them:
+/// The digest of the string of a kind; of the kind 6 the link that has the string of kind 5.
+fn digest_of_kind(kind: usize, n: u8) -> Digest32 {
+    if kind == 6 {
+        link(Sha256, part(n, 0), n)
+    } else {
+        Sha256.digest(text_of_kind(kind, n).as_slice())
+    }
+}
+
+/// The links of the table below.
+const LINKS: [u64; 17] = [
+    0x2bf8c9fce94e3929,
+    0x51c45380bceab18b,
+    0xaed604b78a75dce1,
+    0xa562251a15dc874f,
+    0x65c7fdbec45d7cd5,
+    0xaa750fd01ff2554e,
+    0x38a3b0daf8169950,
+    0x7b200c9352860f2e,
+    0x2e32f463027dbc72,
+    0x9c317c64c53d1492,
+    0x8f1cad876de3a452,
+    0x30b53db86682ec90,
+    0x86a423467caf7df4,
+    0xd95f937e138bd25b,
+    0x3fac660288b6db31,
+    0xd161eba159ceead8,
+    0xacf1997de7970412,
+];
+
+/// The first eight bytes of the digests of 17 strings of each kind, and of 17 links, as this program in Python makes them:
 ///
 /// ```python
 ///     import hashlib
@@ -68,7 +104,7 @@ fn text_of_kind(kind: usize, n: u8) -> OpenText {
 ///     for text in kinds:
 ///         print([f'0x{sha(text(n)).hex()[:16]}' for n in range(17)])
 /// ```
-const FIRST_EIGHT_BYTES: [[u64; 17]; 6] = [
+const FIRST_EIGHT_BYTES: [[u64; 17]; 7] = [
     [
         0xd37300dc2c6e038a,
         0x031c495bf815cbe8,
@@ -164,49 +200,25 @@ const FIRST_EIGHT_BYTES: [[u64; 17]; 6] = [
         0x8dc22d9b4b4bad2d,
         0xd494c7824342465c,
     ],
-    [
-        0x2bf8c9fce94e3929,
-        0x51c45380bceab18b,
-        0xaed604b78a75dce1,
-        0xa562251a15dc874f,
-        0x65c7fdbec45d7cd5,
-        0xaa750fd01ff2554e,
-        0x38a3b0daf8169950,
-        0x7b200c9352860f2e,
-        0x2e32f463027dbc72,
-        0x9c317c64c53d1492,
-        0x8f1cad876de3a452,
-        0x30b53db86682ec90,
-        0x86a423467caf7df4,
-        0xd95f937e138bd25b,
-        0x3fac660288b6db31,
-        0xd161eba159ceead8,
-        0xacf1997de7970412,
-    ],
+    LINKS,
+    LINKS,
 ];
 
-#[test]
-fn strings_of_each_kind_have_the_digests_of_another_program(rt: HostRuntime) {
+/// The first kind and row whose digest isn't that of the table.
+fn first_other() -> Option<(usize, u8)> {
     for (kind, row) in FIRST_EIGHT_BYTES.iter().enumerate() {
         for n in 0..17u8 {
-            let digest = Sha256.digest(text_of_kind(kind, n).as_slice());
-            let want = row[usize::from(n)];
-            assert_eq!(rt;
-                BigEndian::read_u64(&digest.0),
-                want,
-                "kind {kind}, row {n}"
-            );
+            if first_eight(digest_of_kind(kind, n)) != row[usize::from(n)] {
+                return Some((kind, n));
+            }
         }
     }
+    None
 }
 
 #[test]
-fn a_link_is_the_digest_of_its_string(rt: HostRuntime) {
-    for n in 0..17u8 {
-        let chain = link(Sha256, part(n, 0), n);
-        let want = FIRST_EIGHT_BYTES[5][usize::from(n)];
-        assert_eq!(rt; BigEndian::read_u64(&chain.0), want, "row {n}");
-    }
+fn strings_and_links_have_the_digests_of_another_program(rt: HostRuntime) {
+    assert_eq!(rt; first_other(), None);
 }
 
 /// 'abc', which FIPS 180-4's published examples have, and the empty message.
@@ -216,6 +228,43 @@ fn sha_256_of_abc_and_of_nothing(rt: HostRuntime) {
         b"\xba\x78\x16\xbf\x8f\x01\xcf\xea\x41\x41\x40\xde\x5d\xae\x22\x23\xb0\x03\x61\xa3\x96\x17\x7a\x9c\xb4\x10\xff\x61\xf2\x00\x15\xad";
     let nothing =
         b"\xe3\xb0\xc4\x42\x98\xfc\x1c\x14\x9a\xfb\xf4\xc8\x99\x6f\xb9\x24\x27\xae\x41\xe4\x64\x9b\x93\x4c\xa4\x95\x99\x1b\x78\x52\xb8\x55";
-    assert_eq!(rt; Sha256.digest(b"abc").0.as_slice(), abc.as_slice());
-    assert_eq!(rt; Sha256.digest(b"").0.as_slice(), nothing.as_slice());
+    assert!(rt; Sha256.digest(b"abc").0 == *abc && Sha256.digest(b"").0 == *nothing);
+}
+
+/// The first eight bytes of the digest of a string.
+fn eight_of(text: OpenText) -> u64 {
+    first_eight(Sha256.digest(text.as_slice()))
+}
+
+/// The digests were computed in Python, with `from hashlib import sha256`:
+///
+/// ```python
+///     for value in 0, 1, 0x12345678, 0xffffffff:
+///         print(sha256(b'\7' + value.to_bytes(4, 'little')).hexdigest()[:16])
+///     print(sha256(b'\10' + 32 * b'\1' + 0x01020304.to_bytes(4, 'little') + 32 * b'\2').hexdigest()[:16])
+/// ```
+#[test]
+fn a_register_and_a_storage_have_strings_of_their_own(rt: HostRuntime) {
+    let storage = storage_text(&Digest32([1; 32]), 0x0102_0304, &Digest32([2; 32]));
+    assert!(rt;
+        register_text(0x1234_5678).as_slice() == b"\x07\x78\x56\x34\x12".as_slice()
+            && storage.as_slice().len() == 69
+    );
+    let digests = [
+        eight_of(register_text(0)),
+        eight_of(register_text(1)),
+        eight_of(register_text(0x1234_5678)),
+        eight_of(register_text(0xffff_ffff)),
+        eight_of(storage),
+    ];
+    assert_eq!(rt;
+        digests,
+        [
+            0xe16a_b60a_a1ee_b707,
+            0xcf8a_902c_6da1_0e1e,
+            0xd10d_8dd4_4c13_c586,
+            0xa748_6cf0_3e73_27c9,
+            0x5656_c63e_0bc0_22bf,
+        ]
+    );
 }

@@ -1,0 +1,243 @@
+//! The tree of memory, of `mem_tree`.
+ghost use Rattle.std.specs.Prelude.{◌≡◌, []};
+
+use crate::nodes_test::climbs;
+use digest_core::{Sha256, leaf_text};
+use mem_plain::PlainMem;
+use mem_tree::MemTree;
+use rd_base::Memory;
+use std::alloc::Global;
+use std::test::Fail;
+use std::thread::Threads;
+use toy_machine::first_eight;
+
+/// What is done to a memory and its tree, or asked of them. A tree is refreshed before it is asked, and what is asked of it is asked of
+/// one that is built anew too.
+#[derive(Clone, Copy)]
+enum Act {
+    /// A byte is stored at an address.
+    Byte(u32, u32),
+    /// A word is stored at an address, which is a multiple of 4.
+    Word(u32, u32),
+    /// The root begins with these eight bytes.
+    Root(u64),
+    /// The tree has the root of one that is built anew.
+    Same,
+    /// The subtree of a page is kept.
+    Kept(u32),
+    /// The subtree of a page isn't kept.
+    Dropped(u32),
+    /// The path of a chunk climbs to the root.
+    Climbs(u32),
+}
+
+/// Stores what an act says, and touches the page; `false` if it stores nothing.
+fn stores(mem: &mut PlainMem, tree: &mut MemTree<Sha256>, act: Act) -> Result<bool, Memory> {
+    match act {
+        Act::Byte(addr, byte) => {
+            mem.store(addr, 1, byte)?;
+            tree.touch(addr / 4096)?;
+            Ok(true)
+        }
+        Act::Word(addr, value) => {
+            mem.store(4 * (addr / 4), 4, value)?;
+            tree.touch(addr / 4096)?;
+            Ok(true)
+        }
+        _ => Ok(false),
+    }
+}
+
+/// Whether a tree without a touched page is as an act says.
+fn is_so(mem: &PlainMem, tree: &MemTree<Sha256>, other: &MemTree<Sha256>, act: Act) -> bool
+    requires tree { tree.now.touched ≡ [] }
+    requires other { other.now.touched ≡ [] }
+{
+    match act {
+        Act::Root(want) => first_eight(tree.root()) == want,
+        Act::Same => tree.root().0 == other.root().0,
+        Act::Kept(page) => tree.is_kept(page),
+        Act::Dropped(page) => !tree.is_kept(page),
+        Act::Climbs(chunk) => {
+            let chunk = chunk % 0x800_0000;
+            let text = leaf_text(&mem.chunk(chunk));
+            climbs(chunk, &text, &tree.path(chunk).0, tree.root())
+        }
+        _ => true,
+    }
+}
+
+/// Does an act, and whether what it asks is so.
+fn holds<R: Threads + Sync>(
+    rt: &R,
+    alloc: Global,
+    mem: &mut PlainMem,
+    tree: &mut MemTree<Sha256>,
+    act: Act,
+) -> Result<bool, Memory> {
+    if stores(mem, tree, act)? {
+        return Ok(true);
+    }
+    tree.refresh(mem)?;
+    let built = MemTree::build(rt, alloc, Sha256, mem)?;
+    Ok(is_so(mem, tree, &built, act) && is_so(mem, &built, tree, act))
+}
+
+/// The first of these acts on an empty memory that doesn't hold.
+fn first_failed<R: Threads + Sync>(
+    rt: &R,
+    alloc: Global,
+    acts: &[Act],
+) -> Result<Option<usize>, Memory> {
+    let mut mem = PlainMem::new(alloc);
+    let mut tree = MemTree::build(rt, alloc, Sha256, &mem)?;
+    for (k, act) in acts.iter().enumerate() {
+        if !holds(rt, alloc, &mut mem, &mut tree, *act)? {
+            return Ok(Some(k));
+        }
+    }
+    Ok(None)
+}
+
+/// The root of a memory of zeros.
+const EMPTY: u64 = 0x42cf_a9b6_ff39_0040;
+
+/// Computed by this program in Python:
+///
+/// ```python
+///     from hashlib import sha256
+///     leaf = lambda chunk: sha256(b'\0' + bytes(chunk)).digest()
+///     node = lambda a, b: sha256(b'\1' + a + b).digest()
+///     empty = [leaf(bytes(32))]
+///     for level in range(27):
+///         empty.append(node(empty[level], empty[level]))
+///
+///     def root(memory):
+///         nodes = {}
+///         for address, byte in memory.items():
+///             nodes.setdefault(address // 32, bytearray(32))[address % 32] = byte
+///         nodes = {k: leaf(chunk) for k, chunk in nodes.items()}
+///         for level in range(27):
+///             at = lambda k: nodes.get(k, empty[level])
+///             nodes = {k // 2: node(at(k & ~1), at(k | 1)) for k in nodes}
+///         return nodes.get(0, empty[27])
+///
+///     for memory in {}, {0: 1}, {0xffffffff: 0xff}, {0x1000: 7, 0x70000000: 9}:
+///         print(root(memory).hex()[:16])
+/// ```
+#[test]
+fn the_root_is_that_of_the_definition(rt: HostRuntime) -> Result<(), Fail> {
+    let alloc = rt.alloc();
+    let low = [Act::Byte(0, 1), Act::Root(0x23b1_1f6d_3ba0_f407)];
+    let last = [
+        Act::Byte(0xffff_ffff, 0xff),
+        Act::Root(0xd234_c9d9_c27f_443f),
+    ];
+    let two = [
+        Act::Byte(0x1000, 7),
+        Act::Byte(0x7000_0000, 9),
+        Act::Root(0xfa77_0ae9_3af5_19f8),
+    ];
+    let failed = [
+        first_failed(&rt, alloc, &[Act::Root(EMPTY)])?,
+        first_failed(&rt, alloc, &low)?,
+        first_failed(&rt, alloc, &last)?,
+        first_failed(&rt, alloc, &two)?,
+    ];
+    assert_eq!(rt; failed, [None; 4]);
+    Ok(())
+}
+
+/// Chunks of pages that are kept, and of such as are not, next to these and far from them.
+#[test]
+fn each_path_climbs_to_the_root(rt: HostRuntime) -> Result<(), Fail> {
+    let acts = [
+        Act::Byte(0x0000_0fe0, 1),
+        Act::Byte(0x7000_0020, 2),
+        Act::Byte(0xffff_ffff, 3),
+        Act::Climbs(0x7f),
+        Act::Climbs(0),
+        Act::Climbs(1),
+        Act::Climbs(0x80),
+        Act::Climbs(0x100),
+        Act::Climbs(0x380_0001),
+        Act::Climbs(0x380_0000),
+        Act::Climbs(0x37f_ffff),
+        Act::Climbs(0x7ff_ffff),
+        Act::Climbs(0x7ff_ff80),
+        Act::Climbs(0x7ff_ff7f),
+        Act::Climbs(0x555_5555),
+    ];
+    assert_eq!(rt; first_failed(&rt, rt.alloc(), &acts)?, None);
+    Ok(())
+}
+
+#[test]
+fn a_page_filled_with_zeros_is_no_longer_kept(rt: HostRuntime) -> Result<(), Fail> {
+    let acts = [
+        Act::Word(0x1234_5678, 0x0403_0201),
+        Act::Kept(0x12345),
+        Act::Dropped(0x12344),
+        Act::Word(0x1234_5678, 0),
+        Act::Root(EMPTY),
+        Act::Dropped(0x12345),
+        Act::Word(0x1234_5678, 0x0403_0201),
+        Act::Kept(0x12345),
+        Act::Same,
+    ];
+    assert_eq!(rt; first_failed(&rt, rt.alloc(), &acts)?, None);
+    Ok(())
+}
+
+/// The next of a fixed sequence of numbers that look random (Numerical Recipes' multiplier and increment).
+fn next(seed: u32) -> u32 {
+    seed.wrapping_mul(1_664_525).wrapping_add(1_013_904_223)
+}
+
+/// One of 16 bytes of one of 32 pages, some beside one another and some far apart.
+fn address(seed: u32) -> u32 {
+    let page = (seed >> 27) % 4 + 0x4000 * ((seed >> 24) % 8);
+    4096 * (page % 0x10_0000) + (seed >> 8) % 16
+}
+
+/// Whether a tree is that of the memory after a round of stores: after each third one by the path of a chunk, and after each twentieth by
+/// its root too.
+fn is_right_after<R: Threads + Sync>(
+    rt: &R,
+    alloc: Global,
+    mem: &mut PlainMem,
+    tree: &mut MemTree<Sha256>,
+    round: u32,
+    chunk: u32,
+) -> Result<bool, Memory> {
+    let last = round % 20 == 19;
+    if last && !holds(rt, alloc, mem, tree, Act::Same)? {
+        return Ok(false);
+    }
+    if last || round % 3 == 0 {
+        return holds(rt, alloc, mem, tree, Act::Climbs(chunk));
+    }
+    Ok(true)
+}
+
+/// The first of 100 rounds of stores after which the tree isn't that of the memory.
+fn first_failed_round<R: Threads + Sync>(rt: &R, alloc: Global) -> Result<Option<u32>, Memory> {
+    let mut mem = PlainMem::new(alloc);
+    let mut tree = MemTree::build(rt, alloc, Sha256, &mem)?;
+    let mut seed = 7;
+    for round in 0..100u32 {
+        seed = next(seed);
+        let addr = address(seed);
+        stores(&mut mem, &mut tree, Act::Byte(addr, (seed >> 16) % 2))?;
+        if !is_right_after(rt, alloc, &mut mem, &mut tree, round, addr / 32)? {
+            return Ok(Some(round));
+        }
+    }
+    Ok(None)
+}
+
+#[test]
+fn refreshes_between_stores_give_the_tree_of_a_build(rt: HostRuntime) -> Result<(), Fail> {
+    assert_eq!(rt; first_failed_round(&rt, rt.alloc())?, None);
+    Ok(())
+}
