@@ -96,81 +96,116 @@ const BROKEN_PIPE: Turn = Turn::Fails(ErrorKind::BrokenPipe);
 
 const FULL: Turn = Turn::Fails(ErrorKind::StorageFull);
 
-#[test]
-fn reading_stops_at_the_end_and_once_the_limit_is_passed(rt: HostRuntime) -> Result<(), Fail> {
-    // The piece of each call, the limit, whether all fits, and the last call: the one after it would fail.
-    for (piece, limit, fits, last) in [
-        (1, 0, false, 1),
-        (1, 11, false, 12),
-        (1, 12, true, 13),
-        (7, 0, false, 1),
-        (7, 11, false, 2),
-        (7, 12, true, 3),
-        (7, 13, true, 3),
-        (4096, 11, false, 1),
-        (4096, 12, true, 2),
-    ] {
-        assert!(rt; piece >= 1);
-        let mut source = MemSource::new(
-            TEXT.to_vec(rt.alloc())?,
-            piece,
-            vec![in rt.alloc(); last + 1]?,
-        );
-        match read_all(rt.alloc(), &mut source, limit) {
-            Ok(all) => {
-                assert!(rt; fits, "limit {limit}, piece {piece}");
-                assert_eq!(rt; all.as_slice(), TEXT);
-            }
-            Err(ReadAll::TooLong) => assert!(rt; !fits, "limit {limit}, piece {piece}"),
-            Err(e) => return Err(e.into()),
+/// The piece of each call, the limit, whether all fits, and the call after the last one, which would fail.
+const LIMITS: [(usize, usize, bool, u64); 9] = [
+    (1, 0, false, 2),
+    (1, 11, false, 13),
+    (1, 12, true, 14),
+    (7, 0, false, 2),
+    (7, 11, false, 3),
+    (7, 12, true, 4),
+    (7, 13, true, 4),
+    (4096, 11, false, 2),
+    (4096, 12, true, 3),
+];
+
+/// Whether a read in such pieces gives all, or is too long, and makes no call that fails.
+fn stops(
+    alloc: Global,
+    piece: usize,
+    limit: usize,
+    fits: bool,
+    failing: u64,
+) -> Result<bool, Fail> {
+    let fails = vec![in alloc; failing]?;
+    let mut source = MemSource::new(TEXT.to_vec(alloc)?, piece.max(1), fails);
+    let as_wanted = match read_all(alloc, &mut source, limit) {
+        Ok(all) => fits && all.as_slice() == TEXT,
+        Err(ReadAll::TooLong) => !fits,
+        Err(_) => false,
+    };
+    Ok(as_wanted && source.faults() == 0)
+}
+
+/// The first row of limits that isn't kept.
+fn first_other_limit(alloc: Global) -> Result<Option<usize>, Fail> {
+    for (row, (piece, limit, fits, failing)) in LIMITS.iter().enumerate() {
+        if !stops(alloc, *piece, *limit, *fits, *failing)? {
+            return Ok(Some(row));
         }
-        assert_eq!(rt; source.faults(), 0, "limit {limit}, piece {piece}");
     }
-    Ok(())
+    Ok(None)
 }
 
 #[test]
-fn a_failed_read_is_no_end_of_input_and_takes_nothing(rt: HostRuntime) -> Result<(), Fail> {
-    // The first call, the second, and the third, which would show the end of input.
-    for (call, rest) in [(1, "hello, world"), (2, "world"), (3, "")] {
-        let bytes = TEXT.to_vec(rt.alloc())?;
-        let mut source = MemSource::new(bytes, 7, vec![in rt.alloc(); call]?);
-        let first = read_all(rt.alloc(), &mut source, 12);
-        assert!(rt; matches!(first, Err(ReadAll::Fault)), "call {call}");
-        assert_eq!(rt; source.faults(), 1);
-        let second = read_all(rt.alloc(), &mut source, 12)?;
-        assert_eq!(rt; second.as_slice(), rest.as_bytes());
-        assert_eq!(rt; source.faults(), 1);
-    }
+fn reading_stops_at_the_end_and_once_the_limit_is_passed(rt: HostRuntime) -> Result<(), Fail> {
+    assert_eq!(rt; first_other_limit(rt.alloc())?, None);
     Ok(())
+}
+
+/// Whether a read of which this call fails is a fault, and the next one gives the rest.
+fn fails_and_reads_on(alloc: Global, call: u64, rest: &[u8]) -> Result<bool, Fail> {
+    let mut source = MemSource::new(TEXT.to_vec(alloc)?, 7, vec![in alloc; call]?);
+    let failed = match read_all(alloc, &mut source, 12) {
+        Err(ReadAll::Fault) => source.faults() == 1,
+        _ => false,
+    };
+    let second = read_all(alloc, &mut source, 12)?;
+    Ok(failed && second.as_slice() == rest && source.faults() == 1)
+}
+
+/// The first call, the second, and the third, which would show the end of input.
+#[test]
+fn a_failed_read_is_no_end_of_input_and_takes_nothing(rt: HostRuntime) -> Result<(), Fail> {
+    let alloc = rt.alloc();
+    let failed = [
+        fails_and_reads_on(alloc, 1, b"hello, world")?,
+        fails_and_reads_on(alloc, 2, b"world")?,
+        fails_and_reads_on(alloc, 3, b"")?,
+    ];
+    assert_eq!(rt; failed, [true; 3]);
+    Ok(())
+}
+
+/// The piece of each call, the room of the sink, the call that fails, and how many bytes it holds then. Calls are counted from 1, so that none
+/// fails at 0.
+const ROOMS: [(usize, usize, u64, usize); 9] = [
+    (1, 12, 0, 12),
+    (7, 12, 0, 12),
+    (4096, 13, 0, 12),
+    (1, 12, 3, 2),
+    (7, 12, 2, 7),
+    (4096, 12, 1, 0),
+    (1, 5, 0, 5),
+    (7, 11, 0, 11),
+    (4096, 0, 0, 0),
+];
+
+/// Whether a sink holds this many bytes of the text after it was written, and a fault if and only if that isn't all.
+fn holds(alloc: Global, piece: usize, room: usize, call: u64, held: usize) -> Result<bool, Fail> {
+    let fails = vec![in alloc; call]?;
+    let mut sink = MemSink::new(alloc, room, piece.max(1), fails)?;
+    let is_whole = write_all(&mut sink, TEXT).is_ok();
+    Ok(
+        is_whole == (held == 12)
+            && TEXT.get(..held) == Some(sink.as_slice())
+            && sink.faults() == u64::from(!is_whole),
+    )
+}
+
+/// The first row of rooms whose sink holds something else.
+fn first_other_room(alloc: Global) -> Result<Option<usize>, Fail> {
+    for (row, (piece, room, call, held)) in ROOMS.iter().enumerate() {
+        if !holds(alloc, *piece, *room, *call, *held)? {
+            return Ok(Some(row));
+        }
+    }
+    Ok(None)
 }
 
 #[test]
 fn a_sink_holds_all_or_after_a_fault_a_prefix(rt: HostRuntime) -> Result<(), Fail> {
-    // Calls are counted from 1, so that none fails at 0.
-    for (piece, room, call, held) in [
-        (1, 12, 0, "hello, world"),
-        (7, 12, 0, "hello, world"),
-        (4096, 13, 0, "hello, world"),
-        (1, 12, 3, "he"),
-        (7, 12, 2, "hello, "),
-        (4096, 12, 1, ""),
-        (1, 5, 0, "hello"),
-        (7, 11, 0, "hello, worl"),
-        (4096, 0, 0, ""),
-    ] {
-        assert!(rt; piece >= 1);
-        let fails = vec![in rt.alloc(); call]?;
-        let mut sink = MemSink::new(rt.alloc(), room, piece, fails)?;
-        let is_whole = held.len() == 12;
-        assert_eq!(rt;
-            write_all(&mut sink, TEXT).is_ok(),
-            is_whole,
-            "piece {piece}, room {room}"
-        );
-        assert_eq!(rt; sink.as_slice(), held.as_bytes());
-        assert_eq!(rt; sink.faults(), u64::from(!is_whole));
-    }
+    assert_eq!(rt; first_other_room(rt.alloc())?, None);
     Ok(())
 }
 
@@ -196,12 +231,20 @@ const READS: [(&[Turn], Option<usize>, usize); 8] = [
     (&[INTERRUPTED, WOULD_BLOCK, FIVE], None, 2),
 ];
 
+/// The first row of reads that answers something else, or counts otherwise.
+fn first_other_read() -> Option<usize> {
+    for (row, (turns, answer, calls)) in READS.iter().enumerate() {
+        let faults = u64::from(answer.is_none());
+        if read_once(*turns) != (*answer, faults, *calls) {
+            return Some(row);
+        }
+    }
+    None
+}
+
 #[test]
 fn a_read_is_short_or_interrupted_or_a_fault(rt: HostRuntime) {
-    for (turns, answer, calls) in READS {
-        let faults = u64::from(answer.is_none());
-        assert_eq!(rt; read_once(turns), (answer, faults, calls), "{turns:?}");
-    }
+    assert_eq!(rt; first_other_read(), None);
 }
 
 /// How many calls and how many flushes are made, and how many bytes move.
@@ -245,16 +288,20 @@ const WRITES: [(&[Turn], &[Turn], Option<usize>, Counts); 11] = [
     (&[ALL], &[FULL], None, (1, 1, 12)),
 ];
 
+/// The first row of writes that answers something else, or counts otherwise.
+fn first_other_write() -> Option<usize> {
+    for (row, (turns, flushes, answer, counts)) in WRITES.iter().enumerate() {
+        let faults = u64::from(answer.is_none());
+        if written_once(*turns, *flushes) != (*answer, faults, *counts) {
+            return Some(row);
+        }
+    }
+    None
+}
+
 #[test]
 fn a_write_is_short_or_interrupted_or_a_fault(rt: HostRuntime) {
-    for (turns, flushes, answer, counts) in WRITES {
-        let faults = u64::from(answer.is_none());
-        assert_eq!(rt;
-            written_once(turns, flushes),
-            (answer, faults, counts),
-            "{turns:?} {flushes:?}"
-        );
-    }
+    assert_eq!(rt; first_other_write(), None);
 }
 
 /// Whether a whole write to such a device succeeds, how many faults are counted, and how many calls are made.
@@ -266,23 +313,18 @@ fn written_whole(turns: &'static [Turn]) -> (bool, u64, usize) {
     (is_written, faults, device.calls)
 }
 
-const WHOLE_WRITES: [(&[Turn], bool, usize); 4] = [
-    (&[FIVE, INTERRUPTED, FIVE, NOTHING], false, 4),
-    (&[FIVE, WOULD_BLOCK, FIVE], false, 2),
-    (&[FIVE, Turn::Moves(4), Turn::Moves(3)], true, 3),
-    (&[ALL, NOTHING], true, 1),
-];
-
 #[test]
 fn pieces_are_written_until_all_is_done_or_a_call_fails(rt: HostRuntime) {
-    for (turns, is_written, calls) in WHOLE_WRITES {
-        let faults = u64::from(!is_written);
-        assert_eq!(rt;
-            written_whole(turns),
-            (is_written, faults, calls),
-            "{turns:?}"
-        );
-    }
+    let written = [
+        written_whole(&[FIVE, INTERRUPTED, FIVE, NOTHING]),
+        written_whole(&[FIVE, WOULD_BLOCK, FIVE]),
+        written_whole(&[FIVE, Turn::Moves(4), Turn::Moves(3)]),
+        written_whole(&[ALL, NOTHING]),
+    ];
+    assert_eq!(rt;
+        written,
+        [(false, 1, 4), (false, 1, 2), (true, 0, 3), (true, 0, 1)]
+    );
 }
 
 /// What a whole read of at most 10 bytes from such a device comes to, in short, and how many calls are made.
@@ -297,54 +339,51 @@ fn read_whole(alloc: Global, turns: &'static [Turn]) -> (Result<usize, &'static 
     (read, device.calls)
 }
 
-const WHOLE_READS: [(&[Turn], Result<usize, &str>, usize); 4] = [
-    (&[FIVE, INTERRUPTED, FIVE, NOTHING], Ok(10), 4),
-    (&[FIVE, WOULD_BLOCK, FIVE], Err("fault"), 2),
-    (&[FIVE, Turn::Moves(4), Turn::Moves(3)], Err("too long"), 3),
-    (&[ALL, NOTHING], Err("too long"), 1),
-];
-
 #[test]
 fn pieces_are_read_until_all_is_done_or_a_call_fails(rt: HostRuntime) {
-    for (turns, read, calls) in WHOLE_READS {
-        assert_eq!(rt; read_whole(rt.alloc(), turns), (read, calls), "{turns:?}");
-    }
+    let alloc = rt.alloc();
+    let read = [
+        read_whole(alloc, &[FIVE, INTERRUPTED, FIVE, NOTHING]),
+        read_whole(alloc, &[FIVE, WOULD_BLOCK, FIVE]),
+        read_whole(alloc, &[FIVE, Turn::Moves(4), Turn::Moves(3)]),
+        read_whole(alloc, &[ALL, NOTHING]),
+    ];
+    assert_eq!(rt;
+        read,
+        [
+            (Ok(10), 4),
+            (Err("fault"), 2),
+            (Err("too long"), 3),
+            (Err("too long"), 1),
+        ]
+    );
 }
 
-#[test]
-fn each_error_of_a_whole_read_has_its_text(rt: HostRuntime) -> Result<(), Fail> {
-    for (error, text) in [
-        (ReadAll::Fault, "a read failed"),
-        (ReadAll::TooLong, "there are too many bytes"),
-        (ReadAll::Memory, "out of memory"),
-    ] {
-        assert_eq!(rt; format!(in rt.alloc(); "{error}")?.as_str(), text);
-    }
-    Ok(())
-}
-
+/// Devices over memory of the library, and quiet ones.
 #[test]
 fn devices_over_memory_of_the_library_move_its_bytes(rt: HostRuntime) -> Result<(), Fail> {
-    let all = read_all(rt.alloc(), &mut ReaderSource::new(TEXT), 12)?;
-    assert_eq!(rt; all.as_slice(), TEXT);
-    let mut written = Vec::new(rt.alloc());
-    assert_eq!(rt; write_all(&mut WriterSink::new(&mut written), TEXT), Ok(()));
-    assert_eq!(rt; written.as_slice(), TEXT);
-
-    let mut source = QuietSource::new(TEXT.to_vec(rt.alloc())?);
-    let all = read_all(rt.alloc(), &mut source, 12)?;
-    assert_eq!(rt; all.as_slice(), TEXT);
-    let rest = read_all(rt.alloc(), &mut source, 12)?;
-    assert!(rt; rest.is_empty());
-    assert!(rt; write_all(&mut QuietSink, TEXT).is_ok());
+    let alloc = rt.alloc();
+    let read = read_all(alloc, &mut ReaderSource::new(TEXT), 12)?;
+    let mut written = Vec::new(alloc);
+    let is_written = write_all(&mut WriterSink::new(&mut written), TEXT) == Ok(());
+    let mut source = QuietSource::new(TEXT.to_vec(alloc)?);
+    let all = read_all(alloc, &mut source, 12)?;
+    let rest = read_all(alloc, &mut source, 12)?;
+    assert!(rt;
+        read.as_slice() == TEXT
+            && is_written
+            && written.as_slice() == TEXT
+            && all.as_slice() == TEXT
+            && rest.is_empty()
+            && write_all(&mut QuietSink, TEXT).is_ok()
+    );
     Ok(())
 }
 
 #[test]
 fn standard_devices_start_with_no_fault(rt: HostRuntime) {
     let source = StdSource::new(rt.stdin());
-    assert_eq!(rt; source.faults(), 0);
     let mut sink = StdSink::new(rt.stdout());
-    assert_eq!(rt; write_all(&mut sink, TEXT), Ok(()));
-    assert_eq!(rt; sink.faults(), 0);
+    let is_written = write_all(&mut sink, TEXT) == Ok(());
+    assert!(rt; source.faults() == 0 && is_written && sink.faults() == 0);
 }

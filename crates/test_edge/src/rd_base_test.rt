@@ -4,43 +4,62 @@ use rd_base::{
     MAX_TEXT_BYTES, Manner, Memory, OpenText, Opening, PassCount, Path, Proof, RegisterNumber,
     Regs, Script, Status, StepProof, Tamper,
 };
-use std::alloc::AllocError;
+use std::alloc::{AllocError, Global};
 use std::test::Fail;
+
+/// Whether x31 alone holds something, all bits 1.
+fn holds_x31_alone(regs: &Regs) -> bool {
+    for reg in 0..32 {
+        let want = if reg == 31 { 4294967295 } else { 0 };
+        if regs.get(reg) != want {
+            return false;
+        }
+    }
+    true
+}
 
 #[test]
 fn a_write_to_x0_is_dropped_and_one_to_another_stays(rt: HostRuntime) {
     let mut regs = Regs::new();
     regs.set(0, 7);
     regs.set(31, 4294967295);
-    for reg in 0..32 {
-        let want = if reg == 31 { 4294967295 } else { 0 };
-        assert_eq!(rt; regs.get(reg), want, "x{reg}");
-    }
+    assert!(rt; holds_x31_alone(&regs));
 }
 
 #[test]
 fn a_list_gives_its_items_back(rt: HostRuntime) -> Result<(), Fail> {
     let bytes = Bytes::new(b"\x00\xff\x2a".to_vec(rt.alloc())?);
-    assert_eq!(rt; bytes.len(), 3);
-    assert_eq!(rt; bytes.as_slice(), b"\x00\xff\x2a".as_slice());
-    assert_eq!(rt; bytes.into_vec().as_slice(), b"\x00\xff\x2a".as_slice());
     let none: Listed<Status> = Listed::new(Vec::new(rt.alloc()));
-    assert_eq!(rt; none.len(), 0);
+    assert!(rt;
+        bytes.len() == 3
+            && bytes.as_slice() == b"\x00\xff\x2a".as_slice()
+            && bytes.into_vec().as_slice() == b"\x00\xff\x2a".as_slice()
+            && none.len() == 0
+    );
     Ok(())
+}
+
+/// Whether a status prints so, and is that of a running machine.
+fn prints(alloc: Global, status: Status, text: &str, is_running: bool) -> Result<bool, Fail> {
+    let printed = format!(in alloc; "{status}")?;
+    Ok(printed.as_str() == text && status.is_running() == is_running)
 }
 
 #[test]
 fn a_status_is_told_in_words(rt: HostRuntime) -> Result<(), Fail> {
-    for (status, goes_on, want) in [
-        (Status::Running, true, "running"),
-        (Status::Exited(0), false, "exited 0"),
-        (Status::Exited(4294967295), false, "exited 4294967295"),
-        (Status::Trapped(8), false, "trapped 8"),
-    ] {
-        let text = format!(in rt.alloc(); "{status}")?;
-        assert_eq!(rt; text.as_str(), want);
-        assert_eq!(rt; status.is_running(), goes_on, "{want}");
-    }
+    let alloc = rt.alloc();
+    let print = [
+        prints(alloc, Status::Running, "running", true)?,
+        prints(alloc, Status::Exited(0), "exited 0", false)?,
+        prints(
+            alloc,
+            Status::Exited(4294967295),
+            "exited 4294967295",
+            false,
+        )?,
+        prints(alloc, Status::Trapped(8), "trapped 8", false)?,
+    ];
+    assert_eq!(rt; print, [true; 4]);
     Ok(())
 }
 
@@ -52,43 +71,72 @@ fn a_refused_allocation_is_want_of_memory(rt: HostRuntime) {
 #[test]
 fn an_open_text_holds_129_bytes(rt: HostRuntime) {
     let mut text = OpenText::new();
-    assert_eq!(rt; text.as_slice().len(), 0);
+    let is_empty = text.as_slice().len() == 0;
     text.push(4);
     text.extend(&[7; MAX_TEXT_BYTES - 1]);
-    assert_eq!(rt; text.as_slice().len(), 129);
-    assert_eq!(rt; text.as_slice().first(), Some(&4));
-    assert_eq!(rt; text.as_slice().last(), Some(&7));
-    assert_eq!(rt; text.copy().as_slice(), text.as_slice());
+    assert!(rt;
+        is_empty
+            && text.as_slice().len() == 129
+            && text.as_slice().first() == Some(&4)
+            && text.as_slice().last() == Some(&7)
+            && text.copy().as_slice() == text.as_slice()
+    );
+}
+
+/// The number that is kept of one, if it is taken.
+fn register(number: u8) -> Option<u8> {
+    match RegisterNumber::new(number) {
+        Some(reg) => Some(reg.get()),
+        None => None,
+    }
 }
 
 #[test]
 fn a_register_of_a_tamper_is_x1_to_x31(rt: HostRuntime) {
-    for (number, taken) in [(0, false), (1, true), (31, true), (32, false), (255, false)] {
-        match RegisterNumber::new(number) {
-            Some(reg) => assert!(rt; taken && reg.get() == number, "{number}"),
-            None => assert!(rt; !taken, "{number}"),
-        }
+    let kept = [
+        register(0),
+        register(1),
+        register(31),
+        register(32),
+        register(255),
+    ];
+    assert_eq!(rt; kept, [None, Some(1), Some(31), None, None]);
+}
+
+fn passes(number: u32) -> Option<u32> {
+    match PassCount::new(number) {
+        Some(passes) => Some(passes.get()),
+        None => None,
+    }
+}
+
+fn silent_from(number: u32) -> Option<u32> {
+    match FirstSilentRound::new(number) {
+        Some(round) => Some(round.get()),
+        None => None,
     }
 }
 
 #[test]
 fn a_late_prover_passes_at_most_1000_times_and_a_silent_one_begins_by_round_64(rt: HostRuntime) {
-    for (number, late, silent) in [
-        (0, true, true),
-        (64, true, true),
-        (65, true, false),
-        (1000, true, false),
-        (1001, false, false),
-    ] {
-        match PassCount::new(number) {
-            Some(passes) => assert!(rt; late && passes.get() == number, "{number}"),
-            None => assert!(rt; !late, "{number}"),
-        }
-        match FirstSilentRound::new(number) {
-            Some(from) => assert!(rt; silent && from.get() == number, "{number}"),
-            None => assert!(rt; !silent, "{number}"),
-        }
-    }
+    let late = [
+        passes(0),
+        passes(64),
+        passes(65),
+        passes(1000),
+        passes(1001),
+    ];
+    let silent = [
+        silent_from(0),
+        silent_from(64),
+        silent_from(65),
+        silent_from(1000),
+        silent_from(1001),
+    ];
+    assert!(rt;
+        late == [Some(0), Some(64), Some(65), Some(1000), None]
+            && silent == [Some(0), Some(64), None, None, None]
+    );
 }
 
 #[test]
@@ -107,8 +155,7 @@ fn a_copied_script_holds_what_the_script_holds(rt: HostRuntime) -> Result<(), Fa
                 manner: Manner::Output(output),
             },
         ) => {
-            assert_eq!(rt; (step, addr, mask), (1, 2, 3));
-            assert_eq!(rt; output.as_slice(), b"\x2b".as_slice());
+            assert!(rt; (step, addr, mask) == (1, 2, 3) && output.as_slice() == b"\x2b".as_slice());
         }
         _other => assert!(rt; false, "another script"),
     }
@@ -128,7 +175,7 @@ fn exited() -> Ctl {
 #[test]
 fn a_copied_claim_holds_what_the_claim_holds(rt: HostRuntime) -> Result<(), Fail> {
     let output = ClaimOutput::new(b"\x80\xff".to_vec(rt.alloc())?).ok_or("too long")?;
-    assert_eq!(rt; output.len(), 2);
+    let length = output.len();
     let claim = Answer::Claim(Claim {
         mem: Digest32([1; 32]),
         regs: Digest32([2; 32]),
@@ -137,11 +184,12 @@ fn a_copied_claim_holds_what_the_claim_holds(rt: HostRuntime) -> Result<(), Fail
     });
     match claim.copy(rt.alloc()) {
         Ok(Answer::Claim(copy)) => {
-            assert_eq!(rt; copy.output.as_slice(), b"\x80\xff".as_slice());
-            assert_eq!(rt; copy.ctl, exited());
-            assert_eq!(rt;
-                (copy.mem, copy.regs),
-                (Digest32([1; 32]), Digest32([2; 32]))
+            assert!(rt;
+                length == 2
+                    && copy.output.as_slice() == b"\x80\xff".as_slice()
+                    && copy.ctl == exited()
+                    && copy.mem == Digest32([1; 32])
+                    && copy.regs == Digest32([2; 32])
             );
         }
         _other => assert!(rt; false, "a claim's copy is no claim"),
