@@ -1,0 +1,118 @@
+/* Coshalit from C. A program that rules on steps and carries out commands, from standard input to standard output:
+ *
+ *     embed steps              lines VERSION ROOT PROOF, in hexadecimal: a line for each, such as `leads ROOT`
+ *     embed audit|run|list     as the commands of refcli, with their statuses
+ */
+#include "coshalit.h"
+
+#include <stdio.h>
+#include <stdlib.h>
+#include <string.h>
+
+static void out_of_memory(void) {
+    fprintf(stderr, "embed: out of memory\n");
+    exit(COSHALIT_OUT_OF_MEMORY);
+}
+
+/* All bytes of standard input, and a zero byte behind them. */
+static unsigned char *read_input(size_t *length) {
+    size_t room = 1 << 16;
+    unsigned char *bytes = malloc(room + 1);
+    *length = 0;
+    while (bytes != NULL) {
+        size_t count = fread(bytes + *length, 1, room - *length, stdin);
+        *length += count;
+        if (count == 0) {
+            bytes[*length] = 0;
+            return bytes;
+        }
+        if (*length == room) {
+            unsigned char *larger = realloc(bytes, (room *= 2) + 1);
+            if (larger == NULL) free(bytes);
+            bytes = larger;
+        }
+    }
+    out_of_memory();
+    return NULL;
+}
+
+static int digit_of(char letter) {
+    const char *digits = "0123456789abcdef", *found = letter != 0 ? strchr(digits, letter) : NULL;
+    return found != NULL ? (int)(found - digits) : -1;
+}
+
+/* The bytes of a word of hexadecimal digits, in its own place; how many, or -1 if it is no such word. */
+static long bytes_of(char *word) {
+    long count = 0;
+    for (; word[2 * count] != 0; count++) {
+        int high = digit_of(word[2 * count]), low = high < 0 ? -1 : digit_of(word[2 * count + 1]);
+        if (low < 0) return -1;
+        ((unsigned char *)word)[count] = (unsigned char)(16 * high + low);
+    }
+    return count;
+}
+
+/* Rules on the step of a line, which is changed. */
+static int rule_on(char *line) {
+    char nothing[1] = "", *version = strtok(line, " "), *root = strtok(NULL, " "), *proof = strtok(NULL, " ");
+    if (proof == NULL) proof = nothing;
+    long root_length = root != NULL ? bytes_of(root) : -1, proof_length = bytes_of(proof);
+    if (root_length < 0 || proof_length < 0) {
+        fprintf(stderr, "embed: a line is VERSION ROOT PROOF\n");
+        return 2;
+    }
+    unsigned char next[COSHALIT_ROOT_BYTES];
+    switch (coshalit_check_step((uint32_t)strtoul(version, NULL, 10), (unsigned char *)root, (size_t)root_length, (unsigned char *)proof,
+                                (size_t)proof_length, next, sizeof next)) {
+    case COSHALIT_LEADS:
+        printf("leads ");
+        for (size_t k = 0; k < sizeof next; k++) printf("%02x", next[k]);
+        printf("\n");
+        break;
+    case COSHALIT_NOT_OPEN: printf("not open\n"); break;
+    case COSHALIT_WRONG_SHAPE: printf("wrong shape\n"); break;
+    case COSHALIT_NO_PROOF: printf("no proof\n"); break;
+    default: printf("wrong length\n"); break;
+    }
+    return 0;
+}
+
+static int steps(char *lines) {
+    int status = 0;
+    for (char *line = lines, *end; status == 0 && *line != 0; line = end) {
+        end = line + strcspn(line, "\n");
+        if (*end != 0) *end++ = 0;
+        status = rule_on(line);
+    }
+    return status;
+}
+
+typedef CoshalitAnswer Command(const uint8_t *, size_t, uint8_t *, size_t);
+
+/* Writes what a command answers, and gives its status. A text that is longer than the first room is asked for again. */
+static int answer(Command *command, const unsigned char *bytes, size_t length) {
+    unsigned char first[256], *room = first;
+    CoshalitAnswer found = command(bytes, length, room, sizeof first);
+    if (found.length > sizeof first) {
+        room = malloc(found.length);
+        if (room == NULL) out_of_memory();
+        found = command(bytes, length, room, found.length);
+    }
+    fwrite(room, 1, found.length, stdout);
+    if (room != first) free(room);
+    return (int)found.status;
+}
+
+int main(int count, char **words) {
+    const char *command = count == 2 ? words[1] : "";
+    size_t length;
+    unsigned char *bytes = read_input(&length);
+    int status = 2;
+    if (strcmp(command, "steps") == 0) status = steps((char *)bytes);
+    else if (strcmp(command, "audit") == 0) status = answer(coshalit_audit, bytes, length);
+    else if (strcmp(command, "run") == 0) status = answer(coshalit_run, bytes, length);
+    else if (strcmp(command, "list") == 0) status = answer(coshalit_list, bytes, length);
+    else fprintf(stderr, "embed steps|audit|run|list\n");
+    free(bytes);
+    return status;
+}

@@ -1,0 +1,3 @@
+module coshalit.example/embed
+
+go 1.19

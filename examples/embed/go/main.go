@@ -1,0 +1,66 @@
+// Coshalit from Go. A program that rules on steps and carries out commands, from standard input to standard output:
+//
+//	embed steps              lines VERSION ROOT PROOF, in hexadecimal: a line for each, such as `leads ROOT`
+//	embed audit|run|list     as the commands of refcli, with their statuses
+package main
+
+import (
+	"encoding/hex"
+	"fmt"
+	"io"
+	"os"
+	"strconv"
+	"strings"
+)
+
+var rulings = map[Ruling]string{NotOpen: "not open", WrongShape: "wrong shape", NoProof: "no proof", WrongLength: "wrong length"}
+
+// The ruling on the step of a line, in words.
+func rulingOn(line string) (string, error) {
+	words := append(strings.Split(line, " "), "", "")
+	version, err := strconv.ParseUint(words[0], 10, 32)
+	if err != nil {
+		return "", err
+	}
+	root, err := hex.DecodeString(words[1])
+	if err != nil {
+		return "", err
+	}
+	proof, err := hex.DecodeString(words[2])
+	if err != nil {
+		return "", err
+	}
+	ruling, next := CheckStep(uint32(version), root, proof)
+	if ruling == Leads {
+		return "leads " + hex.EncodeToString(next[:]), nil
+	}
+	return rulings[ruling], nil
+}
+
+func fail(why ...any) {
+	fmt.Fprintln(os.Stderr, append([]any{"embed:"}, why...)...)
+	os.Exit(2)
+}
+
+func main() {
+	commands := map[string]Command{"audit": Audit, "run": Run, "list": List}
+	if len(os.Args) != 2 || (os.Args[1] != "steps" && commands[os.Args[1]] == nil) {
+		fail("steps|audit|run|list")
+	}
+	input, err := io.ReadAll(os.Stdin)
+	if err != nil {
+		fail(err)
+	}
+	if command := commands[os.Args[1]]; command != nil {
+		status, text := command(input)
+		os.Stdout.Write(text)
+		os.Exit(status)
+	}
+	for _, line := range strings.Split(strings.TrimSuffix(string(input), "\n"), "\n") {
+		ruling, err := rulingOn(line)
+		if err != nil {
+			fail("a line is VERSION ROOT PROOF:", err)
+		}
+		fmt.Println(ruling)
+	}
+}
