@@ -1,0 +1,71 @@
+// The library `coshalit_c` in WebAssembly, over a memory with 64-bit addresses (include/coshalit.h says what each call answers).
+"use strict";
+
+const OUT_OF_MEMORY = 9;
+const ANSWER_BYTES = 16, ROOT_BYTES = 32, FIRST_ROOM = 65536;
+const RULINGS = ["leads", "not open", "wrong shape", "no proof"];
+
+class NoMemory extends Error {}
+
+class Coshalit {
+  /** The exports of an instance of the module. */
+  constructor(exports) {
+    this.exports = exports;
+  }
+
+  /** A promise of the library. It fails where the browser can't compile a module with a 64-bit memory. */
+  static async of(module) {
+    return new Coshalit((await WebAssembly.instantiate(module, {})).instance.exports);
+  }
+
+  bytesAt(place, count) {
+    return new Uint8Array(this.exports.memory.buffer, Number(place), count);
+  }
+
+  /** Calls `use` with a place for each length, and frees the places after it. */
+  withRooms(lengths, use) {
+    const places = [];
+    try {
+      for (const length of lengths) {
+        const place = this.exports.page_alloc(BigInt(Math.max(length, 1)));
+        if (place === 0n) throw new NoMemory("out of memory");
+        places.push(place);
+      }
+      return use(places);
+    } finally {
+      places.forEach((place) => this.exports.page_free(place));
+    }
+  }
+
+  /** The status and the text, as bytes, that the program's command `audit`, `run` or `list` answers for these bytes. */
+  answer(command, bytes) {
+    const call = this.exports[`coshalit_${command}`];
+    const once = (room) =>
+      this.withRooms([bytes.length, room, ANSWER_BYTES], ([given, written, told]) => {
+        this.bytesAt(given, bytes.length).set(bytes);
+        call(told, given, BigInt(bytes.length), written, BigInt(room));
+        const fields = new DataView(this.exports.memory.buffer, Number(told), ANSWER_BYTES);
+        const status = fields.getUint32(0, true), length = Number(fields.getBigUint64(8, true));
+        return { status, length, text: this.bytesAt(written, Math.min(length, room)).slice() };
+      });
+    try {
+      const first = once(FIRST_ROOM);
+      return first.length <= FIRST_ROOM ? first : once(first.length);
+    } catch (fault) {
+      if (fault instanceof NoMemory) return { status: OUT_OF_MEMORY, length: 0, text: new Uint8Array() };
+      throw fault;
+    }
+  }
+
+  /** The ruling, in words, on a proof of a step from a root, by SHA-256; all are digits, and `next` is the root that it leads to, or null. */
+  checkStep(version, root, wire) {
+    const bytesOf = (digits) => Uint8Array.from({ length: digits.length / 2 }, (_, at) => parseInt(digits.slice(2 * at, 2 * at + 2), 16));
+    return this.withRooms([ROOT_BYTES, wire.length / 2, ROOT_BYTES], ([from, given, next]) => {
+      this.bytesAt(from, ROOT_BYTES).set(bytesOf(root));
+      this.bytesAt(given, wire.length / 2).set(bytesOf(wire));
+      const size = BigInt(ROOT_BYTES), ruling = this.exports.coshalit_check_step(version, from, size, given, BigInt(wire.length / 2), next, size);
+      const digits = [...this.bytesAt(next, ROOT_BYTES)].map((byte) => byte.toString(16).padStart(2, "0")).join("");
+      return { ruling: RULINGS[ruling], next: ruling === 0 ? digits : null };
+    });
+  }
+}
