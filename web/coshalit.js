@@ -1,4 +1,4 @@
-// The library `coshalit_c` in WebAssembly, over a memory with 64-bit addresses (include/coshalit.h says what each call answers).
+// The library `coshalit_c` in WebAssembly, over memories with 64-bit addresses (include/coshalit.h says what each call answers).
 "use strict";
 
 const OUT_OF_MEMORY = 9;
@@ -7,8 +7,16 @@ const RULINGS = ["leads", "not open", "wrong shape", "no proof"];
 
 class NoMemory extends Error {}
 
+function bytesOfDigits(digits) {
+  return Uint8Array.from({ length: digits.length / 2 }, (_, at) => parseInt(digits.slice(2 * at, 2 * at + 2), 16));
+}
+
+function digitsOfBytes(bytes) {
+  return Array.from(bytes, (byte) => byte.toString(16).padStart(2, "0")).join("");
+}
+
+/** The commands of the program that wait for nobody, of a module with a heap. */
 class Coshalit {
-  /** The exports of an instance of the module. */
   constructor(exports) {
     this.exports = exports;
   }
@@ -56,16 +64,25 @@ class Coshalit {
       throw fault;
     }
   }
+}
+
+/** The referee of one step, of a module without a heap: what it reads and writes stands behind the module's own memory. */
+class StepReferee {
+  constructor(exports) {
+    this.exports = exports;
+  }
+
+  static async of(module) {
+    return new StepReferee((await WebAssembly.instantiate(module, {})).instance.exports);
+  }
 
   /** The ruling, in words, on a proof of a step from a root, by SHA-256; all are digits, and `next` is the root that it leads to, or null. */
-  checkStep(version, root, wire) {
-    const bytesOf = (digits) => Uint8Array.from({ length: digits.length / 2 }, (_, at) => parseInt(digits.slice(2 * at, 2 * at + 2), 16));
-    return this.withRooms([ROOT_BYTES, wire.length / 2, ROOT_BYTES], ([from, given, next]) => {
-      this.bytesAt(from, ROOT_BYTES).set(bytesOf(root));
-      this.bytesAt(given, wire.length / 2).set(bytesOf(wire));
-      const size = BigInt(ROOT_BYTES), ruling = this.exports.coshalit_check_step(version, from, size, given, BigInt(wire.length / 2), next, size);
-      const digits = [...this.bytesAt(next, ROOT_BYTES)].map((byte) => byte.toString(16).padStart(2, "0")).join("");
-      return { ruling: RULINGS[ruling], next: ruling === 0 ? digits : null };
-    });
+  check(version, root, wire) {
+    const from = this.exports.__heap_base.value, next = from + BigInt(ROOT_BYTES), given = next + BigInt(ROOT_BYTES), size = BigInt(ROOT_BYTES);
+    const put = (place, digits) => new Uint8Array(this.exports.memory.buffer, Number(place), digits.length / 2).set(bytesOfDigits(digits));
+    put(from, root);
+    put(given, wire);
+    const ruling = this.exports.coshalit_check_step(version, from, size, given, BigInt(wire.length / 2), next, size);
+    return { ruling: RULINGS[ruling], next: ruling === 0 ? digitsOfBytes(new Uint8Array(this.exports.memory.buffer, Number(next), ROOT_BYTES)) : null };
   }
 }

@@ -26,6 +26,12 @@ function ownRoots(match, dispute, round) {
   return round.own.map((root, at) => root ?? claimRoot(match, dispute.sides[at]));
 }
 
+/** What the head of a text states, which a reader compares with the case. */
+function factsOfMatch(match, ofTask) {
+  const numbers = `${withCommas(match.provers)} provers, bound ${withCommas(match.bound)}, patience ${match.patience}, version ${match.version}, fan ${match.fan}`;
+  return [[`start root${ofTask}`, match.start, "digest"], [`head${ofTask}`, `${numbers.replace(/^1 provers/, "1 prover")}, digest ${match.digest}`]];
+}
+
 /** Facts are pairs of a name and what it is, or triples with a kind: `digest`, or `bytes`. */
 function factsOfInterval(match, dispute, round) {
   const own = ownRoots(match, dispute, round);

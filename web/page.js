@@ -63,7 +63,7 @@ function startWorker() {
   asked += 1;
   worker.onmessage = ({ data }) => receive(data);
   worker.onerror = (fault) => fail(fault.message || "the thread didn't start");
-  worker.postMessage({ number: asked, module: textOf("module").trim() });
+  worker.postMessage({ number: asked, modules: { step: textOf("step-module"), answers: textOf("answers-module") } });
 }
 
 function receive(message) {
@@ -201,6 +201,7 @@ function show(message) {
   if (last) layMatch(last);
   const rulings = last ? ` The picture and ${last.proofs} rulings took ${timeOf(last.milliseconds)}.` : "";
   rest(`Done in ${timeOf(total)}.${rulings}`);
+  found("answers").scrollIntoView({ block: "nearest" });
 }
 
 function layAnswer(message, answer, at) {
@@ -244,6 +245,7 @@ function explainedRefusal(message, words, at) {
 
 function layMatch(match) {
   found("match").hidden = false;
+  found("facts").replaceChildren(layFacts(match.facts));
   const drawn = new DOMParser().parseFromString(match.picture, "image/svg+xml").documentElement;
   found("picture").replaceChildren(document.importNode(drawn, true));
   const svg = found("picture").firstElementChild, buttons = match.rows.map((row) => layRow(match, row));
@@ -270,11 +272,14 @@ function layRow(match, { y, height, place, words }) {
   return button;
 }
 
-function layLine({ words, place, marks }) {
-  if (place === undefined) return made("li", {}, words);
-  const button = made("button", { type: "button", "aria-pressed": "false", "data-place": place }, words);
+/** A line of the report; what it says of an answer is marked. */
+function layLine({ words, place }) {
+  const isOfAnswers = place !== undefined || words.startsWith("out ");
+  const parts = isOfAnswers ? words.split(/\b(proved|refuted|faulty|spent)\b/).map((part, at) => (at % 2 ? made("span", { class: `mark ${part}` }, part) : part)) : [words];
+  if (place === undefined) return made("li", {}, ...parts);
+  const button = made("button", { type: "button", "aria-pressed": "false", "data-place": place }, ...parts);
   button.addEventListener("click", () => open(place));
-  return made("li", {}, button, ...marks.map((mark) => made("span", { class: `mark ${mark}` }, mark)));
+  return made("li", {}, button);
 }
 
 /** Of these buttons one can be reached by Tab, and arrow keys go from it to the others. */
@@ -325,7 +330,7 @@ function layTable({ head, rows }) {
 }
 
 function laySection({ title, mark: word, facts, more }) {
-  const head = made("h3", {}, title, made("span", { class: `mark ${word}` }, word));
+  const head = made("h3", {}, title, " ", made("span", { class: `mark ${word}` }, word));
   const parts = more.map(({ title: name, lines }) => made("details", {}, made("summary", {}, name), made("pre", {}, lines.join("\n"))));
   return made("section", {}, head, layFacts(facts), ...parts);
 }
@@ -373,5 +378,6 @@ document.addEventListener("drop", async (event) => {
   else if (words) take(new TextEncoder().encode(words), "Dropped text");
 });
 
-found("size").textContent = `The module has ${withCommas(Math.floor((textOf("module").trim().length * 3) / 4))} bytes of WebAssembly.`;
+const sizes = ["step-module", "answers-module"].map((id) => withCommas(Math.floor((textOf(id).length * 3) / 4)));
+found("size").textContent = `The modules have ${sizes[0]} and ${sizes[1]} bytes of WebAssembly.`;
 startWorker();

@@ -1,12 +1,13 @@
 // The work of the page, in a thread of its own: answers by the library, and what is shown of a match.
 //
-// It is sent the module first, and then tasks; each is answered by one message.
+// It is sent the modules first, and then tasks; each is answered by one message.
 "use strict";
 
 const LATIN = new TextDecoder("latin1");
 const SHOWN_CHARACTERS = 20000;
 const HEAD_OF_TASK = /^task [1-9][0-9]*$/gm;
 let library = null;
+let referee = null;
 
 /** A command's answer, with the milliseconds that it took, and its text whole and as it is shown. */
 function answered(command, bytes) {
@@ -26,7 +27,7 @@ function ruleOnProofs(match) {
       count += 1;
       const text = new TextEncoder().encode(textOfOneProof(match, dispute, side));
       answer.isProved = library.answer("audit", text).status === 0;
-      if (match.digest === "sha256") answer.check = library.checkStep(match.version, step.agreed, answer.wire);
+      if (match.digest === "sha256") answer.check = referee.check(match.version, step.agreed, answer.wire);
     });
   }
   return count;
@@ -54,17 +55,13 @@ function shownMatches(texts, areTasks, stake) {
   const picture = drawMatches(matches, areTasks, stakes);
   const report = matches.flatMap((match, at) => [
     ...(areTasks ? [{ words: `task ${at + 1}` }] : []),
-    ...reportOf(match, stake).map(({ words, round }) => ({ words, place: placeOf.get(round), marks: round ? marksOf(round) : [] })),
+    ...reportOf(match, stake).map(({ words, round }) => ({ words, place: placeOf.get(round) })),
   ]);
   const file = new Blob(report.map(({ words }) => `${words}\n`));
   report.forEach((line) => (line.words = short(line.words)));
   const rows = picture.rows.map(({ y, height, round }) => ({ y, height, place: placeOf.get(round), words: details[placeOf.get(round)].title }));
-  return { picture: picture.text, width: picture.width, height: picture.height, rows, report, file, details, proofs };
-}
-
-/** What the last round of a dispute says of its sides, each once. */
-function marksOf(round) {
-  return round.kept ? [] : [...new Set(round.answers.map((answer) => wordOf(round, answer)))];
+  const facts = matches.flatMap((match, at) => factsOfMatch(match, areTasks ? ` of task ${at + 1}` : ""));
+  return { picture: picture.text, width: picture.width, facts, rows, report, file, details, proofs };
 }
 
 /** The full texts of the tasks of a text, as bytes; null if it is that of one match. */
@@ -113,8 +110,9 @@ function bytesOfBase64(text) {
 }
 
 async function answerTo(task) {
-  if (task.module === undefined) return workOn(task);
-  library = await Coshalit.of(bytesOfBase64(task.module));
+  if (task.modules === undefined) return workOn(task);
+  referee = await StepReferee.of(bytesOfBase64(task.modules.step));
+  library = await Coshalit.of(bytesOfBase64(task.modules.answers));
   return { ready: true };
 }
 
