@@ -26,11 +26,15 @@ const textOf = (id) => found(id).textContent;
 
 let worker = null;
 let isReady = false;
+// Whether work is to begin as soon as the thread is ready.
+let isWanted = false;
 let asked = 0;
 // What was dropped, chosen, or pasted and is too long for the box: `bytes` and `name`; else null.
 let held = null;
 // The last message of the worker.
 let shown = null;
+// What was in use when the details were opened.
+let opener = null;
 let clock = 0;
 let links = [];
 
@@ -69,12 +73,10 @@ function startWorker() {
 function receive(message) {
   if (message.number !== asked) return;
   if (message.failed) return fail(message.failed);
-  if (message.ready) {
-    isReady = true;
-    rest("Ready.");
-    return undefined;
-  }
-  show(message);
+  if (!message.ready) return show(message);
+  isReady = true;
+  rest("Ready.");
+  if (isWanted) begin();
   return undefined;
 }
 
@@ -90,16 +92,15 @@ function fail(why) {
     rest(`This browser can't do it: it has to know WebAssembly with 64-bit memories. It says: ${why}`);
     return;
   }
+  stop();
   shown = { failed: why };
-  worker.terminate();
-  startWorker();
   found("answers").replaceChildren(made("div", { class: "answer bad" }, made("h2", {}, "No answer"), made("p", {}, `The work was broken off: ${why}`)));
 }
 
 function stop() {
   worker.terminate();
+  rest("Stopped.");
   startWorker();
-  say("Stopped.");
 }
 
 function stakeAsked() {
@@ -107,8 +108,13 @@ function stakeAsked() {
   return words === "" ? null : Number(words);
 }
 
+function isAtWork() {
+  return !found("stop").disabled;
+}
+
 function begin() {
-  if (!isReady || !found("stop").disabled) return;
+  isWanted = !isReady;
+  if (isWanted || isAtWork()) return;
   const stake = stakeAsked();
   if (stake !== null && !(Number.isInteger(stake) && stake >= 0 && stake <= MOST_STAKE)) {
     say("The stake is a whole number from 0 to 1,000,000,000.");
@@ -163,6 +169,7 @@ function take(bytes, name) {
     hold(bytes, name);
   }
   choose(kindOf(words));
+  if (isAtWork()) stop();
   begin();
 }
 
@@ -302,6 +309,7 @@ function mark(place) {
 
 function open(place) {
   const { title, facts, table, sections } = shown.match.details[place];
+  opener = document.activeElement;
   found("details-title").textContent = title;
   const body = [layFacts(facts)];
   if (table) body.push(layTable(table));
@@ -313,10 +321,9 @@ function open(place) {
 }
 
 function close() {
+  if (found("details").contains(document.activeElement)) opener?.focus();
   found("details").hidden = true;
-  const chosen = document.querySelector('[aria-pressed="true"]');
   mark(null);
-  chosen?.focus();
 }
 
 function layFacts(facts) {
