@@ -19,6 +19,8 @@ const FAULTS_OF_TEXT = {
   4: "a number of the line is out of its limits",
 };
 const WORDS_OF_STATUS = { 3: "This is no case.", 4: "The image of this case can't be loaded.", 9: "Out of memory.", 12: "More than 16,777,216 bytes." };
+// Those of a picture that are no claim's.
+const PLAIN_COLOURS = ["#ffffff", "#23272e", "#d9dee6", "#8a8f98", "#c1121f", "#2a7f3f"];
 const NAMES = { audit: "Audit", run: "Run", list: "Listing" };
 
 const found = (id) => document.getElementById(id);
@@ -250,12 +252,25 @@ function explainedRefusal(message, words, at) {
   return lines;
 }
 
+/** Names the colours of claims in a picture, which in the dark are lighter. */
+function nameColours(svg) {
+  for (const [attribute, name] of [["stroke", "coloured-line"], ["fill", "coloured-shape"]]) {
+    for (const shape of svg.querySelectorAll(`[${attribute}]`)) {
+      const colour = shape.getAttribute(attribute);
+      if (PLAIN_COLOURS.includes(colour)) continue;
+      shape.classList.add(name);
+      shape.style.setProperty("--claim", colour);
+    }
+  }
+}
+
 function layMatch(match) {
   found("match").hidden = false;
   found("facts").replaceChildren(layFacts(match.facts));
   const drawn = new DOMParser().parseFromString(match.picture, "image/svg+xml").documentElement;
   found("picture").replaceChildren(document.importNode(drawn, true));
   const svg = found("picture").firstElementChild, buttons = match.rows.map((row) => layRow(match, row));
+  nameColours(svg);
   svg.append(...buttons);
   svg.setAttribute("role", "group");
   walk(buttons);
@@ -331,7 +346,8 @@ function layFacts(facts) {
 }
 
 function layTable({ head, rows }) {
-  const cells = (row) => row.map((words, at) => made("td", { class: at === row.length - 1 ? words : at > 0 ? "digest" : "plain" }, words));
+  const kindAt = (row, at) => (at === row.length - 1 ? row[at].replace(/ /g, "-") : at > 0 ? "digest" : "plain");
+  const cells = (row) => row.map((words, at) => made("td", { class: kindAt(row, at), "data-name": head[at] }, words));
   const top = made("thead", {}, made("tr", {}, ...head.map((words) => made("th", { scope: "col" }, words))));
   return made("table", {}, top, made("tbody", {}, ...rows.map((row) => made("tr", {}, ...cells(row)))));
 }
