@@ -3,7 +3,7 @@
 
 /** The whole part of a root's fraction, times 2^32: the constants of the standard are made of the first primes' roots. */
 function fractionOfRoot(number, root) {
-  // Newton's steps on whole numbers: the root of number * 2^(32 * root), rounded down.
+  // The root of number * 2^(32 * root), rounded down, by halving an interval.
   const scaled = BigInt(number) << BigInt(32 * root), degree = BigInt(root);
   let low = 0n, high = 1n << 40n;
   while (low < high) {
