@@ -401,6 +401,6 @@ document.addEventListener("drop", async (event) => {
   else if (words) take(new TextEncoder().encode(words), "Dropped text");
 });
 
-const sizes = ["step-module", "answers-module"].map((id) => withCommas(Math.floor((textOf(id).length * 3) / 4)));
+const sizes = ["step-module", "answers-module"].map((id) => withCommas((textOf(id).replace(/=+$/, "").length * 3) >> 2));
 found("size").textContent = `The modules have ${sizes[0]} and ${sizes[1]} bytes of WebAssembly.`;
 startWorker();
