@@ -51,10 +51,10 @@ class Coshalit {
   answer(command, bytes) {
     const call = this.exports[`coshalit_${command}`];
     const once = (room) =>
-      this.withRooms([bytes.length, room, ANSWER_BYTES], ([given, written, told]) => {
+      this.withRooms([bytes.length, room, ANSWER_BYTES], ([given, written, answered]) => {
         this.bytesAt(given, bytes.length).set(bytes);
-        call(told, given, BigInt(bytes.length), written, BigInt(room));
-        const fields = new DataView(this.exports.memory.buffer, Number(told), ANSWER_BYTES);
+        call(answered, given, BigInt(bytes.length), written, BigInt(room));
+        const fields = new DataView(this.exports.memory.buffer, Number(answered), ANSWER_BYTES);
         const status = fields.getUint32(0, true), length = Number(fields.getBigUint64(8, true));
         return { status, length, text: this.bytesAt(written, Math.min(length, room)).slice() };
       });

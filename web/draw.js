@@ -125,7 +125,7 @@ class Picture {
     return this.colours.get(prover) ?? GREY;
   }
 
-  /** The lines of these provers go on for so many rows, thicker where they dispute. */
+  /** Draws the lines of these provers over so many rows, thicker where they dispute. */
   down(provers, rows, disputing = []) {
     for (const prover of provers) {
       const x = this.lane.get(prover);

@@ -129,9 +129,9 @@ function begin() {
   asked += 1;
   found("start").disabled = true;
   found("stop").disabled = false;
-  const began = performance.now(), tell = () => say(`Working on ${withCommas(bytes.length)} bytes for ${((performance.now() - began) / 1000).toFixed(1)} s.`);
-  tell();
-  clock = setInterval(tell, 200);
+  const began = performance.now(), showTime = () => say(`Working on ${withCommas(bytes.length)} bytes for ${((performance.now() - began) / 1000).toFixed(1)} s.`);
+  showTime();
+  clock = setInterval(showTime, 200);
   worker.postMessage({ number: asked, kind, bytes, stake });
 }
 
