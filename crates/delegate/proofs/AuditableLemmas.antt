@@ -1,5 +1,5 @@
 -- What `judge --full` writes is confirmed by `audit`.
-use Rattle.std.proofs.Common.{◌≡◌, ℕ, ◌<◌, ◌≤◌, ◌++◌, List, length, codes, Some, Result, Ok, Err, slice_index, refl, sym, ap, subst, ◌∙◌, arith}
+use Rattle.std.proofs.Common.{◌≡◌, ℕ, zero, suc, ◌-◌, ◌<◌, ◌≤◌, ◌++◌, List, [], ◌∷◌, length, codes, Some, Result, Ok, Err, slice_index, slice_get, refl, sym, ap, subst, ◌∙◌, arith}
 use Rattle.sha2.proofs.Facts256.{length-sha256}
 use Rattle.rd_base.specs.Results.{◌>>=◌}
 use Rattle.digest_core.specs.Sha256Bytes.{byte-sha256}
@@ -42,15 +42,17 @@ use Rattle.delegate.specs.Loading.{image_in, start_in}
 use Rattle.delegate.specs.Refusal.{or_refusal}
 use Rattle.delegate.specs.commands.Judge.{judging}
 use Rattle.delegate.specs.commands.Audit.{text_refusal, judge_of, found, checked}
-use Rattle.delegate.specs.Auditable.{IsConfirmedByItsLine, IsAuditable, WrittenTextsAreConfirmed, JudgesEndAlike}
+use Rattle.delegate.specs.Auditable.{IsConfirmedByItsLine, IsAuditable, AreAuditable, WrittenTextsAreConfirmed, JudgesEndAlike}
 use Rattle.delegate.specs.InShort.{HasLastLine}
 use Rattle.delegate.specs.Outcome.{outcome}
 use Rattle.delegate.specs.Standing.{IsPlayed, CasesAreInRange}
+use Rattle.delegate.specs.declared.response.Subject.{Subject}
 use Rattle.delegate.specs.declared.response.Subject.TheVariants.{Whole}
 use Rattle.delegate.specs.declared.response.Response.{Response}
 use Rattle.delegate.specs.declared.response.Answered.TheVariants.{Done}
 use Rattle.delegate.proofs.OutcomeLemmas.{goes_on, of_command, outcome-of, under_limit}
-use Rattle.delegate.proofs.CaseLemmas.{outcome-case, one-case}
+use Rattle.delegate.proofs.CaseLemmas.{outcome-case, one-case, task-stands, task-played}
+use Rattle.delegate.proofs.TaskLemmas.{start-at}
 use Rattle.delegate.proofs.HeadlineLemmas.{text-before}
 use Rattle.delegate.proofs.InShortLemmas.{line-ends, last-of}
 
@@ -150,9 +152,9 @@ texts-confirmed law name c start auditing range same written short is =
     }
 
 -- the run of a case starts in a state of the case's version
-start-version : (c : CaseData) (start : State) → start_in Whole c ≡ Ok start → start.version ≡ c.version
+start-version : (subject : Subject) (c : CaseData) (start : State) → start_in subject c ≡ Ok start → start.version ≡ c.version
 unfolding start_in
-start-version c start is = by (image_in Whole c) is
+start-version subject c start is = by (image_in subject c) is
   where
     by : (r : Result Image Response) → (r >>= (λ (image : Image). Ok (started c.version image.memory image.entry c.input))) ≡ Ok start → start.version ≡ c.version
     by (Ok image) loads = (let both : started c.version image.memory image.entry c.input ≡ start = cc loads in sym (ap (λ (s : State). s.version) both))
@@ -164,4 +166,24 @@ outcome-auditable law confirmed words bytes in_range name c start auditing is sh
     let played : IsPlayed m c start = in_range m is.asked (One c) (one-case law m.written bytes c is.reads) start is.loads in
     let same : outcome words bytes ≡ decided m c start = outcome-case law words bytes m c start is in
     subst (λ (r : Response). IsConfirmedByItsLine auditing r.text) (sym same)
-    (confirmed name c start auditing played.range (start-version c start is.loads) (played.written refl) (subst (λ (r : Response). length r.text ≤ 16777216) same short) asked)
+    (confirmed name c start auditing played.range (start-version Whole c start is.loads) (played.written refl) (subst (λ (r : Response). length r.text ≤ 16777216) same short) asked)
+
+-- of tasks, the part of each
+
+some-at : {X : Type 0} (xs : List X) (i : ℕ) → i < length xs → (x : X) × (slice_get xs i ≡ Some x)
+some-at [] i within = absurd (omega (arith, within))
+some-at (x ∷ xs) zero within = (x, refl)
+some-at (x ∷ xs) (suc i) within = some-at xs i (omega (arith, within))
+
+pub outcome-task-auditable : WrittenTextsAreConfirmed → (words : List (List ℕ)) (bytes : List ℕ) → CasesAreInRange words bytes → AreAuditable words bytes (outcome words bytes)
+outcome-task-auditable confirmed words bytes in_range name cs starts t auditing is some within asked =
+    let m = judging Full name in
+    let at = some-at cs (t - 1) (omega (arith, some, within)) in
+    let c = at.0 in
+    let own = start-at 1 cs starts (t - 1) c is.loads at.1 in
+    let played : IsPlayed m c own.start = task-played words bytes in_range m cs starts t c own.start is at.1 own.there in
+    record {
+      part = decided m c own.start;
+      stands = task-stands words bytes m cs starts t c own.start is at.1 own.there;
+      confirmed = λ short. confirmed name c own.start auditing played.range (start-version own.subject c own.start own.loads) (played.written refl) short asked;
+    }

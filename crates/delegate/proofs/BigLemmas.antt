@@ -11,7 +11,6 @@ use Rattle.case_reader.specs.Tasks.{One, CasesAreTasks}
 use Rattle.transcript_text.specs.declared.text.Head.{Head}
 use Rattle.transcript_text.specs.declared.text.DigestName.TheVariants.{Sha256}
 use Rattle.tournament.specs.Bracket.{Record}
-use Rattle.tournament.specs.declared.verdict.Verdict.TheVariants as verdict
 use Rattle.deposits.specs.declared.amounts.Balances.{Balances}
 use Rattle.transcript_text.specs.Summary.{workload_text, counts_text, rounds_in}
 use Rattle.workload.specs.Draws.{first_values}
@@ -31,7 +30,7 @@ use Rattle.delegate.specs.InShortLaw.{BigInShort}
 use Rattle.delegate.specs.Outcome.{decides, outcome}
 use Rattle.delegate.specs.Writing.{ForItsBytes}
 use Rattle.std.specs.Io.KnownBytes.{Appends}
-use Rattle.delegate.specs.Standing.{AreByteStrings, IsPlayed, CasesAreInRange}
+use Rattle.delegate.specs.Standing.{IsPlayed, CasesAreInRange}
 use Rattle.delegate.specs.declared.response.Subject.TheVariants.{Whole}
 use Rattle.delegate.specs.declared.response.Response.{Response}
 use Rattle.delegate.proofs.CaseLemmas.{outcome-case, one-case}
@@ -90,7 +89,7 @@ big_in_short headline untouched seed range bytes =
     let c = big_data seed in
     let start = big_start seed in
     let p = honest-truthful (digest_of Sha256) (untouched (digest_of Sha256)) c start range (honest-plays seed) in
-    (refl, by (headline (summing_up seed) c start p.0 range p.1).ends)
+    (refl, by (headline (summing_up seed) c start p.0 range bytes p.1).ends)
   where
     by : AcceptsTheRun (summing_up seed) (decided (summing_up seed) (big_data seed) (big_start seed)) (big_data seed) (big_start seed)
         ⊎ ShowsCollision (summing_up seed) (decided (summing_up seed) (big_data seed) (big_start seed)) (big_data seed) (big_start seed)
@@ -106,7 +105,7 @@ big_in_short headline untouched seed range bytes =
         let head = head_of Sha256 (big_data seed) (start_root (digest_of Sha256) (big_start seed)) in record {
           x = shows.pair.0;
           y = shows.pair.1;
-          strings = let are : AreByteStrings (verdict.Collision (shows.pair.0) (shows.pair.1)) = subst AreByteStrings shows.verdict bytes in record { first = are.0; second = are.1; differ = shows.collision.collision.differ; one_digest = shows.collision.collision.one_digest };
+          strings = record { first = shows.of_bytes.0; second = shows.of_bytes.1; differ = shows.collision.collision.differ; one_digest = shows.collision.collision.one_digest };
           last = ends-summary seed head settled (balances_in (big_data seed) settled) (colliding shows.pair.0 shows.pair.1) (decided (summing_up seed) (big_data seed) (big_start seed)).text
               (shows.text ∙ ap (before_verdict (summary seed) head settled (balances_in (big_data seed) settled)) (colliding-line shows.pair.0 shows.pair.1));
         })

@@ -1,5 +1,5 @@
 -- Arguments and bytes that are a case or tasks: what the program answers, and that each case is in range.
-use Rattle.std.proofs.Common.{◌≡◌, ℕ, ◌+◌, ◌-◌, List, length, nat_lt, Option, Some, None, Result, Ok, Err, Bool, true, false, cond, refl, sym, ap, subst, ◌∙◌, arith}
+use Rattle.std.proofs.Common.{◌≡◌, ℕ, ◌-◌, List, length, nat_lt, Option, Some, None, Result, Ok, Err, Bool, true, false, cond, refl, sym, ap, subst, ◌∙◌, slice_get}
 use Rattle.std.specs.Option.{option_and_then}
 use Rattle.rd_base.specs.Results.{◌>>=◌}
 use Rattle.rv_step.specs.State.{State}
@@ -20,13 +20,13 @@ use Rattle.delegate.specs.Decided.{digest_of, Written, report, full, summary, De
 use Rattle.delegate.specs.commands.Judge.{judging, judged_of, judged}
 use Rattle.delegate.specs.commands.Big.{summing_up, summed_up}
 use Rattle.delegate.specs.Outcome.{bytes_for, carried_out, decides, response_to, outcome}
-use Rattle.delegate.specs.Headline.{Headline, HeadlineOfCases, AnswersTheCase, KeepsTheTruthful, AnswersTheTasks, KeepsTheTruthfulOfTasks}
+use Rattle.delegate.specs.Headline.{Headline, AreByteStrings, HeadlineOfCases, AnswersTheCase, KeepsTheTruthful, AnswersTheTasks, AreTasks, KeepsTheTruthfulOfTasks}
 use Rattle.case_match.specs.Match.{record_of_case, verdict_of_record}
-use Rattle.delegate.specs.Standing.{AreByteStrings, IsPlayed, AreInRange, AreInRangeIfThere, DecidesInRange, CasesAreInRange}
+use Rattle.delegate.specs.Standing.{AreAllInRange, AreAllShown, AreAllPlayed, IsPlayed, AreInRange, AreInRangeIfThere, DecidesInRange, CasesAreInRange}
 use Rattle.delegate.specs.declared.response.Subject.TheVariants.{Whole}
 use Rattle.delegate.specs.declared.response.Response.{Response}
 use Rattle.delegate.proofs.OutcomeLemmas.{goes_on, both_steps, of_command, outcome-of}
-use Rattle.delegate.proofs.TaskLemmas.{decided-stands, range-at}
+use Rattle.delegate.proofs.TaskLemmas.{decided-stands, played-of, played-at}
 
 -- a command that decides answers by what it reads
 
@@ -37,7 +37,7 @@ judged-tasks text name tasks (Ok given) reads = goes_on _ _ _ reads
 judged-tasks text name tasks (Err e) reads = absurd (cc reads)
 
 -- whichever text is asked for, the tasks are those of the bytes
-tasks-read : (text : MatchText) (bytes : List ℕ) → tasks_for (written_as text) bytes ≡ tasks_of bytes
+pub tasks-read : (text : MatchText) (bytes : List ℕ) → tasks_for (written_as text) bytes ≡ tasks_of bytes
 unfolding tasks_for
 tasks-read Report bytes = refl
 tasks-read Full bytes = refl
@@ -116,18 +116,27 @@ outcome-tasks words bytes m cs starts is = outcome-of words bytes _ (tasks-steps
 pub outcome-headline : CasesAreTasks → HeadlineOfCases → (words : List (List ℕ)) (bytes : List ℕ) → CasesAreInRange words bytes → KeepsTheTruthful words bytes (outcome words bytes)
 outcome-headline law headline words bytes in_range m c start p is truthful =
     subst (λ response. Headline m response c start p) (sym (outcome-case law words bytes m c start is))
-    (headline m c start p (in_range m is.asked (One c) (one-case law m.written bytes c is.reads) start is.loads).range truthful)
+    (let played : IsPlayed m c start = in_range m is.asked (One c) (one-case law m.written bytes c is.reads) start is.loads in
+    headline m c start p played.range played.strings truthful)
+
+-- the text of a task stands under its line, and what its run shows
+
+pub task-stands : (words : List (List ℕ)) (bytes : List ℕ) (m : Deciding) (cs : List CaseData) (starts : List State) (t : ℕ) (c : CaseData) (start : State) → AreTasks words bytes m cs starts
+    → slice_get cs (t - 1) ≡ Some c → slice_get starts (t - 1) ≡ Some start → StandsUnder (length cs) t (decided m c start) (outcome words bytes).text
+task-stands words bytes m cs starts t c start is at from =
+    subst (λ (r : Response). StandsUnder (length cs) t (decided m c start) r.text) (sym (outcome-tasks words bytes m cs starts is)) (decided-stands m cs starts t c start is.loads at from)
+
+pub task-played : (words : List (List ℕ)) (bytes : List ℕ) → CasesAreInRange words bytes → (m : Deciding) (cs : List CaseData) (starts : List State) (t : ℕ) (c : CaseData) (start : State)
+    → AreTasks words bytes m cs starts → slice_get cs (t - 1) ≡ Some c → slice_get starts (t - 1) ≡ Some start → IsPlayed m c start
+task-played words bytes in_range m cs starts t c start is at from = played-at m cs starts (t - 1) c start (in_range m is.asked (Many cs) is.reads starts is.loads) at from
 
 pub outcome-task-headline : HeadlineOfCases → (words : List (List ℕ)) (bytes : List ℕ) → CasesAreInRange words bytes → KeepsTheTruthfulOfTasks words bytes (outcome words bytes)
 outcome-task-headline headline words bytes in_range m cs starts t c start p is some at from truthful =
-    let number : 1 + (t - 1) ≡ t = omega (arith, some) in
-    let whole = outcome-tasks words bytes m cs starts is in
-    let stands = decided-stands m cs starts (t - 1) c start at from in
+    let played = task-played words bytes in_range m cs starts t c start is at from in
     record {
       part = decided m c start;
-      stands = subst (λ (n : ℕ). StandsUnder n (decided m c start).text (outcome words bytes).text) number
-          (subst (λ (r : Response). StandsUnder (1 + (t - 1)) (decided m c start).text r.text) (sym whole) stands);
-      keeps = headline m c start p (range-at cs starts (t - 1) c start (in_range m is.asked (Many cs) is.reads starts is.loads) at from) truthful;
+      stands = task-stands words bytes m cs starts t c start is at from;
+      keeps = headline m c start p played.range played.strings truthful;
     }
 
 -- what was read for a command is what is read of the bytes
@@ -181,11 +190,14 @@ carried-is-it words bytes given command response taken read is decided_in_range 
 
 -- what was read, whose machines were made, is in range wherever it is read
 
-same-ok : {X E : Type 0} (r : Result X E) (x y : X) → r ≡ Ok x → r ≡ Ok y → x ≡ y
+pub same-ok : {X E : Type 0} (r : Result X E) (x y : X) → r ≡ Ok x → r ≡ Ok y → x ≡ y
 same-ok r x y one other = (let both = sym one ∙ other in cc both)
 
 pub one-in-range : (m : Deciding) (c : CaseData) (start : State) → start_in Whole c ≡ Ok start → IsPlayed m c start → AreInRange m (One c)
 one-in-range m c start loads played other is = subst (IsPlayed m c) (same-ok (start_in Whole c) start other loads is) played
+
+pub many-in-range : (m : Deciding) (cs : List CaseData) (starts : List State) → starts_in 1 cs ≡ Ok starts → AreAllInRange cs starts → AreAllShown (digest_of m.digest) m cs starts → AreInRange m (Many cs)
+many-in-range m cs starts loads ranges shown other is = subst (AreAllPlayed m cs) (same-ok (starts_in 1 cs) starts other loads is) (played-of m cs starts ranges shown)
 
 pub judged-in-range : (text : MatchText) (name : DigestName) (bytes : List ℕ) (tasks : TasksData) → tasks_in bytes ≡ Ok tasks → AreInRange (judging text name) tasks
     → AreInRangeIfThere (judging text name) (tasks_for (written_as text) bytes)

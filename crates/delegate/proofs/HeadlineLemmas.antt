@@ -27,7 +27,7 @@ use Rattle.command_line.specs.declared.request.MatchText.TheVariants.{Report, Fu
 use Rattle.delegate.specs.Decided.{digest_of, Written, report, full, summary, written_as, Deciding, match_text, answered_by, head_of, balances_in, before_verdict, answered_for, decided}
 use Rattle.transcript_text.specs.declared.text.Head.{Head}
 use Rattle.delegate.specs.declared.response.Answered.TheVariants.{Done}
-use Rattle.delegate.specs.Headline.{AcceptsTheRun, ShowsCollision, HeadlineOfCases}
+use Rattle.delegate.specs.Headline.{AcceptsTheRun, ShowsCollision, AreByteStrings, HeadlineOfCases}
 use Rattle.delegate.proofs.SparedLemmas.{no-moves-against}
 
 -- a prover whose claim is accepted has a number above 0
@@ -75,9 +75,10 @@ accepts-done (summary seed) n = refl
 
 -- how the text ends where the verdict is right
 ends : (m : Deciding) (c : CaseData) (start : State) (verdict : Verdict) → verdict_of_record (digest_of m.digest) c start (record_of_case (digest_of m.digest) c start) ≡ verdict
+    → AreByteStrings (verdict_of_record (digest_of m.digest) c start (record_of_case (digest_of m.digest) c start))
     → IsRightVerdict (rules_of_case (digest_of m.digest) c start) (truth_of_case (digest_of m.digest) c start) (record_of_case (digest_of m.digest) c start) verdict
     → AcceptsTheRun m (decided m c start) c start ⊎ ShowsCollision m (decided m c start) c start
-ends m c start (Accept n) is right =
+ends m c start (Accept n) is strings right =
     let settled = record_of_case (digest_of m.digest) c start in
     let head = head_of m.digest c (start_root (digest_of m.digest) start) in
     let balances = balances_in c settled in
@@ -88,7 +89,7 @@ ends m c start (Accept n) is right =
           ∙ ap (λ line. before_verdict m.written head settled balances (text_if_there line))
           (line-of-true (truth_of_case (digest_of m.digest) c start) settled.claims n (accepted-number (rules_of_case (digest_of m.digest) c start) settled n is) right));
     })
-ends m c start (Collision x y) is right =
+ends m c start (Collision x y) is strings right =
     let settled = record_of_case (digest_of m.digest) c start in
     let head = head_of m.digest c (start_root (digest_of m.digest) start) in
     let balances = balances_in c settled in
@@ -96,10 +97,11 @@ ends m c start (Collision x y) is right =
       pair = (x, y);
       collision = right;
       verdict = is;
+      of_bytes = subst AreByteStrings is strings;
       answered = ap (answered_for m.written) is;
       text = ap (match_text m.written head settled balances) is ∙ text-before m.written head settled balances (Collision x y);
     })
-ends m c start NoneLeft is right = absurd right
+ends m c start NoneLeft is strings right = absurd right
 
 -- a law of the function of each name
 pub by-name : (P : (List ℕ → List ℕ) → Type 0) → P (digest_of Sha256) → P (digest_of Weak8) → (name : DigestName) → P (digest_of name)
@@ -107,7 +109,7 @@ by-name P of_sha256 of_weak8 Sha256 = of_sha256
 by-name P of_sha256 of_weak8 Weak8 = of_weak8
 
 pub headline-of-cases : ((name : DigestName) → TruthfulProversOfCasesAreSafe (digest_of name)) → NothingIsSaidAgainstTheTruthful → WhoLivesInACaseWinsAll → HeadlineOfCases
-headline-of-cases safe_by spared win m c start p range truthful =
+headline-of-cases safe_by spared win m c start p range strings truthful =
     let case : IsSafeInCase (digest_of m.digest) c start p = safe_by m.digest c start p range truthful in
     record {
       stays = record {
@@ -120,5 +122,5 @@ headline-of-cases safe_by spared win m c start p range truthful =
             (win stake (rules_of_case (digest_of m.digest) c start) (says_of_case (digest_of m.digest) c start) p
             (record { some = range.some; parted = range.parted; few_parts = range.few_parts; steps = range.steps }) truthful.some truthful.there case.safe.stays.is_live).balance_;
       };
-      ends = ends m c start _ refl (case.safe.verdict case.complete);
+      ends = ends m c start _ refl strings (case.safe.verdict case.complete);
     }

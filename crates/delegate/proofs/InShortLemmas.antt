@@ -8,11 +8,8 @@ use Rattle.hex.specs.Hex.{encode_lower}
 use Rattle.rd_base.specs.declared.script.Manner.TheVariants.{Plain}
 use Rattle.rv_step.specs.State.{State}
 use Rattle.rv_step.specs.Step.{state_at}
-use Rattle.image_reader.specs.Image.{Image}
 use Rattle.case_reader.specs.Case.{CaseData, case_at}
 use Rattle.case_reader.specs.Tasks.{One, CasesAreTasks}
-use Rattle.case_reader.specs.declared.case.Format.{Format}
-use Rattle.case_reader.specs.declared.case.Format.TheVariants.{Flat, Elf, Asm}
 use Rattle.transcript_text.specs.declared.text.DigestName.{DigestName}
 use Rattle.transcript_text.specs.declared.text.Head.{Head}
 use Rattle.transcript_text.specs.declared.text.TextMove.{TextMove}
@@ -33,20 +30,21 @@ use Rattle.case_match.specs.TruthfulInCase.{IsInRange, IsTruthfulInCase}
 use Rattle.case_match.specs.HonestScripts.{UntouchedProversAreTruthful}
 use Rattle.delegate.specs.Answered.{status_number}
 use Rattle.delegate.specs.Decided.{digest_of, written_as, before_verdict, answered_for, head_of, balances_in, decided, case_for}
-use Rattle.delegate.specs.Loading.{image_by, start_in}
-use Rattle.delegate.specs.Refusal.{or_refusal, case_refusal, image_refusal, asm_refusal}
+use Rattle.delegate.specs.Loading.{start_in}
+use Rattle.delegate.specs.Refusal.{or_refusal, case_refusal}
 use Rattle.delegate.specs.commands.Judge.{judging}
 use Rattle.delegate.specs.commands.Run.{ran, answer_of_run}
 use Rattle.delegate.specs.Headline.{HeadlineOfCases, AcceptsTheRun, ShowsCollision, IsCase}
-use Rattle.delegate.specs.InShort.{IsImageOf, IsStartOf, IsCaseOf, honest, HasLastLine, accepting, colliding, ShowsTwoStrings, AcceptsOrCollides, Answers, SaysInShort, IsWrittenOf}
+use Rattle.delegate.specs.InShort.{IsStartOf, IsCaseOf, honest, HasLastLine, accepting, colliding, Collides, AcceptsOrCollides, Answers, SaysInShort, IsWrittenOf}
 use Rattle.delegate.specs.InShortLaw.{HeadlineInShort, JudgeAcceptsWhatRunPrints}
 use Rattle.delegate.specs.Outcome.{decides, outcome}
-use Rattle.delegate.specs.Standing.{AreByteStrings, IsPlayed, CasesAreInRange}
+use Rattle.delegate.specs.Standing.{IsPlayed, CasesAreInRange}
 use Rattle.delegate.specs.Writing.{ForItsBytes}
 use Rattle.delegate.specs.declared.response.Subject.TheVariants.{Whole}
 use Rattle.delegate.specs.declared.response.Response.{Response}
 use Rattle.delegate.proofs.OutcomeLemmas.{goes_on, under_limit, of_command, outcome-of, for_its_bytes}
 use Rattle.delegate.proofs.CaseLemmas.{outcome-case, one-case}
+use Rattle.delegate.proofs.TasksInShortLemmas.{start-is, tasks-in-short}
 
 -- TEXTS THAT END A LINE
 
@@ -153,29 +151,22 @@ pub in_short : HeadlineOfCases → ((digest : List ℕ → List ℕ) → Untouch
 in_short headline untouched asked name c start range bytes contains =
     let p = honest-truthful (digest_of name) (untouched (digest_of name)) c start range contains in
     let m = judging asked name in
-    by (headline m c start p.0 range p.1).ends
+    by (headline m c start p.0 range bytes p.1).ends
   where
     by : AcceptsTheRun (judging asked name) (decided (judging asked name) c start) c start ⊎ ShowsCollision (judging asked name) (decided (judging asked name) c start) c start
         → AcceptsOrCollides name (state_at start c.bound) (status_number (decided (judging asked name) c start).answered) (decided (judging asked name) c start).text
     by (inl accepts) = inl (record { done = ap status_number accepts.done; last = last-of asked _ _ _ (accepting (state_at start c.bound)) _ accepts.text })
     by (inr shows) = inr (let digest = digest_of name in let settled = record_of_case digest c start in record {
-      x = shows.pair.0;
-      y = shows.pair.1;
-      strings = let are : AreByteStrings (verdict.Collision (shows.pair.0) (shows.pair.1)) = subst AreByteStrings shows.verdict bytes in record { first = are.0; second = are.1; differ = shows.collision.collision.differ; one_digest = shows.collision.collision.one_digest };
       collision = ap status_number shows.answered ∙ collided asked shows.pair.0 shows.pair.1;
-      last = last-of asked _ _ _ (colliding shows.pair.0 shows.pair.1) _ (shows.text ∙ ap (before_verdict (written_as asked) (head_of name c (start_root digest start)) settled (balances_in c settled)) (colliding-line shows.pair.0 shows.pair.1));
+      shows = record {
+        x = shows.pair.0;
+        y = shows.pair.1;
+        strings = record { first = shows.of_bytes.0; second = shows.of_bytes.1; differ = shows.collision.collision.differ; one_digest = shows.collision.collision.one_digest };
+        last = last-of asked _ _ _ (colliding shows.pair.0 shows.pair.1) _ (shows.text ∙ ap (before_verdict (written_as asked) (head_of name c (start_root digest start)) settled (balances_in c settled)) (colliding-line shows.pair.0 shows.pair.1));
+      };
     })
 
 -- A CASE OF THE BYTES IS ONE THAT IS ASKED FOR
-
-image-is : (f : Format) (file : List ℕ) (image : Image) → IsImageOf f file image → image_by Whole f file ≡ Ok image
-image-is Flat file image is = ap (or_refusal (image_refusal Whole)) is
-image-is Elf file image is = ap (or_refusal (image_refusal Whole)) is
-image-is Asm file image is = ap (or_refusal (asm_refusal Whole)) is
-
-start-is : (c : CaseData) (start : State) → IsStartOf c start → start_in Whole c ≡ Ok start
-unfolding start_in
-start-is c start is = goes_on _ _ _ (image-is c.format c.image is.image is.loads) ∙ ap Ok (sym is.is)
 
 case-is : (asked : MatchText) (bytes : List ℕ) (c : CaseData) → IsCaseOf bytes c → case_for (written_as asked) bytes ≡ Ok c
 unfolding case_for
@@ -185,7 +176,7 @@ case-is Full bytes c is = goes_on _ _ _ (under_limit bytes is.short) ∙ ap (or_
 asked-is : (words : List (List ℕ)) (bytes : List ℕ) (asked : MatchText) (name : DigestName) (c : CaseData) (start : State) → chosen words ≡ Some (Judge asked name)
     → IsCaseOf bytes c → IsStartOf c start → IsCase words bytes (judging asked name) c start
 asked-is words bytes asked name c start chosen_is reads starts =
-    record { asked = ap (option_and_then decides) chosen_is; reads = case-is asked bytes c reads; loads = start-is c start starts }
+    record { asked = ap (option_and_then decides) chosen_is; reads = case-is asked bytes c reads; loads = start-is Whole c start starts }
 
 judge-in-short : CasesAreTasks → HeadlineInShort → (words : List (List ℕ)) (bytes : List ℕ) → CasesAreInRange words bytes → (asked : MatchText) (name : DigestName) (c : CaseData) (start : State)
     → chosen words ≡ Some (Judge asked name) → IsCaseOf bytes c → IsStartOf c start → Contains c.provers honest
@@ -203,13 +194,13 @@ run-is bytes c start reads loads = goes_on _ _ _ (ap (or_refusal (case_refusal W
 run-in-short : (words : List (List ℕ)) (bytes : List ℕ) (c : CaseData) (start : State) → chosen words ≡ Some Run → IsCaseOf bytes c → IsStartOf c start
     → Answers (state_at start c.bound) (status_number (outcome words bytes).answered) (outcome words bytes).text
 run-in-short words bytes c start chosen_is reads starts =
-    let is : outcome words bytes ≡ answer_of_run c start = outcome-of words bytes _ (of_command words bytes Run chosen_is ∙ (goes_on _ _ _ (under_limit bytes reads.short) ∙ run-is bytes c start reads.reads (start-is c start starts))) in
+    let is : outcome words bytes ≡ answer_of_run c start = outcome-of words bytes _ (of_command words bytes Run chosen_is ∙ (goes_on _ _ _ (under_limit bytes reads.short) ∙ run-is bytes c start reads.reads (start-is Whole c start starts))) in
     subst (λ (r : Response). Answers (state_at start c.bound) (status_number r.answered) r.text) (sym is) (record { done = refl; line = refl })
 
 pub outcome-in-short : CasesAreTasks → HeadlineInShort → (words : List (List ℕ)) (bytes : List ℕ) → CasesAreInRange words bytes
     → SaysInShort words bytes (status_number (outcome words bytes).answered) (outcome words bytes).text
 outcome-in-short law short words bytes in_range =
-    record { judge = judge-in-short law short words bytes in_range; run = run-in-short words bytes }
+    record { judge = judge-in-short law short words bytes in_range; judge_tasks = tasks-in-short short words bytes in_range; run = run-in-short words bytes }
 
 pub judge_accepts : JudgeAcceptsWhatRunPrints
 judge_accepts judging running bytes judge_status judge_text run_status run_text judged ran asked name c start judge_is run_is reads starts contains =
@@ -223,7 +214,7 @@ judge_accepts judging running bytes judge_status judge_text run_status run_text 
     }
   where
     by : AcceptsOrCollides name (state_at start c.bound) judge_status judge_text
-        → ((judge_status ≡ 0) × HasLastLine (codes "accept " ++ answer_text (state_at start c.bound).status (state_at start c.bound).output) judge_text) ⊎ ShowsTwoStrings name judge_status judge_text
+        → ((judge_status ≡ 0) × HasLastLine (codes "accept " ++ answer_text (state_at start c.bound).status (state_at start c.bound).output) judge_text) ⊎ Collides name judge_status judge_text
     by (inl accepts) = inl (accepts.done, accepts.last)
     by (inr shows) = inr shows
 

@@ -1,6 +1,5 @@
 -- What an exit status says of the answer.
-use Rattle.std.proofs.Common.{◌≡◌, ◌↔◌, true, ℕ, List, Option, Some, None, codes, ap, sym, subst, ◌∙◌}
-use Rattle.std.specs.Io.KnownBytes.{Appends}
+use Rattle.std.proofs.Common.{◌≡◌, ◌↔◌, true, ℕ, List, Option, Some, None, ap, sym, subst, ◌∙◌}
 use Rattle.command_line.specs.Words.{chosen}
 use Rattle.delegate.specs.Answered.{status_number, is_outcome, is_answer_to, reads_all}
 use Rattle.delegate.specs.Outcome.{outcome}

@@ -5,6 +5,7 @@ use Rattle.std.proofs.Math.Seq.{take-length}
 use Rattle.std.proofs.lemmas.List.{append-nil}
 use Rattle.std.proofs.lemmas.List.Elements.{All-nil, All-cons}
 use Rattle.std.proofs.lemmas.Option.{same_Some, none-some}
+use Rattle.rd_base.specs.Results.{◌>>=◌}
 use Rattle.bisect_game.specs.Rules.{ArePlayable}
 use Rattle.rv_step.specs.declared.machine.Machine.{Machine}
 use Rattle.rv_step.specs.State.{State, state_of, IsChained}
@@ -16,9 +17,10 @@ use Rattle.case_match.specs.declared.referee.Ended.{Ended}
 use Rattle.case_match.specs.Match.{rules_of_case, says_of_case, RecordsOfCasesAreSettledUp}
 use Rattle.case_match.specs.Openings.{ended_of}
 use Rattle.delegate.specs.Answered.{graver}
-use Rattle.delegate.specs.Decided.{digest_of, Deciding, decided, told, task_line, task_texts, gravest, together, each_told, each_decided, StandsUnder}
-use Rattle.delegate.specs.Standing.{responses, CanBePaid, AreAllInRange, AreStarted, AddsStarts}
+use Rattle.delegate.specs.Decided.{digest_of, Deciding, decided, told, task_texts, gravest, together, each_told, each_decided, StandsUnder}
+use Rattle.delegate.specs.Standing.{responses, CanBePaid, AreAllInRange, AreAllPlayed, AreAllShown, EndsAreShown, IsPlayed, AreStarted, AddsStarts}
 use Rattle.delegate.specs.Loading.{start_in, starts_in}
+use Rattle.delegate.specs.declared.response.Subject.{Subject}
 use Rattle.delegate.specs.declared.response.Subject.TheVariants.{Task}
 use Rattle.delegate.specs.declared.response.Response.{Response}
 use Rattle.delegate.specs.declared.response.Stop.{Stop}
@@ -81,26 +83,6 @@ all-settled law digest ls cs own_ends ends cases_are own_are ends_are =
 
 -- the text of a task stands under its line
 
-task-stands : (rs : List Response) (t i : ℕ) (r : Response) → slice_get rs i ≡ Some r → StandsUnder (t + i) r.text (task_texts t rs)
-task-stands [] t i r at = absurd (none-some r at)
-task-stands (x ∷ rs) t zero r at =
-    let here : t ≡ t + zero = omega arith in
-    record {
-      before = [];
-      after = task_texts (t + 1) rs;
-      whole = ap (λ (y : Response). task_line t ++ (y.text ++ task_texts (t + 1) rs)) (same_Some x r at) ∙ ap (λ n. task_line n ++ (r.text ++ task_texts (t + 1) rs)) here;
-    }
-task-stands (x ∷ rs) t (suc i) r at =
-    let later = task-stands rs (t + 1) i r at in
-    let there : t + 1 + i ≡ t + suc i = omega arith in
-    let tail : List ℕ = task_line (t + suc i) ++ (r.text ++ later.after) in
-    record {
-      before = task_line t ++ (x.text ++ later.before);
-      after = later.after;
-      whole = ap (λ (l : List ℕ). task_line t ++ (x.text ++ l)) (later.whole ∙ ap (λ n. later.before ++ (task_line n ++ (r.text ++ later.after))) there)
-          ∙ (ap (λ (l : List ℕ). task_line t ++ l) (sym (append_assoc x.text later.before tail)) ∙ sym (append_assoc (task_line t) (x.text ++ later.before) tail));
-    }
-
 told-at : (digest : List ℕ → List ℕ) (m : Deciding) (cs : List CaseData) (starts : List State) (i : ℕ) (c : CaseData) (start : State)
     → slice_get cs i ≡ Some c → slice_get starts i ≡ Some start → slice_get (each_told digest m cs starts) i ≡ Some (told digest m c start)
 told-at digest m [] starts i c start at from = absurd (none-some c at)
@@ -109,18 +91,94 @@ told-at digest m (d ∷ cs) (s ∷ starts) zero c start at from =
     ap (λ (x : CaseData). Some (told digest m x s)) (same_Some d c at) ∙ ap (λ (x : State). Some (told digest m c x)) (same_Some s start from)
 told-at digest m (d ∷ cs) (s ∷ starts) (suc i) c start at from = told-at digest m cs starts i c start at from
 
-pub decided-stands : (m : Deciding) (cs : List CaseData) (starts : List State) (i : ℕ) (c : CaseData) (start : State)
-    → slice_get cs i ≡ Some c → slice_get starts i ≡ Some start → StandsUnder (1 + i) (decided m c start).text (together (each_decided m cs starts)).text
-decided-stands m cs starts i c start at from =
-    task-stands (each_decided m cs starts) 1 i (decided m c start) (told-at (digest_of m.digest) m cs starts i c start at from)
+-- what is shown of the ends of tasks is shown of their cases, each by itself
 
-pub range-at : (cs : List CaseData) (starts : List State) (i : ℕ) (c : CaseData) (start : State) → AreAllInRange cs starts
-    → slice_get cs i ≡ Some c → slice_get starts i ≡ Some start → IsInRange c start
-range-at [] starts i c start all at from = absurd (none-some c at)
-range-at (d ∷ cs) [] i c start all at from = absurd (none-some start from)
-range-at (d ∷ cs) (s ∷ starts) zero c start all at from =
-    subst (λ (y : State). IsInRange c y) (same_Some s start from) (subst (λ (x : CaseData). IsInRange x s) (same_Some d c at) all.0)
-range-at (d ∷ cs) (s ∷ starts) (suc i) c start all at from = range-at cs starts i c start all.1 at from
+shown-of : (digest : List ℕ → List ℕ) (m : Deciding) (ls : List LoadedCase) → EndsAreShown m (map (λ (l : LoadedCase). data_of l.case.now) ls) (map (ended_of digest) ls)
+    → AreAllShown digest m (map (λ (l : LoadedCase). data_of l.case.now) ls) (map state_of (map (λ (l : LoadedCase). l.start) ls))
+shown-of digest m [] shown = tt
+shown-of digest m (l ∷ ls) shown = (shown.0, shown-of digest m ls shown.1)
+
+pub all-shown : (digest : List ℕ → List ℕ) (m : Deciding) (ls : List LoadedCase) (cs : List CaseData) (starts : List Machine) (own_ends ends : List Ended) → map (λ (l : LoadedCase). data_of l.case.now) ls ≡ cs
+    → map (λ (l : LoadedCase). l.start) ls ≡ starts → own_ends ≡ map (ended_of digest) ls → ends ≡ own_ends → EndsAreShown m cs ends → AreAllShown digest m cs (map state_of starts)
+all-shown digest m ls cs starts own_ends ends cases_are starts_are own_are ends_are shown =
+    subst (λ (ds : List CaseData). AreAllShown digest m ds (map state_of starts)) cases_are
+    (subst (λ (ms : List Machine). AreAllShown digest m (map (λ (l : LoadedCase). data_of l.case.now) ls) (map state_of ms)) starts_are
+    (shown-of digest m ls
+    (subst (EndsAreShown m (map (λ (l : LoadedCase). data_of l.case.now) ls)) (ends_are ∙ own_are)
+    (subst (λ (ds : List CaseData). EndsAreShown m ds ends) (sym cases_are) shown))))
+
+pub played-of : (m : Deciding) (cs : List CaseData) (starts : List State) → AreAllInRange cs starts → AreAllShown (digest_of m.digest) m cs starts → AreAllPlayed m cs starts
+played-of m [] starts ranges shown = tt
+played-of m (c ∷ cs) [] ranges shown = tt
+played-of m (c ∷ cs) (s ∷ starts) ranges shown = (record { range = ranges.0; strings = shown.0.strings; written = shown.0.written }, played-of m cs starts ranges.1 shown.1)
+
+pub played-at : (m : Deciding) (cs : List CaseData) (starts : List State) (i : ℕ) (c : CaseData) (start : State) → AreAllPlayed m cs starts
+    → slice_get cs i ≡ Some c → slice_get starts i ≡ Some start → IsPlayed m c start
+played-at m [] starts i c start all at from = absurd (none-some c at)
+played-at m (d ∷ cs) [] i c start all at from = absurd (none-some start from)
+played-at m (d ∷ cs) (s ∷ starts) zero c start all at from =
+    subst (λ (y : State). IsPlayed m c y) (same_Some s start from) (subst (λ (x : CaseData). IsPlayed m x s) (same_Some d c at) all.0)
+played-at m (d ∷ cs) (s ∷ starts) (suc i) c start all at from = played-at m cs starts i c start all.1 at from
+
+-- the machines of tasks, each by itself
+
+pub record Starts (starts : List State) (i : ℕ) (c : CaseData) : Type 0 where
+  pub start : State
+  pub there : slice_get starts i ≡ Some start
+  pub subject : Subject
+  pub loads : start_in subject c ≡ Ok start
+
+pub record FirstStarts (number : ℕ) (c : CaseData) (cs : List CaseData) (starts : List State) : Type 0 where
+  pub first : State
+  pub later : List State
+  pub loads : start_in (Task number) c ≡ Ok first
+  pub starts_later : starts_in (number + 1) cs ≡ Ok later
+  pub are : starts ≡ first ∷ later
+
+first-starts : (number : ℕ) (c : CaseData) (cs : List CaseData) (starts : List State) → starts_in number (c ∷ cs) ≡ Ok starts → FirstStarts number c cs starts
+unfolding starts_in
+first-starts number c cs starts is = by (start_in (Task number) c) (starts_in (number + 1) cs) refl refl is
+  where
+    by : (r : Result State Response) (q : Result (List State) Response) → start_in (Task number) c ≡ r → starts_in (number + 1) cs ≡ q
+        → (r >>= (λ (s : State). q >>= (λ (ss : List State). Ok (s ∷ ss)))) ≡ Ok starts → FirstStarts number c cs starts
+    by (Ok s) (Ok ss) one more both = record { first = s; later = ss; loads = one; starts_later = more; are = sym (cc both) }
+    by (Ok s) (Err e) one more both = absurd (cc both)
+    by (Err e) q one more both = absurd (cc both)
+
+pub start-at : (number : ℕ) (cs : List CaseData) (starts : List State) (i : ℕ) (c : CaseData) → starts_in number cs ≡ Ok starts → slice_get cs i ≡ Some c → Starts starts i c
+start-at number [] starts i c is at = absurd (none-some c at)
+start-at number (d ∷ cs) starts zero c is at =
+    let all = first-starts number d cs starts is in
+    record { start = all.first; there = ap (λ (l : List State). slice_get l 0) all.are; subject = Task number; loads = subst (λ (x : CaseData). start_in (Task number) x ≡ Ok all.first) (same_Some d c at) all.loads }
+start-at number (d ∷ cs) starts (suc i) c is at =
+    let all = first-starts number d cs starts is in
+    let more = start-at (number + 1) cs all.later i c all.starts_later at in
+    record { start = more.start; there = ap (λ (l : List State). slice_get l (suc i)) all.are ∙ more.there; subject = more.subject; loads = more.loads }
+
+-- there is one for each
+
+starts-count : (number : ℕ) (cs : List CaseData) (starts : List State) → starts_in number cs ≡ Ok starts → length starts ≡ length cs
+unfolding starts_in
+starts-count number [] starts is = (let none : [] ≡ starts = cc is in ap length (sym none))
+starts-count number (c ∷ cs) starts is =
+    let all = first-starts number c cs starts is in
+    ap length all.are ∙ ap suc (starts-count (number + 1) cs all.later all.starts_later)
+
+told-count : (digest : List ℕ → List ℕ) (m : Deciding) (cs : List CaseData) (starts : List State) → length starts ≡ length cs → length (each_told digest m cs starts) ≡ length cs
+told-count digest m [] [] same = refl
+told-count digest m [] (s ∷ starts) same = absurd (omega (arith, same))
+told-count digest m (c ∷ cs) [] same = absurd (omega (arith, same))
+told-count digest m (c ∷ cs) (s ∷ starts) same = ap suc (told-count digest m cs starts (omega (arith, same)))
+
+-- so a text of tasks has a part for each, and that of a task stands under its line
+pub decided-stands : (m : Deciding) (cs : List CaseData) (starts : List State) (t : ℕ) (c : CaseData) (start : State) → starts_in 1 cs ≡ Ok starts
+    → slice_get cs (t - 1) ≡ Some c → slice_get starts (t - 1) ≡ Some start → StandsUnder (length cs) t (decided m c start) (together (each_decided m cs starts)).text
+decided-stands m cs starts t c start loads at from = record {
+  parts = each_decided m cs starts;
+  all = told-count (digest_of m.digest) m cs starts (starts-count 1 cs starts loads);
+  whole = refl;
+  here = told-at (digest_of m.digest) m cs starts (t - 1) c start at from;
+}
 
 -- the machines of tasks, one after another
 

@@ -1,5 +1,5 @@
--- To believe. The pipe `judge --full | audit`: what `judge --full` writes of one case, `audit` confirms with its last line.
-use Rattle.std.specs.Prelude.{◌≡◌, ◌≤◌, ℕ, List, length, codes, ◌++◌, Some}
+-- To believe. The pipe `judge --full | audit`: what `judge --full` writes of one case, or of each of many tasks, `audit` confirms with its last line.
+use Rattle.std.specs.Prelude.{◌≡◌, ◌<◌, ◌≤◌, ℕ, List, length, codes, ◌++◌, Some}
 use Rattle.rv_step.specs.State.{State}
 use Rattle.case_reader.specs.Case.{CaseData}
 use Rattle.transcript_text.specs.MoveLists.{moves_of}
@@ -10,9 +10,9 @@ use Rattle.command_line.specs.declared.request.MatchText.TheVariants.{Report, Fu
 use Rattle.command_line.specs.declared.request.Command.TheVariants.{Audit}
 use Rattle.case_match.specs.Match.{record_of_case}
 use Rattle.case_match.specs.TruthfulInCase.{IsInRange}
-use Rattle.delegate.specs.Decided.{digest_of, decided}
+use Rattle.delegate.specs.Decided.{digest_of, decided, StandsUnder}
 use Rattle.delegate.specs.commands.Judge.{judging}
-use Rattle.delegate.specs.Headline.{IsCase}
+use Rattle.delegate.specs.Headline.{IsCase, AreTasks}
 use Rattle.delegate.specs.InShort.{HasLastLine}
 use Rattle.delegate.specs.Outcome.{outcome}
 use Rattle.delegate.specs.declared.response.Response.{Response}
@@ -29,6 +29,18 @@ abbrev pub IsAuditable : List (List ℕ) → List ℕ → Response → Type 0
 IsAuditable words bytes response =
     (name : DigestName) (c : CaseData) (start : State) (auditing : List (List ℕ)) → IsCase words bytes (judging Full name) c start →
     length response.text ≤ 16777216 → chosen auditing ≡ Some Audit → IsConfirmedByItsLine auditing response.text
+
+-- the text is one of parts, each under the line of its task, and that of task t is confirmed so if it isn't longer than what `audit` reads
+pub record IsPartAuditable (auditing : List (List ℕ)) (tasks t : ℕ) (text : List ℕ) : Type 0 where
+  pub part : Response
+  pub stands : StandsUnder tasks t part text
+  pub confirmed : length part.text ≤ 16777216 → IsConfirmedByItsLine auditing part.text
+
+-- of what `judge --full` writes of tasks `audit` confirms each part, however its match ends
+abbrev pub AreAuditable : List (List ℕ) → List ℕ → Response → Type 0
+AreAuditable words bytes response =
+    (name : DigestName) (cs : List CaseData) (starts : List State) (t : ℕ) (auditing : List (List ℕ)) → AreTasks words bytes (judging Full name) cs starts →
+    0 < t → t ≤ length cs → chosen auditing ≡ Some Audit → IsPartAuditable auditing (length cs) t response.text
 
 -- of what is written of a case that is in range and whose answers have wire forms
 abbrev pub WrittenTextsAreConfirmed : Type 0

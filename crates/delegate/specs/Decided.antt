@@ -1,6 +1,6 @@
 -- To believe. What is written of a match that is decided: by `judge` its report or its full text, and by `big` a summary in one line; and
 -- of many tasks: under the line of each its text, as it has it alone.
-use Rattle.std.specs.Prelude.{ℕ, List, ◌++◌, length, codes, Option, option_map, Result, Ok, ◌≡◌, ◌+◌, [], ◌∷◌, decimal, map, zip}
+use Rattle.std.specs.Prelude.{ℕ, List, ◌++◌, length, codes, Option, Some, option_map, Result, Ok, ◌≡◌, ◌+◌, ◌-◌, [], ◌∷◌, decimal, map, zip, slice_get}
 use Rattle.rd_base.specs.Results.{◌>>=◌}
 use Rattle.rd_base.specs.declared.digest.Digest32.{Digest32}
 use Rattle.rv_step.specs.State.{State}
@@ -154,8 +154,9 @@ each_told digest m cs starts = map (λ (x : CaseData × State). told digest m x.
 abbrev pub each_decided : Deciding → List CaseData → List State → List Response
 each_decided m cs starts = each_told (digest_of m.digest) m cs starts
 
--- in this text another one stands under the line of task t
-pub record StandsUnder (t : ℕ) (part text : List ℕ) : Type 0 where
-  pub before : List ℕ
-  pub after : List ℕ
-  pub whole : text ≡ before ++ (task_line t ++ (part ++ after))
+-- a text of nothing but parts, one for each of so many tasks, each under its task's line; and this is the part of task t
+pub record StandsUnder (tasks t : ℕ) (part : Response) (text : List ℕ) : Type 0 where
+  pub parts : List Response
+  pub all : length parts ≡ tasks
+  pub whole : text ≡ task_texts 1 parts
+  pub here : slice_get parts (t - 1) ≡ Some part

@@ -1,11 +1,12 @@
 -- To believe. The headline: a prover that claims and answers as the machine's definition says, within its patience, is not
 -- eliminated, wins each of its disputes but that of a collision, and the text accepts the sequential run's status and output or shows a collision.
-use Rattle.std.specs.Prelude.{◌≡◌, ℕ, ◌+◌, ◌-◌, ◌*◌, ◌<◌, ◌⊎◌, false, List, Contains, Some, Ok, slice_get, Bool, true, ◌&&◌, ◌||◌, ◌==◌, [], ◌∷◌}
+use Rattle.std.specs.Prelude.{◌≡◌, length, ℕ, ◌+◌, ◌-◌, ◌*◌, ◌<◌, ◌⊎◌, false, List, Contains, Some, Ok, slice_get, Bool, true, ◌&&◌, ◌||◌, ◌==◌, [], ◌∷◌}
 use Rattle.std.specs.Option.{option_and_then}
 use Rattle.rv_step.specs.State.{State}
 use Rattle.case_reader.specs.Case.{CaseData}
 use Rattle.case_reader.specs.Tasks.{Many}
-use Rattle.tournament.specs.declared.verdict.Verdict.TheVariants.{Collision}
+use Rattle.tournament.specs.declared.verdict.Verdict.{Verdict}
+use Rattle.tournament.specs.declared.verdict.Verdict.TheVariants.{Accept, NoneLeft, Collision}
 use Rattle.tournament.specs.Bracket.{live}
 use Rattle.tournament.specs.FewPosts.{disputes_played}
 use Rattle.tournament.specs.Theorem.{AreTrue, Stays, IsCollisionIn}
@@ -19,6 +20,7 @@ use Rattle.command_line.specs.Words.{chosen}
 use Rattle.case_match.specs.Match.{start_root, rules_of_case, record_of_case, verdict_of_record, truth_of_case, final_state}
 use Rattle.case_match.specs.TruthfulInCase.{IsTruthfulInCase, IsInRange}
 use Rattle.delegate.specs.Decided.{digest_of, Deciding, case_for, tasks_for, answered_for, head_of, balances_in, before_verdict, decided, together, each_decided, StandsUnder}
+use Rattle.delegate.specs.InShort.{AreBytes}
 use Rattle.delegate.specs.Loading.{start_in, starts_in}
 use Rattle.delegate.specs.Outcome.{decides}
 use Rattle.delegate.specs.declared.response.Subject.TheVariants.{Whole}
@@ -72,11 +74,12 @@ pub record AcceptsTheRun (m : Deciding) (response : Response) (c : CaseData) (st
   pub done : response.answered ≡ Done
   pub text : response.text ≡ before_verdict m.written (head_of m.digest c (start_root (digest_of m.digest) start)) (record_of_case (digest_of m.digest) c start) (balances_in c (record_of_case (digest_of m.digest) c start)) (line_text (accept_line (final_state c start).status (final_state c start).output))
 
--- OR it shows two different strings with one digest, each opened by an answer of the record
+-- OR it shows two different strings of bytes with one digest, each opened by an answer of the record
 pub record ShowsCollision (m : Deciding) (response : Response) (c : CaseData) (start : State) : Type 0 where
   pub pair : List ℕ × List ℕ
   pub collision : IsCollisionIn (rules_of_case (digest_of m.digest) c start) (record_of_case (digest_of m.digest) c start) pair
   pub verdict : verdict_of_record (digest_of m.digest) c start (record_of_case (digest_of m.digest) c start) ≡ Collision (pair.0) (pair.1)
+  pub of_bytes : AreBytes (pair.0) × AreBytes (pair.1)
   pub answered : response.answered ≡ answered_for m.written (Collision (pair.0) (pair.1))
   pub text : response.text ≡ before_verdict m.written (head_of m.digest c (start_root (digest_of m.digest) start)) (record_of_case (digest_of m.digest) c start) (balances_in c (record_of_case (digest_of m.digest) c start)) (line_text (collision_line (pair.0) (pair.1)))
 
@@ -85,10 +88,18 @@ pub record Headline (m : Deciding) (response : Response) (c : CaseData) (start :
   pub stays : IsNotEliminated m.digest c start p
   pub ends : AcceptsTheRun m response c start ⊎ ShowsCollision m response c start
 
--- the headline holds of what is written of each case with numbers in range, whose run starts in a valid state
+-- the strings of a collision are of bytes
+abbrev pub AreByteStrings : Verdict → Type 0
+AreByteStrings (Collision x y) = AreBytes x × AreBytes y
+AreByteStrings (Accept n) = Unit {0}
+AreByteStrings NoneLeft = Unit {0}
+
+-- the headline holds of what is written of each case with numbers in range, whose run starts in a valid state, and whose verdict shows strings of bytes if it
+-- is a collision
 abbrev pub HeadlineOfCases : Type 0
 HeadlineOfCases =
-    (m : Deciding) (c : CaseData) (start : State) (p : ℕ) → IsInRange c start → IsTruthfulInCase (digest_of m.digest) c start p →
+    (m : Deciding) (c : CaseData) (start : State) (p : ℕ) → IsInRange c start →
+    AreByteStrings (verdict_of_record (digest_of m.digest) c start (record_of_case (digest_of m.digest) c start)) → IsTruthfulInCase (digest_of m.digest) c start p →
     Headline m (decided m c start) c start p
 
 -- COMPLETENESS, of a response to these arguments and bytes: a case is answered by the verdict of its record, and its text is that
@@ -108,10 +119,10 @@ abbrev pub AnswersTheTasks : List (List ℕ) → List ℕ → Response → Type 
 AnswersTheTasks words bytes response =
     (m : Deciding) (cs : List CaseData) (starts : List State) → AreTasks words bytes m cs starts → response ≡ together (each_decided m cs starts)
 
--- the headline holds of what stands under the line of task t
-pub record HeadlineOfTask (m : Deciding) (response : Response) (t : ℕ) (c : CaseData) (start : State) (p : ℕ) : Type 0 where
+-- the text is one of parts, each under the line of its task, and the headline holds of that of task t
+pub record HeadlineOfTask (m : Deciding) (response : Response) (tasks t : ℕ) (c : CaseData) (start : State) (p : ℕ) : Type 0 where
   pub part : Response
-  pub stands : StandsUnder t part.text response.text
+  pub stands : StandsUnder tasks t part response.text
   pub keeps : Headline m part c start p
 
 -- THE HEADLINE FOR TASKS: a truthful prover of one task is kept in its part of the text, whatever the provers of other tasks do
@@ -119,4 +130,4 @@ abbrev pub KeepsTheTruthfulOfTasks : List (List ℕ) → List ℕ → Response �
 KeepsTheTruthfulOfTasks words bytes response =
     (m : Deciding) (cs : List CaseData) (starts : List State) (t : ℕ) (c : CaseData) (start : State) (p : ℕ) → AreTasks words bytes m cs starts →
     0 < t → slice_get cs (t - 1) ≡ Some c → slice_get starts (t - 1) ≡ Some start → IsTruthfulInCase (digest_of m.digest) c start p →
-    HeadlineOfTask m response t c start p
+    HeadlineOfTask m response (length cs) t c start p

@@ -1,7 +1,7 @@
 -- To believe. THE SENTENCE IN SHORT: if a prover of the case is `{}`, the last line that is written accepts what the machine's definition computes, or
--- shows two different strings of one digest. What is named is how arguments, a case and its image are read, the machine, and two lines of text: of the
--- provers only that one of them is `{}`, and nothing of how a match is played, committed or judged.
-use Rattle.std.specs.Prelude.{◌≡◌, ◌≢◌, ◌<◌, ◌≤◌, slice_index, ◌⊎◌, ℕ, List, Contains, length, codes, ◌++◌, Option, Some, Ok}
+-- shows two different strings of one digest; so does each part of the text of tasks. What is named is how arguments, a case and its image are read, the
+-- machine, and two lines of text: of the provers only that one of them is `{}`, and nothing of how a match is played, committed or judged.
+use Rattle.std.specs.Prelude.{◌≡◌, ◌≢◌, ◌<◌, ◌≤◌, slice_index, slice_get, ◌⊎◌, ℕ, ◌-◌, List, Contains, All, length, codes, ◌++◌, Option, option_map, Some, Ok}
 use Rattle.std.specs.Io.KnownBytes.{Appends}
 use Rattle.hex.specs.Hex.{encode_lower}
 use Rattle.rd_base.specs.declared.script.Script.{Script}
@@ -11,7 +11,8 @@ use Rattle.mem_plain.specs.Contents.{no_bytes, laid}
 use Rattle.rv_step.specs.State.{State}
 use Rattle.rv_step.specs.Step.{state_at}
 use Rattle.rv_step.specs.Loaded.{started}
-use Rattle.case_reader.specs.Case.{CaseData, case_at}
+use Rattle.case_reader.specs.Case.{CaseData, tree_of, case_at}
+use Rattle.case_reader.specs.Tasks.{Many, many_of}
 use Rattle.case_reader.specs.declared.case.Format.{Format}
 use Rattle.case_reader.specs.declared.case.Format.TheVariants.{Flat, Elf, Asm}
 use Rattle.image_reader.specs.Image.{Image, flat_at}
@@ -25,7 +26,8 @@ use Rattle.workload.specs.Program.{program}
 use Rattle.command_line.specs.Words.{chosen}
 use Rattle.command_line.specs.declared.request.MatchText.{MatchText}
 use Rattle.command_line.specs.declared.request.Command.TheVariants.{Judge, Run, Big}
-use Rattle.delegate.specs.Decided.{digest_of}
+use Rattle.delegate.specs.Decided.{digest_of, StandsUnder}
+use Rattle.delegate.specs.declared.response.Response.{Response}
 
 -- THE CASE
 
@@ -45,6 +47,12 @@ pub record IsStartOf (c : CaseData) (start : State) : Type 0 where
 pub record IsCaseOf (bytes : List ℕ) (c : CaseData) : Type 0 where
   pub short : length bytes ≤ 16777216
   pub reads : case_at bytes ≡ Ok c
+
+-- the bytes are not too many, and they are these tasks, 1 to 8 cases under the key `tasks`, whose images load
+pub record AreTasksOf (bytes : List ℕ) (cs : List CaseData) : Type 0 where
+  pub short : length bytes ≤ 16777216
+  pub reads : option_map many_of (tree_of bytes) ≡ Some (Ok (Many cs))
+  pub load : All (λ (c : CaseData). (start : State) × IsStartOf c start) cs
 
 -- the script `{}`, of a prover whose run is untouched and that answers at once
 abbrev pub honest : Script
@@ -79,13 +87,17 @@ pub record Accepts (final : State) (status : ℕ) (text : List ℕ) : Type 0 whe
   pub done : status ≡ 0
   pub last : HasLastLine (accepting final) text
 
--- OR the status is 11, and the last line shows two different strings with one digest
-pub record ShowsTwoStrings (name : DigestName) (status : ℕ) (text : List ℕ) : Type 0 where
+-- the last line shows two different strings with one digest
+pub record ShowsTwoStrings (name : DigestName) (text : List ℕ) : Type 0 where
   pub x : List ℕ
   pub y : List ℕ
   pub strings : AreOfOneDigest name x y
-  pub collision : status ≡ 11
   pub last : HasLastLine (colliding x y) text
+
+-- OR the status is 11, and the last line shows such strings
+pub record Collides (name : DigestName) (status : ℕ) (text : List ℕ) : Type 0 where
+  pub collision : status ≡ 11
+  pub shows : ShowsTwoStrings name text
 
 -- `run`: the status is 0, and the one line answers with the status and the output in this state
 pub record Answers (final : State) (status : ℕ) (text : List ℕ) : Type 0 where
@@ -93,13 +105,23 @@ pub record Answers (final : State) (status : ℕ) (text : List ℕ) : Type 0 whe
   pub line : text ≡ codes "answer " ++ (answer_text final.status final.output ++ codes "\n")
 
 abbrev pub AcceptsOrCollides : DigestName → State → ℕ → List ℕ → Type 0
-AcceptsOrCollides name final status text = Accepts final status text ⊎ ShowsTwoStrings name status text
+AcceptsOrCollides name final status text = Accepts final status text ⊎ Collides name status text
 
--- THE SENTENCE, of arguments, bytes, status and text: `judge` ends so if one prover is `{}`, whatever the others say; and `run` writes that answer
+-- tasks: the part of the text under the line of task t ends so, by its last line. The status is one of all tasks
+pub record TaskEnds (name : DigestName) (final : State) (tasks t : ℕ) (text : List ℕ) : Type 0 where
+  pub part : Response
+  pub stands : StandsUnder tasks t part text
+  pub ends : HasLastLine (accepting final) part.text ⊎ ShowsTwoStrings name part.text
+
+-- THE SENTENCE, of arguments, bytes, status and text: `judge` ends so if one prover is `{}`, whatever the others say; of tasks each part ends so whose task
+-- has such a prover; and `run` writes that answer
 pub record SaysInShort (words : List (List ℕ)) (bytes : List ℕ) (status : ℕ) (text : List ℕ) : Type 0 where
   pub judge : (asked : MatchText) (name : DigestName) (c : CaseData) (start : State) → chosen words ≡ Some (Judge asked name) →
       IsCaseOf bytes c → IsStartOf c start → Contains c.provers honest →
       AcceptsOrCollides name (state_at start c.bound) status text
+  pub judge_tasks : (asked : MatchText) (name : DigestName) (cs : List CaseData) (t : ℕ) (c : CaseData) (start : State) → chosen words ≡ Some (Judge asked name) →
+      AreTasksOf bytes cs → 0 < t → slice_get cs (t - 1) ≡ Some c → IsStartOf c start → Contains c.provers honest →
+      TaskEnds name (state_at start c.bound) (length cs) t text
   pub run : (c : CaseData) (start : State) → chosen words ≡ Some Run → IsCaseOf bytes c → IsStartOf c start →
       Answers (state_at start c.bound) status text
 

@@ -10,13 +10,13 @@ use Rattle.command_line.specs.declared.request.Command.TheVariants.{Judge, Run}
 use Rattle.case_match.specs.TruthfulInCase.{IsInRange}
 use Rattle.delegate.specs.Answered.{status_number}
 use Rattle.case_match.specs.Match.{record_of_case, verdict_of_record}
-use Rattle.delegate.specs.Standing.{AreByteStrings}
+use Rattle.delegate.specs.Headline.{AreByteStrings}
 use Rattle.delegate.specs.Decided.{digest_of, decided}
 use Rattle.workload.specs.Workload.{big_data}
 use Rattle.delegate.specs.commands.Judge.{judging}
 use Rattle.delegate.specs.commands.Big.{summing_up}
 use Rattle.transcript_text.specs.declared.text.DigestName.TheVariants.{Sha256}
-use Rattle.delegate.specs.InShort.{honest, accepting, EndsWith, EndsWithTwoStrings, big_start, big_bound, HasLastLine, IsCaseOf, IsStartOf, ShowsTwoStrings, AcceptsOrCollides, SaysInShort}
+use Rattle.delegate.specs.InShort.{honest, accepting, EndsWith, EndsWithTwoStrings, big_start, big_bound, HasLastLine, IsCaseOf, IsStartOf, Collides, AcceptsOrCollides, SaysInShort}
 
 -- whatever the other provers say, what is written of a case with a prover `{}` accepts the run, or shows a collision
 abbrev pub HeadlineInShort : Type 0
@@ -29,7 +29,7 @@ pub record JudgeAccepts (name : DigestName) (judge_status : ℕ) (judge_text : L
   pub answer : List ℕ
   pub run_done : run_status ≡ 0
   pub printed : run_text ≡ codes "answer " ++ (answer ++ codes "\n")
-  pub judged : ((judge_status ≡ 0) × HasLastLine (codes "accept " ++ answer) judge_text) ⊎ ShowsTwoStrings name judge_status judge_text
+  pub judged : ((judge_status ≡ 0) × HasLastLine (codes "accept " ++ answer) judge_text) ⊎ Collides name judge_status judge_text
 
 abbrev pub JudgeAcceptsWhatRunPrints : Type 0
 JudgeAcceptsWhatRunPrints =

@@ -22,8 +22,8 @@ use Rattle.delegate.specs.declared.response.Stop.TheVariants.{Refused}
 use Rattle.deposits.specs.Balances.{IsSettledUp}
 use Rattle.case_match.specs.declared.referee.Ended.{Ended}
 use Rattle.tournament.specs.declared.verdict.Verdict.{Verdict}
-use Rattle.tournament.specs.declared.verdict.Verdict.TheVariants.{Accept, NoneLeft, Collision}
-use Rattle.delegate.specs.InShort.{AreBytes}
+use Rattle.tournament.specs.Bracket.{Record}
+use Rattle.delegate.specs.Headline.{AreByteStrings}
 
 -- a call's value, seen by view, or its refusal is that of the definition, unless memory ran out
 abbrev pub Stands : {X Y : Type 0} → (X → Y) → Result X Stop → Result Y Response → Type 0
@@ -36,22 +36,22 @@ AreAllInRange [] starts = Unit {0}
 AreAllInRange (c ∷ cs) [] = Unit {0}
 AreAllInRange (c ∷ cs) (start ∷ starts) = IsInRange c start × AreAllInRange cs starts
 
--- the strings of a collision are of bytes
-abbrev pub AreByteStrings : Verdict → Type 0
-AreByteStrings (Collision x y) = AreBytes x × AreBytes y
-AreByteStrings (Accept n) = Unit {0}
-AreByteStrings NoneLeft = Unit {0}
-
 -- what only its run shows of a case that was decided so: it is in range, a collision is of strings of bytes, and if its full text is written each of its answers has a wire form
 pub record IsPlayed (m : Deciding) (c : CaseData) (start : State) : Type 0 where
   pub range : IsInRange c start
   pub strings : AreByteStrings (verdict_of_record (digest_of m.digest) c start (record_of_case (digest_of m.digest) c start))
   pub written : m.written ≡ full → AreWritten (moves_of (record_of_case (digest_of m.digest) c start))
 
--- so of a case that was read, if it is loaded; and tasks are in range
+-- so was each of these cases, whose runs start in these states
+abbrev pub AreAllPlayed : Deciding → List CaseData → List State → Type 0
+AreAllPlayed m [] starts = Unit {0}
+AreAllPlayed m (c ∷ cs) [] = Unit {0}
+AreAllPlayed m (c ∷ cs) (start ∷ starts) = IsPlayed m c start × AreAllPlayed m cs starts
+
+-- so of a case that was read, if it is loaded; and of those of tasks
 abbrev pub AreInRange : Deciding → TasksData → Type 0
 AreInRange m (One c) = (start : State) → start_in Whole c ≡ Ok start → IsPlayed m c start
-AreInRange m (Many cs) = (starts : List State) → starts_in 1 cs ≡ Ok starts → AreAllInRange cs starts
+AreInRange m (Many cs) = (starts : List State) → starts_in 1 cs ≡ Ok starts → AreAllPlayed m cs starts
 
 -- what is read here, if there is anything, is in range
 abbrev pub AreInRangeIfThere : Deciding → Result TasksData Response → Type 0
@@ -85,6 +85,24 @@ abbrev pub responses : Deciding → List CaseData → List Ended → List Respon
 responses m [] ends = []
 responses m (c ∷ cs) [] = []
 responses m (c ∷ cs) (end ∷ ends) = response_of m c end.setup.start end.match_record end.verdict ∷ responses m cs ends
+
+-- what is shown of a match that has ended so: a collision is of strings of bytes, and if its full text is written each of its answers has a wire form
+pub record IsShown (m : Deciding) (settled : Record) (verdict : Verdict) : Type 0 where
+  pub strings : AreByteStrings verdict
+  pub written : m.written ≡ full → AreWritten (moves_of settled)
+
+-- of the matches of these cases, which have ended so
+abbrev pub EndsAreShown : Deciding → List CaseData → List Ended → Type 0
+EndsAreShown m [] ends = Unit {0}
+EndsAreShown m (c ∷ cs) [] = Unit {0}
+EndsAreShown m (c ∷ cs) (end ∷ ends) = IsShown m end.match_record end.verdict × EndsAreShown m cs ends
+
+-- of the matches of these cases, whose runs start in these states, by a digest function
+abbrev pub AreAllShown : (List ℕ → List ℕ) → Deciding → List CaseData → List State → Type 0
+AreAllShown digest m [] starts = Unit {0}
+AreAllShown digest m (c ∷ cs) [] = Unit {0}
+AreAllShown digest m (c ∷ cs) (start ∷ starts) =
+    IsShown m (record_of_case digest c start) (verdict_of_record digest c start (record_of_case digest c start)) × AreAllShown digest m cs starts
 
 -- the records of these cases may be paid
 abbrev pub CanBePaid : List CaseData → List Ended → Type 0

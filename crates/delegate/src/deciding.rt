@@ -11,7 +11,8 @@ ghost use Rattle.transcript_text.specs.FullLines.{AreWritten};
 ghost use Rattle.case_match.specs.Match.{record_of_case, verdict_of_record};
 ghost use Rattle.delegate.specs.Decided.{written_as, summary, balances_in, match_text, response_of, told, head_of, answered_by, task_line, task_texts, gravest, together, each_told};
 ghost use Rattle.delegate.specs.InShort.{AreBytes};
-ghost use Rattle.delegate.specs.Standing.{AreByteStrings, CanBePaid, responses};
+ghost use Rattle.delegate.specs.Headline.{AreByteStrings};
+ghost use Rattle.delegate.specs.Standing.{IsShown, EndsAreShown, AreAllShown, CanBePaid, responses};
 ghost use Rattle.delegate.specs.commands.Judge.{judging};
 
 use crate::response::{Answered, Response};
@@ -190,6 +191,7 @@ fn add_texts(
     requires settled_up { CanBePaid (map data_of cases.now) ends.now }
     ensures texts { OnOk result (out.new.items ≡ out.old.items ++ task_texts number (responses (judging asked.text asked.name) (map data_of cases.now) ends.now)) }
     ensures answered { IfOk result (λ answered. answered ≡ gravest (responses (judging asked.text asked.name) (map data_of cases.now) ends.now)) }
+    ensures shown { IfOk result (λ answered. EndsAreShown (judging asked.text asked.name) (map data_of cases.now) ends.now) }
 {
     let [case, later_cases @ ..] = cases else {
         return Ok(Answered::Done);
@@ -202,7 +204,8 @@ fn add_texts(
     Ok(answered_by(&end.verdict).or_graver(later))
 }
 
-/// Adds the line of a task, and the text of its match, which has ended. An `Err` is out of memory, after some of it was added.
+/// Adds the line of a task, and the text of its match, which has ended. The strings of a collision consist of bytes. An `Err` is out of
+/// memory, after some of it was added.
 fn add_text(
     out: &mut Vec<u8>,
     alloc: Global,
@@ -212,10 +215,12 @@ fn add_text(
     end: &Ended,
 ) -> Result<(), Memory>
     requires { IsSettledUp (length case.now.provers) end.now.match_record }
-    ensures { OnOk result (out.new.items ≡ out.old.items ++ (task_line number ++ (response_of (judging asked.text asked.name) (data_of case.now) end.now.setup.start end.now.match_record end.now.verdict).text)) }
+    ensures shown { IfOk result (λ done. IsShown (judging asked.text asked.name) end.now.match_record end.now.verdict) }
+    ensures text { OnOk result (out.new.items ≡ out.old.items ++ (task_line number ++ (response_of (judging asked.text asked.name) (data_of case.now) end.now.setup.start end.now.match_record end.now.verdict).text)) }
 {
     let line = format!(in alloc; "task {number}\n")?;
     let bytes = text_in(alloc, asked, case, end)?;
+    strings_are_bytes(&end.verdict);
     out.extend_from_slice(line.as_bytes())?;
     out.extend_from_slice(bytes.as_slice())?;
     Ok(())
@@ -240,7 +245,8 @@ where
     requires chained { All (IsChained D.digest_of) starts.items }
     requires silent { All (λ start. start.output.items ≡ []) starts.items }
     requires options { AreAtLeastOne options }
-    ensures { IfOk result (λ response. response ≡ together (each_told D.digest_of (judging asked.text asked.name) (map data_of cases.now) (map state_of starts.items))) }
+    ensures told { IfOk result (λ response. response ≡ together (each_told D.digest_of (judging asked.text asked.name) (map data_of cases.now) (map state_of starts.items))) }
+    ensures shown { IfOk result (λ response. AreAllShown D.digest_of (judging asked.text asked.name) (map data_of cases.now) (map state_of starts.items)) }
 {
     records_of_cases_are_settled_up();
     let loads = loaded_cases(alloc, cases, starts)?;

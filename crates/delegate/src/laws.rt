@@ -27,10 +27,11 @@ use transcript_text::{
     a_verdict_is_stated, no_fault_of_a_text_is_out_of_memory, nothing_is_said_against_the_truthful,
 };
 
-/// The headline, of what is written of each case whose numbers are in range and whose run starts in a valid state without output,
-/// by the digest of each name: a prover that claims and answers as the machine's definition says, within its patience, is not
-/// eliminated, has its stake and one more for each of its disputes but that of a collision, if there are deposits, and the text accepts the
-/// sequential run's status and output or shows a collision.
+/// The headline, of what is written of each case whose numbers are in range, whose run starts in a valid state without output, and
+/// whose verdict shows strings of bytes if it is a collision, by the digest of each name: a prover that claims and answers as the
+/// machine's definition says, within its patience, is not eliminated, has its stake and one more for each of its disputes but that of a
+/// collision, if there are deposits, and the text accepts the sequential run's status and output or shows a collision of two different
+/// strings of bytes.
 pub fn the_headline()
     ensures { HeadlineOfCases }
 {

@@ -10,7 +10,8 @@ ghost use Rattle.transcript_text.specs.FullLines.{AreWritten};
 ghost use Rattle.case_match.specs.Match.{record_of_case, verdict_of_record};
 ghost use Rattle.delegate.specs.Decided.{digest_of, written_as, tasks_for, decided, together, each_decided};
 ghost use Rattle.delegate.specs.commands.Judge.{judging, judged_of, judged};
-ghost use Rattle.delegate.specs.Standing.{Stands, AreByteStrings, AreInRange, AreInRangeIfThere};
+ghost use Rattle.delegate.specs.Headline.{AreByteStrings};
+ghost use Rattle.delegate.specs.Standing.{Stands, AreAllShown, AreInRange, AreInRangeIfThere};
 
 use crate::deciding::{self, Asked};
 use crate::loading::{start_in, starts_in, tasks_in};
@@ -63,7 +64,8 @@ fn tasks_decided<R: Threads + Wait + Sync>(
     requires chained { (digest : List ℕ → List ℕ) → All (IsChained digest) starts.items }
     requires silent { All (λ start. start.output.items ≡ []) starts.items }
     requires options { AreAtLeastOne options }
-    ensures { IfOk result (λ response. response ≡ together (each_decided (judging asked.text asked.name) (map data_of cases.now) (map state_of starts.items))) }
+    ensures decided { IfOk result (λ response. response ≡ together (each_decided (judging asked.text asked.name) (map data_of cases.now) (map state_of starts.items))) }
+    ensures shown { IfOk result (λ response. AreAllShown (digest_of asked.name) (judging asked.text asked.name) (map data_of cases.now) (map state_of starts.items)) }
 {
     match asked.name {
         DigestName::Sha256 => {

@@ -3,7 +3,7 @@ use Rattle.std.proofs.lemmas.List.{length-map}
 use Rattle.case_reader.specs.Case.{data_of}
 use Rattle.case_match.specs.declared.loaded.LoadedCase.{LoadedCase}
 use Rattle.delegate.specs.commands.Judge.{judging}
-use Rattle.delegate.proofs.TaskLemmas.{all-settled, told-together}
+use Rattle.delegate.proofs.TaskLemmas.{all-settled, all-shown, told-together}
 use Rattle.delegate.proofs.deciding.judge_tasks.Goals as goal
 
 pub ended_tasks-requires-clause-some : goal.ended_tasks-requires-clause-some
@@ -22,8 +22,13 @@ add_texts-requires-clause-settled_up g c =
     all-settled c.records_of_cases_are_settled_up.ensures g.D.Digester.digest_of c.in_ok-loads.loads.items (map data_of c.args.cases.now) c.in_ok-ends.ends.items c.as_slice.result.now
     c.in_ok-loads.ensures.cases c.in_ok-ends.ensures c.as_slice.ensures.value
 
-pub returns : goal.returns
-returns g c =
+pub returns-clause-told : goal.returns-clause-told
+returns-clause-told g c =
     told-together g.D.Digester.digest_of (judging c.args.asked.text c.args.asked.name) c.in_ok-loads.loads.items (map data_of c.args.cases.now) c.args.starts.items c.in_ok-ends.ends.items
     c.as_slice.result.now c.in_ok-answered.answered c.new-bytes.result.items c.add_texts.new.out.items c.new.result c.in_ok-loads.ensures.cases c.in_ok-loads.ensures.starts c.in_ok-ends.ensures
     c.as_slice.ensures.value c.new-bytes.ensures.items c.in_ok-answered.ensures.texts c.in_ok-answered.ensures.answered c.new.ensures
+
+pub returns-clause-shown : goal.returns-clause-shown
+returns-clause-shown g c =
+    all-shown g.D.Digester.digest_of (judging c.args.asked.text c.args.asked.name) c.in_ok-loads.loads.items (map data_of c.args.cases.now) c.args.starts.items c.in_ok-ends.ends.items
+    c.as_slice.result.now c.in_ok-loads.ensures.cases c.in_ok-loads.ensures.starts c.in_ok-ends.ensures c.as_slice.ensures.value c.in_ok-answered.ensures.shown

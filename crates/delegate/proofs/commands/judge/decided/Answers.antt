@@ -5,7 +5,7 @@ use Rattle.case_reader.specs.Case.{data_of}
 use Rattle.transcript_text.specs.MoveLists.{moves_of}
 use Rattle.transcript_text.specs.FullLines.{AreWritten}
 use Rattle.case_match.specs.Match.{record_of_case, verdict_of_record}
-use Rattle.delegate.specs.Standing.{AreByteStrings}
+use Rattle.delegate.specs.Headline.{AreByteStrings}
 use Rattle.delegate.specs.Decided.{digest_of, told}
 use Rattle.delegate.specs.commands.Judge.{judging}
 use Rattle.delegate.proofs.commands.judge.decided.Goals as goal
