@@ -21,8 +21,6 @@ mod manners;
 #[cfg(test)]
 mod plain_answers_test;
 #[cfg(test)]
-mod posters_test;
-#[cfg(test)]
 mod programs;
 #[cfg(test)]
 mod prover_run_test;

@@ -1,4 +1,4 @@
-//! Texts in pieces of others.
+//! Texts in pieces of another text.
 
 use rd_base::Memory;
 use std::alloc::Global;
@@ -8,8 +8,6 @@ use std::alloc::Global;
 pub(crate) enum Piece {
     /// The lines from the first to the second of these.
     Lines(usize, usize),
-    /// The same of the second text.
-    Others(usize, usize),
     /// A line from this column on.
     From(usize, usize),
     /// Other bytes.
@@ -40,20 +38,14 @@ fn add_lines(
     Ok(())
 }
 
-/// The pieces of two texts, one behind another.
-pub(crate) fn joined(
-    alloc: Global,
-    text: &[u8],
-    other: &[u8],
-    pieces: &[Piece],
-) -> Result<Vec<u8>, Memory> {
+/// The pieces, one behind another.
+pub(crate) fn joined(alloc: Global, text: &[u8], pieces: &[Piece]) -> Result<Vec<u8>, Memory> {
     let mut bytes = Vec::new(alloc);
     for piece in pieces {
         match piece {
             Piece::Lines(first, last) => add_lines(&mut bytes, text, *first, *last, 0)?,
-            Piece::Others(first, last) => add_lines(&mut bytes, other, *first, *last, 0)?,
             Piece::From(line, column) => add_lines(&mut bytes, text, *line, *line, *column)?,
-            Piece::New(new) => bytes.extend_from_slice(new)?,
+            Piece::New(other) => bytes.extend_from_slice(other)?,
         }
     }
     Ok(bytes)

@@ -1,6 +1,6 @@
 //! The rows of reading: each fault by itself, beside another on its line, and behind another line with one.
 
-use crate::reading::{Told, read_pieces};
+use crate::pieces::{Told, read_pieces};
 use rd_base::Memory;
 use std::alloc::Global;
 use std::process::Abort;

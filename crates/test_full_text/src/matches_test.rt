@@ -1,11 +1,15 @@
 //! Matches of the toy game, their full texts, and what is read of them.
-use crate::playing::full_of;
-use bisect_game::Settled;
+ghost use denote.Param.Send.{IsSync};
+ghost use Rattle.std.specs.Prelude.{length, ◌<◌, ◌≤◌};
+
+use bisect_game::{Answerer, Settled};
 use rd_base::{Answer, Digest32, Memory};
 use std::alloc::Global;
 use std::test::Fail;
-use toy_game::{HONEST, LIAR, SILENT, root};
-use transcript_text::{DigestName, FullText, Head, Stated, read_full};
+use std::thread::Threads;
+use tournament::{Match, Move};
+use toy_game::{HONEST, LIAR, Player, SILENT, Seated, ToyJudge, root};
+use transcript_text::{DigestName, FullText, Head, Stated, full, read_full};
 
 /// The text of a true prover and a liar over 8 steps: claims of the roots 6 and 108, roots at 4, 2 and 1, and two proofs of step 1.
 /// Its wire forms were laid out by hand.
@@ -36,6 +40,53 @@ fn liar_is_bisected() -> &'static [u8] {
         0000000000000000000000000000000000000000000000000000000000000000000000000000000000000000000000000000\
         00000000000000000000000000000000\n\
         accept running output\n"
+}
+
+/// The text of a match of these players over 8 steps without patience, with this fan; empty if it isn't over.
+fn full_of<R: Threads + Sync>(
+    rt: &R,
+    alloc: Global,
+    players: &[Player],
+    fan: u32,
+) -> Result<Vec<u8>, Memory>
+    requires sync { IsSync R.row }
+    requires some { 0 < length players.now }
+    requires few { length players.now ≤ 16 }
+    requires parted { 1 < fan }
+    requires few_parts { fan ≤ 16 }
+{
+    let judge = ToyJudge { name: 0 };
+    let mut game = Match::new(alloc, judge, players.len() as u32, 8, fan, 0, root(0))?;
+    for _ in 0..64 {
+        for (place, player) in players.iter().enumerate() {
+            let p = place as u32 + 1;
+            if p > game.setup().provers {
+                return Ok(Vec::new(alloc));
+            }
+            let Some(question) = game.question(p) else {
+                continue;
+            };
+            let mut seated = Seated {
+                player: *player,
+                alloc,
+            };
+            let answer = seated.answer(rt, &question, game.passes(p))?;
+            game.post(p, question.qid, answer.map_or(Move::Pass, Move::Give));
+        }
+    }
+    let head = Head {
+        provers: players.len() as u32,
+        bound: 8,
+        patience: 0,
+        version: 1,
+        fan,
+        digest: DigestName::Sha256,
+        start: root(0),
+    };
+    match game.verdict() {
+        Some(verdict) => full(alloc, &head, game.record(), &verdict),
+        None => Ok(Vec::new(alloc)),
+    }
 }
 
 /// Whether two texts have the same bytes.
@@ -98,7 +149,7 @@ fn accepts_running_without_output(stated: &Stated) -> bool {
 #[test]
 fn the_text_of_a_dispute_is_written_and_read_back(rt: HostRuntime) -> Result<(), Fail> {
     let alloc = rt.alloc();
-    let text = full_of(&rt, alloc, &[HONEST, LIAR], 0, 2)?;
+    let text = full_of(&rt, alloc, &[HONEST, LIAR], 2)?;
     assert!(rt; are_alike(text.as_slice(), liar_is_bisected()));
     let read = match read_full(alloc, text.as_slice()) {
         Ok(read) => read,
@@ -131,7 +182,7 @@ fn the_text_of_a_dispute_is_written_and_read_back(rt: HostRuntime) -> Result<(),
 #[test]
 fn the_text_of_silent_provers_has_four_lines(rt: HostRuntime) -> Result<(), Fail> {
     let alloc = rt.alloc();
-    let text = full_of(&rt, alloc, &[SILENT, SILENT], 0, 2)?;
+    let text = full_of(&rt, alloc, &[SILENT, SILENT], 2)?;
     let want = b"refereed provers 2 bound 8 patience 0 version 1 fan 2 digest sha256 start \
         0000000000000000000000000000000000000000000000000000000000000000\n\
         move 0 0 p1 spent\nmove 0 0 p2 spent\nnone left\n";
@@ -144,7 +195,7 @@ fn the_text_of_silent_provers_has_four_lines(rt: HostRuntime) -> Result<(), Fail
 #[test]
 fn roots_of_several_cuts_are_written_and_read_back(rt: HostRuntime) -> Result<(), Fail> {
     let alloc = rt.alloc();
-    let text = full_of(&rt, alloc, &[HONEST, LIAR], 0, 4)?;
+    let text = full_of(&rt, alloc, &[HONEST, LIAR], 4)?;
     let read = match read_full(alloc, text.as_slice()) {
         Ok(read) => read,
         Err(fault) => return Err(Fail::new(fault)),

@@ -2,16 +2,29 @@
 //! step 1, and the verdict.
 
 use crate::pieces::Piece::{From, Lines, New};
-use crate::telling::{Row, Told, first_wrong};
+use crate::pieces::{Piece, joined};
+use crate::playing::full_of;
+use crate::telling::{Told, audit_of};
 use audit::Cause;
+use std::alloc::Global;
+use std::process::Abort;
 use std::test::Fail;
-use toy_game::{HONEST, LIAR, Player};
+use toy_game::{HONEST, LIAR};
 
 /// Where the digits of an answer begin in a line that says `given`.
 const DIGITS: usize = 18;
 
-/// Who plays.
-const TWO: [Player; 2] = [HONEST, LIAR];
+/// Texts of these pieces, and what is told of them.
+type Row = (&'static [Piece], Told);
+
+/// Asserts of each row what is told of the text of its pieces.
+fn assert_told(rt: &impl Abort, alloc: Global, text: &[u8], rows: &[Row]) -> Result<(), Fail> {
+    for (pieces, want) in rows {
+        let changed = joined(alloc, text, *pieces)?;
+        assert_eq!(rt; audit_of(alloc, changed.as_slice())?, *want, "{pieces:?}");
+    }
+    Ok(())
+}
 
 const OTHER_VERDICT: Told = Told::Refused(12, Cause::OtherVerdict);
 
@@ -32,8 +45,8 @@ const VERDICTS: [Row; 5] = [
 
 #[test]
 fn another_verdict_is_refused(rt: HostRuntime) -> Result<(), Fail> {
-    assert_eq!(rt; first_wrong(&rt, rt.alloc(), &TWO, &TWO, &VERDICTS)?, None);
-    Ok(())
+    let text = full_of(&rt, rt.alloc(), &[HONEST, LIAR], 0)?;
+    assert_told(&rt, rt.alloc(), text.as_slice(), &VERDICTS)
 }
 
 /// A line is left out, doubled or put elsewhere, or is of another dispute or another round.
@@ -77,8 +90,8 @@ const LINES: [Row; 10] = [
 /// Each change is refused at its first line that isn't the next legal entry.
 #[test]
 fn a_changed_line_is_refused_where_it_stands(rt: HostRuntime) -> Result<(), Fail> {
-    assert_eq!(rt; first_wrong(&rt, rt.alloc(), &TWO, &TWO, &LINES)?, None);
-    Ok(())
+    let text = full_of(&rt, rt.alloc(), &[HONEST, LIAR], 0)?;
+    assert_told(&rt, rt.alloc(), text.as_slice(), &LINES)
 }
 
 /// The claim of prover 2 is called faulty; a claim stands where a root is asked, called given and called faulty.
@@ -116,8 +129,8 @@ const REPLIES: [Row; 3] = [
 /// Answers are checked: `given` and `faulty` must be right.
 #[test]
 fn a_wrong_reply_is_refused(rt: HostRuntime) -> Result<(), Fail> {
-    assert_eq!(rt; first_wrong(&rt, rt.alloc(), &TWO, &TWO, &REPLIES)?, None);
-    Ok(())
+    let text = full_of(&rt, rt.alloc(), &[HONEST, LIAR], 0)?;
+    assert_told(&rt, rt.alloc(), text.as_slice(), &REPLIES)
 }
 
 /// A proof of prover 1 that opens another root is refuted, as the liar's is, and nobody is left. The liar's proof is the last answer: a
@@ -156,8 +169,8 @@ const PROOFS: [Row; 3] = [
 /// A proof is followed to where it leads.
 #[test]
 fn a_changed_proof_changes_the_verdict(rt: HostRuntime) -> Result<(), Fail> {
-    assert_eq!(rt; first_wrong(&rt, rt.alloc(), &TWO, &TWO, &PROOFS)?, None);
-    Ok(())
+    let text = full_of(&rt, rt.alloc(), &[HONEST, LIAR], 0)?;
+    assert_told(&rt, rt.alloc(), text.as_slice(), &PROOFS)
 }
 
 const SPENT: [Row; 3] = [
@@ -186,57 +199,21 @@ const SPENT: [Row; 3] = [
 /// That a prover passed too often no text can show: `spent` is taken as stated, and settles its question.
 #[test]
 fn spent_is_taken_as_stated(rt: HostRuntime) -> Result<(), Fail> {
-    assert_eq!(rt; first_wrong(&rt, rt.alloc(), &TWO, &TWO, &SPENT)?, None);
-    Ok(())
+    let text = full_of(&rt, rt.alloc(), &[HONEST, LIAR], 0)?;
+    assert_told(&rt, rt.alloc(), text.as_slice(), &SPENT)
 }
 
-/// A match that is cut after any of its lines but the last answer.
-const CUTS: [Row; 10] = [
-    (
-        &[Lines(1, 1), Lines(12, 12)],
-        Told::Refused(2, Cause::MovesMissing),
-    ),
-    (
-        &[Lines(1, 2), Lines(12, 12)],
-        Told::Refused(3, Cause::MovesMissing),
-    ),
-    (
-        &[Lines(1, 3), Lines(12, 12)],
-        Told::Refused(4, Cause::MovesMissing),
-    ),
-    (
-        &[Lines(1, 4), Lines(12, 12)],
-        Told::Refused(5, Cause::MovesMissing),
-    ),
-    (
-        &[Lines(1, 5), Lines(12, 12)],
-        Told::Refused(6, Cause::MovesMissing),
-    ),
-    (
-        &[Lines(1, 6), Lines(12, 12)],
-        Told::Refused(7, Cause::MovesMissing),
-    ),
-    (
-        &[Lines(1, 7), Lines(12, 12)],
-        Told::Refused(8, Cause::MovesMissing),
-    ),
-    (
-        &[Lines(1, 8), Lines(12, 12)],
-        Told::Refused(9, Cause::MovesMissing),
-    ),
-    (
-        &[Lines(1, 9), Lines(12, 12)],
-        Told::Refused(10, Cause::MovesMissing),
-    ),
-    (
-        &[Lines(1, 10), Lines(12, 12)],
-        Told::Refused(11, Cause::MovesMissing),
-    ),
-];
-
-/// It has its verdict too early.
+/// A match that is cut after any of its lines but the last answer has its verdict too early.
 #[test]
 fn a_match_that_is_cut_is_refused_at_its_verdict(rt: HostRuntime) -> Result<(), Fail> {
-    assert_eq!(rt; first_wrong(&rt, rt.alloc(), &TWO, &TWO, &CUTS)?, None);
+    let alloc = rt.alloc();
+    let text = full_of(&rt, alloc, &[HONEST, LIAR], 0)?;
+    for last in 1..11 {
+        let cut = joined(alloc, text.as_slice(), &[Lines(1, last), Lines(12, 12)])?;
+        assert_eq!(rt;
+            audit_of(alloc, cut.as_slice())?,
+            Told::Refused(last as u64 + 1, Cause::MovesMissing)
+        );
+    }
     Ok(())
 }

@@ -1,4 +1,4 @@
-//! Matches of toy players, their reports and their full texts.
+//! Matches of toy players, and their reports.
 ghost use denote.Param.Send.{IsSync};
 ghost use Rattle.std.specs.Prelude.{length, ◌<◌, ◌≤◌, ◌^◌};
 
@@ -9,7 +9,7 @@ use std::alloc::Global;
 use std::thread::Threads;
 use tournament::{Match, Move, Verdict};
 use toy_game::{Player, Seated, ToyJudge, root};
-use transcript_text::{DigestName, Head, full, report};
+use transcript_text::{DigestName, Head, report};
 
 /// The question for a claim.
 pub(crate) const CLAIM: Question = Question {
@@ -128,38 +128,6 @@ fn played<R: Threads + Sync>(
     Ok(game)
 }
 
-/// A match of these players, of whom there are 1 to 16; `None` if there is none on such terms.
-fn game_of<R: Threads + Sync>(
-    rt: &R,
-    alloc: Global,
-    players: &[Player],
-    order: &[usize],
-    terms: Terms,
-) -> Result<Option<Match<ToyJudge>>, Memory>
-    requires { IsSync R.row }
-{
-    if players.is_empty() || players.len() > 16 {
-        return Ok(None);
-    }
-    if terms.bound == 0 || terms.bound > 4_294_967_295 || terms.fan < 2 || terms.fan > 16 {
-        return Ok(None);
-    }
-    Ok(Some(played(rt, alloc, players, order, terms)?))
-}
-
-/// The head of its texts.
-fn head_of(players: &[Player], terms: Terms) -> Head {
-    Head {
-        provers: players.len() as u32,
-        bound: terms.bound,
-        patience: terms.patience,
-        version: 1,
-        fan: terms.fan,
-        digest: DigestName::Sha256,
-        start: root(0),
-    }
-}
-
 /// The prover whose claim is accepted; 0 if none is.
 fn accepted(verdict: &Verdict) -> u32 {
     match verdict {
@@ -180,41 +148,27 @@ pub(crate) fn report_of<R: Threads + Sync>(
 ) -> Result<(Vec<u8>, u32), Memory>
     requires { IsSync R.row }
 {
-    let Some(game) = game_of(rt, alloc, players, order, terms)? else {
+    if players.is_empty() || players.len() > 16 {
         return Ok((Vec::new(alloc), 0));
-    };
-    let Some(verdict) = game.verdict() else {
+    }
+    if terms.bound == 0 || terms.bound > 4_294_967_295 || terms.fan < 2 || terms.fan > 16 {
         return Ok((Vec::new(alloc), 0));
+    }
+    let game = played(rt, alloc, players, order, terms)?;
+    let head = Head {
+        provers: players.len() as u32,
+        bound: terms.bound,
+        patience: terms.patience,
+        version: 1,
+        fan: terms.fan,
+        digest: DigestName::Sha256,
+        start: root(0),
     };
-    let head = head_of(players, terms);
-    let text = report(alloc, &head, game.record(), &verdict, balances)?;
-    Ok((text, accepted(&verdict)))
-}
-
-/// Sixteen provers, in turn.
-pub(crate) const IN_TURN: [usize; 16] = [0, 1, 2, 3, 4, 5, 6, 7, 8, 9, 10, 11, 12, 13, 14, 15];
-
-/// The full text of a match over 8 steps of these players, of whom there are 1 to 16, which a round cuts in `fan` parts; empty if there is
-/// no match on such terms, and if it isn't over.
-pub(crate) fn full_of<R: Threads + Sync>(
-    rt: &R,
-    alloc: Global,
-    players: &[Player],
-    patience: u32,
-    fan: u32,
-) -> Result<Vec<u8>, Memory>
-    requires { IsSync R.row }
-{
-    let terms = Terms {
-        patience,
-        fan,
-        ..HALVES
-    };
-    let Some(game) = game_of(rt, alloc, players, &IN_TURN, terms)? else {
-        return Ok(Vec::new(alloc));
-    };
-    let Some(verdict) = game.verdict() else {
-        return Ok(Vec::new(alloc));
-    };
-    full(alloc, &head_of(players, terms), game.record(), &verdict)
+    match game.verdict() {
+        Some(verdict) => {
+            let text = report(alloc, &head, game.record(), &verdict, balances)?;
+            Ok((text, accepted(&verdict)))
+        }
+        None => Ok((Vec::new(alloc), 0)),
+    }
 }
