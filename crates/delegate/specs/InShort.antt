@@ -1,5 +1,5 @@
 -- To believe. THE SENTENCE IN SHORT: if a prover of the case is `{}`, the last line that is written accepts what the machine's definition computes, or
--- shows two different strings of one digest; so does each part of the text of tasks. What is named is how arguments, a case and its image are read, the
+-- shows two different strings of one digest; of tasks, the part of each that has such a prover. What is named is how arguments, a case and its image are read, the
 -- machine, and two lines of text: of the provers only that one of them is `{}`, and nothing of how a match is played, committed or judged.
 use Rattle.std.specs.Prelude.{◌≡◌, ◌≢◌, ◌<◌, ◌≤◌, slice_index, slice_get, ◌⊎◌, ℕ, ◌-◌, List, Contains, All, length, codes, ◌++◌, Option, option_map, Some, Ok}
 use Rattle.std.specs.Io.KnownBytes.{Appends}
