@@ -1,4 +1,4 @@
-/* Puts out the Adler-32 of the input (RFC 1950, 'ADLER32'), its greatest byte first, and exits with 0. It reads the input by
+/* Writes the Adler-32 of the input (RFC 1950, 'ADLER32'), its greatest byte first, and exits with 0. It reads the input by
  * the call, byte by byte, so its case is of version 3. */
 #include "machine.h"
 

@@ -1,7 +1,7 @@
-/* Evaluates the lines of the input, one by one, and puts out each one's value in decimal, or for a bad line its number
+/* Evaluates the lines of the input, one by one, and writes each one's value in decimal, or for a bad line its number
  * and the first error in it, from the left. Exits with 1 where some line was bad, and else with 0.
  *
- *     line    = [ sum ]                           a line of blanks alone puts out nothing
+ *     line    = [ sum ]                           a line of blanks alone writes nothing
  *     sum     = product { ( "+" | "-" ) product }
  *     product = factor { ( "*" | "/" | "%" ) factor }
  *     factor  = { "-" } ( number | "(" sum ")" )
@@ -39,7 +39,7 @@ static uint32_t magnitude(uint32_t value)
     return negated_if(is_negative(value), value);
 }
 
-/* Notes an error, unless there was one before; the value is of no account then. */
+/* Notes an error, unless there was one before; the value doesn't matter then. */
 static uint32_t failed(struct reader *r, const char *error)
 {
     if (r->error == 0)
@@ -130,7 +130,7 @@ static void put_number(uint32_t value)
     put_byte((uint8_t)('0' + value % 10));
 }
 
-/* Puts out what a line gives, and returns whether it was good. */
+/* Writes the result of a line, and returns whether it was good. */
 static bool evaluate(struct reader r, uint32_t line)
 {
     if (next(&r) == '\n')

@@ -1,4 +1,4 @@
-/* Puts out the SHA-256 of the input, as 32 bytes, and exits with 0. FIPS 180-4; the numbers are those of its sections.
+/* Writes the SHA-256 of the input, as 32 bytes, and exits with 0. FIPS 180-4; the numbers are those of its sections.
  * Sums of uint32_t are modulo 2^32, as the standard has them (3.2). */
 #include "machine.h"
 

@@ -1,5 +1,5 @@
-/* Puts out the lines of the input in the order of their bytes, as `LC_ALL=C sort` does, and exits with 0. A line ends
- * in a newline, which the last one may lack; each is put out with one. Equal lines are all kept.
+/* Writes the lines of the input in the order of their bytes, as `LC_ALL=C sort` does, and exits with 0. A line ends
+ * in a newline, which the last one may lack; each is written with one. Equal lines are all kept.
  *
  * A merge sort from below: runs of 1 line are merged to runs of 2, these to runs of 4, and so on. n lines take log2 n
  * passes, rounded up, of fewer than n comparisons each, whatever their order. */
@@ -15,7 +15,7 @@ struct line {
 static struct line lines[MAX_INPUT_BYTES];
 static struct line spare[MAX_INPUT_BYTES];
 
-/* Finds the lines; gives their number. */
+/* Finds the lines, and returns their number. */
 static uint32_t find_lines(void)
 {
     const uint8_t *input = input_bytes();
@@ -65,7 +65,7 @@ static void merge(const struct line *from, struct line *to, uint32_t low, uint32
     }
 }
 
-/* Sorts the lines; gives where they are then. */
+/* Sorts the lines, and returns where they are then. */
 static const struct line *sorted(uint32_t count)
 {
     struct line *from = lines;

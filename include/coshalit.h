@@ -10,7 +10,7 @@
  * - takes slices as a pointer and a number of bytes. The pointer may be null if the number is 0. A slice that is read may overlap with another
  *   one that is read; the slice that is written (`next`, `room`) overlaps with none.
  * - takes any bytes and any lengths, returns, and keeps nothing. The same arguments give the same answer, unless memory runs out.
- * - writes to `next` or `room` what is said there, and to no other byte of the caller.
+ * - writes to `next` or `room` what is described there, and to no other byte of the caller.
  * - may run in several threads at the same time, if each has a `next` or `room` of its own and malloc may be called from them. Not in a
  *   signal handler.
  * - wants stack: give a thread 1 MiB or more.
@@ -52,11 +52,12 @@ typedef struct CoshalitAnswer {
 /* The ruling on the proof of one step of the machine, from a root on which both sides agree, by SHA-256.
  *
  * `version` is that of the commitment, 1, 2 or 3; by any other number no proof has the right shape. `root` has 32 bytes. `wire` is the proof
- * as it is sent: at most 1,999 bytes in version 1, 2,400 in version 2 and 2,948 in version 3 (longer bytes are no proof). The next root, of 32 bytes, is
- * written to `next` if the proof leads; otherwise `next` stays as it was. It takes no memory from malloc.
+ * as it is sent: at most 1,999 bytes in version 1, 2,400 in version 2 and 2,948 in version 3 (longer bytes are no proof). The next root, of
+ * 32 bytes, is written to `next` if the proof leads; otherwise `next` stays as it was. It takes no memory from malloc.
  *
- * Proved: it returns 0 if and only if all conditions of a proof with these bytes hold from this root, and the root that is written is made of
- * its parts after the step; 1 or 2 by the first condition that fails; 3 if and only if no proof has these bytes; 4 if and only if a length is wrong. */
+ * Proved: it returns 4 if and only if a length is wrong. With right lengths it returns 3 if and only if no proof has these bytes, and 0 if
+ * and only if all conditions of the proof with these bytes hold from this root; then the root that is written is made of its parts after the
+ * step. It returns 1 or 2 by the first condition that fails. */
 uint32_t coshalit_check_step(uint32_t version, const uint8_t *root, size_t root_length, const uint8_t *wire, size_t wire_length,
                              uint8_t *next, size_t next_length);
 
@@ -69,10 +70,12 @@ uint32_t coshalit_check_step(uint32_t version, const uint8_t *root, size_t root_
 CoshalitAnswer coshalit_audit(const uint8_t *text, size_t text_length, uint8_t *room, size_t room_length);
 
 /* Runs the program of a case, a JSON text: COSHALIT_DONE and the line of its status and output at the bound, or COSHALIT_BAD_CASE,
- * COSHALIT_BAD_IMAGE or COSHALIT_TOO_LONG and why. It takes as long as the run, which the case bounds. The answer as above, by the command `run`. */
+ * COSHALIT_BAD_IMAGE or COSHALIT_TOO_LONG and why. It takes as long as the run, which the case bounds. The answer is as above, by the command
+ * `run`. */
 CoshalitAnswer coshalit_run(const uint8_t *json, size_t json_length, uint8_t *room, size_t room_length);
 
-/* Lists the image of a case as assembly text, a line for each word: statuses as of coshalit_run. The answer as above, by the command `list`. */
+/* Lists the image of a case as assembly text, a line for each word: statuses as of coshalit_run. The answer is as above, by the command
+ * `list`. */
 CoshalitAnswer coshalit_list(const uint8_t *json, size_t json_length, uint8_t *room, size_t room_length);
 
 #ifdef __cplusplus

@@ -83,7 +83,7 @@ end_of rules line said t =
     if is_complete t then (if is_stated t.claims (verdict_of rules t) said then Confirmed (verdict_of rules t) else Refused line OtherVerdict)
     else Refused line MovesMissing
 
--- the lines from the one with this number on, after those that came to this record
+-- the lines from the one with this number on, after those whose moves made this record
 abbrev pub audit_from : Rules → ℕ → List TextMove → Stated → Record → Audit
 audit_from rules line [] said t = end_of rules line said t
 audit_from rules line (m ∷ ms) said t =

@@ -69,8 +69,9 @@ CaseTextsAreConfirmed =
     let r : Record = bracket rules (answers_of rules says) in
     ArePlayable rules → IsTextOfRecord rules r text → audited ruling text ≡ Confirmed (verdict_of rules r)
 
--- and so are its bytes: what `full` writes of a case's record is read, and the text that is read, of this head and verdict, is confirmed. Its premises are those of
--- reading: the numbers of the head are within the limits, the answers have wire forms, and a collision has strings that a text can state.
+-- and so are its bytes: what `full` writes of a case's record is read, and the text that is read, of this head and verdict, is confirmed.
+-- Its premises are those of reading: the numbers of the head are within the limits, the answers have wire forms, and a collision has
+-- strings that a text can state.
 pub record IsReadAndConfirmed (ruling : Ruling) (head : Head) (r : Record) : Type 0 where
   pub text : FullText
   pub head_is : text.head ≡ head

@@ -1,3 +1,4 @@
+//! The audit of a full text.
 ghost use Rattle.std.specs.Prelude.{◌≡◌, ◌<◌, ◌≤◌, ◌^◌, IfOk};
 ghost use Rattle.tournament.specs.Match.{rules_in};
 ghost use Rattle.audit.specs.LineByLine.{AreOfProvers, end_of, audited};
@@ -14,7 +15,7 @@ use transcript_text::{FullText, Stated};
 /// The number of the first line of a text that is a move: the head is line 1.
 const FIRST_MOVE: u64 = 2;
 
-/// What comes of the verdict's line, which has this number.
+/// The finding at the verdict's line, which has this number.
 fn end<J: Judge + Drop>(played: &Match<J>, line: u64, stated: &Stated) -> Audit
     ensures { result ≡ end_of (rules_in J.ruling played.now) line stated.now played.now.game.record_ }
 {
@@ -37,7 +38,8 @@ fn end<J: Judge + Drop>(played: &Match<J>, line: u64, stated: &Stated) -> Audit
 }
 
 /// Audits a full text before a judge of the version and digest that its head names, by playing its moves in order. It runs no machine
-/// beyond what the judge does for a proof, and keeps one match in memory.
+/// beyond what the judge does for a proof, and keeps one match in memory. The head has 1 to 65,536 provers, a bound of 1 to 4,294,967,295
+/// steps and a fan of 2 to 16, and each move is of one of the provers, as in every text that was read (`a_read_text_may_be_audited`).
 ///
 /// `Refused` comes exactly at the first line that isn't the next legal entry, with the number of that line. An `Err` is out of memory.
 #[tactic(auto, unfolding(crate::specs::LineByLine::audited))]

@@ -1,11 +1,12 @@
+//! What an audit finds.
 use tournament::Verdict;
 
 /// Why a line of a full text isn't the next legal entry.
 #[derive(Clone, Copy, Debug, PartialEq, Eq)]
 pub enum Cause {
-    /// 1: it isn't of the question and the prover that are next, and the match goes on.
+    /// 1: it isn't of the question and the prover that are next, and the match isn't over.
     NotAsked,
-    /// 2: it says `given` of a faulty answer, or `faulty` of one that isn't.
+    /// 2: it calls a faulty answer `given`, or another answer `faulty`.
     OtherReply,
     /// 3: the stated verdict isn't the verdict.
     OtherVerdict,

@@ -34,7 +34,7 @@ pub fn case_texts_are_confirmed()
 }
 
 /// What `transcript_text::full` writes of the record of every case is read, and the text that is read is confirmed, if the head's
-/// numbers are within the limits. That each answer has a wire form is a clause of `full`.
+/// numbers are within the limits. By a clause of `full`, each answer has a wire form.
 pub fn written_cases_are_confirmed()
     ensures { WrittenCasesAreConfirmed }
 {
@@ -56,14 +56,14 @@ pub fn a_confirmed_text_is_right()
     a_number_names_one_question();
 }
 
-/// The conditions of `audit` hold of every text that was read, whatever its bytes are.
+/// The conditions of `audit` hold for every text that was read, whatever its bytes are.
 pub fn read_texts_may_be_audited()
     ensures { ReadTextsMayBeAudited }
 {
     reading_is_the_inverse_of_writing();
 }
 
-/// A text that was read may be audited: the conditions of `audit` hold of it.
+/// A text that was read may be audited: the conditions of `audit` hold for it.
 pub fn a_read_text_may_be_audited(bytes: &[u8], text: &FullText)
     requires { read_text bytes.now ≡ Ok text.now }
     ensures some { 0 < text.now.head.provers }

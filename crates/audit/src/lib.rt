@@ -1,11 +1,11 @@
 //! The audit of a full text: whoever holds a text can check its verdict, with one machine step for each proof, without the image,
 //! the input or a prover.
 //!
-//! The layers above may rely on this: `audit` answers what `specs/LineByLine.antt` says of a text. It plays one match before a judge in
+//! The layers above may rely on this: `audit` answers what `specs/LineByLine.antt` defines for a text. It plays one match before a judge in
 //! the order of the text, and refuses at the first line that isn't the next legal entry. The laws say that a text is confirmed if and
 //! only if it is the full text of the match whose provers say what the text says, so that the full text of each case is confirmed
 //! (`specs/OwnMatch.antt`), and that a confirmed verdict is right if one prover's lines are all given and true
-//! (`specs/TrueLines.antt`). That a prover's `spent` was deserved no text can show. Read `finding` first, then `next_entry`, `playing`
+//! (`specs/TrueLines.antt`). No text can show that a prover's `spent` was deserved. Read `finding` first, then `next_entry`, `playing`
 //! and `auditing`.
 #![tactic(auto)]
 

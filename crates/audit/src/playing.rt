@@ -15,7 +15,7 @@ use std::alloc::Global;
 use tournament::{Match, Move, Reply};
 use transcript_text::TextMove;
 
-/// A prover spends its open question: it passes once more than the patience.
+/// A prover spends its open question: it passes one time more than the patience.
 fn spend<J: Judge + Drop>(played: &mut Match<J>, p: u32, question: Question)
     requires some { 0 < p }
     requires few { p ≤ played.old.setup.provers }
@@ -32,7 +32,7 @@ fn spend<J: Judge + Drop>(played: &mut Match<J>, p: u32, question: Question)
     let _ = played.post(p, question.qid, Move::Pass);
 }
 
-/// Whether a reply says that an answer is faulty.
+/// Whether a reply is that to a faulty answer.
 fn is_faulty(reply: Reply) -> bool
     ensures { result ≡ is_faulty reply }
 {
@@ -42,7 +42,7 @@ fn is_faulty(reply: Reply) -> bool
     }
 }
 
-/// A prover answers its open question. Whether the answer is faulty.
+/// A prover answers its open question. The result is whether the answer is faulty.
 fn answer<J: Judge + Drop>(played: &mut Match<J>, p: u32, question: Question, given: Answer) -> bool
     requires some { 0 < p }
     requires few { p ≤ played.old.setup.provers }
@@ -57,8 +57,8 @@ fn answer<J: Judge + Drop>(played: &mut Match<J>, p: u32, question: Question, gi
     is_faulty(reply)
 }
 
-/// The open question of a prover is settled as a line says. Whether the line is right to call the answer given or faulty; if it isn't,
-/// the match has gone on otherwise.
+/// Settles the open question of a prover as a line states it. The result is whether the line is right to call the answer given or faulty;
+/// if it isn't, the question was settled otherwise. An `Err` is out of memory.
 fn settle<J: Judge + Drop>(
     alloc: Global,
     played: &mut Match<J>,

@@ -64,7 +64,7 @@ impl Worker {
     }
 }
 
-// Splits a seat off for each worker.
+/// Splits a seat off for each worker.
 fn seat_workers(
     alloc: Global,
     lock: &SeatLock<Counter>,
@@ -85,7 +85,7 @@ fn seat_workers(
     Ok(workers)
 }
 
-// What the counter stands at after all turns.
+/// The counter's number after all turns.
 fn count<R: Threads + Wait + Sync>(
     rt: &R,
     alloc: Global,
@@ -105,7 +105,7 @@ fn count<R: Threads + Wait + Sync>(
     Ok(lock.with_turn(rt, &mut seat, Add { number: 0 }))
 }
 
-/// What the counter stands at after all turns, as a line. `None` if the words don't begin with the subject's numbers, or memory ran out.
+/// The counter's number after all turns, as a line. `None` if the words don't begin with the subject's numbers, or memory ran out.
 pub fn line<R: Threads + Wait + Sync>(rt: &R, alloc: Global, words: &[String]) -> Option<String> {
     let threads = words.first()?.as_str().parse::<u64>().ok()?;
     let turns = words.get(1)?.as_str().parse::<u64>().ok()?;

@@ -14,7 +14,7 @@ use std::env::Env;
 use std::process::ExitCode;
 use std::{env, io};
 
-// The words of the command line, the program's name first.
+/// The words of the command line, the program's name first.
 fn words_of(rt: &(impl Env + AllocGlobal)) -> Option<Vec<String>> {
     env::args(rt).ok()?.collect(rt.alloc()).ok()
 }

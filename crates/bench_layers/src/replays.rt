@@ -41,7 +41,7 @@ fn machine_of(alloc: Global, pages: u32) -> Result<Machine, Memory>
     Machine::new(alloc, 1, mem, 0x1_0000, &[])
 }
 
-// The first four bytes of the last root as a number; if no root is asked, the last count, which is that of the stores.
+/// The first four bytes of the last root as a number; if no root is asked, the last count, which is that of the stores.
 fn worked<R: Threads + Sync>(rt: &R, alloc: Global, work: Work) -> Result<u32, Memory> {
     let mut machine = machine_of(alloc, work.pages)?;
     if work.every == 0 {
@@ -74,7 +74,7 @@ fn worked<R: Threads + Sync>(rt: &R, alloc: Global, work: Work) -> Result<u32, M
     }
 }
 
-// The numbers of the subject, with which the words begin.
+/// The numbers of the subject, with which the words begin.
 fn work_of(words: &[String]) -> Option<Work> {
     Some(Work {
         pages: words.first()?.as_str().parse::<u32>().ok()?,

@@ -18,7 +18,7 @@ use step_referee::MachineJudge;
 const PROGRAM: &[u8] =
     b"\xb7\x02\x02\x00\x13\x03\xa0\x07\xa3\x81\x62\x00\x03\xa5\x02\x00\x13\x55\x85\x01";
 
-// How many of `rulings` rulings in a version on the step after `steps` steps lead to a root.
+/// How many of `rulings` rulings in a version on the step after `steps` steps lead to a root.
 fn led<R: Threads + Sync>(
     rt: &R,
     alloc: Global,

@@ -77,7 +77,7 @@ format_in tree = do
   text ← text_in keys.Format tree
   ok_or (format_named text) (OutOfRange keys.Format)
 
--- the image's bytes: of assembly the text as it stands, and else those of its digits
+-- the image's bytes: of assembly the text as it is, and else those of its digits
 unfoldable pub image_in : Format → Data → Result (List ℕ) CaseFault
 image_in Asm tree = text_in keys.Image tree
 image_in Flat tree = bytes_in keys.Image tree

@@ -3,7 +3,7 @@ use Rattle.std.specs.Prelude.{ℕ, List, codes}
 use Rattle.case_reader.specs.declared.fault.Key.{Key}
 use Rattle.case_reader.specs.declared.fault.Key.TheVariants.{Tasks, Format, Image, Input, Bound, Patience, Version, Fan, Stake, Provers}
 
--- a key as it stands in a case
+-- a key as a case writes it
 abbrev pub key_text : Key → List ℕ
 key_text Tasks = codes "tasks"
 key_text Format = codes "format"

@@ -86,7 +86,7 @@ forge_in manner = do
   value ← word_at (codes "value") manner
   Some (Forge step reg value)
 
--- the answer that stands as the digits of its wire form
+-- the answer that is written as the digits of its wire form
 unfoldable pub answer_at : List ℕ → Data → Option Answer
 answer_at key tree = do
   text ← text_at key tree

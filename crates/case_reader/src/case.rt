@@ -1,15 +1,16 @@
+//! A case, its tasks, and the limits of its numbers.
 ghost use Rattle.std.proofs.Props.{props};
 ghost use Rattle.std.specs.Prelude.{◌≤◌, length, IfSome};
 
 use rd_base::{Bytes, Listed, Script};
 
-/// The first version of the commitments, and that of a case that doesn't say.
+/// The first version of the commitments, and the version of a case without the key.
 pub const MIN_VERSION: u32 = 1;
 
 /// The last version of the commitments.
 pub const MAX_VERSION: u32 = 3;
 
-/// The fewest parts into which a round cuts its interval, and those of a case that doesn't say.
+/// The fewest parts into which a round cuts its interval, and the number of parts of a case without the key.
 pub const MIN_FAN: u32 = 2;
 
 /// The most parts into which a round cuts its interval.
@@ -33,9 +34,9 @@ pub const MAX_TASKS: usize = 8;
 /// The format of an image.
 #[derive(Clone, Copy, Debug, PartialEq, Eq)]
 pub enum Format {
-    /// A flat file, whose bytes lie in memory as they stand.
+    /// A flat file, whose bytes lie in memory as they are.
     Flat,
-    /// An ELF file (ELF32), whose program headers say what lies where.
+    /// An ELF file (ELF32), whose program headers fix what lies where.
     Elf,
     /// A program in assembly, which loads as the flat file of its words.
     Asm,

@@ -1,3 +1,4 @@
+//! The keys of a case, and the faults of cases and tasks.
 ghost use Rattle.std.specs.Prelude.{◌≡◌, Some};
 ghost use Rattle.case_reader.specs.Key.{key_text};
 ghost use Rattle.case_reader.specs.Fault.{rule_of};
@@ -24,7 +25,7 @@ pub enum Key {
 }
 
 impl Key {
-    /// The key as it stands in a case.
+    /// The key as a case writes it.
     pub fn name(self) -> &'static str
         ensures { result.now ≡ key_text self }
     {
@@ -81,7 +82,7 @@ pub enum CaseFault {
 }
 
 impl CaseFault {
-    /// The number of the rule that is broken, from 1 to 7 as the variants stand, and `None` if memory ran out.
+    /// The number of the rule that is broken, from 1 to 7 in the order of the variants, and `None` if memory ran out.
     pub fn rule(self) -> Option<u32>
         ensures { result ≡ rule_of self }
     {

@@ -13,14 +13,14 @@ use rd_base::Bytes;
 use serde_json::Value;
 use std::alloc::Global;
 
-/// The value of a key.
+/// The value of a key. `Missing` comes if the tree isn't an object with this key.
 pub fn value_of<'v>(tree: &'v Value, key: Key) -> Result<&'v Value, CaseFault>
     ensures { Gives CaseFault.Memory (λ v. view v.now) result (field key (view tree.now)) }
 {
     tree.get(key.name()).ok_or(CaseFault::Missing(key))
 }
 
-/// The text of a key.
+/// The text of a key. `Missing` comes if the key isn't there, and `WrongType` if its value is no string.
 #[tactic(auto, unfolding(crate::specs::Fields::text_in))]
 pub fn text_of<'v>(tree: &'v Value, key: Key) -> Result<&'v str, CaseFault>
     ensures { Gives CaseFault.Memory (λ text. text.now) result (text_in key (view tree.now)) }
@@ -29,7 +29,7 @@ pub fn text_of<'v>(tree: &'v Value, key: Key) -> Result<&'v str, CaseFault>
     value.as_str().ok_or(CaseFault::WrongType(key))
 }
 
-/// The bytes of a text of hexadecimal digits.
+/// The bytes of a text of hexadecimal digits in pairs; `None` if it isn't one. An `Err` is `Memory`.
 pub fn hex_bytes(alloc: Global, text: &str) -> Result<Option<Bytes>, CaseFault>
     ensures { Gives CaseFault.Memory (λ bytes. bytes) result (Ok (hex_of text.now)) }
 {
@@ -40,7 +40,8 @@ pub fn hex_bytes(alloc: Global, text: &str) -> Result<Option<Bytes>, CaseFault>
     }
 }
 
-/// The bytes of a key whose text is hexadecimal digits.
+/// The bytes of a key whose text is hexadecimal digits. `Missing` and `WrongType` come as in `text_of`, `BadHex` if the text isn't such
+/// digits in pairs, and `Memory` if memory ran out.
 #[tactic(auto, unfolding(crate::specs::Fields::bytes_in))]
 pub fn bytes_of(alloc: Global, tree: &Value, key: Key) -> Result<Bytes, CaseFault>
     ensures { Gives CaseFault.Memory (λ bytes. bytes) result (bytes_in key (view tree.now)) }
@@ -49,7 +50,8 @@ pub fn bytes_of(alloc: Global, tree: &Value, key: Key) -> Result<Bytes, CaseFaul
     hex_bytes(alloc, text)?.ok_or(CaseFault::BadHex(key))
 }
 
-/// The number of a key, from `low` to `high`.
+/// The number of a key, from `low` to `high`. `Missing` comes if the key isn't there, `WrongType` if its value isn't an unsigned number of
+/// 64 bits, and `OutOfRange` if the number is outside the range.
 #[tactic(auto, unfolding(crate::specs::Fields::number_in))]
 pub fn number_of(tree: &Value, key: Key, low: u64, high: u64) -> Result<u64, CaseFault>
     ensures value { Gives CaseFault.Memory (λ n. n) result (number_in key low high (view tree.now)) }
@@ -60,7 +62,7 @@ pub fn number_of(tree: &Value, key: Key, low: u64, high: u64) -> Result<u64, Cas
     number_in_range(value, key, low, high)
 }
 
-/// The number of a key that may be missing, from `low` to `high`.
+/// The number of a key that may be missing, from `low` to `high`. `WrongType` and `OutOfRange` come as in `number_of`.
 #[tactic(auto, unfolding(crate::specs::Fields::optional_number_in))]
 pub fn optional_number_of(
     tree: &Value,
@@ -93,7 +95,7 @@ fn number_in_range(value: &Value, key: Key, low: u64, high: u64) -> Result<u64, 
     }
 }
 
-/// The items of a key whose value is an array.
+/// The items of a key whose value is an array. `Missing` comes if the key isn't there, and `WrongType` if its value is no array.
 #[tactic(auto, unfolding(crate::specs::Fields::array_in))]
 pub fn array_of(tree: &Value, key: Key) -> Result<&[Value], CaseFault>
     ensures { Gives CaseFault.Memory (λ items. map view items.now) result (array_in key (view tree.now)) }

@@ -11,7 +11,7 @@ pub fn no_fault_of_a_case_is_out_of_memory()
     ensures { (bytes : List ℕ) → ¬ (case_at bytes ≡ Err CaseFault.Memory) }
 {}
 
-/// Nor have bytes it as their fault as tasks, in the whole text or in a task.
+/// Nor is it a fault of bytes that are read as tasks, of the whole text or of a task.
 pub fn no_fault_of_tasks_is_out_of_memory()
     ensures none { (bytes : List ℕ) → ¬ (tasks_at bytes ≡ Err TaskFault.Memory) }
     ensures whole { (bytes : List ℕ) → ¬ (tasks_at bytes ≡ Err (TaskFault.Whole CaseFault.Memory)) }

@@ -1,3 +1,4 @@
+//! The manner of a prover.
 ghost use Rattle.std.specs.Prelude.{◌≡◌, Ok, codes};
 ghost use Rattle.std.specs.Option.{option_map};
 ghost use Rattle.serde_json.specs.View.{view};
@@ -70,7 +71,7 @@ fn taped_of(alloc: Global, manner: &Value) -> Result<Option<Manner>, CaseFault>
     Ok(tape_of(alloc, manner)?.map(Manner::Tape))
 }
 
-/// The manner of a value, if it is one that is known.
+/// The manner of a value, if it is one that is known. An `Err` is `Memory`.
 #[tactic(auto, unfolding(crate::specs::Scripts::manner_in))]
 pub fn manner_of(alloc: Global, manner: &Value) -> Result<Option<Manner>, CaseFault>
     ensures { Gives CaseFault.Memory (λ known. known) result (Ok (manner_in (view manner.now))) }

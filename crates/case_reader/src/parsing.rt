@@ -1,3 +1,4 @@
+//! A case from its bytes, key by key.
 ghost use Rattle.std.specs.Prelude.{◌≡◌, ◌≤◌, length, map, IfOk};
 ghost use Rattle.std.specs.Option.{ok_or};
 ghost use Rattle.serde_json.specs.View.{view};
@@ -110,7 +111,7 @@ pub fn has_tasks(tree: &Value) -> bool
     tree.get(Key::Tasks.name()).is_some()
 }
 
-/// The case of a tree.
+/// The case of a tree. A fault is the first rule that the tree breaks, as in `read_case`, or `Memory`.
 #[tactic(auto, unfolding(crate::specs::Case::case_of))]
 pub fn case_of_tree(alloc: Global, tree: &Value) -> Result<Case, CaseFault>
     ensures { Gives CaseFault.Memory data_of result (case_of (view tree.now)) }
@@ -144,7 +145,7 @@ pub fn case_of_tree(alloc: Global, tree: &Value) -> Result<Case, CaseFault>
     })
 }
 
-/// The JSON tree of bytes.
+/// The JSON tree of bytes. `NotJson` comes if there is none, and `Memory` if memory ran out.
 pub fn tree_of_bytes(alloc: Global, bytes: &[u8]) -> Result<Value, CaseFault>
     ensures { Gives CaseFault.Memory view result (ok_or (tree_of bytes.now) NotJson) }
 {

@@ -96,7 +96,8 @@ fn script_of(alloc: Global, prover: &Value) -> Result<Option<Script>, CaseFault>
     }
 }
 
-/// The scripts of provers, numbered from 1, of which there are at most 16.
+/// The scripts of provers, numbered from 1, of which there are at most 16. `BadProver` comes with the number of the first that isn't known,
+/// and `Memory` if memory ran out.
 pub fn scripts_of(alloc: Global, provers: &[Value]) -> Result<Listed<Script>, CaseFault>
     requires { length provers.now ≤ 16 }
     ensures value { Gives CaseFault.Memory (λ scripts. scripts) result (scripts_in 1 (map view provers.now)) }

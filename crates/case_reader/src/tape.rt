@@ -1,3 +1,4 @@
+//! The tape of a prover.
 ghost use Rattle.std.specs.Prelude.{◌≡◌, map, Ok, codes};
 ghost use Rattle.std.specs.Option.{option_map, option_and_then};
 ghost use Rattle.serde_json.specs.Find.{get, as_array};
@@ -82,7 +83,7 @@ fn elements_of(manner: &Value) -> Option<&[Value]>
     elements_in(manner.get("answers")?)
 }
 
-/// The answers of the kind `tape`.
+/// The answers of the kind `tape`, if they are known. An `Err` is `Memory`.
 #[tactic(auto, unfolding(crate::specs::Scripts::tape_in))]
 pub fn tape_of(alloc: Global, manner: &Value) -> Result<Option<Tape>, CaseFault>
     ensures { Gives CaseFault.Memory (λ known. known) result (Ok (tape_in (view manner.now))) }

@@ -1,3 +1,4 @@
+//! One case or the cases of tasks, from their bytes.
 ghost use Rattle.std.specs.Prelude.{◌≡◌, ◌≤◌, length, map, IfOk};
 ghost use Rattle.serde_json.specs.View.{view};
 ghost use Rattle.rd_base.specs.Results.{Gives, map_fault};

@@ -84,7 +84,7 @@ is_fine (digest name) = true
 abbrev pub given_by : Text → List Given → Option Given
 given_by name gs = find (λ g. bytes_eq (name_of g) name) gs
 
--- each number is in its option's range, and no option is given twice, nor one that stands among those before
+-- each number is in its option's range, and no option is given twice, nor one that is among those before
 abbrev pub are_taken_after : List Given → List Given → Bool
 are_taken_after before [] = true
 are_taken_after before (g ∷ gs) = not (is_some (given_by (name_of g) before)) && (is_fine g && are_taken_after (before ++ g ∷ []) gs)

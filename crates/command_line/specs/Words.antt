@@ -41,7 +41,7 @@ with_match_options app =
 abbrev pub full_option : Rule
 full_option = record (new_rule (codes "full")) { long = Some (codes "full"); action = Some SetTrue }
 
--- `--digest NAME`. Which names there are says `digest_in`.
+-- `--digest NAME`. The names are those of `digest_in`.
 abbrev pub digest_option : Rule
 digest_option = record (new_rule (codes "digest")) { long = Some (codes "digest"); defaults = codes "sha256" ∷ [] }
 
@@ -68,8 +68,8 @@ abbrev pub is_faultless : Kinds → Bool
 is_faultless [] = true
 is_faultless (kind ∷ kinds) = false
 
--- arguments in which `clap` finds no fault, the first being the program's name. It is `clap`'s part alone: which names `--digest` may have
--- says `digest_in`.
+-- arguments in which `clap` finds no fault, the first being the program's name. It is `clap`'s part alone: `digest_in` tests the name of
+-- `--digest`.
 unfoldable pub is_taken : List Text → Bool
 is_taken words = is_faultless (fault_of command_line words)
 

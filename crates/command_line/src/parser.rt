@@ -1,4 +1,4 @@
-//! The command line, as `clap` is told it.
+//! The command line, as it is defined for `clap`.
 ghost use Rattle.std.specs.Prelude.{◌≡◌, ℕ, pos, false, IfOk};
 ghost use Rattle.clap.specs.Walk.{rule_of};
 ghost use Rattle.clap.specs.Simple.{app_of};
@@ -87,7 +87,7 @@ fn big_line<'a>(alloc: Global) -> Result<Parser<'a>, AllocError>
     with_match_options(alloc, big)
 }
 
-/// The command line: one of the commands.
+/// The command line: one of the commands. An `Err` is out of memory.
 #[tactic(auto, unfolding(crate::specs::Words::command_line))]
 pub fn command_line<'a>(alloc: Global) -> Result<Parser<'a>, AllocError>
     ensures { IfOk result (λ parser. app_of parser ≡ the_command_line) }

@@ -1,4 +1,4 @@
--- To believe. What is said of the proof of one step that bytes spell, for a referee of a version and by SHA-256.
+-- To believe. What is stated of the proof of one step that bytes spell, for a referee of a version and by SHA-256.
 use Rattle.std.specs.Prelude.{◌≡◌, ℕ, List, length}
 use Rattle.sha2.specs.Sha256.{sha256}
 use Rattle.rd_base.specs.declared.proof.Proof.{Proof}

@@ -6,7 +6,7 @@ use Rattle.delegate.specs.declared.alone.Alone.{Alone}
 use Rattle.delegate.specs.declared.response.Response.{Response}
 use Rattle.coshalit_c.specs.declared.texts.CoshalitAnswer.{CoshalitAnswer}
 
--- the status and the length are those of the response, and its text stands in the first bytes of the caller's room, as far as there are
+-- the status and the length are those of the response, and its text is in the first bytes of the caller's room, as far as there are
 -- any; those behind it stay
 pub record IsWritten (response : Response) (answer : CoshalitAnswer) (before now : List ℕ) : Type 0 where
   pub status : answer.status ≡ status_number response.answered

@@ -5,11 +5,11 @@ use crate::texts::{CoshalitAnswer, coshalit_audit, coshalit_list, coshalit_run};
 use std::process::Abort;
 use std::test::Fail;
 
-/// A program that puts out a byte and exits, and one prover.
+/// A case of a program that writes a byte and exits, and of one prover.
 const CASE: &[u8] =
     b"{\"format\":\"flat\",\"image\":\"1305a0029308100073000000130500009308d00573000000\",\"input\":\"\",\"bound\":8,\"patience\":0,\"provers\":[{}]}";
 
-/// Asserts of an answer its status and its text's length, and what stands in the room.
+/// Asserts the status of an answer, the length of its text, and the bytes of the room.
 fn assert_answer(
     rt: &impl Abort,
     answer: &CoshalitAnswer,

@@ -19,7 +19,7 @@ use std::marker::Brand;
 use std::sync::ledger::{Blank, Ledger};
 use step_referee::{StepCheck, check_step};
 
-/// What the check says of a proof, with a counter of its own.
+/// The result of the check of a proof, with a counter of its own.
 fn counted<D: Digester, L: Ledger>(
     d: D,
     version: u32,
@@ -38,7 +38,7 @@ fn counted<D: Digester, L: Ledger>(
     check_step(d, version, from, proof, &mut steps)
 }
 
-/// What the check says of a proof.
+/// The result of the check of a proof.
 fn checked<D: Digester>(d: D, version: u32, from: Digest32, proof: &Proof) -> StepCheck
     ensures leads { (b : Digest32) → (result ≡ StepCheck.Leads b) ↔ LeadsFrom D.digest_of version from (facts_of_proof.facts_of proof.now) b }
     ensures not_open { (result ≡ StepCheck.NotOpen) ↔ FirstFails opening (conditions D.digest_of version from (facts_of_proof.facts_of proof.now)) }
@@ -47,7 +47,7 @@ fn checked<D: Digester>(d: D, version: u32, from: Digest32, proof: &Proof) -> St
     counted::<D, Brand>(d, version, from, proof, Blank::new(1))
 }
 
-/// What the check says of the proof that bytes spell, by SHA-256, and `None` if they spell none.
+/// The result of the check of the proof that bytes spell, by SHA-256; `None` if they spell none.
 fn check_wire(version: u32, from: Digest32, wire: &[u8]) -> Option<StepCheck>
     ensures leads { (b : Digest32) → (result ≡ Some (StepCheck.Leads b)) ↔ IsOfProof wire.now (λ proof. LeadsFrom sha256 version from (facts_of_proof.facts_of proof) b) }
     ensures not_open { (result ≡ Some StepCheck.NotOpen) ↔ IsOfProof wire.now (λ proof. FirstFails opening (conditions sha256 version from (facts_of_proof.facts_of proof))) }

@@ -30,7 +30,7 @@ outs_told e p (o ∷ os) = (o || puts_out e p) ∷ outs_told e (p + 1) os
 abbrev pub told : Accounts → Event → Accounts
 told s e = record { stake = s.stake; of = balances_told s.stake e 1 s.of; out = outs_told e 1 s.out; pool = s.pool + s.stake * pooled e }
 
--- an event may be told: it is one of the provers, and puts out nobody that is out
+-- an event may be applied: it is one of the provers, and eliminates nobody that is out
 pub record CanTell (s : Accounts) (e : Event) : Type 0 where
   pub known : IsEventOf (length s.of) e
   pub not_yet : (p : ℕ) → puts_out e p ≡ true → is_out s p ≡ false

@@ -13,7 +13,7 @@ use Rattle.deposits.specs.Events.{is_won, pooled_by_close, AreSides, outs, event
 abbrev pub losses_of : Record → ℕ → ℕ
 losses_of r p = one_if (not (lives r p))
 
--- how many disputes put out only the other side of a prover
+-- how many disputes eliminated only the other side of a prover
 
 abbrev pub is_won_if : ℕ → ℕ → Option Close → ℕ → Bool
 is_won_if a b (Some c) p = is_won a b c p
@@ -26,11 +26,11 @@ wins_in (d ∷ ds) p = one_if (is_won_if d.first d.second d.close p) + wins_in d
 abbrev pub wins_of : Record → ℕ → ℕ
 wins_of r p = wins_in r.disputes p
 
--- what a prover has: its own stake unless it is out, and that of each prover that it put out
+-- what a prover has: its own stake unless it is out, and that of each prover that it eliminated
 abbrev pub balance : ℕ → Record → ℕ → ℕ
 balance stake r p = stake * (1 + wins_of r p - losses_of r p)
 
--- the stakes in the pool: one for each claim that is out, and two for each dispute that put out both sides
+-- the stakes in the pool: one for each claim that is out, and two for each dispute that eliminated both sides
 
 abbrev pub claims_out : List (Option Settled) → ℕ
 claims_out [] = 0
@@ -55,7 +55,7 @@ balances_from stake r p (suc n) = balance stake r p ∷ balances_from stake r (p
 abbrev pub balances_of : ℕ → ℕ → Record → Balances
 balances_of stake provers r = record { of = balances_from stake r 1 provers; pool = pool stake r }
 
--- THE CONDITION: one settled claim per prover, disputes between two of them, and nobody is put out twice
+-- THE CONDITION: one settled claim per prover, disputes between two of them, and nobody eliminated twice
 
 abbrev pub AllSides : ℕ → List Bisection → Type 0
 AllSides provers [] = Unit {0}

@@ -14,17 +14,17 @@ pub data Event : Type 0 where
   ClaimOut : ℕ → Event
   Closed : ℕ → ℕ → Close → Event
 
--- a close of a dispute of two provers puts a prover out
+-- a close of a dispute of two provers eliminates a prover
 abbrev pub is_put_out : ℕ → ℕ → Close → ℕ → Bool
 is_put_out a b (Out x y) p = (x && (a == p)) || (y && (b == p))
 is_put_out a b (Collision s t) p = false
 
--- it puts out the other side alone
+-- it eliminates the other side alone
 abbrev pub is_won : ℕ → ℕ → Close → ℕ → Bool
 is_won a b (Out x y) p = (not x && y && (a == p)) || (x && not y && (b == p))
 is_won a b (Collision s t) p = false
 
--- how many stakes a close gives to the pool: of two sides that are out both, else none
+-- how many stakes a close gives to the pool: both if both sides are out, else none
 abbrev pub pooled_by_close : Close → ℕ
 pooled_by_close (Out x y) = if x && y then 2 else 0
 pooled_by_close (Collision s t) = 0
@@ -43,7 +43,7 @@ abbrev pub pooled : Event → ℕ
 pooled (ClaimOut q) = 1
 pooled (Closed a b c) = pooled_by_close c
 
--- how often events put a prover out, how often one puts out only the other side of its dispute, and how many stakes they give to the
+-- how often events eliminate a prover, how often one eliminates only the other side of its dispute, and how many stakes they give to the
 -- pool
 
 abbrev pub outs : List Event → ℕ → ℕ

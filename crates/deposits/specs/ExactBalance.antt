@@ -1,5 +1,5 @@
 -- To believe: what a prover has exactly that is live once a match is over, and what all others have. Whoever posted whatever, each of its
--- disputes put out the other side alone, or closed by a collision, which one at most did.
+-- disputes eliminated the other side alone, or closed by a collision, as one at most did.
 use Rattle.std.specs.Prelude.{◌≡◌, ℕ, zero, suc, ◌+◌, ◌-◌, ◌*◌, ◌<◌, ◌≤◌, true, ◌&&◌, ◌==◌, ◌⊎◌, List, [], ◌∷◌, if◌then◌else◌}
 use Rattle.bisect_game.specs.Bisection.{Bisection}
 use Rattle.bisect_game.specs.Ruling.{IsFair}
@@ -27,7 +27,7 @@ collisions_among p (d ∷ ds) = one_if (is_side p d && is_collision d.close) + c
 abbrev pub collisions_of : ℕ → Record → ℕ
 collisions_of p r = collisions_among p r.disputes
 
--- each dispute of a prover put out the other side alone, or closed by a collision
+-- each dispute of a prover eliminated the other side alone, or closed by a collision
 abbrev pub AllWon : ℕ → List Bisection → Type 0
 AllWon p [] = Unit {0}
 AllWon p (d ∷ ds) = (is_side p d ≡ true → (is_won_if d.first d.second d.close p ≡ true) ⊎ (is_collision d.close ≡ true)) × AllWon p ds

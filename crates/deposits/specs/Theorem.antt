@@ -31,7 +31,7 @@ pub record IsInClosedForm (stake provers : ℕ) (es : List Event) (a : Accounts)
   pub balances : (p : ℕ) → 0 < p → p ≤ provers → has a p ≡ stake * (1 + wins es p - outs es p)
   pub pool : a.pool ≡ stake * spent es
 
--- events that put nobody out twice may be told in their order, and come to the closed form
+-- events that eliminate nobody twice may be applied in their order, with the closed form as the result
 pub record MayBeTold (stake provers : ℕ) (es : List Event) : Type 0 where
   pub can : CanTellAll es (opened stake provers)
   pub comes_to : IsInClosedForm stake provers es (after es (opened stake provers))
@@ -48,7 +48,7 @@ pub record RecordIsInClosedForm (stake provers : ℕ) (r : Record) : Type 0 wher
 abbrev pub RecordsAreInClosedForm : Type 0
 RecordsAreInClosedForm = (stake provers : ℕ) (r : Record) → IsSettledUp provers r → RecordIsInClosedForm stake provers r
 
--- nothing is lost: after any events that may be told balances and pool add up to the stakes, and so they do for a record
+-- nothing is lost: after any events that may be applied balances and pool add up to the stakes, and so they do for a record
 
 abbrev pub LedgersAddUp : Type 0
 LedgersAddUp =
@@ -60,7 +60,7 @@ BalancesAddUp =
     (stake provers : ℕ) (r : Record) → IsSettledUp provers r →
     sum (balances_of stake provers r).of + (balances_of stake provers r).pool ≡ stake * provers
 
--- the events of a record may be told in whatever order, and come to its balances
+-- the events of a record may be applied in whatever order, and give its balances
 pub record ComeToBalances (stake provers : ℕ) (r : Record) (es : List Event) : Type 0 where
   pub can : CanTellAll es (opened stake provers)
   pub balances : (after es (opened stake provers)).of ≡ (balances_of stake provers r).of
@@ -69,7 +69,7 @@ pub record ComeToBalances (stake provers : ℕ) (r : Record) (es : List Event) :
 abbrev pub OrderDoesNotMatter : Type 0
 OrderDoesNotMatter = (stake provers : ℕ) (r : Record) (es : List Event) → IsSettledUp provers r → IsPermutation (events_of r) es → ComeToBalances stake provers r es
 
--- a prover that stays, as the dispute theorem says of a truthful one, has at least its stake, and so has one that answers truly
+-- a prover that stays, as the dispute theorem proves for a truthful one, has at least its stake, and so has one that answers truly
 
 abbrev pub WhoStaysKeepsStake : Type 0
 WhoStaysKeepsStake = (stake : ℕ) (rules : Rules) (t : Truth) (p : ℕ) (r : Record) → Stays rules t p r → stake ≤ balance stake r p

@@ -1,3 +1,4 @@
+//! What each prover has at the end.
 use rd_base::Listed;
 
 /// What each prover has once a match has ended, and what is in the pool.

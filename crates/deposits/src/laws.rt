@@ -9,7 +9,7 @@ use tournament::{
 };
 
 /// The closed form: a prover has its stake times one more than its wins, less one stake if it is out (`record_`, read off a record
-/// and off its events; `ledger`, of a ledger after any events that put nobody out twice).
+/// and off its events; `ledger`, of a ledger after any events that eliminate nobody twice).
 pub fn balances_are_in_closed_form()
     ensures record_ { RecordsAreInClosedForm }
     ensures ledger { LedgersAreInClosedForm }
@@ -20,19 +20,19 @@ pub fn each_event_adds_its_own_amounts()
     ensures { EventsAddTheirOwn }
 {}
 
-/// Nothing is lost: balances and pool add up to the stakes (`record_`), and so they do in a ledger after any events that may be told
+/// Nothing is lost: balances and pool add up to the stakes (`record_`), and so they do in a ledger after any events that may be applied
 /// (`ledger`).
 pub fn balances_and_pool_add_up()
     ensures record_ { BalancesAddUp }
     ensures ledger { LedgersAddUp }
 {}
 
-/// Order does not matter: a ledger may be told the events of a record in whatever order, and has the balances of the record then.
+/// Order does not matter: the events of a record may be applied to a ledger in whatever order, and it has the balances of the record then.
 pub fn events_come_in_any_order()
     ensures { OrderDoesNotMatter }
 {}
 
-/// The truthful keep their stakes: a prover that stays, as the dispute theorem says of a truthful one, has at least its stake
+/// The truthful keep their stakes: a prover that stays, as the dispute theorem proves for a truthful one, has at least its stake
 /// (`stays`), and so has one that answers truly each question that it is asked, whoever moves in whatever order (`truthful`).
 pub fn truthful_provers_keep_their_stakes()
     ensures stays { WhoStaysKeepsStake }
@@ -42,7 +42,7 @@ pub fn truthful_provers_keep_their_stakes()
 }
 
 /// The record of each match that has ended, whatever was posted, meets the condition of `balances`: one settled claim per prover,
-/// disputes between two of them, and nobody is put out twice.
+/// disputes between two of them, and nobody eliminated twice.
 pub fn a_match_that_has_ended_is_settled_up()
     ensures { EndedIsSettledUp }
 {

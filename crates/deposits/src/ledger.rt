@@ -1,3 +1,4 @@
+//! A ledger of stakes.
 ghost use Rattle.std.specs.Prelude.{◌≡◌, ◌-◌, ◌<◌, ◌≤◌, true, false, length, slice_index, IfOk, replicate};
 ghost use Rattle.bisect_game.specs.declared.settled.Close.TheVariants.{Out};
 ghost use Rattle.deposits.specs.Accounts.{opened, is_out, told, CanTell};
@@ -52,7 +53,7 @@ fn none_out(alloc: Global, many: usize) -> Result<Vec<bool>, Memory>
 }
 
 impl Ledger {
-    /// A ledger of 1 to 16 provers, each of which has put down a stake of at most 1,000,000,000.
+    /// A ledger of 1 to 16 provers, each of which has put down a stake of at most 1,000,000,000. An `Err` is out of memory.
     pub fn new(alloc: Global, provers: u32, stake: u64) -> Result<Ledger, Memory>
         requires some { 0 < provers }
         requires few { provers ≤ 16 }

@@ -1,3 +1,4 @@
+//! The balances of a match that has ended.
 ghost use Rattle.std.specs.Prelude.{◌≡◌, ◌+◌, ◌<◌, ◌≤◌, ◌^◌, length, IfOk};
 ghost use Rattle.deposits.specs.Events.{claim_events, dispute_events};
 ghost use Rattle.deposits.specs.Accounts.{after, CanTellAll};
@@ -10,7 +11,7 @@ use rd_base::Memory;
 use std::alloc::Global;
 use tournament::Record;
 
-/// Tells a ledger which claims are out, of claims the first of which is that of the prover `p`.
+/// Applies to a ledger the events of the claims that are out, among claims the first of which is that of the prover `p`.
 fn tell_claims(ledger: &mut Ledger, p: u32, claims: &[Option<Settled>])
     requires few { p + length claims.now < 2 ^ 32 }
     requires can { CanTellAll (claim_events p claims.now) ledger.old }
@@ -26,7 +27,7 @@ fn tell_claims(ledger: &mut Ledger, p: u32, claims: &[Option<Settled>])
     }
 }
 
-/// Tells a ledger how disputes closed.
+/// Applies to a ledger the closes of disputes.
 fn tell_disputes(ledger: &mut Ledger, disputes: &[Dispute])
     requires { CanTellAll (dispute_events disputes.now) ledger.old }
     ensures { ledger.new ≡ after (dispute_events disputes.now) ledger.old }
@@ -49,8 +50,8 @@ fn tell_disputes(ledger: &mut Ledger, disputes: &[Dispute])
 /// What each prover has once a match has ended, and what is in the pool: a prover that is out loses exactly its stake, at its claim
 /// to the pool, in a dispute to the other side if that stays live, and to the pool if both are out.
 ///
-/// Each of 1 to 16 provers has put down a stake of at most 1,000,000,000. The record has one settled claim per prover, the
-/// sides of each dispute are two of them, and nobody is put out twice, as in the record of each match that has ended.
+/// Each of 1 to 16 provers has put down a stake of at most 1,000,000,000. The record has one settled claim per prover, the sides of each
+/// dispute are two of them, and nobody is eliminated twice, as in the record of each match that has ended. An `Err` is out of memory.
 pub fn balances(
     alloc: Global,
     stake: u64,

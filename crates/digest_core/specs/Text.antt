@@ -1,5 +1,5 @@
 -- To believe: the byte strings that are digested, one definition for each kind. A string begins with the byte of its
--- kind; a number stands in it with its least byte first. A digest has 32 bytes, and so has a chunk of memory.
+-- kind; a number is written with its least byte first. A digest has 32 bytes, and so has a chunk of memory.
 use Rattle.std.specs.Prelude.{ℕ, List, [], ◌∷◌, ◌++◌}
 use Rattle.std.specs.List.{flat_map}
 use Rattle.byteorder.specs.Endian.{little_bytes}

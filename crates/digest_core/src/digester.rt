@@ -21,7 +21,7 @@ pub trait Digester: Copy {
     /// A digest has 32 bytes.
     ghost is_digest: { (bytes : List ℕ) → length (digest_of bytes) ≡ 32 };
 
-    /// Each of them is below 256.
+    /// Each number of a digest is below 256.
     ghost is_bytes: { (bytes : List ℕ) (k : ℕ) → slice_index (digest_of bytes) k < 256 };
 }
 
@@ -41,8 +41,8 @@ impl Digester for Sha256 {
     }
 }
 
-/// A digest of eight bits: the first byte of SHA-256, and 31 zeros. Two strings with one digest are soon found, which
-/// shows what a match does if that happens.
+/// A digest of eight bits: the first byte of SHA-256, and 31 zeros. Two strings with one digest are soon found, so that tests can show what
+/// a match does with them.
 #[derive(Clone, Copy, Debug)]
 pub struct Weak8;
 

@@ -47,9 +47,9 @@ pub fn chain_grows()
 {}
 
 /// The definition that `Sha256` has gives the digests of the standard's examples (FIPS 180-4): of three bytes, which one block holds
-/// (`one_block`), and of 56 bytes, whose padding takes a second block (`two_blocks`). The toolchain's crate `sha2` proves both of it, as
-/// `digest_of_abc_256` and `digest_of_two_blocks_256` of its file `proofs/Facts256.antt`, and there that its constants are the first
-/// bits of the roots of primes (`round_constants-cube_roots`, `initial_hash_256-square_roots`).
+/// (`one_block`), and of 56 bytes, whose padding takes a second block (`two_blocks`). The toolchain's crate `sha2` proves both of its
+/// definition, as `digest_of_abc_256` and `digest_of_two_blocks_256` of its file `proofs/Facts256.antt`. There it also proves that its
+/// constants are the first bits of the roots of primes (`round_constants-cube_roots`, `initial_hash_256-square_roots`).
 pub fn sha256_has_the_digests_of_the_standard()
     ensures one_block { sha256 (codes "abc") ≡
         0xBA ∷ 0x78 ∷ 0x16 ∷ 0xBF ∷ 0x8F ∷ 0x01 ∷ 0xCF ∷ 0xEA ∷ 0x41 ∷ 0x41 ∷ 0x40 ∷ 0xDE ∷ 0x5D ∷ 0xAE ∷ 0x22 ∷ 0x23 ∷

@@ -6,23 +6,31 @@ ghost use Rattle.digest_core.specs.Text as text;
 use byteorder::{ByteOrder, LittleEndian};
 use rd_base::{Ctl, Digest32, OpenText, Regs, Status, registers_are_32};
 
-// The first byte of a string says its kind.
+/// The first byte of the string of a leaf of the memory tree. Each kind of string begins with a byte of its own.
 const LEAF: u8 = 0;
 
+/// The first byte of the string of an inner node.
 const NODE: u8 = 1;
 
+/// The first byte of the string of all registers.
 const REGISTERS: u8 = 2;
 
+/// The first byte of the string of the control fields.
 const CONTROL: u8 = 3;
 
+/// The first byte of the string of a state.
 const STATE: u8 = 4;
 
+/// The first byte of the string of a link of the chain.
 const LINK: u8 = 5;
 
+/// The first byte of the string of noise.
 const NOISE: u8 = 6;
 
+/// The first byte of the string of a leaf of the register tree.
 const REGISTER: u8 = 7;
 
+/// The first byte of the string of a state's storage.
 const STORAGE: u8 = 8;
 
 /// Appends a number of 32 bits, the least byte first.

@@ -1,3 +1,4 @@
+//! A proof of one step, checked.
 ghost use Rattle.std.specs.Prelude.{◌≡◌, ◌↔◌};
 ghost use Rattle.rd_base.specs.declared.digest.Digest32.{Digest32};
 ghost use Rattle.open_proof.specs.Conditions.{LeadsFrom};

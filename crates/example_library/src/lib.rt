@@ -1,8 +1,8 @@
 //! An example: the typed layers, called as a library. `examples/library` explains it.
 //!
-//! No layer of the product stands on this crate. Read `starting` first: an image becomes a machine, and that a machine kept with its
-//! trees. `checking` has a referee that knows a root and a proof and nothing else, `playing` has an answerer and a match, and `posting`
-//! takes answers that came as bytes.
+//! No layer of the product depends on this crate. Read `starting` first: an image becomes a machine, which becomes a machine that is kept
+//! with its trees. `checking` has a referee that knows a root and a proof and nothing else, `playing` has an answerer and a match, and
+//! `posting` takes answers that came as bytes.
 #![tactic(auto)]
 
 mod checking;

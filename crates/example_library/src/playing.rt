@@ -1,3 +1,4 @@
+//! An answerer that counts, and a match that is played out.
 ghost use Rattle.std.specs.Prelude.{◌≡◌, ◌<◌, length, IfOk};
 ghost use Rattle.bisect_game.specs.Says.{AnswerAs};
 ghost use Rattle.tournament.specs.Bracket.{bracket, verdict_of};
@@ -36,7 +37,8 @@ impl<A: Answerer + Drop> Answerer for Counting<A> {
     }
 }
 
-/// The verdict of a match that is played out by this many posters. It is a function of the rules and of what the provers say.
+/// The verdict of a match that is played out by this many posters. It is a function of the rules and of what the provers say. An `Err` is
+/// out of memory.
 pub fn decide<
     R: Threads + Wait + Sync,
     J: Judge + Drop + Send,

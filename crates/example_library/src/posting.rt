@@ -1,3 +1,4 @@
+//! Answers that come as bytes, posted.
 ghost use Rattle.std.specs.Prelude.{◌≡◌, ◌<◌, ◌≤◌, IfErr, IfOk};
 ghost use Rattle.std.specs.Result.{result_ok};
 ghost use Rattle.proof_wire.specs.Reading.{answer_in};

@@ -1,3 +1,4 @@
+//! A machine from an image, and the trees of its commitment.
 ghost use Rattle.std.specs.Prelude.{◌≡◌, ◌≤◌, ℕ, List, length, IfOk};
 ghost use Rattle.rv_step.specs.State.{state_of, IsChained};
 ghost use Rattle.rv_step.specs.Step.{state_at};
@@ -10,7 +11,8 @@ use state_commit::Committed;
 use std::alloc::Global;
 use std::thread::Threads;
 
-/// A machine that is about to run an ELF file, with an input of at most 1,048,576 bytes.
+/// A machine that is about to run an ELF file, with an input of at most 1,048,576 bytes. A fault is the first rule that the file breaks, or
+/// `Memory`.
 pub fn start(alloc: Global, image: &[u8], input: &[u8]) -> Result<Machine, ImageFault>
     requires { length input.now ≤ 1048576 }
     ensures { IfOk result (λ m. (digest : List ℕ → List ℕ) → IsChained digest m) }
@@ -20,7 +22,7 @@ pub fn start(alloc: Global, image: &[u8], input: &[u8]) -> Result<Machine, Image
     Ok(machine)
 }
 
-/// The machine after this many steps, kept with the trees of its commitment.
+/// The machine after this many steps, kept with the trees of its commitment. An `Err` is out of memory.
 pub fn commit_after<R: Threads + Sync, D: Digester>(
     rt: &R,
     alloc: Global,

@@ -51,7 +51,7 @@ header_in file =
     else if not ((header_at file).e_machine == 243) then Err NotRiscv
     else Ok (header_at file)
 
--- the loads among this many program headers of 32 bytes, which stand one after another from an offset on: those of the
+-- the loads among this many program headers of 32 bytes, which follow one another from an offset on: those of the
 -- type PT_LOAD, 1 ('Program Header')
 unfoldable pub loads_from : List ℕ → ℕ → ℕ → List ProgramHeader
 loads_from file offset zero = []

@@ -1,3 +1,4 @@
+//! The faults of images.
 ghost use Rattle.std.specs.Prelude.{◌≡◌};
 ghost use Rattle.image_reader.specs.Fault.{rule_of};
 ghost use Rattle.image_reader.specs.declared.fault.ImageFault.TheVariants.{Memory};
@@ -7,7 +8,7 @@ use thiserror::Error;
 
 /// Why a file is no image that is loaded: the first rule that it breaks, or out of memory.
 ///
-/// The size is tested first (`ImageTooLarge`), then the other rules in the order in which they stand here, each over
+/// The size is tested first (`ImageTooLarge`), then the other rules in the order of the variants, each over
 /// all program headers before the next. A load is a program header of type `PT_LOAD`. Sections are those of TIS ELF
 /// 1.2.
 #[derive(Clone, Copy, Debug, PartialEq, Eq, Error)]
@@ -51,7 +52,7 @@ pub enum ImageFault {
 }
 
 impl ImageFault {
-    /// The number of the rule that is broken, from 1 to 11 as the variants stand, and `None` for out of memory.
+    /// The number of the rule that is broken, from 1 to 11 in the order of the variants, and `None` for out of memory.
     pub fn rule(self) -> Option<u32>
         ensures { result ≡ rule_of self }
     {

@@ -1,3 +1,4 @@
+//! The header of an ELF32 file, and its program headers.
 ghost use Rattle.std.specs.Prelude.{◌≡◌, ◌+◌, ◌*◌, ◌≤◌, length, Ok};
 ghost use Rattle.rd_base.specs.Results.{Gives};
 ghost use Rattle.image_reader.specs.Elf.{header_at, program_header_at, header_in, loads_from, loads_in, is_bad_table};
@@ -89,7 +90,7 @@ impl ProgramHeader {
     }
 }
 
-/// The header of a file that isn't too large and meets rules 1 to 4.
+/// The header of a file that isn't too large and meets rules 1 to 4. A fault is the first of rule 11 and then these that is broken.
 #[tactic(auto, unfolding(crate::specs::Elf::header_in))]
 pub fn header_of(bytes: &[u8]) -> Result<Header, ImageFault>
     ensures { Gives ImageFault.Memory (λ header. header) result (header_in bytes.now) }
@@ -133,7 +134,7 @@ fn collect_loads(
     Ok(loads)
 }
 
-/// The loads of a file whose program headers meet rule 5.
+/// The loads of a file whose program headers meet rule 5. `BadTable` comes if they don't, and `Memory` if memory ran out.
 #[tactic(auto, unfolding(crate::specs::Elf::loads_in))]
 pub fn loads_of(
     alloc: Global,

@@ -1,3 +1,4 @@
+//! Loading of flat and of ELF32 files.
 ghost use Rattle.std.specs.Prelude.{◌≡◌, length, false, IfOk};
 ghost use Rattle.std.specs.List.{list_any};
 ghost use Rattle.mem_plain.specs.Contents.{contents_with, laid};
@@ -29,7 +30,7 @@ pub struct Loaded {
 
 /// Loads a flat file: its byte `k` is at `IMAGE_BASE + k`, and its first byte is the entry.
 ///
-/// `ImageTooLarge` is a file of more than `MAX_IMAGE_BYTES` bytes, and `Memory` out of memory.
+/// `ImageTooLarge` comes if the file has more than `MAX_IMAGE_BYTES` bytes, and `Memory` if memory ran out.
 #[tactic(auto, unfolding(crate::specs::Image::flat_at))]
 pub fn load_flat(alloc: Global, bytes: &[u8]) -> Result<Loaded, ImageFault>
     ensures { Gives ImageFault.Memory loaded_of result (flat_at bytes.now) }
@@ -77,11 +78,11 @@ fn lay_loads(alloc: Global, bytes: &[u8], loads: &[ProgramHeader]) -> Result<Pla
 ///
 /// Each program header of type `PT_LOAD` is loaded: from `p_vaddr` on the `p_filesz` bytes of the file from
 /// `p_offset` on. All other bytes of memory are 0, and the entry is `e_entry`. Other program headers, flags and
-/// sections are passed over.
+/// sections are ignored.
 ///
 /// A fault is the first rule that the file breaks: first `ImageTooLarge`, more than `MAX_IMAGE_BYTES` bytes; then
 /// `Short` to `EntryMisaligned` in the order of the variants of `ImageFault`, each tested over all program headers
-/// before the next. `Memory` is out of memory.
+/// before the next. `Memory` comes if memory ran out.
 #[tactic(auto, unfolding(crate::specs::Elf::elf_at))]
 pub fn load_elf(alloc: Global, bytes: &[u8]) -> Result<Loaded, ImageFault>
     ensures { Gives ImageFault.Memory loaded_of result (elf_at bytes.now) }

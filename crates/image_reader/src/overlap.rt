@@ -1,3 +1,4 @@
+//! Whether two loads share an address.
 ghost use Rattle.std.specs.Prelude.{◌≡◌, false, not, filter, IfOk};
 ghost use Rattle.std.specs.List.{list_any};
 ghost use Rattle.std.specs.List.Sorted.{IsNonDecreasingBy};
@@ -48,7 +49,7 @@ fn any_neighbours_share(loads: &[ProgramHeader]) -> bool
     false
 }
 
-/// Whether any two loads share an address.
+/// Whether any two loads share an address. An `Err` is out of memory.
 pub fn any_two_share(alloc: Global, loads: &[ProgramHeader]) -> Result<bool, AllocError>
     ensures { IfOk result (λ shared. shared ≡ some_share loads.now) }
 {

@@ -1,3 +1,4 @@
+//! The rules of loads.
 ghost use Rattle.std.specs.Prelude.{◌≡◌, ◌+◌, false, OnOk};
 ghost use Rattle.std.specs.List.{list_any};
 ghost use Rattle.rd_base.specs.Results.{Gives};

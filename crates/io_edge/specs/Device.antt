@@ -2,11 +2,11 @@
 use Rattle.std.specs.Prelude.{◌≡◌, ◌⊎◌, ℕ, ◌+◌, ◌-◌, ◌^◌, ◌≤◌, min, List, length, take, drop, Option, Some, IfSome, Result, MatchResult}
 use Rattle.std.specs.Io.KnownBytes.{Appends}
 
--- a count of faults rose by exactly one, or stands at the largest u64, where it stays
+-- a count of faults rose by exactly one, or is the largest u64, where it stays
 abbrev pub Rises : ℕ → ℕ → Type 0
 Rises before now = (now ≡ before + 1) ⊎ ((before ≡ 2 ^ 64 - 1) × (now ≡ 2 ^ 64 - 1))
 
--- the count after one more, which stands still at the largest u64
+-- the count after one more, which stays at the largest u64
 abbrev pub next_count : ℕ → ℕ
 next_count n = min (n + 1) (2 ^ 64 - 1)
 

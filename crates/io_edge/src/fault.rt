@@ -1,3 +1,5 @@
-/// A read or a write failed. The count of faults of the device that failed says so too.
+//! The failure of a call.
+
+/// A read or a write failed. The device has counted the fault.
 #[derive(Clone, Copy, Debug, PartialEq, Eq)]
 pub struct Failed;

@@ -1,3 +1,4 @@
+//! A sink into memory, for tests.
 ghost use Rattle.std.specs.Prelude.{◌≡◌, ◌↔◌, ◌⊎◌, ◌-◌, ◌<◌, ◌≤◌, min, [], length, take, Some, Contains, IfOk, OnErr, IsOk, IsErr};
 ghost use Rattle.std.specs.Io.KnownBytes.{Appends};
 ghost use Rattle.io_edge.specs.Device.{AppendsPart, Counts, next_count};
@@ -37,7 +38,7 @@ impl Model for MemSink {
 
 impl MemSink {
     /// An empty sink, of which no call was made yet, with memory for `room` bytes. It takes at most `piece`
-    /// bytes a call, and the calls whose numbers stand in `fails` fail. `Memory` if that allocation was
+    /// bytes a call, and the calls whose numbers are in `fails` fail. `Memory` if that allocation was
     /// refused; with `room` 0 it allocates nothing.
     pub fn new(alloc: Global, room: usize, piece: usize, fails: Vec<u64>) -> Result<Self, Memory>
         requires { 1 ≤ piece }
@@ -82,7 +83,7 @@ impl Sink for MemSink {
         ensures ok { IfOk result (λ n. self.new ≡ after_write self.old (take n piece.now)) }
         ensures err { OnErr result (self.new ≡ after_failed_write self.old) }
 
-        // What `Sink` says of it.
+        // What `Sink` promises of it.
         ensures within { IfOk result (λ n. n ≤ length piece.now) }
         ensures some { IfOk result (λ n. 0 < length piece.now → 0 < n) }
         ensures bytes { IfOk result (λ n. Appends (Some self.old.held) (Some self.new.held) (take n piece.now)) }

@@ -1,3 +1,4 @@
+//! A source of bytes in memory, for tests.
 ghost use Rattle.std.specs.Prelude.{◌≡◌, ◌↔◌, ◌<◌, ◌≤◌, min, ◌++◌, length, take, drop, Some, Contains, IfOk, OnErr, IsErr};
 ghost use Rattle.std.specs.Io.KnownBytes.{Consumes, IsAtEnd, Keeps};
 ghost use Rattle.io_edge.specs.Device.{Counts, next_count};
@@ -34,7 +35,7 @@ impl Model for MemSource {
 
 impl MemSource {
     /// A source of these bytes, of which no call was made yet. It gives at most `piece` bytes a call, and the
-    /// calls whose numbers stand in `fails` fail.
+    /// calls whose numbers are in `fails` fail.
     pub fn new(bytes: Vec<u8>, piece: usize, fails: Vec<u64>) -> Self
         requires { 1 ≤ piece }
         ensures { result ≡ record { left = bytes.items; piece = piece; fails = fails.items; calls = 0; faults = 0 } }
@@ -74,7 +75,7 @@ impl Source for MemSource {
         ensures err { OnErr result (self.new ≡ after_failed_read self.old) }
         ensures unwritten { OnErr result (buf.new ≡ buf.old) }
 
-        // What `Source` says of it.
+        // What `Source` promises of it.
         ensures within { IfOk result (λ n. n ≤ length buf.new) }
         ensures bytes { IfOk result (λ n. Consumes (Some self.old.left) (Some self.new.left) (take n buf.new)) }
         ensures end { IfOk result (λ n. n ≡ 0 → IsAtEnd (Some self.new.left)) }

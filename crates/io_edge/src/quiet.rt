@@ -1,3 +1,4 @@
+//! A source and a sink that never fail.
 ghost use Rattle.std.specs.Prelude.{◌≡◌, ◌<◌, ◌≤◌, min, ◌++◌, length, take, drop, Some, None, Ok, IfOk, OnErr};
 ghost use Rattle.std.specs.Io.KnownBytes.{Consumes, IsAtEnd, Appends, Keeps};
 ghost use Rattle.io_edge.specs.Device.{AppendsPart, Counts};
@@ -46,7 +47,7 @@ impl Source for QuietSource {
         ensures written { IfOk result (λ n. buf.new ≡ take n self.old ++ drop n buf.old) }
         ensures rest { IfOk result (λ n. self.new ≡ drop n self.old) }
 
-        // What `Source` says of it.
+        // What `Source` promises of it.
         ensures within { IfOk result (λ n. n ≤ length buf.new) }
         ensures bytes { IfOk result (λ n. Consumes (Some self.old) (Some self.new) (take n buf.new)) }
         ensures end { IfOk result (λ n. n ≡ 0 → IsAtEnd (Some self.new)) }
@@ -73,7 +74,7 @@ impl Sink for QuietSink {
     fn write_some(&mut self, piece: &[u8]) -> Result<usize, Failed>
         ensures taken { result ≡ Ok (length piece.now) }
 
-        // What `Sink` says of it.
+        // What `Sink` promises of it.
         ensures within { IfOk result (λ n. n ≤ length piece.now) }
         ensures some { IfOk result (λ n. 0 < length piece.now → 0 < n) }
         ensures bytes { IfOk result (λ n. Appends None None (take n piece.now)) }

@@ -1,3 +1,4 @@
+//! Sinks of bytes.
 ghost use Rattle.std.specs.Prelude.{ℕ, ◌<◌, ◌≤◌, List, Option, length, take, IfOk, OnErr, OnOk};
 ghost use Rattle.std.specs.Io.KnownBytes.{Appends};
 ghost use Rattle.io_edge.specs.Device.{AppendsPart, Counts};
@@ -9,7 +10,7 @@ pub trait Sink {
     /// The bytes that it holds, if they are visible.
     ghost held: { Self → Option (List ℕ) };
 
-    /// How often writing has failed. It never falls, and stands still at the largest `u64`.
+    /// How often writing has failed. It never falls, and stays at the largest `u64`.
     ghost faults: { Self → ℕ };
 
     /// Takes the first bytes of `piece`, and returns how many: at least one if `piece` isn't empty. A write that

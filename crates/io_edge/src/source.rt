@@ -1,3 +1,4 @@
+//! Sources of bytes.
 ghost use Rattle.std.specs.Prelude.{◌≡◌, ℕ, ◌<◌, ◌≤◌, List, Option, length, take, IfOk, OnErr, ◌+◌, vec_len, IfSome, IsErrOf};
 ghost use Rattle.std.specs.Io.KnownBytes.{Consumes, IsAtEnd, Keeps};
 ghost use Rattle.io_edge.specs.Device.{Counts, Rises, IsLaterIn, ReadsUpTo};
@@ -11,7 +12,7 @@ pub trait Source {
     /// The bytes that are left, if they are visible.
     ghost left: { Self → Option (List ℕ) };
 
-    /// How often reading has failed. It never falls, and stands still at the largest `u64`.
+    /// How often reading has failed. It never falls, and stays at the largest `u64`.
     ghost faults: { Self → ℕ };
 
     /// Reads some bytes into the first places of `buf`, and returns how many: at most as many as `buf` has. 0 means
@@ -45,11 +46,10 @@ pub enum ReadAll {
 
 /// Reads all that the source has, at most `limit` bytes.
 ///
-/// `Fault` comes only if the source's count of faults rose, and every other answer leaves that count as it
-/// was. `TooLong` comes only if the source had more than `limit` bytes, and `Memory` only if an allocation was
-/// refused, which an empty source never needs. After an error the source stands after the bytes that were read:
-/// at most `limit`, and with `TooLong` at most 4,096 more. Nothing is read after the end, nor once more than `limit`
-/// bytes were seen.
+/// `Fault` comes only if the source's count of faults rose, and every other answer leaves that count as it was. `TooLong` comes only if the
+/// source had more than `limit` bytes, and `Memory` only if an allocation was refused, which an empty source never needs. After an error
+/// the bytes that were read are gone from the source: at most `limit`, and with `TooLong` at most 4,096 more. Nothing is read after the
+/// end, nor once more than `limit` bytes were seen.
 pub fn read_all<S: Source>(alloc: Global, source: &mut S, limit: usize) -> Result<Vec<u8>, ReadAll>
     ensures all { IfOk result (λ v. Consumes (S.left source.old) (S.left source.new) v.items × IsAtEnd (S.left source.new)) }
     ensures within { IfOk result (λ v. vec_len v ≤ limit) }

@@ -1,3 +1,4 @@
+//! Sinks over writers of the standard library.
 ghost use Rattle.std.specs.Prelude.{◌≡◌, ◌<◌, ◌≤◌, IfSome, IsNone, length, take};
 ghost use Rattle.std.specs.Io.KnownBytes.{Appends, Keeps};
 ghost use Rattle.io_edge.specs.Device.{AppendsPart};

@@ -7,8 +7,8 @@ use digest_core::Digester;
 use step_referee::machine_runs_are_true;
 use transcript_text::reading_is_the_inverse_of_writing;
 
-/// A confirmed text states the answer of the run, or two different strings of bytes with one digest, of every case with the stated root at
-/// step 0, in the head's version, in which one prover's lines are all given and true.
+/// For every case with the stated root at step 0, in the head's version, in which one prover's lines are all given and true, a confirmed
+/// text states the answer of the run, or two different strings of bytes with one digest.
 pub fn confirmed_cases_are_right<D: Digester>()
     ensures { ConfirmedCasesAreRight D.digest_of }
 {
@@ -25,9 +25,8 @@ pub fn collisions_of_the_machine_have_strings<D: Digester>()
     ensures cases { CollisionsOfCasesHaveStrings D.digest_of }
 {}
 
-/// What `transcript_text::full` writes of the record of every case of the machine is read, and the text that is read is confirmed
-/// before the judge of the head's version, if the head's numbers are within the limits. That each answer has a wire form is a
-/// clause of `full`.
+/// What `transcript_text::full` writes of the record of every case of the machine is read, and the text that is read is confirmed before
+/// the judge of the head's version, if the head's numbers are within the limits. By a clause of `full`, each answer has a wire form.
 pub fn written_cases_are_confirmed<D: Digester>()
     ensures { MachineCasesAreConfirmed D.digest_of }
 {

@@ -64,8 +64,8 @@ impl Directory {
         }
     }
 
-    /// Writes the low `width` bytes of `value` into the page with a number, from a place on, the least byte first, if
-    /// the page is kept; says whether it is.
+    /// Writes the low `width` bytes of `value` into the page with a number, from a place on, the least byte first, if the page is kept. The
+    /// result is whether it is.
     pub fn write(&mut self, number: u32, at: usize, width: u8, value: u32) -> bool
         requires width { (width ≡ 1) ⊎ (width ≡ 2) ⊎ (width ≡ 4) }
         requires within { at + width ≤ 4096 }

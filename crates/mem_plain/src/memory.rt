@@ -1,3 +1,4 @@
+//! The memory of a machine.
 ghost use Rattle.std.specs.Prelude.{◌≡◌, ◌⊎◌, ℕ, ◌+◌, ◌*◌, ◌/◌, ◌%◌, ◌^◌, ◌<◌, ◌≤◌, length, slice_index, if◌then◌else◌, ◌==◌, IfOk, IfSome, IsTrue, ◌↔◌, OnOk, OnErr};
 ghost use Rattle.mem_plain.specs.Memory.{IsMemory};
 ghost use Rattle.mem_plain.specs.Contents.{no_bytes, byte_at, number_at, with_number, laid, chunk_at, IsUsed, IsNextUsed};
@@ -137,7 +138,7 @@ impl PlainMem {
         }
     }
 
-    /// Memory with the same bytes, which goes its own way from now on. An `Err` is out of memory.
+    /// A copy of the memory: what is stored to the one later isn't stored to the other. An `Err` is out of memory.
     pub fn copy(&self) -> Result<PlainMem, Memory>
         ensures { IfOk result (λ m. m ≡ self.now) }
     {

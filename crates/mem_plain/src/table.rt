@@ -1,3 +1,4 @@
+//! A table of pages.
 ghost use Rattle.std.specs.Prelude.{◌≡◌, vec_len};
 
 use crate::page::Page;

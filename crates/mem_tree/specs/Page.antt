@@ -1,4 +1,4 @@
--- Derived. The subtree of one page, as a heap of 256 digests, beside the 128 chunks over which it stands.
+-- Derived. The subtree of one page, as a heap of 256 digests, beside the 128 chunks that are its leaves.
 use Rattle.std.specs.Prelude.{◌≡◌, ◌≢◌, ◌↔◌, ℕ, ◌+◌, ◌-◌, ◌*◌, ◌%◌, ◌^◌, ◌<◌, List, [], Option, Some, None, true, is_some, replicate, slice_index_or}
 use Rattle.rd_base.specs.declared.digest.Digest32.{Digest32}
 use Rattle.mem_plain.specs.Contents.{Contents, IsUsed, chunk_at}
@@ -29,7 +29,7 @@ abbrev pub kept_chunk : Option PageTree → ℕ → List ℕ
 kept_chunk (Some tree) j = chunk_in tree.chunks.items j
 kept_chunk None j = chunk_in zero_chunks j
 
--- where node k of a level below 7 stands in the heap of its page
+-- where node k of a level below 7 is in the heap of its page
 abbrev pub place_of : ℕ → ℕ → ℕ
 place_of l k = 2 ^ (7 - l) + k % 2 ^ (7 - l)
 

@@ -1,6 +1,6 @@
--- To believe: `Tree`, `is_among` and `SameBut`, which say what a refreshed tree is promised of; and `page_at`, `upper_at` and
--- `IsUsedOrTouched`, which say what it keeps. The rest is derived: when a kept tree is the tree of a memory, but for its touched pages,
--- the relation that every call of `MemTree` keeps, and from which its root and its paths are those of the definition.
+-- To believe: `Tree`, `is_among` and `SameBut`, in which the promise of a refreshed tree is stated; and `page_at`, `upper_at` and
+-- `IsUsedOrTouched`, in which it is stated what a tree keeps. The rest is derived: when a kept tree is the tree of a memory, but for its
+-- touched pages, the relation that every call of `MemTree` keeps, and from which its root and its paths are those of the definition.
 use Rattle.std.specs.Prelude.{◌≡◌, ℕ, ◌+◌, ◌-◌, ◌*◌, ◌/◌, ◌^◌, ◌<◌, ◌⊎◌, List, [], Option, None, Bool, true, false, ◌||◌, is_some}
 use Rattle.std.specs.Ordering.{nat_cmp, ordering_then}
 use Rattle.std.specs.declared.cmp.Ordering.{Ordering}
@@ -73,7 +73,7 @@ pub record IsRaised (digest : List ℕ → List ℕ) (t : Kept) (page : ℕ) (ro
   pub joined : (n : ℕ) → n < top → IsJoinedAbove digest t n (page / 2 ^ (n + 1))
   pub kept : is_some root ≡ true → is_some (upper_at t top (page / 2 ^ top)) ≡ true
 
--- each node that stands neither at nor above a stale page is the root of its page, or the digest of the two below it; and none is
+-- each node that is neither at nor above a stale page is the root of its page, or the digest of the two below it; and none is
 -- kept above level 27. So nothing is kept above pages but over pages that are kept, or stale
 pub record IsJoinedBut (digest : List ℕ → List ℕ) (t : Kept) (stale : List ℕ) : Type 0 where
   pub roots : (p : ℕ) → is_among stale p ≡ false → IsRoot (upper_at t 0 p) (page_at t p)
@@ -102,7 +102,7 @@ IsUsedOrTouched t m p = IsUsed m p ⊎ (is_among t.touched p ≡ true)
 abbrev pub SameBut : List ℕ → Contents → Contents → Type 0
 SameBut pages m n = (p : ℕ) → is_among pages p ≡ false → SamePage m n p
 
--- what holds of every tree: the empty node of each level stands at its place; each touched page is one of the 2^20 pages; each heap
+-- what holds of every tree: the empty node of each level is at its place; each touched page is one of the 2^20 pages; each heap
 -- is made of its chunks; the nodes above are joined, but for those of touched pages, and for none of them unless a refresh failed
 pub record IsWhole (digest : List ℕ → List ℕ) (t : Tree) : Type 0 where
   pub empty : AreEmpty digest t.nodes.empties

@@ -77,7 +77,7 @@ fn plain_page_tree<D: Digester>(
     Ok(tree)
 }
 
-/// The subtrees of pages, in their order, from as many threads as there are processors.
+/// The subtrees of pages, in their order, computed side by side. An `Err`, of all or of one subtree, is out of memory.
 fn trees_of<R: Threads + Sync, D: Digester + Send + Sync>(
     rt: &R,
     alloc: Global,

@@ -23,7 +23,7 @@ const CHUNKS: usize = 32_768;
 /// How many places the heap has; the first is not used.
 const HEAP_PLACES: usize = 65_536;
 
-/// How many levels stand below the root.
+/// How many levels are below the root.
 const LEVELS: u32 = 15;
 
 /// A byte of an input, and 0 behind its end.
@@ -69,7 +69,7 @@ fn fill_leaves<C: Counted, L: Ledger>(
     }
 }
 
-/// Makes a heap over chunks of zeros that of an input.
+/// Turns a heap over chunks of zeros into that of an input.
 fn fill<C: Counted, L: Ledger>(
     c: C,
     nodes: &mut [Digest32],
@@ -91,7 +91,7 @@ fn fill<C: Counted, L: Ledger>(
     renew_nodes(c, nodes, marks, CHUNKS, &mut steps);
 }
 
-/// Makes a heap that over chunks of zeros, by 16 digests.
+/// Writes the heap over chunks of zeros, by 16 digests.
 fn fill_zeros<D: Digester>(d: D, nodes: &mut [Digest32])
     requires { length nodes.old ≡ 65536 }
     ensures { IsHeap D.digest_of nodes.new 15 (λ _. text_of_leaf (replicate 32 0)) }
@@ -101,7 +101,7 @@ fn fill_zeros<D: Digester>(d: D, nodes: &mut [Digest32])
     fill_empty_heap(&empties, nodes, LEVELS);
 }
 
-/// Makes a heap that of an input.
+/// Writes the heap of an input.
 fn fill_with<D: Digester>(d: D, nodes: &mut [Digest32], marks: &mut [bool], input: &[u8])
     requires short { length input.now ≤ 1048576 }
     requires len { length nodes.old ≡ 65536 }
@@ -138,7 +138,7 @@ fn no_marks(alloc: Global, places: usize) -> Result<Vec<bool>, Memory>
 
 /// The Merkle tree of an input. It has 2 MiB, whatever the input's length.
 ///
-/// Contracts see it as its nodes; of which input it is the tree `IsInputTree` says.
+/// Contracts see it as its nodes; `IsInputTree` relates them to the input.
 #[derive(Drop)]
 pub struct InputTree<D: Digester> {
     d: D,
@@ -160,8 +160,8 @@ impl<D: Digester> InputTree<D> {
     ghost use Rattle.merkle_nodes.specs.Opening.{IsPath};
     ghost use Rattle.mem_tree.specs.InputTree.{input_leaf, input_root};
 
-    /// The tree of an input of at most 1,048,576 bytes, by one digest for each of its chunks and each node above one. An `Err` is
-    /// out of memory.
+    /// The tree of an input of at most 1,048,576 bytes, by 16 digests for the tree over zeros, and one for each of its chunks and each node
+    /// above one. An `Err` is out of memory.
     pub fn build(alloc: Global, d: D, input: &[u8]) -> Result<Self, Memory>
         requires { length input.now ≤ 1048576 }
         ensures { IfOk result (λ t. IsInputTree D.digest_of t input.now) }

@@ -4,8 +4,8 @@ ghost use Rattle.std.specs.Prelude.{◌≡◌, length, vec_len};
 use rd_base::Digest32;
 use std::collections::BTreeMap;
 
-/// The nodes of a page's subtree, with the root at 1 and the two below node `i` at `2 * i` and `2 * i + 1`; and the chunks over
-/// which it stands.
+/// The nodes of a page's subtree, with the root at 1 and the two below node `i` at `2 * i` and `2 * i + 1`; and the chunks that are its
+/// leaves.
 #[derive(Drop)]
 pub struct PageTree {
     pub nodes: Vec<Digest32>,
@@ -14,8 +14,8 @@ pub struct PageTree {
     ghost parts: { vec_len chunks ≡ 128 },
 }
 
-/// The nodes of a tree that are kept: the subtrees of pages by the page's number; the nodes from the pages' roots up by how
-/// many levels they stand above these, and their place; and the empty node of each level, for all others.
+/// The nodes of a tree that are kept: the subtrees of pages by the page's number; the nodes from the pages' roots up, by how many levels
+/// they are above these and by their place; and the empty node of each level, for all others.
 #[derive(Drop)]
 pub struct Nodes {
     pub pages: BTreeMap<u32, PageTree>,

@@ -19,7 +19,7 @@ use std::sync::ledger::Ledger;
 /// The level of the pages' roots.
 pub const PAGE_LEVEL: u8 = 7;
 
-/// How many levels stand above the pages' roots.
+/// How many levels are above the pages' roots.
 pub const UPPER_LEVELS: u8 = 20;
 
 /// How many nodes a page has at one of the levels below its root.
@@ -51,7 +51,7 @@ impl Nodes {
         }
     }
 
-    /// The node that stands this many levels above the pages' roots.
+    /// The node this many levels above the pages' roots.
     pub(crate) fn upper_node(&self, above: u8, k: u32) -> Digest32
         requires { above ≤ 20 }
         ensures { result.0 ≡ node_above (kept_of self.now) above k }
@@ -141,7 +141,7 @@ impl Nodes {
     }
 
     /// Puts a page's root into its place and joins the nodes above it anew, with a step for each: 20 if there is a root. An
-    /// `Err` is out of memory, and leaves all nodes that don't stand above the page.
+    /// `Err` is out of memory, and leaves all nodes that aren't above the page.
     fn raise<C: Counted, L: Ledger>(
         &mut self,
         c: C,
@@ -170,7 +170,7 @@ impl Nodes {
     }
 
     /// Puts a page's subtree into its place, with a step for each node above it that is joined anew. An `Err` is out of
-    /// memory, and leaves all nodes that stand neither in nor above the page.
+    /// memory, and leaves all nodes that are neither in nor above the page.
     pub(crate) fn place<C: Counted, L: Ledger>(
         &mut self,
         c: C,
@@ -200,7 +200,7 @@ impl Nodes {
     }
 
     /// Makes a page and the nodes above it those of a memory, with a step for each digest; a page that hasn't changed takes none,
-    /// unless an earlier refresh failed. An `Err` is out of memory, and leaves all nodes that stand neither in nor above the page.
+    /// unless an earlier refresh failed. An `Err` is out of memory, and leaves all nodes that are neither in nor above the page.
     fn renew_page<C: Counted, L: Ledger>(
         &mut self,
         c: C,
@@ -239,9 +239,9 @@ impl Nodes {
         Ok(())
     }
 
-    /// Makes the touched pages and the nodes above them those of a memory, with a step for each digest. Each page that hasn't
-    /// changed takes none, unless an earlier refresh failed. An `Err` is out of memory, and leaves all nodes that stand neither in
-    /// nor above a touched page.
+    /// Makes the touched pages and the nodes above them those of a memory, with a step for each digest. Each page that hasn't changed takes
+    /// none, unless an earlier refresh failed. An `Err` is out of memory, and leaves all nodes that are neither in nor above a touched
+    /// page.
     pub(crate) fn refresh<C: Counted, L: Ledger>(
         &mut self,
         c: C,

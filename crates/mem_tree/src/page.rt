@@ -22,7 +22,7 @@ const PAGE_CHUNKS: usize = 128;
 /// How many places the heap of a page has; the first is not used.
 const HEAP_PLACES: usize = 256;
 
-/// How many levels of nodes stand below the root of a page.
+/// How many levels of nodes are below the root of a page.
 const PAGE_LEVELS: u32 = 7;
 
 /// Whether some byte of a page isn't 0.

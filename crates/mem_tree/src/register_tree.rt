@@ -21,7 +21,7 @@ const REGISTERS: usize = 32;
 /// How many places the heap has; the first is not used.
 const HEAP_PLACES: usize = 64;
 
-/// How many levels stand below the root.
+/// How many levels are below the root.
 const LEVELS: u32 = 5;
 
 /// Marks of the heap's places, none of which is marked.
@@ -79,7 +79,7 @@ fn renew_leaves<C: Counted, L: Ledger>(
     }
 }
 
-/// Makes the heap of a register file that of another one, with a step for each leaf that differs and each node above one.
+/// Turns the heap of a register file into that of another one, with a step for each leaf that differs and each node above one.
 fn renew<C: Counted, L: Ledger>(
     c: C,
     nodes: &mut [Digest32],
@@ -143,7 +143,7 @@ impl<D: Digester> RegTree<D> {
         tree
     }
 
-    /// Makes the tree that of another register file. It compares 32 values, and counts one step for each digest: those of the
+    /// Turns the tree into that of another register file. It compares 32 values, and counts one step for each digest: those of the
     /// leaves that differ, and of the nodes above them.
     pub fn refresh_counted<L: Ledger>(&mut self, regs: &Regs, steps: &mut Steps<L>)
         ensures tree { self.new ≡ regs.now }

@@ -41,8 +41,8 @@ fn part<D: Digester>(
     d.digest(node_text(&left, &right).as_slice())
 }
 
-/// The root of an input of at most 1,048,576 bytes, from scratch: it digests each of its chunks and the nodes above them. It takes
-/// no memory.
+/// The root of an input of at most 1,048,576 bytes, from scratch: it digests a chunk of zeros and the 15 nodes over zeros, each chunk of
+/// the input, and the nodes above those. It takes no memory.
 pub fn input_root<D: Digester>(d: D, input: &[u8]) -> Digest32
     ensures { result.0 ≡ tree.input_root D.digest_of input.now }
 {

@@ -1,4 +1,4 @@
--- Derived. A Merkle tree of n levels as a heap of 2^(n + 1) digests: its root stands at 1, the nodes below node i at 2 * i and
+-- Derived. A Merkle tree of n levels as a heap of 2^(n + 1) digests: its root is at 1, the nodes below node i at 2 * i and
 -- 2 * i + 1, and so its leaves from 2^n on. The law `heaps_are_trees` ties a heap to the nodes of the tree.
 use Rattle.std.specs.Prelude.{◌≡◌, ℕ, ◌+◌, ◌*◌, ◌^◌, ◌<◌, ◌≤◌, Bool, false, List, length, slice_index_or}
 use Rattle.rd_base.specs.declared.digest.Digest32.{Digest32}

@@ -5,7 +5,7 @@ use Rattle.rd_base.specs.declared.digest.Digest32.{Digest32}
 use Rattle.digest_core.specs.Text.{node_text}
 use Rattle.merkle_nodes.specs.Node.{node, beside, digest_at}
 
--- the string of a node, from the child on the path and its sibling: the child stands on the left if the bit is 0
+-- the string of a node, from the child on the path and its sibling: the child is on the left if the bit is 0
 abbrev pub joined : ℕ → List ℕ → List ℕ → List ℕ
 joined bit child sibling = if bit == 0 then node_text child sibling else node_text sibling child
 

@@ -1,5 +1,5 @@
 -- To believe. How many nodes of a tree have to be digested anew if some of its leaves have changed: the changed leaves, and
--- each node that stands above one.
+-- each node above one.
 use Rattle.std.specs.Prelude.{ℕ, zero, suc, ◌+◌, ◌*◌, ◌-◌, ◌^◌, Bool, ◌||◌, if◌then◌else◌}
 
 -- how many of the numbers below n pass a test

@@ -32,7 +32,7 @@ pub fn digest_counted<C: Counted, L: Ledger>(
 }
 
 /// The digest at the top of a path, from the string of the leaf up: a level for each sibling, the leaf's sibling first.
-/// Bit l of `index` is 0 if the path stands on the left at level l. It counts one step for each digest.
+/// Bit l of `index` is 0 if the path is on the left at level l. It counts one step for each digest.
 pub fn climb_counted<C: Counted, L: Ledger>(
     c: C,
     index: u32,

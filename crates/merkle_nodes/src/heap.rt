@@ -9,7 +9,7 @@ use digest_core::{Counted, Digester, node_text};
 use rd_base::{Digest32, OpenText, Steps};
 use std::sync::ledger::Ledger;
 
-/// The node of a level over leaves that all have one string, by those below it, which stand at the places of their levels.
+/// The node of a level over leaves that all have one string, by the nodes below it, each at the place of its level.
 fn empty_at<D: Digester>(d: D, leaf: &OpenText, nodes: &[Digest32], level: usize) -> Digest32
     requires within { level ≤ length nodes.now }
     requires below { (l : ℕ) → l < level → digest_at nodes.now l ≡ empty_node D.digest_of leaf.now l }
@@ -33,8 +33,8 @@ pub fn fill_empty_nodes<D: Digester>(d: D, leaf: &OpenText, nodes: &mut [Digest3
     }
 }
 
-/// Makes a heap that of the tree of this many levels over leaves that all have one string, of which the empty node of each level
-/// is given, that of level l at place l. It makes no digest.
+/// Writes the heap of the tree of this many levels over leaves that all have one string, from the empty node of each level: that of level l
+/// is at place l of `empties`. It makes no digest.
 pub fn fill_empty_heap(empties: &[Digest32], nodes: &mut [Digest32], levels: u32)
     requires levels { levels < length empties.now }
     requires len { length nodes.old ≡ 2 ^ (levels + 1) }
@@ -48,8 +48,8 @@ pub fn fill_empty_heap(empties: &[Digest32], nodes: &mut [Digest32], levels: u32
     }
 }
 
-/// Digests the nodes of a heap anew that stand above marked places, and marks them, with a step for each. Every other node
-/// above the leaves is the digest of the two below it, so that each is in the end.
+/// Digests anew the nodes of a heap that are above marked places, and marks them, with a step for each. Every other node
+/// above the leaves is the digest of the two below it, so that afterwards each node above the leaves is.
 pub fn renew_nodes<C: Counted, L: Ledger>(
     c: C,
     nodes: &mut [Digest32],

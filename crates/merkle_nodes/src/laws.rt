@@ -80,7 +80,7 @@ pub fn paths_show_the_tree_or_split()
         ⊎ ((l : ℕ) × (l ≤ n) × IsSplitAt digest a s (leaf k) (λ i. node digest leaf i (beside (k / 2 ^ i))) k l) }
 {}
 
-/// A heap is the tree over its leaves: node k of a level below m others stands at 2^m + k.
+/// A heap is the tree over its leaves: node k of a level below m others is at place 2^m + k.
 pub fn heaps_are_trees()
     ensures nodes { (digest : List ℕ → List ℕ) (nodes : List Digest32) (leaf : ℕ → List ℕ) (n : ℕ) → IsHeap digest nodes n leaf →
         (l m k : ℕ) → m + l ≡ n → k < 2 ^ m → digest_at nodes (2 ^ m + k) ≡ node digest leaf l k }
@@ -96,8 +96,8 @@ pub fn renewals_are_marked()
         ((i : ℕ) → 1 ≤ i → i < 2 ^ n → marked i ≡ (marked (2 * i) || marked (2 * i + 1))) → marked 1 ≡ is_changed changed n 0 }
 {}
 
-/// At most a leaf and the nodes above it are made anew for each leaf that has changed (`few`), and none if none has (`none`);
-/// if a leaf has changed, so has the root (`root`), and if the root has, some leaf has (`some`).
+/// At most a leaf and the nodes above it are made anew for each leaf that has changed (`few`), so none if none has, and fewer
+/// than 2^(n + 1) in all (`most`). If a leaf has changed, so has the root (`root`), and if the root has, some leaf has (`some`).
 pub fn renewals_are_few()
     ensures few { (changed : ℕ → Bool) (n : ℕ) → renewals changed n ≤ (n + 1) * how_many changed (2 ^ n) }
     ensures most { (changed : ℕ → Bool) (n : ℕ) → renewals changed n < 2 ^ (n + 1) }

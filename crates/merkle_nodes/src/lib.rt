@@ -1,11 +1,10 @@
 //! Merkle trees of any number of levels over any leaves: what a node is, how a path opens, and what paths are good for.
 //!
-//! A tree is given by a digest function and the string of each leaf; nothing here holds one. The layers above may rely
-//! on the definition of a node (`specs/Node.antt`), on the laws about nodes and paths (`laws`), and on the calls that
-//! climb a path from its leaf (`climb`, `climb_counted`) and make the nodes over equal leaves (`fill_empty_nodes`). A tree may
-//! be kept as a heap of digests (`specs/Heap.antt`, the law `heaps_are_trees`), of which `renew_nodes` digests those nodes anew
-//! that stand above changed leaves, and no others (`specs/Renewals.antt`). Read `specs/Node.antt` and `specs/Opening.antt` first,
-//! then `laws`.
+//! A tree is given by a digest function and the string of each leaf; nothing here holds one. The layers above may rely on the definition of
+//! a node (`specs/Node.antt`), on the laws about nodes and paths (`laws`), and on the calls that climb a path from its leaf (`climb`,
+//! `climb_counted`) and make the nodes over equal leaves (`fill_empty_nodes`). A tree may be kept as a heap of digests (`specs/Heap.antt`,
+//! the law `heaps_are_trees`), of which `renew_nodes` digests anew the nodes above changed leaves, and no others (`specs/Renewals.antt`).
+//! Read `specs/Node.antt` and `specs/Opening.antt` first, then `laws`.
 #![tactic(auto)]
 
 mod climbing;

@@ -144,7 +144,7 @@ fn opens_in<D: Digester>(d: D, version: u32, a: &Digest32, facts: &Facts) -> boo
 /// open the root `a`: the first such pair in the order state string, storage string, registers string, control string, then the strings of
 /// the fetched chunk, of the opened registers, of the chunk of data and of the chunk of the input, each from the leaf string up.
 ///
-/// `None` if a proof is of another version or doesn't open `a`. Of two proofs that lead from `a` it comes if and only if the proofs
+/// `None` if a proof is of another version or doesn't open `a`. For two proofs that lead from `a` it is `None` if and only if the proofs
 /// are equal (`proofs_from_one_root`).
 #[tactic(auto, unfolding(crate::specs::Collision::step_collision))]
 pub fn step_collision<D: Digester>(

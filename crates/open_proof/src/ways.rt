@@ -109,7 +109,7 @@ pub fn root_after<C: Counted, L: Ledger>(
 }
 
 /// The digest to which a chunk of memory climbs along its path: the root of memory, if it is the chunk with this index there. Bit l of
-/// `index` is 0 if the path stands on the left at level l. It takes no memory.
+/// `index` is 0 if the path is on the left at level l. It takes no memory.
 pub fn climb<D: Digester>(d: D, index: u32, chunk: [u8; 32], path: &Path) -> Digest32
     ensures { (root : List ℕ) → Opens D.digest_of (text_of_leaf chunk) (digest_at path.now.0) 27 index root ↔ (root ≡ result.0) }
 {

@@ -13,7 +13,7 @@ claim_check digest claim =
     then (if bytes_eq claim.ctl.chain.0 (chain_of digest claim.output) then Sound else WrongChain)
     else WrongLength
 
--- the answer that says so
+-- the answer that is `Sound`
 abbrev pub says_sound : ClaimCheck → Bool
 says_sound Sound = true
 says_sound WrongLength = false

@@ -59,7 +59,7 @@ pub fn collision_below<D: Digester>(
     link_collision(d, first.output.as_slice(), second.output.as_slice())
 }
 
-/// The collision of two claims by its definition: of claims of one root their state strings first, and then what stands below them.
+/// The collision of two claims by its definition: for claims of one root, their state strings first, and then the strings below them.
 #[tactic(auto, unfolding(crate::specs::Collision::claim_collision, crate::specs::Collision::first_collision))]
 fn opened_collision<D: Digester>(
     d: D,
@@ -82,7 +82,7 @@ fn opened_collision<D: Digester>(
 }
 
 /// The collision of two claims of one root: the first two different strings with one digest that they open, their state strings first.
-/// Of sound claims it is `None` if and only if their roots differ or the claims are equal. The first string is opened by the first
+/// For sound claims it is `None` if and only if their roots differ or the claims are equal. The first string is opened by the first
 /// claim, the second by the second. It takes no memory.
 pub fn claim_collision<D: Digester>(
     d: D,

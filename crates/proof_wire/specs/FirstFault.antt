@@ -1,5 +1,4 @@
--- To believe. Which fault comes first, by how many bytes there are and by the bytes at their places. The tag stands at
--- place 0.
+-- To believe. Which fault comes first, by how many bytes there are and by the bytes at their places. The tag is at place 0.
 use Rattle.std.specs.Prelude.{ℕ, ◌+◌, ◌*◌, ◌/◌, ◌%◌, Bool, ◌&&◌, nat_le, ◌==◌, List, [], ◌∷◌, length, slice_index, take, drop, Option, Some, None, if◌then◌else◌}
 use Rattle.std.specs.Int.{w32, w64, from_le_bytes}
 use Rattle.proof_wire.specs.declared.fault.WireFault.{WireFault}

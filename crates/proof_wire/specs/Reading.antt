@@ -203,7 +203,7 @@ step_proof_3_at bytes = do
   input ← optional_at input_opening_at (has_flag 4 flags) operand.1
   Ok (record { mem = mem.0; input_len = input_len.0; input_root = input_root.0; regs = regs.0; ctl = ctl.0; fetch = fetch.0; named = named.0; operand = operand.0; input = input.0 }, input.1)
 
--- an answer at the front: its tag, and what stands behind it
+-- an answer at the front: its tag, and what follows it
 unfoldable pub answer_at : List ℕ → Read Answer
 answer_at [] = Err Short
 answer_at (tag ∷ bytes) =

@@ -94,7 +94,7 @@ fn read_status(bytes: &[u8]) -> Result<(Status, &[u8]), WireFault>
     Ok((status, rest))
 }
 
-/// The control fields of a state.
+/// The control fields of a state. `BadStatus` comes if and only if their status byte and code are no status.
 #[tactic(auto, unfolding(crate::specs::Reading::control_at))]
 pub fn read_control(bytes: &[u8]) -> Result<(Ctl, &[u8]), WireFault>
     requires { 49 ≤ length bytes.now }
@@ -188,7 +188,7 @@ fn read_input_opening(bytes: &[u8]) -> Result<(InOpening, &[u8]), WireFault>
     Ok((InOpening { chunk, path }, rest))
 }
 
-/// A chunk of memory and its Merkle path if they are there, and else nothing.
+/// A chunk of memory and its Merkle path if they are there, and else nothing. `Short` comes if they aren't whole.
 #[tactic(auto, unfolding(crate::specs::Reading::optional_at))]
 pub fn read_opening_if(is_there: bool, bytes: &[u8]) -> Result<(Option<Opening>, &[u8]), WireFault>
     ensures { IsExactly (λ x. (x.0, x.1.now)) result (optional_at opening_at is_there bytes.now) }
@@ -200,7 +200,7 @@ pub fn read_opening_if(is_there: bool, bytes: &[u8]) -> Result<(Option<Opening>,
     Ok((Some(opening), rest))
 }
 
-/// A chunk of the input and its Merkle path if they are there, and else nothing.
+/// A chunk of the input and its Merkle path if they are there, and else nothing. `Short` comes if they aren't whole.
 #[tactic(auto, unfolding(crate::specs::Reading::optional_at))]
 pub fn read_input_if(is_there: bool, bytes: &[u8]) -> Result<(Option<InOpening>, &[u8]), WireFault>
     ensures { IsExactly (λ x. (x.0, x.1.now)) result (optional_at input_opening_at is_there bytes.now) }
@@ -212,7 +212,7 @@ pub fn read_input_if(is_there: bool, bytes: &[u8]) -> Result<(Option<InOpening>,
     Ok((Some(opening), rest))
 }
 
-/// This many opened registers.
+/// This many opened registers. `Short` comes if they aren't whole.
 pub fn read_named(count: u8, bytes: &[u8]) -> Result<(RegOpenings, &[u8]), WireFault>
     requires { count ≤ 3 }
     ensures { IsExactly (λ x. (x.0, x.1.now)) result (each_at register_opening_at count bytes.now) }

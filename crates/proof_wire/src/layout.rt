@@ -18,16 +18,16 @@ pub const ROOTS_TAG: u8 = 5;
 /// The first byte of a proof of version 3.
 pub const STEP_3_TAG: u8 = 6;
 
-/// How many bytes of a claim stand between its tag and its output.
+/// How many bytes of a claim are between its tag and its output.
 pub const CLAIM_FIXED_BYTES: usize = 121;
 
-/// How many bytes of a proof of version 1 stand between its tag and its openings.
+/// How many bytes of a proof of version 1 are between its tag and its openings.
 pub const STEP_FIXED_BYTES: usize = 206;
 
-/// How many bytes of a proof of version 2 stand between its tag and its openings.
+/// How many bytes of a proof of version 2 are between its tag and its openings.
 pub const STEP_2_FIXED_BYTES: usize = 115;
 
-/// How many bytes of a proof of version 3 stand between its tag and its openings.
+/// How many bytes of a proof of version 3 are between its tag and its openings.
 pub const STEP_3_FIXED_BYTES: usize = 151;
 
 /// How many bytes a digest has.

@@ -1,8 +1,8 @@
 //! Wire forms: a prover's answer as bytes, and back.
 //!
-//! The layers above may rely on this: which bytes an answer has is said by a grammar (`specs/Wire.antt`), `encode`
-//! writes them, and `decode` gives the answer whose form bytes are, or the first rule that they break, by the
-//! number of the rule and its places (`specs/FirstFault.antt`), unless memory runs out; `decode_step` reads a step alone, and takes no memory. An answer has one spelling, bytes spell one answer, and no
+//! The layers above may rely on this: a grammar defines which bytes an answer has (`specs/Wire.antt`), and `encode` writes them. `decode`
+//! gives the answer that bytes spell, or the first rule that they break, as lengths and places decide it (`specs/FirstFault.antt`), unless
+//! memory runs out; `decode_step` reads a step alone, and takes no memory. An answer has one spelling, bytes spell one answer, and no
 //! answer's bytes are a proper prefix of another's (`laws`). Read `fault` first, then `reading` and `writing`.
 #![tactic(auto)]
 

@@ -263,13 +263,12 @@ fn read_whole(alloc: Global, bytes: &[u8]) -> Result<Answer, WireFault>
 
 /// The answer with these bytes.
 ///
-/// An `Err` is the first rule that the bytes break, tested in this order: there is a byte (`Short`); it is a tag
-/// (`BadTag`); the fixed part of the answer is whole, with the tag 122 bytes of a claim, 33 of a root, 207, 116 and 152
-/// of a proof of version 1, 2 and 3, and 2 of several roots (`Short`); the status byte is at most 2, and the code of a
-/// machine that runs is 0 (`BadStatus`); the flags of a proof are at most 3, of version 3 at most 7, the count of its
-/// registers is at most 3, and the count of roots is 1 to 15 (`BadTag`); the length of a claim's output is at most
-/// 4,294,967,295 (`BadLength`); the output, the openings or the roots are whole (`Short`); no byte stands behind them
-/// (`TrailingBytes`). `Memory` is out of memory, and may come in place of any other answer.
+/// An `Err` is the first rule that the bytes break, tested in this order: there is a byte (`Short`); it is a tag (`BadTag`); the fixed part
+/// of the answer is whole, with the tag 122 bytes of a claim, 33 of a root, 207, 116 and 152 of a proof of version 1, 2 and 3, and 2 of
+/// several roots (`Short`); the status byte is at most 2, and the code of a machine that runs is 0 (`BadStatus`); the flags of a proof are
+/// at most 3, of version 3 at most 7, the count of its registers is at most 3, and the count of roots is 1 to 15 (`BadTag`); the length of
+/// a claim's output is at most 4,294,967,295 (`BadLength`); the output, the openings or the roots are whole (`Short`); no byte follows them
+/// (`TrailingBytes`). `Memory` comes if memory ran out, and may come in place of any other answer.
 pub fn decode(alloc: Global, bytes: &[u8]) -> Result<Answer, WireFault>
     // What is read has these bytes.
     ensures found { IfOk result (λ answer. Spells answer bytes.now) }
@@ -281,7 +280,7 @@ pub fn decode(alloc: Global, bytes: &[u8]) -> Result<Answer, WireFault>
     read_whole(alloc, bytes)
 }
 
-/// A proof, if no bytes stand behind it. `TrailingBytes` comes if and only if some do.
+/// A proof, if no bytes follow it. `TrailingBytes` comes if and only if some do.
 fn alone(proof: Proof, rest: &[u8]) -> Result<Proof, WireFault>
     ensures { result ≡ (if length rest.now == 0 then Ok proof else Err TrailingBytes) }
 {

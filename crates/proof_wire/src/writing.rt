@@ -1,5 +1,4 @@
-//! Answers as bytes. Each function appends a field; after an `Err`, which is out of memory, a part of it may stand
-//! there.
+//! Answers as bytes. Each function appends a field. After an `Err`, which is out of memory, a part of the field may be appended.
 ghost use Rattle.std.specs.Prelude.{◌≡◌, ◌+◌, ◌++◌, length, OnOk, IfOk};
 ghost use Rattle.proof_wire.specs.Wire.{byte, word, double_word, digest, block, each, status as status_form, control, registers, opening, register_opening, input_opening, optional, flag as flag_form, claim, roots, count, step_proof, step_proof_2, step_proof_3, proof_form, wire_form, Spells};
 

@@ -2,7 +2,7 @@
 //!
 //! The layers above may rely on this: a `Scripted` answers what `says` of `specs/Manners.antt` makes of its inner
 //! answerer, a function of the question and of the passes so far, which no call changes, not even one that runs out of
-//! memory; `waits` tells whether that is a pass, of an answerer that always answers; and a manner gives one answer to one
+//! memory; `waits` decides whether that is a pass, for an answerer that always answers; and a manner gives one answer to one
 //! question if the answerer without it does (`laws`). Read `specs/Manners.antt` first, then `altering` and `tape`, then
 //! `scripted`.
 #![tactic(auto)]

@@ -1,3 +1,4 @@
+//! An answerer with a manner.
 ghost use Rattle.std.specs.Prelude.{◌≡◌, is_some, is_none, true, ℕ, List};
 ghost use Rattle.prover_script.specs.Manners.{Behaviour, says, passes_by};
 

@@ -1,3 +1,4 @@
+//! Answers, and the numbers of questions.
 ghost use Rattle.std.specs.Prelude.{◌≡◌, IfOk};
 ghost use Rattle.rd_base.specs.Questions.{same_qid};
 
@@ -39,7 +40,7 @@ pub enum Answer {
 }
 
 impl Answer {
-    /// The same answer once more. An `Err` is out of memory.
+    /// A copy of the answer. An `Err` is out of memory.
     pub fn copy(&self, alloc: Global) -> Result<Answer, Memory>
         ensures { IfOk result (λ a. a ≡ self.now) }
     {

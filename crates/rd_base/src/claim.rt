@@ -1,3 +1,4 @@
+//! Claims.
 ghost use Rattle.std.specs.Prelude.{◌≡◌, ◌≤◌, ◌↔◌, length, IfOk, IfSome, IsSome};
 
 use crate::digest::Digest32;
@@ -55,7 +56,7 @@ impl ClaimOutput {
         self.bytes.as_slice()
     }
 
-    /// The same output once more. An `Err` is out of memory.
+    /// A copy of the output. An `Err` is out of memory.
     pub fn copy(&self, alloc: Global) -> Result<ClaimOutput, Memory>
         ensures { IfOk result (λ o. o ≡ self.now) }
     {
@@ -80,7 +81,7 @@ pub struct Claim {
 }
 
 impl Claim {
-    /// The same claim once more. An `Err` is out of memory.
+    /// A copy of the claim. An `Err` is out of memory.
     pub fn copy(&self, alloc: Global) -> Result<Claim, Memory>
         ensures { IfOk result (λ c. c ≡ self.now) }
     {

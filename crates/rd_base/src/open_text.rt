@@ -1,3 +1,4 @@
+//! The strings that are digested.
 ghost use Rattle.std.specs.Prelude.{◌≡◌, ◌+◌, ◌<◌, ◌≤◌, [], ◌∷◌, ◌++◌, length};
 
 use std::marker::Model;
@@ -35,7 +36,7 @@ impl OpenText {
         }
     }
 
-    /// Appends one byte.
+    /// Appends one byte to fewer than 129.
     pub fn push(&mut self, byte: u8)
         requires { length self.old < 129 }
         ensures { self.new ≡ self.old ++ byte ∷ [] }
@@ -44,7 +45,7 @@ impl OpenText {
         self.len += 1;
     }
 
-    /// Appends bytes, in their order.
+    /// Appends bytes, in their order, up to 129 in all.
     pub fn extend(&mut self, more: &[u8])
         requires { length self.old + length more.now ≤ 129 }
         ensures { self.new ≡ self.old ++ more.now }
@@ -61,7 +62,7 @@ impl OpenText {
         &self.bytes[..self.len]
     }
 
-    /// The same string once more.
+    /// A copy of the string.
     pub fn copy(&self) -> Self
         ensures { result ≡ self.now }
     {

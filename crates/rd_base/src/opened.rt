@@ -1,3 +1,4 @@
+//! Opened leaves with their paths.
 ghost use Rattle.std.specs.Prelude.{◌≡◌, ◌<◌, ◌≤◌, [], ◌∷◌, ◌++◌, length};
 
 use crate::digest::Digest32;
@@ -77,7 +78,7 @@ impl RegOpenings {
         }
     }
 
-    /// Appends an opened register.
+    /// Appends an opened register to fewer than three.
     pub fn push(&mut self, opening: RegOpening)
         requires { length self.old < 3 }
         ensures { self.new ≡ self.old ++ opening ∷ [] }
@@ -94,7 +95,7 @@ impl RegOpenings {
         &self.openings[..self.len]
     }
 
-    /// The same openings once more.
+    /// A copy of the openings.
     pub fn copy(&self) -> Self
         ensures { result ≡ self.now }
     {

@@ -1,3 +1,4 @@
+//! Proofs of one step.
 ghost use Rattle.std.specs.Prelude.{◌≡◌};
 
 use crate::digest::Digest32;
@@ -74,7 +75,7 @@ pub enum Proof {
 }
 
 impl StepProof2 {
-    /// The same proof once more. It takes no memory.
+    /// A copy of the proof. It takes no memory.
     pub fn copy(&self) -> StepProof2
         ensures { result ≡ self.now }
     {
@@ -90,7 +91,7 @@ impl StepProof2 {
 }
 
 impl StepProof3 {
-    /// The same proof once more. It takes no memory.
+    /// A copy of the proof. It takes no memory.
     pub fn copy(&self) -> StepProof3
         ensures { result ≡ self.now }
     {
@@ -109,7 +110,7 @@ impl StepProof3 {
 }
 
 impl Proof {
-    /// The same proof once more. It takes no memory.
+    /// A copy of the proof. It takes no memory.
     pub fn copy(&self) -> Proof
         ensures { result ≡ self.now }
     {

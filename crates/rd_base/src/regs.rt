@@ -1,3 +1,4 @@
+//! Register files.
 ghost use Rattle.std.specs.Prelude.{◌≡◌, ◌<◌, slice_index};
 ghost use Rattle.rd_base.specs.Regs.{no_registers_set, with_register};
 

@@ -1,3 +1,4 @@
+//! Lists of roots.
 ghost use Rattle.std.specs.Prelude.{◌≡◌, ◌≤◌, ◌↔◌, length, IfOk, IfSome, IsSome};
 
 use crate::digest::Digest32;
@@ -52,7 +53,7 @@ impl RootList {
         self.roots.as_slice()
     }
 
-    /// The same roots once more. An `Err` is out of memory.
+    /// A copy of the roots. An `Err` is out of memory.
     pub fn copy(&self, alloc: Global) -> Result<RootList, Memory>
         ensures { IfOk result (λ l. l ≡ self.now) }
     {

@@ -1,10 +1,11 @@
+//! Counters of steps.
 ghost use Rattle.std.specs.Prelude.{◌≡◌, ◌+◌};
 
 use std::marker::Model;
 use std::sync::ledger::{Blank, Book, Ledger, Share};
 
 /// A counter of steps of work, such as digests, that takes no bytes when the program runs: it is there for contracts. The function that
-/// ticks says what a tick stands for.
+/// ticks defines what a tick counts.
 ///
 /// Contracts see it as the number of ticks so far. Nothing but `tick` changes it.
 #[derive(Drop)]
@@ -26,7 +27,7 @@ impl<L: Ledger> Model for Steps<L> {
 impl<L: Ledger> Steps<L> {
     ghost use Rattle.std.specs.Prelude.{◌≡◌, ◌<◌};
 
-    /// A counter that stands at 0, in a new ledger.
+    /// A counter at 0, in a new ledger.
     pub fn new(blank: Blank) -> Self
         requires name { blank.name ≡ L.name }
         requires parts { blank.parts ≡ L.parts }

@@ -1,3 +1,4 @@
+//! Tapes of answers.
 ghost use Rattle.std.specs.Prelude.{◌≡◌, ◌≤◌, ◌↔◌, length, IfOk, IfSome, IsSome};
 
 use crate::answer::{Answer, Qid};
@@ -19,7 +20,7 @@ pub struct TapeAnswer {
 }
 
 impl TapeAnswer {
-    /// The same once more. An `Err` is out of memory.
+    /// A copy of the answer and of its question's number. An `Err` is out of memory.
     pub fn copy(&self, alloc: Global) -> Result<TapeAnswer, Memory>
         ensures { IfOk result (λ t. t ≡ self.now) }
     {
@@ -72,7 +73,7 @@ impl Tape {
         self.answers.as_slice()
     }
 
-    /// The same tape once more. An `Err` is out of memory.
+    /// A copy of the tape. An `Err` is out of memory.
     pub fn copy(&self, alloc: Global) -> Result<Tape, Memory>
         ensures { IfOk result (λ t. t ≡ self.now) }
     {

@@ -1,4 +1,4 @@
--- To believe: what an operand is, and the numbers that it may be. Derived: where its bits stand in the word (RISC-V Unprivileged ISA
+-- To believe: what an operand is, and the numbers that it may be. Derived: where its bits are in the word (RISC-V Unprivileged ISA
 -- 20191213, 2.2 and 2.3), tied to `word_of` by the law `each_word_is_said`.
 use Rattle.std.specs.Prelude.{ℕ, ◌+◌, ◌*◌, ◌%◌, ◌^◌, ◌==◌, ◌&&◌, Bool, true, false, ℤ, pos, negsuc, unsigned_abs, int_le}
 use Rattle.rv_decode.specs.Bits.{bits, twos_complement}
@@ -13,7 +13,7 @@ within low high z = int_le low z && int_le z high
 abbrev pub is_even : ℤ → Bool
 is_even z = unsigned_abs z % 2 == 0
 
--- the numbers that may stand there
+-- the numbers that the operand may be
 abbrev pub is_in : Field → ℤ → Bool
 is_in Rd z = within (pos 0) (pos 31) z
 is_in Rs1 z = within (pos 0) (pos 31) z

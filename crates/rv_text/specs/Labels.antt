@@ -3,7 +3,7 @@ use Rattle.std.specs.Prelude.{◌≡◌, ℕ, ◌+◌, ◌*◌, Bool, not, if◌
 use Rattle.rv_text.specs.Characters.{is_empty}
 use Rattle.rv_text.specs.Lines.{code_in, label_in, statement_in}
 
--- whether a line has an instruction
+-- whether a line has a statement
 abbrev pub has_statement : List ℕ → Bool
 has_statement line = not (is_empty (statement_in (code_in line)))
 

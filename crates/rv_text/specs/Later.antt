@@ -20,12 +20,12 @@ pub record IsFirst (field : Field) (operand : List ℕ) (slot : Slot) (text : Li
   pub is_field : field_of slot ≡ field
   pub is_operand : next_operand text ≡ operand
 
--- what follows a mark is such, and the mark stands there
+-- what follows a mark is such, and the mark comes next
 abbrev pub Follows : Option (List ℕ) → (List ℕ → Type 0) → Type 0
 Follows (Some rest) is_such = is_such rest
 Follows None is_such = ⊥
 
--- this operand stands in the place of this field
+-- this operand is in the place of this field
 abbrev pub Stands : Field → List ℕ → List Slot → List ℕ → Type 0
 Stands field operand [] text = ⊥
 Stands field operand (s ∷ slots) text = IsFirst field operand s text ⊎ Follows (after_slot s (after_operand text)) (λ rest. Stands field operand slots rest)

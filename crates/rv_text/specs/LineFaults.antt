@@ -61,8 +61,8 @@ pub record IsFirstFault (has_fault : ℕ → FaultKind → Type 0) (lines : List
   pub is_fault : IsLeast (has_fault index) f.kind
   pub is_first : (i : ℕ) → i < index → (k : FaultKind) → has_fault i k → ⊥
 
--- words are those of the lines that have statements, one for each in their order: that of a line stands behind those of the lines before
--- it, and the names in its statement stand for the distances from its place
+-- words are those of the lines that have statements, one for each in their order: that of a line is behind those of the lines before it,
+-- and the names in its statement stand for the distances from its place
 pub record AreWordsOf (names : Names) (lines : List (List ℕ)) (words : List ℕ) : Type 0 where
   pub count : length words ≡ word_count lines
   pub each : (i : ℕ) → i < length lines → has_statement (line_at lines i) ≡ true → StandsForWord (distances_at names lines i) (statement_at lines i) (slice_index words (words_before lines i))

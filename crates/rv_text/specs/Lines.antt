@@ -1,4 +1,4 @@
--- To believe: what a line says, an optional label and then an optional instruction.
+-- To believe: the parts of a line, an optional label and then an optional statement.
 use Rattle.std.specs.Prelude.{ℕ, Bool, if◌then◌else◌, ◌&&◌, List, Option, Some, None, Result, Ok, Err}
 use Rattle.rd_base.specs.Results.{◌>>=◌}
 use Rattle.rv_text.specs.Characters.{is_of_mnemonic, is_of_code, is_colon, run, behind, skip, is_empty, begins, is_name, tail}
@@ -35,7 +35,7 @@ abbrev pub word_of_row : Distances → Option Row → List ℕ → Result ℕ Fa
 word_of_row distances (Some r) text = operands_of distances (slots_of r.form) text >>= λ zs. Ok (word_by r zs)
 word_of_row distances None text = Err UnknownMnemonic
 
--- the word of an instruction: a mnemonic and its operands
+-- the word of a statement: a mnemonic and its operands
 abbrev pub word_of_statement : Distances → List ℕ → Result ℕ FaultKind
 word_of_statement distances text = if is_empty (first_word text) then Err OtherForm else word_of_row distances (row_named (first_word text)) (after_first_word text)
 

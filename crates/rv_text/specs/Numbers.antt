@@ -4,7 +4,7 @@ use Rattle.std.specs.Char.{is_ascii_digit, is_ascii_hexdigit}
 use Rattle.std.specs.Str.Parse.{digits_value}
 use Rattle.rv_text.specs.Characters.{every, begins, is_empty, tail}
 
--- decimal digits, of which the first is 0 only if it stands alone
+-- decimal digits, of which the first is 0 only if it is the only one
 abbrev pub is_natural : List ℕ → Bool
 is_natural [] = false
 is_natural (c ∷ cs) = every is_ascii_digit (c ∷ cs) && (not (c == 48) || is_empty cs)

@@ -60,7 +60,7 @@ abbrev pub registered : Option ℤ → Result ℤ FaultKind
 registered (Some z) = Ok z
 registered None = Err NoRegister
 
--- any name may stand in a register's place, and is a fault of its own if it is no register
+-- any name may be in a register's place, and is a fault of its own if it is no register
 abbrev pub registered_in : List ℕ → Result ℤ FaultKind
 registered_in text = if is_name text then registered (register_in text) else Err OtherForm
 
@@ -78,7 +78,7 @@ both (Ok z) (Err k) = Err k
 both (Err j) (Ok zs) = Err j
 both (Err j) (Err k) = Err (earlier j k)
 
--- what follows a mark, if it stands there
+-- what follows a mark, if the mark comes next
 abbrev pub after_mark : Mark → List ℕ → Option (List ℕ)
 after_mark mark [] = None
 after_mark mark (c ∷ cs) = if c == character mark then Some cs else None
@@ -109,7 +109,7 @@ abbrev pub has_none : List Slot → Bool
 has_none [] = true
 has_none (s ∷ slots) = false
 
--- a blank stands before the operands, if there are any
+-- a blank comes before the operands, if there are any
 abbrev pub operands_of : Distances → List Slot → List ℕ → Result (List ℤ) FaultKind
 operands_of distances slots text = if has_none slots || begins is_blank text then operands_in distances slots text else Err OtherForm
 

@@ -85,7 +85,7 @@ placed_in _ _ = 0
 abbrev pub word_by : Row → List ℤ → ℕ
 word_by r zs = r.base + placed_in (slots_of r.form) zs
 
--- the most that operands come to
+-- the most that the bits of operands add up to
 abbrev pub most_in : List Slot → ℕ
 most_in [] = 0
 most_in (s ∷ slots) = most_at (field_of s) + most_in slots

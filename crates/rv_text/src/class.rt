@@ -14,9 +14,9 @@ pub enum Class {
     Hexadecimal,
     /// Letters, digits and `_`.
     Name,
-    /// The same and `.`.
+    /// Letters, digits, `_` and `.`.
     Mnemonic,
-    /// The same and `-`.
+    /// Letters, digits, `_`, `.` and `-`.
     Operand,
     /// All but `#`.
     Code,

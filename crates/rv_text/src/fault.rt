@@ -1,3 +1,4 @@
+//! The faults of an assembly text.
 ghost use Rattle.std.specs.Prelude.{◌≡◌};
 ghost use Rattle.rv_text.specs.Faults.{number_of};
 ghost use Rattle.rv_text.specs.declared.fault.AsmError.TheVariants as error;
@@ -11,7 +12,7 @@ pub enum FaultKind {
     OtherForm,
     /// No instruction has this mnemonic.
     UnknownMnemonic,
-    /// A name stands in a register's place that is none of `x0` to `x31`.
+    /// A name in a register's place is none of `x0` to `x31`.
     NoRegister,
     /// A written number, or the distance to a name, is out of its operand's range.
     OutOfRange,
@@ -22,7 +23,7 @@ pub enum FaultKind {
 }
 
 impl FaultKind {
-    /// The number of the kind, from 1 to 6 as the variants stand.
+    /// The number of the kind, from 1 to 6 in the order of the variants.
     pub fn number(self) -> u32
         ensures { result ≡ number_of self }
     {

@@ -1,4 +1,4 @@
-//! What stands in an operand's place, and where its value goes in the word.
+//! What an operand may be, and where its value goes in the word.
 ghost use Rattle.std.specs.Prelude.{◌≡◌, ◌<◌, ◌≤◌, ◌^◌, true, unsigned_abs};
 ghost use Rattle.rv_decode.specs.Bits.{twos_complement};
 ghost use Rattle.rv_text.specs.Fields.{is_in as the_is_in, is_register as the_is_register, is_target as the_is_target, store_bits as the_store_bits, branch_bits as the_branch_bits, jump_bits as the_jump_bits, placed_at as the_placed_at, most_at};
@@ -42,14 +42,14 @@ pub fn is_in(field: Field, value: i64) -> bool
     }
 }
 
-/// Whether a register stands there.
+/// Whether the operand is a register.
 pub fn is_register(field: Field) -> bool
     ensures { result ≡ the_is_register field }
 {
     matches!(field, Field::Rd | Field::Rs1 | Field::Rs2)
 }
 
-/// Whether a name may stand there.
+/// Whether the operand may be a name.
 pub fn is_target(field: Field) -> bool
     ensures { result ≡ the_is_target field }
 {

@@ -72,7 +72,7 @@ pub fn slots_of(form: Form) -> &'static [Slot]
     }
 }
 
-/// What stands in a slot.
+/// The field of a slot's operand.
 pub fn field_of(slot: Slot) -> Field
     ensures { result ≡ the_field_of slot }
 {

@@ -1,4 +1,4 @@
-//! What a line says.
+//! A line: its label, and its statement.
 ghost use Rattle.std.specs.Prelude.{◌≡◌, ◌+◌, ◌<◌, ◌^◌, Some, option_map};
 ghost use Rattle.rv_text.specs.Characters.{begins, is_blank};
 ghost use Rattle.rv_text.specs.Operands.{slots_of as the_slots_of, has_none as the_has_none};
@@ -72,7 +72,7 @@ fn row_word(row: Row, text: &[u8], scope: &Scope<'_, '_>) -> Result<u32, FaultKi
     }
 }
 
-/// The word of an instruction: a mnemonic and its operands.
+/// The word of a statement: a mnemonic and its operands. An `Err` is the statement's fault.
 fn statement_word(text: &[u8], scope: &Scope<'_, '_>) -> Result<u32, FaultKind>
     ensures { result ≡ word_of_statement (distances_in scope.now) text.now }
 {
@@ -86,7 +86,7 @@ fn statement_word(text: &[u8], scope: &Scope<'_, '_>) -> Result<u32, FaultKind>
     }
 }
 
-/// The word of what is behind a line's label, if anything is.
+/// The word of the statement behind a line's label, if there is one. An `Err` is the statement's fault.
 #[tactic(auto, unfolding(crate::specs::Lines::word_in))]
 pub fn word_in(text: &[u8], scope: &Scope<'_, '_>) -> Result<Option<u32>, FaultKind>
     ensures { result ≡ the_word_in (distances_in scope.now) text.now }

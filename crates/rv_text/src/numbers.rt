@@ -74,7 +74,7 @@ fn natural(text: &[u8]) -> Option<u64>
     }
 }
 
-/// A capped number with a sign.
+/// A capped number as an integer.
 fn signed(n: u64) -> i64
     requires { n ≤ 4294967296 }
     ensures { result ≡ pos n }
@@ -82,7 +82,7 @@ fn signed(n: u64) -> i64
     n as i64
 }
 
-/// A capped number with the other sign.
+/// The negative of a capped number.
 fn negated(n: u64) -> i64
     requires { n ≤ 4294967296 }
     ensures { result ≡ neg_ℤ (pos n) }

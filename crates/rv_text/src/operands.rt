@@ -99,7 +99,7 @@ fn operand_bits(field: Field, text: &[u8], scope: &Scope<'_, '_>) -> Result<u32,
     }
 }
 
-/// Of two faults of a line the one that counts.
+/// The one of two faults of a line that counts.
 fn earlier(one: FaultKind, other: FaultKind) -> FaultKind
     ensures { result ≡ the_earlier one other }
 {
@@ -136,7 +136,7 @@ fn split_operand(text: &[u8]) -> (&[u8], &[u8])
     (operand, skip(rest))
 }
 
-/// What follows a mark, if it stands there.
+/// What follows a mark, if the mark comes next.
 fn after_mark(mark: Mark, text: &[u8]) -> Option<&[u8]>
     ensures { option_map (λ rest. rest.now) result ≡ the_after_mark mark text.now }
 {
@@ -162,7 +162,8 @@ fn after_slot(slot: Slot, text: &[u8]) -> Option<&[u8]>
     }
 }
 
-/// The bits of the operands that slots ask for. It calls itself once for each slot, of which there are at most three.
+/// The bits of the operands that slots ask for. An `Err` is the fault of theirs that counts. It calls itself once for each slot, of which
+/// there are at most three.
 pub fn operands_bits(slots: &[Slot], text: &[u8], scope: &Scope<'_, '_>) -> Result<u32, FaultKind>
     requires { most_in slots.now < 2 ^ 32 }
     ensures bits { result ≡ sum_of slots.now (operands_in (distances_in scope.now) slots.now text.now) }

@@ -173,7 +173,7 @@ fn other_row(name: &[u8]) -> Option<Row>
     }
 }
 
-/// The first that is there.
+/// The first row, or else the other one.
 fn or_else(row: Option<Row>, other: Option<Row>) -> Option<Row>
     ensures { result ≡ the_or_else row other }
 {

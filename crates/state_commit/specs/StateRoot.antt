@@ -1,6 +1,6 @@
 -- To believe: the root of a state, which commits to all of it, in each version of the commitment. In version 1 the registers are digested
--- as one string; from version 2 on they are a tree; and in version 3 the input is a tree, too, whose root and length stand beside the
--- root of memory.
+-- as one string; from version 2 on they are a tree; and in version 3 the input is a tree, too, whose root and length are beside the root of
+-- memory in the storage string.
 use Rattle.std.specs.Prelude.{ℕ, ◌%◌, ◌^◌, ◌==◌, List, length, if◌then◌else◌}
 use Rattle.rd_base.specs.declared.status.Ctl.{Ctl}
 use Rattle.digest_core.specs.Text.{registers_text, storage_text}

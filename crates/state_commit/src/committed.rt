@@ -45,7 +45,7 @@ fn registers_of<D: Digester>(d: D, machine: &Machine) -> Option<RegTree<D>>
     }
 }
 
-/// The tree of registers made that of a machine's, whose version has one if and only if there is one.
+/// The tree of registers turned into that of a machine's. The machine's version has such a tree if and only if there is one.
 fn registers_after<D: Digester>(tree: Option<RegTree<D>>, machine: &Machine) -> Option<RegTree<D>>
     requires { HasTreeFor machine.now.version tree }
     ensures { HasRegisters (state_of machine.now) result }
@@ -111,7 +111,8 @@ impl<D: Digester> Committed<D> {
         Committed::with_input(rt, alloc, d, machine, input)
     }
 
-    /// `new`, from the tree of the machine's input, so that no part of the input is digested.
+    /// `new`, from the tree of the machine's input, so that no part of the input is digested. An `Err` is out of memory, and drops the
+    /// machine.
     pub fn with_input<R: Threads + Sync>(
         rt: &R,
         alloc: Global,

@@ -1,12 +1,12 @@
 //! The root of a machine's state, which commits to registers, control fields, output, memory and input.
 //!
 //! There are three versions of the commitment, and a state has one (`specs/StateRoot.antt`). The layers above may rely on this:
-//! `state_root` is the definition's root of a machine's state, computed from scratch and without memory; a `Committed` is a machine that
-//! is kept with the trees that its version has, so that after each step its roots and its paths are those of the definition. That only
-//! the page that the step stored to and the register that it changed are digested anew is read in `committed`. Which strings are the
-//! strings of a state says `specs/Strings.antt`; two valid states with one root are the same, or two different strings of them have one
-//! digest (`a_root_binds`). A `KeptRegisters` serves who asks for the roots of many states, and a `SharedInput`, the tree of an input,
-//! all who ask for states of machines with this input. Read `specs/StateRoot.antt` first, then `root` and `committed`.
+//! `state_root` is the definition's root of a machine's state, computed from scratch and without memory; a `Committed` is a machine that is
+//! kept with the trees that its version has, so that after each step its roots and its paths are those of the definition. Only the page
+//! that the step stored to and the register that it changed are digested anew, as the code of `committed` shows. `specs/Strings.antt`
+//! defines the strings of a state; two valid states with one root are the same, or two different strings of them have one digest
+//! (`a_root_binds`). A `KeptRegisters` serves a caller that asks for the roots of many states. A `SharedInput`, the tree of an input,
+//! serves all callers that ask for states of machines with this input. Read `specs/StateRoot.antt` first, then `root` and `committed`.
 #![tactic(auto)]
 
 mod committed;

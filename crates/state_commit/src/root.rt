@@ -50,9 +50,9 @@ fn storage_digest<D: Digester>(
     }
 }
 
-/// The root of a machine's state in a version of the commitment, from the root of its memory, the digest of its registers in this
-/// version, and the root of its input, which only version 3 needs. The machine's chain is that of its output, by this digester. By
-/// two digests, and in version 3 by three.
+/// The root of a machine's state in a version of the commitment, from the root of its memory, the digest of its registers in this version,
+/// and the root of its input, which only version 3 needs. The machine's chain is that of its output, by this digester. It takes two
+/// digests, and in version 3 three.
 pub fn root_of_parts<D: Digester>(
     d: D,
     version: u32,

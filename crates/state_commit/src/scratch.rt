@@ -41,7 +41,7 @@ fn is_some_used(mem: &PlainMem, first: u32, width: u32) -> bool
     }
 }
 
-/// The node that stands this many levels above the pages' roots, over `width` pages. A subtree of zeros is not entered.
+/// The node this many levels above the pages' roots, over `width` pages. A subtree of zeros is not entered.
 fn upper_part<D: Digester>(
     d: D,
     mem: &PlainMem,

@@ -16,7 +16,7 @@ use std::sync::Arc;
 /// The tree of a machine's input in version 3, which is built once and shared: the states of a run have one input, and so have the
 /// runs of one machine, whatever is tampered with. Versions 1 and 2 have none.
 ///
-/// Contracts see it as the nodes of the tree, if there is one; of which state's input it is the tree `HasInput` says.
+/// Contracts see it as the nodes of the tree, if there is one; `HasInput` relates them to a state's input.
 #[derive(Drop)]
 pub struct SharedInput<D: Digester> {
     tree: Option<Arc<InputTree<D>>>,
@@ -49,7 +49,7 @@ impl<D: Digester> SharedInput<D> {
         })
     }
 
-    /// The same tree, for one more that asks for it. It takes no memory; an `Err` is that 2^63 share it.
+    /// Another handle to the same tree. It takes no memory. An `Err` comes only if 2^63 handles share the tree.
     pub fn share(&self) -> Result<Self, Memory>
         ensures { IfOk result (λ i. i ≡ self.now) }
     {

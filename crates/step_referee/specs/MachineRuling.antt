@@ -14,7 +14,7 @@ use Rattle.step_referee.specs.declared.check.StepCheck.{StepCheck}
 use Rattle.step_referee.specs.declared.check.StepCheck.TheVariants as check
 use Rattle.open_proof.specs.Collision.{step_collision}
 
--- the root to which a check says that a proof leads
+-- the root to which a proof leads by its check
 abbrev pub root_led : StepCheck → Option Digest32
 root_led (check.Leads root) = Some root
 root_led check.NotOpen = None

@@ -44,7 +44,7 @@ digests_on fetch operand offer p =
     else 0)
     else 0
 
--- one digest for the storage string, and one for the registers string; roots are at hand
+-- one digest for the storage string, and one for the registers string; a root that a proof holds takes none
 abbrev pub storage_digests : Option HeldInput → ℕ
 storage_digests (Some t) = 1
 storage_digests None = 0

@@ -25,7 +25,7 @@ use rd_base::{Digest32, Proof, Steps, same_digest};
 use rv_step::names_are_registers;
 use std::sync::ledger::Ledger;
 
-/// What a proof of one step comes to.
+/// The result of the check of a proof of one step.
 #[derive(Clone, Copy, Debug, PartialEq, Eq)]
 pub enum StepCheck {
     /// It leads to this root.

@@ -16,7 +16,7 @@ use rd_base::{Claim, Digest32, OpenText, Proof, Steps};
 use std::marker::Brand;
 use std::sync::ledger::{Blank, Ledger};
 
-/// What the check says of a proof, with a counter of its own.
+/// The result of the check of a proof, with a counter of its own.
 fn checked<D: Digester, L: Ledger>(
     d: D,
     version: u32,
@@ -33,7 +33,7 @@ fn checked<D: Digester, L: Ledger>(
     check_step(d, version, from, proof, &mut steps)
 }
 
-/// The names of the judge of the machine: the version of the commitment. The judge's type says all else that it decides by.
+/// The names of the judge of the machine: the version of the commitment. The judge's type fixes all else that it decides by.
 #[derive(Clone, Copy, Debug)]
 pub struct MachineNames {
     /// The version of the commitment: 1, 2 or 3. In another one no proof leads anywhere.
@@ -43,7 +43,7 @@ pub struct MachineNames {
 /// The judge of the machine: claims and proofs of its steps in a version of the commitment, with digests by `D`. It takes no memory.
 #[derive(Clone, Copy, Debug)]
 pub struct MachineJudge<D> {
-    /// What digests strings. Its type alone says how.
+    /// The digester of strings. Its type alone fixes the digest function.
     pub digester: D,
     /// The version of the commitment.
     pub version: u32,

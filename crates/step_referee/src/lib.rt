@@ -1,9 +1,9 @@
 //! The referee of one step, and the judge that the game calls to decide about claims and proofs, in every version of the commitment.
 //!
-//! - `check`: whether a proof of one step leads from a root, and to which. `check_step` says exactly when a proof leads (`open_proof`,
-//!   `LeadsFrom`), and if it leads nowhere, which of its conditions fails first; the counter ticks at most 91, 101 or 103 times, by the version,
-//!   and exactly as often as `specs/Ticks.antt` says: for the digests of the conditions up to the first that fails, and, if a proof
-//!   leads, for its step too. The functions that check get a `Counted` and no digester, so each digest that the answer depends on was
+//! - `check`: whether a proof of one step leads from a root, and to which. `check_step` answers exactly when a proof leads (`open_proof`,
+//!   `LeadsFrom`), and if it leads nowhere, which of its conditions fails first; the counter ticks at most 91, 101 or 103 times, by the
+//!   version, and exactly as often as `specs/Ticks.antt` defines: for the digests of the conditions up to the first that fails, and, if a
+//!   proof leads, for its step too. The functions that check get a `Counted` and no digester, so each digest that the answer depends on was
 //!   counted, by type; `check_step` hands its digester in by one line.
 //! - `judge`: `MachineJudge` decides by `specs/MachineRuling.antt`, which keeps the laws of a judge; a proof leads by it if and only if its
 //!   conditions hold (`judged_leading_is_exact`); and a run of the machine is a true run for it (`machine_runs_are_true`).

@@ -11,13 +11,13 @@ use std::process::Abort;
 use std::test::Fail;
 use toy_game::{HONEST, LIAR};
 
-/// Where the digits of an answer begin in a line that says `given`.
+/// Where the digits of an answer begin in a line with `given`.
 const DIGITS: usize = 18;
 
-/// Texts of these pieces, and what is told of them.
+/// The pieces of a text, and the finding of its audit.
 type Row = (&'static [Piece], Told);
 
-/// Asserts of each row what is told of the text of its pieces.
+/// Asserts for each row the finding of the audit of the text of its pieces.
 fn assert_told(rt: &impl Abort, alloc: Global, text: &[u8], rows: &[Row]) -> Result<(), Fail> {
     for (pieces, want) in rows {
         let changed = joined(alloc, text, *pieces)?;
@@ -94,7 +94,7 @@ fn a_changed_line_is_refused_where_it_stands(rt: HostRuntime) -> Result<(), Fail
     assert_told(&rt, rt.alloc(), text.as_slice(), &LINES)
 }
 
-/// The claim of prover 2 is called faulty; a claim stands where a root is asked, called given and called faulty.
+/// The claim of prover 2 is called faulty; a claim is in the place of a root that is asked, called given and called faulty.
 const REPLIES: [Row; 3] = [
     (
         &[
@@ -196,7 +196,7 @@ const SPENT: [Row; 3] = [
     ),
 ];
 
-/// That a prover passed too often no text can show: `spent` is taken as stated, and settles its question.
+/// No text can show that a prover passed too often: `spent` is taken as stated, and settles its question.
 #[test]
 fn spent_is_taken_as_stated(rt: HostRuntime) -> Result<(), Fail> {
     let text = full_of(&rt, rt.alloc(), &[HONEST, LIAR], 0)?;

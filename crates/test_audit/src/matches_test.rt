@@ -28,7 +28,7 @@ const LEAVES: Player = Player {
     ..LIAR
 };
 
-/// What is told of the full text of a match of these players.
+/// The finding of the audit of the full text of a match of these players.
 fn told_of<R: Threads + Sync>(
     rt: &R,
     alloc: Global,

@@ -1,4 +1,4 @@
-//! What the audit tells of bytes.
+//! The finding of the audit of bytes.
 
 use audit::{Audit, Cause, a_read_text_may_be_audited, audit};
 use rd_base::Memory;
@@ -7,7 +7,7 @@ use tournament::Verdict;
 use toy_game::ToyJudge;
 use transcript_text::{TextFault, read_full};
 
-/// What is told of a text.
+/// The finding of the audit of a text.
 #[derive(Clone, Copy, Debug, PartialEq, Eq)]
 pub(crate) enum Told {
     /// Confirmed: the claim of the prover with this number is accepted.
@@ -22,7 +22,7 @@ pub(crate) enum Told {
     Unread,
 }
 
-/// What the audit tells of bytes before the toy judge.
+/// The finding of the audit of bytes before the toy judge.
 pub(crate) fn audit_of(alloc: Global, bytes: &[u8]) -> Result<Told, Memory> {
     let text = match read_full(alloc, bytes) {
         Ok(text) => text,

@@ -1,5 +1,5 @@
-//! One case: the first rule that it breaks, and what is read of it. Which keys, tampers and manners are taken, rule by rule, stands in the
-//! stored rows of `test_refcli`.
+//! One case: the first rule that it breaks, and what is read of it. The stored rows of `test_refcli` show which keys, tampers and manners
+//! are taken, rule by rule.
 
 use case_reader::CaseFault::{
     BadHex, BadProver, Missing, NotJson, NotObject, OutOfRange, WrongType,
@@ -20,7 +20,7 @@ fn fault_of(alloc: Global, text: &str) -> Option<CaseFault> {
 /// What takes the place of a part of a case, and the fault that the case has then.
 type Row = (&'static str, Option<CaseFault>);
 
-/// Asserts of each row which fault the text has in which it takes the place of this part.
+/// Asserts for each row which fault the text has in which it takes the place of this part.
 fn assert_faults(
     rt: &impl Abort,
     alloc: Global,
@@ -204,7 +204,7 @@ fn a_bound_is_below_two_to_the_32nd(rt: HostRuntime) -> Result<(), Fail> {
     assert_faults(&rt, rt.alloc(), BASE, ":8", &BOUNDS)
 }
 
-/// What stands in place of the key and the value of an image of assembly.
+/// What is in place of the key and the value of an image of assembly.
 const ASSEMBLY: [Row; 5] = [
     ("\"image\":\"1g\"", None),
     ("\"image\":\"\"", None),

@@ -85,7 +85,7 @@ const QUESTIONS: [(&str, bool); 7] = [
     ("\"dispute\":0", false),
 ];
 
-/// What stands before 31 bytes of zeros and behind them, and whether it is a wire form.
+/// What is before 31 bytes of zeros and behind them, and whether it is a wire form.
 const ANSWERS: [(&str, &str, bool); 10] = [
     ("02", "00", true),
     ("02", "aF", true),

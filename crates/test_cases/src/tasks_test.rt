@@ -85,7 +85,7 @@ const WHOLE_FAULTS: [(&str, CaseFault); 10] = [
     ("{\"tasks\":[5,5,5,5,5,5,5,5,5]}", TASKS_RANGE),
 ];
 
-/// The whole text is tested first, then `tasks`, whatever else stands beside it.
+/// The whole text is tested first, then `tasks`, whatever else is beside it.
 #[test]
 fn the_key_tasks_is_an_array_of_one_to_eight(rt: HostRuntime) {
     for (text, want) in WHOLE_FAULTS {

@@ -16,7 +16,7 @@ pub struct Judged {
     pub text: String,
 }
 
-/// A prover that puts this value into x5 before the first step, and goes on from there.
+/// A prover that puts this value into x5 before the first step, and takes true steps from there.
 pub fn liar(alloc: Global, value: u32) -> Result<String, AllocError> {
     let value = format!(in alloc; "{value}")?;
     let mut text = String::from_str(
@@ -57,7 +57,7 @@ fn arguments_of(alloc: Global, line: &str) -> Result<Vec<String>, AllocError> {
     Ok(arguments)
 }
 
-// The program's answer, in a function of its own, so that the clauses of `run` burden no other proof.
+/// The program's answer, in a function of its own, so that the clauses of `run` burden no other proof.
 fn answer_of<R: Threads + Wait + Sync>(
     rt: &R,
     alloc: Global,

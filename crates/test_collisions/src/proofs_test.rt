@@ -27,7 +27,7 @@ fn is_proved_twice(text: &str) -> bool {
     false
 }
 
-/// The first multiple of 4, from 4 on, with whose liar an honest prover's match comes to a step that both prove: the liar's first state
+/// The first multiple of 4, from 4 on, with whose liar an honest prover's match ends in a step that both prove: the liar's first state
 /// has the root of the start, and its second another root than the honest one.
 fn first_proved_twice<R: Threads + Wait + Sync>(
     rt: &R,

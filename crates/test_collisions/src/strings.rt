@@ -3,12 +3,12 @@ use digest_core::{Digester, Weak8};
 use rd_base::Memory;
 use std::alloc::{AllocError, Global};
 
-/// The wire form of a claim: the memory digest and the registers digest stand from 1 to 65, the control fields from there to 114.
+/// The wire form of a claim: the memory digest and the registers digest are the bytes 1 to 64, and the control fields those from 65 to 113.
 const CLAIM_DIGESTS: usize = 65;
 
 const CLAIM_CONTROL: usize = 114;
 
-/// The wire form of a proof of a step: the registers `x1` to `x31` stand from 33 to 157.
+/// The wire form of a proof of a step: the registers `x1` to `x31` are the bytes 33 to 156.
 const PROOF_MEMORY: usize = 33;
 
 const PROOF_REGISTERS: usize = 157;

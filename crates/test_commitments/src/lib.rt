@@ -1,7 +1,7 @@
 //! Tests of commitments: digests, nodes of Merkle trees, the trees of memory, registers and input with how many digests they take, and the
 //! roots of states in each version. Claims and proofs are tested in `test_proofs`.
 //!
-//! No layer of the product stands on this crate. A test is a table of rows or of acts, and says which is the first that is otherwise.
+//! No layer of the product depends on this crate. A test is a table of rows or of acts, and names the first that is otherwise.
 //! `programs` has what is carried out, and `machines` the machines that do.
 #![tactic(auto)]
 

@@ -10,8 +10,8 @@ use std::alloc::Global;
 use std::test::Fail;
 use std::thread::Threads;
 
-/// A machine of a version that has carried out this many steps of a program over an input, with the trees of its version. The program,
-/// of at most 256 bytes, lies at 10000, where it begins; the input has at most 256 bytes.
+/// A machine of a version that has carried out this many steps of a program over an input, with the trees of its version. The program, of
+/// at most 256 bytes, lies at 0x10000, where it begins; the input has at most 256 bytes.
 pub(crate) fn machine_after<R: Threads + Sync>(
     rt: &R,
     alloc: Global,

@@ -31,7 +31,7 @@ enum Act {
     Climbs(u32),
 }
 
-/// Stores what an act says, and touches the page; `false` if it stores nothing.
+/// Carries out the store of an act, and touches the page; `false` if it stores nothing.
 fn stores(mem: &mut PlainMem, tree: &mut MemTree<Sha256>, act: Act) -> Result<bool, Memory> {
     match act {
         Act::Byte(addr, byte) => {
@@ -48,7 +48,7 @@ fn stores(mem: &mut PlainMem, tree: &mut MemTree<Sha256>, act: Act) -> Result<bo
     }
 }
 
-/// Whether a tree without a touched page is as an act says.
+/// Whether a tree without a touched page is as an act requires.
 fn is_so(mem: &PlainMem, tree: &MemTree<Sha256>, other: &MemTree<Sha256>, act: Act) -> bool
     requires tree { tree.now.touched ≡ [] }
     requires other { other.now.touched ≡ [] }

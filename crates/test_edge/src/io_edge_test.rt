@@ -327,7 +327,7 @@ fn pieces_are_written_until_all_is_done_or_a_call_fails(rt: HostRuntime) {
     );
 }
 
-/// What a whole read of at most 10 bytes from such a device comes to, in short, and how many calls are made.
+/// The result of a whole read of at most 10 bytes from such a device, in short, and how many calls are made.
 fn read_whole(alloc: Global, turns: &'static [Turn]) -> (Result<usize, &'static str>, usize) {
     let mut device = Scripted::new(turns, &[]);
     let read = match read_all(alloc, &mut ReaderSource::new(&mut device), 10) {

@@ -32,7 +32,7 @@ const BAD_SECOND: Told = Told::Fault(TextFault::BadLine(2));
 
 const SECOND_OUT_OF_RANGE: Told = Told::Fault(TextFault::OutOfRange(2));
 
-/// What stands behind a head, and what is read of the text.
+/// What follows a head, and what is read of the text.
 type Row = (&'static [u8], Told);
 
 /// What is read of a text with a head, these lines, and this behind them.
@@ -44,7 +44,7 @@ fn read_lines(alloc: Global, lines: &[u8], end: &[u8]) -> Result<Told, Memory> {
     read_pieces(alloc, &[bytes.as_slice()])
 }
 
-/// Asserts of each row what is read if this stands behind it.
+/// Asserts for each row what is read if this follows it.
 fn assert_read(rt: &impl Abort, alloc: Global, rows: &[Row], end: &[u8]) -> Result<(), Fail> {
     for (lines, want) in rows {
         assert_eq!(rt; read_lines(alloc, lines, end)?, *want, "{lines:?}");
@@ -71,7 +71,7 @@ fn a_text_that_ends_before_its_verdict_is_cut_off(rt: HostRuntime) -> Result<(),
     assert_read(&rt, alloc, &CUT_OFF, b"")
 }
 
-/// A part of the head's numbers, and what stands in its place.
+/// A part of the head's numbers, and what is in its place.
 type Change = (&'static str, &'static str);
 
 /// Asserts of heads with each of these changes what is read before a verdict, and what before a line of no form.
@@ -160,7 +160,7 @@ fn a_head_has_one_form(rt: HostRuntime) -> Result<(), Fail> {
     assert_heads(&rt, rt.alloc(), &BAD_HEADS, BAD_HEAD, BAD_HEAD)
 }
 
-/// What stands behind 62 digits of a root.
+/// What follows 62 digits of a root.
 const ROOT_ENDS: [Row; 8] = [
     (b"ff\n", NO_MOVES),
     (b"fF\n", BAD_HEAD),
@@ -172,7 +172,7 @@ const ROOT_ENDS: [Row; 8] = [
     (b"ff\r\n", BAD_HEAD),
 ];
 
-/// A root has 64 digits of lower case; behind it stands the line feed.
+/// A root has 64 digits of lower case; the line feed follows it.
 #[test]
 fn a_start_root_has_64_digits_of_lower_case(rt: HostRuntime) -> Result<(), Fail> {
     let alloc = rt.alloc();
@@ -216,7 +216,7 @@ fn a_move_has_one_form_and_is_of_a_prover(rt: HostRuntime) -> Result<(), Fail> {
     assert_read(&rt, rt.alloc(), &MOVES, END)
 }
 
-/// What stands before and behind the digits of a root, and what is read.
+/// What is before and behind the digits of a root, and what is read.
 const ANSWERS: [(&[u8], &[u8], Told); 7] = [
     (b"given ", b"\n", Told::Moves(1)),
     (b"faulty ", b"\n", Told::Moves(1)),
@@ -277,7 +277,7 @@ fn the_first_line_with_a_fault_is_named(rt: HostRuntime) -> Result<(), Fail> {
 
 const ONE_TOO_MANY: Told = Told::Fault(TextFault::BadLine(3));
 
-/// What stands behind a verdict.
+/// What follows a verdict.
 const BEHIND: [Row; 5] = [
     (b"none left\n", ONE_TOO_MANY),
     (b"\n", ONE_TOO_MANY),

@@ -1,6 +1,6 @@
 //! Tests of full texts: the rows of reading, each with its fault, and matches of the toy game whose texts are read back.
 //!
-//! No layer of the product stands on this crate. Read `faults_test` first: each row is a text in pieces and what is read of it.
+//! No layer of the product depends on this crate. Read `faults_test` first: each row is a text in pieces and what is read of it.
 #![tactic(auto)]
 
 #[cfg(test)]

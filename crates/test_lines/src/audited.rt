@@ -16,7 +16,7 @@ fn arguments_of(alloc: Global) -> Result<Vec<String>, AllocError> {
     Ok(arguments)
 }
 
-// The program's answer, in a function of its own, so that the clauses of `run` burden no other proof.
+/// The program's answer, in a function of its own, so that the clauses of `run` burden no other proof.
 fn answer_of<R: Threads + Wait + Sync>(
     rt: &R,
     alloc: Global,

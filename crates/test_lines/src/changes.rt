@@ -14,7 +14,7 @@ const MOST: usize = 1_048_576;
 enum Change {
     /// Nothing follows it.
     Cut,
-    /// It stands behind the next one.
+    /// It is behind the next one.
     Exchanged,
     LeftOut,
     Doubled,

@@ -14,7 +14,7 @@ use std::alloc::Global;
 pub struct Program {
     /// The version of the machine.
     pub version: u32,
-    /// The bytes that lie at 10000, where it begins.
+    /// The bytes that lie at 0x10000, where it begins.
     pub image: Vec<u8>,
     /// Its input.
     pub input: Vec<u8>,
@@ -118,7 +118,7 @@ pub fn first_step(alloc: Global, program: &Program) -> Result<String, Unanswered
     page(alloc, stored)
 }
 
-/// A machine after one step and a store of 1 at its address 2000, and a copy of it from before both.
+/// A machine after a store of 1 at its address 0x2000 and one step, and a copy of it from before both.
 fn parted(alloc: Global, program: &Program) -> Result<(Machine, Machine), Unanswered> {
     let mut machine = started(alloc, program)?;
     let copy = machine.copy()?;

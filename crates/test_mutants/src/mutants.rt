@@ -1,3 +1,4 @@
+//! The mutants of a text, and how each is read.
 ghost use Rattle.std.specs.Prelude.{◌<◌, ◌≤◌, length};
 
 use io_edge::{Source, read_all};

@@ -9,7 +9,7 @@ pub(crate) enum Change {
     Stays,
     /// It is left out.
     LeftOut,
-    /// Another opened chunk stands in its place.
+    /// Another opened chunk is in its place.
     Other,
     /// A bit of its byte at this place, from 0, is another one.
     Byte(usize),

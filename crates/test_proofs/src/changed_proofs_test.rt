@@ -1,5 +1,5 @@
-//! Changed proofs of a store, of steps whose fetch and data are one chunk, of a stopped state and of a call that reads the input, each by
-//! what it comes to for the referee of `step_referee`.
+//! Changed proofs of a store, of steps whose fetch and data are one chunk, of a stopped state and of a call that reads the input, each with
+//! the result of its check by `step_referee`.
 ghost use Rattle.std.specs.Prelude.{◌≡◌, ◌≤◌};
 
 use crate::changed::{Change, Shown, changed, changed_input, changed_opening, changed_registers};
@@ -27,7 +27,7 @@ fn checked_in<L: Ledger>(version: u32, a: Digest32, proof: &Proof, blank: Blank)
     check_step(Sha256, version, a, proof, &mut steps)
 }
 
-/// What a proof comes to from a root, for a referee of a version.
+/// The result of the check of a proof from a root, for a referee of a version.
 fn checked(version: u32, a: Digest32, proof: &Proof) -> StepCheck {
     checked_in::<Brand>(version, a, proof, Blank::new(1))
 }
@@ -74,7 +74,7 @@ fn plain_reading<R: Threads + Sync>(rt: &R, alloc: Global, steps: u32) -> Result
     plain_after(rt, alloc, 3, READS, b"A", steps)
 }
 
-/// What a proof comes to in place of the plain one.
+/// The result of the check of a proof in place of the plain one.
 fn ruled(plain: &Plain, proof: &Proof) -> StepCheck {
     checked(plain.version, plain.root, proof)
 }
@@ -124,7 +124,7 @@ fn plain_proofs_lead_from_their_root_alone(rt: HostRuntime) -> Result<(), Fail> 
     Ok(())
 }
 
-/// What the plain proof comes to from a root that it doesn't open, for the referee of each version.
+/// The result of the check of the plain proof from a root that it doesn't open, for the referee of each version.
 fn by_each_referee(plain: Plain) -> [StepCheck; 3] {
     [
         checked(1, Digest32::ZERO, &plain.proof),
@@ -133,7 +133,7 @@ fn by_each_referee(plain: Plain) -> [StepCheck; 3] {
     ]
 }
 
-/// That a proof is of the referee's version is tested before its root.
+/// The version of a proof is tested before its root.
 #[test]
 fn proofs_of_another_version_have_a_wrong_shape(rt: HostRuntime) -> Result<(), Fail> {
     let come = [
@@ -176,10 +176,10 @@ fn with_changed_chunks(proof: &Proof, of_fetch: Change, of_operand: Change) -> P
     }
 }
 
-/// How the fetched chunk and the data's are changed, and what comes of it.
+/// How the fetched chunk and the data's are changed, and the result of the check.
 type Changes = (Change, Change, StepCheck);
 
-/// The first row of changes that comes to something else.
+/// The first row of changes with another result.
 fn first_other_change(plain: Plain, rows: &[Changes]) -> Option<usize> {
     for (row, (of_fetch, of_operand, want)) in rows.iter().enumerate() {
         let other = with_changed_chunks(&plain.proof, *of_fetch, *of_operand);
@@ -231,8 +231,8 @@ const OF_ONE_CHUNK: [Changes; 8] = [
     (Change::Sibling(26), Change::Sibling(26), NOT_OPEN),
 ];
 
-/// Whether the plain proof of such a step leads to the next root, also with its two openings exchanged, and the changed ones come to
-/// what their rows say.
+/// Whether the plain proof of such a step leads to the next root, also with its two openings exchanged, and the changed ones have the
+/// results of their rows.
 fn one_chunk_is_ruled_on<R: Threads + Sync>(
     rt: &R,
     alloc: Global,
@@ -293,7 +293,7 @@ fn with_changed(proof: &StepProof, part: Part) -> Proof {
     Proof::V1(other)
 }
 
-/// A changed part, and what comes of it.
+/// A changed part, and the result of the check.
 const PARTS: [(Part, StepCheck); 7] = [
     (Part::Memory, NOT_OPEN),
     (Part::Register, NOT_OPEN),
@@ -304,7 +304,7 @@ const PARTS: [(Part, StepCheck); 7] = [
     (Part::Chain, NOT_OPEN),
 ];
 
-/// The first changed part that comes to something else.
+/// The first changed part with another result.
 fn first_other_part(plain: &Plain) -> Result<Option<Part>, Fail> {
     let proof = first_of(&plain.proof)?;
     for (part, want) in PARTS {
@@ -365,7 +365,7 @@ fn with_named(proof: &StepProof2, named: RegOpenings) -> Proof {
     Proof::V2(other)
 }
 
-/// Which registers are opened in place of the first and the second, and what comes of it.
+/// Which registers are opened in place of the first and the second, and the result of the check.
 const NAMED: [(&[Shown], StepCheck); 9] = [
     (&[Shown::FirstValue, Shown::Second], NOT_OPEN),
     (&[Shown::First, Shown::SecondValue], NOT_OPEN),
@@ -378,7 +378,7 @@ const NAMED: [(&[Shown], StepCheck); 9] = [
     (&[Shown::First, Shown::Second, Shown::Second], WRONG_SHAPE),
 ];
 
-/// The first row of opened registers that comes to something else.
+/// The first row of opened registers with another result.
 fn first_other_named(plain: &Plain, proof: &StepProof2) -> Option<usize> {
     for (row, (shown, want)) in NAMED.iter().enumerate() {
         let named = changed_registers(proof.named.as_slice(), *shown);
@@ -421,7 +421,7 @@ fn with_input(proof: &StepProof3, input: Option<InOpening>) -> Proof {
     Proof::V3(other)
 }
 
-/// How the chunk of the input is changed, and what comes of it.
+/// How the chunk of the input is changed, and the result of the check.
 const INPUTS: [(Change, StepCheck); 5] = [
     (Change::LeftOut, WRONG_SHAPE),
     (Change::Byte(0), NOT_OPEN),
@@ -430,7 +430,7 @@ const INPUTS: [(Change, StepCheck); 5] = [
     (Change::Sibling(14), NOT_OPEN),
 ];
 
-/// The first change of the input's chunk that comes to something else.
+/// The first change of the input's chunk with another result.
 fn first_other_input(plain: &Plain, proof: &StepProof3) -> Option<usize> {
     for (row, (change, want)) in INPUTS.iter().enumerate() {
         let other = with_input(proof, changed_input(proof.input, *change));

@@ -1,4 +1,4 @@
-//! The chain of an output and claims, of `out_chain`, and what the judge of `step_referee` says of claims.
+//! The chain of an output and claims, of `out_chain`, and how the judge of `step_referee` rules on claims.
 
 use bisect_game::Judge;
 use digest_core::{Digester, Sha256, control_text, link_text, state_text};
@@ -100,7 +100,7 @@ fn the_claim_of_a_run_is_sound_and_has_the_root_of_its_state(rt: HostRuntime) ->
 
 const OTHER: Digest32 = Digest32([3; 32]);
 
-/// The length and the chain of a claim, its output, and what its check says.
+/// The length and the chain of a claim, its output, and the result of its check.
 const CHECKS: [(u64, Digest32, &[u8], ClaimCheck); 6] = [
     (1, CHAIN_OF_ONE, b"\x2a", ClaimCheck::Sound),
     (0, Digest32::ZERO, b"", ClaimCheck::Sound),

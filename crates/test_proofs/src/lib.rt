@@ -1,7 +1,7 @@
 //! Tests of claims and of proofs of one step, in each version of the commitment: the chain of an output, what plain proofs open, changed
 //! proofs, the collisions of two, and the referee. Their form as bytes is tested in `test_wire`.
 //!
-//! No layer of the product stands on this crate. A test is a table of rows, and says which is the first that is otherwise. `programs` has
+//! No layer of the product depends on this crate. A test is a table of rows, and names the first that is otherwise. `programs` has
 //! what is carried out, and `machines` the machines that do.
 #![tactic(auto)]
 

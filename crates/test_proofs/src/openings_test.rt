@@ -25,14 +25,14 @@ fn opens(chunk: &Option<Opening>, index: Option<u32>, mem: &Digest32) -> bool {
 /// The index of the fetched chunk that the proof of a step opens, and that of the data's; `None` for none.
 type Chunks = (Option<u32>, Option<u32>);
 
-/// The word is fetched from the chunk at `10000`, from the next one, or not at all, as the state has stopped.
+/// The word is fetched from the chunk at 0x10000, from the next one, or not at all, as the state has stopped.
 const FETCHED: Chunks = (Some(0x800), None);
 
 const NEXT_FETCHED: Chunks = (Some(0x801), None);
 
 const STOPPED: Chunks = (None, None);
 
-/// Beside the fetched chunk that at `20000` is opened.
+/// Beside the fetched chunk the one at 0x20000 is opened.
 const DATA: Chunks = (Some(0x800), Some(0x1000));
 
 /// Programs, and the chunks of each of their steps, by hand from their listings.

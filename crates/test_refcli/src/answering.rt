@@ -1,3 +1,4 @@
+//! The program called over memory, and the line of its answer.
 use delegate::{Answered, run};
 use digest_core::{Digester, Sha256};
 use io_edge::{MemSink, QuietSource};
@@ -9,7 +10,7 @@ use std::thread::Threads;
 /// The most bytes of a text.
 const ROOM: usize = 1_048_576;
 
-/// What a call came to.
+/// The result of a call.
 #[derive(Drop)]
 pub struct Outcome {
     pub answered: Answered,
@@ -26,7 +27,7 @@ fn arguments_of(alloc: Global, line: &str) -> Result<Vec<String>, AllocError> {
     Ok(arguments)
 }
 
-// The program's answer, in a function of its own, so that the clauses of `run` burden no other proof.
+/// The program's answer, in a function of its own, so that the clauses of `run` burden no other proof.
 fn answer_of<R: Threads + Wait + Sync>(
     rt: &R,
     alloc: Global,

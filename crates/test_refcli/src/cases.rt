@@ -1,3 +1,4 @@
+//! The texts of cases.
 use std::alloc::{AllocError, Global};
 
 /// The text this many times.

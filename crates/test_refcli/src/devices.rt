@@ -1,3 +1,4 @@
+//! Calls of the program over devices that fail.
 use crate::answering::digest_of;
 use delegate::{Answered, run, run_process};
 use io_edge::{MemSink, MemSource};
@@ -34,7 +35,7 @@ pub fn arguments_of(alloc: Global, words: &[&str]) -> Result<Vec<String>, AllocE
     Ok(arguments)
 }
 
-// The program's answer, in a function of its own, so that the clauses of `run` burden no other proof.
+/// The program's answer, in a function of its own, so that the clauses of `run` burden no other proof.
 pub fn answer_of<R: Threads + Wait + Sync>(
     rt: &R,
     alloc: Global,
@@ -82,7 +83,7 @@ fn add_call<R: Threads + Wait + Sync>(
     add_end(alloc, lines, &source, &sink)
 }
 
-// The program's text if its arguments can't be read. Its exit code can't be looked at.
+/// The program's text if its arguments can't be read. Its exit code can't be looked at.
 fn process_unreadable<R: Threads + Wait + Sync>(
     rt: &R,
     alloc: Global,

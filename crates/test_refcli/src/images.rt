@@ -1,3 +1,4 @@
+//! The images of the cases.
 use std::alloc::{AllocError, Global};
 
 /// It puts the byte 42 and exits with status 0, in six steps.
@@ -19,7 +20,7 @@ pub const INPUT: &str =
 const HEADER: &str =
     "7f454c460101010000000000000000000200f300010000000000010034000000000000000000000034002000ffff280000000000";
 
-/// The first load: 24 bytes at 0x10000, which stand behind the program headers.
+/// The first load: 24 bytes at 0x10000, which are behind the program headers.
 const FIRST: &str = "0100000014002000000001000000000018000000180000000500000000000000";
 
 /// Adds a load of the file's first byte at an address.

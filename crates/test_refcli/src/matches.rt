@@ -1,3 +1,4 @@
+//! Lines about provers, options, patience and the bound.
 use crate::answering::add_line;
 use crate::cases::{case_of, flat, repeated};
 use crate::images::ANSWER;

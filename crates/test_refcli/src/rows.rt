@@ -1,3 +1,4 @@
+//! The rows of standard input, and what each writes.
 use crate::answering::outcome_of;
 use io_edge::{Source, read_all};
 use rd_base::Memory;
@@ -17,7 +18,7 @@ fn bytes_of(alloc: Global, text: &str) -> Result<Vec<u8>, AllocError> {
     Ok(bytes)
 }
 
-/// Adds what comes of a row: a line with its name and the status, and the text.
+/// Adds the result of a row: a line with its name and the status, and the text.
 fn add_row<R: Threads + Wait + Sync>(
     rt: &R,
     alloc: Global,
@@ -42,7 +43,7 @@ fn parts_of(row: &str) -> Option<(&str, &str, &str)> {
     Some((name, command, text))
 }
 
-/// What comes of the rows that a source has, one a line. `Memory` if they can't be read, too.
+/// The results of the rows that a source has, one a line. `Memory` if they can't be read, too.
 pub fn lines_of_rows<R: Threads + Wait + Sync, S: Source>(
     rt: &R,
     alloc: Global,

@@ -1,3 +1,4 @@
+//! Lines about sizes and about runs.
 use crate::answering::add_line;
 use crate::cases::{case_of, flat, repeated, spaced};
 use crate::images::{ANSWER, INPUT, OUTPUTS, PAGES, file_of_loads};

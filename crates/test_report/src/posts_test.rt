@@ -1,3 +1,4 @@
+//! Tests of posts that change nothing.
 ghost use denote.Param.Send.{IsSync};
 
 use crate::playing::CLAIM;
@@ -102,8 +103,8 @@ fn answered(
     Ok((replies, none_left))
 }
 
-/// A stale post of each kind carries the open question and changes nothing: the claim's number once more, a dispute that
-/// isn't there, a later round, and a post of a prover without a question.
+/// A stale post of each kind carries the open question and changes nothing: the claim's number again, a dispute that isn't there, a later
+/// round, and a post of a prover without a question.
 #[test]
 fn stale_posts_change_nothing(rt: HostRuntime) -> Result<(), Fail> {
     let claim = answer_of(&rt, rt.alloc(), HONEST, Kind::Claim)?;

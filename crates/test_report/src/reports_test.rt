@@ -123,7 +123,7 @@ fn liars_are_refuted_by_a_true_prover(rt: HostRuntime) -> Result<(), Fail> {
     Ok(())
 }
 
-/// Provers that pass for ever, from the claim on, in a dispute or at the proof, and one that passes as often as it may, or once more.
+/// Provers that pass for ever, from the claim on, in a dispute or at the proof, and one that passes as often as it may, or one time more.
 const SPENT: [Row; 5] = [
     (
         &[SILENT, SILENT],
@@ -395,7 +395,7 @@ fn each_round_of_several_parts_has_its_line(rt: HostRuntime) -> Result<(), Fail>
     Ok(())
 }
 
-/// In a match with deposits what each prover has, and the pool, stand before the verdict.
+/// In a match with deposits the balances of the provers and the pool are written before the verdict.
 #[test]
 fn balances_stand_before_the_verdict(rt: HostRuntime) -> Result<(), Fail> {
     let alloc = rt.alloc();

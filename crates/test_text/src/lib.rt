@@ -1,6 +1,6 @@
 //! Tests of assembly text.
 //!
-//! No layer of the product stands on this crate.
+//! No layer of the product depends on this crate.
 #![tactic(auto)]
 
 #[cfg(test)]

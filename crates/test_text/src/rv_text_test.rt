@@ -1,3 +1,4 @@
+//! Tests of assembling and listing.
 use rv_text::{AsmError, AsmFault, FaultKind, MAX_ASSEMBLY_BYTES, assemble, list};
 use std::alloc::Global;
 use std::test::Fail;

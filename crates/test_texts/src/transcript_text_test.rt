@@ -1,3 +1,4 @@
+//! Tests of the lines of a report.
 use bisect_game::Settled;
 use rd_base::{Answer, Claim, ClaimOutput, Ctl, Digest32, OpenText, Status};
 use std::alloc::{AllocError, Global};

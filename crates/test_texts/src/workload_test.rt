@@ -1,3 +1,4 @@
+//! Tests of the drawn workload.
 use std::str;
 use std::test::Fail;
 use workload::big_case;

@@ -53,7 +53,7 @@ fn largest_opening() -> Option<Opening> {
     Some(opening(255, 255))
 }
 
-/// A root, a claim of three bytes, and fifteen roots: the tag; of the claim what stands in front of the status byte, that byte, then the
+/// A root, a claim of three bytes, and fifteen roots: the tag; of the claim the bytes in front of the status byte, that byte, then the
 /// code, the output's length in the control fields and the chain, the output's length, and the output.
 const LARGEST_ROOT: [Run; 2] = [(2, 1), (255, 32)];
 
@@ -79,7 +79,7 @@ fn the_largest_claim_and_the_largest_list_come_back(rt: HostRuntime) -> Result<(
     assert_form(&rt, alloc, &largest, &LARGEST_ROOTS)
 }
 
-/// Proofs of versions 1, 2 and 3: the tag; what stands in front of the status byte, and that byte; the code, the output's length and the
+/// Proofs of versions 1, 2 and 3: the tag; the bytes in front of the status byte, and that byte; the code, the output's length and the
 /// chain; the flags; from version 2 on the count; the openings.
 const LARGEST_PROOF: [Run; 6] = [(3, 1), (255, 160), (2, 1), (255, 44), (3, 1), (255, 1792)];
 

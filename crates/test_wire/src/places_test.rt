@@ -185,7 +185,7 @@ fn input_in_order(alloc: Global) -> Result<(InOpening, Vec<Run>), AllocError> {
     Ok((opened, runs))
 }
 
-/// What stands in front of the control fields: the tag, the digest of memory, the length and the root of the input, the registers' root.
+/// The bytes in front of the control fields: the tag, the digest of memory, the length and the root of the input, the registers' root.
 const FRONT_OF_VERSION_3: [Run; 8] = [
     (6, 1),
     (18, 32),

@@ -105,7 +105,7 @@ const FIRST_BROKEN_OF_ROOTS: [Row; 10] = [
     (&[(5, 1), (1, 1), (0, 33)], 4),
 ];
 
-/// Of version 2: the status stands behind 69 bytes, the flags behind 114, the count behind 115.
+/// Of version 2: the status is behind 69 bytes, the flags behind 114, the count behind 115.
 const FIRST_BROKEN_OF_VERSION_2: [Row; 14] = [
     (&[(4, 1), (0, 114)], 1),
     (&[(4, 1), (0, 115)], 0),
@@ -126,7 +126,7 @@ const FIRST_BROKEN_OF_VERSION_2: [Row; 14] = [
     (&[(4, 1), (0, 113), (2, 1), (1, 1), (0, 1060)], 0),
 ];
 
-/// Of version 3: the status stands behind 105 bytes, the flags behind 150, the count behind 151.
+/// Of version 3: the status is behind 105 bytes, the flags behind 150, the count behind 151.
 const FIRST_BROKEN_OF_VERSION_3: [Row; 13] = [
     (&[(6, 1)], 1),
     (&[(6, 1), (0, 150)], 1),

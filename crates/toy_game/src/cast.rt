@@ -1,3 +1,4 @@
+//! Players of the toy game, as provers and as answerers.
 ghost use Rattle.std.specs.Prelude.{◌≡◌, IfOk, is_none, map, replicate};
 ghost use Rattle.rd_base.specs.declared.status.Status.TheVariants.{Running};
 ghost use Rattle.toy_game.specs.Toy.{number_at, root_at, given, answers, says_of, claim_of};

@@ -21,7 +21,7 @@ pub enum Ended {
     Collided,
 }
 
-/// A dispute in short: stage, number, sides, rounds that went on, and who is out.
+/// A dispute in short: stage, number, sides, past rounds, and who is out.
 pub type Line = (u32, u32, u32, u32, usize, bool, bool);
 
 /// A player that passes once on each question.
@@ -37,7 +37,7 @@ pub const SILENT_LIAR: Player = Player {
 /// The match of a liar, a late prover and a silent liar, with a patience of 1, in short.
 pub const LINES: [Line; 2] = [(1, 1, 1, 2, 3, true, false), (2, 2, 2, 3, 1, false, true)];
 
-/// How the verdict of a match says that it ended.
+/// How a match ended, by its verdict.
 pub fn how(verdict: Option<Verdict>) -> Ended {
     match verdict {
         None => Ended::Open,

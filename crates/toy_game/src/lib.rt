@@ -1,6 +1,6 @@
 //! A judge, provers and answerers over numbers.
 //!
-//! No layer of the product stands on this crate. It shows the traits of the game in their smallest form: read `toy_judge`, then
+//! No layer of the product depends on this crate. It shows the traits of the game in their smallest form: read `toy_judge`, then
 //! `cast`; `in_short` has what tests compare. The crates `test_boards`, `test_full_text`, `test_audit` and
 //! `test_report` play with it.
 #![tactic(auto)]

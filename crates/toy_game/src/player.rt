@@ -1,3 +1,5 @@
+//! How a player of the toy game plays.
+
 /// How a toy prover plays. Its run is the true one up to step `from`, and from there the step's number plus `shift`.
 #[derive(Clone, Copy, Debug)]
 pub struct Player {

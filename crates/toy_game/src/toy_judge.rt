@@ -1,3 +1,4 @@
+//! The judge of the toy game.
 ghost use Rattle.std.specs.Prelude.{◌≡◌, ◌∷◌, []};
 ghost use Rattle.toy_game.specs.Toy.{root, number, next, is_plain, opened_root, mark_of, leads_to, toy_ruling};
 ghost use Rattle.toy_game.specs.Fair.{toy_is_fair};

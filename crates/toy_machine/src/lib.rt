@@ -1,6 +1,6 @@
 //! Small machines, and digest functions that count or collide, for tests of several crates.
 //!
-//! No layer of the product stands on this crate.
+//! No layer of the product depends on this crate.
 #![tactic(auto)]
 
 mod digests;

@@ -100,7 +100,7 @@ line_of_round d number lo hi a b =
     if d.fan == 2 then line_of_halves d number (middle lo hi) a b
     else line_of_parts d (record { number = number; lo = lo; hi = hi; parts = min d.fan (hi - lo) }) a b
 
--- the rounds that went on, the first of which has this number
+-- the past rounds, the first of which has this number
 abbrev pub lines_of_rounds : Bisection → ℕ → List Round → List (Option Line)
 lines_of_rounds d number [] = []
 lines_of_rounds d number (r ∷ rs) = Some (line_of_round d number r.lo r.hi r.first r.second) ∷ lines_of_rounds d (number + 1) rs
@@ -119,7 +119,7 @@ line_of_last d None b = None
 abbrev pub lines_of_all_rounds : Bisection → List (Option Line)
 lines_of_all_rounds d = lines_of_rounds d 1 d.past ++ line_of_last d d.by_first d.by_second ∷ []
 
--- a stage's line stands before its first dispute
+-- a stage's line is before its first dispute
 abbrev pub line_of_stage : ℕ → ℕ → Option Line
 line_of_stage before stage = if stage == before then None else Some (stage_line stage)
 

@@ -24,12 +24,12 @@ moves_of_claims p (s ∷ ss) = move_if (qid_of 0 0) p s ++ moves_of_claims (p + 
 abbrev pub moves_of_round : ℕ → ℕ → ℕ → ℕ → Option Settled → Option Settled → List TextMove
 moves_of_round number first second round a b = move_if (qid_of number round) first a ++ move_if (qid_of number round) second b
 
--- the rounds that went on, the first of which has this number
+-- the past rounds, the first of which has this number
 abbrev pub moves_of_past : ℕ → ℕ → ℕ → ℕ → List Round → List TextMove
 moves_of_past number first second round [] = []
 moves_of_past number first second round (r ∷ rs) = moves_of_round number first second round (Some r.first) (Some r.second) ++ moves_of_past number first second (round + 1) rs
 
--- the rounds that went on, and the last one as far as it is settled
+-- the past rounds, and the last one as far as it is settled
 abbrev pub moves_of_dispute : Bisection → List TextMove
 moves_of_dispute d = moves_of_past d.number d.first d.second 1 d.past ++ moves_of_round d.number d.first d.second (length d.past + 1) d.by_first d.by_second
 

@@ -1,4 +1,5 @@
--- To believe. The report of a match, and the line that answers with a run. Numbers are decimal, bytes hexadecimal in lower case, and each line ends with a line feed.
+-- To believe. The report of a match, and the line that answers with a run. Numbers are decimal, bytes are hexadecimal in lower case, and
+-- each line ends with a line feed.
 use Rattle.std.specs.Prelude.{ℕ, List, Bool, true, false, [], ◌∷◌, ◌++◌, Option, Some, None, codes, decimal}
 use Rattle.hex.specs.Hex.{encode_lower}
 use Rattle.rd_base.specs.Status.{status_text}

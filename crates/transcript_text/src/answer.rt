@@ -1,3 +1,4 @@
+//! The line of a run's answer.
 ghost use Rattle.std.specs.Prelude.{◌≡◌, ◌++◌, string_bytes, IfOk, OnOk};
 ghost use Rattle.transcript_text.specs.Report.{answer_text, answer_line_text};
 

@@ -1,3 +1,4 @@
+//! The lines of claims.
 ghost use Rattle.std.specs.Prelude.{◌≡◌, ◌++◌, string_bytes, IfOk, OnOk};
 ghost use Rattle.transcript_text.specs.Lines.{out_line, line_of_claim, lines_of_claims};
 ghost use Rattle.transcript_text.specs.Report.{line_text, text_if_there, lines_text};

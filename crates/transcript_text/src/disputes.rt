@@ -1,3 +1,4 @@
+//! The lines of disputes.
 ghost use Rattle.std.specs.Prelude.{◌≡◌, ◌++◌, ◌+◌, ◌-◌, min, string_bytes, OnOk, Some};
 ghost use Rattle.bisect_game.specs.Truth.{is_put_out};
 ghost use Rattle.bisect_game.specs.Bisection.{middle, roots_in, kept_part};
@@ -10,7 +11,7 @@ use rd_base::{Answer, same_digest};
 use std::alloc::AllocError;
 use std::fmt::Write;
 
-/// Adds what a line says of both sides, and ends the line.
+/// Adds the part of a line about both sides, and ends the line.
 fn add_said(
     text: &mut String,
     dispute: &Dispute,
@@ -122,7 +123,7 @@ fn add_round(
     }
 }
 
-/// Adds the lines of the rounds that went on.
+/// Adds the lines of the past rounds.
 fn add_rounds(text: &mut String, dispute: &Dispute) -> Result<(), AllocError>
     ensures { OnOk result (string_bytes text.new ≡ string_bytes text.old ++ lines_text (lines_of_rounds dispute.now 1 dispute.now.past)) }
 {
@@ -141,7 +142,7 @@ fn add_rounds(text: &mut String, dispute: &Dispute) -> Result<(), AllocError>
     Ok(())
 }
 
-/// Whether a close puts a side out.
+/// Whether a close eliminates a side.
 fn is_put_out(side: Side, close: &Close) -> bool
     ensures { result ≡ is_put_out side (Some close.now) }
 {

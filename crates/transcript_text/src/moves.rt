@@ -110,7 +110,7 @@ fn add_round_moves(
     add_move(text, alloc, number, round, other, second)
 }
 
-/// Adds the lines of the rounds that went on.
+/// Adds the lines of the past rounds.
 #[tactic(auto, using(crate::proofs::MoveLemmas::joining))]
 fn add_past_moves(text: &mut String, alloc: Global, dispute: &Dispute) -> Result<(), Memory>
     ensures text { OnOk result (string_bytes text.new ≡ string_bytes text.old ++ moves_text (moves_of_past dispute.now.number dispute.now.first dispute.now.second 1 dispute.now.past)) }

@@ -1,3 +1,4 @@
+//! The report of a match.
 ghost use Rattle.std.specs.Prelude.{◌≡◌, ◌++◌, string_bytes, IfOk, OnOk, Some, option_copied};
 ghost use Rattle.transcript_text.specs.StatedVerdict.{settled_at};
 ghost use Rattle.transcript_text.specs.Lines.{line_of_accepted, line_of_verdict, collision_line, lines_of_record, balance_line, pool_line, lines_of_provers, lines_of_balances};

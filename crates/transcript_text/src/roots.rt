@@ -1,3 +1,4 @@
+//! The lines of roots.
 ghost use Rattle.std.specs.Prelude.{◌≡◌, ◌++◌, string_bytes, IfOk, OnOk, OnErr};
 ghost use Rattle.transcript_text.specs.Roots.{root_line};
 

@@ -1,3 +1,4 @@
+//! The summary of the match of a large workload.
 ghost use Rattle.std.specs.Prelude.{◌≡◌, ◌++◌, string_bytes, IfOk, IfSome, OnOk};
 ghost use Rattle.bisect_game.specs.Bisection.{rounds_of};
 ghost use Rattle.transcript_text.specs.Summary.{rounds_in, workload_text, counts_text, summary_text};
@@ -9,7 +10,7 @@ use std::alloc::{AllocError, Global};
 use std::fmt::Write;
 use tournament::{Record, Verdict};
 
-/// The bisection rounds of a dispute: those that went on, and the last one unless it is the proof round.
+/// The bisection rounds of a dispute: the past ones, and the last one unless it is the proof round.
 fn rounds_of(dispute: &Dispute) -> u64
     ensures { result ≡ rounds_of dispute.now }
 {

@@ -1,3 +1,4 @@
+//! The parts of texts.
 ghost use Rattle.std.specs.Prelude.{◌≡◌, Some};
 ghost use Rattle.std.specs.Option.{option_copied};
 ghost use Rattle.transcript_text.specs.Digest.{digest_text};
@@ -20,7 +21,7 @@ impl DigestName {
     /// Every digest that a text may name, in the order in which names are tried.
     pub const ALL: [DigestName; 2] = [DigestName::Sha256, DigestName::Weak8];
 
-    /// The name as it stands in a text.
+    /// The name as texts write it.
     pub fn text(self) -> &'static str
         ensures { result.now ≡ digest_text self }
     {

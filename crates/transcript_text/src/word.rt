@@ -1,3 +1,4 @@
+//! The words of reports for answers.
 ghost use Rattle.std.specs.Prelude.{◌≡◌, Some};
 ghost use Rattle.transcript_text.specs.Words.{word_text, said_word, said_word_of_proof};
 
@@ -9,9 +10,9 @@ use std::fmt;
 pub enum Word {
     /// An answer of the kind that was asked, which isn't a proof.
     Given,
-    /// An answer of another kind, or an unsound claim.
+    /// An answer of another kind, an unsound claim, or a list of another length than the cuts.
     Faulty,
-    /// The prover passed once more than the patience.
+    /// The prover passed one time more than the patience.
     Spent,
     /// A proof of a side that isn't out.
     Proved,

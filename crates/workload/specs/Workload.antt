@@ -26,7 +26,7 @@ step_of place a = 4096 * place + 8 + a % 4088
 abbrev pub value_of : ℕ → ℕ
 value_of b = 2147483648 + b / 2 ^ 16
 
--- after the input each prover takes two draws, and p1 stands at place 0
+-- after the input each prover takes two draws, and p1 is at place 0
 abbrev pub tampered_step : ℕ → ℕ → ℕ
 tampered_step seed place = step_of place (draw seed (4096 + 2 * place + 1))
 

@@ -1,3 +1,4 @@
+//! The generator of the large workload.
 ghost use Rattle.std.specs.Prelude.{◌≡◌};
 ghost use Rattle.workload.specs.Draws.{next_draw};
 

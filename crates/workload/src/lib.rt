@@ -1,9 +1,8 @@
 //! The large workload: a case that is made of a seed, with a run of 32,781 steps and eight provers of whom seven lie.
 //!
-//! The layers above may rely on this: what `big_case` gives is the compact JSON text of one tree, a definition, and
-//! `case_reader`'s definition of reading takes it to one case, for every seed. That each dispute of this case has 16
-//! rounds and puts out one prover is not proved: it is tested for seed 1, and the examples show it for a few more seeds.
-//! Read `big` first, then `draws`.
+//! The layers above may rely on this: what `big_case` gives is the compact JSON text of one tree, a definition, and `case_reader`'s
+//! definition of reading takes it to one case, for every seed. Each dispute of this case has 16 rounds and eliminates one prover. That
+//! isn't proved, but tested for seed 1, and shown by the examples for a few more seeds. Read `big` first, then `draws`.
 #![tactic(auto)]
 
 mod big;

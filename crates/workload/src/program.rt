@@ -1,3 +1,4 @@
+//! The program of the large workload.
 ghost use Rattle.std.specs.Prelude.{◌≡◌, IfOk, string_bytes};
 ghost use Rattle.hex.specs.Hex.{encode_lower};
 ghost use Rattle.workload.specs.Program.{program};
@@ -28,7 +29,7 @@ const PROGRAM: [u8; 80] = [
     0x73, 0x00, 0x00, 0x00, // ECALL
 ];
 
-/// The program as hexadecimal text.
+/// The program as hexadecimal text. An `Err` is out of memory.
 #[tactic(auto, unfolding(crate::specs::Program::program))]
 pub fn image(alloc: Global) -> Result<String, AllocError>
     ensures { IfOk result (λ text. string_bytes text ≡ encode_lower program) }

@@ -1,3 +1,4 @@
+//! The provers of the large workload.
 ghost use Rattle.std.specs.Prelude.{◌≡◌, ◌<◌, map, IfOk, if◌then◌else◌};
 ghost use Rattle.serde_json.specs.Data.{object, no_members};
 ghost use Rattle.serde_json.specs.View.{view};
@@ -38,7 +39,7 @@ fn prover(
     }
 }
 
-/// The trees of the provers, after the draws of the input.
+/// The trees of the provers, after the draws of the input. An `Err` is out of memory.
 pub fn provers(alloc: Global, seed: u32, draws: &mut Draws) -> Result<Vec<Value>, AllocError>
     requires { draws.old.last ≡ draw seed 4096 }
     ensures { IfOk result (λ provers. map view provers.items ≡ first_values 8 (prover_tree seed)) }

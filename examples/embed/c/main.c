@@ -89,7 +89,7 @@ static int steps(char *lines) {
 
 typedef CoshalitAnswer Command(const uint8_t *, size_t, uint8_t *, size_t);
 
-/* Writes what a command answers, and gives its status. A text that is longer than the first room is asked for again. */
+/* Writes what a command answers, and returns its status. A text that is longer than the first room is asked for again. */
 static int answer(Command *command, const unsigned char *bytes, size_t length) {
     unsigned char first[256], *room = first;
     CoshalitAnswer found = command(bytes, length, room, sizeof first);

@@ -1,4 +1,4 @@
--- To believe. The fields of a line: each is read at the front, and what stands behind it is left.
+-- To believe. The fields of a line: each is read at the front, and the bytes behind it are left.
 use Rattle.std.specs.Prelude.{ℕ, ◌+◌, ◌-◌, ◌*◌, min, nat_lt, nat_le, Bool, true, not, ◌&&◌, ◌==◌, List, [], ◌∷◌, length, Option, Some, None, Result, Ok, Err, if◌then◌else◌}
 use Rattle.std.specs.Option.{ok_or}
 use Rattle.hex.specs.Hex.{decode_of}
@@ -15,7 +15,7 @@ use Rattle.transcript_text.specs.declared.reader.fault.LineFault.TheVariants.{No
 abbrev pub Read : Type 0 → Type 0
 Read A = Result (A × List ℕ) LineFault
 
--- what stands behind a word, if the bytes begin with it
+-- the bytes behind a word, if they begin with it
 abbrev pub after : List ℕ → List ℕ → Option (List ℕ)
 after [] bytes = Some bytes
 after (w ∷ ws) [] = None
@@ -94,7 +94,7 @@ abbrev pub name_or : DigestName → Option (List ℕ) → Read DigestName → Re
 name_or d (Some rest) others = Ok (d, rest)
 name_or d None others = others
 
--- the first of these whose name stands at the front
+-- the first of these with whose name the bytes begin
 abbrev pub name_among : List DigestName → List ℕ → Read DigestName
 name_among [] bytes = Err NoForm
 name_among (d ∷ ds) bytes = name_or d (after (digest_text d) bytes) (name_among ds bytes)

@@ -3,9 +3,9 @@ use Rattle.std.specs.Prelude.{ℕ, ◌==◌, List, [], ◌∷◌, Option, Some, 
 
 -- a text by its lines
 pub data Lines : Type 0 where
-  -- what stands behind the last line feed
+  -- the bytes behind the last line feed
   tail : List ℕ → Lines
-  -- a line, without its line feed, and what stands behind it
+  -- a line, without its line feed, and the lines behind it
   line : List ℕ → Lines → Lines
 
 abbrev pub begun_with : ℕ → Lines → Lines
@@ -21,7 +21,7 @@ abbrev pub cut_front : ℕ → Option (List ℕ × List ℕ) → Option (List �
 cut_front b None = None
 cut_front b (Some x) = Some (b ∷ x.0, x.1)
 
--- what stands before the first byte of this value, and what behind it
+-- the bytes before the first byte of this value, and those behind it
 abbrev pub cut_at : ℕ → List ℕ → Option (List ℕ × List ℕ)
 cut_at c [] = None
 cut_at c (b ∷ bs) = if b == c then Some ([], bs) else cut_front b (cut_at c bs)

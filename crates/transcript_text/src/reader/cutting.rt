@@ -1,8 +1,9 @@
+//! A text is cut at a byte.
 ghost use Rattle.std.specs.Prelude.{◌≡◌, ◌<◌, length, IfSome};
 ghost use Rattle.std.specs.Option.{option_map};
 ghost use Rattle.transcript_text.specs.reader.TextLines.{cut_at};
 
-/// What stands before the first byte of this value, and what behind it. `None` if there is none.
+/// The bytes before the first byte of this value, and those behind it. `None` if there is no such byte.
 #[tactic(auto, using(crate::proofs::read_back::LineLemmas::cuts))]
 pub(crate) fn cut_at(bytes: &[u8], value: u8) -> Option<(&[u8], &[u8])>
     ensures is { option_map (λ x. (x.0.now, x.1.now)) result ≡ cut_at value bytes.now }

@@ -1,3 +1,4 @@
+//! The lines of a full text.
 use crate::text::{DigestName, Stated, TextMove};
 use rd_base::Digest32;
 
@@ -8,7 +9,7 @@ pub(crate) enum Entry {
     Verdict(Stated),
 }
 
-/// The first line of a full text as it stands there. A number that needs more than 32 bits is 2^32.
+/// The first line of a full text, its numbers as they are written. A number that needs more than 32 bits is 2^32.
 #[derive(Clone, Copy, Debug)]
 pub(crate) struct HeadNumbers {
     pub provers: u64,

@@ -1,3 +1,4 @@
+//! The faults of full texts.
 ghost use Rattle.std.specs.Prelude.{◌≡◌};
 ghost use Rattle.transcript_text.specs.declared.reader.fault.TextFault.TheVariants.{Memory};
 ghost use Rattle.transcript_text.specs.declared.reader.fault.LineFault.TheVariants as line_fault;

@@ -14,7 +14,7 @@ use std::alloc::Global;
 /// The least number that needs more than 32 bits.
 const TOO_LARGE: u64 = 4_294_967_296;
 
-/// What stands behind a word, if the bytes begin with it.
+/// The bytes behind a word, if they begin with it.
 pub(crate) fn after<'a>(bytes: &'a [u8], word: &[u8]) -> Option<&'a [u8]>
     ensures { option_copied result ≡ after word.now bytes.now }
 {
@@ -33,7 +33,7 @@ pub(crate) fn after<'a>(bytes: &'a [u8], word: &[u8]) -> Option<&'a [u8]>
     Some(rest)
 }
 
-/// What stands behind a word.
+/// The bytes behind a word.
 pub(crate) fn skip<'a>(bytes: &'a [u8], word: &[u8]) -> Result<&'a [u8], LineFault>
     ensures { Gives LineFault.Memory (λ rest. rest.now) result (skip word.now bytes.now) }
 {
@@ -167,7 +167,7 @@ pub(crate) fn read_answer(alloc: Global, digits: &[u8]) -> Result<Answer, LineFa
     }
 }
 
-/// The first of these digests whose name stands at the front.
+/// The first of these digests with whose name the bytes begin.
 fn read_name_among<'a>(
     names: &[DigestName],
     bytes: &'a [u8],

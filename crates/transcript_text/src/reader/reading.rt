@@ -17,7 +17,7 @@ use std::alloc::Global;
 /// The byte that ends a line.
 const LINE_FEED: u8 = b'\n';
 
-/// What comes of the verdict's line, which has this number, after these moves: nothing may stand behind it.
+/// What comes of the verdict's line, which has this number, after these moves: nothing may follow it.
 #[tactic(auto, using(crate::proofs::read_back::ReadLemmas::ending))]
 fn end(
     number: u64,
