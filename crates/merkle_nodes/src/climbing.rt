@@ -19,18 +19,6 @@ pub fn joined_text(bit: u32, child: &Digest32, sibling: &Digest32) -> OpenText
     }
 }
 
-/// The digest of a string, which is counted as one step.
-pub fn digest_counted<C: Counted, L: Ledger>(
-    c: C,
-    text: &OpenText,
-    steps: &mut Steps<L>,
-) -> Digest32
-    ensures digest { result.0 ≡ C.digest_of text.now }
-    ensures steps { steps.new ≡ steps.old + 1 }
-{
-    c.digest(text, steps)
-}
-
 /// The digest at the top of a path, from the string of the leaf up: a level for each sibling, the leaf's sibling first.
 /// Bit l of `index` is 0 if the path is on the left at level l. It counts one step for each digest.
 pub fn climb_counted<C: Counted, L: Ledger>(

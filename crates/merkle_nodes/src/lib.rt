@@ -12,7 +12,7 @@ mod heap;
 mod laws;
 mod strings;
 
-pub use climbing::{climb, climb_counted, digest_counted, joined_text};
+pub use climbing::{climb, climb_counted, joined_text};
 pub use heap::{fill_empty_heap, fill_empty_nodes, fill_heap_path, renew_nodes};
 pub use laws::{
     changed_leaves_climb_with_old_siblings, climbing_is_opening, heaps_are_trees, node_equations,
