@@ -239,44 +239,48 @@ at-refuted rules truth lie s i l differ now =
       | inr other ↦ rw (from, leads) other
     ]
 
-collided : (ruling : Ruling) (one other : Truth) (i : ℕ) → IsFair ruling → ruling.leads (one.root i) (one.proof i) ≡ Some (one.root (i + 1)) → ruling.leads (other.root i) (other.proof i) ≡ Some (other.root (i + 1)) →
-    one.root i ≡ other.root i → one.root (i + 1) ≢ other.root (i + 1) → (pair : List ℕ × List ℕ) × (closed_by_proofs ruling one other i ≡ Collision (pair.0) (pair.1))
-collided ruling one other i fair ea eb same differ =
-    let m : (pair : List ℕ × List ℕ) × (ruling.step_collision (one.root i) (one.proof i) (other.proof i) ≡ Some pair) =
-    fair.steps_collide (one.root i) (one.proof i) (other.proof i) (one.root (i + 1)) (other.root (i + 1)) ea (rw same eb) differ in
-    let x : proves ruling one i ≡ true = leads-proves ruling one i ea in
-    let y : proves ruling other i ≡ true = leads-proves ruling other i eb in
-    (m.0, rw (x, y, m.1) refl)
+has-collided : (rules : Rules) (one other : Truth) (d : Bisection) → IsFair rules.ruling → EndsWhereTheyPart rules one other d →
+    rules.ruling.leads (one.root d.place.lo) (one.proof d.place.lo) ≡ Some (one.root (d.place.lo + 1)) →
+    rules.ruling.leads (other.root d.place.lo) (other.proof d.place.lo) ≡ Some (other.root (d.place.lo + 1)) → HasCollided rules.ruling one other d
+has-collided rules one other d fair e ea eb =
+    let i = d.place.lo in
+    let from : rules.ruling.leads (one.root i) (other.proof i) ≡ Some (other.root (i + 1)) = rw e.same eb in
+    let m : (pair : List ℕ × List ℕ) × (rules.ruling.step_collision (one.root i) (one.proof i) (other.proof i) ≡ Some pair) =
+    fair.steps_collide (one.root i) (one.proof i) (other.proof i) (one.root (i + 1)) (other.root (i + 1)) ea from e.differ in
+    let x : proves rules.ruling one i ≡ true = leads-proves rules.ruling one i ea in
+    let y : proves rules.ruling other i ≡ true = leads-proves rules.ruling other i eb in
+    let closes : closed_by_proofs rules.ruling one other i ≡ Collision (m.0.0) (m.0.1) = rw (x, y, m.1) refl in
+    record {
+      pair = m.0;
+      close = e.close ∙ ap Some closes;
+      collision = fair.step_collisions (one.root i) (one.proof i) (other.proof i) (one.root (i + 1)) (other.root (i + 1)) m.0 ea from m.1;
+    }
 
 lie-second : (rules : Rules) (truth lie : Truth) (s : ℕ) (d : Bisection) → IsFair rules.ruling → IsRun rules truth → LeavesAt rules truth lie s →
-    EndsWhereTheyPart rules truth lie d → IsRefutedAt s (Out false true) d ⊎ HasCollided d
+    EndsWhereTheyPart rules truth lie d → IsRefutedAt s (Out false true) d ⊎ HasCollided rules.ruling truth lie d
 lie-second rules truth lie s d fair run l e =
     by (place-of rules truth lie s d.place.lo l e.differ)
   where
-    by : Place s d.place.lo → IsRefutedAt s (Out false true) d ⊎ HasCollided d
+    by : Place s d.place.lo → IsRefutedAt s (Out false true) d ⊎ HasCollided rules.ruling truth lie d
     by (At now) =
         let x : proves rules.ruling truth d.place.lo ≡ true = leads-proves rules.ruling truth d.place.lo (run.leads d.place.lo e.within) in
         let y : proves rules.ruling lie d.place.lo ≡ false = at-refuted rules truth lie s d.place.lo l e.differ now in
         inl (record { lo = omega (arith, now); hi = e.step ∙ now; out_ = e.close ∙ rw (x, y) refl })
     by (Behind late) =
-        let m : (pair : List ℕ × List ℕ) × (closed_by_proofs rules.ruling truth lie d.place.lo ≡ Collision (pair.0) (pair.1)) =
-        collided rules.ruling truth lie d.place.lo fair (run.leads d.place.lo e.within) (l.after d.place.lo late e.within) e.same e.differ in
-        inr (m.0, e.close ∙ ap Some m.1)
+        inr (has-collided rules truth lie d fair e (run.leads d.place.lo e.within) (l.after d.place.lo late e.within))
 
 lie-first : (rules : Rules) (truth lie : Truth) (s : ℕ) (d : Bisection) → IsFair rules.ruling → IsRun rules truth → LeavesAt rules truth lie s →
-    EndsWhereTheyPart rules lie truth d → IsRefutedAt s (Out true false) d ⊎ HasCollided d
+    EndsWhereTheyPart rules lie truth d → IsRefutedAt s (Out true false) d ⊎ HasCollided rules.ruling lie truth d
 lie-first rules truth lie s d fair run l e =
     by (place-of rules truth lie s d.place.lo l (λ same. e.differ (sym same)))
   where
-    by : Place s d.place.lo → IsRefutedAt s (Out true false) d ⊎ HasCollided d
+    by : Place s d.place.lo → IsRefutedAt s (Out true false) d ⊎ HasCollided rules.ruling lie truth d
     by (At now) =
         let x : proves rules.ruling truth d.place.lo ≡ true = leads-proves rules.ruling truth d.place.lo (run.leads d.place.lo e.within) in
         let y : proves rules.ruling lie d.place.lo ≡ false = at-refuted rules truth lie s d.place.lo l (λ same. e.differ (sym same)) now in
         inl (record { lo = omega (arith, now); hi = e.step ∙ now; out_ = e.close ∙ rw (x, y) refl })
     by (Behind late) =
-        let m : (pair : List ℕ × List ℕ) × (closed_by_proofs rules.ruling lie truth d.place.lo ≡ Collision (pair.0) (pair.1)) =
-        collided rules.ruling lie truth d.place.lo fair (l.after d.place.lo late e.within) (run.leads d.place.lo e.within) e.same e.differ in
-        inr (m.0, e.close ∙ ap Some m.1)
+        inr (has-collided rules lie truth d fair e (l.after d.place.lo late e.within) (run.leads d.place.lo e.within))
 
 pub lie-is-refuted-at-its-step : LieIsRefutedAtItsStep
 lie-is-refuted-at-its-step = record { second = lie-second; first = lie-first }
@@ -318,29 +322,23 @@ stopped-proves rules truth stopped s i e = elim (cases_Bool (same_digest (truth.
 ]
 
 early-second : (rules : Rules) (truth stopped : Truth) (s : ℕ) (d : Bisection) → IsFair rules.ruling → IsRun rules truth → StandsFrom truth stopped s →
-    EndsWhereTheyPart rules truth stopped d → IsRefutedFrom truth s (Out false true) d ⊎ HasCollided d
+    EndsWhereTheyPart rules truth stopped d → IsRefutedFrom truth s (Out false true) d ⊎ HasCollided rules.ruling truth stopped d
 early-second rules truth stopped s d fair run e w =
     let k : Stopped rules truth stopped s d.place.lo = stopped-at rules truth stopped s d.place.lo run e w.within w.same w.differ in
     let x : proves rules.ruling truth d.place.lo ≡ true = leads-proves rules.ruling truth d.place.lo (run.leads d.place.lo w.within) in
     elim (stopped-proves rules truth stopped s d.place.lo k) [
       | inl y ↦ inl (record { late = k.late; back = k.back; out_ = w.close ∙ rw (x, y) refl })
-      | inr leads ↦
-          let m : (pair : List ℕ × List ℕ) × (closed_by_proofs rules.ruling truth stopped d.place.lo ≡ Collision (pair.0) (pair.1)) =
-          collided rules.ruling truth stopped d.place.lo fair (run.leads d.place.lo w.within) leads w.same w.differ in
-          inr (m.0, w.close ∙ ap Some m.1)
+      | inr leads ↦ inr (has-collided rules truth stopped d fair w (run.leads d.place.lo w.within) leads)
     ]
 
 early-first : (rules : Rules) (truth stopped : Truth) (s : ℕ) (d : Bisection) → IsFair rules.ruling → IsRun rules truth → StandsFrom truth stopped s →
-    EndsWhereTheyPart rules stopped truth d → IsRefutedFrom truth s (Out true false) d ⊎ HasCollided d
+    EndsWhereTheyPart rules stopped truth d → IsRefutedFrom truth s (Out true false) d ⊎ HasCollided rules.ruling stopped truth d
 early-first rules truth stopped s d fair run e w =
     let k : Stopped rules truth stopped s d.place.lo = stopped-at rules truth stopped s d.place.lo run e w.within (sym w.same) (λ same. w.differ (sym same)) in
     let x : proves rules.ruling truth d.place.lo ≡ true = leads-proves rules.ruling truth d.place.lo (run.leads d.place.lo w.within) in
     elim (stopped-proves rules truth stopped s d.place.lo k) [
       | inl y ↦ inl (record { late = k.late; back = k.back; out_ = w.close ∙ rw (x, y) refl })
-      | inr leads ↦
-          let m : (pair : List ℕ × List ℕ) × (closed_by_proofs rules.ruling stopped truth d.place.lo ≡ Collision (pair.0) (pair.1)) =
-          collided rules.ruling stopped truth d.place.lo fair leads (run.leads d.place.lo w.within) w.same w.differ in
-          inr (m.0, w.close ∙ ap Some m.1)
+      | inr leads ↦ inr (has-collided rules stopped truth d fair w leads (run.leads d.place.lo w.within))
     ]
 
 pub early-end-is-refuted : EarlyEndIsRefuted

@@ -1,6 +1,6 @@
 -- To believe: where a dispute ends between sides that each answer by a run of their own, be it a true one or not. It ends at a step from which
 -- the two runs part, and the proofs of that step close it. So a run that leaves the true one at one step is refuted in the proof of that
--- step, or there is a collision.
+-- step, or the two proofs of the step where the dispute ends open two different strings of one digest.
 use Rattle.std.specs.Prelude.{◌≡◌, ◌≢◌, ℕ, ◌+◌, ◌-◌, ◌<◌, ◌≤◌, Bool, true, false, not, ◌&&◌, ◌⊎◌, List, Some, if◌then◌else◌}
 use Rattle.rd_base.specs.declared.digest.Digest32.{Digest32}
 use Rattle.bisect_game.specs.declared.settled.Settled.{Settled}
@@ -13,7 +13,7 @@ use Rattle.bisect_game.specs.Closing.{is_root, closed_by}
 use Rattle.bisect_game.specs.Disputes.{dispute_of}
 use Rattle.bisect_game.specs.Held.{settled_one_by_one, EachIsAsked}
 use Rattle.bisect_game.specs.Rules.{Rules, ArePlayable}
-use Rattle.bisect_game.specs.Ruling.{Ruling, IsFair}
+use Rattle.bisect_game.specs.Ruling.{Ruling, IsCollision, IsFair}
 use Rattle.bisect_game.specs.Truth.{Truth, IsRun, IsTruthful}
 
 -- a run as a side claims it: from the match's root at step 0 to the claimed root at the bound, with a sound claim. Its steps need not be true.
@@ -70,15 +70,19 @@ pub record IsRefutedAt (s : ℕ) (out : Close) (d : Bisection) : Type 0 where
   pub hi : d.place.hi ≡ s
   pub out_ : d.close ≡ Some out
 
-abbrev pub HasCollided : Bisection → Type 0
-HasCollided d = (pair : List ℕ × List ℕ) × (d.close ≡ Some (Collision (pair.0) (pair.1)))
+-- a dispute has closed by a collision of two runs' proofs of its step: two different strings of one digest, the first opened by the first
+-- run's proof, the second by the second run's
+pub record HasCollided (ruling : Ruling) (one other : Truth) (d : Bisection) : Type 0 where
+  pub pair : List ℕ × List ℕ
+  pub close : d.close ≡ Some (Collision (pair.0) (pair.1))
+  pub collision : IsCollision ruling (ruling.opened_by_step (one.proof d.place.lo)) (ruling.opened_by_step (other.proof d.place.lo)) pair
 
 -- against the true run, as the first side or the second
 pub record LieIsRefutedAtItsStep : Type 0 where
   pub second : (rules : Rules) (truth lie : Truth) (s : ℕ) (d : Bisection) → IsFair rules.ruling → IsRun rules truth → LeavesAt rules truth lie s →
-      EndsWhereTheyPart rules truth lie d → IsRefutedAt s (Out false true) d ⊎ HasCollided d
+      EndsWhereTheyPart rules truth lie d → IsRefutedAt s (Out false true) d ⊎ HasCollided rules.ruling truth lie d
   pub first : (rules : Rules) (truth lie : Truth) (s : ℕ) (d : Bisection) → IsFair rules.ruling → IsRun rules truth → LeavesAt rules truth lie s →
-      EndsWhereTheyPart rules lie truth d → IsRefutedAt s (Out true false) d ⊎ HasCollided d
+      EndsWhereTheyPart rules lie truth d → IsRefutedAt s (Out true false) d ⊎ HasCollided rules.ruling lie truth d
 
 -- A RUN THAT STOPS EARLY: it is the true one up to step s, and stands still from there on
 pub record StandsFrom (truth stopped : Truth) (s : ℕ) : Type 0 where
@@ -95,6 +99,6 @@ pub record IsRefutedFrom (truth : Truth) (s : ℕ) (out : Close) (d : Bisection)
 -- against the true run, as the first side or the second
 pub record EarlyEndIsRefuted : Type 0 where
   pub second : (rules : Rules) (truth stopped : Truth) (s : ℕ) (d : Bisection) → IsFair rules.ruling → IsRun rules truth → StandsFrom truth stopped s →
-      EndsWhereTheyPart rules truth stopped d → IsRefutedFrom truth s (Out false true) d ⊎ HasCollided d
+      EndsWhereTheyPart rules truth stopped d → IsRefutedFrom truth s (Out false true) d ⊎ HasCollided rules.ruling truth stopped d
   pub first : (rules : Rules) (truth stopped : Truth) (s : ℕ) (d : Bisection) → IsFair rules.ruling → IsRun rules truth → StandsFrom truth stopped s →
-      EndsWhereTheyPart rules stopped truth d → IsRefutedFrom truth s (Out true false) d ⊎ HasCollided d
+      EndsWhereTheyPart rules stopped truth d → IsRefutedFrom truth s (Out true false) d ⊎ HasCollided rules.ruling stopped truth d
