@@ -76,7 +76,7 @@ pub divides_unsigned : (a b : ℕ) → a < 2 ^ 32 → b < 2 ^ 32 → DividesUnsi
 divides_unsigned a b p q = ⊎_elim (λ none. subst (DividesUnsigned a) (sym none) by_zero) by_some (cases_eq b 0)
   where
     by_zero : DividesUnsigned a 0
-    by_zero = record { words = omega arith; values = λ some. absurd (some refl); smaller = λ some. absurd (some refl) }
+    by_zero = record { words = omega arith; by_zero = λ _. (refl, refl); values = λ some. absurd (some refl); smaller = λ some. absurd (some refl) }
 
     by_some : b ≢ 0 → DividesUnsigned a b
     by_some some =
@@ -86,6 +86,7 @@ divides_unsigned a b p q = ⊎_elim (λ none. subst (DividesUnsigned a) (sym non
         let values : b * quotient_unsigned a b + remainder_unsigned a b ≡ a = rw (quotient_is, remainder_is) whole in
         record {
           words = omega (arith, values);
+          by_zero = λ none. absurd (some none);
           values = λ _. values;
           smaller = λ _. rw remainder_is (mod-lt a (omega arith));
         }
@@ -141,6 +142,7 @@ signed_some b q some = nonzero (signed b) (λ none. some (same_words b 0 q (omeg
 divides_overflowing : DividesSigned (2 ^ 31) (2 ^ 32 - 1)
 divides_overflowing = record {
   words = refl;
+  by_zero = λ none. absurd (cc);
   values = λ _ fits. absurd (true≢false fits);
   smaller = λ _. omega arith;
   sign = inl refl;
@@ -150,6 +152,7 @@ module _ (a b : ℕ) (p : a < 2 ^ 32) (q : b < 2 ^ 32) where
   divides_by_zero : DividesSigned a 0
   divides_by_zero = record {
     words = omega arith;
+    by_zero = λ _. (refl, refl);
     values = λ some. absurd (some refl);
     smaller = λ some. absurd (some refl);
     sign = inr refl;
@@ -174,6 +177,7 @@ module _ (a b : ℕ) (p : a < 2 ^ 32) (q : b < 2 ^ 32) where
       let values : d *ℤ signed (quotient a b) +ℤ signed (remainder a b) ≡ x = rw (q_value, r_value) (ap (λ z. z +ℤ int_rem x d) (*ℤ_comm d (int_div x d)) ∙ quot-rem x d) in
       record {
         words = in_words a b (quotient a b) (remainder a b) p q (subst (λ n. n < 2 ^ 32) (sym q_is) (of_z_fits w32 (int_div x d) q_fits).fits) (subst (λ n. n < 2 ^ 32) (sym r_is) (of_z_fits w32 (int_rem x d) r_fits).fits) values;
+        by_zero = λ none. absurd (some none);
         values = λ _ _. values;
         smaller = λ _. subst (λ z. unsigned_abs z < unsigned_abs d) (sym r_value) (rem_below x d (signed_some b q some));
         sign = ⊎_elim (λ none. inl (r_is ∙ ap word none)) (λ same. inr (ap is_negative r_value ∙ same)) (remainder_sign x d);

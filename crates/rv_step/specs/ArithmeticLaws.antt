@@ -21,17 +21,21 @@ pub record AreProducts (a b : ℕ) : Type 0 where
   pub both_signed : signed (product_high a b) *ℤ pos (2 ^ 32) +ℤ pos (product_low a b) ≡ signed a *ℤ signed b
   pub signed_unsigned : signed (product_high_signed_unsigned a b) *ℤ pos (2 ^ 32) +ℤ pos (product_low a b) ≡ signed a *ℤ pos b
 
--- dividend = divisor * quotient + remainder, in words (7.2), whatever the divisor: by zero too. By another divisor it holds of the
--- values, and the remainder is smaller than the divisor
+-- dividend = divisor * quotient + remainder, in words (7.2), whatever the divisor. By zero the quotient has all bits set, and the
+-- remainder is the dividend (7.2, table 7.1). By another divisor the equation holds of the values, and the remainder is smaller than the
+-- divisor
 pub record DividesUnsigned (a b : ℕ) : Type 0 where
   pub words : plus (product_low b (quotient_unsigned a b)) (remainder_unsigned a b) ≡ a
+  pub by_zero : b ≡ 0 → (quotient_unsigned a b ≡ 2 ^ 32 - 1) × (remainder_unsigned a b ≡ a)
   pub values : b ≢ 0 → b * quotient_unsigned a b + remainder_unsigned a b ≡ a
   pub smaller : b ≢ 0 → remainder_unsigned a b < b
 
--- the same of signed values (7.2): the words give the dividend by zero and for the quotient that overflows, too. The remainder is smaller
--- than the divisor by their absolute values, and it is 0 or has the sign of the dividend
+-- the same of signed values (7.2): the words give the dividend by zero and for the quotient that overflows, too, and by zero all bits of
+-- the quotient are set, which is -1. The remainder is smaller than the divisor by their absolute values, and it is 0 or has the sign of
+-- the dividend
 pub record DividesSigned (a b : ℕ) : Type 0 where
   pub words : plus (product_low b (quotient a b)) (remainder a b) ≡ a
+  pub by_zero : b ≡ 0 → (quotient a b ≡ 2 ^ 32 - 1) × (remainder a b ≡ a)
   pub values : b ≢ 0 → overflows a b ≡ false → signed b *ℤ signed (quotient a b) +ℤ signed (remainder a b) ≡ signed a
   pub smaller : b ≢ 0 → unsigned_abs (signed (remainder a b)) < unsigned_abs (signed b)
   pub sign : (remainder a b ≡ 0) ⊎ (is_negative (signed (remainder a b)) ≡ is_negative (signed a))

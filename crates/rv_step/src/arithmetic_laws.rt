@@ -17,8 +17,9 @@ pub fn products_have_two_words()
     ensures { (a b : ℕ) → a < 2 ^ 32 → b < 2 ^ 32 → AreProducts a b }
 {}
 
-/// The dividend is the divisor times the quotient plus the remainder, modulo 2^32, by every divisor. A remainder is smaller than its
-/// divisor, and has the sign of the dividend (DIV, DIVU, REM, REMU).
+/// The dividend is the divisor times the quotient plus the remainder, modulo 2^32, by every divisor. By zero all bits of the quotient are
+/// set, and the remainder is the dividend. By another divisor a remainder is smaller than it, and a signed one is 0 or has the sign of the
+/// dividend (DIV, DIVU, REM, REMU).
 pub fn dividends_come_back()
     ensures unsigned { (a b : ℕ) → a < 2 ^ 32 → b < 2 ^ 32 → DividesUnsigned a b }
     ensures signed { (a b : ℕ) → a < 2 ^ 32 → b < 2 ^ 32 → DividesSigned a b }
