@@ -33,12 +33,14 @@ effective_posts_of rules p [] st = 0
 effective_posts_of rules p (x ∷ xs) st =
     one_if ((x.prover == p) && not (is_stale (reply_to rules st x.prover x.qid x.answer))) + effective_posts_of rules p xs (posted rules st x.prover x.qid x.answer)
 
--- m provers with the patience P make at most (P + 1) * (m + 2 * (m - 1) * (k + 1)) of them, for a most number k of rounds
+-- of all m provers together, with the patience P, at most (P + 1) * (m + 2 * (m - 1) * (k + 1)) have an effect, for a most number k of
+-- bisection rounds
 abbrev pub FewPosts : Type 0
 FewPosts =
     (rules : Rules) (xs : List Post) (k : ℕ) → ArePlayable rules → IsMost rules.setup.fan rules.setup.bound k →
     effective_posts rules xs (begun rules) ≤ most_entries rules.setup k
 
+-- and of each prover at most (P + 1) * (1 + (m - 1) * (k + 1))
 abbrev pub FewPostsOfEach : Type 0
 FewPostsOfEach =
     (rules : Rules) (xs : List Post) (k p : ℕ) → ArePlayable rules → IsMost rules.setup.fan rules.setup.bound k → 0 < p →
@@ -61,19 +63,20 @@ disputes_among p (d ∷ ds) = one_if (is_side p d) + disputes_among p ds
 abbrev pub disputes_played : ℕ → Record → ℕ
 disputes_played p r = disputes_among p r.disputes
 
--- at most one claim and, in each of m - 1 disputes, k bisections and a proof
+-- they are at most 1 + (m - 1) * (k + 1) in all
 abbrev pub FewQuestions : Type 0
 FewQuestions =
     (rules : Rules) (xs : List Post) (k p : ℕ) → ArePlayable rules → IsMost rules.setup.fan rules.setup.bound k →
     questions_of p (record_after rules xs) ≤ 1 + (rules.setup.provers - 1) * (k + 1)
 
--- so whoever draws a prover into a dispute costs it at most k + 1 answers
+-- and of a prover that is a side of d disputes at most 1 + d * (k + 1) in all
 abbrev pub QuestionsCost : Type 0
 QuestionsCost =
     (rules : Rules) (xs : List Post) (k p : ℕ) → ArePlayable rules → IsMost rules.setup.fan rules.setup.bound k →
     questions_of p (record_after rules xs) ≤ 1 + disputes_played p (record_after rules xs) * (k + 1)
 
--- of a prover's posts on each question that it has been asked, one for each pass of the patience and one more have an effect
+-- a prover's posts with an effect are in all at most P + 1 times as many as its questions, for the patience P. How many of them are on which
+-- question isn't said
 abbrev pub PostsByQuestions : Type 0
 PostsByQuestions =
     (rules : Rules) (xs : List Post) (p : ℕ) → ArePlayable rules → 0 < p →

@@ -1,5 +1,5 @@
--- To believe: what is promised without an honest prover. Once a match is over, all live provers have one claim; and provers whose claims
--- have one root are never paired.
+-- To believe: what is promised without an honest prover. Once a match is over and a claim is accepted, all live provers have that claim; and
+-- provers whose claims have one root are never paired.
 use Rattle.std.specs.Prelude.{◌≡◌, ◌≢◌, ℕ, ◌<◌, true, false, List, [], ◌∷◌, Contains}
 use Rattle.rd_base.specs.declared.claim.Claim.{Claim}
 use Rattle.bisect_game.specs.Bisection.{Bisection}

@@ -72,9 +72,9 @@ pub fn truthful_provers_are_safe()
     bisection_laws();
 }
 
-/// Few rounds: whatever is posted, m provers play at most m - 1 disputes, and a dispute has k bisection rounds with
-/// `F^k < F * N` for rounds of F parts and the bound N, and at most one proof round. So the judge rules where a proof leads
-/// `2 (m - 1)` times at most (`rulings`).
+/// Few rounds: whatever is posted, m provers play at most m - 1 disputes (`disputes`), and a dispute has k bisection rounds with
+/// `F^k < F * N` for rounds of F parts and the bound N, and at most one proof round (`rounds`). So all proof rounds together have
+/// `2 (m - 1)` sides at most, for each of which the judge rules once where a proof leads (`rulings`).
 pub fn a_match_has_few_disputes_and_rounds()
     ensures disputes { FewDisputes }
     ensures rounds { FewRounds }
@@ -179,8 +179,8 @@ pub fn nobody_asked_means_over()
     bisection_laws();
 }
 
-/// Few questions: whatever is posted, of m provers each is asked at most `1 + (m - 1) * (k + 1)` questions, for a most number k of
-/// bisection rounds (`each`), and each dispute into which it is drawn costs it at most k + 1 of them (`cost`).
+/// Few questions: whatever is posted, of m provers each is asked at most `1 + (m - 1) * (k + 1)` questions in all, for a most number k of
+/// bisection rounds (`each`), and at most `1 + d * (k + 1)` if it is a side of d disputes (`cost`).
 pub fn questions_are_few()
     ensures each { FewQuestions }
     ensures cost { QuestionsCost }
@@ -188,9 +188,9 @@ pub fn questions_are_few()
     a_match_has_few_disputes_and_rounds();
 }
 
-/// Few posts: whoever posts whatever, all but a few posts are stale, and a stale post changes nothing. Of a prover's posts on each question
-/// that it has been asked, at most one for each pass of the patience and one more aren't stale (`by_questions`); so few of one prover
-/// aren't (`of_each`), and of all together at most `most_entries` (`all`).
+/// Few posts: whoever posts whatever, all but a few posts are stale. Those of a prover that aren't are in all at most P + 1 times as many as
+/// the questions that it has been asked, for the patience P (`by_questions`). So for m provers and a most number k of bisection rounds they
+/// are at most `(P + 1) * (1 + (m - 1) * (k + 1))` of each prover (`of_each`), and at most `most_entries` of all together (`all`).
 pub fn posts_are_few()
     ensures by_questions { PostsByQuestions }
     ensures of_each { FewPostsOfEach }
@@ -269,7 +269,8 @@ pub fn answers_are_of_their_run()
 
 /// Lies are found where they are: whatever was posted, a dispute between two provers that each answer by a run of their own ends where the
 /// runs part (`part`). So against a prover that answers truly, one whose run leaves the true one at step s and goes on by true steps
-/// is out in the proof of step s - 1, or the dispute closes by a collision (`found`, and `scripts` of provers that answer by scripts).
+/// is out in the proof of step s - 1, or the dispute closes by a collision of their two proofs (`found`, and `scripts` of provers that
+/// answer by scripts).
 pub fn lies_are_found()
     ensures part { DisputesEndWhereRunsPart }
     ensures found { LiesAreFound }

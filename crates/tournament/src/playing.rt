@@ -253,7 +253,8 @@ impl<J: Judge + Drop> Match<J> {
     }
 
     /// Few rounds: fewer disputes than provers, and in each k bisection rounds with `F^k < F * N` for rounds of F parts and the
-    /// bound N, and at most one proof round. So the judge rules at most twice a dispute where a proof leads.
+    /// bound N, and at most one proof round. So all proof rounds together have at most `2 (m - 1)` sides, for each of which the judge
+    /// rules once where a proof leads.
     pub fn has_few_disputes_and_rounds(&self)
         ensures disputes { length self.now.game.record_.disputes < self.now.setup.provers }
         ensures rounds { AllShort (rules_in J.ruling self.now) self.now.game.record_.disputes }

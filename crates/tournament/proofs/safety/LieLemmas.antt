@@ -51,7 +51,7 @@ module _ (laws : BisectionLaws) (parting : RunsPartWhereTheyEnd) where
       all-end rules one other p q (record_after rules xs) (record_after rules xs).disputes playable io jo tp.claim tq.claim tp.disputes tq.disputes ((all-one-by-one laws) rules xs)
 
   all-found : (rules : Rules) (truth lie : Truth) (s p q : ℕ) (ds : List Bisection) → LieIsRefutedAtItsStep → IsFair rules.ruling → IsRun rules truth → LeavesAt rules truth lie s →
-      AllEndWhereTheyPart rules truth lie p q ds → AllEndWhereTheyPart rules lie truth q p ds → AllLiesFound s p q ds
+      AllEndWhereTheyPart rules truth lie p q ds → AllEndWhereTheyPart rules lie truth q p ds → AllLiesFound rules.ruling truth lie s p q ds
   all-found rules truth lie s p q [] lies fair run leaves a b = tt
   all-found rules truth lie s p q (d ∷ ds) lies fair run leaves a b = (
     record {
@@ -73,5 +73,5 @@ module _ (laws : BisectionLaws) (parting : RunsPartWhereTheyEnd) where
       let same : record_after rules x.0 ≡ (turns rules says ps (begun rules)).record_ = ap (λ (st : MatchState). st.record_) x.1 in
       let mine : AreTrue rules truth p (turns rules says ps (begun rules)).record_ = scripts rules says truth ps p playable run.sound some_p few_p tp legal in
       let theirs : AreTrue rules lie q (turns rules says ps (begun rules)).record_ = scripts rules says lie ps q playable claims.sound some_q few_q tq legal in
-      subst (λ (r : Record). AllLiesFound s p q r.disputes) same
+      subst (λ (r : Record). AllLiesFound rules.ruling truth lie s p q r.disputes) same
       (lies-are-found lies rules x.0 truth lie s p q playable fair run claims leaves (subst (AreTrue rules truth p) (sym same) mine) (subst (AreTrue rules lie q) (sym same) theirs))
