@@ -3,3 +3,4 @@ pub mod FaultLemmas
 pub mod TapeLemmas
 pub mod TaskLemmas
 pub mod TaskFaults
+pub mod TamperLemmas

@@ -6,3 +6,4 @@ pub mod Scripts
 pub mod Provers
 pub mod Case
 pub mod Tasks
+pub mod ReadTampers

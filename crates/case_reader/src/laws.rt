@@ -2,6 +2,7 @@
 ghost use Rattle.std.specs.Prelude.{◌≡◌, ℕ, List, Err};
 ghost use Rattle.case_reader.specs.Case.{case_at};
 ghost use Rattle.case_reader.specs.Tasks.{tasks_at, CasesAreTasks};
+ghost use Rattle.case_reader.specs.ReadTampers.{TampersAreRead};
 
 use crate::fault::{CaseFault, TaskFault};
 
@@ -21,4 +22,10 @@ pub fn no_fault_of_tasks_is_out_of_memory()
 /// Bytes are read as one task if and only if they are read as a case.
 pub fn cases_are_read_as_one_task()
     ensures { CasesAreTasks }
+{}
+
+/// The numbers of each tamper of a case that is read are in the ranges of its keys: steps, addresses and values are words, a mask is a byte,
+/// and a register is one of x1 to x31.
+pub fn tampers_are_read_in_range()
+    ensures { TampersAreRead }
 {}
