@@ -44,7 +44,7 @@ impl<J: Judge + Drop, P: Provers + Drop> Model for Books<J, P> {
     ghost invariant = { λ b. AreKept J.ruling P.says b.books.items b.journal.items (vec_capacity b.journal) };
 }
 
-// The most entries of these books together.
+/// The most entries of these books together.
 fn room_of<J: Judge + Drop, P: Provers + Drop>(books: &[Book<J, P>]) -> u64
     requires few { length books.now ≤ 8 }
     ensures { HasRoom books.now result }
@@ -56,7 +56,7 @@ fn room_of<J: Judge + Drop, P: Provers + Drop>(books: &[Book<J, P>]) -> u64
     total
 }
 
-// Notes the entries from this place on as those of task t.
+/// Notes the entries from this place on as those of task t.
 fn note_from(journal: &mut Vec<(u32, Entry)>, t: u32, entries: &[Entry], from: usize)
     requires within { from ≤ length entries.now }
     requires room { length journal.old.items + (length entries.now - from) ≤ journal.old.cap }
@@ -206,7 +206,7 @@ impl<J: Judge + Drop, P: Provers + Drop> Books<J, P> {
         ended
     }
 
-    // Plays the match of task `t` out, with its part of the answerers of all, from this place on. Answers the place of the next part.
+    /// Plays the match of task `t` out, with its part of the answerers of all, from this place on. Answers the place of the next part.
     fn finish_part<R: Threads + Sync, A: Answerer>(
         &mut self,
         rt: &R,

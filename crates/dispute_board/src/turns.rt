@@ -25,7 +25,7 @@ impl<J: Judge + Drop, P: Provers + Drop> Logged for Locked<J, P> {
     ghost use Rattle.board_book.specs.Tasks.{openings};
     ghost use Rattle.dispute_board.specs.OneHistory.{log_of_journal};
 
-    // Contracts alone see a head, and see this type as the plain list of the openings.
+    /// Contracts alone see a head, and see this type as the plain list of the openings.
     type Head = LinkedList<Opening<J::Names, P::Names>>;
 
     ghost log = { λ locked. log_of_journal locked.books.journal };
@@ -90,8 +90,8 @@ fn receipt_for(reply: Reply, place: u64) -> Option<u64>
     }
 }
 
-/// The number of the open question if the move isn't due on it: if the prover passes there now and the move is no pass, or the other
-/// way round.
+/// The number of the prover's open question, if it has one and the move isn't due on it: if the prover passes there now and the move is
+/// no pass, or the other way round. `None` if the move is due, or the prover has no open question.
 fn undue_on<J: Judge + Drop, P: Provers + Drop>(book: &Book<J, P>, post: &Posting) -> Option<Qid>
     requires some { 0 < post.now.p }
     requires few { post.now.p ≤ book.now.opening.setup.provers }
