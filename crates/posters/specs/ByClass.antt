@@ -2,11 +2,11 @@
 use Rattle.std.specs.Prelude.{ℕ, ◌+◌, ◌%◌, ◌<◌, ◌≤◌, List, length, slice_index}
 use Rattle.posters.specs.Classes.{HaveClasses}
 
--- the numbers stand in the order of their classes
+-- the numbers are in the order of their classes
 abbrev pub IsByClass : ℕ → List ℕ → Type 0
 IsByClass classes numbers = (i j : ℕ) → i ≤ j → j < length numbers → slice_index numbers i % classes ≤ slice_index numbers j % classes
 
--- workers of the classes from the first on, for the `long` numbers from the place `from` on, which are of these classes and stand in their order
+-- workers of the classes from the first on, for the `long` numbers from the place `from` on, which are of these classes and in their order
 pub record Suits {W : Type 0} (class : W → ℕ) (classes : ℕ) (numbers : List ℕ) (from long : ℕ) (workers : List W) : Type 0 where
   pub first : ℕ
   pub by_class : IsByClass classes numbers

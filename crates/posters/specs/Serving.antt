@@ -1,5 +1,5 @@
--- Derived: how the provers of all tasks are numbered, what stays of a poster while it serves, and what a seat must be for it. `play_tasks`
--- says what comes of it.
+-- Derived: how the provers of all tasks are numbered, what stays of a poster while it serves, and what a seat must be for it. The clauses
+-- of `play_tasks` state the result.
 use Rattle.std.specs.Prelude.{◌≡◌, ℕ, ◌<◌, ◌≤◌, [], List, Option, Some, None, get_or, map, zero, suc, ◌+◌, ◌∷◌, ◌++◌}
 use Rattle.std.specs.List.{All}
 use Rattle.rd_base.specs.declared.answer.Answer.{Answer}

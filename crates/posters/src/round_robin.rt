@@ -1,10 +1,10 @@
 //! Many items served by a few workers, each in a thread of its own: worker t of k serves the items whose number leaves t when it is
 //! divided by k.
 //!
-//! A worker is handed items of its own class alone, each with its number; what the workers keep of themselves and what serving keeps of
-//! the item at each place is afterwards as before. No clause says that a worker serves anything, that a second thread ran, or that the
-//! workers come to an end; that each item itself stands at its place again, and that no thread is started if there is one worker, is read
-//! here. Nothing here knows what is served, or where.
+//! A worker is handed items of its own class alone, each with its number; what the workers keep of themselves and what serving keeps of the
+//! item at each place is afterwards as before. No clause states that a worker serves anything, that a second thread ran, or that the
+//! workers come to an end. The code shows that each item itself is at its place again, and that no thread is started if there is one
+//! worker. Nothing here knows what is served, or where.
 ghost use Rattle.std.specs.Prelude.{◌≡◌, ℕ, ◌+◌, ◌%◌, ◌^◌, ◌<◌, ◌≤◌, All, length, map, take, drop};
 ghost use Rattle.std.specs.List.{range_with_len};
 ghost use Rattle.std.specs.Thread.{IsSync};
@@ -18,19 +18,20 @@ use std::thread::{Threads, join_mut};
 
 /// Serves items of type A at a board of type B.
 pub trait Worker<B, A> {
-    // What stays of a worker, and of an item.
+    /// What stays of a worker while it serves.
     ghost Kept: { Type 0 };
 
+    /// What stays of an item while it is served.
     ghost Meaning: { Type 0 };
 
     ghost stays: { Self → Self.Kept };
 
     ghost meaning: { A → Self.Meaning };
 
-    // Which class a worker serves.
+    /// Which class a worker serves.
     ghost class_of: { Self.Kept → ℕ };
 
-    // It may serve items at this board whose meanings are what this function says of their numbers.
+    /// A worker may serve items at this board whose meanings are the values of this function at their numbers.
     ghost ready: { B → Self.Kept → (ℕ → Self.Meaning) → Type 0 };
 
     /// Which class it serves.
@@ -116,7 +117,8 @@ fn serve_classes<B: Sync, A: Send, W: Worker<B, A> + Send, R: Threads + Wait + S
     );
 }
 
-/// Worker t of k serves the items t, t + k, t + 2 k and so on, each worker in a thread of its own if one can be made.
+/// Worker t of k serves the items t, t + k, t + 2 k and so on, each worker in a thread of its own if one can be made. There are fewer than
+/// 2^32 items and fewer than 2^32 workers.
 ///
 /// Afterwards each item is at its place again, as far as what serving keeps of an item tells them apart. An `Err` is out of
 /// memory; nothing was served then.

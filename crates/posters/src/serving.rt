@@ -1,7 +1,7 @@
 //! What one poster does, and what the posters share.
 //!
-//! No run can sleep for good. Each sleep ends by itself after at most a tenth of a second, and the loop of each poster is bounded by the room
-//! for posts and by `MOST_IDLE_TURNS`. The board's lock isn't held while a poster answers, stands at its gate or sleeps. As long as a
+//! No run can sleep for good. Each sleep ends by itself after at most a tenth of a second, and the loop of each poster is bounded by the
+//! room for posts and by `MOST_IDLE_TURNS`. The board's lock isn't held while a poster answers, waits at its gate or sleeps. As long as a
 //! match isn't over it asks one of its provers (`Match::is_never_stuck`), and that prover's poster serves it. Posters wake each other for
 //! speed alone, so that a lost wake costs time.
 ghost use Rattle.std.specs.Prelude.{◌≡◌, List, map, slice_get};
@@ -18,7 +18,7 @@ use std::sync::Wait;
 use std::sync::atomic::{AtomicU32, AtomicU64, Ordering};
 use std::thread::Threads;
 use std::time::Duration;
-use tournament::move_of;
+use tournament::{Reply, move_of};
 
 /// After this many idle turns in a row a poster ends early. In an idle turn none of its provers had anything to do.
 ///
@@ -27,7 +27,7 @@ use tournament::move_of;
 const MOST_IDLE_TURNS: u32 = 10_000_000;
 
 /// As long as some poster hasn't begun, a poster ends early after this many idle turns in a row without a post, whose sleeps add up to 0.927
-/// seconds. If a thread can't be made, the poster that hasn't begun may stand behind this one in the same thread.
+/// seconds. If a thread can't be made, the poster that hasn't begun may come after this one in the same thread.
 const MOST_QUIET_TURNS_BEFORE_ALL_BEGIN: u32 = 15;
 
 /// The longest sleep, in milliseconds.
@@ -49,8 +49,8 @@ pub struct Hall<'g, J: Judge + Drop, P: Provers + Drop, G: TaskGate> {
     pub posters: u32,
     /// How many posters have begun.
     pub begun: AtomicU32,
-    /// How many posts there were, or at least `ENDED_EARLY` once a poster ended before the matches of its provers were over. A poster
-    /// with nothing to do sleeps until this changes, or for `LONGEST_SLEEP`.
+    /// How many posts there were but for passes that were taken, or at least `ENDED_EARLY` once a poster ended before the matches of its
+    /// provers were over. A poster with nothing to do sleeps until this changes, or for `LONGEST_SLEEP`.
     pub news: AtomicU64,
 }
 
@@ -61,10 +61,10 @@ pub struct Poster<J: Judge + Drop, P: Provers + Drop> {
     pub seat: TaskSeat<J, P>,
 }
 
-/// What a turn came to, of one prover or of each prover of a poster.
+/// The result of a turn, for one prover or for each prover of a poster.
 #[derive(Clone, Copy, Debug)]
 enum Turn {
-    /// The match is over, of each of these provers.
+    /// The match of each of these provers is over.
     Over,
     /// A move was posted.
     Posted,
@@ -95,8 +95,12 @@ impl<'g, J: Judge + Drop, P: Provers + Drop, G: TaskGate> Hall<'g, J, P, G> {
         self.news.load(Ordering::SeqCst) >= ENDED_EARLY
     }
 
-    /// Counts a post, and wakes the posters that sleep.
-    fn note_post(&self) {
+    /// Counts a post, and wakes the posters that sleep. A pass that is taken isn't counted and wakes nobody: it changes nothing for any
+    /// other prover.
+    fn note_post(&self, is_pass: bool, reply: &Reply) {
+        if is_pass && matches!(reply, Reply::Taken) {
+            return;
+        }
         self.news.fetch_add(1, Ordering::SeqCst);
         self.news.wake_all();
     }
@@ -107,7 +111,7 @@ impl<'g, J: Judge + Drop, P: Provers + Drop, G: TaskGate> Hall<'g, J, P, G> {
         self.news.wake_all();
     }
 
-    /// Sleeps until `news` no longer stands at `seen`, and for a while at most. `quiet` counts the idle turns in a row without news before
+    /// Sleeps until `news` is no longer `seen`, and for a while at most. `quiet` counts the idle turns in a row without news before
     /// this one. What comes back is that count with this turn, or 0 if there was news.
     fn sleep<R: Wait>(&self, rt: &R, seen: u64, quiet: u32) -> u32 {
         let longest = Duration::from_millis(sleep_after(quiet));
@@ -147,10 +151,12 @@ impl<'g, J: Judge + Drop, P: Provers + Drop, G: TaskGate> Hall<'g, J, P, G> {
             Ask::Nothing => Turn::Idle,
             Ask::Question(question, passes) => match answerer.answer(rt, &question, passes) {
                 Ok(answer) => {
+                    let is_pass = answer.is_none();
                     self.gate.before_post(task, prover, question.qid);
-                    self.board
+                    let posted = self
+                        .board
                         .post(rt, seat, task, prover, question.qid, move_of(answer));
-                    self.note_post();
+                    self.note_post(is_pass, &posted.reply);
                     Turn::Posted
                 }
                 Err(_) => Turn::EndsEarly,
@@ -225,8 +231,8 @@ impl<'g, J: Judge + Drop, P: Provers + Drop, G: TaskGate> Hall<'g, J, P, G> {
         Turn::EndsEarly
     }
 
-    /// Serves the provers of these numbers until the matches of all are over, and says whether they are. There are at most as many posts
-    /// as the matches have room for, and at most `MOST_IDLE_TURNS` before each, so this ends whatever the other posters do.
+    /// Serves the provers of these numbers until the matches of all are over. The result is whether they are. There are at most as many
+    /// posts as the matches have room for, and at most `MOST_IDLE_TURNS` before each, so this ends whatever the other posters do.
     fn serve_until_over<A: Answerer, R: Threads + Wait + Sync>(
         &self,
         rt: &R,

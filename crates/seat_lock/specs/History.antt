@@ -36,16 +36,16 @@ Begins {A} start whole = (rest : List A) × (whole ≡ start ++ rest)
 abbrev pub longer_of : {A : Type 0} → List A → List A → List A
 longer_of xs ys = if leb (length xs) (length ys) then ys else xs
 
--- after a turn at this place: the place stands behind the other receipts if the turn added an entry
+-- after a turn at this place: the place is behind the other receipts if the turn added an entry
 abbrev pub with_receipt : Turn → ℕ → List ℕ → List ℕ
 with_receipt (Some entry) place receipts = receipts ++ place ∷ []
 with_receipt None place receipts = receipts
 
--- how often the place stands in the list
+-- how often the place occurs in the list
 abbrev pub times : ℕ → List ℕ → ℕ
 times place [] = 0
 times place (p ∷ ps) = (if place == p then 1 else 0) + times place ps
 
--- no place stands in the list twice
+-- no place occurs in the list twice
 abbrev pub NoneTwice : List ℕ → Type 0
 NoneTwice places = (place : ℕ) → times place places ≤ 1

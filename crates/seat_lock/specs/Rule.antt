@@ -48,7 +48,7 @@ module _ {H : Type 0} where
     pub counts : total lives views ≡ suc view.out
     pub few : suc view.out < word_size
 
-  -- what the rule says of view number j alone. The queue has the numbers of the views that hold a ticket, from the one served on
+  -- what the rule requires of view number j alone. The queue has the numbers of the views that hold a ticket, from the one served on
   pub record Fits {T : Type 0} (at : H) (queue : List ℕ) (history : History) (serving : ℕ) (homes : List (maybe.Option (Option T))) (j : ℕ) (v : View H) : Type 0 where
     -- unless it is spent it has the one head, and has seen a start of the history
     pub headed : (head : H) → v.head ≡ Some head → (head ≡ at) × Begins v.seen history × All (λ seen. Begins seen history) v.joined
@@ -68,7 +68,7 @@ module _ {H : Type 0} where
     pub each : (j : ℕ) (v : View H) → get_elem? s.views j ≡ some v → Fits at queue history serving s.homes j v
     pub holders : total holds_ticket s.views ≡ length queue
     pub first : CountsTheOthers at s.views
-    -- each receipt is the place of an entry of the log, and no place stands twice in all views together
+    -- each receipt is the place of an entry of the log, and no place occurs twice in all views together
     pub places : (place : ℕ) → total (λ v. times place v.receipts) s.views ≤ once_below place (length (log_of history))
     -- while nobody is in turn, the slot is at home with a value of the one head, whose log is that of the history
     pub free : NoneInTurn s.views → (value : T) × (s.homes ≡ some (Some value) ∷ []) × (head value ≡ at) × (log value ≡ log_of history)

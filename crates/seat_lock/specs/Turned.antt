@@ -33,8 +33,8 @@ pub record Turned {T H : Type 0} (head : T → H) (log : T → List LogEntry) (b
   -- a turn that leaves the log as it was is idle, and one that adds an entry is that entry
   pub idle : log left ≡ log found → turn ≡ None
   pub adds : (entry : LogEntry) → log left ≡ log found ++ entry ∷ [] → turn ≡ Some entry
-  -- the place of an entry that was added is the length of the log before it: there the entry stands, behind all places
-  -- that the seat had, and no place stands twice
+  -- the place of an entry that was added is the length of the log before it: the entry is there, behind all places that the seat had, and
+  -- no place occurs twice
   pub receipts : after.receipts ≡ with_receipt turn (length (log found)) before.receipts
   pub stands : (entry : LogEntry) → turn ≡ Some entry → slice_get (log left) (length (log found)) ≡ Some entry
   pub later : All (λ place. place < length (log found)) before.receipts

@@ -1,4 +1,4 @@
--- Derived. What a seat's view says after each step, and what a step tells its seat: `Turned`, `split_off` and `after_join` say what comes of it.
+-- Derived. A seat's view after each step, and what a step shows its seat: `Turned`, `split_off` and `after_join` state the result.
 use Rattle.std.specs.Prelude.{◌≡◌, ◌≢◌, ◌⊎◌, ℕ, suc, ◌-◌, ◌<◌, List, [], ◌∷◌, ◌++◌, length, Option, Some, None}
 use Rattle.std.specs.List.{All}
 use Rattle.atomic_table.specs.Table.{Me, Step}
@@ -100,7 +100,7 @@ module _ {T H : Type 0} where
       (before.0.ticket ≡ Some found → BeginsTurn head log before found after)
       × (before.0.ticket ≢ Some found → after ≡ (with_served (Some found) before.0, []))
 
-  -- the turn ends, with an entry or without one: the log of the value that was given back tells which
+  -- the turn ends, with an entry or without one: the log of the value that was put back shows which
   abbrev pub EndsTurn : (T → List LogEntry) → Me (Option T) (View H) → T → Me (Option T) (View H) → Type 0
   EndsTurn log before value after =
       ((log value ≡ log_of before.0.seen) × (after ≡ (after_turn None before.0, [])))

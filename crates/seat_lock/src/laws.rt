@@ -8,7 +8,7 @@ pub fn later_logs_begin_with_earlier_ones()
     ensures { (earlier later : History) → Begins earlier later → Begins (log_of earlier) (log_of later) }
 {}
 
-/// What stands at a place of the log stands there in the log of each longer history.
+/// The entry at a place of the log is at that place in the log of each longer history.
 #[tactic(auto, using(crate::proofs::Histories::places_keep_entries))]
 pub fn places_keep_their_entries()
     ensures { (earlier later : History) (place : ℕ) (entry : LogEntry) → Begins earlier later → slice_get (log_of earlier) place ≡ Some entry → slice_get (log_of later) place ≡ Some entry }

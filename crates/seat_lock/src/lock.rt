@@ -15,10 +15,12 @@ use std::marker::Model;
 use std::snapshot::Snapshot;
 use std::sync::Wait;
 use std::thread;
+use std::time::Duration;
 
-/// The words of the table: the next ticket, and the number served.
+/// The word of the table that holds the next ticket.
 const TICKET: usize = 0;
 
+/// The word of the table that holds the number served.
 const SERVING: usize = 1;
 
 /// The slot of the table, which holds the value.
@@ -26,6 +28,14 @@ const VALUE: usize = 0;
 
 /// How often a waiter looks at the number served before it lets another thread run.
 const LOOKS: u32 = 64;
+
+/// A waiter with more turns than this ahead of its own sleeps.
+const MOST_AWAKE: u64 = 2;
+
+/// For how long a waiter sleeps, in microseconds: for each turn ahead of its own, and at most.
+const SLEEP_FOR_EACH_TURN: u64 = 10;
+
+const LONGEST_SLEEP: u64 = 1_000;
 
 type LockTable<T> = Table<Option<T>, View<<T as Logged>::Head>, Snapshot<T>, LockRule, Global>;
 
@@ -67,7 +77,7 @@ impl<T: Logged> Model for Seat<T> {
     ghost invariant = { λ seat. IsAtRest seat.raw };
 }
 
-// Draws the next ticket.
+/// Draws the next ticket.
 fn draw_ticket<T: Logged>(table: &LockTable<T>, seat: &mut TableSeat<T>) -> u64
     requires lock { (seat.old.table_id ≡ table.now.shared.table_id) × (table.now.shared.table_id.words ≡ 2) }
     requires rest { IsAtRest seat.old }
@@ -77,7 +87,7 @@ fn draw_ticket<T: Logged>(table: &LockTable<T>, seat: &mut TableSeat<T>) -> u64
     table.shared.fetch_add::<DrawTicket>(seat, TICKET, 1)
 }
 
-// Looks at the number served a few times, until it is the seat's ticket: then says so, and the seat's turn has begun.
+//// Looks at the number served a few times, until it is the seat's ticket. The result is whether it is: then the seat's turn has begun.
 fn look_for_turn<T: Logged>(table: &LockTable<T>, seat: &mut TableSeat<T>, ticket: u64) -> bool
     requires lock { (seat.old.table_id ≡ table.now.shared.table_id) × (table.now.shared.table_id.words ≡ 2) }
     requires waits { (seat.old.me.0.ticket ≡ Some ticket) × (seat.old.me.0.served ≢ Some ticket) × (seat.old.me.1 ≡ []) }
@@ -92,7 +102,28 @@ fn look_for_turn<T: Logged>(table: &LockTable<T>, seat: &mut TableSeat<T>, ticke
     false
 }
 
-// Waits until the number served is the seat's ticket. The seat has the slot then.
+/// Lets other threads run. With many turns ahead of its ticket the caller sleeps for about as long as they take, so that few threads look
+/// at the number served at a time. Nobody has to wake it.
+fn stand_back<T: Logged, R: Wait>(rt: &R, table: &LockTable<T>, ticket: u64)
+    requires lock { table.now.shared.table_id.words ≡ 2 }
+{
+    let served = table.shared.peek(SERVING);
+    let ahead = ticket.saturating_sub(served);
+    if ahead <= MOST_AWAKE {
+        thread::yield_now();
+    } else {
+        let micros = ahead.saturating_mul(SLEEP_FOR_EACH_TURN).min(LONGEST_SLEEP);
+        let words = &table.shared;
+        words.park_timeout(
+            rt,
+            SERVING,
+            (served & 0xffff_ffff) as u32,
+            Duration::from_micros(micros),
+        );
+    }
+}
+
+/// Waits until the number served is the seat's ticket. The seat has the slot then.
 fn wait_for_turn<T: Logged, R: Wait>(
     rt: &R,
     table: &LockTable<T>,
@@ -108,12 +139,12 @@ fn wait_for_turn<T: Logged, R: Wait>(
         if look_for_turn(table, seat, ticket) {
             return;
         }
-        thread::yield_now();
+        stand_back(rt, table, ticket);
     }
     unreachable!()
 }
 
-// Does the job on the value in the slot, which the seat has, and ends the turn.
+/// Does the job on the value in the slot, which the seat has, and ends the turn.
 fn act_in_turn<T: Logged, J: Job<T>>(
     table: &LockTable<T>,
     seat: &mut TableSeat<T>,
@@ -143,7 +174,7 @@ fn act_in_turn<T: Logged, J: Job<T>>(
 impl<T: Logged> SeatLock<T> {
     /// A lock over the value, and its first seat, which has seen the value's log.
     ///
-    /// The value is dropped if there is no memory.
+    /// An `Err` is out of memory, and drops the value.
     pub fn new(alloc: Global, value: T) -> Result<(SeatLock<T>, Seat<T>), Memory>
     where
         T: Drop,
@@ -172,7 +203,7 @@ impl<T: Logged> SeatLock<T> {
         act_in_turn(&self.table, raw, job)
     }
 
-    /// Splits a seat off the first one. It takes no memory.
+    /// Splits a seat off the first one, of which fewer than 2^64 - 2 are out. It takes no memory.
     pub fn split(&self, seat: &mut Seat<T>) -> Seat<T>
         requires lock { seat.old.lock ≡ self.now }
         requires first { seat.old.number ≡ 0 }
@@ -196,7 +227,7 @@ impl<T: Logged> SeatLock<T> {
 
     /// The value, once every seat that was split off the first one is joined in again.
     ///
-    /// The seat has the receipts of all seats then. No place stands in them twice, and each is a place of the log.
+    /// The seat has the receipts of all seats then. No place is in them twice, and each is a place of the log.
     pub fn close(self, seat: Seat<T>) -> T
         requires lock { seat.lock ≡ self }
         requires first { seat.number ≡ 0 }

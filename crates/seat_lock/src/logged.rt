@@ -17,10 +17,10 @@ pub trait Job<T: Logged> {
     /// What the turn answers.
     type Out;
 
-    // What the job needs to know of the head.
+    /// What the job needs to know of the head.
     ghost fits: { Self → T.Head → Type 0 };
 
-    // What it does: of the job, the value before, the value after and the answer.
+    /// What the job does: a relation of the job, the value before, the value after and the answer.
     ghost does: { Self → T → T → Self.Out → Type 0 };
 
     /// Does the job. The value keeps its head, and its log stays or gains one entry at its end.
