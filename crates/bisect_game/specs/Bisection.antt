@@ -16,8 +16,8 @@ use Rattle.bisect_game.specs.declared.settled.Side.TheVariants.{First, Second}
 use Rattle.bisect_game.specs.Ruling.{Ruling, same_digest}
 use Rattle.bisect_game.specs.Closing.{is_step, close_of}
 
--- a dispute: its stage and number, its fan (in how many parts a round cuts the interval; bisection is the fan 2), its sides, the
--- interval where it stands, the rounds that went on, what is settled of the last round, and how it closed
+-- a dispute: its stage and number, its fan (in how many parts a round cuts the interval; bisection is the fan 2), its sides, its interval,
+-- the past rounds, what is settled of the last round, and how it closed
 pub record Bisection : Type 0 where
   pub stage : ℕ
   pub number : ℕ
@@ -125,7 +125,7 @@ abbrev pub closed_or : Bisection → Bisection → Option Close → Bisection
 closed_or d further (Some c) = closed_with d c
 closed_or d further None = further
 
--- a round of which both sides are settled closes the dispute, or the dispute goes on with the kept part
+-- a round of which both sides are settled closes the dispute, or the dispute continues with the kept part
 unfoldable pub decided : Ruling → Bisection → Settled → Settled → Bisection
 decided ruling d a b = closed_or d (went_on d a b) (close_of ruling d.place a b)
 
@@ -146,11 +146,11 @@ abbrev pub asks : Side → Bisection → Bool
 asks First d = is_none d.by_first && not (is_closed d)
 asks Second d = is_none d.by_second && not (is_closed d)
 
--- the bisection rounds of a dispute: those that went on, and the one that is asked or closed it
+-- the bisection rounds of a dispute: the past ones, and the last one unless it is the proof round
 abbrev pub rounds_of : Bisection → ℕ
 rounds_of d = length d.past + (if is_step d.place then 0 else 1)
 
--- the proof rounds among rounds that went on, and those of a dispute
+-- the proof rounds among past rounds, and those of a dispute
 abbrev pub proof_rounds_in : List Round → ℕ
 proof_rounds_in [] = 0
 proof_rounds_in (r ∷ rs) = (if nat_le (r.hi - r.lo) 1 then 1 else 0) + proof_rounds_in rs

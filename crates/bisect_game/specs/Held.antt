@@ -12,7 +12,7 @@ use Rattle.bisect_game.specs.Bisection.{Bisection, asks, settle_side}
 use Rattle.bisect_game.specs.Truth.{own_answer}
 use Rattle.bisect_game.specs.Disputes.{Answers, dispute_of, played}
 
--- what is settled of a side in the round after this many: one that went on, or the last
+-- what is settled of a side in the round after this many: a past one, or the last
 abbrev pub settled_after_rounds : Side → List Round → Option Settled → ℕ → Option Settled
 settled_after_rounds side [] last zero = last
 settled_after_rounds side [] last (suc k) = None

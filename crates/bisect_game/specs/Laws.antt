@@ -24,7 +24,7 @@ pub record IsNarrower (i j : Interval) : Type 0 where
   pub high : j.hi ≤ i.hi
   pub less : j.hi - j.lo < i.hi - i.lo
 
--- it closed where it stood
+-- it closed, with the same interval
 pub record HasClosed (d e : Bisection) : Type 0 where
   pub closed : is_closed e ≡ true
   pub stays : e.place ≡ d.place
@@ -51,7 +51,8 @@ above i x = record i { lo = middle i.lo i.hi; agreed = x }
 abbrev pub below : Interval → Digest32 → Digest32 → Interval
 below i x y = record i { hi = middle i.lo i.hi; first = x; second = y }
 
--- rounds of two parts are bisection: the root at the middle is asked, equal roots go on above it, and different ones below
+-- rounds of two parts are bisection: the root at the middle is asked; the interval above it is kept if the roots are equal, and the one
+-- below if they differ
 pub record HalvesAreBisection : Type 0 where
   pub middle_ : (lo hi : ℕ) → cut lo hi 2 1 ≡ middle lo hi
   pub asked : (lo hi : ℕ) → 1 < hi - lo → kind_over 2 lo hi ≡ kind.Root (middle lo hi)
@@ -105,7 +106,7 @@ pub record IsFew (fan bound : ℕ) (i : Interval) (rounds : ℕ) : Type 0 where
   pub asked : fan ^ rounds < fan * bound
 
 -- an answer of either side keeps the rounds few: F^k < F * N for k rounds of F parts over the bound N, so that there are never
--- more than N has binary digits; and no proof round goes on
+-- more than N has binary digits; and no proof round is followed by another round
 pub record RoundsAreFew : Type 0 where
   pub kept : (ruling : Ruling) (bound : ℕ) (by : Side) (s : Settled) (d : Bisection) → 1 < d.fan → IsFew d.fan bound d.place (length d.past) →
       IsFew d.fan bound (settle_side ruling by s d).place (length (settle_side ruling by s d).past)

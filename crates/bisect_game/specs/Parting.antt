@@ -32,7 +32,7 @@ closed_by_proofs ruling one other step =
     if proves ruling one step && proves ruling other step then closed_by (ruling.step_collision (one.root step) (one.proof step) (other.proof step))
     else Out (not (proves ruling one step)) (not (proves ruling other step))
 
--- a dispute has come to a step from which the two runs part, and has closed by their proofs of it
+-- a dispute has narrowed to a step from which the two runs part, and has closed by their proofs of it
 pub record EndsWhereTheyPart (rules : Rules) (one other : Truth) (d : Bisection) : Type 0 where
   pub within : d.place.lo < rules.setup.bound
   pub step : d.place.hi ≡ d.place.lo + 1

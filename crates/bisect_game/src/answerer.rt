@@ -1,3 +1,4 @@
+//! The traits of provers and of answerers.
 ghost use denote.Param.Send.{IsSync};
 ghost use Rattle.std.specs.Prelude.{◌≡◌, ◌≤◌, ◌<◌, is_none, IfOk, ℕ, Option};
 ghost use Rattle.rd_base.specs.declared.answer.Answer.{Answer};
@@ -10,7 +11,7 @@ use std::thread::Threads;
 
 /// What the provers of a match say: to each question, after this many passes on it, an answer or a pass.
 pub trait Provers {
-    /// Plain data that tells which provers they are. Names and type fix what they say.
+    /// Plain data that identifies the provers. Names and type fix what they say.
     type Names: Copy;
 
     ghost names: { Self → Self.Names };

@@ -1,3 +1,4 @@
+//! A dispute, and the memory that it takes.
 ghost use Rattle.std.specs.Prelude.{◌≡◌, ◌<◌, ◌≤◌, ◌^◌, [], true, false, ◌||◌, Some, None, is_none, option_copied, IfOk, if◌then◌else◌};
 ghost use Rattle.bisect_game.specs.declared.settled.Side.TheVariants.{First, Second};
 ghost use Rattle.bisect_game.specs.Bisection.{prover_of, asks, settle_side, question_of, decided, went_on};
@@ -12,7 +13,7 @@ use rd_base::{Digest32, Memory, Qid};
 use std::alloc::Global;
 use std::marker::Model;
 
-/// The most rounds that can go on below a bound of 2^32, whatever the fan.
+/// The most past rounds of a dispute below a bound of 2^32, whatever the fan.
 const MOST_ROUNDS: usize = 32;
 
 /// The memory of one dispute.
@@ -34,7 +35,8 @@ impl Model for Room {
 }
 
 impl Room {
-    /// Room for a dispute over `bound` steps, from 1 to 2^32 - 1, of which a round cuts its interval in `fan` parts, from 2 to 16.
+    /// Room for a dispute over `bound` steps, from 1 to 2^32 - 1, of which a round cuts its interval in `fan` parts, from 2 to 16. An `Err`
+    /// is out of memory.
     pub fn new(alloc: Global, bound: u64, fan: u32) -> Result<Room, Memory>
         requires some { 0 < bound }
         requires short { bound < 2 ^ 32 }
@@ -153,14 +155,14 @@ impl Dispute {
         }
     }
 
-    /// Where it stands.
+    /// Its interval.
     pub fn interval(&self) -> Interval
         ensures { result ≡ self.now.place }
     {
         self.place
     }
 
-    /// The rounds that went on, the first one first.
+    /// The past rounds, the first one first.
     pub fn rounds(&self) -> &[Round]
         ensures { result.now ≡ self.now.past }
     {
@@ -239,7 +241,7 @@ impl Dispute {
         self.by_second = Some(settled);
     }
 
-    /// A round of which both sides are settled closes the dispute, or the dispute goes on.
+    /// A round of which both sides are settled closes the dispute, or the dispute continues.
     fn decide<J: Judge>(&mut self, judge: &J, first: Settled, second: Settled)
         ensures { self.new ≡ decided (J.ruling (J.names judge.now)) (record self.old { by_first = Some first; by_second = Some second }) first second }
     {
@@ -253,7 +255,7 @@ impl Dispute {
         }
     }
 
-    /// A round that closes nothing is put behind, and the dispute goes on with the part that is kept.
+    /// A round that closes nothing becomes a past one, and the dispute continues with the part that is kept.
     fn go_on(&mut self, first: Settled, second: Settled)
         requires long { is_step self.old.place ≡ false }
         ensures { self.new ≡ went_on self.old first second }

@@ -1,3 +1,4 @@
+//! The trait of a judge.
 ghost use Rattle.std.specs.Prelude.{◌≡◌};
 ghost use Rattle.bisect_game.specs.Ruling.{Ruling, IsFair};
 
@@ -5,7 +6,7 @@ use rd_base::{Claim, Digest32, OpenText, Proof};
 
 /// Who decides about answers.
 pub trait Judge {
-    /// Plain data that tells which judge it is. Names and type fix what it decides.
+    /// Plain data that identifies the judge. Names and type fix what it decides.
     type Names: Copy;
 
     ghost names: { Self → Self.Names };

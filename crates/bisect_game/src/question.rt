@@ -1,3 +1,4 @@
+//! The questions of a match.
 ghost use Rattle.std.specs.Prelude.{◌≡◌};
 ghost use Rattle.bisect_game.specs.Rules.{claim_question};
 

@@ -1,3 +1,4 @@
+//! A round: what it asks, which part it keeps, and how it closes its dispute.
 ghost use Rattle.std.specs.Prelude.{◌≡◌, ◌-◌, ◌<◌, ◌≤◌, ◌∷◌, ◌++◌, [], length, min, slice_index_or};
 ghost use Rattle.bisect_game.specs.Bisection.{cut, kept_part, kept, kind_over, roots_in, roots_of, agreeing};
 ghost use Rattle.bisect_game.specs.Closing.{is_out, is_proved, both_proved, close_of};
@@ -100,7 +101,7 @@ pub fn kept_part(parts: u32, first: &[Digest32], second: &[Digest32]) -> u32
     agreeing(first, second, (parts as usize).saturating_sub(1)) as u32
 }
 
-/// The root at a cut, of which the first stands before the list.
+/// The root at cut `j`. That at cut 0 is `first`, and the list has those after it.
 fn before(first: Digest32, roots: &[Digest32], j: usize) -> Digest32
     requires { j ≤ length roots.now }
     ensures { result ≡ slice_index_or (first ∷ roots.now) j first }
@@ -108,7 +109,7 @@ fn before(first: Digest32, roots: &[Digest32], j: usize) -> Digest32
     if j == 0 { first } else { roots[j - 1] }
 }
 
-/// The root at the cut after it, of which the last stands behind the list.
+/// The root at the cut after `j`. That at the last cut is `last`, and the list has those before it.
 fn after(roots: &[Digest32], last: Digest32, j: usize) -> Digest32
     requires { j ≤ length roots.now }
     ensures { result ≡ slice_index_or (roots.now ++ last ∷ []) j last }

@@ -1,9 +1,9 @@
-//! What a dispute is made of: where it stands, its sides, what their answers were settled as, its rounds, and how it closed.
+//! What a dispute is made of: its interval, its sides, what their answers were settled as, its rounds, and how it closed.
 ghost use Rattle.std.specs.Prelude.{◌≡◌};
 
 use rd_base::{Answer, Digest32, OpenText};
 
-/// Where a dispute stands: two steps, the root on which both sides agree at the lower one, and each side's root at the
+/// The interval of a dispute: two steps, the root on which both sides agree at the lower one, and each side's root at the
 /// upper one. In a dispute they lie within the bound, `lo < hi`, and the two roots at `hi` differ.
 #[derive(Clone, Copy, Debug)]
 pub struct Interval {
@@ -35,11 +35,11 @@ pub enum Settled {
     Given(Answer),
     /// An answer of another kind, an unsound claim, or a list of another length than the cuts.
     Faulty(Answer),
-    /// The prover passed once more than the patience.
+    /// The prover passed one time more than the patience.
     Spent,
 }
 
-/// A round that went on: its interval, and what each side's answer was settled as.
+/// A past round, which closed nothing: its interval, and what each side's answer was settled as.
 #[derive(Debug, Drop)]
 pub struct Round {
     /// The lower step of its interval.
@@ -62,7 +62,7 @@ pub enum Close {
 }
 
 impl Close {
-    /// The same close once more. It takes no memory.
+    /// A copy of the close. It takes no memory.
     pub fn copy(&self) -> Close
         ensures { result ≡ self.now }
     {

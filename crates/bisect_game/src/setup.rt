@@ -1,3 +1,4 @@
+//! The numbers of a match.
 use rd_base::Digest32;
 
 /// The numbers by which a match is played.

@@ -1,3 +1,4 @@
+//! The steps whose roots a round asks for.
 ghost use Rattle.std.specs.Prelude.{◌≡◌, ◌<◌, ◌≤◌, IfOk, length};
 ghost use Rattle.bisect_game.specs.Bisection.{can_cut, steps_asked};
 

@@ -1,4 +1,4 @@
--- To believe: each task is alone. What comes of it depends on its own entries, whatever is posted in between for others.
+-- To believe: each task is alone. Its result depends on its own entries, whatever is posted in between for others.
 use Rattle.std.specs.Prelude.{◌≡◌, ℕ, List, Option, Some}
 use Rattle.rd_base.specs.declared.answer.Answer.{Answer}
 use Rattle.rd_base.specs.declared.answer.Qid.{Qid}
@@ -14,8 +14,8 @@ use Rattle.board_book.specs.Tasks.{Task, numbered, Game, Games, games_of, IsTask
 abbrev pub played : List Entry → Game → Game
 played es g = record { task = g.task; state = turns g.task.rules g.task.says (who es) g.state }
 
--- from any games on: the entries of a task are a legal journal of that task alone, with the same replies, and the task
--- comes to where these alone lead
+-- from any games on: the entries of a task are a legal journal of that task alone, with the same replies, and the task has the state after
+-- these alone
 abbrev pub TasksAreAlone : Type 0
 TasksAreAlone =
     (xs : List (ℕ × Entry)) (games : Games) (t : ℕ) (g : Game) → IsTaskJournal xs games → games t ≡ Some g →
@@ -27,7 +27,7 @@ pub record AreAlike (task : Task) (a b : MatchState) : Type 0 where
   pub replied : (p : ℕ) (qid : Qid) (m : Option Answer) → reply_to task.rules a p qid m ≡ reply_to task.rules b p qid m
   pub recorded : a.record_ ≡ b.record_
 
--- two journals that agree on the entries of a task come to the same question, the same reply and the same record of it
+-- two journals that agree on the entries of a task give the same question, the same reply and the same record of it
 abbrev pub OwnEntriesDecide : Type 0
 OwnEntriesDecide =
     (tasks : List Task) (xs ys : List (ℕ × Entry)) (t : ℕ) (k : Task) (a b : Game) → numbered tasks t ≡ Some k →

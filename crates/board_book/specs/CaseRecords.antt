@@ -1,5 +1,5 @@
--- To believe. No schedule shows in what comes of a case, in the journal's own words: each legal journal after which the match is over comes
--- to the record of the case, and so to its verdict, whoever moved when.
+-- To believe. The result of a case doesn't depend on the schedule, in the journal's own words: each legal journal after which the match is
+-- over ends in the record of the case, and so in its verdict, whoever moved when.
 use Rattle.std.specs.Prelude.{◌≡◌, ℕ, true, List, Some}
 use Rattle.bisect_game.specs.Says.{Says}
 use Rattle.bisect_game.specs.Rules.{Rules, ArePlayable}

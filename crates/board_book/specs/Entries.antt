@@ -34,7 +34,7 @@ abbrev pub who : List Entry → List ℕ
 who [] = []
 who (e ∷ es) = e.p ∷ who es
 
--- the state to which a journal comes: the moves of its provers, one after another
+-- the state after a journal: the moves of its provers, one after another
 abbrev pub state_after : Rules → Says → List Entry → MatchState
 state_after rules says es = turns rules says (who es) (begun rules)
 
@@ -46,7 +46,7 @@ is_stale _ = false
 abbrev pub noted : List Entry → Entry → List Entry
 noted es e = if is_stale e.reply then es else es ++ e ∷ []
 
--- what a prover is asked: the open question with its passes; without one, nothing while the match goes on, and over once it has ended
+-- what a prover is asked: the open question with its passes; without one, nothing while the match isn't over, and else over
 abbrev pub ask_on : MatchState → ℕ → Option Question → Ask
 ask_on st p (Some q) = ask.Question q (passes_of st p)
 ask_on st p None = if is_complete st.record_ then ask.Over else ask.Nothing

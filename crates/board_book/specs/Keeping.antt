@@ -1,4 +1,4 @@
--- Derived: one book and many as they are kept, what a move, or the end of a match, does to one of them, and what stands at a number.
+-- Derived: one book and many as they are kept, what a move, or the end of a match, does to one of them, and the element with a number.
 use Rattle.std.specs.Prelude.{◌≡◌, ℕ, ◌+◌, ◌<◌, ◌≤◌, List, [], ◌∷◌, ◌++◌, length, drop, Some, ◌^◌, map, Option}
 use Rattle.bisect_game.specs.Says.{Says, AnswerAs}
 use Rattle.bisect_game.specs.Ruling.{Ruling}
@@ -55,7 +55,7 @@ pub record AreNumbered {N M : Type 0} (ruling : N → Ruling) (says : M → Says
   pub opening : (heads : List (Opening N M)) (t : ℕ) (h : Opening N M) → numbered heads t ≡ Some h → numbered (tasks_of ruling says heads) t ≡ Some (task_of ruling says h)
   pub task : (heads : List (Opening N M)) (t : ℕ) (k : Task) → numbered (tasks_of ruling says heads) t ≡ Some k → (0 < t) × (t ≤ length heads)
 
--- the entries of a task are told from those of others, block by block
+-- the entries of a task are separated from those of others, block by block
 pub record AreToldApart : Type 0 where
   pub joined : (t : ℕ) (xs ys : List (ℕ × Entry)) → entries_of t (xs ++ ys) ≡ entries_of t xs ++ entries_of t ys
   pub own : (t : ℕ) (es : List Entry) → entries_of t (of_task t es) ≡ es

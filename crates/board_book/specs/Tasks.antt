@@ -1,5 +1,5 @@
 -- To believe: many tasks, each a match of its own, and one journal of all of them. An entry moves one task, and leaves the others as they
--- stand; so does a post.
+-- are; so does a post.
 use Rattle.std.specs.Prelude.{◌≡◌, ℕ, ◌-◌, ◌==◌, List, [], ◌∷◌, map, Option, Some, None, slice_get, if◌then◌else◌, zero, suc, ◌+◌, ◌++◌, set, is_none}
 use Rattle.std.specs.Option.{option_map}
 use Rattle.bisect_game.specs.Says.{Says}
@@ -55,7 +55,7 @@ module _ {N M : Type 0} where
 abbrev pub numbered : {A : Type 0} → List A → ℕ → Option A
 numbered xs t = if t == 0 then None else slice_get xs (t - 1)
 
--- a task in play: its match has come to this state
+-- a task in play: its match is in this state
 pub record Game : Type 0 where
   pub task : Task
   pub state : MatchState
@@ -89,7 +89,7 @@ abbrev pub IsTaskJournal : List (ℕ × Entry) → Games → Type 0
 IsTaskJournal [] games = Unit {0}
 IsTaskJournal (x ∷ xs) games = IsTaskEntry games x × IsTaskJournal xs (after_entry x games)
 
--- the games to which it comes
+-- the games after it
 abbrev pub games_after : List (ℕ × Entry) → Games → Games
 games_after [] games = games
 games_after (x ∷ xs) games = games_after xs (after_entry x games)

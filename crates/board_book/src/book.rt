@@ -1,3 +1,4 @@
+//! The book of one match.
 ghost use denote.Param.Send.{IsSync};
 ghost use Rattle.std.specs.Prelude.{◌≡◌, ◌+◌, ◌<◌, ◌≤◌, ◌^◌, ◌∷◌, ◌++◌, [], ℕ, List, Some, None, if◌then◌else◌, IfOk, IfErr, IfSome, IfNone, length, true, is_none};
 ghost use Rattle.bisect_game.specs.declared.question.Question.{Question};
@@ -29,7 +30,7 @@ use tournament::{
     one_record_of_a_case, spare_is_enough, truthful_provers_are_safe,
 };
 
-/// Whether a reply says that nothing changed.
+/// Whether a reply is `Stale`, so that nothing changed.
 fn is_stale(reply: Reply) -> bool
     ensures { result ≡ is_stale reply }
 {
@@ -153,8 +154,8 @@ impl<J: Judge + Drop, P: Provers + Drop> Book<J, P> {
         self.into_game().into_record()
     }
 
-    /// What prover `p`, from 1 to their count, is asked: `Nothing` if and only if it has no open question and the match goes
-    /// on, `Over` if and only if it has none and the match has ended.
+    /// What prover `p`, from 1 to their count, is asked: `Nothing` if and only if it has no open question and the match isn't over, `Over`
+    /// if and only if it has none and the match has ended.
     pub fn ask(&self, p: u32) -> Ask
         requires some { 0 < p }
         requires few { p ≤ self.now.opening.setup.provers }
@@ -287,8 +288,8 @@ impl<J: Judge + Drop, P: Provers + Drop> Book<J, P> {
         Ok(())
     }
 
-    /// Plays the match out on one thread, with one answerer for each prover, which answers as that prover. An answerer may
-    /// find no memory: the book is then a legal one, part played.
+    /// Plays the match out on one thread, with one answerer for each prover, which answers as that prover. An `Err` comes if an answerer
+    /// found no memory: the book is then a legal one, part played.
     pub fn finish_alone<R: Threads + Sync, A: Answerer>(
         &mut self,
         rt: &R,

@@ -56,7 +56,7 @@ fn room_of<J: Judge + Drop, P: Provers + Drop>(books: &[Book<J, P>]) -> u64
     total
 }
 
-/// Notes the entries from this place on as those of task t.
+//// Notes the entries from this place on as those of task `t`.
 fn note_from(journal: &mut Vec<(u32, Entry)>, t: u32, entries: &[Entry], from: usize)
     requires within { from ≤ length entries.now }
     requires room { length journal.old.items + (length entries.now - from) ≤ journal.old.cap }
@@ -105,7 +105,7 @@ impl<J: Judge + Drop, P: Provers + Drop> Books<J, P> {
         &self.books[t as usize - 1]
     }
 
-    /// What prover `p` of task `t` is asked: `Nothing` if and only if it has no open question and its match goes on, `Over` if and only
+    /// What prover `p` of task `t` is asked: `Nothing` if and only if it has no open question and its match isn't over, `Over` if and only
     /// if it has none and its match has ended.
     pub fn ask(&self, t: u32, p: u32) -> Ask
         requires task { 0 < t }
@@ -232,7 +232,8 @@ impl<J: Judge + Drop, P: Provers + Drop> Books<J, P> {
     }
 
     /// Plays all matches out on one thread, task after task, with one answerer for each prover, which answers as that prover. Provers are
-    /// numbered through all tasks, in order of the tasks. An answerer may find no memory: the books are then legal ones, part played.
+    /// numbered through all tasks, in order of the tasks. An `Err` comes if an answerer found no memory: the books are then legal ones,
+    /// part played.
     pub fn finish_alone<R: Threads + Sync, A: Answerer>(
         &mut self,
         rt: &R,

@@ -1,8 +1,9 @@
+//! The entries of a journal, and what a prover is asked.
 use bisect_game::Question;
 use rd_base::Qid;
 use tournament::Reply;
 
-/// A post that wasn't stale. Its answer stands in the record.
+/// A post that wasn't stale. An answer itself isn't kept here: it is in the record.
 #[derive(Clone, Copy, Debug)]
 pub struct Entry {
     /// The prover's number, from 1.
@@ -20,7 +21,7 @@ pub struct Entry {
 pub enum Ask {
     /// Its open question, and how often it has passed on it.
     Question(Question, u32),
-    /// It has no open question, and the match goes on.
+    /// It has no open question, and the match isn't over.
     Nothing,
     /// The match is over.
     Over,

@@ -6,17 +6,17 @@ ghost use Rattle.board_book.specs.Keeping.{AreNumbered, AreToldApart, SayInOrder
 use bisect_game::{Answerer, Judge, Provers};
 use tournament::one_record_of_a_case;
 
-/// Each task is alone: the entries of a task in a legal journal of all are a legal journal of that task, with the same replies, and
-/// the task comes to where these alone lead (`alone`). Two journals that agree on them come to the same question, the same reply and
-/// the same record of the task (`decide`).
+/// Each task is alone: the entries of a task in a legal journal of all are a legal journal of that task, with the same replies, and the
+/// task has the state after these alone (`alone`). Two journals that agree on them give the same question, the same reply and the same
+/// record of the task (`decide`).
 pub fn tasks_are_alone()
     ensures alone { TasksAreAlone }
     ensures decide { OwnEntriesDecide }
 {}
 
-/// No schedule shows in what comes of a case. Each legal journal of a match, a list of entries, after which the match is over comes to the
-/// record of the case and to its verdict (`case_`); and so do the entries of each task in every legal journal of all tasks after which the
-/// match of that task is over (`task`).
+/// The result of a case doesn't depend on the schedule. Each legal journal of a match, a list of entries, after which the match is over
+/// ends in the record of the case and its verdict (`case_`); and so do the entries of each task in every legal journal of all tasks after
+/// which the match of that task is over (`task`).
 #[tactic(auto, using(crate::proofs::CaseLemmas::journals_have_the_record))]
 pub fn journals_have_the_record_of_the_case()
     ensures case_ { JournalsHaveTheRecordOfTheCase }
@@ -31,7 +31,7 @@ pub fn tasks_are_numbered<J: Judge, P: Provers>()
     ensures { AreNumbered J.ruling P.says }
 {}
 
-/// The entries of a task are told from those of others: of a journal behind another, and of entries that are all its own.
+/// The entries of a task are separated from those of others: in a journal behind another, and in entries that are all its own.
 #[tactic(auto, using(crate::proofs::AloneLemmas::are_told_apart))]
 pub fn entries_are_told_apart()
     ensures { AreToldApart }

@@ -6,9 +6,9 @@
 //! the posts came (`Book::has_the_record_of_the_case`), and a truthful prover is safe (`Book::keeps_truthful_provers`). The laws of
 //! `Match` hold of the book's match (`Book::game`), so rounds are few (`Match::has_few_disputes_and_rounds`).
 //!
-//! Of many books: the joint journal is legal, entry by entry, where the entry's task stands, and the entries of a task are the journal
-//! of that task's own book (`Books::is_legal`). Each task is alone: its entries are a legal journal of it, and fix what it asks, what a
-//! post is answered and its record (`tasks_are_alone`). Every legal journal after which a match is over comes to the record and the verdict of
+//! For many books, the joint journal is legal: each entry is legal in the state of its own task. The entries of a task are the journal of
+//! that task's own book (`Books::is_legal`). Each task is alone: its entries are a legal journal of it, and fix what it asks, what a post
+//! is answered and its record (`tasks_are_alone`). Every legal journal after which a match is over ends in the record and the verdict of
 //! its case (`journals_have_the_record_of_the_case`). The memory of all tasks is taken at the opening.
 //!
 //! Read `opening` and `entry` first, then `book`, `specs/Tasks.antt`, `specs/Alone.antt` and `books`.

@@ -1,3 +1,4 @@
+//! What a book is opened with.
 use bisect_game::Setup;
 
 /// What a book is opened with. No call of a book changes it. Contracts see it of every book, and of every seat of a board.

@@ -1,3 +1,4 @@
+//! How many entries a journal can have.
 ghost use Rattle.std.specs.Prelude.{◌≡◌, ◌+◌, ◌-◌, ◌*◌, ◌<◌, ◌≤◌, ◌^◌};
 ghost use Rattle.tournament.specs.Length.{IsMost, most_entries};
 

@@ -1,4 +1,5 @@
--- To believe. The pipe `judge --full | audit`: what `judge --full` writes of one case, or of each of many tasks, `audit` confirms with its last line.
+-- To believe. The pipe `judge --full | audit`: what `judge --full` writes of one case, or of each of many tasks, `audit` confirms with its
+-- last line.
 use Rattle.std.specs.Prelude.{◌≡◌, ◌<◌, ◌≤◌, ℕ, List, length, codes, ◌++◌, Some}
 use Rattle.rv_step.specs.State.{State}
 use Rattle.case_reader.specs.Case.{CaseData}

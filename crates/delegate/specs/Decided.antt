@@ -98,7 +98,7 @@ answered_for full verdict = answered_by verdict
 abbrev pub balances_in : CaseData → Record → Option Balances
 balances_in c settled = option_map (λ stake. balances_of stake (length c.provers) settled) c.stake
 
--- the text of a match's head, record, balances and verdict. The balances stand in the report alone.
+-- the text of a match's head, record, balances and verdict. The balances are in the report alone.
 abbrev pub match_text : Written → Head → Record → Option Balances → Verdict → List ℕ
 match_text (summary seed) head settled balances verdict = summary_text seed settled verdict
 match_text report head settled balances verdict = report_text head settled verdict balances

@@ -1,5 +1,5 @@
--- To believe. The headline: a prover that claims and answers as the machine's definition says, within its patience, is not
--- eliminated, wins each of its disputes but that of a collision, and the text accepts the sequential run's status and output or shows a collision.
+-- To believe. The headline: a prover that claims and answers as the machine's definition says, within its patience, is not eliminated, wins
+-- each of its disputes but that of a collision, and the text accepts the sequential run's status and output or shows a collision.
 use Rattle.std.specs.Prelude.{◌≡◌, length, ℕ, ◌+◌, ◌-◌, ◌*◌, ◌<◌, ◌⊎◌, false, List, Contains, Some, Ok, slice_get, Bool, true, ◌&&◌, ◌||◌, ◌==◌, [], ◌∷◌}
 use Rattle.std.specs.Option.{option_and_then}
 use Rattle.rv_step.specs.State.{State}
@@ -94,8 +94,8 @@ AreByteStrings (Collision x y) = AreBytes x × AreBytes y
 AreByteStrings (Accept n) = Unit {0}
 AreByteStrings NoneLeft = Unit {0}
 
--- the headline holds of what is written of each case with numbers in range, whose run starts in a valid state, and whose verdict shows strings of bytes if it
--- is a collision
+-- the headline holds of what is written of each case with numbers in range, whose run starts in a valid state, and whose verdict shows
+-- strings of bytes if it is a collision
 abbrev pub HeadlineOfCases : Type 0
 HeadlineOfCases =
     (m : Deciding) (c : CaseData) (start : State) (p : ℕ) → IsInRange c start →
@@ -113,7 +113,7 @@ KeepsTheTruthful words bytes response =
     (m : Deciding) (c : CaseData) (start : State) (p : ℕ) → IsCase words bytes m c start → IsTruthfulInCase (digest_of m.digest) c start p →
     Headline m response c start p
 
--- COMPLETENESS FOR TASKS: under the line of each task, in their order, stands its text, whole, as of the match of its case alone, and the
+-- COMPLETENESS FOR TASKS: under the line of each task, in their order, is its text, whole, as of the match of its case alone, and the
 -- answer is the gravest
 abbrev pub AnswersTheTasks : List (List ℕ) → List ℕ → Response → Type 0
 AnswersTheTasks words bytes response =

@@ -1,6 +1,7 @@
--- To believe. THE SENTENCE IN SHORT: if a prover of the case is `{}`, the last line that is written accepts what the machine's definition computes, or
--- shows two different strings of one digest; of tasks, the part of each that has such a prover. What is named is how arguments, a case and its image are read, the
--- machine, and two lines of text: of the provers only that one of them is `{}`, and nothing of how a match is played, committed or judged.
+-- To believe. THE SENTENCE IN SHORT: if a prover of the case is `{}`, the last line that is written accepts what the machine's definition
+-- computes, or shows two different strings of one digest; of tasks, the part of each that has such a prover. What is named is how
+-- arguments, a case and its image are read, the machine, and two lines of text: of the provers only that one of them is `{}`, and nothing
+-- of how a match is played, committed or judged.
 use Rattle.std.specs.Prelude.{◌≡◌, ◌≢◌, ◌<◌, ◌≤◌, slice_index, slice_get, ◌⊎◌, ℕ, ◌-◌, List, Contains, All, length, codes, ◌++◌, Option, option_map, Some, Ok}
 use Rattle.std.specs.Io.KnownBytes.{Appends}
 use Rattle.hex.specs.Hex.{encode_lower}
@@ -113,8 +114,8 @@ pub record TaskEnds (name : DigestName) (final : State) (tasks t : ℕ) (text : 
   pub stands : StandsUnder tasks t part text
   pub ends : HasLastLine (accepting final) part.text ⊎ ShowsTwoStrings name part.text
 
--- THE SENTENCE, of arguments, bytes, status and text: `judge` ends so if one prover is `{}`, whatever the others say; of tasks each part ends so whose task
--- has such a prover; and `run` writes that answer
+-- THE SENTENCE, of arguments, bytes, status and text: `judge` ends so if one prover is `{}`, whatever the others say; of tasks each part
+-- ends so whose task has such a prover; and `run` writes that answer
 pub record SaysInShort (words : List (List ℕ)) (bytes : List ℕ) (status : ℕ) (text : List ℕ) : Type 0 where
   pub judge : (asked : MatchText) (name : DigestName) (c : CaseData) (start : State) → chosen words ≡ Some (Judge asked name) →
       IsCaseOf bytes c → IsStartOf c start → Contains c.provers honest →
@@ -129,7 +130,7 @@ pub record SaysInShort (words : List (List ℕ)) (bytes : List ℕ) (status : �
 abbrev pub big_start : ℕ → State
 big_start seed = started 1 (laid no_bytes 0x10000 program) 0x10000 (input_of seed)
 
--- its bound, a definition of its own so that a number of steps stands where nothing computes
+-- its bound, a definition of its own so that nothing computes with the number of steps
 unfoldable pub big_bound : ℕ
 big_bound = 65536
 

@@ -1,5 +1,5 @@
--- To believe. The responses to what is refused: each names the first rule that is broken. Out of memory is no rule, and what stands beside it
--- here is never answered: a law says that each refusal has a text (`Answering.antt`).
+-- To believe. The responses to what is refused: each names the first rule that is broken. Out of memory is no rule, and the texts for it
+-- here are never answered: a law states that each refusal has a text (`Answering.antt`).
 use Rattle.std.specs.Prelude.{ℕ, List, [], ◌++◌, codes, decimal, Result, Ok, Err, Option, Some, None}
 use Rattle.case_reader.specs.Key.{key_text}
 use Rattle.case_reader.specs.declared.fault.Key.TheVariants.{Bound}

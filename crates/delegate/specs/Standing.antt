@@ -36,7 +36,8 @@ AreAllInRange [] starts = Unit {0}
 AreAllInRange (c ∷ cs) [] = Unit {0}
 AreAllInRange (c ∷ cs) (start ∷ starts) = IsInRange c start × AreAllInRange cs starts
 
--- what only its run shows of a case that was decided so: it is in range, a collision is of strings of bytes, and if its full text is written each of its answers has a wire form
+-- what only its run shows of a case that was decided so: it is in range, a collision is of strings of bytes, and if its full text is
+-- written each of its answers has a wire form
 pub record IsPlayed (m : Deciding) (c : CaseData) (start : State) : Type 0 where
   pub range : IsInRange c start
   pub strings : AreByteStrings (verdict_of_record (digest_of m.digest) c start (record_of_case (digest_of m.digest) c start))
@@ -65,7 +66,7 @@ DecidesInRange command bytes = (m : Deciding) → decides command ≡ Some m →
 abbrev pub CasesAreInRange : List (List ℕ) → List ℕ → Type 0
 CasesAreInRange words bytes = (m : Deciding) → option_and_then decides (chosen words) ≡ Some m → AreInRangeIfThere m (tasks_for m.written bytes)
 
--- the machines in which the runs of tasks start, the first of which has this number, stand behind those that were there
+-- the machines in which the runs of tasks start, the first of which has this number, are behind those that were there
 pub record AreStarted (number : ℕ) (cs : List CaseData) (before now : List Machine) : Type 0 where
   pub added : List Machine
   pub are : now ≡ before ++ added
@@ -86,7 +87,8 @@ responses m [] ends = []
 responses m (c ∷ cs) [] = []
 responses m (c ∷ cs) (end ∷ ends) = response_of m c end.setup.start end.match_record end.verdict ∷ responses m cs ends
 
--- what is shown of a match that has ended so: a collision is of strings of bytes, and if its full text is written each of its answers has a wire form
+-- what is shown of a match that has ended so: a collision is of strings of bytes, and if its full text is written each of its answers has a
+-- wire form
 pub record IsShown (m : Deciding) (settled : Record) (verdict : Verdict) : Type 0 where
   pub strings : AreByteStrings verdict
   pub written : m.written ≡ full → AreWritten (moves_of settled)

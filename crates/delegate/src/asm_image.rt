@@ -60,8 +60,9 @@ fn load_words(alloc: Global, words: &[u32]) -> Result<Loaded, AsmImageFault>
 
 /// Loads the image of an assembly text: the flat one of its words.
 ///
-/// `Text` is the text's first fault, and is tested before `Image`, the first rule of images that is broken: more than 4,194,304 bytes
-/// of words, or a text of more than 16,777,216 bytes. `Memory` is out of memory.
+/// A text of more than 16,777,216 bytes isn't assembled: it is `Image` with the fault of an image that is too large. Else `Text` is the
+/// text's first fault, and if it has none, `Image` is the first rule of images that its words break: they have more than 4,194,304 bytes.
+/// `Memory` comes if memory ran out.
 #[tactic(auto, unfolding(crate::specs::AsmImage::asm_at))]
 pub fn load_asm(alloc: Global, text: &[u8]) -> Result<Loaded, AsmImageFault>
     ensures { Gives AsmImageFault.Memory loaded_of result (asm_at text.now) }

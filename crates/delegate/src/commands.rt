@@ -1,4 +1,5 @@
-//! The commands, each in a module of its own, and which one is carried out.
+//! The commands, each in a module of its own, and which one is carried out. An `Err` is a refusal, with the response to it, or out of
+//! memory.
 ghost use Rattle.std.specs.Prelude.{IfOk};
 ghost use Rattle.command_line.specs.Words.{AreAtLeastOne};
 ghost use Rattle.delegate.specs.Alone.{command_of};

@@ -27,7 +27,7 @@ use transcript_text::{
     a_verdict_is_stated, no_fault_of_a_text_is_out_of_memory, nothing_is_said_against_the_truthful,
 };
 
-/// The headline, of what is written of each case whose numbers are in range, whose run starts in a valid state without output, and
+/// The headline, for what is written of each case whose numbers are in range, whose run starts in a valid state without output, and
 /// whose verdict shows strings of bytes if it is a collision, by the digest of each name: a prover that claims and answers as the
 /// machine's definition says, within its patience, is not eliminated, has its stake and one more for each of its disputes but that of a
 /// collision, if there are deposits, and the text accepts the sequential run's status and output or shows a collision of two different
@@ -41,9 +41,9 @@ pub fn the_headline()
     who_lives_in_a_case_wins_all();
 }
 
-/// The same in short, of a case of which one prover is `{}`: whatever the others say, the last line of what is written accepts what the
+/// The same in short, for a case with a prover `{}`: whatever the others say, the last line of what is written accepts what the
 /// machine's definition computes, or shows two different strings of one digest.
-/// So ends the line of the large workload of each seed (`big`), of whose provers one is `{}`.
+/// The line of the large workload of each seed ends so (`big`), since one of its provers is `{}`.
 pub fn the_headline_in_short()
     ensures short { HeadlineInShort }
     ensures big { BigInShort }
@@ -57,7 +57,7 @@ pub fn judge_accepts_what_run_prints()
     ensures { JudgeAcceptsWhatRunPrints }
 {}
 
-/// What `audit` confirms is right: of every run with the stated root at step 0 in which one prover's lines are all given and true, the
+/// What `audit` confirms is right: for every run with the stated root at step 0 in which one prover's lines are all given and true, the
 /// text states the status and the output, or two different strings of one digest that answers of the text open.
 pub fn confirmed_texts_are_right()
     ensures { ConfirmedTextsAreRight }

@@ -1,4 +1,5 @@
-//! How every command on a case reads it and loads its image, and how tasks are read and loaded.
+//! How every command on a case reads it and loads its image, and how tasks are read and loaded. An `Err` is a refusal, with the response to
+//! it, or out of memory.
 ghost use Rattle.std.specs.Prelude.{◌≡◌, ◌+◌, ◌≤◌, ℕ, List, [], map, length, IfOk};
 ghost use Rattle.std.specs.List.{All};
 ghost use Rattle.rv_step.specs.State.{state_of, IsChained};
@@ -85,8 +86,8 @@ fn image_in(alloc: Global, subject: Subject, case: &Case) -> Result<Loaded, Stop
     }
 }
 
-/// The machine in which the run of the case starts, of the case's version. It has put out nothing, and its chain is that of no output by
-/// every digester. What is refused is refused of this subject.
+/// The machine in which the run of the case starts, of the case's version. It has no output, and its chain is that of no output by every
+/// digester. A refusal names this subject.
 #[tactic(auto, unfolding(crate::specs::Loading::start_in))]
 pub fn start_in(alloc: Global, subject: Subject, case: &Case) -> Result<Machine, Stop>
     ensures stands { Stands state_of result (start_in subject (data_of case.now)) }

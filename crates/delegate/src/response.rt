@@ -16,7 +16,7 @@ pub enum Answered {
     Done,
     /// The arguments name no command. Nothing was read.
     Usage,
-    /// The bytes are no case.
+    /// The bytes are no case, or one with a bound or a format that the command doesn't take.
     Case,
     /// The image can't be loaded.
     Image,
@@ -71,7 +71,7 @@ impl Answered {
     }
 }
 
-/// What a refusal is of.
+/// What a refusal is about.
 #[derive(Clone, Copy, Debug, PartialEq, Eq)]
 pub enum Subject {
     /// All that is read.
@@ -80,7 +80,7 @@ pub enum Subject {
     Task(u32),
 }
 
-/// As it stands in a refusal: nothing, or `task T` and a space.
+/// As a refusal writes it: nothing, or `task T` and a space.
 impl fmt::Display for Subject {
     ghost output = { λ subject. Some (subject_text subject) };
 

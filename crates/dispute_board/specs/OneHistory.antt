@@ -1,5 +1,5 @@
--- To believe: one history on the board. The journal of all tasks is the log of the board's lock; each turn of each seat stands at a point
--- of one legal journal, and what it is answered is what its task alone answers there.
+-- To believe: one history on the board. The journal of all tasks is the log of the board's lock; each turn of each seat is at a point of
+-- one legal journal, and what it is answered is what its task alone answers there.
 use Rattle.std.specs.Prelude.{◌≡◌, ℕ, ◌<◌, List, [], length, Option, Some, None, is_none, if◌then◌else◌, Bool, true, false, ◌∷◌, ◌++◌, map, ◌≢◌, ◌≤◌}
 use Rattle.std.specs.List.{All}
 use Rattle.rd_base.specs.declared.answer.Answer.{Answer}
@@ -86,8 +86,8 @@ MayPostFor tasks t p qid m = (task : Task) → numbered tasks t ≡ Some task �
 abbrev pub IsThere : List Task → ℕ → ℕ → Type 0
 IsThere tasks t p = (task : Task) × (numbered tasks t ≡ Some task) × (0 < p) × (p ≤ task.rules.setup.provers)
 
--- the board's reply: if the prover has an open question and says the move after the passes that stand there, the one of the
--- book; if it says something else there, or has no question, stale, with the open one
+-- the board's reply: if the prover has an open question and says the move after the passes at that point, the one of the book; if it says
+-- something else there, or has no question, stale, with the open one
 pub record IsReply (rules : Rules) (says : Says) (st : MatchState) (p : ℕ) (qid : Qid) (m : Option Answer) (r : Reply) : Type 0 where
   pub said : (q : Question) → open_question rules st.record_ p ≡ Some q → m ≡ says p q (passes_of st p) → r ≡ reply_to rules st p qid m
   pub unsaid : (q : Question) → open_question rules st.record_ p ≡ Some q → m ≢ says p q (passes_of st p) → r ≡ reply.Stale (Some q.qid)
@@ -112,8 +112,8 @@ pub record Stands {H : Type 0} (tasks : List Task) (before : Known H) (journal :
   pub sees : log_of after.seen ≡ log_of_journal (with_entry journal added)
   pub none_joined : after.joined ≡ []
   pub same : SameSeat before after
-  -- the entry's place, which is the length of the journal, is a new receipt behind the others, which are of earlier places; no place
-  -- stands twice
+  -- the entry's place, which is the length of the journal, is a new receipt behind the others, which are of earlier places; no place occurs
+  -- twice
   pub receipts : after.receipts ≡ with_receipt (turn_of added) (length journal) before.receipts
   pub later : All (λ place. place < length journal) before.receipts
   pub none_twice : NoneTwice after.receipts
@@ -126,11 +126,11 @@ entry_unless_stale t e = if is_stale e.reply then None else Some (t, e)
 abbrev pub receipt_of : Reply → ℕ → Option ℕ
 receipt_of r place = if is_stale r then None else Some place
 
--- where a task stands at this point: its own entries alone lead there
+-- the state of a task at this point, which its own entries alone determine
 abbrev pub own_state : Task → ℕ → List (ℕ × Entry) → MatchState
 own_state task t journal = state_after task.rules task.says (entries_of t journal)
 
--- a question of a seat for a prover of task t, where it stands: it is answered as by the task's book of one thread there, and leaves no
+-- a question of a seat for a prover of task t, at its point: it is answered as by the task's book of one thread there, and leaves no
 -- entry; what is asked is what the record of the task's case asks
 pub record AsksOnBoard {H : Type 0} (tasks : List Task) (before : Known H) (t p : ℕ) (ask : Ask) (after : Known H) : Type 0 where
   pub task : Task
@@ -140,7 +140,7 @@ pub record AsksOnBoard {H : Type 0} (tasks : List Task) (before : Known H) (t p 
   pub answer : ask ≡ ask_in task.rules (own_state task t journal) p
   pub asked : (q : Question) (n : ℕ) → ask ≡ variant.Question q n → IsOfTheCase task.rules task.says p q
 
--- a post of a seat for a prover of task t, where it stands: its reply is the board's there, and it leaves its entry, as one of task t,
+-- a post of a seat for a prover of task t, at its point: its reply is the board's there, and it leaves its entry, as one of task t,
 -- if and only if the reply is not stale
 pub record PostsOnBoard {H : Type 0} (tasks : List Task) (before : Known H) (t p : ℕ) (qid : Qid) (m : Option Answer) (posted : Posted) (after : Known H) : Type 0 where
   pub task : Task

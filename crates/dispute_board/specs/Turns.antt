@@ -1,4 +1,4 @@
--- Derived: what one turn does to the books. The clauses of `TaskBoard::ask` and `TaskBoard::post` say it of the one history.
+-- Derived: what one turn does to the books. The clauses of `TaskBoard::ask` and `TaskBoard::post` state it for the one history.
 use Rattle.std.specs.Prelude.{◌≡◌, ℕ, Bool, not, List, length, Option, Some, None, is_none, if◌then◌else◌}
 use Rattle.rd_base.specs.declared.answer.Answer.{Answer}
 use Rattle.rd_base.specs.declared.answer.Qid.{Qid}

@@ -78,7 +78,7 @@ impl<J: Judge + Drop, P: Provers + Drop> Board<J, P> {
     /// Posts in one turn a move of prover `p`, from 1 to their count, on the question of this number.
     ///
     /// If the case asks the prover a question of that number, the move is what the prover says to it after some number of
-    /// passes. The reply is that of the book if the prover says this move after the passes that stand there, and else `Stale`
+    /// passes. The reply is that of the book if the prover says this move after the passes at that point, and else `Stale`
     /// with the open question, and nothing changes.
     pub fn post<R: Wait>(
         &self,
@@ -97,7 +97,7 @@ impl<J: Judge + Drop, P: Provers + Drop> Board<J, P> {
         self.tasks.post(rt, &mut seat.tasks, 1, p, qid, turn)
     }
 
-    /// Splits a seat off the first one. It has seen the same and has no receipts. It takes no memory.
+    /// Splits a seat off the first one, of which fewer than 2^64 - 2 are out. It has seen the same and has no receipts. It takes no memory.
     pub fn split(&self, seat: &mut Seat<J, P>) -> Seat<J, P>
         requires lock { seat.old.lock ≡ self.now }
         requires first { seat.old.number ≡ 0 }
@@ -120,7 +120,7 @@ impl<J: Judge + Drop, P: Provers + Drop> Board<J, P> {
     }
 
     /// The book, once every seat that was split off is joined in again. Its opening is that of the seat, and its journal begins with
-    /// all that was seen. The seat has the receipts of all seats then: no place stands in them twice, and each is a place of the journal.
+    /// all that was seen. The seat has the receipts of all seats then: no place is in them twice, and each is a place of the journal.
     pub fn into_book(self, seat: Seat<J, P>) -> Book<J, P>
         requires lock { seat.lock ≡ self }
         requires first { seat.number ≡ 0 }

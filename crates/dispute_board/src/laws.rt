@@ -1,7 +1,7 @@
 //! Laws: each function has an empty body, and its clauses hold of all journals and tasks.
 ghost use Rattle.dispute_board.specs.OneHistory.{SaidMayBePosted, LogsTellJournals, StartsTellJournals};
 
-/// Different journals have different logs, so a log says all that its journal says. If a log begins with another, so does its
+/// Different journals have different logs, so a log determines its journal. If a log begins with another, so does its
 /// journal.
 #[tactic(auto, using(crate::proofs::Journals::logs_tell, crate::proofs::Journals::starts_tell))]
 pub fn logs_tell_journals()

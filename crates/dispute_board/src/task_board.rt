@@ -64,7 +64,7 @@ impl<J: Judge + Drop, P: Provers + Drop> TaskBoard<J, P> {
     /// Posts in one turn a move of prover `p` of task `t` on the question of this number.
     ///
     /// If the task's case asks the prover a question of that number, the move is what the prover says to it after some number of
-    /// passes. The reply is that of the task's book if the prover says this move after the passes that stand there, and else
+    /// passes. The reply is that of the task's book if the prover says this move after the passes at that point, and else
     /// `Stale` with the open question, and nothing changes. No other task changes.
     pub fn post<R: Wait>(
         &self,
@@ -83,7 +83,7 @@ impl<J: Judge + Drop, P: Provers + Drop> TaskBoard<J, P> {
         self.lock.with_turn(rt, seat, Posting { t, p, qid, turn })
     }
 
-    /// Splits a seat off the first one. It has seen the same and has no receipts. It takes no memory.
+    /// Splits a seat off the first one, of which fewer than 2^64 - 2 are out. It has seen the same and has no receipts. It takes no memory.
     pub fn split(&self, seat: &mut TaskSeat<J, P>) -> TaskSeat<J, P>
         requires lock { seat.old.lock ≡ self.now }
         requires first { seat.old.number ≡ 0 }
@@ -104,7 +104,7 @@ impl<J: Judge + Drop, P: Provers + Drop> TaskBoard<J, P> {
     }
 
     /// The books, once every seat that was split off is joined in again. Their openings are those of the seat, and their journal begins
-    /// with all that was seen. The seat has the receipts of all seats then: no place stands in them twice, and each is a place of the
+    /// with all that was seen. The seat has the receipts of all seats then: no place is in them twice, and each is a place of the
     /// journal.
     pub fn into_books(self, seat: TaskSeat<J, P>) -> Books<J, P>
         requires lock { seat.lock ≡ self }

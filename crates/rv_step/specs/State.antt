@@ -5,8 +5,8 @@ use Rattle.mem_plain.specs.Contents.{Contents}
 use Rattle.digest_core.specs.Chain.{chain_of}
 use Rattle.rv_step.specs.declared.machine.Machine.{Machine}
 
--- x0 to x31, the address of the next instruction, the bytes of memory that aren't 0, the status, the bytes that were put
--- out, the version of the commitment to states, and the input that this version offers
+-- x0 to x31, the address of the next instruction, the bytes of memory that aren't 0, the status, the output, the version of the commitment
+-- to states, and the input that this version offers
 pub record State : Type 0 where
   pub regs : List ℕ
   pub pc : ℕ

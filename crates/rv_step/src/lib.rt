@@ -1,12 +1,12 @@
 //! The machine: RV32IM and its three environment calls, one step at a time (RISC-V Unprivileged ISA 20191213, chapters
 //! 2 and 7).
 //!
-//! The layers above may rely on this: `step` is the definition of the step, and tells the page that it stored to;
-//! `advance` makes as many of them as are asked, or fewer if it runs out of memory. Both keep the output's chain by the digester that is
-//! handed to them, and `Machine::new` begins it for every digester. `need` says from registers alone which one number of
-//! memory an instruction reads or writes, or which byte of the input it reads, and `finish` changes registers and pc and says
-//! what is left to do; that both together are the step, whoever holds memory and the input, is `two_parts_are_the_step`, and
-//! that nothing else is read is `needs_tell_what_is_read`. `touches` gives the page that the next step stores to.
+//! The layers above may rely on this: `step` is the definition of the step, and returns the page that it stored to; `advance` makes as many
+//! of them as are asked, or fewer if it runs out of memory. Both keep the output's chain by the digester that is handed to them, and
+//! `Machine::new` begins it for every digester. `need` finds from registers alone the one number of memory that an instruction reads or
+//! writes, or the byte of the input that it reads. `finish` changes registers and pc, and returns what is left to do. Both together are the
+//! step, whoever holds memory and the input (`two_parts_are_the_step`), and nothing else is read (`needs_tell_what_is_read`). `touches`
+//! gives the page that the next step stores to.
 //!
 //! A machine has a version, that of the commitment to its states. In versions 1 and 2 its input lies in memory; in version 3
 //! it is offered to a call, byte by byte.
@@ -16,7 +16,7 @@
 //! that each machine's state is valid and steps keep it so. `arithmetic_laws` has the manual's sentences on arithmetic, of all words:
 //! sums, products, divisions, shifts, extensions, and that what was stored is loaded.
 //!
-//! Read `specs/Effect.antt` first, which says what each instruction does, and `specs/Step.antt`, which makes a step of
+//! Read `specs/Effect.antt` first, which defines what each instruction does, and `specs/Step.antt`, which makes a step of
 //! that. Then read `stepping`.
 #![tactic(auto)]
 

@@ -1,3 +1,4 @@
+//! Many steps.
 ghost use Rattle.std.specs.Prelude.{◌≡◌, ℕ, ◌<◌, OnOk, OnErr};
 ghost use Rattle.rv_step.specs.State.{state_of, IsChained};
 ghost use Rattle.rv_step.specs.Step.{state_at};
@@ -9,7 +10,7 @@ use digest_core::Digester;
 use rd_base::Memory;
 
 /// This many steps, which keep the chain by the digester `d`. A machine that has stopped stays as it is. An `Err` is out
-/// of memory in one of the steps: fewer were made, and the machine stands before that one, for which memory has to be taken.
+/// of memory in one of the steps: fewer were made, and the machine is before that one, for which memory has to be taken.
 pub fn advance<D: Digester>(machine: &mut Machine, d: &D, steps: u64) -> Result<(), Memory>
     requires { IsChained D.digest_of machine.old }
     ensures ok { OnOk result (state_of machine.new ≡ state_at (state_of machine.old) steps) }

@@ -1,3 +1,4 @@
+//! One step.
 ghost use Rattle.std.specs.Prelude.{◌≡◌, ◌%◌, ◌⊎◌, ◌<◌, ◌^◌, IfOk, IfSome, OnOk, OnErr};
 ghost use Rattle.mem_plain.specs.Contents.{number_at};
 ghost use Rattle.rv_step.specs.Offer.{byte_or_ones};
@@ -53,7 +54,7 @@ fn number_for(asked: &Need, mem: &PlainMem, input: &[u8]) -> u32
     }
 }
 
-/// Finishes an instruction that stores nothing, with the number that was read for it. So it tells no page. An `Err` is out of
+/// Finishes an instruction that stores nothing, with the number that was read for it. So the result names no page. An `Err` is out of
 /// memory, and changes nothing.
 #[inline(always)]
 fn finish_on<D: Digester>(
@@ -87,7 +88,7 @@ fn finish_on<D: Digester>(
     Ok(None)
 }
 
-/// Carries out an instruction that is at `pc`, and tells the page that it stores to. An `Err` is out of memory, and changes nothing.
+/// Carries out an instruction that is at `pc`. The result is the page that it stores to. An `Err` is out of memory, and changes nothing.
 ///
 /// It is inlined with `decode`, so that the instruction isn't written to memory field by field and read back.
 #[inline(always)]
@@ -122,11 +123,11 @@ fn carry_out<D: Digester>(
     }
 }
 
-/// One step: carries out the word at `pc`, and tells the page that it stored to, which is the store's address / 4,096, as
+/// One step: carries out the word at `pc`. The result is the page that it stored to, which is the store's address / 4,096, as
 /// `touches` would have named it before. A machine that has stopped stays as it is. One whose `pc` isn't a multiple
 /// of 4, whose word is no instruction or whose instruction can't be carried out traps, which changes the status
 /// alone. The machine's chain is its output's by the digester `d`, before and after. An `Err` is out of memory, and
-/// changes nothing; it comes only if the step stores to a page in which every byte is 0, or puts out a byte.
+/// changes nothing; it comes only if the step stores to a page in which every byte is 0, or writes a byte of output.
 #[inline(always)]
 pub fn step<D: Digester>(machine: &mut Machine, d: &D) -> Result<Option<u32>, Memory>
     requires { IsChained D.digest_of machine.old }

@@ -15,7 +15,7 @@ use Rattle.tournament.specs.Moves.{MatchState, begun, passes_of}
 use Rattle.tournament.specs.Posting.{Post, record_after}
 use Rattle.tournament.specs.Journals.{turn_on, turns, Legal, answers_of}
 
--- what the round after this many is asked over: one that went on, or the last
+-- what the round after this many is asked over: a past one, or the last
 abbrev pub kind_in : ℕ → Interval → List Round → ℕ → Option Kind
 kind_in fan place [] zero = Some (kind_over fan place.lo place.hi)
 kind_in fan place [] (suc k) = None

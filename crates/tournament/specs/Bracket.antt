@@ -28,7 +28,7 @@ pub record Record : Type 0 where
 abbrev pub nothing_settled : Rules → Record
 nothing_settled rules = record { claims = replicate rules.setup.provers None; disputes = [] }
 
--- THE LIVE: a prover is out whose claim was faulty or spent, or whom a dispute has put out
+-- THE LIVE: a prover is out whose claim was faulty or spent, or whom a dispute has eliminated
 
 abbrev pub is_out_by : Bisection → Option Close → ℕ → Bool
 is_out_by d (Some (close.Out a b)) p = (a && (d.first == p)) || (b && (d.second == p))

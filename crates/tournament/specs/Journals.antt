@@ -1,4 +1,4 @@
--- To believe: moves by the provers' own scripts, in any order, and the record to which they come.
+-- To believe: moves by the provers' own scripts, in any order, and the record in which they end.
 use Rattle.std.specs.Prelude.{◌≡◌, ℕ, zero, suc, ◌+◌, ◌<◌, true, List, [], ◌∷◌, Option, Some, None}
 use Rattle.rd_base.specs.declared.answer.Answer.{Answer}
 use Rattle.bisect_game.specs.declared.question.Question.{Question}
@@ -48,7 +48,7 @@ settled_after rules says p q (suc left) n = said rules q (says p q n) (settled_a
 unfoldable pub answers_of : Rules → Says → Answers
 answers_of rules says p q = Some (settled_after rules says p q rules.setup.patience 0)
 
--- order does not matter: every two complete legal lists of moves of one case come to one record
+-- order does not matter: every two complete legal lists of moves of one case end in one record
 abbrev pub OrderDoesNotMatter : Type 0
 OrderDoesNotMatter =
     (rules : Rules) (says : Says) (ps qs : List ℕ) → ArePlayable rules →

@@ -48,7 +48,7 @@ side_pairs zero xs = []
 side_pairs (suc n) [] = []
 side_pairs (suc n) (x ∷ xs) = elim (take_side x.1 xs) [ None ↦ side_pairs n xs | Some t ↦ (x, t.0) ∷ side_pairs n t.1 ]
 
--- where the first side of another root stands
+-- the place of the first side of another root
 abbrev pub other_from : ℕ → Digest32 → List (ℕ × Digest32) → Option ℕ
 other_from i root [] = None
 other_from i root (x ∷ xs) = if same_digest x.1 root then other_from (i + 1) root xs else Some i
@@ -78,7 +78,7 @@ pub record IsSheet (t : Setup) (r : Record) (rooms : List (ℕ × ℕ)) (free : 
   pub rooms_ : AllRooms t rooms
   pub room : length r.disputes + free + 1 ≡ t.provers
 
--- some posts, in some order, come to the state
+-- some posts, in some order, end in the state
 abbrev pub IsReached : Rules → MatchState → Type 0
 IsReached rules st = (xs : List Post) × (after_posts rules xs (begun rules) ≡ st)
 

@@ -1,4 +1,4 @@
--- To believe: the numbers that stand in the record of a match. Whatever was posted, it has a claim of each prover, and its disputes
+-- To believe: the numbers in the record of a match. Whatever was posted, it has a claim of each prover, and its disputes
 -- are between provers and numbered from 1.
 use Rattle.std.specs.Prelude.{◌≡◌, ℕ, ◌+◌, ◌≤◌, List, [], ◌∷◌, length}
 use Rattle.bisect_game.specs.Rules.{Rules, ArePlayable}

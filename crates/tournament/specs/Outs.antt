@@ -1,4 +1,4 @@
--- To believe: how often a prover is put out, by its claim and by its disputes. Whatever was posted, once at most. Who lives and whose
+-- To believe: how often a prover is eliminated, by its claim and by its disputes. Whatever was posted, once at most. Who lives and whose
 -- claim was given is listed with it among the live, and nobody else is.
 use Rattle.std.specs.Prelude.{◌≡◌, ◌↔◌, ℕ, ◌+◌, ◌-◌, ◌<◌, ◌≤◌, true, List, [], ◌∷◌, Some, slice_get, Contains}
 use Rattle.rd_base.specs.declared.claim.Claim.{Claim}
@@ -11,12 +11,12 @@ use Rattle.tournament.specs.OpenDisputes.{one_if}
 use Rattle.tournament.specs.Posting.{Post, record_after}
 use Rattle.tournament.specs.Theorem.{is_out_by_claim, lives}
 
--- how many of these disputes put a prover out
+-- how many of these disputes eliminated a prover
 abbrev pub outs_in : ℕ → List Bisection → ℕ
 outs_in p [] = 0
 outs_in p (d ∷ ds) = one_if (is_out_by d d.close p) + outs_in p ds
 
--- how often it is put out, by its claim and by disputes
+-- how often it is eliminated, by its claim and by disputes
 abbrev pub outs_of : ℕ → Record → ℕ
 outs_of p r = one_if (is_out_by_claim (slice_get r.claims (p - 1))) + outs_in p r.disputes
 

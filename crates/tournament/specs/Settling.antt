@@ -22,7 +22,7 @@ abbrev pub Fits : Rules → Answers → List (ℕ × Settled) → Record → Typ
 Fits rules f [] t = Unit {0}
 Fits rules f (e ∷ es) t = IsNext rules f t e.0 e.1 × Fits rules f es (settle rules e.0 e.1 t)
 
--- two lists of the same answers in any order, after each of which nothing is open, come to one record
+-- two lists of the same answers in any order, after each of which nothing is open, give one record
 abbrev pub OneRecord : Type 0
 OneRecord =
     (rules : Rules) (f : Answers) (es gs : List (ℕ × Settled)) → ArePlayable rules →

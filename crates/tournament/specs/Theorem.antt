@@ -39,10 +39,10 @@ pub record AreTrue (rules : Rules) (t : Truth) (p : ℕ) (r : Record) : Type 0 w
   pub claim : HasTrueClaimSoFar t r.claims p
   pub disputes : AllTrueIn rules t p r.disputes
 
--- TRUTHFUL PROVERS STAY: it is live, also before its claim is settled, no dispute has put it out, in each of its disputes the
+-- TRUTHFUL PROVERS STAY: it is live, also before its claim is settled, no dispute has eliminated it, in each of its disputes the
 -- agreed root and its own are the run's, and each proof that it gave is proved
 
--- a claim that is faulty or spent puts its prover out
+-- a claim that is faulty or spent eliminates its prover
 abbrev pub is_out_by_claim : Option (Option Settled) → Bool
 is_out_by_claim (Some (Some (Faulty a))) = true
 is_out_by_claim (Some (Some Spent)) = true
@@ -50,7 +50,7 @@ is_out_by_claim (Some (Some (Given a))) = false
 is_out_by_claim (Some None) = false
 is_out_by_claim None = false
 
--- a prover is live until its claim or a dispute puts it out
+-- a prover is live until its claim or a dispute eliminates it
 abbrev pub lives : Record → ℕ → Bool
 lives r p = not (is_out_by_claim (slice_get r.claims (p - 1))) && not (is_out_in r.disputes p)
 

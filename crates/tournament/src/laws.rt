@@ -30,7 +30,7 @@ pub fn posts_settle_what_fits()
 }
 
 /// Truthful provers stay: whatever is posted in whatever order, a prover whose settled answers so far are all given and
-/// true is live, also before its claim is settled, no dispute has put it out, in each of its disputes the agreed root and its own are
+/// true is live, also before its claim is settled, no dispute has eliminated it, in each of its disputes the agreed root and its own are
 /// the run's, and each proof that it gave leads to its own root.
 pub fn truthful_provers_stay()
     ensures { TruthfulStay }
@@ -53,9 +53,9 @@ pub fn claims_collide_as_they_differ()
     ensures least { CollisionIsOfLeastPair }
 {}
 
-/// True moves are true answers: whatever others post, and whatever it posts on questions that aren't its open one, a prover that
-/// passes within the patience on its open questions, or gives the true answers, has only true settled answers (`answers`). So
-/// it is not put out, and once nothing is open it is live and the verdict is right (`safe`).
+/// True moves are true answers: whatever others post, and whatever it posts on questions that aren't its open one, a prover that passes
+/// within the patience on its open questions, or gives the true answers, has only true settled answers (`answers`). So it is not
+/// eliminated, and once nothing is open it is live and the verdict is right (`safe`).
 pub fn true_moves_are_true_answers()
     ensures answers { TrueMovesAreTrueAnswers }
     ensures safe { TrueMovesAreSafe }
@@ -63,9 +63,9 @@ pub fn true_moves_are_true_answers()
     bisection_laws();
 }
 
-/// Truthful provers are safe: of a prover that answers truly within its patience each question that the record of the case
-/// asks it, in whatever order anybody moves, the settled answers are given and true, it is not put out, and once nothing is
-/// open the verdict is right.
+/// Truthful provers are safe: if a prover answers truly within its patience each question that the record of the case asks it, then, in
+/// whatever order anybody moves, its settled answers are given and true, it is not eliminated, and once nothing is open the verdict is
+/// right.
 pub fn truthful_provers_are_safe()
     ensures { TruthfulProversAreSafe }
 {
@@ -83,7 +83,7 @@ pub fn a_match_has_few_disputes_and_rounds()
     bisection_laws();
 }
 
-/// Order does not matter: every two complete lists of the settled answers of one case come to one record, and so do every
+/// Order does not matter: every two complete lists of the settled answers of one case give one record, and so do every
 /// two complete legal lists of moves.
 pub fn order_does_not_matter()
     ensures settled { OneRecord }
@@ -92,7 +92,7 @@ pub fn order_does_not_matter()
     bisection_laws();
 }
 
-/// Every complete legal list of moves of a case comes to the record of the case: the bracket over what each question is
+/// Every complete legal list of moves of a case ends in the record of the case: the bracket over what each question is
 /// settled as.
 pub fn one_record_of_a_case()
     ensures { RecordOfCase }
@@ -137,7 +137,7 @@ pub fn a_record_is_of_its_provers()
     bisection_laws();
 }
 
-/// Nobody is put out twice, whatever was posted: by its claim and its disputes a prover is put out once at most.
+/// Nobody is eliminated twice, whatever was posted: by its claim and its disputes a prover is eliminated once at most.
 pub fn nobody_is_put_out_twice()
     ensures { NobodyIsOutTwice }
 {}
@@ -245,15 +245,15 @@ pub fn sides_have_two_roots()
     bisection_laws();
 }
 
-/// A dispute that has closed has put out a side or has a collision, whatever was posted (`ends`). A collision puts out nobody
-/// (`collisions`), and a prover is in one dispute at most that has put out nobody (`one`).
+/// A dispute that has closed has eliminated a side or has a collision, whatever was posted (`ends`). A collision eliminates nobody
+/// (`collisions`), and a prover is in one dispute at most that has eliminated nobody (`one`).
 pub fn disputes_put_out_or_collide()
     ensures ends { DisputesPutOutOrCollide }
     ensures collisions { CollisionsPutOutNobody }
     ensures one { OneIsUndecided }
 {}
 
-/// A legal list of moves by scripts is one of posts, and comes to the same state: what holds after all posts holds after it.
+/// A legal list of moves by scripts is one of posts, and ends in the same state: what holds after all posts holds after it.
 pub fn legal_moves_are_posts()
     ensures { LegalListsArePosts }
 {}
@@ -268,7 +268,7 @@ pub fn answers_are_of_their_run()
 }
 
 /// Lies are found where they are: whatever was posted, a dispute between two provers that each answer by a run of their own ends where the
-/// runs part (`part`). So against a prover that answers truly, one whose run leaves the true one at step s and goes on by true steps
+/// runs part (`part`). So against a prover that answers truly, one whose run leaves the true one at step s and continues by true steps
 /// is out in the proof of step s - 1, or the dispute closes by a collision of their two proofs (`found`, and `scripts` of provers that
 /// answer by scripts).
 pub fn lies_are_found()

@@ -1,3 +1,4 @@
+//! A match before a judge.
 ghost use Rattle.std.specs.Prelude.{◌≡◌, ◌↔◌, ℕ, ◌+◌, ◌-◌, ◌*◌, ◌<◌, ◌≤◌, ◌^◌, true, false, List, length, Some, None, IfOk, replicate, if◌then◌else◌};
 ghost use Rattle.bisect_game.specs.Truth.{Truth, IsRun};
 ghost use Rattle.bisect_game.specs.declared.setup.Setup.{Setup};

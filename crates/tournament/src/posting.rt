@@ -1,3 +1,4 @@
+//! Moves, replies, and how an answer is judged.
 ghost use Rattle.std.specs.Prelude.{◌≡◌, Some, is_none};
 ghost use Rattle.bisect_game.specs.Rules.{is_fit, judged};
 ghost use Rattle.tournament.specs.Posting.{answer_of, reply_by};
@@ -41,7 +42,7 @@ pub enum Reply {
     Faulty,
     /// It was the pass after the patience: the question is settled against the prover.
     Spent,
-    /// The question isn't the prover's open one, which stands here. Nothing changed, and the move is dropped.
+    /// The question isn't the prover's open one, which this names if there is one. Nothing changed, and the move is dropped.
     Stale(Option<Qid>),
 }
 

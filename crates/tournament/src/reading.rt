@@ -1,3 +1,4 @@
+//! What is read off claims and disputes.
 ghost use Rattle.std.specs.Prelude.{◌≡◌, ◌+◌, ◌<◌, ◌≤◌, ◌^◌, ◌++◌, [], ℕ, length, vec_len, vec_capacity};
 ghost use Rattle.tournament.specs.Bracket.{put_out, is_out_by, collided, all_there, all_out, is_out_in, live_from, collision_with, claims_collision, disputes_collision, question_in, all_closed, lowest, last_stage};
 ghost use Rattle.tournament.specs.Keeping.{asks_of, asked_from, sides};
@@ -6,7 +7,7 @@ use crate::verdict::Verdict;
 use bisect_game::{Close, Dispute, Judge, Question, Settled, Side};
 use rd_base::{Answer, Claim, Digest32, OpenText};
 
-/// Whether a dispute has put a side out.
+/// Whether a dispute has eliminated a side.
 fn has_put_out(dispute: &Dispute) -> bool
     ensures { result ≡ put_out dispute.now.close }
 {
@@ -16,7 +17,7 @@ fn has_put_out(dispute: &Dispute) -> bool
     }
 }
 
-/// Whether a dispute has put the prover out.
+/// Whether a dispute has eliminated the prover.
 fn puts_out(dispute: &Dispute, p: u32) -> bool
     ensures { result ≡ is_out_by dispute.now dispute.now.close p }
 {
@@ -65,7 +66,7 @@ pub(crate) fn all_out(disputes: &[Dispute]) -> bool
     }
 }
 
-/// Whether a dispute has put the prover out.
+/// Whether a dispute has eliminated the prover.
 pub(crate) fn is_out_in(disputes: &[Dispute], p: u32) -> bool
     ensures { result ≡ is_out_in disputes.now p }
 {

@@ -1,3 +1,4 @@
+//! The record of a match.
 ghost use Rattle.std.specs.Prelude.{◌≡◌, ◌+◌, ◌-◌, ◌<◌, ◌≤◌, ◌∷◌, [], length, slice_set, Some, None, IfOk, replicate};
 ghost use Rattle.tournament.specs.Bracket.{put};
 ghost use Rattle.tournament.specs.Keeping.{and_also};

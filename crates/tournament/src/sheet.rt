@@ -1,3 +1,4 @@
+//! A record with the numbers of its match, and the rules of stages and of the verdict.
 ghost use Rattle.std.specs.Prelude.{◌≡◌, ◌+◌, ◌<◌, ◌≤◌, ◌^◌, ◌∷◌, [], length, vec_len, vec_capacity, None, IfSome, IfOk, replicate};
 ghost use Rattle.tournament.specs.Bracket.{put, is_stage_due, last_stage, stage_opened, verdict_of};
 ghost use Rattle.tournament.specs.Keeping.{Sheet, other_from, side_pairs, disputes_over, and_also, AllRooms};
@@ -33,7 +34,7 @@ impl Model for Sheet {
     ghost invariant = { λ s. IsSheet s.setup s.record_ s.rooms.items (vec_len s.rooms) };
 }
 
-/// Where the first prover with another root stands, of provers the first of which stands at `i`.
+/// The place of the first prover with another root, of provers the first of which is at place `i`.
 fn other_from(live: &[(u32, Digest32)], i: usize, root: &Digest32) -> Option<usize>
     requires { i + length live.now < 2 ^ 64 }
     ensures is { result ≡ other_from i root.now live.now }
@@ -103,7 +104,7 @@ impl Sheet {
     }
 
     /// Opens the disputes of a stage: takes the first prover of `live`, opens its dispute with the next one of another root, if there is
-    /// one, and goes on with the others in the same way; `left` first provers at most.
+    /// one, and does the same with the others; for `left` first provers at most.
     fn open_pairs(&mut self, stage: u32, left: u32, live: &mut Vec<(u32, Digest32)>)
         requires few { length self.old.record_.disputes + length (side_pairs left live.old.items) < self.old.setup.provers }
         requires stage { stage ≤ length self.old.record_.disputes + 1 }

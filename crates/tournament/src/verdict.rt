@@ -1,3 +1,4 @@
+//! How a match ended.
 use rd_base::OpenText;
 
 /// How a match ended.

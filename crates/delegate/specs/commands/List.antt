@@ -16,7 +16,7 @@ use Rattle.delegate.specs.declared.response.Subject.TheVariants.{Whole}
 use Rattle.delegate.specs.declared.response.Response.{Response}
 use Rattle.delegate.specs.declared.response.Answered.TheVariants.{Done}
 
--- the word whose first byte, the least, stands at this place. Bytes behind the end are 0.
+-- the word whose first byte, the least, is at this place. Bytes behind the end are 0.
 abbrev pub word_at : List ℕ → ℕ → ℕ
 word_at bytes place = from_le_bytes w32 (slice_index bytes place ∷ slice_index bytes (place + 1) ∷ slice_index bytes (place + 2) ∷ slice_index bytes (place + 3) ∷ [])
 

@@ -23,7 +23,7 @@ use transcript_text::add_root_line;
 /// The most steps of a case whose roots are written.
 pub const MAX_ROOTS_BOUND: u64 = 4_096;
 
-/// That the case's bound is not too large.
+/// Refuses a case whose bound is above `MAX_ROOTS_BOUND`.
 fn bound_in(alloc: Global, case: &Case) -> Result<(), Stop>
     ensures { Stands (λ few. few) result (within_bound (data_of case.now)) }
 {
