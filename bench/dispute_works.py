@@ -8,6 +8,7 @@ RUNS = 3
 BOUNDS = [2**10, 2**16, 2**20, 2**24]
 PROVERS_BOUND = 2**20
 PROVERS = 16
+LATE_BOUND, PASSES = 2**10, 100
 POSTERS, WORKERS = [1, 2, 4, 16], [1, 4]
 TASKS, TASKS_BOUND = 8, 2**20
 TASKS_POSTERS = [1, 4, 16]
@@ -104,6 +105,16 @@ def many_provers(program, folder):
     return shared("16 provers, 2^20", [program, "judge"], source, folder, (lines, RUNNING), POSTERS)
 
 
+def late_provers(program, folder):
+    """Sixteen provers that pass a hundred times on each question: some 34,600 passes."""
+    bound = LATE_BOUND
+    late = {"manner": {"kind": "late", "passes": PASSES}}
+    provers = [{**liar(bound // PROVERS * (number - 1) + 9, number), **late} for number in range(1, PROVERS)] + [late]
+    source = written(folder, "late.json", {**case(bound, provers), "patience": PASSES})
+    lines = 1 + PROVERS + (PROVERS.bit_length() - 1) + (PROVERS - 1) * (rounds(bound) + 2) + 1
+    return shared(f"16 provers, late {PASSES}", [program, "judge"], source, folder, (lines, RUNNING), POSTERS, WORKERS[:1])
+
+
 def many_tasks(program, folder):
     """Tasks of two provers each on one board, beside one of them alone."""
     bound = TASKS_BOUND
@@ -123,5 +134,5 @@ def large_workload(program, folder):
 
 def dispute_lines(program, folder):
     """The lines about matches."""
-    for lines in two_provers, many_provers, many_tasks, large_workload:
+    for lines in two_provers, many_provers, late_provers, many_tasks, large_workload:
         yield from lines(program, folder)
