@@ -7,6 +7,7 @@ ghost use Rattle.checkpoint_run.specs.Recorded.{AreChained, state_of_step, still
 ghost use Rattle.segment_replay.specs.Roots.{IsInputRoot, root_at};
 ghost use Rattle.segment_replay.specs.Cursor.{IsMachineOf, IsBehind, IsFresh, HasTouched};
 
+use crate::replay::Replay;
 use checkpoint_run::{
     Run, advance, machine_at, pages_of_two_places, tampered_runs, tampered_runs_keep_the_input,
 };
@@ -43,7 +44,6 @@ fn machine_up_to<D: Digester>(d: D, run: &Run, goal: u64) -> Result<Machine, Mem
     requires chained { AreChained D.digest_of run.now }
     ensures { IfOk result (λ m. IsMachineOf D.digest_of run.now goal m) }
 {
-    let _still = run.still();
     let every = u64::from(run.every());
     let checkpoint = goal / every;
     let mut at = checkpoint * every;
@@ -61,7 +61,6 @@ fn goal_of(run: &Run, step: u64) -> u64
     ensures same { state_of_step run.now result ≡ state_of_step run.now (min step run.now.bound) }
 {
     tampered_runs();
-    let _bound = run.bound();
     step.min(run.still())
 }
 
@@ -92,17 +91,16 @@ fn touch_named<D: Digester>(tree: &mut MemTree<D>, page: Option<u32>) -> Result<
 
 /// The cursor at a later step, up to the goal, with the pages touched that were written: at the next step, or behind a stretch in which
 /// nothing happens. An `Err` is out of memory.
-fn advance_once<D: Digester>(
-    d: D,
-    run: &Run,
+fn step_towards<D: Digester>(
+    replay: &Replay<'_, D>,
     cursor: Cursor<D>,
     goal: u64,
 ) -> Result<Cursor<D>, Memory>
-    requires machine { IsMachineOf D.digest_of run.now cursor.at cursor.machine }
+    requires machine { IsMachineOf D.digest_of replay.now.run.now cursor.at cursor.machine }
     requires goal { cursor.at < goal }
     ensures later { IfOk result (λ c. cursor.at < c.at) }
     ensures within { IfOk result (λ c. c.at ≤ goal) }
-    ensures machine { IfOk result (λ c. IsMachineOf D.digest_of run.now c.at c.machine) }
+    ensures machine { IfOk result (λ c. IsMachineOf D.digest_of replay.now.run.now c.at c.machine) }
     ensures tree { (old : Contents) → IsBehind D.digest_of cursor.tree old cursor.machine.mem →
         IfOk result (λ c. IsBehind D.digest_of c.tree old c.machine.mem) }
 {
@@ -112,30 +110,30 @@ fn advance_once<D: Digester>(
         mut machine,
         mut tree,
     } = cursor;
-    let pages = advance(d, run, goal, &mut at, &mut machine)?;
+    let pages = advance(replay.d, replay.run, goal, &mut at, &mut machine)?;
     touch_named(&mut tree, pages[0])?;
     touch_named(&mut tree, pages[1])?;
     Ok(Cursor { at, machine, tree })
 }
 
-/// The cursor at a later step, up to the one from which the run stands still. An `Err` is out of memory.
-fn advance_to<D: Digester>(
-    d: D,
-    run: &Run,
+/// The cursor at a later step, up to the one from which the run stands still, with the steps in between carried out. An `Err` is out of
+/// memory.
+fn step_to<D: Digester>(
+    replay: &Replay<'_, D>,
     cursor: Cursor<D>,
     goal: u64,
 ) -> Result<Cursor<D>, Memory>
     requires later { cursor.at ≤ goal }
-    requires goal { goal ≤ still_of run.now }
-    requires machine { IsMachineOf D.digest_of run.now cursor.at cursor.machine }
+    requires goal { goal ≤ still_of replay.now.run.now }
+    requires machine { IsMachineOf D.digest_of replay.now.run.now cursor.at cursor.machine }
     requires tree { IsFresh D.digest_of cursor.tree cursor.machine.mem }
     ensures at { IfOk result (λ c. c.at ≡ goal) }
-    ensures machine { IfOk result (λ c. IsMachineOf D.digest_of run.now goal c.machine) }
+    ensures machine { IfOk result (λ c. IsMachineOf D.digest_of replay.now.run.now goal c.machine) }
     ensures tree { IfOk result (λ c. IsFresh D.digest_of c.tree c.machine.mem) }
 {
     let mut moved = cursor;
     'steps: while moved.at < goal {
-        moved = advance_once(d, run, moved, goal)?;
+        moved = step_towards(replay, moved, goal)?;
     }
     let Cursor {
         at,
@@ -193,21 +191,19 @@ fn release_tree<D: Digester>(cursor: Cursor<D>) -> Result<MemTree<D>, Memory>
 /// The cursor of a step, ahead or behind, up to the one from which the run stands still: its machine is replayed from the last
 /// checkpoint up to the step, and its tree is that of the cursor that is kept, brought up to the machine's memory. So the chunks alone
 /// that differ are digested, and the nodes above them. An `Err` is out of memory.
-fn rewind_to<D: Digester>(
-    d: D,
-    run: &Run,
+fn restore_to<D: Digester>(
+    replay: &Replay<'_, D>,
     cursor: Cursor<D>,
     goal: u64,
 ) -> Result<Cursor<D>, Memory>
-    requires goal { goal ≤ still_of run.now }
-    requires chained { AreChained D.digest_of run.now }
+    requires goal { goal ≤ still_of replay.now.run.now }
     requires tree { IsFresh D.digest_of cursor.tree cursor.machine.mem }
     ensures at { IfOk result (λ c. c.at ≡ goal) }
-    ensures machine { IfOk result (λ c. IsMachineOf D.digest_of run.now goal c.machine) }
+    ensures machine { IfOk result (λ c. IsMachineOf D.digest_of replay.now.run.now goal c.machine) }
     ensures tree { IfOk result (λ c. IsFresh D.digest_of c.tree c.machine.mem) }
 {
     let kept = release_tree(cursor)?;
-    let machine = machine_up_to(d, run, goal)?;
+    let machine = machine_up_to(replay.d, replay.run, goal)?;
     let mut turned = touch_used_pages(kept, &machine.mem)?;
     turned.refresh(&machine.mem)?;
     Ok(Cursor {
@@ -223,31 +219,29 @@ fn rewind_to<D: Digester>(
 fn cursor_at<D: Digester + Send + Sync, R: Threads + Sync>(
     rt: &R,
     alloc: Global,
-    d: D,
-    run: &Run,
+    replay: &Replay<'_, D>,
     kept: Option<Cursor<D>>,
     goal: u64,
 ) -> Result<Cursor<D>, Memory>
-    requires goal { goal ≤ still_of run.now }
-    requires chained { AreChained D.digest_of run.now }
-    requires machine { IfSome kept (λ c. IsMachineOf D.digest_of run.now c.at c.machine) }
+    requires goal { goal ≤ still_of replay.now.run.now }
+    requires machine { IfSome kept (λ c. IsMachineOf D.digest_of replay.now.run.now c.at c.machine) }
     requires tree { IfSome kept (λ c. IsFresh D.digest_of c.tree c.machine.mem) }
     ensures at { IfOk result (λ c. c.at ≡ goal) }
-    ensures machine { IfOk result (λ c. IsMachineOf D.digest_of run.now goal c.machine) }
+    ensures machine { IfOk result (λ c. IsMachineOf D.digest_of replay.now.run.now goal c.machine) }
     ensures tree { IfOk result (λ c. IsFresh D.digest_of c.tree c.machine.mem) }
 {
-    let every = u64::from(run.every());
+    let every = u64::from(replay.run.every());
     if let Some(cursor) = kept {
         if cursor.at <= goal {
             let near = is_cheaper_to_step(&cursor.machine, goal - cursor.at);
             if near || goal / every == cursor.at / every {
-                return advance_to(d, run, cursor, goal);
+                return step_to(replay, cursor, goal);
             }
         }
-        return rewind_to(d, run, cursor, goal);
+        return restore_to(replay, cursor, goal);
     }
-    let machine = machine_up_to(d, run, goal)?;
-    let tree = MemTree::build(rt, alloc, d, &machine.mem)?;
+    let machine = machine_up_to(replay.d, replay.run, goal)?;
+    let tree = MemTree::build(rt, alloc, replay.d, &machine.mem)?;
     Ok(Cursor {
         at: goal,
         machine,
@@ -268,39 +262,35 @@ pub fn run_input_root<D: Digester>(d: D, run: &Run) -> Digest32
     }
 }
 
-/// The root of a step, from the root of the run's input, and a cursor for the next one. From version 2 on those leaves alone of the
+/// The root of a step, and a cursor for the next one. From version 2 on those leaves alone of the
 /// registers are digested that differ from those of the root before. An `Err` is out of memory.
 pub fn root_of_step<D: Digester + Send + Sync, R: Threads + Sync>(
     rt: &R,
     alloc: Global,
-    d: D,
-    run: &Run,
-    input: Digest32,
+    replay: &Replay<'_, D>,
     registers: &mut KeptRegisters<D>,
     kept: Option<Cursor<D>>,
     step: u64,
 ) -> Result<(Cursor<D>, Digest32), Memory>
-    requires chained { AreChained D.digest_of run.now }
-    requires input { IsInputRoot D.digest_of run.now input.0 }
-    requires registers { registers.old ≡ run.now.first.version }
-    requires machine { IfSome kept (λ c. IsMachineOf D.digest_of run.now c.at c.machine) }
+    requires registers { registers.old ≡ replay.now.run.now.first.version }
+    requires machine { IfSome kept (λ c. IsMachineOf D.digest_of replay.now.run.now c.at c.machine) }
     requires tree { IfSome kept (λ c. IsFresh D.digest_of c.tree c.machine.mem) }
     ensures registers { registers.new ≡ registers.old }
-    ensures machine { IfOk result (λ r. IsMachineOf D.digest_of run.now r.0.at r.0.machine) }
+    ensures machine { IfOk result (λ r. IsMachineOf D.digest_of replay.now.run.now r.0.at r.0.machine) }
     ensures tree { IfOk result (λ r. IsFresh D.digest_of r.0.tree r.0.machine.mem) }
-    ensures root { IfOk result (λ r. r.1.0 ≡ root_at D.digest_of run.now step) }
+    ensures root { IfOk result (λ r. r.1.0 ≡ root_at D.digest_of replay.now.run.now step) }
 {
     tampered_runs_keep_the_input();
-    let goal = goal_of(run, step);
-    let cursor = cursor_at(rt, alloc, d, run, kept, goal)?;
+    let goal = goal_of(replay.run, step);
+    let cursor = cursor_at(rt, alloc, replay, kept, goal)?;
     let machine = &cursor.machine;
     let digest = registers.digest(&machine.regs);
     let root = root_of_parts(
-        d,
+        replay.d,
         machine.version,
         cursor.tree.root(),
         digest,
-        input,
+        replay.input,
         machine,
     );
     Ok((cursor, root))

@@ -6,6 +6,7 @@ ghost use Rattle.checkpoint_run.specs.Recorded.{AreChained, state_of_step};
 ghost use Rattle.segment_replay.specs.Roots.{root_at, digests};
 
 use crate::cursor::machine_of_step;
+use crate::replay::Replay;
 use crate::replaying::{Worker, roots_by};
 use checkpoint_run::{Run, tampered_runs_keep_the_input};
 use digest_core::{Digester, Sha256, Weak8};
@@ -104,17 +105,12 @@ impl<D: Digester> KeptRun<D> {
         ensures roots { IfOk result (λ v. digests v.items ≡ map (root_at D.digest_of self.old) steps.now) }
         ensures run { self.new ≡ self.old }
     {
-        let input = self.input.root();
-        roots_by(
-            rt,
-            alloc,
-            self.d,
-            &self.run,
-            input,
-            steps,
-            workers,
-            &mut self.workers,
-        )
+        let replay = Replay {
+            d: self.d,
+            run: &self.run,
+            input: self.input.root(),
+        };
+        roots_by(rt, alloc, &replay, steps, workers, &mut self.workers)
     }
 
     /// The machine of a step with the trees of its version, that of its input shared with the run; above the bound the state of the

@@ -18,6 +18,7 @@
 
 mod cursor;
 mod kept_run;
+mod replay;
 mod replaying;
 
 pub use cursor::run_input_root;

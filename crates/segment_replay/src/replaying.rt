@@ -7,6 +7,7 @@ ghost use Rattle.segment_replay.specs.Cursor.{IsKept};
 ghost use Rattle.segment_replay.specs.Pieces.{ArePieces};
 
 use crate::cursor::{Cursor, machine_of_step, root_of_step, run_input_root};
+use crate::replay::Replay;
 use checkpoint_run::Run;
 use digest_core::Digester;
 use rd_base::{Digest32, Memory, Regs};
@@ -30,23 +31,19 @@ pub struct Worker<D: Digester> {
 fn replayed<D: Digester + Send + Sync, R: Threads + Sync>(
     rt: &R,
     alloc: Global,
-    d: D,
-    run: &Run,
-    input: Digest32,
+    replay: &Replay<'_, D>,
     steps: &[u64],
     worker: &mut Worker<D>,
 ) -> Result<Vec<Digest32>, Memory>
-    requires chained { AreChained D.digest_of run.now }
-    requires input { IsInputRoot D.digest_of run.now input.0 }
-    requires kept { IsKept D.digest_of run.now worker.old }
-    ensures kept { IsKept D.digest_of run.now worker.new }
-    ensures roots { IfOk result (λ v. digests v.items ≡ map (root_at D.digest_of run.now) steps.now) }
+    requires kept { IsKept D.digest_of replay.now.run.now worker.old }
+    ensures kept { IsKept D.digest_of replay.now.run.now worker.new }
+    ensures roots { IfOk result (λ v. digests v.items ≡ map (root_at D.digest_of replay.now.run.now) steps.now) }
 {
     let mut roots = Vec::new(alloc);
     'steps: for step in steps {
         let kept = worker.cursor.take();
         let registers = &mut worker.registers;
-        let (moved, root) = root_of_step(rt, alloc, d, run, input, registers, kept, *step)?;
+        let (moved, root) = root_of_step(rt, alloc, replay, registers, kept, *step)?;
         worker.cursor = Some(moved);
         roots.push(root)?;
     }
@@ -68,22 +65,18 @@ fn piece_at(steps: &[u64], size: usize, place: usize) -> &[u64]
 fn replay_piece<D: Digester + Send + Sync, R: Threads + Sync>(
     rt: &R,
     alloc: Global,
-    d: D,
-    run: &Run,
-    input: Digest32,
+    replay: &Replay<'_, D>,
     steps: &[u64],
     size: usize,
     place: usize,
     worker: &mut Worker<D>,
 )
-    requires chained { AreChained D.digest_of run.now }
-    requires input { IsInputRoot D.digest_of run.now input.0 }
-    requires kept { IsKept D.digest_of run.now worker.old }
-    ensures kept { IsKept D.digest_of run.now worker.new }
-    ensures made { IfOk worker.new.made (λ v. digests v.items ≡ slice_chunk (map (root_at D.digest_of run.now) steps.now) size place) }
+    requires kept { IsKept D.digest_of replay.now.run.now worker.old }
+    ensures kept { IsKept D.digest_of replay.now.run.now worker.new }
+    ensures made { IfOk worker.new.made (λ v. digests v.items ≡ slice_chunk (map (root_at D.digest_of replay.now.run.now) steps.now) size place) }
 {
     let piece = piece_at(steps, size, place);
-    worker.made = replayed(rt, alloc, d, run, input, piece, worker);
+    worker.made = replayed(rt, alloc, replay, piece, worker);
 }
 
 /// How long a piece is if this many steps are cut into at most `workers` pieces of this length, of which the last one may be
@@ -100,17 +93,16 @@ fn piece_size(steps: usize, workers: u32) -> usize
 
 /// At least this many workers of a run. An `Err` is out of memory, after some were added.
 fn add_workers<D: Digester>(
-    d: D,
-    run: &Run,
+    replay: &Replay<'_, D>,
     count: usize,
     workers: &mut Vec<Worker<D>>,
 ) -> Result<(), Memory>
-    requires kept { All (λ w. IsKept D.digest_of run.now w) workers.old.items }
-    ensures kept { All (λ w. IsKept D.digest_of run.now w) workers.new.items }
+    requires kept { All (λ w. IsKept D.digest_of replay.now.run.now w) workers.old.items }
+    ensures kept { All (λ w. IsKept D.digest_of replay.now.run.now w) workers.new.items }
     ensures count { OnOk result (count ≤ vec_len workers.new) }
 {
     'workers: while workers.len() < count {
-        let registers = KeptRegisters::new(d, run.version(), &Regs::new());
+        let registers = KeptRegisters::new(replay.d, replay.run.version(), &Regs::new());
         workers.push(Worker {
             cursor: None,
             registers,
@@ -124,29 +116,23 @@ fn add_workers<D: Digester>(
 fn replay_pieces<D: Digester + Send + Sync, R: Threads + Sync>(
     rt: &R,
     alloc: Global,
-    d: D,
-    run: &Run,
-    input: Digest32,
+    replay: &Replay<'_, D>,
     steps: &[u64],
     size: usize,
     threads: usize,
     workers: &mut [Worker<D>],
 )
     requires threads { 0 < threads }
-    requires chained { AreChained D.digest_of run.now }
-    requires input { IsInputRoot D.digest_of run.now input.0 }
-    requires kept { All (λ w. IsKept D.digest_of run.now w) workers.old }
-    ensures kept { All (λ w. IsKept D.digest_of run.now w) workers.new }
+    requires kept { All (λ w. IsKept D.digest_of replay.now.run.now w) workers.old }
+    ensures kept { All (λ w. IsKept D.digest_of replay.now.run.now w) workers.new }
     ensures count { length workers.new ≡ length workers.old }
-    ensures made { ArePieces (map (root_at D.digest_of run.now) steps.now) size (map (λ w. w.made) workers.new) }
+    ensures made { ArePieces (map (root_at D.digest_of replay.now.run.now) steps.now) size (map (λ w. w.made) workers.new) }
 {
     let work = |place: usize, worker: &mut Worker<D>|
-        requires chained { AreChained D.digest_of run.now }
-        requires input { IsInputRoot D.digest_of run.now input.0 }
-        requires kept { IsKept D.digest_of run.now worker.now }
-        ensures kept { IsKept D.digest_of run.entry.now worker.exit.now }
-        ensures made { IfOk worker.exit.now.made (λ v. digests v.items ≡ slice_chunk (map (root_at D.digest_of run.entry.now) steps.entry.now) size place) }
-    { replay_piece(rt, alloc, d, run, input, steps, size, place, worker) };
+        requires kept { IsKept D.digest_of replay.now.run.now worker.now }
+        ensures kept { IsKept D.digest_of replay.entry.now.run.now worker.exit.now }
+        ensures made { IfOk worker.exit.now.made (λ v. digests v.items ≡ slice_chunk (map (root_at D.digest_of replay.entry.now.run.now) steps.entry.now) size place) }
+    { replay_piece(rt, alloc, replay, steps, size, place, worker) };
     thread::for_each_mut(rt, workers, threads, &work);
 }
 
@@ -175,37 +161,33 @@ fn joined<D: Digester>(alloc: Global, workers: &[Worker<D>]) -> Result<Vec<Diges
     Ok(all)
 }
 
-/// The roots of steps, by the workers that a run keeps, from the root of the run's input. The steps are cut into at most `count` (at
+/// The roots of steps, by the workers that a run keeps. The steps are cut into at most `count` (at
 /// least 1) pieces of consecutive entries, one for each worker, whose cursor stands where it made its last root. A single piece is made in
 /// the caller's thread; other threads help only if its worker has no tree yet. An `Err` is out of memory; a worker that was making a
 /// root then builds its next tree anew.
 pub fn roots_by<D: Digester + Send + Sync, R: Threads + Sync>(
     rt: &R,
     alloc: Global,
-    d: D,
-    run: &Run,
-    input: Digest32,
+    replay: &Replay<'_, D>,
     steps: &[u64],
     count: u32,
     workers: &mut Vec<Worker<D>>,
 ) -> Result<Vec<Digest32>, Memory>
     requires count { 0 < count }
-    requires chained { AreChained D.digest_of run.now }
-    requires input { IsInputRoot D.digest_of run.now input.0 }
-    requires kept { All (λ w. IsKept D.digest_of run.now w) workers.old.items }
-    ensures kept { All (λ w. IsKept D.digest_of run.now w) workers.new.items }
-    ensures roots { IfOk result (λ v. digests v.items ≡ map (root_at D.digest_of run.now) steps.now) }
+    requires kept { All (λ w. IsKept D.digest_of replay.now.run.now w) workers.old.items }
+    ensures kept { All (λ w. IsKept D.digest_of replay.now.run.now w) workers.new.items }
+    ensures roots { IfOk result (λ v. digests v.items ≡ map (root_at D.digest_of replay.now.run.now) steps.now) }
 {
     if steps.is_empty() {
         return Ok(Vec::new(alloc));
     }
     let size = piece_size(steps.len(), count);
     let pieces = piece_count(steps.len(), size);
-    add_workers(d, run, pieces, workers)?;
+    add_workers(replay, pieces, workers)?;
     if pieces == 1 {
-        return replayed(rt, alloc, d, run, input, steps, &mut workers[0]);
+        return replayed(rt, alloc, replay, steps, &mut workers[0]);
     }
-    replay_pieces(rt, alloc, d, run, input, steps, size, pieces, workers);
+    replay_pieces(rt, alloc, replay, steps, size, pieces, workers);
     joined(alloc, workers)
 }
 
@@ -225,8 +207,9 @@ pub fn roots_with_input<D: Digester + Send + Sync, R: Threads + Sync>(
     requires input { IsInputRoot D.digest_of run.now input.0 }
     ensures { IfOk result (λ v. digests v.items ≡ map (root_at D.digest_of run.now) steps.now) }
 {
+    let replay = Replay { d, run, input };
     let mut made = Vec::new(alloc);
-    roots_by(rt, alloc, d, run, input, steps, workers, &mut made)
+    roots_by(rt, alloc, &replay, steps, workers, &mut made)
 }
 
 /// The roots of the run's states of some steps, each in the version of the run, in the order asked; a step may be asked more than

@@ -3,7 +3,7 @@ use Rattle.segment_replay.specs.Cursor.{IsKept}
 use Rattle.segment_replay.proofs.replaying.add_workers.Given as goal
 
 abbrev pub invariant-workers : goal.invariant-workers
-invariant-workers g l = All (λ w. IsKept g.D.Digester.digest_of l.run w) l.workers.items
+invariant-workers g l = All (λ w. IsKept g.D.Digester.digest_of l.replay.run.now w) l.workers.items
 
 abbrev pub decreases-workers : goal.decreases-workers
 decreases-workers g l = l.count - vec_len l.workers

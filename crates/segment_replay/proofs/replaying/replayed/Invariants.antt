@@ -5,6 +5,6 @@ use Rattle.segment_replay.proofs.replaying.replayed.Given as goal
 
 abbrev pub invariant-steps : goal.invariant-steps
 invariant-steps g l = record {
-  so_far : digests l.roots.items ≡ map (root_at g.D.Digester.digest_of l.run) (take l.step-index l.steps);
-  kept : IsKept g.D.Digester.digest_of l.run l.worker;
+  so_far : digests l.roots.items ≡ map (root_at g.D.Digester.digest_of l.replay.run.now) (take l.step-index l.steps);
+  kept : IsKept g.D.Digester.digest_of l.replay.run.now l.worker;
 }

@@ -8,18 +8,18 @@ use Rattle.segment_replay.proofs.replaying.roots_by.Goals as goal
 
 pub replay_pieces-requires-clause-kept : goal.replay_pieces-requires-clause-kept
 replay_pieces-requires-clause-kept g c κs within =
-    subst (All (IsKept g.D.Digester.digest_of c.args.run.now)) (sym c.deref_mut.ensures.value) c.in_ok-add_workers.ensures.kept
+    subst (All (IsKept g.D.Digester.digest_of c.args.replay.now.run.now)) (sym c.deref_mut.ensures.value) c.in_ok-add_workers.ensures.kept
 
 pub returns-clause-kept : goal.returns-clause-kept
 returns-clause-kept g c =
     let same = ap length c.deref_mut.ensures.value in
-    subst (All (IsKept g.D.Digester.digest_of c.args.run.now))
+    subst (All (IsKept g.D.Digester.digest_of c.args.replay.now.run.now))
     (sym (written_back c.add_workers.new.workers.len c.replay_pieces.new.workers (drop (length c.replay_pieces.new.workers) c.add_workers.new.workers.items) (c.add_workers.new.workers.ok.0 ∙ (sym same ∙ sym c.replay_pieces.ensures.count))))
     c.replay_pieces.ensures.kept
 
 pub returns-clause-roots : goal.returns-clause-roots
 returns-clause-roots g c =
-    let f : ℕ → List ℕ = root_at g.D.Digester.digest_of c.args.run.now in
+    let f : ℕ → List ℕ = root_at g.D.Digester.digest_of c.args.replay.now.run.now in
     let size = c.piece_size-size.result in
     let same = ap length c.deref_mut.ensures.value in
     let lent : c.add_workers.new.workers.len ≡ length c.replay_pieces.new.workers = c.add_workers.new.workers.ok.0 ∙ (sym same ∙ sym c.replay_pieces.ensures.count) in

@@ -1,5 +1,5 @@
 use Rattle.segment_replay.proofs.CursorLemmas.{same_unused}
-use Rattle.segment_replay.proofs.cursor.rewind_to.Goals as goal
+use Rattle.segment_replay.proofs.cursor.restore_to.Goals as goal
 
 pub returns-clause-tree : goal.returns-clause-tree
 returns-clause-tree g c =

@@ -1,4 +1,4 @@
-use Rattle.segment_replay.proofs.cursor.advance_to.Goals as goal
+use Rattle.segment_replay.proofs.cursor.step_to.Goals as goal
 
 pub steps-preserved : goal.steps-preserved
 steps-preserved g c = record {

@@ -1,6 +1,6 @@
 use Rattle.std.proofs.Common.{inl, inr}
 use Rattle.segment_replay.proofs.CursorLemmas.{same_more}
-use Rattle.segment_replay.proofs.cursor.advance_once.Goals as goal
+use Rattle.segment_replay.proofs.cursor.step_towards.Goals as goal
 
 pub touch_named-requires : goal.touch_named-requires
 touch_named-requires g c page named = c.in_ok-pages.ensures.pages page ((c.pages_of_two_places.ensures c.in_ok-pages.pages page c.in_ok-pages.ensures.two).1 (inl named))
