@@ -42,8 +42,8 @@ use Rattle.prover_run.specs.Plain.{plain, plain_says}
 use Rattle.case_reader.specs.Case.{CaseData}
 use Rattle.case_match.specs.Match.{rules_of_case, says_of_case, record_of_case, truth_of_case}
 use Rattle.case_match.specs.TruthfulInCase.{IsInRange}
-use Rattle.case_match.specs.PartingRuns.{root_in_game, run_in_game, DisputesOfCasesEndWhereRunsPart}
-use Rattle.case_match.specs.RefutedTampers.{AnswersByItsRun, IsRefutingStep, IsRefutedByStep, AllTampersRefuted, TampersAreRefuted}
+use Rattle.case_match.specs.PartingRuns.{root_in_game, run_in_game, AnswersByItsRun, DisputesOfCasesEndWhereRunsPart}
+use Rattle.case_match.specs.RefutedTampers.{IsRefutingStep, IsRefutedByStep, AllTampersRefuted, TampersAreRefuted}
 use Rattle.case_match.proofs.EndingLemmas.{IsComeTo, come-to}
 use Rattle.case_match.proofs.HonestLemmas.{SaysByScript, proof-of, claim-of, IsPlainRun, plain-true, passes-by, there-at}
 use Rattle.case_match.proofs.SafetyLemmas.{RunsAreTrue}
@@ -92,7 +92,7 @@ module _ (rules : Rules) (truth lie : Truth) (fair : IsFair rules.ruling) (run :
   proves-true : (i : ℕ) → i < rules.setup.bound → proves rules.ruling truth i ≡ true
   proves-true i low = leads-proves (truth.root (i + 1)) (rules.ruling.leads (truth.root i) (truth.proof i)) (run.leads i low)
 
-  refuted-second : (At : ℕ → Type 0) (d : Bisection) → IsTrueBut rules truth lie At → EndsWhereTheyPart rules truth lie d → EndsAt At (Out false true) d ⊎ HasCollided d
+  refuted-second : (At : ℕ → Type 0) (d : Bisection) → IsTrueBut rules truth lie At → EndsWhereTheyPart rules truth lie d → EndsAt At (Out false true) d ⊎ HasCollided rules.ruling truth lie d
   refuted-second At d but e =
       let i = d.place.lo in
       let mine : proves rules.ruling truth i ≡ true = proves-true i e.within in
@@ -100,17 +100,21 @@ module _ (rules : Rules) (truth lie : Truth) (fair : IsFair rules.ruling) (run :
       elim (cases_Bool (proves rules.ruling lie i)) [
         | inl proved ↦
             let leads : rules.ruling.leads (lie.root i) (lie.proof i) ≡ Some (lie.root (i + 1)) = proves-leads (lie.root (i + 1)) (rules.ruling.leads (lie.root i) (lie.proof i)) proved in
+            let from : rules.ruling.leads (truth.root i) (lie.proof i) ≡ Some (lie.root (i + 1)) = subst (λ (x : Digest32). rules.ruling.leads x (lie.proof i) ≡ Some (lie.root (i + 1))) (sym e.same) leads in
             let m : (pair : List ℕ × List ℕ) × (rules.ruling.step_collision (truth.root i) (truth.proof i) (lie.proof i) ≡ Some pair) =
-            fair.steps_collide (truth.root i) (truth.proof i) (lie.proof i) (truth.root (i + 1)) (lie.root (i + 1)) (run.leads i e.within)
-            (subst (λ (x : Digest32). rules.ruling.leads x (lie.proof i) ≡ Some (lie.root (i + 1))) (sym e.same) leads) e.differ in
-            inr (m.0, e.close ∙ ap Some (by-both (proves rules.ruling truth i) (proves rules.ruling lie i) both mine proved ∙ collision-of (rules.ruling.step_collision (truth.root i) (truth.proof i) (lie.proof i)) m.0 m.1))
+            fair.steps_collide (truth.root i) (truth.proof i) (lie.proof i) (truth.root (i + 1)) (lie.root (i + 1)) (run.leads i e.within) from e.differ in
+            inr (record {
+              pair = m.0;
+              close = e.close ∙ ap Some (by-both (proves rules.ruling truth i) (proves rules.ruling lie i) both mine proved ∙ collision-of (rules.ruling.step_collision (truth.root i) (truth.proof i) (lie.proof i)) m.0 m.1);
+              collision = fair.step_collisions (truth.root i) (truth.proof i) (lie.proof i) (truth.root (i + 1)) (lie.root (i + 1)) m.0 (run.leads i e.within) from m.1;
+            })
         | inr refuted ↦ elim (but i e.within e.same e.differ) [
           | inl at ↦ inl (record { at = at; step = e.step; out_ = e.close ∙ ap Some (by-one (proves rules.ruling truth i) (proves rules.ruling lie i) both mine refuted) })
           | inr leads ↦ (let proved : proves rules.ruling lie i ≡ true = leads-proves (lie.root (i + 1)) (rules.ruling.leads (lie.root i) (lie.proof i)) leads in absurd (cc))
         ]
       ]
 
-  refuted-first : (At : ℕ → Type 0) (d : Bisection) → IsTrueBut rules truth lie At → EndsWhereTheyPart rules lie truth d → EndsAt At (Out true false) d ⊎ HasCollided d
+  refuted-first : (At : ℕ → Type 0) (d : Bisection) → IsTrueBut rules truth lie At → EndsWhereTheyPart rules lie truth d → EndsAt At (Out true false) d ⊎ HasCollided rules.ruling lie truth d
   refuted-first At d but e =
       let i = d.place.lo in
       let mine : proves rules.ruling truth i ≡ true = proves-true i e.within in
@@ -118,10 +122,14 @@ module _ (rules : Rules) (truth lie : Truth) (fair : IsFair rules.ruling) (run :
       elim (cases_Bool (proves rules.ruling lie i)) [
         | inl proved ↦
             let leads : rules.ruling.leads (lie.root i) (lie.proof i) ≡ Some (lie.root (i + 1)) = proves-leads (lie.root (i + 1)) (rules.ruling.leads (lie.root i) (lie.proof i)) proved in
+            let from : rules.ruling.leads (lie.root i) (truth.proof i) ≡ Some (truth.root (i + 1)) = subst (λ (x : Digest32). rules.ruling.leads x (truth.proof i) ≡ Some (truth.root (i + 1))) (sym e.same) (run.leads i e.within) in
             let m : (pair : List ℕ × List ℕ) × (rules.ruling.step_collision (lie.root i) (lie.proof i) (truth.proof i) ≡ Some pair) =
-            fair.steps_collide (lie.root i) (lie.proof i) (truth.proof i) (lie.root (i + 1)) (truth.root (i + 1)) leads
-            (subst (λ (x : Digest32). rules.ruling.leads x (truth.proof i) ≡ Some (truth.root (i + 1))) (sym e.same) (run.leads i e.within)) e.differ in
-            inr (m.0, e.close ∙ ap Some (by-both (proves rules.ruling lie i) (proves rules.ruling truth i) both proved mine ∙ collision-of (rules.ruling.step_collision (lie.root i) (lie.proof i) (truth.proof i)) m.0 m.1))
+            fair.steps_collide (lie.root i) (lie.proof i) (truth.proof i) (lie.root (i + 1)) (truth.root (i + 1)) leads from e.differ in
+            inr (record {
+              pair = m.0;
+              close = e.close ∙ ap Some (by-both (proves rules.ruling lie i) (proves rules.ruling truth i) both proved mine ∙ collision-of (rules.ruling.step_collision (lie.root i) (lie.proof i) (truth.proof i)) m.0 m.1);
+              collision = fair.step_collisions (lie.root i) (lie.proof i) (truth.proof i) (lie.root (i + 1)) (truth.root (i + 1)) m.0 leads from m.1;
+            })
         | inr refuted ↦ elim (but i e.within (sym e.same) (λ same. e.differ (sym same))) [
           | inl at ↦ inl (record { at = at; step = e.step; out_ = e.close ∙ ap Some (by-other (proves rules.ruling lie i) (proves rules.ruling truth i) both refuted mine) })
           | inr leads ↦ (let proved : proves rules.ruling lie i ≡ true = leads-proves (lie.root (i + 1)) (rules.ruling.leads (lie.root i) (lie.proof i)) leads in absurd (cc))
@@ -339,16 +347,16 @@ module _ (digest : List ℕ → List ℕ) (laws : TamperLaws digest) where
       let but = true-but c start range t fits in (
         record {
           as_second = λ first second.
-              as-step (Out false true) (refuted-second rules (truth_of_case digest c start) (run_in_game digest c start t) fair run (IsRefutingStep digest c start t) d but (a.0 first second two.0));
+              as-step (Out false true) (HasCollided rules.ruling (truth_of_case digest c start) (run_in_game digest c start t) d) (refuted-second rules (truth_of_case digest c start) (run_in_game digest c start t) fair run (IsRefutingStep digest c start t) d but (a.0 first second two.0));
           as_first = λ first second.
-              as-step (Out true false) (refuted-first rules (truth_of_case digest c start) (run_in_game digest c start t) fair run (IsRefutingStep digest c start t) d but (b.0 first second two.0));
+              as-step (Out true false) (HasCollided rules.ruling (run_in_game digest c start t) (truth_of_case digest c start) d) (refuted-first rules (truth_of_case digest c start) (run_in_game digest c start t) fair run (IsRefutingStep digest c start t) d but (b.0 first second two.0));
         },
         all-refuted c start range t fits run p q ds two.1 a.1 b.1,
       )
     where
-      as-step : (out : Close) → EndsAt (IsRefutingStep digest c start t) out d ⊎ HasCollided d → IsRefutedByStep digest c start t out d ⊎ HasCollided d
-      as-step out (inl e) = inl (record { at = e.at; step = e.step; out_ = e.out_ })
-      as-step out (inr e) = inr e
+      as-step : (out : Close) (Collided : Type 0) → EndsAt (IsRefutingStep digest c start t) out d ⊎ Collided → IsRefutedByStep digest c start t out d ⊎ Collided
+      as-step out Collided (inl e) = inl (record { at = e.at; step = e.step; out_ = e.out_ })
+      as-step out Collided (inr e) = inr e
 
   pub tampers-are-refuted : TampersAreRefuted digest
   tampers-are-refuted c start p q script range truthful some is fits by =

@@ -1,4 +1,4 @@
--- Derived. Cases that are loaded, what their matches are opened with, and what comes of a match by its opening alone.
+-- To believe: how the matches of loaded cases end. What a match is opened with, and, by that alone, its numbers, its record and its verdict.
 use Rattle.board_book.specs.declared.opening.Opening.{Opening}
 use Rattle.std.specs.Prelude.{◌≡◌, ℕ, List, []}
 use Rattle.bisect_game.specs.Ruling.{Ruling}

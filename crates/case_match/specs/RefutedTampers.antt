@@ -3,8 +3,6 @@
 -- closed by a collision.
 use Rattle.std.specs.Prelude.{◌≡◌, ◌≢◌, ℕ, ◌+◌, ◌-◌, ◌<◌, ◌≤◌, ◌⊎◌, true, false, List, [], ◌∷◌, Some, slice_get}
 use Rattle.rd_base.specs.declared.script.Script.{Script}
-use Rattle.rd_base.specs.declared.script.Manner.{Manner}
-use Rattle.rd_base.specs.declared.script.Manner.TheVariants.{Plain, Late}
 use Rattle.rd_base.specs.declared.tamper.Tamper.{Tamper}
 use Rattle.rd_base.specs.declared.tamper.Tamper.TheVariants.{Untouched, Flip, Register, Early}
 use Rattle.bisect_game.specs.declared.settled.Close.{Close}
@@ -14,14 +12,10 @@ use Rattle.bisect_game.specs.Parting.{HasCollided}
 use Rattle.rv_step.specs.State.{State}
 use Rattle.checkpoint_run.specs.ValidRuns.{IsTamperInRange}
 use Rattle.case_reader.specs.Case.{CaseData}
-use Rattle.case_match.specs.Match.{record_of_case, truth_of_case}
+use Rattle.case_reader.specs.ReadTampers.{IsCaseOf}
+use Rattle.case_match.specs.Match.{rules_of_case, record_of_case, truth_of_case}
+use Rattle.case_match.specs.PartingRuns.{run_in_game, AnswersByItsRun}
 use Rattle.case_match.specs.TruthfulInCase.{IsTruthfulInCase, IsInRange}
-
--- a manner by which a prover gives the answers of its own run, whatever that is: at once, or after no more passes than the patience
-abbrev pub AnswersByItsRun : CaseData → Manner → Type 0
-AnswersByItsRun c Plain = Unit {0}
-AnswersByItsRun c (Late many) = many ≤ c.patience
-AnswersByItsRun c manner = ⊥
 
 -- of a run that stands still from step s on, the proof of step i refutes it: it is step s, or a later one before which the sequential run has
 -- come back to the root of step s, and after which it has another one
@@ -45,10 +39,12 @@ pub record IsRefutedByStep (digest : List ℕ → List ℕ) (c : CaseData) (star
   pub out_ : d.close ≡ Some out
 
 -- in a dispute between the prover p that answers truly and the prover q, whichever is the first side, q alone is out in the proof of such
--- a step, or there is a collision
+-- a step, or the dispute has closed by a collision of their two proofs
 pub record IsTamperRefuted (digest : List ℕ → List ℕ) (c : CaseData) (start : State) (tamper : Tamper) (p q : ℕ) (d : Bisection) : Type 0 where
-  pub as_second : d.first ≡ p → d.second ≡ q → IsRefutedByStep digest c start tamper (Out false true) d ⊎ HasCollided d
-  pub as_first : d.first ≡ q → d.second ≡ p → IsRefutedByStep digest c start tamper (Out true false) d ⊎ HasCollided d
+  pub as_second : d.first ≡ p → d.second ≡ q → IsRefutedByStep digest c start tamper (Out false true) d
+      ⊎ HasCollided (rules_of_case digest c start).ruling (truth_of_case digest c start) (run_in_game digest c start tamper) d
+  pub as_first : d.first ≡ q → d.second ≡ p → IsRefutedByStep digest c start tamper (Out true false) d
+      ⊎ HasCollided (rules_of_case digest c start).ruling (run_in_game digest c start tamper) (truth_of_case digest c start) d
 
 abbrev pub AllTampersRefuted : (List ℕ → List ℕ) → CaseData → State → Tamper → ℕ → ℕ → List Bisection → Type 0
 AllTampersRefuted digest c start tamper p q [] = Unit {0}
@@ -59,4 +55,16 @@ abbrev pub TampersAreRefuted : (List ℕ → List ℕ) → Type 0
 TampersAreRefuted digest =
     (c : CaseData) (start : State) (p q : ℕ) (script : Script) → IsInRange c start → IsTruthfulInCase digest c start p → 0 < q →
     slice_get c.provers (q - 1) ≡ Some script → IsTamperInRange script.tamper → AnswersByItsRun c script.manner →
+    AllTampersRefuted digest c start script.tamper p q (record_of_case digest c start).disputes
+
+-- A CASE THAT IS READ has tampers in range, and so each is refuted
+
+abbrev pub TampersOfCasesAreInRange : Type 0
+TampersOfCasesAreInRange =
+    (bytes : List ℕ) (c : CaseData) (k : ℕ) (script : Script) → IsCaseOf bytes c → slice_get c.provers k ≡ Some script → IsTamperInRange script.tamper
+
+abbrev pub ReadTampersAreRefuted : (List ℕ → List ℕ) → Type 0
+ReadTampersAreRefuted digest =
+    (bytes : List ℕ) (c : CaseData) (start : State) (p q : ℕ) (script : Script) → IsCaseOf bytes c → IsInRange c start → IsTruthfulInCase digest c start p → 0 < q →
+    slice_get c.provers (q - 1) ≡ Some script → AnswersByItsRun c script.manner →
     AllTampersRefuted digest c start script.tamper p q (record_of_case digest c start).disputes

@@ -4,10 +4,11 @@ ghost use Rattle.case_match.specs.TruthfulInCase.{TruthfulProversOfCasesAreSafe}
 ghost use Rattle.case_match.specs.Match.{RecordsOfCasesAreSettledUp};
 ghost use Rattle.case_match.specs.HonestScripts.{UntouchedProversAreTruthful, TrueTapesAreTruthful};
 ghost use Rattle.case_match.specs.Earnings.{WhoLivesInACaseWinsAll};
-ghost use Rattle.case_match.specs.RefutedTampers.{TampersAreRefuted};
+ghost use Rattle.case_match.specs.RefutedTampers.{TampersAreRefuted, TampersOfCasesAreInRange, ReadTampersAreRefuted};
 ghost use Rattle.case_match.specs.PartingRuns.{DisputesOfCasesEndWhereRunsPart};
 
 use bisect_game::cuts_divide;
+use case_reader::tampers_are_read_in_range;
 use checkpoint_run::{
     tampered_runs, tampered_runs_keep_the_input, tampered_runs_keep_valid_states,
 };
@@ -60,10 +61,11 @@ pub fn who_lives_in_a_case_wins_all()
 
 /// A tampered run is refuted where it was tampered with. In each dispute of a case between a prover that claims and answers as the machine's
 /// definition says and one that answers by its own tampered run, at once or after no more passes than the patience, the second alone is
-/// out, or there is a collision. It is out in the proof of step s - 1 if a byte or a register is changed in the state of step s, which is
-/// that of step 0 if s is 0; and if its run ends early at step s, in that of step s, or of a later one before which the sequential run has come
-/// back to the root of step s (`refuted`). Each dispute between two provers that answer by their own runs, tampered with or not, ends at a step
-/// from which these part, by their proofs of it (`part`). The case's numbers are in range, and the tampers' too.
+/// out, or the dispute has closed by a collision of their two proofs: two different strings of one digest. It is out in the proof of step
+/// s - 1 if a byte or a register is changed in the state of step s, which is that of step 0 if s is 0; and if its run ends early at step s,
+/// in that of step s, or of a later one before which the sequential run has come back to the root of step s (`refuted`). Each dispute between
+/// two provers that answer by their own runs, tampered with or not, ends at a step from which these part, by their proofs of it (`part`). The
+/// case's numbers are in range, and the tampers' too, as those of each case that is read (`tampers_of_cases_are_in_range`).
 pub fn tampers_are_refuted<D: Digester>()
     ensures refuted { TampersAreRefuted D.digest_of }
     ensures part { DisputesOfCasesEndWhereRunsPart D.digest_of }
@@ -82,6 +84,21 @@ pub fn tampers_are_refuted<D: Digester>()
     one_record_of_a_case();
     answers_are_of_their_run();
     lies_are_found();
+}
+
+/// The tampers of a case that is read are in range.
+pub fn tampers_of_cases_are_in_range()
+    ensures { TampersOfCasesAreInRange }
+{
+    tampers_are_read_in_range();
+}
+
+/// So each tampered run of a case that is read is refuted where it was tampered with, as `tampers_are_refuted` says it.
+pub fn tampers_of_cases_are_refuted<D: Digester>()
+    ensures { ReadTampersAreRefuted D.digest_of }
+{
+    tampers_are_refuted::<D>();
+    tampers_of_cases_are_in_range();
 }
 
 /// Which provers answer truly in every case, by any digest function: those with an untouched run that answer at once, after no more

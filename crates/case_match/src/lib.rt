@@ -21,7 +21,8 @@ mod tasks;
 mod verdict;
 
 pub use laws::{
-    records_of_cases_are_settled_up, tampers_are_refuted, truthful_provers_of_cases_are_safe,
+    records_of_cases_are_settled_up, tampers_are_refuted, tampers_of_cases_are_in_range,
+    tampers_of_cases_are_refuted, truthful_provers_of_cases_are_safe,
     untouched_provers_are_truthful, who_lives_in_a_case_wins_all,
 };
 pub use loaded::LoadedCase;
