@@ -1,12 +1,12 @@
 -- Where a recording ends: where it is, or at the step of a tamper that is still to come.
-use Rattle.std.proofs.Common.{◌≡◌, ◌≢◌, ℕ, ◌+◌, ◌-◌, ◌*◌, ◌%◌, ◌<◌, ◌≤◌, List, length, Some, None, true, false, inl, inr, sym, ap, subst, ◌∙◌, ⊎_elim, arith}
+use Rattle.std.proofs.Common.{◌≡◌, ◌≢◌, ℕ, ◌+◌, ◌-◌, ◌*◌, ◌/◌, ◌%◌, ◌<◌, ◌≤◌, List, length, Some, None, true, false, inl, inr, sym, ap, subst, ◌∙◌, ⊎_elim, arith}
 use Rattle.std.proofs.lemmas.Bool.{cases_lt, cases_eq}
 use Rattle.std.proofs.Math.Nat.{add-mul, mul-mod_left}
 use Rattle.rd_base.specs.declared.tamper.Tamper.{Tamper}
 use Rattle.rv_step.specs.State.{State}
 use Rattle.checkpoint_run.specs.TamperedRun.{run_from}
 use Rattle.checkpoint_run.specs.AtRest.{rests, ended, to_come}
-use Rattle.checkpoint_run.specs.Keeping.{IsPushed, AreFound, step_at}
+use Rattle.checkpoint_run.specs.Keeping.{IsPushed, AreFound, NoneBeyond, step_at}
 use Rattle.checkpoint_run.specs.UnderWay.{IsKeptTo, HasEnded, IsAtEnd, AreSpaced}
 use Rattle.checkpoint_run.specs.declared.checkpoint.Checkpoint.{Checkpoint}
 use Rattle.checkpoint_run.specs.declared.recording.Recording.{Recording}
@@ -15,7 +15,7 @@ use Rattle.checkpoint_run.specs.declared.recording.Kept.{Kept}
 use Rattle.checkpoint_run.proofs.RunLemmas.{Stopping}
 use Rattle.checkpoint_run.proofs.RecordLemmas.{kept_later}
 use Rattle.checkpoint_run.proofs.QuietLemmas.{moves_on, to_come_none, to_come_within, to_come_wakes, to_come_rests, quiet_before, stopped_there}
-use Rattle.checkpoint_run.proofs.PlaceLemmas.{Covers, covers_near, covers_far, found_before, found_pushed, step_kept}
+use Rattle.checkpoint_run.proofs.PlaceLemmas.{Covers, covers_near, covers_far, found_before, found_pushed, step_kept, below_covered, many_covered, below_before, many_before, below_pushed, many_pushed}
 
 -- the last multiple of a spacing is not beyond
 last_below : (every at left : ℕ) (cs : List Checkpoint) → 0 < length cs → AreSpaced every at left cs → (length cs - 1) * every ≤ at
@@ -27,8 +27,8 @@ last_below every at left cs some spaced =
     omega arith
 
 -- nobody will tamper with it
-pub end_near : (digest : List ℕ → List ℕ) (tamper : Tamper) (first : State) (every bound : ℕ) (r : Recording) → HasEnded digest tamper first every bound r → to_come tamper bound r.at ≡ None → IsAtEnd digest tamper first every bound r
-end_near digest tamper first every bound r end is =
+pub end_near : (digest : List ℕ → List ℕ) (tamper : Tamper) (first : State) (every bound : ℕ) (r : Recording) → 0 < every → HasEnded digest tamper first every bound r → to_come tamper bound r.at ≡ None → IsAtEnd digest tamper first every bound r
+end_near digest tamper first every bound r wide end is =
     let kept = end.under_way.kept in
     let spaced = end.under_way.spaced in
     let due = spaced.due in
@@ -39,6 +39,8 @@ end_near digest tamper first every bound r end is =
       kept = kept;
       starts = spaced.steps 0 kept.some ∙ omega arith;
       found = λ c within. found_before every (r.at + 1) (run_from tamper first) r.kept.checkpoints.items covers c (omega arith);
+      below = below_covered every r.at (run_from tamper first) r.kept.checkpoints.items covers;
+      many = many_covered every r.at (run_from tamper first) r.kept.checkpoints.items wide covers;
       within = end.within;
       before = λ k early. moves_on tamper bound k (run_from tamper first k) (end.before k early);
       ends = ⊎_elim (λ rest. inl (to_come_none tamper bound r.at (run_from tamper first r.at) rest is)) inr end.ends;
@@ -89,8 +91,8 @@ module _ (stopping : Stopping) (digest : List ℕ → List ℕ) (tamper : Tamper
   rest = to_come_rests tamper bound r.at step (run_from tamper first step) is (stopped_there stopping tamper first bound r.at step is ends)
 
   pub end_late : (last : Recording) (cs : List Checkpoint) → last.at ≡ step → IsKeptTo digest tamper first step last.machine last.kept → Covers every step (run_from tamper first) cs → last.kept.checkpoints.items ≡ cs
-      → step % every ≢ 0 → IsAtEnd digest tamper first every bound last
-  end_late last cs at kept covers same apart =
+      → 0 < every → step % every ≢ 0 → IsAtEnd digest tamper first every bound last
+  end_late last cs at kept covers same wide apart =
       let P : ℕ → Type 0 = λ n. IsKeptTo digest tamper first n last.machine last.kept in
       let Q : List Checkpoint → Type 0 = λ xs. AreFound xs every step (run_from tamper first) in
       let b = behind in
@@ -100,6 +102,8 @@ module _ (stopping : Stopping) (digest : List ℕ → List ℕ) (tamper : Tamper
         starts = ap (λ xs. step_at xs 0) same ∙ (covers.steps 0 covers.some ∙ omega arith);
         found = subst (λ n. AreFound last.kept.checkpoints.items every n (run_from tamper first)) (sym at)
             (subst Q (sym same) (λ c within. found_before every step (run_from tamper first) cs covers c (less c within)));
+        below = subst (NoneBeyond last.kept.checkpoints.items) (sym at) (subst (λ xs. NoneBeyond xs step) (sym same) (below_before every step (run_from tamper first) cs covers));
+        many = subst (λ n. length last.kept.checkpoints.items ≤ n / every + 1) (sym at) (subst (λ (xs : List Checkpoint). length xs ≤ step / every + 1) (sym same) (many_before every step (run_from tamper first) cs wide covers));
         within = omega arith;
         before = λ k early. moves k (omega arith);
         ends = inl (subst (λ n. rests tamper bound n (run_from tamper first n) ≡ true) (sym at) rest);
@@ -112,8 +116,8 @@ module _ (stopping : Stopping) (digest : List ℕ → List ℕ) (tamper : Tamper
           (cases_eq (c * every) step)
 
   pub end_late_kept : (last : Recording) (cs : List Checkpoint) → last.at ≡ step → IsKeptTo digest tamper first step last.machine last.kept → Covers every step (run_from tamper first) cs → IsPushed cs last.kept.checkpoints.items step
-      → IsAtEnd digest tamper first every bound last
-  end_late_kept last cs at kept covers pushed =
+      → step % every ≡ 0 → IsAtEnd digest tamper first every bound last
+  end_late_kept last cs at kept covers pushed whole =
       let P : ℕ → Type 0 = λ n. IsKeptTo digest tamper first n last.machine last.kept in
       let b = behind in
       let b-1 = b.1 in
@@ -121,6 +125,8 @@ module _ (stopping : Stopping) (digest : List ℕ → List ℕ) (tamper : Tamper
         kept = subst P (sym at) kept;
         starts = step_kept cs last.kept.checkpoints.items step pushed 0 covers.some ∙ (covers.steps 0 covers.some ∙ omega arith);
         found = subst (λ n. AreFound last.kept.checkpoints.items every n (run_from tamper first)) (sym at) (found_pushed every step (run_from tamper first) cs last.kept.checkpoints.items covers pushed);
+        below = subst (NoneBeyond last.kept.checkpoints.items) (sym at) (below_pushed every step (run_from tamper first) cs last.kept.checkpoints.items covers pushed);
+        many = subst (λ n. length last.kept.checkpoints.items ≤ n / every + 1) (sym at) (many_pushed every step (run_from tamper first) cs last.kept.checkpoints.items covers pushed whole);
         within = omega arith;
         before = λ k early. moves k (omega arith);
         ends = inl (subst (λ n. rests tamper bound n (run_from tamper first n) ≡ true) (sym at) rest);

@@ -1,10 +1,10 @@
 -- Where the checkpoint with a number is found.
-use Rattle.std.proofs.Common.{◌≡◌, ℕ, zero, suc, ◌+◌, ◌-◌, ◌*◌, ◌<◌, ◌≤◌, min, leb, cond, List, [], ◌∷◌, ◌++◌, length, slice_get, Some, refl, sym, ap, ◌∙◌, ⊎_elim, arith}
+use Rattle.std.proofs.Common.{◌≡◌, ℕ, zero, suc, ◌+◌, ◌-◌, ◌*◌, ◌/◌, ◌%◌, ◌<◌, ◌≤◌, min, leb, cond, List, [], ◌∷◌, ◌++◌, length, slice_get, Some, refl, sym, ap, ◌∙◌, ⊎_elim, arith}
 use Rattle.std.proofs.lemmas.Bool.{cases_lt, le-leb, lt-leb}
 use Rattle.std.proofs.lemmas.List.{length-append}
-use Rattle.std.proofs.Math.Nat.{lt_of_mul-lt-mul_right, mul-le-mul_right}
+use Rattle.std.proofs.Math.Nat.{lt_of_mul-lt-mul_right, mul-le-mul_right, le-div_iff_mul-le, div-add-mod'}
 use Rattle.rv_step.specs.State.{State}
-use Rattle.checkpoint_run.specs.Keeping.{step_at, found_at, IsFound, AreFound, IsPushed}
+use Rattle.checkpoint_run.specs.Keeping.{step_at, found_at, IsFound, AreFound, NoneBeyond, IsPushed}
 use Rattle.checkpoint_run.specs.declared.checkpoint.Checkpoint.{Checkpoint}
 
 -- what stands at a place
@@ -133,3 +133,54 @@ found_pushed every step run cs new covers pushed c within =
     (λ late. found_by new every run c (length cs) (at_last new every c (length cs) last (omega arith)) (omega arith) (ap run (omega arith)))
     (cases_lt (c * every) step))
     (cases_lt c (length cs))
+
+-- HOW MANY there are, and how far they go
+
+-- of those at the multiples none is beyond a step that the last one isn't beyond
+spaced_below : (every step : ℕ) (cs : List Checkpoint) → ((k : ℕ) → k < length cs → step_at cs k ≡ k * every) → (length cs - 1) * every ≤ step → NoneBeyond cs step
+spaced_below every step cs steps low k within =
+    let here = steps k within in
+    let least : k ≤ length cs - 1 = omega arith in
+    let more = mul-le-mul_right every least in
+    omega arith
+
+spaced_many : (every step n : ℕ) → 0 < every → (n - 1) * every ≤ step → n ≤ step / every + 1
+spaced_many every step n spaced low =
+    let few : n - 1 ≤ step / every = (le-div_iff_mul-le spaced).1 low in
+    omega arith
+
+pub below_covered : (every step : ℕ) (run : ℕ → State) (cs : List Checkpoint) → Covers every (step + 1) run cs → NoneBeyond cs step
+below_covered every step run cs covers = spaced_below every step cs covers.steps (omega (arith, covers.below))
+
+pub many_covered : (every step : ℕ) (run : ℕ → State) (cs : List Checkpoint) → 0 < every → Covers every (step + 1) run cs → length cs ≤ step / every + 1
+many_covered every step run cs spaced covers = spaced_many every step (length cs) spaced (omega (arith, covers.below))
+
+pub below_before : (every step : ℕ) (run : ℕ → State) (cs : List Checkpoint) → Covers every step run cs → NoneBeyond cs step
+below_before every step run cs covers = spaced_below every step cs covers.steps (omega (arith, covers.below))
+
+pub many_before : (every step : ℕ) (run : ℕ → State) (cs : List Checkpoint) → 0 < every → Covers every step run cs → length cs ≤ step / every + 1
+many_before every step run cs spaced covers = spaced_many every step (length cs) spaced (omega (arith, covers.below))
+
+-- and if one more is added at the step, a multiple
+pub below_pushed : (every step : ℕ) (run : ℕ → State) (cs new : List Checkpoint) → Covers every step run cs → IsPushed cs new step → NoneBeyond new step
+below_pushed every step run cs new covers pushed k within =
+    let len = length_pushed cs new step pushed in
+    ⊎_elim
+    (λ before.
+    let here = step_kept cs new step pushed k before in
+    let low = below_before every step run cs covers k before in
+    omega arith)
+    (λ past.
+    let last : k ≡ length cs = omega arith in
+    let here = ap (step_at new) last ∙ step_pushed cs new step pushed in
+    omega arith)
+    (cases_lt k (length cs))
+
+pub many_pushed : (every step : ℕ) (run : ℕ → State) (cs new : List Checkpoint) → Covers every step run cs → IsPushed cs new step → step % every ≡ 0 → length new ≤ step / every + 1
+many_pushed every step run cs new covers pushed whole =
+    let len = length_pushed cs new step pushed in
+    let parts = div-add-mod' step every in
+    let beyond = covers.below in
+    let is : step ≡ step / every * every = omega arith in
+    let few : length cs - 1 < step / every = number_below (length cs - 1) (step / every) every (omega arith) in
+    omega arith

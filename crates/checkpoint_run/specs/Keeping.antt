@@ -1,5 +1,5 @@
 -- Derived: what the checkpoints of a run stand for, and what holds of every recorded run.
-use Rattle.std.specs.Prelude.{◌≡◌, ℕ, ◌+◌, ◌-◌, ◌*◌, ◌<◌, ◌≤◌, min, nat_le, if◌then◌else◌, List, [], ◌∷◌, ◌++◌, map, take, length, slice_get, slice_index, Some, IfSome}
+use Rattle.std.specs.Prelude.{◌≡◌, ℕ, ◌+◌, ◌-◌, ◌*◌, ◌/◌, ◌<◌, ◌≤◌, min, nat_le, if◌then◌else◌, List, [], ◌∷◌, ◌++◌, map, take, length, slice_get, slice_index, Some, IfSome}
 use Rattle.rd_base.specs.declared.status.Status.TheVariants.{Running}
 use Rattle.rd_base.specs.declared.status.Ctl.{Ctl}
 use Rattle.rd_base.specs.declared.tamper.Tamper.{Tamper}
@@ -60,6 +60,10 @@ pub record IsFound (checkpoints : List Checkpoint) (every : ℕ) (run : ℕ → 
 abbrev pub AreFound : List Checkpoint → ℕ → ℕ → (ℕ → State) → Type 0
 AreFound checkpoints every until run = (c : ℕ) → c * every ≤ until → IsFound checkpoints every run c
 
+-- no checkpoint is beyond a step
+abbrev pub NoneBeyond : List Checkpoint → ℕ → Type 0
+NoneBeyond checkpoints until = (k : ℕ) → k < length checkpoints → step_at checkpoints k ≤ until
+
 -- how many versions the first checkpoint has
 abbrev pub at_first : List Checkpoint → ℕ
 at_first [] = 0
@@ -80,13 +84,16 @@ recorded_by tamper bound every checkpoints versions output version input = recor
 }
 
 -- there is a checkpoint at each multiple of the spacing up to the step from which the run stands still: the first one is at step 0, and
--- each is found, with the state of its step; beside the versions of the first one there are at most as many as pages are written
+-- each is found, with the state of its step; none is beyond that step, and there are no more than multiples up to it, as a stretch in which
+-- nothing happens has one; beside the versions of the first one there are at most as many as pages are written
 pub record IsRecorded (r : Recorded) (until : ℕ) (checkpoints : List Checkpoint) (versions : List Version) (output : List ℕ) (version : ℕ) (input : List ℕ) : Type 0 where
   pub spaced : 0 < r.every
   pub rest : until ≡ still_of r
   pub starts : step_at checkpoints 0 ≡ 0
   pub some : 0 < length checkpoints
   pub found : AreFound checkpoints r.every until (state_of_step r)
+  pub below : NoneBeyond checkpoints until
+  pub many : length checkpoints ≤ until / r.every + 1
   pub each : AllStand checkpoints versions output (state_of_step r)
   pub few : length versions ≤ at_first checkpoints + writes r.tamper r.first until
   pub known : (1 ≤ version) × (version ≤ 3)

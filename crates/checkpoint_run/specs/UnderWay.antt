@@ -1,5 +1,5 @@
 -- Derived: what holds of a run that is being recorded.
-use Rattle.std.specs.Prelude.{◌≡◌, ◌⊎◌, ℕ, ◌+◌, ◌*◌, ◌<◌, ◌≤◌, true, false, List, length, vec_len, slice_get, IfSome}
+use Rattle.std.specs.Prelude.{◌≡◌, ◌⊎◌, ℕ, ◌+◌, ◌*◌, ◌/◌, ◌<◌, ◌≤◌, true, false, List, length, vec_len, slice_get, IfSome}
 use Rattle.digest_core.specs.Chain.{chain_of}
 use Rattle.rd_base.specs.declared.tamper.Tamper.{Tamper}
 use Rattle.rv_step.specs.State.{State, state_of, IsChained}
@@ -9,7 +9,7 @@ use Rattle.checkpoint_run.specs.AtRest.{rests, ended}
 use Rattle.checkpoint_run.specs.Versions.{AreBelow, IsShownBut}
 use Rattle.checkpoint_run.specs.WrittenPages.{writes}
 use Rattle.checkpoint_run.specs.NotedPages.{AreNoted}
-use Rattle.checkpoint_run.specs.Keeping.{AllStand, AreFound, at_first, step_at}
+use Rattle.checkpoint_run.specs.Keeping.{AllStand, AreFound, NoneBeyond, at_first, step_at}
 use Rattle.checkpoint_run.specs.declared.checkpoint.Checkpoint.{Checkpoint}
 use Rattle.checkpoint_run.specs.declared.recording.Kept.{Kept}
 use Rattle.checkpoint_run.specs.declared.recording.Recording.{Recording}
@@ -50,11 +50,14 @@ pub record HasEnded (digest : List ℕ → List ℕ) (tamper : Tamper) (first : 
   pub before : (k : ℕ) → k < r.at → ended tamper k (run_from tamper first k) ≡ false
   pub ends : (ended tamper r.at (run_from tamper first r.at) ≡ true) ⊎ (r.at ≡ bound)
 
--- the run from a state has been recorded up to a bound, or up to the step from which it stands still
+-- the run from a state has been recorded up to a bound, or up to the step from which it stands still; no checkpoint is beyond where it is,
+-- and there are no more than multiples of the spacing up to there
 pub record IsAtEnd (digest : List ℕ → List ℕ) (tamper : Tamper) (first : State) (every bound : ℕ) (r : Recording) : Type 0 where
   pub kept : IsKeptTo digest tamper first r.at r.machine r.kept
   pub starts : step_at r.kept.checkpoints.items 0 ≡ 0
   pub found : AreFound r.kept.checkpoints.items every r.at (run_from tamper first)
+  pub below : NoneBeyond r.kept.checkpoints.items r.at
+  pub many : length r.kept.checkpoints.items ≤ r.at / every + 1
   pub within : r.at ≤ bound
   pub before : (k : ℕ) → k < r.at → rests tamper bound k (run_from tamper first k) ≡ false
   pub ends : (rests tamper bound r.at (run_from tamper first r.at) ≡ true) ⊎ (r.at ≡ bound)

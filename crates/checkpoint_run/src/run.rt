@@ -1,5 +1,5 @@
 //! A recorded run, and the machines of its steps.
-ghost use Rattle.std.specs.Prelude.{◌≡◌, ◌+◌, ◌*◌, ◌/◌, ◌<◌, ◌≤◌, ℕ, IfOk, OnOk, OnErr, List, length};
+ghost use Rattle.std.specs.Prelude.{◌≡◌, ◌+◌, ◌*◌, ◌/◌, ◌<◌, ◌≤◌, ◌^◌, ℕ, IfOk, OnOk, OnErr, List, length};
 ghost use Rattle.mem_plain.specs.Contents.{byte_at};
 ghost use Rattle.rv_step.specs.State.{state_of, IsChained};
 ghost use Rattle.checkpoint_run.specs.TamperedRun.{tampered};
@@ -79,6 +79,15 @@ impl Run {
         ensures { result ≡ still_of self.now }
     {
         self.still
+    }
+
+    /// The bound, and the step from which the run stands still, are numbers of 64 bits.
+    fn steps_have_64_bits(&self)
+        ensures bound { self.now.bound < 2 ^ 64 }
+        ensures still { still_of self.now < 2 ^ 64 }
+    {
+        self.bound();
+        self.still();
     }
 
     /// The version of the commitment to the run's states.
@@ -161,7 +170,7 @@ pub fn machine_at(run: &Run, checkpoint: u64) -> Result<Machine, Memory>
     ensures chained { (digest : List ℕ → List ℕ) → AreChained digest run.now → IfOk result (λ m. IsChained digest m) }
 {
     runs_keep_the_input();
-    let _still = run.still();
+    run.steps_have_64_bits();
     let place = place_of(&run.checkpoints, run.every, checkpoint);
     let kept = &run.checkpoints[place];
     let mem = restored(run.alloc, &run.versions, &run.index, kept.versions)?;
@@ -192,7 +201,7 @@ pub fn next<D: Digester>(
     ensures pages { IfOk result (λ pages. ArePages pages) }
     ensures elsewhere { IfOk result (λ pages. (q : ℕ) → ¬ IsNamed (q / 4096) pages → byte_at machine.new.mem q ≡ byte_at machine.old.mem q) }
 {
-    let _bound = run.bound();
+    run.steps_have_64_bits();
     let pages = follow(d, &run.tamper, *at, machine)?;
     *at += 1;
     Ok(pages)

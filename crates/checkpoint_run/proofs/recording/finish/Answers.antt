@@ -6,4 +6,4 @@ pub pass_over-requires-clause-ended : goal.pass_over-requires-clause-ended
 pass_over-requires-clause-ended g c = (c.requires.ended.0, c.args.bound, c.requires.ended.1, sym c.tamper_to_come.ensures.step ∙ c.in-Some.is)
 
 pub returns-in-None : goal.returns-in-None
-returns-in-None g c first ended = end_near g.D.Digester.digest_of c.args.tamper.now first c.args.every c.args.bound c.args.recording.now ended (sym c.tamper_to_come.ensures.step ∙ c.in-None.is)
+returns-in-None g c first ended = end_near g.D.Digester.digest_of c.args.tamper.now first c.args.every c.args.bound c.args.recording.now c.requires.every ended (sym c.tamper_to_come.ensures.step ∙ c.in-None.is)

@@ -16,7 +16,7 @@ use Rattle.checkpoint_run.proofs.run.machine_at.Goals as goal
 pub place_of-place-requires-clause-room : goal.place_of-place-requires-clause-room
 place_of-place-requires-clause-room c =
     let every : c.args.run.now.every ≡ c.run.inside.every = ap (λ (r : Recorded). r.every) (sym c.run.view_is) in
-    let still = c.still-still.ensures in
+    let still = c.steps_have_64_bits.ensures.still in
     let below = c.requires in
     subst (λ n. c.args.checkpoint * n < 18446744073709551616) every (omega arith)
 
