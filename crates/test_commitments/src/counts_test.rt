@@ -12,7 +12,7 @@ use std::sync::atomic::{AtomicU64, Ordering};
 use std::sync::ledger::Ledger;
 use std::test::Fail;
 use std::thread::Threads;
-use toy_machine::Counted;
+use toy_machine::Tally;
 
 /// Bytes that are stored by their addresses, and how many digests the refresh then takes.
 type Stores = (&'static [(u32, u32)], u64);
@@ -64,7 +64,7 @@ fn first_other_count<R: Threads + Sync>(
     rows: &[Stores],
 ) -> Result<Option<usize>, Memory> {
     let made = AtomicU64::new(0);
-    let counted = Counted {
+    let counted = Tally {
         of: Sha256,
         made: &made,
     };
@@ -122,7 +122,7 @@ fn refresh_no_page<D: Digester, L: Ledger>(
 /// How many digests a tree of registers makes after another one.
 fn digests_between(before: Regs, after: Regs) -> u64 {
     let made = AtomicU64::new(0);
-    let counted = Counted {
+    let counted = Tally {
         of: Sha256,
         made: &made,
     };
@@ -152,7 +152,7 @@ fn leaves_that_differ_and_the_nodes_above_are_digested(rt: HostRuntime) {
 /// How many digests the digest of registers takes that differ in one from those before.
 fn digests_of_one_change(version: u32) -> u64 {
     let made = AtomicU64::new(0);
-    let counted = Counted {
+    let counted = Tally {
         of: Sha256,
         made: &made,
     };

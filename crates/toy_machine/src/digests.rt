@@ -8,14 +8,14 @@ use std::sync::atomic::{AtomicU64, Ordering};
 
 /// A digest function that adds 1 to a number for each digest.
 #[derive(Clone, Copy)]
-pub struct Counted<'a, D> {
+pub struct Tally<'a, D> {
     /// The digest function.
     pub of: D,
     /// How many digests it has made.
     pub made: &'a AtomicU64,
 }
 
-impl<D: Digester> Digester for Counted<'_, D> {
+impl<D: Digester> Digester for Tally<'_, D> {
     ghost digest_of = { D.digest_of };
 
     ghost is_digest = { D.is_digest };

@@ -6,5 +6,5 @@
 mod digests;
 mod machine;
 
-pub use digests::{Counted, OneValue, first_eight};
+pub use digests::{OneValue, Tally, first_eight};
 pub use machine::machine_of;
