@@ -32,16 +32,16 @@ pub record ArePlaces (pages : List ℕ) (n page : ℕ) (places : List ℕ) : Typ
 abbrev pub IsKeyed : List (ℕ × Vec ℕ Global) → List ℕ → Type 0
 IsKeyed entries named = (page : ℕ) → IfSome (lookup (is_at (nat_cmp page)) entries) (λ places. is_among named page ≡ true)
 
--- for each page the places below a number at which it stands in a list of pages
+-- for each page the places below a number at which it occurs in a list of pages
 pub record IsIndex (entries : List (ℕ × Vec ℕ Global)) (named pages : List ℕ) (n : ℕ) : Type 0 where
   pub each : (page : ℕ) → ArePlaces pages n page (places_at entries page)
   pub keyed : IsKeyed entries named
 
--- a page stands at no place below a number
+-- a page occurs at no place below a number
 abbrev pub HasNone : List ℕ → ℕ → ℕ → Type 0
 HasNone pages page count = (j : ℕ) → j < count → slice_index pages j ≢ page
 
--- the last place below a number at which a page stands
+-- the last place below a number at which a page occurs
 pub record IsLastBelow (pages : List ℕ) (page count k : ℕ) : Type 0 where
   pub below : k < count
   pub there : slice_index pages k ≡ page

@@ -1,4 +1,4 @@
-//! Checkpoints of a run, and the versions of its pages: of all versions of a page that stand before a checkpoint, the last one is the page.
+//! Checkpoints of a run, and the versions of its pages: of all versions of a page that come before a checkpoint, the last one is the page.
 ghost use Rattle.std.specs.Prelude.{◌≡◌, ℕ, ◌*◌, ◌<◌, ◌≤◌, ◌^◌, ◌++◌, ◌∷◌, [], List, length, take, true, IfOk, OnOk};
 ghost use Rattle.mem_plain.specs.Contents.{IsUsed};
 ghost use Rattle.checkpoint_run.specs.Versions.{pictured, pages_of, is_among, AreBelow, IsShownBut};
@@ -14,7 +14,7 @@ use rv_step::Machine;
 use std::alloc::Global;
 use std::collections::BTreeSet;
 
-/// A state of a run: a step that has it, its registers and control fields, and how many versions of pages stand before it. Its output
+/// A state of a run: a step that has it, its registers and control fields, and how many versions of pages come before it. Its output
 /// is a prefix of the run's output.
 #[derive(Drop)]
 pub struct Checkpoint {
@@ -103,7 +103,7 @@ pub fn place_of(checkpoints: &[Checkpoint], every: u32, checkpoint: u64) -> usiz
     }
 }
 
-/// Puts the last version of a page that stands below a place into a memory, if there is one. An `Err` is out of memory.
+/// Puts the last version of a page that is below a place into a memory, if there is one. An `Err` is out of memory.
 fn put_last(
     versions: &[Version],
     index: &PagePlaces,

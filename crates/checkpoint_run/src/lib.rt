@@ -12,13 +12,12 @@
 //! stands still in between: one checkpoint has the state of this stretch, and it is found for each checkpoint of the stretch
 //! (`found_at` in `specs/Keeping.antt`).
 //!
-//! The output stands once in a run. A checkpoint takes one version of each page that was written since the checkpoint before,
-//! and of no other (the clauses of `add_checkpoint` and `note`); which pages a step writes says `specs/WrittenPages.antt`. So,
-//! beside the versions of the first checkpoint, a run keeps no more versions than pages are written, which is a part of the
-//! invariant of `Run` (`few` in `specs/Keeping.antt`); that the first checkpoint has those of the pages in use at step 0 is read in
-//! `record_run` (`used_pages`, clause `only`). The page of a checkpoint is found by a search among the places of the page's versions
-//! (`page_places`). How much memory a checkpoint takes beside is read in `checkpoint`. Read `specs/TamperedRun.antt` first, then `run`,
-//! then `recording`.
+//! The output is kept once in a run. A checkpoint takes one version of each page that was written since the checkpoint before, and of no
+//! other (the clauses of `add_checkpoint` and `note`); `specs/WrittenPages.antt` defines which pages a step writes. So, beside the versions
+//! of the first checkpoint, a run keeps no more versions than pages are written, which is a part of the invariant of `Run` (`few` in
+//! `specs/Keeping.antt`); the code of `record_run` shows that the first checkpoint has those of the pages in use at step 0 (`used_pages`,
+//! clause `only`). The page of a checkpoint is found by a search among the places of the page's versions (`page_places`). The code of
+//! `checkpoint` shows how much other memory a checkpoint takes. Read `specs/TamperedRun.antt` first, then `run`, then `recording`.
 #![tactic(auto)]
 
 mod checkpoint;

@@ -179,8 +179,8 @@ pub fn machine_at(run: &Run, checkpoint: u64) -> Result<Machine, Memory>
     Ok(Machine::of_parts(kept.regs, kept.ctl, mem, output, run.version, input))
 }
 
-/// Takes the machine of step `at`, which is below the bound, to the next step, counts the step, and tells the pages that were written:
-/// the page that the step stores to, and then the page in which the tamper flips a byte. No other page changes. A page goes by its
+/// Takes the machine of step `at`, which is below the bound, to the next step, and counts the step. The result is the pages that were
+/// written: the page that the step stores to, and then the page in which the tamper flips a byte. No other page changes. A page goes by its
 /// number, below 2^20. It keeps the chain by the digester `d`. An `Err` is out of memory: `at` is as it was then, and the machine is lost,
 /// as it need not be at this step any more.
 pub fn next<D: Digester>(
@@ -208,7 +208,7 @@ pub fn next<D: Digester>(
 }
 
 /// Takes the machine of step `at` towards a later step, the goal: to the next step, or at once over a stretch in which nothing happens, to
-/// the goal or to the step of the tamper if that comes first. `at` is the step to which it came. What comes back is as by `next`: the pages
+/// the goal or to the step of the tamper if that comes first. `at` is the step that it reached. The result is as by `next`: the pages
 /// that were written on the way. An `Err` is out of memory: `at` is as it was then, and the machine is lost, as it need not be at this step
 /// any more.
 pub fn advance<D: Digester>(

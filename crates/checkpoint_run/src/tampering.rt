@@ -113,7 +113,7 @@ fn step_from<D: Digester>(
     Ok(page)
 }
 
-/// Takes the machine of step `i` to the next one, and tells the pages that were written: that of the step's store, and then
+/// Takes the machine of step `i` to the next one. The result is the pages that were written: that of the step's store, and then
 /// that of a byte that is flipped. An `Err` is out of memory.
 #[inline(always)]
 pub fn follow<D: Digester>(

@@ -9,11 +9,11 @@
 //! run's input, which version 3 has, is made once a call, or once for all runs of a machine if the caller hands it on
 //! (`run_input_root`, `roots_with_input`).
 //!
-//! The steps are cut into at most as many pieces as there are workers, which is proved of `piece_size`. Each worker goes from step to
-//! step with one tree of memory and, from version 2 on, one of registers, so that what differs alone is digested. It carries out the
-//! steps in between if the next step lies ahead, and either is near, measured by the pages in use, or has no checkpoint before it; else
-//! it replays from the last checkpoint up to the step, and compares all pages in use. That is not proved: it is read in `cursor`, and tests
-//! in `test_provers` count the digests. Read `specs/Roots.antt` first, then `kept_run`, `replaying` and `cursor`.
+//! The steps are cut into at most as many pieces as there are workers, which is proved of `piece_size`. Each worker goes from step to step
+//! with one tree of memory and, from version 2 on, one of registers, so that what differs alone is digested. It carries out the steps in
+//! between if the next step lies ahead, and either is near, measured by the pages in use, or has no checkpoint before it; else it replays
+//! from the last checkpoint up to the step, and compares all pages in use. This isn't proved: the code of `cursor` shows it, and tests in
+//! `test_provers` count the digests. Read `specs/Roots.antt` first, then `kept_run`, `replaying` and `cursor`.
 #![tactic(auto)]
 
 mod cursor;

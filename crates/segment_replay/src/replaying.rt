@@ -50,7 +50,7 @@ fn replayed<D: Digester + Send + Sync, R: Threads + Sync>(
     Ok(roots)
 }
 
-/// Of steps that are cut into pieces of a size, the piece with a place, from 0; none behind the last one.
+/// The piece with a place, from 0, of steps that are cut into pieces of a size; none behind the last one.
 fn piece_at(steps: &[u64], size: usize, place: usize) -> &[u64]
     ensures { result.now ≡ slice_chunk steps.now size place }
 {
@@ -162,7 +162,7 @@ fn joined<D: Digester>(alloc: Global, workers: &[Worker<D>]) -> Result<Vec<Diges
 }
 
 /// The roots of steps, by the workers that a run keeps. The steps are cut into at most `count` (at
-/// least 1) pieces of consecutive entries, one for each worker, whose cursor stands where it made its last root. A single piece is made in
+/// least 1) pieces of consecutive entries, one for each worker, whose cursor is where it made its last root. A single piece is made in
 /// the caller's thread; other threads help only if its worker has no tree yet. An `Err` is out of memory; a worker that was making a
 /// root then builds its next tree anew.
 pub fn roots_by<D: Digester + Send + Sync, R: Threads + Sync>(
@@ -191,8 +191,8 @@ pub fn roots_by<D: Digester + Send + Sync, R: Threads + Sync>(
     joined(alloc, workers)
 }
 
-/// `roots`, from the root of the run's input, which `run_input_root` gives. So it is made once, however often roots are asked of a
-/// run, or of runs of one machine.
+/// `roots`, from the root of the run's input, which `run_input_root` gives. So it is made once, however often roots are asked of a run, or
+/// of runs of one machine. An `Err` is out of memory.
 pub fn roots_with_input<D: Digester + Send + Sync, R: Threads + Sync>(
     rt: &R,
     alloc: Global,
