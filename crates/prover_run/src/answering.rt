@@ -3,10 +3,10 @@ ghost use denote.Param.Send.{IsSync};
 ghost use Rattle.std.specs.Prelude.{◌≡◌, ◌<◌, ◌≤◌, ℕ, IfOk, IfSome, List, length, map};
 ghost use Rattle.checkpoint_run.specs.Recorded.{state_of_step};
 ghost use Rattle.segment_replay.specs.Roots.{root_at, digests};
-ghost use Rattle.bisect_game.specs.Bisection.{steps_asked};
 ghost use Rattle.prover_run.specs.Plain as plain;
 ghost use Rattle.prover_run.specs.Prover.{Prover, IsRunOf, AreKept, run_of, root_of};
 
+use crate::plan::Plan;
 use bisect_game::{Kind, steps_asked};
 use open_proof::{make_claim, make_proof};
 use rd_base::{Answer, Boxed, Digest32, Memory, RootList};
@@ -15,13 +15,12 @@ use std::alloc::Global;
 use std::collections::BTreeMap;
 use std::thread::Threads;
 
-/// By what a recorded run is replayed.
-#[derive(Clone, Copy)]
+/// By what a run is recorded and replayed.
+#[derive(Drop)]
 pub struct RunReader<D: Replays> {
     pub alloc: Global,
     pub d: D,
-    /// In how many pieces at most the roots that one question asks are made, side by side; at least 1.
-    pub workers: u32,
+    pub plan: Plan,
 }
 
 /// Keeps the root of a step. An `Err` is out of memory.
@@ -48,12 +47,11 @@ fn made<D: Replays, R: Threads + Sync>(
     step: u64,
 ) -> Result<Digest32, Memory>
     requires sync { IsSync R.row }
-    requires workers { 0 < reader.now.workers }
     ensures root { IfOk result (λ r. r.0 ≡ root_at D.digest_of run.old step) }
     ensures run { run.new ≡ run.old }
 {
-    let RunReader { alloc, d, workers } = *reader;
-    let roots = d.roots_of(rt, alloc, run, &[step], workers)?;
+    let RunReader { alloc, d, plan } = *reader;
+    let roots = d.roots_of(rt, alloc, run, &[step], plan.workers)?;
     Ok(roots[0])
 }
 
@@ -66,7 +64,6 @@ fn root<D: Replays, R: Threads + Sync>(
     step: u64,
 ) -> Result<Digest32, Memory>
     requires sync { IsSync R.row }
-    requires workers { 0 < reader.now.workers }
     ensures kept { (root : ℕ → List ℕ) → root ≡ root_at D.digest_of run.old → AreKept root kept.old.entries → AreKept root kept.new.entries }
     ensures root { (root : ℕ → List ℕ) → root ≡ root_at D.digest_of run.old → AreKept root kept.old.entries → IfOk result (λ r. r.0 ≡ root step) }
     ensures run { run.new ≡ run.old }
@@ -116,30 +113,28 @@ fn keep_all(
     keep_all(kept, later_steps, later_roots)
 }
 
-/// The roots at the cuts of an interval, which are kept, or else are made in one go and kept. An `Err` is out of memory.
+/// The roots of 1 to 15 steps, in their order, which are kept, or else are made in one go and kept. An `Err` is out of memory.
 #[tactic(auto, using(crate::proofs::RunLemmas::same_length))]
-fn roots_at_cuts<D: Replays, R: Threads + Sync>(
+fn roots_of_steps<D: Replays, R: Threads + Sync>(
     rt: &R,
     reader: &RunReader<D>,
     run: &mut KeptRun<D>,
     kept: &mut BTreeMap<u64, Digest32>,
-    lo: u64,
-    hi: u64,
-    parts: u32,
+    steps: &[u64],
 ) -> Result<RootList, Memory>
     requires sync { IsSync R.row }
-    requires workers { 0 < reader.now.workers }
+    requires some { 0 < length steps.now }
+    requires few { length steps.now ≤ 15 }
     ensures kept { (root : ℕ → List ℕ) → root ≡ root_at D.digest_of run.old → AreKept root kept.old.entries → AreKept root kept.new.entries }
-    ensures roots { (root : ℕ → List ℕ) → root ≡ root_at D.digest_of run.old → AreKept root kept.old.entries → IfOk result (λ l. digests l ≡ map root (steps_asked lo hi parts)) }
+    ensures roots { (root : ℕ → List ℕ) → root ≡ root_at D.digest_of run.old → AreKept root kept.old.entries → IfOk result (λ l. digests l ≡ map root steps.now) }
     ensures run { run.new ≡ run.old }
 {
-    let RunReader { alloc, d, workers } = *reader;
-    let steps = steps_asked(alloc, lo, hi, parts)?;
-    if let Some(roots) = kept_roots(alloc, kept, &steps)? {
+    let RunReader { alloc, d, plan } = *reader;
+    if let Some(roots) = kept_roots(alloc, kept, steps)? {
         return Ok(RootList::new(roots).unwrap());
     }
-    let roots = d.roots_of(rt, alloc, run, &steps, workers)?;
-    keep_all(kept, &steps, &roots)?;
+    let roots = d.roots_of(rt, alloc, run, steps, plan.workers)?;
+    keep_all(kept, steps, &roots)?;
     Ok(RootList::new(roots).unwrap())
 }
 
@@ -154,7 +149,6 @@ pub fn plain_answer<D: Replays, R: Threads + Sync>(
     kind: Kind,
 ) -> Result<Answer, Memory>
     requires sync { IsSync R.row }
-    requires workers { 0 < reader.now.workers }
     requires short { length (state_of_step run.old run.old.bound).output ≤ 4294967295 }
     ensures kept { (p : Prover) → IsRunOf D.digest_of p run.old → AreKept (root_of D.digest_of p) kept.old.entries → AreKept (root_of D.digest_of p) kept.new.entries }
     ensures answer { (p : Prover) → IsRunOf D.digest_of p run.old → AreKept (root_of D.digest_of p) kept.old.entries →
@@ -168,7 +162,8 @@ pub fn plain_answer<D: Replays, R: Threads + Sync>(
             Ok(Answer::Root(root))
         }
         Kind::Roots { lo, hi, parts } => {
-            let roots = roots_at_cuts(rt, reader, run, kept, lo, hi, parts)?;
+            let steps = steps_asked(alloc, lo, hi, parts)?;
+            let roots = roots_of_steps(rt, reader, run, kept, &steps)?;
             Ok(Answer::Roots(roots))
         }
         Kind::Claim => {

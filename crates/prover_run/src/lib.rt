@@ -4,7 +4,7 @@
 //! machine's own with what a tamper does to it, in the version of the commitment that the machine has, and no call changes
 //! what it answers, not even one that runs out of memory; `CaseProvers` tells what each prover of a case says, by its
 //! script (`specs/CaseScripts.antt`), and where it waits; `answerers_of` makes the answerers that say so. In version 3 they share one
-//! tree of the input, which `answerers_with_input` takes from its caller. What an untouched
+//! tree of the input, which `answerers_with_input` gets in its `Start`. What an untouched
 //! script says in the words of the sequential run is in `laws`, and that each prover stays with its answer.
 //!
 //! A root is made from the root that was made last, as the run is kept with a cursor for each worker (`KeptRun`). If several roots are
@@ -15,9 +15,13 @@
 
 mod answering;
 mod laws;
+mod plan;
 mod prover;
 mod provers;
+mod start;
 
 pub use laws::{harmless_manners, outputs_grow_slowly, provers_are_steady, untouched_provers};
+pub use plan::Plan;
 pub use prover::RunAnswerer;
 pub use provers::{CaseNames, CaseProvers, answerers_of, answerers_with_input};
+pub use start::Start;

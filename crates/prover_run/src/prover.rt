@@ -6,6 +6,7 @@ ghost use Rattle.prover_run.specs.Prover.{IsRunOf};
 
 use crate::answering::{RunReader, plain_answer};
 use crate::laws::outputs_grow_slowly;
+use crate::plan::Plan;
 use bisect_game::{Answerer, Question};
 use checkpoint_run::{record_run, tampered_runs_keep_the_input};
 use rd_base::{Answer, Digest32, Memory, Tamper};
@@ -22,15 +23,11 @@ use std::thread::Threads;
 /// Contracts see it as the state from which the run starts, what is wrong with the run, and how far it goes.
 #[derive(Drop)]
 pub struct RunAnswerer<D: Replays> {
-    alloc: Global,
-    d: D,
+    reader: RunReader<D>,
     start: Machine,
     /// The tree of the machine's input, and so of the run's.
     input: SharedInput<D>,
-    bound: u64,
-    every: u32,
     tamper: Tamper,
-    workers: u32,
     /// The run, with what its last roots were made of.
     run: Option<KeptRun<D>>,
     /// The roots that were asked for so far, by their steps.
@@ -45,9 +42,9 @@ impl<D: Replays> Model for RunAnswerer<D> {
 
     ghost coded = { prover_code };
 
-    ghost view = { λ p. record { start = state_of p.start; tamper = p.tamper; bound = p.bound } };
+    ghost view = { λ p. record { start = state_of p.start; tamper = p.tamper; bound = p.reader.plan.bound } };
 
-    ghost invariant = { λ p. IsReady D.digest_of (record { start = state_of p.start; tamper = p.tamper; bound = p.bound }) p.start p.input p.every p.workers p.run p.roots.entries };
+    ghost invariant = { λ p. IsReady D.digest_of (record { start = state_of p.start; tamper = p.tamper; bound = p.reader.plan.bound }) p.start p.input p.run p.roots.entries };
 }
 
 impl<D: Replays> RunAnswerer<D> {
@@ -72,7 +69,12 @@ impl<D: Replays> RunAnswerer<D> {
         ensures { IfOk result (λ p. p ≡ record { start = state_of machine.now; tamper = tamper; bound = bound }) }
     {
         let input = SharedInput::of(alloc, d, machine)?;
-        RunAnswerer::with_input(alloc, d, machine, input, bound, every, tamper, workers)
+        let plan = Plan {
+            bound,
+            every,
+            workers,
+        };
+        RunAnswerer::with_input(alloc, d, machine, input, tamper, plan)
     }
 
     /// `new`, from the tree of the machine's input, so that no part of the input is digested.
@@ -81,29 +83,20 @@ impl<D: Replays> RunAnswerer<D> {
         d: D,
         machine: &Machine,
         input: SharedInput<D>,
-        bound: u64,
-        every: u32,
         tamper: Tamper,
-        workers: u32,
+        plan: Plan,
     ) -> Result<Self, Memory>
         requires chained { IsChained D.digest_of machine.now }
         requires silent { machine.now.output.items ≡ [] }
         requires input { HasInput D.digest_of (state_of machine.now) input }
-        requires bound { bound < 2 ^ 32 }
-        requires every { 0 < every }
-        requires workers { 0 < workers }
-        ensures { IfOk result (λ p. p ≡ record { start = state_of machine.now; tamper = tamper; bound = bound }) }
+        ensures { IfOk result (λ p. p ≡ record { start = state_of machine.now; tamper = tamper; bound = plan.bound }) }
     {
         let start = machine.copy()?;
         Ok(RunAnswerer {
-            alloc,
-            d,
+            reader: RunReader { alloc, d, plan },
             start,
             input,
-            bound,
-            every,
             tamper,
-            workers,
             run: None,
             roots: BTreeMap::new(alloc),
         })
@@ -112,27 +105,24 @@ impl<D: Replays> RunAnswerer<D> {
 
 /// The run at hand, or else the recorded run of a prover. An `Err` is out of memory.
 fn recorded<D: Replays>(
-    alloc: Global,
-    d: D,
+    reader: &RunReader<D>,
     start: &Machine,
     input: &SharedInput<D>,
-    bound: u64,
-    every: u32,
     tamper: Tamper,
     at_hand: Option<KeptRun<D>>,
 ) -> Result<KeptRun<D>, Memory>
     requires chained { IsChained D.digest_of start.now }
     requires input { HasInput D.digest_of (state_of start.now) input.now }
-    requires every { 0 < every }
-    requires recorded { IfSome at_hand (IsRunOf D.digest_of (record { start = state_of start.now; tamper = tamper; bound = bound })) }
-    ensures { IfOk result (IsRunOf D.digest_of (record { start = state_of start.now; tamper = tamper; bound = bound })) }
+    requires recorded { IfSome at_hand (IsRunOf D.digest_of (record { start = state_of start.now; tamper = tamper; bound = reader.now.plan.bound })) }
+    ensures { IfOk result (IsRunOf D.digest_of (record { start = state_of start.now; tamper = tamper; bound = reader.now.plan.bound })) }
 {
     match at_hand {
         Some(run) => Ok(run),
         None => {
             tampered_runs_keep_the_input();
             one_input_has_one_tree();
-            let run = record_run(alloc, d, start, bound, every, tamper)?;
+            let RunReader { alloc, d, plan } = *reader;
+            let run = record_run(alloc, d, start, plan.bound, plan.every, tamper)?;
             Ok(KeptRun::new(alloc, d, run, input.share()?))
         }
     }
@@ -150,22 +140,9 @@ impl<D: Replays> Answerer for RunAnswerer<D> {
         _passes: u32,
     ) -> Result<Option<Answer>, Memory> {
         outputs_grow_slowly();
-        let mut run = recorded(
-            self.alloc,
-            self.d,
-            &self.start,
-            &self.input,
-            self.bound,
-            self.every,
-            self.tamper,
-            self.run.take(),
-        )?;
-        let reader = RunReader {
-            alloc: self.alloc,
-            d: self.d,
-            workers: self.workers,
-        };
-        let answer = plain_answer(rt, &reader, &mut run, &mut self.roots, question.kind);
+        let at_hand = self.run.take();
+        let mut run = recorded(&self.reader, &self.start, &self.input, self.tamper, at_hand)?;
+        let answer = plain_answer(rt, &self.reader, &mut run, &mut self.roots, question.kind);
         self.run = Some(run);
         Ok(Some(answer?))
     }

@@ -5,7 +5,9 @@ ghost use Rattle.state_commit.specs.Committing.{HasInput};
 ghost use Rattle.bisect_game.specs.Says.{AnswerAs};
 ghost use Rattle.prover_run.specs.CaseScripts.{script_says, case_says};
 
+use crate::plan::Plan;
 use crate::prover::RunAnswerer;
+use crate::start::Start;
 use bisect_game::{Answerer, Provers, Question};
 use digest_core::Digester;
 use prover_script::{Scripted, waits};
@@ -121,28 +123,19 @@ impl<D: Digester> Provers for CaseProvers<D> {
     ghost give_one_answer = { λ n. case_provers_give_one_answer D.digest_of n.start n.bound n.scripts };
 }
 
-/// The answerer of a script, whose run goes from a machine with this input up to the step `bound`. An `Err` is out of memory.
+/// The answerer of a script, whose run starts there and goes by this plan. An `Err` is out of memory.
 fn answerer_of<D: Replays>(
     alloc: Global,
     d: D,
     script: &Script,
-    machine: &Machine,
-    input: &SharedInput<D>,
-    bound: u64,
-    every: u32,
-    workers: u32,
+    start: &Start<'_, D>,
+    plan: Plan,
 ) -> Result<Scripted<RunAnswerer<D>, D>, Memory>
-    requires chained { IsChained D.digest_of machine.now }
-    requires silent { machine.now.output.items ≡ [] }
-    requires input { HasInput D.digest_of (state_of machine.now) input.now }
-    requires bound { bound < 2 ^ 32 }
-    requires every { 0 < every }
-    requires workers { 0 < workers }
-    ensures { IfOk result (λ a. ⟦<Scripted<RunAnswerer<D>, D> as Answerer>⟧.answers a ≡ script_says D.digest_of (state_of machine.now) bound script.now) }
+    ensures { IfOk result (λ a. ⟦<Scripted<RunAnswerer<D>, D> as Answerer>⟧.answers a ≡ script_says D.digest_of start.now plan.bound script.now) }
 {
-    let input = input.share()?;
+    let input = start.input().share()?;
     let tamper = script.tamper;
-    let inner = RunAnswerer::with_input(alloc, d, machine, input, bound, every, tamper, workers)?;
+    let inner = RunAnswerer::with_input(alloc, d, start.machine(), input, tamper, plan)?;
     let manner = script.manner.copy(alloc)?;
     Ok(Scripted::new(alloc, d, inner, manner))
 }
@@ -152,88 +145,52 @@ fn put_answerers<D: Replays>(
     alloc: Global,
     d: D,
     scripts: &[Script],
-    machine: &Machine,
-    input: &SharedInput<D>,
-    bound: u64,
-    every: u32,
-    workers: u32,
+    start: &Start<'_, D>,
+    plan: Plan,
     answerers: &mut Vec<Scripted<RunAnswerer<D>, D>>,
 ) -> Result<(), Memory>
-    requires chained { IsChained D.digest_of machine.now }
-    requires silent { machine.now.output.items ≡ [] }
-    requires input { HasInput D.digest_of (state_of machine.now) input.now }
-    requires bound { bound < 2 ^ 32 }
-    requires every { 0 < every }
-    requires workers { 0 < workers }
-    ensures { OnOk result (map ⟦<Scripted<RunAnswerer<D>, D> as Answerer>⟧.answers answerers.new.items ≡ map ⟦<Scripted<RunAnswerer<D>, D> as Answerer>⟧.answers answerers.old.items ++ map (script_says D.digest_of (state_of machine.now) bound) scripts.now) }
+    ensures { OnOk result (map ⟦<Scripted<RunAnswerer<D>, D> as Answerer>⟧.answers answerers.new.items ≡ map ⟦<Scripted<RunAnswerer<D>, D> as Answerer>⟧.answers answerers.old.items ++ map (script_says D.digest_of start.now plan.bound) scripts.now) }
 {
     let [script, rest @ ..] = scripts else {
         return Ok(());
     };
-    let answerer = answerer_of(alloc, d, script, machine, input, bound, every, workers)?;
+    let answerer = answerer_of(alloc, d, script, start, plan)?;
     answerers.push(answerer)?;
-    put_answerers(
-        alloc, d, rest, machine, input, bound, every, workers, answerers,
-    )
+    put_answerers(alloc, d, rest, start, plan, answerers)
 }
 
-/// The answerers of the provers with these scripts, in their order, whose runs go from a machine up to the step `bound`, below
-/// 2^32. Each run is recorded with a checkpoint at every `every` steps (at least 1), and the roots that one question asks
-/// are made in at most `workers` pieces (at least 1), side by side. The machine has put out nothing, and its chain is that of no output
-/// by the digester `d`. `input` is the tree of the machine's input, so that no part of the input is digested. An `Err` is out of memory.
+/// The answerers of the provers with these scripts, in their order, whose runs start there and go by this plan. No part of the input is
+/// digested. An `Err` is out of memory.
 pub fn answerers_with_input<D: Replays>(
     alloc: Global,
     d: D,
     scripts: &[Script],
-    machine: &Machine,
-    input: &SharedInput<D>,
-    bound: u64,
-    every: u32,
-    workers: u32,
+    start: &Start<'_, D>,
+    plan: Plan,
 ) -> Result<Vec<Scripted<RunAnswerer<D>, D>>, Memory>
-    requires chained { IsChained D.digest_of machine.now }
-    requires silent { machine.now.output.items ≡ [] }
-    requires input { HasInput D.digest_of (state_of machine.now) input.now }
-    requires bound { bound < 2 ^ 32 }
-    requires every { 0 < every }
-    requires workers { 0 < workers }
     ensures count { IfOk result (λ v. length v.items ≡ length scripts.now) }
-    ensures answers { IfOk result (λ v. AnswerAs ⟦<Scripted<RunAnswerer<D>, D> as Answerer>⟧.answers (case_says D.digest_of (state_of machine.now) bound scripts.now) 1 v.items) }
+    ensures answers { IfOk result (λ v. AnswerAs ⟦<Scripted<RunAnswerer<D>, D> as Answerer>⟧.answers (case_says D.digest_of start.now plan.bound scripts.now) 1 v.items) }
 {
     let mut answerers = Vec::new(alloc);
-    put_answerers(
-        alloc,
-        d,
-        scripts,
-        machine,
-        input,
-        bound,
-        every,
-        workers,
-        &mut answerers,
-    )?;
+    put_answerers(alloc, d, scripts, start, plan, &mut answerers)?;
     Ok(answerers)
 }
 
-/// `answerers_with_input`, which builds the tree of the machine's input itself, once for all of them. Only version 3 has one. An `Err`
-/// is out of memory.
+/// `answerers_with_input` for runs that start in this machine, which has put out nothing, and whose chain is that of no output by the
+/// digester `d`. It builds the tree of the machine's input itself, once for all of them; only version 3 has one. An `Err` is out of memory.
 pub fn answerers_of<D: Replays>(
     alloc: Global,
     d: D,
     scripts: &[Script],
     machine: &Machine,
-    bound: u64,
-    every: u32,
-    workers: u32,
+    plan: Plan,
 ) -> Result<Vec<Scripted<RunAnswerer<D>, D>>, Memory>
     requires chained { IsChained D.digest_of machine.now }
     requires silent { machine.now.output.items ≡ [] }
-    requires bound { bound < 2 ^ 32 }
-    requires every { 0 < every }
-    requires workers { 0 < workers }
     ensures count { IfOk result (λ v. length v.items ≡ length scripts.now) }
-    ensures answers { IfOk result (λ v. AnswerAs ⟦<Scripted<RunAnswerer<D>, D> as Answerer>⟧.answers (case_says D.digest_of (state_of machine.now) bound scripts.now) 1 v.items) }
+    ensures answers { IfOk result (λ v. AnswerAs ⟦<Scripted<RunAnswerer<D>, D> as Answerer>⟧.answers (case_says D.digest_of (state_of machine.now) plan.bound scripts.now) 1 v.items) }
 {
     let input = SharedInput::of(alloc, d, machine)?;
-    answerers_with_input(alloc, d, scripts, machine, &input, bound, every, workers)
+    let start = Start::new(machine, &input);
+    answerers_with_input(alloc, d, scripts, &start, plan)
 }

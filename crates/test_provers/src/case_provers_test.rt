@@ -7,7 +7,7 @@ use crate::manners::{Named, OnTape, manner_of};
 use crate::programs::{EIGHT_STEPS, machine_in};
 use bisect_game::{Kind, Provers, Question};
 use digest_core::Sha256;
-use prover_run::{CaseProvers, RunAnswerer, answerers_of};
+use prover_run::{CaseProvers, Plan, RunAnswerer, answerers_of};
 use prover_script::Scripted;
 use rd_base::{Memory, Script, Tamper};
 use std::alloc::Global;
@@ -52,7 +52,12 @@ fn playing(alloc: Global, provers: &[(Tamper, Named)]) -> Result<Playing, Memory
     let scripts = scripts_of(alloc, provers)?;
     let scripts = &scripts[..scripts.len().min(16)];
     let machine = machine_in(alloc, 1, &EIGHT_STEPS, &[])?;
-    let answerers = answerers_of(alloc, Sha256, scripts, &machine, 8, 1024, 1)?;
+    let plan = Plan {
+        bound: 8,
+        every: 1024,
+        workers: 1,
+    };
+    let answerers = answerers_of(alloc, Sha256, scripts, &machine, plan)?;
     let provers = CaseProvers::new(alloc, Sha256, scripts, machine, 8)?;
     Ok((provers, answerers))
 }

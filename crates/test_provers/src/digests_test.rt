@@ -8,7 +8,7 @@ use crate::manners::{Named, manner_of};
 use crate::programs::machine_in;
 use bisect_game::{Answerer, Kind};
 use digest_core::{Digester, Sha256};
-use prover_run::{RunAnswerer, answerers_of};
+use prover_run::{Plan, RunAnswerer, answerers_of};
 use rd_base::{Digest32, Manner, Memory, Script, Tamper};
 use rv_step::Machine;
 use segment_replay::{KeptRun, Replays};
@@ -231,7 +231,12 @@ fn digests_of_provers<R: Threads + Sync>(
         made: &made,
     };
     let d = Counting { of };
-    let mut answerers = answerers_of(alloc, d, scripts, machine, 24, 4, workers.max(1))?;
+    let plan = Plan {
+        bound: 24,
+        every: 4,
+        workers: workers.max(1),
+    };
+    let mut answerers = answerers_of(alloc, d, scripts, machine, plan)?;
     let before = made.load(Ordering::SeqCst);
     for answerer in answerers.iter_mut() {
         ask_all(rt, answerer, kinds)?;
