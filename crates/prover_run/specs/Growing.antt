@@ -1,4 +1,4 @@
--- Derived: a run puts out one byte a step at most.
+-- Derived: a run writes one byte of output a step at most.
 use Rattle.std.specs.Prelude.{ℕ, ◌+◌, ◌≤◌, length}
 use Rattle.rd_base.specs.declared.tamper.Tamper.{Tamper}
 use Rattle.rv_step.specs.State.{State}

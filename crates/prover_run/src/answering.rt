@@ -95,7 +95,7 @@ fn kept_roots(
     Ok(Some(roots))
 }
 
-/// Keeps the roots of steps, which stand in the same order. An `Err` is out of memory, after some were kept.
+/// Keeps the roots of steps, which are in the same order. An `Err` is out of memory, after some were kept.
 fn keep_all(
     kept: &mut BTreeMap<u64, Digest32>,
     steps: &[u64],

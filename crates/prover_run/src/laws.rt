@@ -18,7 +18,7 @@ use checkpoint_run::tampered_runs;
 use mem_plain::numbers_lie_in_chunks;
 use open_proof::states_name_registers;
 
-/// A run puts out one byte a step at most, whatever the tamper.
+/// A run writes one byte of output a step at most, whatever the tamper.
 pub fn outputs_grow_slowly()
     ensures { OutputGrowsSlowly }
 {}

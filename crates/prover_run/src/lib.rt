@@ -8,9 +8,9 @@
 //! script says in the words of the sequential run is in `laws`, and that each prover stays with its answer.
 //!
 //! A root is made from the root that was made last, as the run is kept with a cursor for each worker (`KeptRun`). If several roots are
-//! asked at once, as in rounds of more than two parts, the workers share them. That a run is recorded once and each root is made
-//! once is read in `prover` and `answering`, and not proved; tests in `test_provers` count the digests. Read `specs/Plain.antt` first,
-//! then `prover`, then `provers`.
+//! asked at once, as in rounds of more than two parts, the workers share them. A run is recorded once, and each root is made once. This
+//! isn't proved: the code of `prover` and `answering` shows it, and tests in `test_provers` count the digests. Read `specs/Plain.antt`
+//! first, then `prover`, then `provers`.
 #![tactic(auto)]
 
 mod answering;

@@ -66,7 +66,7 @@ impl<D: Digester> Model for CaseProvers<D> {
     ghost invariant = { λ c. vec_len c.scripts < 2 ^ 32 };
 }
 
-/// The scripts once more. An `Err` is out of memory.
+/// Copies of the scripts. An `Err` is out of memory.
 fn copied(alloc: Global, scripts: &[Script]) -> Result<Vec<Script>, Memory>
     ensures { IfOk result (λ v. v.items ≡ scripts.now) }
 {
@@ -176,7 +176,7 @@ pub fn answerers_with_input<D: Replays>(
     Ok(answerers)
 }
 
-/// `answerers_with_input` for runs that start in this machine, which has put out nothing, and whose chain is that of no output by the
+/// `answerers_with_input` for runs that start in this machine, which has no output, and whose chain is that of no output by the
 /// digester `d`. It builds the tree of the machine's input itself, once for all of them; only version 3 has one. An `Err` is out of memory.
 pub fn answerers_of<D: Replays>(
     alloc: Global,

@@ -8,7 +8,7 @@ use rv_step::Machine;
 use state_commit::SharedInput;
 use std::marker::Model;
 
-/// Where provers' runs start: a machine that has put out nothing, whose chain is that of no output, and the tree of its input.
+/// Where provers' runs start: a machine that has no output, whose chain is that of no output, and the tree of its input.
 ///
 /// Contracts see it as the machine's state.
 #[derive(Drop)]
@@ -33,7 +33,7 @@ impl<'m, D: Digester> Model for Start<'m, D> {
 }
 
 impl<'m, D: Digester> Start<'m, D> {
-    /// A start in this machine, with the tree of its input. The machine has put out nothing, and its chain is that of no output by the
+    /// A start in this machine, with the tree of its input. The machine has no output, and its chain is that of no output by the
     /// digester.
     pub fn new(machine: &'m Machine, input: &'m SharedInput<D>) -> Self
         requires chained { IsChained D.digest_of machine.now }
