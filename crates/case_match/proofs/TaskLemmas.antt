@@ -91,11 +91,12 @@ one-more-said {A} {N} {M} answers says old own now books later b joined pushed s
     ∙ (sym (sayings-last says (openings books) b.opening)
     ∙ ap (sayings says) (sym (ap openings pushed ∙ map-append (λ (y : BookOf N M). y.opening) books (b ∷ []))))))
 
--- what a case's answerers say
-
-pub scripts-said : {A : Type 0} (answers : A → Question → ℕ → Option Answer) (digest : List ℕ → List ℕ) (start : State) (bound : ℕ) (scripts others : List Script) (xs : List A)
-    → scripts ≡ others → AnswerAs answers (case_says digest start bound scripts) 1 xs → AnswerAs answers (case_says digest start bound others) 1 xs
-scripts-said answers digest start bound scripts others xs same say = subst (λ (ss : List Script). AnswerAs answers (case_says digest start bound ss) 1 xs) same say
+-- what a case's answerers say, from the same start by the same scripts
+pub scripts-said : {A : Type 0} (answers : A → Question → ℕ → Option Answer) (digest : List ℕ → List ℕ) (first start : State) (bound : ℕ) (scripts others : List Script) (xs : List A)
+    → first ≡ start → scripts ≡ others → AnswerAs answers (case_says digest first bound scripts) 1 xs → AnswerAs answers (case_says digest start bound others) 1 xs
+scripts-said answers digest first start bound scripts others xs from same say =
+    subst (λ (s : State). AnswerAs answers (case_says digest s bound others) 1 xs) from
+    (subst (λ (ss : List Script). AnswerAs answers (case_says digest first bound ss) 1 xs) same say)
 
 pub said-in-order : {A : Type 0} (answers : A → Question → ℕ → Option Answer) → SayInOrder answers → (digest : List ℕ → List ℕ) (start : State) (bound : ℕ) (scripts : List Script) (xs : List A)
     → length xs ≡ length scripts → AnswerAs answers (case_says digest start bound scripts) 1 xs → map answers xs ≡ sayings_from (case_says digest start bound scripts) 1 (length scripts)

@@ -14,7 +14,7 @@ use bisect_game::{Answerer, Provers};
 use board_book::{Book, answerers_say_in_order};
 use case_reader::Case;
 use command_line::Options;
-use prover_run::{CaseProvers, RunAnswerer, answerers_with_input};
+use prover_run::{CaseProvers, Plan, RunAnswerer, Start, answerers_with_input};
 use prover_script::Scripted;
 use rd_base::Memory;
 use rv_step::Machine;
@@ -49,16 +49,12 @@ fn open_match<D: Replays>(
     let root = state_root_with(d, &start, &input);
     let scripts = case.provers.as_slice();
     let judge = MachineJudge::new(d, start.version);
-    let answerers = answerers_with_input(
-        alloc,
-        d,
-        scripts,
-        &start,
-        &input,
-        case.bound,
-        options.every,
-        options.workers,
-    )?;
+    let plan = Plan {
+        bound: case.bound,
+        every: options.every,
+        workers: options.workers,
+    };
+    let answerers = answerers_with_input(alloc, d, scripts, &Start::new(&start, &input), plan)?;
     let provers = CaseProvers::new(alloc, d, scripts, start, case.bound)?;
     let book = Book::open(
         alloc,
