@@ -1,5 +1,5 @@
--- To believe: what a prover has once a case is over, if it has deposits. Who is live in the record of a case has its own stake and one for each of
--- its disputes but that of a collision, and the others and the pool have the rest.
+-- To believe: what a prover has once a case is over, if it has deposits. Who is live in the record of a case has its own stake and one for
+-- each of its disputes but that of a collision, and the others and the pool have the rest.
 use Rattle.std.specs.Prelude.{◌≡◌, ℕ, ◌<◌, ◌≤◌, true}
 use Rattle.bisect_game.specs.Rules.{Rules, ArePlayable}
 use Rattle.bisect_game.specs.Says.{Says}

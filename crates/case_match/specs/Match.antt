@@ -1,5 +1,5 @@
--- To believe. The match of a case by a digest function: by what it is played, what its provers say, and what comes of it. The referee sees no state
--- but the first, of which it makes the root, and decides about claims and proofs of single steps.
+-- To believe. The match of a case by a digest function: by what it is played, what its provers say, and its result. The referee sees no
+-- state but the first, of which it makes the root, and decides about claims and proofs of single steps.
 use Rattle.std.specs.Prelude.{ℕ, List, All, length, map, zip}
 use Rattle.rd_base.specs.declared.digest.Digest32.{Digest32}
 use Rattle.bisect_game.specs.Says.{Says}

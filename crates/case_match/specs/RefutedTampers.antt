@@ -1,6 +1,6 @@
--- To believe: where a tampered run is refuted. A prover of a case that answers by its own run, with a tamper, is out in each dispute with a prover
--- that claims and answers as the machine's definition says, and which step's proof refutes it is fixed by the tamper; or the dispute has
--- closed by a collision.
+-- To believe: where a tampered run is refuted. A prover of a case that answers by its own run, with a tamper, is out in each dispute with a
+-- prover that claims and answers as the machine's definition says, and which step's proof refutes it is fixed by the tamper; or the dispute
+-- has closed by a collision.
 use Rattle.std.specs.Prelude.{◌≡◌, ◌≢◌, ℕ, ◌+◌, ◌-◌, ◌<◌, ◌≤◌, ◌⊎◌, true, false, List, [], ◌∷◌, Some, slice_get}
 use Rattle.rd_base.specs.declared.script.Script.{Script}
 use Rattle.rd_base.specs.declared.tamper.Tamper.{Tamper}
@@ -24,8 +24,8 @@ pub record IsBackAt (digest : List ℕ → List ℕ) (c : CaseData) (start : Sta
   pub back : (truth_of_case digest c start).root i ≡ (truth_of_case digest c start).root s
   pub leaves : (truth_of_case digest c start).root (i + 1) ≢ (truth_of_case digest c start).root s
 
--- the proof of step i refutes a run with this tamper: if the state of step s is changed it is the step before, by which the sequential
--- run comes to its own state of step s, and step 0 if the first state is changed. A run that isn't tampered with is refuted nowhere.
+-- the proof of step i refutes a run with this tamper: if the state of step s is changed it is the step before, by which the sequential run
+-- reaches its own state of step s, and step 0 if the first state is changed. A run that isn't tampered with is refuted nowhere.
 abbrev pub IsRefutingStep : (List ℕ → List ℕ) → CaseData → State → Tamper → ℕ → Type 0
 IsRefutingStep digest c start Untouched i = ⊥
 IsRefutingStep digest c start (Flip at addr mask) i = i ≡ at - 1

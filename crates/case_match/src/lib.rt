@@ -1,12 +1,12 @@
 //! The match of a case: its provers' runs, the judge of the machine, and the bracket that they are played in; and those of many tasks.
 //!
-//! The layers above may rely on this: `ended_tasks` gives what came of the matches of loaded cases: the root at step 0, the record and the
-//! verdict of each, which are functions of the case, the state that its run starts in and the digester's function (`specs/Match.antt`),
-//! however many threads play them and whatever the others do. `verdict_of_case` is the same of one case, and `verdict_of_tasks` of cases and
-//! machines. A prover that claims and answers as the machine's definition says is safe in that record, which a law says for any digester
-//! (`specs/TruthfulInCase.antt`). Which scripts make a prover one of these says `specs/HonestScripts.antt`; in the proof of which step one
-//! with a tamper is refuted, `specs/RefutedTampers.antt`; where a dispute of two tampered runs ends, `specs/PartingRuns.antt`; and what a
-//! prover has at the end, `specs/Earnings.antt`.
+//! The layers above may rely on this: `ended_tasks` gives the results of the matches of loaded cases: the root at step 0, the record and
+//! the verdict of each, which are functions of the case, the state that its run starts in and the digester's function (`specs/Match.antt`),
+//! however many threads play them and whatever the others do. `verdict_of_case` is the same of one case, and `verdict_of_tasks` of cases
+//! and machines. A prover that claims and answers as the machine's definition says is safe in that record, which a law states for any
+//! digester (`specs/TruthfulInCase.antt`). `specs/HonestScripts.antt` defines which scripts make a prover one of these;
+//! `specs/RefutedTampers.antt`, in the proof of which step a prover with a tamper is refuted; `specs/PartingRuns.antt`, where a dispute of
+//! two tampered runs ends; and `specs/Earnings.antt`, what a prover has at the end.
 //!
 //! What decides a match is `referee`, which gets no case, no image and no machine. The crate reads no device and writes no text. Read
 //! `specs/Match.antt` first, then `playing`.

@@ -1,5 +1,5 @@
 //! The referee of matches. It gets books, answerers and how many posters there are, of any judge and any provers, and neither a case nor an
-//! image nor a machine. So its type says that the referee has no program: all that it learns of one are answers, which its judge tests.
+//! image nor a machine. So by its type the referee has no program: all that it learns of one are answers, which its judge tests.
 ghost use Rattle.std.specs.Prelude.{◌≡◌, ◌<◌, ◌≤◌, [], true, map, length, IfOk};
 ghost use Rattle.std.specs.List.{All};
 ghost use Rattle.tournament.specs.Bracket.{is_complete};
@@ -15,7 +15,7 @@ use std::sync::Wait;
 use std::thread::Threads;
 use tournament::{Record, Verdict};
 
-/// What came of a match: the numbers by which it was played, the root at step 0 among them, what was settled, and the verdict.
+/// The result of a match: the numbers by which it was played, the root at step 0 among them, what was settled, and the verdict.
 #[derive(Drop)]
 pub struct Ended {
     pub setup: Setup,
@@ -23,7 +23,7 @@ pub struct Ended {
     pub verdict: Verdict,
 }
 
-/// What came of the match of a book that is over.
+/// The result of the match of a book that is over.
 fn ending_of<J: Judge + Drop, P: Provers + Drop>(book: Book<J, P>) -> Ended
     requires { is_complete book.game.record_ ≡ true }
     ensures { result ≡ ended_alone J.ruling P.says book.opening }
@@ -40,7 +40,7 @@ fn ending_of<J: Judge + Drop, P: Provers + Drop>(book: Book<J, P>) -> Ended
     }
 }
 
-/// What came of the matches of books that are over, in their order. An `Err` is out of memory.
+/// The results of the matches of books that are over, in their order. An `Err` is out of memory.
 fn endings<J: Judge + Drop, P: Provers + Drop>(
     alloc: Global,
     mut books: Vec<Book<J, P>>,
@@ -56,9 +56,9 @@ fn endings<J: Judge + Drop, P: Provers + Drop>(
     Ok(ends)
 }
 
-/// Plays the matches of 1 to 8 books out, with this many posters over all of them, and decides them: what came of each, in their order.
-/// Their answerers are numbered through all books, and answer as their provers say. Each match ends as it ends alone, however many posters
-/// there are and whatever the others do. An `Err` is out of memory.
+/// Plays the matches of 1 to 8 books out, with this many posters over all of them, and decides them. The result has that of each, in their
+/// order. Their answerers are numbered through all books, and answer as their provers say. Each match ends as it ends alone, however many
+/// posters there are and whatever the others do. An `Err` is out of memory.
 pub fn decide<
     R: Threads + Wait + Sync,
     J: Judge + Drop + Send,
