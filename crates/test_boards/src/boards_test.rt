@@ -20,7 +20,7 @@ type ToyBoard = Board<ToyJudge, Cast>;
 
 type ToySeat = Seat<ToyJudge, Cast>;
 
-// Two players.
+/// Two players.
 fn two(first: Player, second: Player) -> Cast
     ensures count { result.count ≡ 2 }
     ensures first { says_of result.players 1 ≡ answers first }
@@ -32,7 +32,7 @@ fn two(first: Player, second: Player) -> Cast
     Cast { players, count: 2 }
 }
 
-// A board of two players, over eight steps, and its first seat.
+/// A board of two players, over eight steps, and its first seat.
 fn board_of(alloc: Global, cast: Cast, patience: u32) -> Result<(ToyBoard, ToySeat), Memory>
     requires two { cast.count ≡ 2 }
     requires patience { patience ≤ 100 }
@@ -42,7 +42,7 @@ fn board_of(alloc: Global, cast: Cast, patience: u32) -> Result<(ToyBoard, ToySe
     Board::new(alloc, book)
 }
 
-// What one of two players is asked.
+/// What one of two players is asked.
 #[tactic(auto, using(crate::proofs::ClaimLemmas::has_prover))]
 fn ask<R: Wait>(rt: &R, board: &ToyBoard, seat: &mut ToySeat, cast: Cast, p: u32) -> Asked
     requires seat { IsSeatOfTwo board.now cast seat.old }
@@ -57,7 +57,7 @@ fn ask<R: Wait>(rt: &R, board: &ToyBoard, seat: &mut ToySeat, cast: Cast, p: u32
 /// How a post was answered, and the place of its entry.
 type Receipt = (Replied, Option<u64>);
 
-// What a pass on its claim is answered, of one of two players that passes there at first.
+/// What a pass on its claim is answered, of one of two players that passes there at first.
 #[tactic(auto, using(crate::proofs::ClaimLemmas::has_prover))]
 fn pass<R: Wait>(
     rt: &R,
@@ -79,7 +79,7 @@ fn pass<R: Wait>(
     (reply_in_short(posted.reply), posted.receipt)
 }
 
-// What the claim of one of two players is answered.
+/// What the claim of one of two players is answered.
 #[tactic(auto, using(crate::proofs::ClaimLemmas::has_prover))]
 fn claim<R: Threads + Wait + Sync>(
     rt: &R,
@@ -111,7 +111,7 @@ fn claim<R: Threads + Wait + Sync>(
     }
 }
 
-// What one of two players is asked, and then its pass on its claim is answered, if it passes at first.
+/// What one of two players is asked, and then its pass on its claim is answered, if it passes at first.
 fn ask_and_pass<R: Wait>(
     rt: &R,
     board: &ToyBoard,
@@ -132,6 +132,13 @@ fn ask_and_pass<R: Wait>(
     (asked, pass(rt, board, seat, cast, p, player))
 }
 
+/// How many entries a book has in the end.
+fn entries_left(book: Book<ToyJudge, Cast>) -> usize {
+    let entries = book.journal().len();
+    drop(book);
+    entries
+}
+
 /// What comes of two silent provers without patience, who pass one after another, and how many entries they leave.
 fn both_pass<R: Wait>(rt: &R, alloc: Global) -> Result<([(Asked, Receipt); 5], usize), Memory> {
     let cast = two(SILENT, SILENT);
@@ -143,7 +150,7 @@ fn both_pass<R: Wait>(rt: &R, alloc: Global) -> Result<([(Asked, Receipt); 5], u
         ask_and_pass(rt, &board, &mut seat, cast, 1, SILENT),
         ask_and_pass(rt, &board, &mut seat, cast, 2, SILENT),
     ];
-    Ok((turns, board.into_book(seat).journal().len()))
+    Ok((turns, entries_left(board.into_book(seat))))
 }
 
 /// Two silent provers without patience: each pass is spent at once and has its place as receipt; a stale one has none.
@@ -171,12 +178,12 @@ fn late_over_two_seats<R: Threads + Wait + Sync>(
     let (board, mut a) = board_of(alloc, cast, 1)?;
     let (first, passed) = ask_and_pass(rt, &board, &mut a, cast, 1, late);
     let mut b = board.split(&mut a);
-    let other = claim(rt, &board, &mut b, cast, 2, HONEST, alloc)?;
+    let other = claim(rt, &board, &mut b, cast, 2, HONEST, alloc);
     board.join(&mut a, b);
     let second = ask(rt, &board, &mut a, cast, 1);
-    let own = claim(rt, &board, &mut a, cast, 1, late, alloc)?;
-    let entries = board.into_book(a).journal().len();
-    Ok(([first, second], [Some(passed), other, own], entries))
+    let own = claim(rt, &board, &mut a, cast, 1, late, alloc);
+    let entries = entries_left(board.into_book(a));
+    Ok(([first, second], [Some(passed), other?, own?], entries))
 }
 
 /// A pass and two claims of two seats stand at three places of one journal, and the second question tells of the pass.
@@ -201,8 +208,9 @@ fn claim_too_early<R: Threads + Wait + Sync>(
     let cast = two(late, HONEST);
     let (board, mut seat) = board_of(alloc, cast, 2)?;
     let passed = pass(rt, &board, &mut seat, cast, 1, late);
-    let early = claim(rt, &board, &mut seat, cast, 1, late, alloc)?;
-    Ok(([Some(passed), early], board.into_book(seat).journal().len()))
+    let early = claim(rt, &board, &mut seat, cast, 1, late, alloc);
+    let entries = entries_left(board.into_book(seat));
+    Ok(([Some(passed), early?], entries))
 }
 
 /// A claim that comes a pass too early is stale with the open question, has no receipt and leaves no entry.

@@ -8,7 +8,7 @@ use std::test::Fail;
 use std::thread::Threads;
 use tournament::{Move, Reply};
 use toy_game::in_short::{
-    Asked, CLAIM, Ended, LATE, LINES, Replied, SILENT_LIAR, ask_in_short, how, lines,
+    Asked, CLAIM, Ended, LATE, LINES, Line, Replied, SILENT_LIAR, ask_in_short, how, lines,
     reply_in_short,
 };
 use toy_game::{Cast, HONEST, LIAR, SILENT, Seated, ToyJudge, root};
@@ -40,12 +40,15 @@ fn pass_again(book: &mut Book<ToyJudge, Cast>, p: u32) -> Option<Reply>
     Some(book.post(p, CLAIM, Move::Pass))
 }
 
-/// The book of a liar, a late prover and a silent liar, played out by one thread; the room that it had at its opening; and what the
-/// first prover is asked at its end.
+/// The room that is left in a book, its entries, and how it ended.
+type Numbers = (u64, usize, Ended);
+
+/// What comes of the book of a liar, a late prover and a silent liar, played out by one thread: the room that it had at its opening; its
+/// numbers, and what the first prover is asked, at its end; and its disputes.
 fn played_alone<R: Threads + Sync>(
     rt: &R,
     alloc: Global,
-) -> Result<(Book<ToyJudge, Cast>, u64, Ask), Memory>
+) -> Result<(u64, Numbers, Asked, Vec<Line>), Memory>
     requires { IsSync R.row }
 {
     let mut players = [SILENT; 16];
@@ -69,37 +72,38 @@ fn played_alone<R: Threads + Sync>(
             alloc,
         },
     ];
-    book.finish_alone(rt, &mut answerers)?;
-    let ask = book.ask(1);
-    Ok((book, room, ask))
+    let played = book.finish_alone(rt, &mut answerers);
+    let ask = ask_in_short(book.ask(1));
+    let lines = lines(alloc, book.game().record());
+    let numbers = numbers(book);
+    played?;
+    Ok((room, numbers, ask, lines?))
 }
 
-/// The room that is left in a book, its entries, and how it ended.
-fn numbers(book: &Book<ToyJudge, Cast>) -> (u64, usize, Ended) {
-    (
-        book.spare(),
-        book.journal().len(),
-        how(book.game().verdict()),
-    )
+/// The numbers of a book.
+fn numbers(book: Book<ToyJudge, Cast>) -> Numbers {
+    let (room, entries) = (book.spare(), book.journal().len());
+    let end = how(book.game().verdict());
+    drop(book);
+    (room, entries, end)
 }
 
 /// A book is played out by one thread, with an entry for each pass and each answer.
 #[test]
 fn a_book_is_played_out_alone(rt: HostRuntime) -> Result<(), Fail> {
-    let (book, room, ask) = played_alone(&rt, rt.alloc())?;
-    let lines = lines(rt.alloc(), book.game().record())?;
+    let (room, numbers, ask, lines) = played_alone(&rt, rt.alloc())?;
     // the room is (P + 1) * (m + 2 * (m - 1) * (K + 1)) with P = 1, m = 3 and K = 3, the greatest k with 2^k < 16; the claims take 1, 2 and
     // 1 entries, the first dispute 4 of p1 and 8 of p2, the second 4 of p2 and 1 + 2 of p3
     let wanted = (15, 23, Ended::Accepted(2));
     assert_eq!(rt;
-        (room, numbers(&book), ask_in_short(ask), lines.as_slice()),
+        (room, numbers, ask, lines.as_slice()),
         (38, wanted, Asked::Over, LINES.as_slice())
     );
     Ok(())
 }
 
-/// The largest book of a fan: P = 100, m = 16 and N = 2^32 - 1.
-fn largest(alloc: Global, fan: u32) -> Result<Book<ToyJudge, Cast>, Memory>
+/// The numbers of the largest book of a fan: P = 100, m = 16 and N = 2^32 - 1.
+fn numbers_of_largest(alloc: Global, fan: u32) -> Result<Numbers, Memory>
     requires parted { 1 < fan }
     requires few_parts { fan ≤ 16 }
 {
@@ -107,15 +111,9 @@ fn largest(alloc: Global, fan: u32) -> Result<Book<ToyJudge, Cast>, Memory>
         players: [HONEST; 16],
         count: 16,
     };
-    Book::open(
-        alloc,
-        ToyJudge { name: 0 },
-        cast,
-        4_294_967_295,
-        fan,
-        100,
-        root(0),
-    )
+    let judge = ToyJudge { name: 0 };
+    let book = Book::open(alloc, judge, cast, 4_294_967_295, fan, 100, root(0))?;
+    Ok(numbers(book))
 }
 
 /// The largest book takes its room at opening. K is the greatest k with `F^k < F * N`: 2^32 < 2^33 - 2, 3^21 = 10,460,353,203 and
@@ -124,9 +122,11 @@ fn largest(alloc: Global, fan: u32) -> Result<Book<ToyJudge, Cast>, Memory>
 fn the_largest_book_takes_its_room_at_opening(rt: HostRuntime) -> Result<(), Fail> {
     for (fan, most_rounds) in [(2, 32), (3, 21), (4, 16), (16, 8)] {
         assert!(rt; fan >= 2 && fan <= 16);
-        let book = largest(rt.alloc(), fan)?;
         let room = 101 * (16 + 2 * 15 * (most_rounds + 1));
-        assert_eq!(rt; numbers(&book), (room, 0, Ended::Open));
+        assert_eq!(rt;
+            numbers_of_largest(rt.alloc(), fan)?,
+            (room, 0, Ended::Open)
+        );
     }
     Ok(())
 }
@@ -161,7 +161,8 @@ fn both_pass(alloc: Global) -> Result<([(Asked, Option<Replied>, usize); 5], End
         asked_and_passed(&mut book, 1),
         asked_and_passed(&mut book, 2),
     ];
-    Ok((turns, how(book.game().verdict())))
+    let (_, _, end) = numbers(book);
+    Ok((turns, end))
 }
 
 /// Two silent provers without patience: each pass is spent at once, and a stale one is not noted.

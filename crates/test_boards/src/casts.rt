@@ -50,7 +50,7 @@ pub(crate) fn books_of(alloc: Global, casts: &[Cast]) -> Result<ToyBooks, Memory
     Ok(books)
 }
 
-// Seats the players of a cast behind these.
+/// Seats the players of a cast behind these.
 fn add_seats(alloc: Global, seats: &mut Vec<Seated>, cast: &Cast) -> Result<(), Memory>
     requires few { cast.now.count ≤ 16 }
     ensures { IfOk result (λ _. map (λ s. answers s.player) seats.new.items ≡ map (λ s. answers s.player) seats.old.items ++ sayings_from (says_of cast.now.players) 1 cast.now.count) }
@@ -90,14 +90,34 @@ pub(crate) fn played<G: TaskGate + Sync, R: Threads + Wait + Sync>(
     requires posters { 0 < posters }
     ensures { IfOk result (λ books. length books.books ≡ length casts.now) }
 {
-    let books = books_of(alloc, casts)?;
     let mut seats = seats_of(alloc, casts)?;
+    let books = books_of(alloc, casts)?;
     let played = play_tasks(rt, alloc, books, seats.as_mut_slice(), posters, gate)?;
     Ok(played)
 }
 
+/// The books of these casts in short, which this many posters played, and how many entries they have together.
+pub(crate) fn played_in_short<G: TaskGate + Sync, R: Threads + Wait + Sync>(
+    rt: &R,
+    alloc: Global,
+    casts: &[Cast],
+    posters: u32,
+    gate: &G,
+) -> Result<(Vec<Short>, usize), Memory>
+    requires some { 0 < length casts.now }
+    requires few { length casts.now ≤ 8 }
+    requires counts { AreCounted casts.now }
+    requires posters { 0 < posters }
+{
+    let books = played(rt, alloc, casts, posters, gate)?;
+    let entries = books.journal().len();
+    let shorts = all_in_short(alloc, &books);
+    drop(books);
+    Ok((shorts?, entries))
+}
+
 /// The books of all tasks in short.
-pub(crate) fn all_in_short(alloc: Global, books: &ToyBooks) -> Result<Vec<Short>, Memory> {
+fn all_in_short(alloc: Global, books: &ToyBooks) -> Result<Vec<Short>, Memory> {
     let mut shorts = Vec::new(alloc);
     for i in 0..books.count() {
         shorts.push(in_short(books.book(i + 1)))?;

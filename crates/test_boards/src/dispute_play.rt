@@ -50,7 +50,7 @@ fn begun(
     fan: u32,
     first: Player,
     second: Player,
-) -> Result<Dispute, Memory>
+) -> Result<Box<Dispute>, Memory>
     requires some { 0 < bound }
     requires short { bound < 2 ^ 32 }
     requires parted { 1 < fan }
@@ -59,15 +59,28 @@ fn begun(
     let room = Room::new(alloc, bound, fan)?;
     let first = (3, root(number_at(&first, bound)));
     let second = (5, root(number_at(&second, bound)));
-    Ok(Dispute::new(room, 1, 7, root(0), first, second))
+    let dispute = Dispute::new(room, 1, 7, root(0), first, second);
+    Ok(Box::new(alloc, dispute)?)
+}
+
+/// A side and who plays it.
+type Seat = (Side, Player);
+
+/// The two seats in this order, or the other way round.
+fn in_order(first: Seat, second: Seat, first_is_sooner: bool) -> (Seat, Seat) {
+    if first_is_sooner {
+        (first, second)
+    } else {
+        (second, first)
+    }
 }
 
 /// Both sides move, one after the other.
 fn play_round(
     alloc: Global,
     dispute: &mut Dispute,
-    sooner: (Side, Player),
-    later: (Side, Player),
+    sooner: Seat,
+    later: Seat,
 ) -> Result<(), Memory> {
     move_side(alloc, dispute, sooner.0, sooner.1)?;
     move_side(alloc, dispute, later.0, later.1)
@@ -80,7 +93,7 @@ pub(crate) fn played(
     fan: u32,
     sides: (Player, Player),
     order: u64,
-) -> Result<Dispute, Memory>
+) -> Result<Box<Dispute>, Memory>
     requires some { 0 < bound }
     requires short { bound < 2 ^ 32 }
     requires parted { 1 < fan }
@@ -90,11 +103,8 @@ pub(crate) fn played(
     let first = (Side::First, sides.0);
     let second = (Side::Second, sides.1);
     for round in 0..MOST_ROUNDS {
-        if (order >> round) & 1 == 0 {
-            play_round(alloc, &mut dispute, first, second)?;
-        } else {
-            play_round(alloc, &mut dispute, second, first)?;
-        }
+        let (sooner, later) = in_order(first, second, (order >> round) & 1 == 0);
+        play_round(alloc, &mut dispute, sooner, later)?;
     }
     Ok(dispute)
 }

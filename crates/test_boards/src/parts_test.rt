@@ -180,13 +180,15 @@ fn reply_to(alloc: Global, kind: Kind) -> Result<Replied, Memory> {
         dispute: 1,
         round: 1,
     };
-    let mut game = Match::new(alloc, ToyJudge { name: 0 }, 2, 8, 4, 0, root(0))?;
     let claim = given(alloc, &HONEST, Kind::Claim)?;
-    game.post(1, CLAIM, Move::Give(claim));
     let lie = given(alloc, &LIAR, Kind::Claim)?;
-    game.post(2, CLAIM, Move::Give(lie));
     let answer = given(alloc, &HONEST, kind)?;
-    Ok(reply_in_short(game.post(1, first, Move::Give(answer))))
+    let mut game = Match::new(alloc, ToyJudge { name: 0 }, 2, 8, 4, 0, root(0))?;
+    game.post(1, CLAIM, Move::Give(claim));
+    game.post(2, CLAIM, Move::Give(lie));
+    let reply = game.post(1, first, Move::Give(answer));
+    drop(game);
+    Ok(reply_in_short(reply))
 }
 
 /// Three roots are asked: three are taken, and two, four, one alone and an answer of another kind are faulty.

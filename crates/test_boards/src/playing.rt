@@ -35,13 +35,14 @@ fn played<R: Threads + Sync>(
     rt: &R,
     alloc: Global,
     players: &[Player],
-) -> Result<Match<ToyJudge>, Memory>
+) -> Result<Box<Match<ToyJudge>>, Memory>
     requires sync { IsSync R.row }
     requires some { 0 < length players.now }
     requires few { length players.now ≤ 16 }
 {
     let judge = ToyJudge { name: 0 };
-    let mut game = Match::new(alloc, judge, players.len() as u32, 8, 2, 0, root(0))?;
+    let game = Match::new(alloc, judge, players.len() as u32, 8, 2, 0, root(0))?;
+    let mut game = Box::new(alloc, game)?;
     for _ in 0..32 {
         for place in 0..players.len() {
             let mut seated = Seated {

@@ -10,21 +10,35 @@ use std::sync::Wait;
 use std::sync::atomic::{AtomicBool, AtomicU32, Ordering};
 use std::test::Fail;
 use std::thread::Threads;
-use toy_game::in_short::{Ended, LATE, LINES, SILENT_LIAR, how, lines};
+use toy_game::in_short::{Ended, LATE, LINES, Line, SILENT_LIAR, how, lines};
 use toy_game::{Cast, HONEST, LIAR, Player, SILENT, Seated, ToyJudge, root};
 
+/// The disputes of a book, its entries, and how its match ended.
+fn in_short(
+    alloc: Global,
+    book: Book<ToyJudge, Cast>,
+) -> Result<(Vec<Line>, usize, Ended), Memory> {
+    let (entries, end) = (book.journal().len(), how(book.game().verdict()));
+    let lines = lines(alloc, book.game().record());
+    drop(book);
+    Ok((lines?, entries, end))
+}
+
 /// Whether a book has the match of a lying, a late and a silent prover: 23 entries, and the disputes of it alone.
-fn has_the_match(alloc: Global, book: &Book<ToyJudge, Cast>) -> Result<bool, Memory> {
-    let lines = lines(alloc, book.game().record())?;
-    Ok(
-        book.journal().len() == 23
-            && how(book.game().verdict()) == Ended::Accepted(2)
-            && lines.as_slice() == LINES.as_slice(),
-    )
+fn has_the_match(alloc: Global, book: Book<ToyJudge, Cast>) -> Result<bool, Memory> {
+    let (lines, entries, end) = in_short(alloc, book)?;
+    Ok(entries == 23 && end == Ended::Accepted(2) && lines.as_slice() == LINES.as_slice())
+}
+
+/// Whether there is no book.
+fn is_none(played: Result<Book<ToyJudge, Cast>, Memory>) -> bool {
+    let is_none = played.is_err();
+    drop(played);
+    is_none
 }
 
 /// An answerer that finds no memory at some of its calls.
-#[derive(Clone, Copy, Debug)]
+#[derive(Clone, Copy)]
 struct Forgetful {
     seated: Seated,
     calls: u32,
@@ -52,7 +66,7 @@ impl Answerer for Forgetful {
     }
 }
 
-// An answerer of this player.
+/// An answerer of this player.
 fn answerer_of(alloc: Global, player: Player, fails_from: u32, fails_to: u32) -> Forgetful
     ensures { result.seated.player ≡ player }
 {
@@ -64,7 +78,7 @@ fn answerer_of(alloc: Global, player: Player, fails_from: u32, fails_to: u32) ->
     }
 }
 
-// The book of the match of a late, a lying and a silent prover, of which the late one's answerer fails at some of its calls.
+/// The book of the match of a late, a lying and a silent prover, of which the late one's answerer fails at some of its calls.
 fn played<G: Gate + Sync, R: Threads + Wait + Sync>(
     rt: &R,
     alloc: Global,
@@ -133,7 +147,7 @@ fn all_numbers_of_posters_give_one_match(rt: HostRuntime) -> Result<(), Fail> {
     for posters in [1, 2, 3, 16] {
         let gate = no_posts();
         let book = played(&rt, rt.alloc(), posters, 0, 0, &gate)?;
-        let is_alone = has_the_match(rt.alloc(), &book)?;
+        let is_alone = has_the_match(rt.alloc(), book)?;
         assert!(rt; is_alone && are_moves(posts_of(&gate), [5, 14, 4], posters));
     }
     Ok(())
@@ -144,7 +158,7 @@ fn all_numbers_of_posters_give_one_match(rt: HostRuntime) -> Result<(), Fail> {
 fn two_hundred_plays_give_one_record(rt: HostRuntime) -> Result<(), Fail> {
     for _ in 0..200 {
         let book = played(&rt, rt.alloc(), 16, 0, 0, &OpenGate)?;
-        assert!(rt; has_the_match(rt.alloc(), &book)?);
+        assert!(rt; has_the_match(rt.alloc(), book)?);
     }
     Ok(())
 }
@@ -156,9 +170,9 @@ fn an_answerer_without_memory_ends_its_poster(rt: HostRuntime) -> Result<(), Fai
     for posters in [1, 2, 16] {
         for call in 1..6 {
             let book = played(&rt, rt.alloc(), posters, call, call + 1, &OpenGate)?;
-            let is_alone = has_the_match(rt.alloc(), &book)?;
-            let none = played(&rt, rt.alloc(), posters, call, u32::MAX, &OpenGate).is_err();
-            assert!(rt; is_alone && none);
+            let is_alone = has_the_match(rt.alloc(), book)?;
+            let none = played(&rt, rt.alloc(), posters, call, u32::MAX, &OpenGate);
+            assert!(rt; is_alone && is_none(none));
         }
     }
     Ok(())
@@ -193,7 +207,7 @@ impl Gate for Meeting {
     }
 }
 
-// A gate to which nobody came.
+/// A gate to which nobody came.
 fn empty_meeting() -> Meeting {
     Meeting {
         came: [
@@ -212,7 +226,7 @@ fn empty_meeting() -> Meeting {
     }
 }
 
-// The book of an honest prover and a liar, who are played by two posters through a gate.
+/// The book of an honest prover and a liar, who are played by two posters through a gate.
 fn played_by_two<G: Gate + Sync, R: Threads + Wait + Sync>(
     rt: &R,
     alloc: Global,
@@ -242,11 +256,10 @@ fn played_by_two<G: Gate + Sync, R: Threads + Wait + Sync>(
 fn posters_side_by_side(rt: HostRuntime) -> Result<(), Fail> {
     let gate = empty_meeting();
     let book = played_by_two(&rt, rt.alloc(), &gate)?;
-    let lines = lines(rt.alloc(), book.game().record())?;
+    let (lines, entries, end) = in_short(rt.alloc(), book)?;
     let met = gate.met.load(Ordering::SeqCst);
-    let end = how(book.game().verdict());
     assert_eq!(rt;
-        (lines.as_slice(), book.journal().len(), end, met),
+        (lines.as_slice(), entries, end, met),
         (
             [(1, 1, 1, 2, 3, false, true)].as_slice(),
             10,

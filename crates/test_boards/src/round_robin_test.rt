@@ -56,7 +56,7 @@ impl Worker<u32, Item> for Server {
     }
 }
 
-// This many items, each at its home.
+/// This many items, each at its home.
 fn items_at_home(alloc: Global, count: u32) -> Result<Vec<Item>, AllocError>
     ensures { IfOk result (λ items. length items.items ≡ count) }
 {
@@ -71,7 +71,7 @@ fn items_at_home(alloc: Global, count: u32) -> Result<Vec<Item>, AllocError>
     Ok(items)
 }
 
-// A server for each class.
+/// A server for each class.
 fn server_for_each(alloc: Global, classes: u32) -> Result<Vec<Server>, AllocError>
     ensures count { IfOk result (λ servers. length servers.items ≡ classes) }
     ensures classes { IfOk result (λ servers. HaveClasses (λ s. s.class) 0 servers.items) }
@@ -83,7 +83,7 @@ fn server_for_each(alloc: Global, classes: u32) -> Result<Vec<Server>, AllocErro
     Ok(servers)
 }
 
-// The items after they were served.
+/// The items after they were served.
 fn served_items<R: Threads + Wait + Sync>(
     rt: &R,
     alloc: Global,

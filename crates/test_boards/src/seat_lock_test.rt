@@ -78,7 +78,7 @@ struct Worker {
 }
 
 impl Worker {
-    // Adds EACH numbers, one after another.
+    /// Adds EACH numbers, one after another.
     fn add_all<R: Wait>(&mut self, rt: &R, lock: &SeatLock<Notes>)
         requires { self.old.seat.lock ≡ lock.now }
         ensures { self.new.seat.lock ≡ lock.now }
@@ -93,7 +93,7 @@ impl Worker {
     }
 }
 
-// Splits a seat off for each worker.
+/// Splits a seat off for each worker.
 fn seat_workers(
     alloc: Global,
     lock: &SeatLock<Notes>,
@@ -118,7 +118,7 @@ fn seat_workers(
     Ok(workers)
 }
 
-// Each worker adds its numbers in a thread of its own.
+/// Each worker adds its numbers in a thread of its own.
 fn add_in_threads<R: Threads + Wait + Sync>(rt: &R, lock: &SeatLock<Notes>, workers: &mut [Worker])
     requires { All (λ w. w.seat.lock ≡ lock.now) workers.old }
     ensures length { length workers.new ≡ length workers.old }
@@ -127,7 +127,7 @@ fn add_in_threads<R: Threads + Wait + Sync>(rt: &R, lock: &SeatLock<Notes>, work
     thread::for_each_mut(rt, workers, 16, &|_, worker| worker.add_all(rt, lock));
 }
 
-// Joins the seats in again, the last first, and gives what each worker was answered.
+/// Joins the seats in again, the last first, and gives what each worker was answered.
 fn join_workers(
     alloc: Global,
     lock: &SeatLock<Notes>,
@@ -151,7 +151,25 @@ fn join_workers(
     Ok(answers)
 }
 
-// What the threads leave, and for each of them the first of its numbers and the places that it was answered.
+/// Threads add their numbers, each by a seat of its own, and for each of them comes back the first of its numbers and the places that it
+/// was answered.
+fn add_by_turns<R: Threads + Wait + Sync>(
+    rt: &R,
+    alloc: Global,
+    lock: &SeatLock<Notes>,
+    seat: &mut Seat<Notes>,
+    threads: u64,
+) -> Result<Vec<(u64, Vec<usize>)>, Memory>
+    requires seat { (seat.old.lock ≡ lock.now) × (seat.old.number ≡ 0) × (seat.old.out ≡ 0) }
+    requires few { threads ≤ 16 }
+    ensures { IfOk result (λ _. (seat.new.lock ≡ lock.now) × (seat.new.number ≡ 0) × (seat.new.out ≡ 0)) }
+{
+    let mut workers = seat_workers(alloc, lock, seat, threads)?;
+    add_in_threads(rt, lock, workers.as_mut_slice());
+    join_workers(alloc, lock, seat, workers)
+}
+
+/// What the threads leave, and for each of them the first of its numbers and the places that it was answered.
 fn added_by<R: Threads + Wait + Sync>(
     rt: &R,
     alloc: Global,
@@ -161,10 +179,14 @@ fn added_by<R: Threads + Wait + Sync>(
 {
     let numbers = Vec::with_capacity(alloc, (threads * EACH) as usize)?;
     let (lock, mut seat) = SeatLock::new(alloc, Notes { numbers })?;
-    let mut workers = seat_workers(alloc, &lock, &mut seat, threads)?;
-    add_in_threads(rt, &lock, workers.as_mut_slice());
-    let answers = join_workers(alloc, &lock, &mut seat, workers)?;
-    Ok((lock.close(seat), answers))
+    match add_by_turns(rt, alloc, &lock, &mut seat, threads) {
+        Ok(answers) => Ok((lock.close(seat), answers)),
+        Err(memory) => {
+            drop(lock);
+            drop(seat);
+            Err(memory)
+        }
+    }
 }
 
 /// Whether each of the places that a worker was answered has its number, one after another, and each place comes behind the one before.

@@ -24,7 +24,7 @@ type ToyTasks = TaskBoard<ToyJudge, Cast>;
 
 type ToySeat = TaskSeat<ToyJudge, Cast>;
 
-// The player that is prover `p` of task `t`.
+/// The player that is prover `p` of task `t`.
 fn player_at(first: &Cast, second: &Cast, t: u32, p: u32) -> Player
     requires some { 0 < p }
     requires few { p ≤ 2 }
@@ -40,7 +40,7 @@ fn player_at(first: &Cast, second: &Cast, t: u32, p: u32) -> Player
 /// How a post was answered, and the place of its entry in the journal of both tasks.
 type Receipt = (Replied, Option<u64>);
 
-// Asks prover `p` of task `t`, and posts what its player answers to that.
+/// Asks prover `p` of task `t`, and posts what its player answers to that.
 fn serve<R: Threads + Wait + Sync>(
     rt: &R,
     alloc: Global,
@@ -86,7 +86,7 @@ fn entries_of(alloc: Global, book: &Book<ToyJudge, Cast>) -> Result<Vec<Told>, M
     Ok(told)
 }
 
-// A board of two tasks, and its first seat.
+/// A board of two tasks, and its first seat.
 fn board_of_two(alloc: Global, first: Cast, second: Cast) -> Result<(ToyTasks, ToySeat), Memory>
     requires one { first.count ≡ 2 }
     requires two { second.count ≡ 2 }
@@ -97,8 +97,8 @@ fn board_of_two(alloc: Global, first: Cast, second: Cast) -> Result<(ToyTasks, T
     Ok((board, seat))
 }
 
-// Plays two tasks, in each of which the two provers move by turns. The first task moves at the turns whose bit is set in `order`. What
-// comes back are the receipts of all posts.
+/// Plays two tasks, in each of which the two provers move by turns. The first task moves at the turns whose bit is set in `order`. What
+/// comes back are the receipts of all posts.
 fn play_in_order<R: Threads + Wait + Sync>(
     rt: &R,
     alloc: Global,
@@ -129,10 +129,10 @@ fn play_in_order<R: Threads + Wait + Sync>(
     Ok(receipts)
 }
 
-/// Two tasks whose moves came in one order: the receipts of all posts, and the books.
-type Interleaved = (Vec<Option<u64>>, ToyBooks);
+/// Two tasks whose moves came in one order: the receipts of all posts, and the account of each task.
+type Interleaved = (Vec<Option<u64>>, (Account, Account));
 
-// Two tasks after their moves in this order.
+/// Two tasks after their moves in this order.
 fn interleaved<R: Threads + Wait + Sync>(
     rt: &R,
     alloc: Global,
@@ -142,11 +142,11 @@ fn interleaved<R: Threads + Wait + Sync>(
 ) -> Result<Interleaved, Memory>
     requires one { first.count ≡ 2 }
     requires two { second.count ≡ 2 }
-    ensures { IfOk result (λ played. length played.1.books ≡ 2) }
 {
     let (board, mut seat) = board_of_two(alloc, first, second)?;
-    let receipts = play_in_order(rt, alloc, &board, &mut seat, first, second, order)?;
-    Ok((receipts, board.into_books(seat)))
+    let receipts = play_in_order(rt, alloc, &board, &mut seat, first, second, order);
+    let accounts = accounts_of(alloc, board.into_books(seat));
+    Ok((receipts?, accounts?))
 }
 
 /// How many of the first fourteen bits are set.
@@ -167,13 +167,25 @@ fn account_of(alloc: Global, book: &Book<ToyJudge, Cast>) -> Result<Account, Mem
     Ok((in_short(book), entries_of(alloc, book)?))
 }
 
+/// The accounts of two tasks.
+fn accounts_of(alloc: Global, books: ToyBooks) -> Result<(Account, Account), Memory>
+    requires { length books.books ≡ 2 }
+{
+    let first = account_of(alloc, books.book(1));
+    let second = account_of(alloc, books.book(2));
+    drop(books);
+    Ok((first?, second?))
+}
+
 /// The account of a task that one poster plays alone.
 fn alone<R: Threads + Wait + Sync>(rt: &R, alloc: Global, cast: Cast) -> Result<Account, Memory>
     requires some { 0 < cast.count }
     requires few { cast.count ≤ 16 }
 {
     let books = played(rt, alloc, &[cast], 1, &OpenGate)?;
-    account_of(alloc, books.book(1))
+    let account = account_of(alloc, books.book(1));
+    drop(books);
+    account
 }
 
 fn are_alike(one: &Account, other: &Account) -> bool {
@@ -204,9 +216,7 @@ fn are_as_alone<R: Threads + Wait + Sync>(
     requires one { casts.0.count ≡ 2 }
     requires two { casts.1.count ≡ 2 }
 {
-    let (receipts, books) = interleaved(rt, alloc, casts.0, casts.1, order)?;
-    let first = account_of(alloc, books.book(1))?;
-    let second = account_of(alloc, books.book(2))?;
+    let (receipts, (first, second)) = interleaved(rt, alloc, casts.0, casts.1, order)?;
     Ok(
         are_alike(&first, &accounts.0)
             && are_alike(&second, &accounts.1)

@@ -1,7 +1,7 @@
 //! Posters of many tasks: each task ends as it ends alone.
 ghost use Rattle.std.specs.Prelude.{◌≡◌, ◌<◌, ◌≤◌};
 
-use crate::casts::{all_in_short, cast_of, played};
+use crate::casts::{cast_of, played, played_in_short};
 use crate::in_short::{Short, in_short};
 use posters::{OpenGate, TaskGate};
 use rd_base::{Memory, Qid};
@@ -57,12 +57,11 @@ fn tasks_end_at_different_times(rt: HostRuntime) -> Result<(), Fail> {
         let gate = Counting {
             posts: AtomicU32::new(0),
         };
-        let books = played(&rt, rt.alloc(), &casts, posters, &gate)?;
-        let shorts = all_in_short(rt.alloc(), &books)?;
+        let (shorts, entries) = played_in_short(&rt, rt.alloc(), &casts, posters, &gate)?;
         let posts = gate.posts.load(Ordering::SeqCst);
         let are_right = posts == 28 || (posters > 1 && posts < 28);
         assert_eq!(rt;
-            (shorts.as_slice(), books.journal().len(), are_right),
+            (shorts.as_slice(), entries, are_right),
             (want.as_slice(), 28, true)
         );
     }
@@ -78,8 +77,7 @@ fn a_silent_task_beside_one_that_is_played(rt: HostRuntime) -> Result<(), Fail> 
     ];
     let want = [SILENCE, THE_MATCH];
     for posters in [1, 2, 5] {
-        let books = played(&rt, rt.alloc(), &casts, posters, &OpenGate)?;
-        let shorts = all_in_short(rt.alloc(), &books)?;
+        let (shorts, _) = played_in_short(&rt, rt.alloc(), &casts, posters, &OpenGate)?;
         assert_eq!(rt; shorts.as_slice(), want.as_slice());
     }
     Ok(())
@@ -104,7 +102,9 @@ fn alone_in_short<R: Threads + Wait + Sync>(
     requires few { cast.count ≤ 16 }
 {
     let books = played(rt, alloc, &[cast], 1, &OpenGate)?;
-    Ok(in_short(books.book(1)))
+    let short = in_short(books.book(1));
+    drop(books);
+    Ok(short)
 }
 
 /// Eight tasks of sixteen provers, of whom one lies in each task, the first in the first. Each has one dispute, of the liar with an
@@ -128,12 +128,8 @@ fn eight_tasks_of_sixteen_provers(rt: HostRuntime) -> Result<(), Fail> {
         want.push(alone)?;
     }
     for posters in [1, 4, 16] {
-        let books = played(&rt, rt.alloc(), &casts, posters, &OpenGate)?;
-        let shorts = all_in_short(rt.alloc(), &books)?;
-        assert_eq!(rt;
-            (shorts.as_slice(), books.journal().len()),
-            (want.as_slice(), 192)
-        );
+        let (shorts, entries) = played_in_short(&rt, rt.alloc(), &casts, posters, &OpenGate)?;
+        assert_eq!(rt; (shorts.as_slice(), entries), (want.as_slice(), 192));
     }
     Ok(())
 }
@@ -175,8 +171,7 @@ fn posters_of_two_tasks_side_by_side(rt: HostRuntime) -> Result<(), Fail> {
         cast_of([HONEST, SILENT, SILENT], 1),
         cast_of([HONEST, SILENT, SILENT], 1),
     ];
-    let books = played(&rt, rt.alloc(), &casts, 2, &gate)?;
-    let shorts = all_in_short(rt.alloc(), &books)?;
+    let (shorts, _) = played_in_short(&rt, rt.alloc(), &casts, 2, &gate)?;
     let met = gate.met.load(Ordering::SeqCst);
     assert_eq!(rt; (shorts.as_slice(), met), ([ALONE, ALONE].as_slice(), 2));
     Ok(())

@@ -8,7 +8,7 @@ use deposits::Ledger;
 use rd_base::OpenText;
 
 /// An event of a match.
-#[derive(Clone, Copy, Debug)]
+#[derive(Clone, Copy)]
 pub(crate) enum Told {
     /// The claim of this prover puts it out.
     ClaimOut(u32),
