@@ -1,3 +1,4 @@
+//! Tests of the balances at the end of a match.
 use crate::playing::paid_to;
 use deposits::Balances;
 use std::test::Fail;
@@ -11,7 +12,7 @@ fn is_paid(paid: &Option<Balances>, amounts: &[u64], pool: u64) -> bool {
     }
 }
 
-/// At the end of a match who is out has lost its stake to who put it out, or to the pool.
+/// At the end of a match a prover that is out has lost its stake to the one that eliminated it, or to the pool.
 #[test]
 fn each_match_pays_its_provers(rt: HostRuntime) -> Result<(), Fail> {
     let silent = Player {

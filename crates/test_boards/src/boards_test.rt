@@ -1,3 +1,4 @@
+//! Tests of the board of one task.
 ghost use Rattle.std.specs.Prelude.{◌≡◌, ◌<◌, ◌≤◌, IfOk, None};
 ghost use Rattle.bisect_game.specs.Rules.{claim_question};
 ghost use Rattle.toy_game.specs.Toy.{answers, says_of};
@@ -57,7 +58,7 @@ fn ask<R: Wait>(rt: &R, board: &ToyBoard, seat: &mut ToySeat, cast: Cast, p: u32
 /// How a post was answered, and the place of its entry.
 type Receipt = (Replied, Option<u64>);
 
-/// What a pass on its claim is answered, of one of two players that passes there at first.
+/// The answer to a pass of one of two players on its claim, if it passes there at first.
 #[tactic(auto, using(crate::proofs::ClaimLemmas::has_prover))]
 fn pass<R: Wait>(
     rt: &R,
@@ -79,7 +80,7 @@ fn pass<R: Wait>(
     (reply_in_short(posted.reply), posted.receipt)
 }
 
-/// What the claim of one of two players is answered.
+/// The answer to the claim of one of two players.
 #[tactic(auto, using(crate::proofs::ClaimLemmas::has_prover))]
 fn claim<R: Threads + Wait + Sync>(
     rt: &R,
@@ -111,7 +112,7 @@ fn claim<R: Threads + Wait + Sync>(
     }
 }
 
-/// What one of two players is asked, and then its pass on its claim is answered, if it passes at first.
+/// What one of two players is asked, and the answer to its pass on its claim, if it passes there at first.
 fn ask_and_pass<R: Wait>(
     rt: &R,
     board: &ToyBoard,
@@ -168,7 +169,7 @@ fn silent_provers_are_spent_one_by_one(rt: HostRuntime) -> Result<(), Fail> {
 }
 
 /// What comes of a player that passes once on each question. The first seat asks for it and passes; a second seat, which is split off the
-/// first one, posts the other player's claim and is joined in again; then the first one asks once more and posts the late claim.
+/// first one, posts the other player's claim and is joined in again; then the first one asks again and posts the late claim.
 fn late_over_two_seats<R: Threads + Wait + Sync>(
     rt: &R,
     alloc: Global,
@@ -186,7 +187,7 @@ fn late_over_two_seats<R: Threads + Wait + Sync>(
     Ok(([first, second], [Some(passed), other?, own?], entries))
 }
 
-/// A pass and two claims of two seats stand at three places of one journal, and the second question tells of the pass.
+/// A pass and two claims of two seats are at three places of one journal, and the second question shows the pass.
 #[test]
 fn a_late_prover_over_two_seats(rt: HostRuntime) -> Result<(), Fail> {
     let asked = [Asked::Claim(0), Asked::Claim(1)];

@@ -1,3 +1,4 @@
+//! Tests of the book of one match.
 ghost use denote.Param.Send.{IsSync};
 ghost use Rattle.std.specs.Prelude.{◌≡◌, ◌<◌, ◌≤◌};
 
@@ -28,7 +29,7 @@ fn pass(book: &mut Book<ToyJudge, Cast>, p: u32) -> Option<Reply>
     Some(book.post(p, question.qid, Move::Pass))
 }
 
-/// A prover without a question passes on its claim once more.
+/// A prover without a question passes on its claim again.
 fn pass_again(book: &mut Book<ToyJudge, Cast>, p: u32) -> Option<Reply>
     requires some { 0 < p }
     requires few { p ≤ book.old.opening.setup.provers }
@@ -131,8 +132,8 @@ fn the_largest_book_takes_its_room_at_opening(rt: HostRuntime) -> Result<(), Fai
     Ok(())
 }
 
-/// What a prover is asked; what its pass on its claim is answered, if it passes there or the match goes on without it; and how many
-/// entries there are then.
+/// What a prover is asked; what its pass on its claim is answered, if it passes there, or if it has no question while the match isn't over;
+/// and how many entries there are then.
 fn asked_and_passed(book: &mut Book<ToyJudge, Cast>, p: u32) -> (Asked, Option<Replied>, usize)
     requires some { 0 < p }
     requires few { p ≤ book.old.opening.setup.provers }

@@ -1,3 +1,4 @@
+//! Tests of disputes by bisection.
 ghost use Rattle.std.specs.Prelude.{◌<◌, ◌^◌};
 
 use crate::dispute_play::{Ended, how, played};
@@ -15,7 +16,7 @@ fn is_same(first: &Settled, second: &Settled) -> bool {
     }
 }
 
-/// The steps at which roots were asked in the rounds that went on, and whether they were the same.
+/// The steps at which roots were asked in the past rounds, and whether they were the same.
 fn asked(alloc: Global, dispute: &Dispute) -> Result<Vec<(u64, bool)>, Memory> {
     let mut asked = Vec::new(alloc);
     for round in dispute.rounds() {
@@ -95,7 +96,7 @@ fn disputes_are_played_round_by_round_in_either_order(rt: HostRuntime) -> Result
     Ok(())
 }
 
-/// How many rounds of a dispute went on, in which the second side lies from a step on.
+/// How many past rounds a dispute has in which the second side lies from a step on.
 fn rounds_against(alloc: Global, bound: u64, from: u64) -> Result<usize, Memory>
     requires some { 0 < bound }
     requires short { bound < 2 ^ 32 }
@@ -105,7 +106,7 @@ fn rounds_against(alloc: Global, bound: u64, from: u64) -> Result<usize, Memory>
     Ok(dispute.rounds().len())
 }
 
-/// How many rounds of a dispute went on, if the second side lies from step 1 on, and if it lies from the last step on.
+/// How many past rounds a dispute has if the second side lies from step 1 on, and if it lies from the last step on.
 fn rounds_down_and_up(alloc: Global, bound: u64) -> Result<(usize, usize), Memory>
     requires some { 0 < bound }
     requires short { bound < 2 ^ 32 }

@@ -1,3 +1,4 @@
+//! Tests of a ledger of stakes.
 use crate::telling::{Told, tell_all};
 use deposits::Ledger;
 use rd_base::Memory;
@@ -7,7 +8,7 @@ use std::test::Fail;
 /// What three provers have, which of them are out, and what is in the pool.
 type Amounts = ([u64; 3], [bool; 3], u64);
 
-/// What a ledger of three provers with a stake of 10 each has after these events. `None` if one of them may not be told.
+/// What a ledger of three provers with a stake of 10 each has after these events. `None` if one of them may not be applied.
 fn after(alloc: Global, events: &[Told]) -> Result<Option<Amounts>, Memory> {
     let mut ledger = Ledger::new(alloc, 3, 10)?;
     if !tell_all(&mut ledger, events) {

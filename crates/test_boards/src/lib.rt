@@ -1,10 +1,10 @@
 //! Tests of the game and of the board, over the toy game: of disputes and rounds of several parts, of books, of what threads share, of
 //! boards and posters of one task and of many, and of deposits.
 //!
-//! No layer of the product stands on this crate. Read `disputes_test` and `books_test` first, then `boards_test` and `posters_test`, each for one
-//! layer; those of many tasks stand in `task_boards_test` and `task_posters_test`, whose tasks are in `casts`. `seat_lock_test` and
+//! No layer of the product depends on this crate. Read `disputes_test` and `books_test` first, then `boards_test` and `posters_test`, each
+//! for one layer; those of many tasks are in `task_boards_test` and `task_posters_test`, whose tasks are in `casts`. `seat_lock_test` and
 //! `round_robin_test` have the tests of the lock and of many items served by a few workers. `ledger_test` and `balances_test` are of
-//! deposits: `telling` is how a ledger is told events, and `playing` how a match is played.
+//! deposits: `telling` is how events are applied to a ledger, and `playing` how a match is played.
 #![tactic(auto)]
 
 #[cfg(test)]

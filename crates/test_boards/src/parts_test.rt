@@ -1,3 +1,4 @@
+//! Tests of rounds of several parts.
 ghost use Rattle.std.specs.Prelude.{◌<◌, ◌≤◌, ◌^◌};
 
 use crate::dispute_play::{Ended, how, played};
@@ -33,7 +34,7 @@ fn cuts_by_hand(rt: HostRuntime) -> Result<(), Fail> {
     Ok(())
 }
 
-/// The intervals of the rounds that went on, if the second side lies from a step on, and the step of the proof round.
+/// The intervals of the past rounds, if the second side lies from a step on, and the step of the proof round.
 fn intervals(
     alloc: Global,
     bound: u64,
@@ -96,7 +97,7 @@ fn parting(bound: u64, sides: (Player, Player)) -> u64 {
     bound
 }
 
-/// Whether two players have one root at the begin of a dispute's last interval, which is a step, and two at its end.
+/// Whether two players have one root at the beginning of a dispute's last interval, which is a step, and two at its end.
 fn is_at_a_parting(dispute: &Dispute, sides: (Player, Player)) -> bool {
     let place = dispute.interval();
     place.hi.wrapping_sub(place.lo) == 1

@@ -78,7 +78,7 @@ fn answerer_of(alloc: Global, player: Player, fails_from: u32, fails_to: u32) ->
     }
 }
 
-/// The book of the match of a late, a lying and a silent prover, of which the late one's answerer fails at some of its calls.
+/// The book of the match of a late, a lying and a silent prover. The answerer of the late one fails at some of its calls.
 fn played<G: Gate + Sync, R: Threads + Wait + Sync>(
     rt: &R,
     alloc: Global,

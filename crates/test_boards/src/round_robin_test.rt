@@ -1,3 +1,4 @@
+//! Tests of many items served by a few workers.
 ghost use Rattle.std.specs.Prelude.{◌≡◌, length, IfOk};
 ghost use Rattle.posters.specs.Classes.{HaveClasses};
 
@@ -7,7 +8,7 @@ use std::sync::Wait;
 use std::test::Fail;
 use std::thread::Threads;
 
-/// It tells where it stood at first, by which class it was served, and how often.
+/// It keeps where it was at first, by which class it was served, and how often.
 #[derive(Drop)]
 struct Item {
     home: u32,
@@ -96,7 +97,7 @@ fn served_items<R: Threads + Wait + Sync>(
     Ok(items)
 }
 
-/// Whether these items stand at their places, each served once by its class of so many, and if there is no class, not at all.
+/// Whether these items are at their places, each served once by its class of so many, and if there is no class, not at all.
 fn are_served(items: &[Item], classes: u32) -> bool {
     let mut place: u32 = 0;
     for item in items {

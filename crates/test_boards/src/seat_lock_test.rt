@@ -1,3 +1,4 @@
+//! Tests of the lock.
 ghost use Rattle.std.specs.Prelude.{◌≡◌, ◌≤◌, [], length, All, IfOk};
 
 use rd_base::Memory;
@@ -127,7 +128,7 @@ fn add_in_threads<R: Threads + Wait + Sync>(rt: &R, lock: &SeatLock<Notes>, work
     thread::for_each_mut(rt, workers, 16, &|_, worker| worker.add_all(rt, lock));
 }
 
-/// Joins the seats in again, the last first, and gives what each worker was answered.
+/// Joins the seats in again, the last first. The result is what each worker was answered.
 fn join_workers(
     alloc: Global,
     lock: &SeatLock<Notes>,

@@ -1,4 +1,4 @@
-//! A ledger of three provers, and the events that it is told.
+//! A ledger of three provers, and the events that are applied to it.
 ghost use Rattle.std.specs.Prelude.{◌≡◌, ◌<◌, ◌≤◌, true, false, length};
 ghost use Rattle.deposits.specs.Accounts.{is_out};
 ghost use Rattle.deposits.specs.Events.{AreSides};
@@ -10,9 +10,9 @@ use rd_base::OpenText;
 /// An event of a match.
 #[derive(Clone, Copy)]
 pub(crate) enum Told {
-    /// The claim of this prover puts it out.
+    /// The claim of this prover eliminates it.
     ClaimOut(u32),
-    /// The dispute of these two provers puts out its first side, its second, both or none.
+    /// The dispute of these two provers eliminates its first side, its second, both or none.
     Out(u32, u32, bool, bool),
     /// The dispute of these two provers closes with a collision.
     Collision(u32, u32),
@@ -29,7 +29,7 @@ fn is_prover(p: u32) -> bool
     p <= 3
 }
 
-/// Tells a ledger that a claim is out. Whether it may be told.
+/// Applies to a ledger the event that a claim is out. The result is whether it may be applied.
 fn tell_claim(ledger: &mut Ledger, p: u32) -> bool
     requires { length ledger.old.of ≡ 3 }
     ensures { length ledger.new.of ≡ 3 }
@@ -69,7 +69,7 @@ fn may_lose(ledger: &Ledger, p: u32, loses: bool) -> bool
     !ledger.is_out(p)
 }
 
-/// Tells a ledger which sides of a dispute are out. Whether it may be told.
+/// Applies to a ledger the event that sides of a dispute are out. The result is whether it may be applied.
 fn tell_out(ledger: &mut Ledger, a: u32, b: u32, first: bool, second: bool) -> bool
     requires { length ledger.old.of ≡ 3 }
     ensures { length ledger.new.of ≡ 3 }
@@ -87,7 +87,7 @@ fn tell_out(ledger: &mut Ledger, a: u32, b: u32, first: bool, second: bool) -> b
     true
 }
 
-/// Tells a ledger that a dispute has closed with a collision. Whether it may be told.
+/// Applies to a ledger the event that a dispute has closed with a collision. The result is whether it may be applied.
 fn tell_collision(ledger: &mut Ledger, a: u32, b: u32) -> bool
     requires { length ledger.old.of ≡ 3 }
     ensures { length ledger.new.of ≡ 3 }
@@ -99,7 +99,7 @@ fn tell_collision(ledger: &mut Ledger, a: u32, b: u32) -> bool
     true
 }
 
-/// Tells a ledger an event. Whether it may be told.
+/// Applies an event to a ledger. The result is whether it may be applied.
 fn tell(ledger: &mut Ledger, told: Told) -> bool
     requires { length ledger.old.of ≡ 3 }
     ensures { length ledger.new.of ≡ 3 }
@@ -111,7 +111,7 @@ fn tell(ledger: &mut Ledger, told: Told) -> bool
     }
 }
 
-/// Tells a ledger these events, one after another. Whether each may be told.
+/// Applies these events to a ledger, one after another. The result is whether each may be applied.
 pub(crate) fn tell_all(ledger: &mut Ledger, events: &[Told]) -> bool
     requires { length ledger.old.of ≡ 3 }
     ensures { length ledger.new.of ≡ 3 }
