@@ -56,7 +56,7 @@ fn room_of<J: Judge + Drop, P: Provers + Drop>(books: &[Book<J, P>]) -> u64
     total
 }
 
-//// Notes the entries from this place on as those of task `t`.
+/// Notes the entries from this place on as those of task `t`.
 fn note_from(journal: &mut Vec<(u32, Entry)>, t: u32, entries: &[Entry], from: usize)
     requires within { from ≤ length entries.now }
     requires room { length journal.old.items + (length entries.now - from) ≤ journal.old.cap }

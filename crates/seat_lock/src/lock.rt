@@ -87,7 +87,7 @@ fn draw_ticket<T: Logged>(table: &LockTable<T>, seat: &mut TableSeat<T>) -> u64
     table.shared.fetch_add::<DrawTicket>(seat, TICKET, 1)
 }
 
-//// Looks at the number served a few times, until it is the seat's ticket. The result is whether it is: then the seat's turn has begun.
+/// Looks at the number served a few times, until it is the seat's ticket. The result is whether it is: then the seat's turn has begun.
 fn look_for_turn<T: Logged>(table: &LockTable<T>, seat: &mut TableSeat<T>, ticket: u64) -> bool
     requires lock { (seat.old.table_id ≡ table.now.shared.table_id) × (table.now.shared.table_id.words ≡ 2) }
     requires waits { (seat.old.me.0.ticket ≡ Some ticket) × (seat.old.me.0.served ≢ Some ticket) × (seat.old.me.1 ≡ []) }
