@@ -15,16 +15,16 @@ ask-requires-clause-there g c = λ heads e.
     subst (λ (hs : List (Opening g.row.J-Names.Denot g.row.P-Names.Denot)). IsThere (tasks_of g.J.Judge.ruling g.P.Provers.says hs) c.args.place.task c.args.place.prover) same
     (is_there g.J.Judge.ruling g.P.Provers.says c.tasks_are_numbered.ensures r.0 c.args.place (g.A.Answerer.answers c.args.answerer.now) r.2)
 
-pub post-requires-clause-there : goal.post-requires-clause-there
-post-requires-clause-there g c = λ heads e.
+pub post-posted-requires-clause-there : goal.post-posted-requires-clause-there
+post-posted-requires-clause-there g c = λ heads e.
     let a = c.ask.ensures in let r = c.requires.seat in
     let here : a.0 ≡ heads = same_Some a.0 heads (sym (a.2.stands.same.head ∙ a.1) ∙ e) in
     let first : r.0 ≡ a.0 = same_Some r.0 a.0 (sym r.1.head_is ∙ a.1) in
     subst (λ (hs : List (Opening g.row.J-Names.Denot g.row.P-Names.Denot)). IsThere (tasks_of g.J.Judge.ruling g.P.Provers.says hs) c.args.place.task c.args.place.prover) (first ∙ here)
     (is_there g.J.Judge.ruling g.P.Provers.says c.tasks_are_numbered.ensures r.0 c.args.place (g.A.Answerer.answers c.args.answerer.now) r.2)
 
-pub post-requires-clause-may : goal.post-requires-clause-may
-post-requires-clause-may g c = λ heads e.
+pub post-posted-requires-clause-may : goal.post-posted-requires-clause-may
+post-posted-requires-clause-may g c = λ heads e.
     let a = c.ask.ensures in let r = c.requires.seat in
     let question = c.in-Question.question in let passes : ℕ = c.in-Question.passes in
     let here : a.0 ≡ heads = same_Some a.0 heads (sym (a.2.stands.same.head ∙ a.1) ∙ e) in
