@@ -72,7 +72,7 @@ pub(crate) const FLIPPED: Tamper = Tamper::Flip {
     mask: 0xff,
 };
 
-/// What an answerer answers. No clause says what, so that the proofs of the tests don't carry it. An `Err` is out of memory.
+/// What an answerer answers. No clause states what, so that the proofs of the tests don't carry it. An `Err` is out of memory.
 pub(crate) fn answer_of<R: Threads + Sync, A: Answerer>(
     rt: &R,
     answerer: &mut A,

@@ -170,22 +170,27 @@ fn first_wrong<R: Threads + Sync>(
 /// How many provers and answerers none make.
 fn counts_of_none(alloc: Global) -> Result<(u32, usize), Memory> {
     let (provers, answerers) = playing(alloc, &[])?;
-    Ok((provers.count(), answerers.len()))
+    let counts = (provers.count(), answerers.len());
+    drop(provers);
+    drop(answerers);
+    Ok(counts)
 }
 
 fn may_be_shared<T: Send + Sync>(_shared: &T) {}
 
 fn may_be_sent<T: Send>(_sent: &T) {}
 
-/// That threads may hold them is proved where they are handed to one.
+/// The call that hands them to a thread proves that threads may hold them.
 #[test]
 fn each_prover_answers_by_its_script(rt: HostRuntime) -> Result<(), Fail> {
     let (provers, mut answerers) = playing(rt.alloc(), &SEVEN)?;
     may_be_shared(&provers);
     may_be_sent(&answerers);
     let counts = (provers.count(), answerers.len());
-    let wrong = first_wrong(&rt, &provers, &mut answerers)?;
+    let wrong = first_wrong(&rt, &provers, &mut answerers);
+    drop(provers);
+    drop(answerers);
     let none = counts_of_none(rt.alloc())?;
-    assert_eq!(rt; (counts, wrong, none), ((7, 7), None, (0, 0)));
+    assert_eq!(rt; (counts, wrong?, none), ((7, 7), None, (0, 0)));
     Ok(())
 }

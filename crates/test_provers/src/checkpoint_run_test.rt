@@ -1,12 +1,13 @@
+//! Tests of recorded runs.
+use crate::kept::run_of;
 use crate::programs::{A_STORE_IN_EACH_PAGE, SIX_STEPS};
 use crate::tampers::{early, flip, register};
-use checkpoint_run::{machine_at, next, record_run};
+use checkpoint_run::{Run, machine_at, next};
 use digest_core::Sha256;
 use mem_plain::PlainMem;
 use rd_base::{Memory, Status, Tamper};
 use std::alloc::Global;
 use std::test::Fail;
-use toy_machine::machine_of;
 
 /// An address beside the program.
 const BESIDE: u32 = 0x2_0000;
@@ -33,8 +34,7 @@ fn kept(still: u64, status: Status, pc: u32, x10: u32, out_len: u64) -> LastKept
 
 /// What the run of SIX_STEPS keeps with a tamper, up to a bound and with a spacing of at least 1.
 fn recorded(alloc: Global, tamper: Tamper, bound: u64, every: u32) -> Result<LastKept, Memory> {
-    let machine = machine_of(alloc, &SIX_STEPS)?;
-    let run = record_run(alloc, Sha256, &machine, bound, every.max(1), tamper)?;
+    let run = run_of(alloc, &SIX_STEPS, bound, every, tamper)?;
     let last = machine_at(&run, run.still() / u64::from(run.every()))?;
     Ok(LastKept {
         still: run.still(),
@@ -91,7 +91,7 @@ fn a_changed_run_stands_still_once_it_has_changed_and_stopped(rt: HostRuntime) -
         (register(0, 10, 7), 0, 1, kept(0, running, 0x1_0000, 7, 0)),
         (register(8, 10, 5), 8, 1, kept(8, exited, 0x1_0014, 5, 1)),
         (register(9, 10, 5), 8, 1, kept(6, exited, 0x1_0014, 0, 1)),
-        // instead of leaving it puts out a byte, and traps behind its last instruction
+        // instead of leaving it writes a byte, and traps behind its last instruction
         (register(5, 17, 1), 8, 1, kept(7, trapped, 0x1_0018, 0, 2)),
     ];
     for (tamper, bound, every, wanted) in rows {
@@ -190,6 +190,21 @@ fn byte_if(holds: bool, byte: u8) -> u8 {
     if holds { byte } else { 0 }
 }
 
+/// How many of the first checkpoints of a run of A_STORE_IN_EACH_PAGE have the bytes of their steps.
+fn right_ones(run: &Run, flipped: u32, addr: u32) -> Result<u32, Memory> {
+    for checkpoint in 0..100u32 {
+        let step = u64::from(checkpoint) * u64::from(run.every());
+        if step > run.still() {
+            return Ok(checkpoint);
+        }
+        let kept = machine_at(run, u64::from(checkpoint))?;
+        if !has_bytes_of(&kept.mem, step, flipped, addr) {
+            return Ok(checkpoint);
+        }
+    }
+    Ok(100)
+}
+
 /// The step from which a run of A_STORE_IN_EACH_PAGE stands still, in which a byte is flipped and whose bound is 305, and how
 /// many of its first checkpoints have the bytes of their steps.
 fn right_checkpoints(
@@ -198,20 +213,9 @@ fn right_checkpoints(
     flipped: u32,
     addr: u32,
 ) -> Result<(u64, u32), Memory> {
-    let machine = machine_of(alloc, &A_STORE_IN_EACH_PAGE)?;
     let tamper = flip(flipped, addr, 0x81);
-    let run = record_run(alloc, Sha256, &machine, 305, every.max(1), tamper)?;
-    for checkpoint in 0..100u32 {
-        let step = u64::from(checkpoint) * u64::from(run.every());
-        if step > run.still() {
-            return Ok((run.still(), checkpoint));
-        }
-        let kept = machine_at(&run, u64::from(checkpoint))?;
-        if !has_bytes_of(&kept.mem, step, flipped, addr) {
-            return Ok((run.still(), checkpoint));
-        }
-    }
-    Ok((run.still(), 100))
+    let run = run_of(alloc, &A_STORE_IN_EACH_PAGE, 305, every, tamper)?;
+    Ok((run.still(), right_ones(&run, flipped, addr)?))
 }
 
 #[test]
@@ -238,8 +242,7 @@ fn a_checkpoint_has_the_pages_of_its_step(rt: HostRuntime) -> Result<(), Fail> {
 
 /// The pages that `next` names from a step of a run of A_STORE_IN_EACH_PAGE on, which goes up to step 12.
 fn named_from(alloc: Global, tamper: Tamper, step: u32) -> Result<[Option<u32>; 2], Memory> {
-    let machine = machine_of(alloc, &A_STORE_IN_EACH_PAGE)?;
-    let run = record_run(alloc, Sha256, &machine, 12, 1, tamper)?;
+    let run = run_of(alloc, &A_STORE_IN_EACH_PAGE, 12, 1, tamper)?;
     let mut at = u64::from(step) * u64::from(run.every());
     if at > run.still() || at >= run.bound() {
         return Ok([None, None]);

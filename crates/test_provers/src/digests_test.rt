@@ -17,12 +17,12 @@ use std::alloc::Global;
 use std::sync::atomic::{AtomicU64, Ordering};
 use std::test::Fail;
 use std::thread::Threads;
-use toy_machine::Counted;
+use toy_machine::Tally;
 
 /// A digest function that counts its digests, by which provers replay their runs.
 #[derive(Clone, Copy)]
 struct Counting<'a, D> {
-    of: Counted<'a, D>,
+    of: Tally<'a, D>,
 }
 
 impl<D: Digester> Digester for Counting<'_, D> {
@@ -70,28 +70,43 @@ const STORES_TO_ONE_CHUNK: [u8; 16] = [
 /// many digests the answer to each takes.
 type Row = (u32, u32, Kind, &'static [(Kind, u64)]);
 
-/// Whether the answers to a row's questions take as many digests as it says. The input has 40 bytes. An `Err` is out of memory.
+/// Whether the answers to these questions, after that to a first one, take as many digests each. An `Err` is out of memory.
+fn take_so_many<R: Threads + Sync, A: Answerer>(
+    rt: &R,
+    answerer: &mut A,
+    made: &AtomicU64,
+    first: Kind,
+    wanted: &[(Kind, u64)],
+) -> Result<bool, Memory>
+    requires { IsSync R.row }
+{
+    answer_of(rt, answerer, &asked(1, first), 0)?;
+    for (kind, digests) in wanted {
+        made.store(0, Ordering::SeqCst);
+        answer_of(rt, answerer, &asked(2, *kind), 0)?;
+        if made.load(Ordering::SeqCst) != *digests {
+            return Ok(false);
+        }
+    }
+    Ok(true)
+}
+
+/// Whether the answers to a row's questions take the row's number of digests. The input has 40 bytes. An `Err` is out of memory.
 fn takes<R: Threads + Sync>(rt: &R, alloc: Global, row: Row) -> Result<bool, Memory>
     requires { IsSync R.row }
 {
     let (version, workers, first, wanted) = row;
     let made = AtomicU64::new(0);
-    let of = Counted {
+    let of = Tally {
         of: Sha256,
         made: &made,
     };
     let machine = machine_in(alloc, version, &STORES_TO_ONE_CHUNK, &[7; 40])?;
     let (d, tamper) = (Counting { of }, Tamper::Untouched);
     let mut prover = RunAnswerer::new(alloc, d, &machine, 24, 4, tamper, workers.max(1))?;
-    answer_of(rt, &mut prover, &asked(1, first), 0)?;
-    for (kind, digests) in wanted {
-        made.store(0, Ordering::SeqCst);
-        answer_of(rt, &mut prover, &asked(2, *kind), 0)?;
-        if made.load(Ordering::SeqCst) != *digests {
-            return Ok(false);
-        }
-    }
-    Ok(true)
+    let takes = take_so_many(rt, &mut prover, &made, first, wanted);
+    drop(prover);
+    takes
 }
 
 /// The place of the first row whose answers take another number of digests, counted from 0. An `Err` is out of memory.
@@ -184,7 +199,7 @@ fn each_worker_goes_on_from_its_own_last_root(rt: HostRuntime) -> Result<(), Fai
     Ok(())
 }
 
-/// A later dispute asks for the roots of its first round once more, and may ask for one of them alone.
+/// A later dispute asks for the roots of its first round again, and may ask for one of them alone.
 const AT_CUTS: [Row; 3] = [
     (1, 1, QUARTERS, &[(QUARTERS, 0)]),
     (1, 2, QUARTERS, &[(QUARTERS, 0)]),
@@ -226,7 +241,7 @@ fn digests_of_provers<R: Threads + Sync>(
     requires silent { machine.now.output.items ≡ [] }
 {
     let made = AtomicU64::new(0);
-    let of = Counted {
+    let of = Tally {
         of: Sha256,
         made: &made,
     };
@@ -297,12 +312,12 @@ fn provers_of_a_match_make_the_tree_of_the_input_once(rt: HostRuntime) -> Result
     Ok(())
 }
 
-/// addi x17, x0, 1; ecall; jal x0, -4: in 24 steps it puts out twelve bytes, each of which takes one digest
+/// addi x17, x0, 1; ecall; jal x0, -4: in 24 steps it writes twelve bytes, each of which takes one digest
 const TWELVE_BYTES: [u8; 12] = [
     0x93, 0x08, 0x10, 0x00, 0x73, 0x00, 0x00, 0x00, 0x6f, 0xf0, 0xdf, 0xff,
 ];
 
-/// How many digests are made until a prover of a manner is asked first, and then until it was asked for its claim. Its run puts out twelve
+/// How many digests are made until a prover of a manner is asked first, and then until it was asked for its claim. Its run writes twelve
 /// bytes. An `Err` is out of memory.
 fn digests_until_asked<R: Threads + Sync>(
     rt: &R,

@@ -1,9 +1,9 @@
-//! Tests of provers: recorded runs (`checkpoint_run_test`) and their roots, replayed from checkpoints (`segment_replay_test`, in each version
-//! `versions_test`); the manners, over an answerer that always says the same (`prover_script_test`); plain answers (`plain_answers_test`), those of
-//! a prover by its run (`prover_run_test`) and of the provers of a case by their scripts (`case_provers_test`), and how many digests they take
-//! (`digests_test`).
+//! Tests of provers: recorded runs (`checkpoint_run_test`) and their roots, replayed from checkpoints (`segment_replay_test`, in each
+//! version `versions_test`); the manners, over an answerer that always answers the same (`prover_script_test`); plain answers
+//! (`plain_answers_test`), those of a prover by its run (`prover_run_test`) and of the provers of a case by their scripts
+//! (`case_provers_test`), and how many digests they take (`digests_test`).
 //!
-//! No layer of the product stands on this crate.
+//! No layer of the product depends on this crate.
 #![tactic(auto)]
 
 #[cfg(test)]

@@ -29,7 +29,7 @@ pub(crate) fn output_of(alloc: Global, byte: u8) -> Result<Option<ClaimOutput>, 
     Ok(ClaimOutput::new(vec![in alloc; byte]?))
 }
 
-/// Control fields of a running machine that has put out a byte.
+/// Control fields of a running machine that has written a byte.
 pub(crate) const CTL: Ctl = Ctl {
     pc: 65536,
     status: Status::Running,

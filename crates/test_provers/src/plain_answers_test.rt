@@ -1,3 +1,4 @@
+//! Tests of plain answers.
 ghost use Rattle.std.specs.Prelude.{◌≡◌, length};
 
 use crate::asking::claimed_root;
@@ -57,6 +58,20 @@ fn program_after<R: Threads + Sync>(
     Ok(committed)
 }
 
+/// The true proof of a program's step, and the root of the state before it.
+fn proof_and_root<R: Threads + Sync>(
+    rt: &R,
+    alloc: Global,
+    version: u32,
+    program: Program,
+    step: u32,
+) -> Result<(Proof, Digest32), Memory> {
+    let committed = program_after(rt, alloc, version, program, step)?;
+    let (proof, root) = (make_proof(&committed), committed.root());
+    drop(committed);
+    Ok((proof, root))
+}
+
 /// The wire form of the true proof of a program's step.
 fn proof_bytes<R: Threads + Sync>(
     rt: &R,
@@ -65,8 +80,8 @@ fn proof_bytes<R: Threads + Sync>(
     program: Program,
     step: u32,
 ) -> Result<Vec<u8>, Memory> {
-    let committed = program_after(rt, alloc, version, program, step)?;
-    let proof = Box::new(alloc, make_proof(&committed))?;
+    let (proof, _) = proof_and_root(rt, alloc, version, program, step)?;
+    let proof = Box::new(alloc, proof)?;
     encode(alloc, &Answer::Step(Boxed::new(proof)))
 }
 
@@ -97,7 +112,7 @@ fn form_of<R: Threads + Sync>(
 /// The first byte, the length, and the flags and the byte behind them.
 type Form = (u8, usize, [u8; 2]);
 
-/// A version, a program and its step; where the flags stand in the wire form of the true proof; and what is read of it.
+/// A version, a program and its step; where the flags are in the wire form of the true proof; and what is read of it.
 type WireRow = (u32, Program, u32, usize, Form);
 
 /// With a chunk of memory a proof has 896 bytes more, with a register 164, and with a chunk of the input 512.
@@ -166,8 +181,8 @@ fn opens_the_store(proof: &Proof, root: Digest32) -> bool {
 
 #[test]
 fn a_proof_of_version_2_opens_what_the_instruction_names(rt: HostRuntime) -> Result<(), Fail> {
-    let committed = program_after(&rt, rt.alloc(), 2, Program::EightSteps, 2)?;
-    assert!(rt; opens_the_store(&make_proof(&committed), committed.root()));
+    let (proof, root) = proof_and_root(&rt, rt.alloc(), 2, Program::EightSteps, 2)?;
+    assert!(rt; opens_the_store(&proof, root));
     Ok(())
 }
 
@@ -197,25 +212,39 @@ fn opens_the_call(proof: &Proof, root: Digest32) -> bool {
 
 #[test]
 fn a_proof_of_version_3_opens_the_input(rt: HostRuntime) -> Result<(), Fail> {
-    let committed = program_after(&rt, rt.alloc(), 3, Program::AsksForInput, 2)?;
-    assert_eq!(rt; first_eight(committed.root()), 0xa873_98d2_1fef_5c36);
-    assert!(rt; opens_the_call(&make_proof(&committed), committed.root()));
+    let (proof, root) = proof_and_root(&rt, rt.alloc(), 3, Program::AsksForInput, 2)?;
+    assert_eq!(rt; first_eight(root), 0xa873_98d2_1fef_5c36);
+    assert!(rt; opens_the_call(&proof, root));
     Ok(())
 }
 
-/// How many bytes a machine has put out.
+/// How many bytes of output a machine has.
 fn output_len(committed: &Committed<Sha256>) -> usize
     ensures { result ≡ length committed.now.output }
 {
     committed.machine().output.len()
 }
 
-/// The true claim of a machine that has put out few bytes.
+/// The true claim of a machine with few bytes of output.
 fn claim_made(alloc: Global, committed: &Committed<Sha256>) -> Result<Option<Claim>, Memory> {
     if output_len(committed) > 255 {
         return Ok(None);
     }
     Ok(Some(make_claim(alloc, Sha256, committed)?))
+}
+
+/// The true claim of a program after this many steps.
+fn claim_after<R: Threads + Sync>(
+    rt: &R,
+    alloc: Global,
+    version: u32,
+    program: Program,
+    steps: u32,
+) -> Result<Option<Claim>, Memory> {
+    let committed = program_after(rt, alloc, version, program, steps)?;
+    let claim = claim_made(alloc, &committed);
+    drop(committed);
+    claim
 }
 
 /// Whether a claim agrees with itself, and has this output and a root that begins so.
@@ -241,8 +270,7 @@ const LAST_ROOTS: [(u32, u64); 3] = [
 #[test]
 fn a_true_claim_has_the_root_of_its_version(rt: HostRuntime) -> Result<(), Fail> {
     for (version, root) in LAST_ROOTS {
-        let committed = program_after(&rt, rt.alloc(), version, Program::EightSteps, 8)?;
-        let claim = claim_made(rt.alloc(), &committed)?;
+        let claim = claim_after(&rt, rt.alloc(), version, Program::EightSteps, 8)?;
         assert!(rt; is_claim(&claim, root, &[0x7a]));
     }
     Ok(())

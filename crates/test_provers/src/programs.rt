@@ -7,7 +7,7 @@ use rd_base::Memory;
 use rv_step::Machine;
 use std::alloc::Global;
 
-/// addi x10, x0, 42; addi x17, x0, 1; ecall; addi x10, x0, 0; addi x17, x0, 93; ecall: it puts out 42 in step 2, and has
+/// addi x10, x0, 42; addi x17, x0, 1; ecall; addi x10, x0, 0; addi x17, x0, 93; ecall: it writes 42 in step 2, and has
 /// stopped at step 6
 pub const SIX_STEPS: [u8; 24] = [
     0x13, 0x05, 0xa0, 0x02, 0x93, 0x08, 0x10, 0x00, 0x73, 0x00, 0x00, 0x00, 0x13, 0x05, 0x00, 0x00,

@@ -211,18 +211,31 @@ const QUESTIONS: [(Kind, usize); 7] = [
 ];
 
 /// Whether a prover gives the answers of a row.
-fn has_answers<R: Threads + Sync>(rt: &R, alloc: Global, row: Row) -> Result<bool, Memory>
+fn gives_answers<R: Threads + Sync>(
+    rt: &R,
+    prover: &mut RunAnswerer<Sha256>,
+    row: Row,
+) -> Result<bool, Memory>
     requires { IsSync R.row }
 {
-    let (version, tamper, roots, byte, output) = row;
-    let mut prover = prover_with(alloc, version, tamper)?;
+    let (_, _, roots, byte, output) = row;
     for (kind, place) in QUESTIONS {
         let root = roots[place.min(3)];
-        if !is_answered(rt, &mut prover, kind, root, byte, output)? {
+        if !is_answered(rt, prover, kind, root, byte, output)? {
             return Ok(false);
         }
     }
     Ok(true)
+}
+
+/// Whether the prover of a row gives its answers.
+fn has_answers<R: Threads + Sync>(rt: &R, alloc: Global, row: Row) -> Result<bool, Memory>
+    requires { IsSync R.row }
+{
+    let mut prover = prover_with(alloc, row.0, row.1)?;
+    let has_answers = gives_answers(rt, &mut prover, row);
+    drop(prover);
+    has_answers
 }
 
 #[test]

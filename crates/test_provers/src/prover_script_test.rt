@@ -1,3 +1,4 @@
+//! Tests of manners.
 ghost use denote.Param.Send.{IsSync};
 
 use crate::asking::answer_of;
@@ -261,7 +262,7 @@ const ROOTS: Kind = Kind::Roots {
 /// answered.
 type Row = (Gives, (u32, u32), Kind, u32, Heard);
 
-/// Whether the answer is the wanted one, and `waits` tells whether it is a pass of the manner.
+/// Whether the answer is the wanted one, and `waits` is right about whether it is a pass of the manner.
 fn answers_so<R: Threads + Sync>(
     rt: &R,
     alloc: Global,
@@ -275,11 +276,13 @@ fn answers_so<R: Threads + Sync>(
         qid: Qid { dispute, round },
         kind,
     };
+    let inner = inner_of(alloc, gives)?;
     let manner = manner_of(alloc, named)?;
     let passed = waits(&manner, &question, passes);
-    let mut scripted = Scripted::new(alloc, Sha256, inner_of(alloc, gives)?, manner);
-    let answer = what_was_heard(&answer_of(rt, &mut scripted, &question, passes)?);
-    Ok(answer == want && passed == is_pass_of_the_manner(want, gives))
+    let mut scripted = Scripted::new(alloc, Sha256, inner, manner);
+    let answer = answer_of(rt, &mut scripted, &question, passes);
+    drop(scripted);
+    Ok(what_was_heard(&answer?) == want && passed == is_pass_of_the_manner(want, gives))
 }
 
 fn is_pass_of_the_manner(want: Heard, gives: Gives) -> bool {

@@ -1,9 +1,10 @@
-ghost use Rattle.std.specs.Prelude.{ℕ, ◌≤◌, List, length, IfOk};
+//! Tests of the roots of recorded runs, replayed from checkpoints.
+ghost use Rattle.std.specs.Prelude.{ℕ, List, IfOk};
 ghost use Rattle.rv_step.specs.State.{IsChained};
 ghost use Rattle.checkpoint_run.specs.Recorded.{AreChained};
 ghost use Rattle.sha2.specs.Sha256.{sha256};
 
-use crate::kept::kept_run;
+use crate::kept::{kept_run, run_of};
 use crate::programs::{A_STORE_IN_EACH_PAGE, SIX_STEPS};
 use crate::tampers::{early, flip, register};
 use checkpoint_run::{Run, record_run};
@@ -16,23 +17,7 @@ use std::alloc::Global;
 use std::sync::atomic::{AtomicU64, Ordering};
 use std::test::Fail;
 use std::thread::Threads;
-use toy_machine::{Counted, first_eight, machine_of};
-
-/// The run of an image of at most 64 bytes, which lies at 0x10000, up to a bound and with a spacing of at least 1. An `Err` is out of
-/// memory.
-fn run_of(
-    alloc: Global,
-    image: &[u8],
-    bound: u64,
-    every: u32,
-    tamper: Tamper,
-) -> Result<Run, Memory>
-    requires { length image.now ≤ 64 }
-    ensures { IfOk result (λ r. AreChained sha256 r) }
-{
-    let machine = machine_of(alloc, image)?;
-    record_run(alloc, Sha256, &machine, bound, every.max(1), tamper)
-}
+use toy_machine::{Tally, first_eight, machine_of};
 
 /// The roots of some steps, by at least one worker. An `Err` is out of memory.
 fn roots_of<R: Threads + Sync>(
@@ -76,7 +61,9 @@ fn committed_root<R: Threads + Sync>(
     requires { AreChained sha256 run.now }
 {
     let committed = committed_at(rt, alloc, Sha256, run, step)?;
-    Ok(first_eight(committed.root()))
+    let root = committed.root();
+    drop(committed);
+    Ok(first_eight(root))
 }
 
 /// How the roots of the steps 8, 0, 3 and 3 of SIX_STEPS begin, computed by `checks/roots.py SIX_STEPS 8`.
@@ -271,18 +258,13 @@ fn staying(alloc: Global, pages: u32) -> Result<Machine, Memory>
 }
 
 /// The run from a machine at the start, up to step 20,000 and with a spacing of at least 1. An `Err` is out of memory.
-fn run_staying(alloc: Global, pages: u32, every: u32) -> Result<Run, Memory>
-    ensures { IfOk result (λ r. AreChained sha256 r) }
+fn run_staying(alloc: Global, pages: u32, every: u32) -> Result<Box<Run>, Memory>
+    ensures { IfOk result (λ r. AreChained sha256 r.value) }
 {
     let machine = staying(alloc, pages)?;
-    record_run(
-        alloc,
-        Sha256,
-        &machine,
-        20_000,
-        every.max(1),
-        Tamper::Untouched,
-    )
+    let untouched = Tamper::Untouched;
+    let run = record_run(alloc, Sha256, &machine, 20_000, every.max(1), untouched)?;
+    Ok(Box::new(alloc, run)?)
 }
 
 /// How many digests the roots of two steps take.
@@ -295,7 +277,7 @@ fn digests_of<R: Threads + Sync>(
     requires { AreChained sha256 run.now }
 {
     let made = AtomicU64::new(0);
-    let counted = Counted {
+    let counted = Tally {
         of: Sha256,
         made: &made,
     };
@@ -393,7 +375,7 @@ fn roots_are_those_of_their_steps_in_any_order(rt: HostRuntime) -> Result<(), Fa
 }
 
 /// The run of A_STORE_IN_EACH_PAGE up to step 305, from which no root was made so far. An `Err` is out of memory.
-fn kept_pages<D: Digester>(alloc: Global, d: D) -> Result<KeptRun<D>, Memory> {
+fn kept_pages<D: Digester>(alloc: Global, d: D) -> Result<Box<KeptRun<D>>, Memory> {
     let machine = machine_of(alloc, &A_STORE_IN_EACH_PAGE)?;
     kept_run(alloc, d, &machine, 305, 16)
 }
@@ -409,12 +391,12 @@ fn kept_root<D: Digester + Copy + Send + Sync, R: Threads + Sync>(
     Ok(roots.first().map_or(0, |root| first_eight(*root)))
 }
 
-/// The roots are those of the test above. A root of the same state once more takes the digests of its registers, its control string and
+/// The roots are those of the test above. A second root of the same state takes the digests of its registers, its control string and
 /// its state string.
 #[test]
 fn a_kept_run_goes_from_root_to_root_in_any_order(rt: HostRuntime) -> Result<(), Fail> {
     let made = AtomicU64::new(0);
-    let counted = Counted {
+    let counted = Tally {
         of: Sha256,
         made: &made,
     };

@@ -1,3 +1,4 @@
+//! Tampers by their numbers.
 use rd_base::{RegisterNumber, Tamper};
 
 /// A byte that is flipped by a mask before a step.

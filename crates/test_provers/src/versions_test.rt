@@ -15,7 +15,7 @@ use std::alloc::Global;
 use std::sync::atomic::{AtomicU64, Ordering};
 use std::test::Fail;
 use std::thread::Threads;
-use toy_machine::{Counted, first_eight};
+use toy_machine::{Tally, first_eight};
 
 /// xori x5, x5, 1; jal x0, -4: its register changes in each even step, and every fourth state is the same
 const TOGGLES: [u8; 8] = [0x93, 0xc2, 0x12, 0x00, 0x6f, 0xf0, 0xdf, 0xff];
@@ -29,14 +29,15 @@ fn run_in(
     input: &[u8],
     every: u32,
     tamper: Tamper,
-) -> Result<Run, Memory>
+) -> Result<Box<Run>, Memory>
     requires image { length image.now ≤ 64 }
     requires input { length input.now ≤ 4096 }
     requires every { 0 < every }
-    ensures { IfOk result (λ r. AreChained sha256 r) }
+    ensures { IfOk result (λ r. AreChained sha256 r.value) }
 {
     let machine = machine_in(alloc, version, image, input)?;
-    record_run(alloc, Sha256, &machine, 8, every, tamper)
+    let run = record_run(alloc, Sha256, &machine, 8, every, tamper)?;
+    Ok(Box::new(alloc, run)?)
 }
 
 /// The roots of the steps 0 to 8 of a run, by two workers. An `Err` is out of memory.
@@ -60,7 +61,9 @@ fn is_root_of<R: Threads + Sync>(
     let committed = committed_at(rt, alloc, Sha256, run, step)?;
     let machine = committed.machine();
     let scratch = state_root(Sha256, machine.version, machine);
-    Ok(committed.root() == root && scratch == root)
+    let kept = committed.root();
+    drop(committed);
+    Ok(kept == root && scratch == root)
 }
 
 /// Whether the roots of a run begin with these eight bytes each, and each is that of the committed machine of its step and that of
@@ -136,7 +139,7 @@ fn a_run_has_the_roots_of_its_version(rt: HostRuntime) -> Result<(), Fail> {
     Ok(())
 }
 
-/// addi x10, x0, 0; addi x17, x0, 2; ecall; addi x17, x0, 1; ecall; jal x0, 0: it puts out the input's first byte
+/// addi x10, x0, 0; addi x17, x0, 2; ecall; addi x17, x0, 1; ecall; jal x0, 0: it writes the input's first byte
 const READS_ITS_INPUT: [u8; 24] = [
     0x13, 0x05, 0x00, 0x00, 0x93, 0x08, 0x20, 0x00, 0x73, 0x00, 0x00, 0x00, 0x93, 0x08, 0x10, 0x00,
     0x73, 0x00, 0x00, 0x00, 0x6f, 0x00, 0x00, 0x00,
@@ -230,7 +233,7 @@ fn digests_of<R: Threads + Sync>(
     requires { AreChained sha256 run.now }
 {
     let made = AtomicU64::new(0);
-    let counted = Counted {
+    let counted = Tally {
         of: Sha256,
         made: &made,
     };
@@ -248,7 +251,7 @@ fn digests_with_input<R: Threads + Sync>(
     requires { AreChained sha256 run.now }
 {
     let made = AtomicU64::new(0);
-    let counted = Counted {
+    let counted = Tally {
         of: Sha256,
         made: &made,
     };
@@ -308,7 +311,7 @@ fn the_root_of_the_input_is_made_once_for_all_roots(rt: HostRuntime) -> Result<(
     Ok(())
 }
 
-/// How many digests are saved for a machine of TOGGLES with an input of at most 4,096 bytes if the tree of the input is at hand. An `Err` is
+/// How many digests are saved for a machine of TOGGLES with an input of at most 4,096 bytes if the tree of the input is given. An `Err` is
 /// out of memory.
 fn saved_by_the_tree<R: Threads + Sync>(
     rt: &R,
@@ -326,12 +329,12 @@ fn saved_by_the_tree<R: Threads + Sync>(
     ])
 }
 
-/// How many digests the root of its state takes at the start, without the tree at hand and with it. An `Err` is out of memory.
+/// How many digests the root of its state takes at the start, without the tree and with it. An `Err` is out of memory.
 fn digests_of_root(alloc: Global, version: u32, input: &[u8]) -> Result<[u64; 2], Memory>
     requires { length input.now ≤ 4096 }
 {
     let made = AtomicU64::new(0);
-    let counted = Counted {
+    let counted = Tally {
         of: Sha256,
         made: &made,
     };
@@ -341,6 +344,7 @@ fn digests_of_root(alloc: Global, version: u32, input: &[u8]) -> Result<[u64; 2]
     let tree = SharedInput::of(alloc, counted, &machine)?;
     made.store(0, Ordering::SeqCst);
     state_root_with(counted, &machine, &tree);
+    drop(tree);
     Ok([without, made.load(Ordering::SeqCst)])
 }
 
@@ -350,14 +354,14 @@ fn kept_toggles<D: Digester>(
     d: D,
     version: u32,
     input: &[u8],
-) -> Result<KeptRun<D>, Memory>
+) -> Result<Box<KeptRun<D>>, Memory>
     requires { length input.now ≤ 4096 }
 {
     let machine = machine_in(alloc, version, &TOGGLES, input)?;
     kept_run(alloc, d, &machine, 8, 3)
 }
 
-/// How many digests the machine of step 8 takes with its trees, without that of the input at hand and with it. An `Err` is out of memory.
+/// How many digests the machine of step 8 takes with its trees, without that of the input and with it. An `Err` is out of memory.
 fn digests_of_machine<R: Threads + Sync>(
     rt: &R,
     alloc: Global,
@@ -367,20 +371,20 @@ fn digests_of_machine<R: Threads + Sync>(
     requires { length input.now ≤ 4096 }
 {
     let made = AtomicU64::new(0);
-    let counted = Counted {
+    let counted = Tally {
         of: Sha256,
         made: &made,
     };
     let run = run_in(alloc, version, &TOGGLES, input, 3, Tamper::Untouched)?;
-    committed_at(rt, alloc, counted, &run, 8)?;
+    drop(committed_at(rt, alloc, counted, &run, 8)?);
     let without = made.load(Ordering::SeqCst);
     let kept = kept_toggles(alloc, counted, version, input)?;
     made.store(0, Ordering::SeqCst);
-    kept.committed(rt, alloc, 8)?;
+    drop(kept.committed(rt, alloc, 8)?);
     Ok([without, made.load(Ordering::SeqCst)])
 }
 
-/// The 33 digests of the tree of an input of 33 bytes aren't made again if the tree is at hand.
+/// The 33 digests of the tree of an input of 33 bytes aren't made again if the tree is given.
 #[test]
 fn the_tree_of_the_input_is_made_once_for_all_states(rt: HostRuntime) -> Result<(), Fail> {
     for (version, wanted) in [(2, 0), (3, 33)] {
