@@ -89,7 +89,7 @@ impl Directory {
         }
     }
 
-    /// Makes a place for each table that has none. An `Err` is out of memory. The same pages are kept.
+    /// Makes a place for each table that has none. The same pages are kept.
     pub fn make_places(&mut self) -> Result<(), Memory>
         ensures places { OnOk result (1024 ≤ vec_len self.new.tables) }
         ensures same { (q : ℕ) → page_in self.new.tables.items q ≡ page_in self.old.tables.items q }
@@ -123,7 +123,7 @@ impl Directory {
         }
     }
 
-    /// A directory with copies of the pages. An `Err` is out of memory.
+    /// A directory with copies of the pages.
     pub fn copy(&self) -> Result<Directory, Memory>
         ensures { IfOk result (λ copied. (q : ℕ) → IsCopied (page_in self.now.tables.items q) (page_in copied.tables.items q)) }
     {

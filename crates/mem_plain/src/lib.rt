@@ -6,7 +6,7 @@
 //! chunks of 32 bytes. A memory is taken apart and put together by pages of 4,096 bytes with `next_page`, `page` and
 //! `put_page`. Inside, only those pages are kept that something was stored to: an access finds its page by two array
 //! accesses (`directory`), and `next_page` goes over the tables of these pages alone. Read `specs/Contents.antt` first, and
-//! then `memory` and `laws`.
+//! then `memory` and `laws`. An `Err` that no comment names is out of memory.
 #![tactic(auto)]
 
 mod directory;

@@ -138,7 +138,7 @@ impl PlainMem {
         }
     }
 
-    /// A copy of the memory: what is stored to the one later isn't stored to the other. An `Err` is out of memory.
+    /// A copy of the memory: what is stored to the one later isn't stored to the other.
     pub fn copy(&self) -> Result<PlainMem, Memory>
         ensures { IfOk result (λ m. m ≡ self.now) }
     {
@@ -148,7 +148,7 @@ impl PlainMem {
         })
     }
 
-    /// A copy of the page with a number below 2^20: the 4,096 bytes from address 4,096 * `number` on. An `Err` is out of memory.
+    /// A copy of the page with a number below 2^20: the 4,096 bytes from address 4,096 * `number` on.
     pub fn page(&self, number: u32) -> Result<Page, Memory>
         requires { number < 2 ^ 20 }
         ensures { IfOk result (λ page. (at : ℕ) → at < 4096 → slice_index page.bytes.items at ≡ byte_at self.now (number * 4096 + at)) }
@@ -216,7 +216,7 @@ impl PlainMem {
         Ok(mem)
     }
 
-    /// Lays bytes that lie in one page. An `Err` is out of memory.
+    /// Lays bytes that lie in one page.
     fn lay_piece(&mut self, addr: u32, piece: &[u8]) -> Result<(), Memory>
         requires { addr % 4096 + length piece.now ≤ 4096 }
         ensures { OnOk result (self.new ≡ laid self.old addr piece.now) }

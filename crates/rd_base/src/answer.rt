@@ -40,7 +40,7 @@ pub enum Answer {
 }
 
 impl Answer {
-    /// A copy of the answer. An `Err` is out of memory.
+    /// A copy of the answer.
     pub fn copy(&self, alloc: Global) -> Result<Answer, Memory>
         ensures { IfOk result (λ a. a ≡ self.now) }
     {

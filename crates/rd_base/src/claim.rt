@@ -56,7 +56,7 @@ impl ClaimOutput {
         self.bytes.as_slice()
     }
 
-    /// A copy of the output. An `Err` is out of memory.
+    /// A copy of the output.
     pub fn copy(&self, alloc: Global) -> Result<ClaimOutput, Memory>
         ensures { IfOk result (λ o. o ≡ self.now) }
     {
@@ -81,7 +81,7 @@ pub struct Claim {
 }
 
 impl Claim {
-    /// A copy of the claim. An `Err` is out of memory.
+    /// A copy of the claim.
     pub fn copy(&self, alloc: Global) -> Result<Claim, Memory>
         ensures { IfOk result (λ c. c ≡ self.now) }
     {

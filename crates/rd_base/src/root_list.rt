@@ -53,7 +53,7 @@ impl RootList {
         self.roots.as_slice()
     }
 
-    /// A copy of the roots. An `Err` is out of memory.
+    /// A copy of the roots.
     pub fn copy(&self, alloc: Global) -> Result<RootList, Memory>
         ensures { IfOk result (λ l. l ≡ self.now) }
     {

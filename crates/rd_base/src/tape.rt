@@ -20,7 +20,7 @@ pub struct TapeAnswer {
 }
 
 impl TapeAnswer {
-    /// A copy of the answer and of its question's number. An `Err` is out of memory.
+    /// A copy of the answer and of its question's number.
     pub fn copy(&self, alloc: Global) -> Result<TapeAnswer, Memory>
         ensures { IfOk result (λ t. t ≡ self.now) }
     {
@@ -73,7 +73,7 @@ impl Tape {
         self.answers.as_slice()
     }
 
-    /// A copy of the tape. An `Err` is out of memory.
+    /// A copy of the tape.
     pub fn copy(&self, alloc: Global) -> Result<Tape, Memory>
         ensures { IfOk result (λ t. t ≡ self.now) }
     {

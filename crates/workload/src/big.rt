@@ -49,7 +49,7 @@ fn tree(alloc: Global, seed: u32) -> Result<Value, AllocError>
 /// The text of the large workload's case for a seed.
 ///
 /// It is the compact text of the workload's tree (`text`), and reading it as a case gives the workload's case
-/// (`reads`). An `Err` is out of memory.
+/// (`reads`).
 pub fn big_case(alloc: Global, seed: u32) -> Result<Bytes, Memory>
     ensures text { IfOk result (λ text. text ≡ compact_text (big_tree seed)) }
     ensures reads { IfOk result (λ text. case_at text ≡ Ok (big_data seed)) }

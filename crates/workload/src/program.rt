@@ -29,7 +29,7 @@ const PROGRAM: [u8; 80] = [
     0x73, 0x00, 0x00, 0x00, // ECALL
 ];
 
-/// The program as hexadecimal text. An `Err` is out of memory.
+/// The program as hexadecimal text.
 #[tactic(auto, unfolding(crate::specs::Program::program))]
 pub fn image(alloc: Global) -> Result<String, AllocError>
     ensures { IfOk result (λ text. string_bytes text ≡ encode_lower program) }

@@ -39,7 +39,7 @@ fn prover(
     }
 }
 
-/// The trees of the provers, after the draws of the input. An `Err` is out of memory.
+/// The trees of the provers, after the draws of the input.
 pub fn provers(alloc: Global, seed: u32, draws: &mut Draws) -> Result<Vec<Value>, AllocError>
     requires { draws.old.last ≡ draw seed 4096 }
     ensures { IfOk result (λ provers. map view provers.items ≡ first_values 8 (prover_tree seed)) }
