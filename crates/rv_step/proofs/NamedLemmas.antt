@@ -7,6 +7,9 @@ use Rattle.rv_decode.specs.declared.instr.IType.{IType}
 use Rattle.rv_decode.specs.declared.instr.ShiftType.{ShiftType}
 use Rattle.rv_decode.specs.declared.instr.BType.{BType}
 use Rattle.rv_decode.specs.declared.instr.SType.{SType}
+use Rattle.rv_decode.specs.Fields.{fields_of}
+use Rattle.rv_decode.specs.declared.fields.Fields.{Fields}
+use Rattle.rv_decode.specs.declared.fields.Fields.TheVariants as fields
 use Rattle.rv_decode.specs.declared.instr.Instr.{Instr}
 use Rattle.rv_decode.specs.declared.instr.Instr.TheVariants.{Lui, Auipc, Jal, Jalr, Beq, Bne, Blt, Bge, Bltu, Bgeu, Lb, Lh, Lw, Lbu, Lhu, Sb, Sh, Sw, Addi, Slti, Sltiu, Xori, Ori, Andi, Slli, Srli, Srai, Add, Sub, Sll, Slt, Sltu, Xor, Srl, Sra, Or, And, Mul, Mulh, Mulhsu, Mulhu, Div, Divu, Rem, Remu, Fence, Ecall, Ebreak}
 use Rattle.rv_step.specs.Arithmetic.{word, plus, minus, is_equal, is_different, is_less_signed, is_at_least_signed, is_less_unsigned, is_at_least_unsigned, set_less_signed, set_less_unsigned, by_low_five, shifted_left, shifted_right, shifted_right_signed, zero_extended, sign_extended, product_low, product_high, product_high_signed_unsigned, product_high_unsigned, quotient, quotient_unsigned, remainder, remainder_unsigned}
@@ -15,7 +18,7 @@ use Rattle.rv_step.specs.Parts.{needed_in, load_needed, store_needed, call_neede
 use Rattle.rv_step.specs.declared.asked.Need.TheVariants as need
 use Rattle.rv_step.specs.declared.effect.Effect.{Effect}
 use Rattle.rv_step.specs.declared.effect.Effect.TheVariants.{Write, Jump, Branch, Next, Store, Put, Exit, Trap}
-use Rattle.rv_step.specs.Named.{first_source, second_source, destination, kept, once, named, named_by, AreRegisters, WritesOnly}
+use Rattle.rv_step.specs.Named.{first_in, second_in, written_in, first_source, second_source, destination, kept, once, named, named_by, AreRegisters, WritesOnly}
 
 -- two register files in which the registers that an instruction reads hold the same: by the shapes of instructions
 module _ (offer : Option (ℕ → ℕ)) (xs ys : List ℕ) (pc : ℕ) (read : ℕ → ℕ → ℕ) where
@@ -42,7 +45,7 @@ module _ (offer : Option (ℕ → ℕ)) (xs ys : List ℕ) (pc : ℕ) (read : �
       ∙ ap (λ b. cond (eqb (at_offset (x ys s.rs1) s.imm % width) 0) (Store (at_offset (x ys s.rs1) s.imm) width b) (Trap 6)) second
 
   pub effect-reads : (i : Instr) → x xs (first_source i) ≡ x ys (first_source i) → x xs (second_source i) ≡ x ys (second_source i) → effect_with offer xs pc read i ≡ effect_with offer ys pc read i
-  unfolding effect_with first_source second_source
+  unfolding effect_with fields_of first_source second_source
   effect-reads (Jalr i) first second = ap (λ a. jumps i.rd (at_offset a i.imm - at_offset a i.imm % 2)) first
   effect-reads (Beq b) first second = branch-same b is_equal first second
   effect-reads (Bne b) first second = branch-same b is_different first second
@@ -97,7 +100,7 @@ module _ (offer : Option (ℕ → ℕ)) (xs ys : List ℕ) (pc : ℕ) (read : �
       ∙ ap (λ b. cond (eqb (at_offset (x ys s.rs1) s.imm % width) 0) (need.Store (at_offset (x ys s.rs1) s.imm) width b) (need.Trap 6)) second
 
   pub needed-reads : (version : ℕ) (i : Instr) → x xs (first_source i) ≡ x ys (first_source i) → x xs (second_source i) ≡ x ys (second_source i) → needed_in version xs i ≡ needed_in version ys i
-  unfolding needed_in first_source second_source
+  unfolding needed_in fields_of first_source second_source
   needed-reads version (Lb i) first second = load_need-same 1 i first
   needed-reads version (Lh i) first second = load_need-same 2 i first
   needed-reads version (Lw i) first second = load_need-same 4 i first
@@ -182,7 +185,7 @@ module _ (offer : Option (ℕ → ℕ)) (xs : List ℕ) (pc : ℕ) (read : ℕ �
       either-writes 10 (eqb number 93) (Exit argument) _ tt (either-writes 10 (eqb number 1) (Put (argument % 256)) _ tt (either-writes 10 (eqb number 2) (gives offer argument) (Trap 8) (gives-write offer argument) tt))
 
   pub effect-writes : (i : Instr) → WritesOnly (destination i) (effect_with offer xs pc read i)
-  unfolding effect_with destination
+  unfolding effect_with fields_of destination
   effect-writes (Jal i) = jumps-write i.rd _
   effect-writes (Jalr i) = jumps-write i.rd _
   effect-writes (Beq b) = branches-write 0 b is_equal
@@ -205,125 +208,42 @@ module _ (offer : Option (ℕ → ℕ)) (xs : List ℕ) (pc : ℕ) (read : ℕ �
   effect-writes i = refl
 
 -- each field names a register
+first_in-below : (fields : Fields) → first_in fields < 32
+first_in-below (fields.R i) = i.rs1_is_register
+first_in-below (fields.I i) = i.rs1_is_register
+first_in-below (fields.Shift i) = i.rs1_is_register
+first_in-below (fields.S i) = i.rs1_is_register
+first_in-below (fields.B i) = i.rs1_is_register
+first_in-below fields.Call = omega arith
+first_in-below fields = omega arith
+
+second_in-below : (fields : Fields) → second_in fields < 32
+second_in-below (fields.R i) = i.rs2_is_register
+second_in-below (fields.S i) = i.rs2_is_register
+second_in-below (fields.B i) = i.rs2_is_register
+second_in-below fields.Call = omega arith
+second_in-below fields = omega arith
+
+written_in-below : (fields : Fields) → written_in fields < 32
+written_in-below (fields.R i) = i.rd_is_register
+written_in-below (fields.I i) = i.rd_is_register
+written_in-below (fields.Shift i) = i.rd_is_register
+written_in-below (fields.U i) = i.rd_is_register
+written_in-below (fields.J i) = i.rd_is_register
+written_in-below fields.Call = omega arith
+written_in-below fields = omega arith
+
 pub first-below : (i : Instr) → first_source i < 32
 unfolding first_source
-first-below (Jalr i) = i.rs1_is_register
-first-below (Beq i) = i.rs1_is_register
-first-below (Bne i) = i.rs1_is_register
-first-below (Blt i) = i.rs1_is_register
-first-below (Bge i) = i.rs1_is_register
-first-below (Bltu i) = i.rs1_is_register
-first-below (Bgeu i) = i.rs1_is_register
-first-below (Lb i) = i.rs1_is_register
-first-below (Lh i) = i.rs1_is_register
-first-below (Lw i) = i.rs1_is_register
-first-below (Lbu i) = i.rs1_is_register
-first-below (Lhu i) = i.rs1_is_register
-first-below (Sb i) = i.rs1_is_register
-first-below (Sh i) = i.rs1_is_register
-first-below (Sw i) = i.rs1_is_register
-first-below (Addi i) = i.rs1_is_register
-first-below (Slti i) = i.rs1_is_register
-first-below (Sltiu i) = i.rs1_is_register
-first-below (Xori i) = i.rs1_is_register
-first-below (Ori i) = i.rs1_is_register
-first-below (Andi i) = i.rs1_is_register
-first-below (Slli i) = i.rs1_is_register
-first-below (Srli i) = i.rs1_is_register
-first-below (Srai i) = i.rs1_is_register
-first-below (Add i) = i.rs1_is_register
-first-below (Sub i) = i.rs1_is_register
-first-below (Sll i) = i.rs1_is_register
-first-below (Slt i) = i.rs1_is_register
-first-below (Sltu i) = i.rs1_is_register
-first-below (Xor i) = i.rs1_is_register
-first-below (Srl i) = i.rs1_is_register
-first-below (Sra i) = i.rs1_is_register
-first-below (Or i) = i.rs1_is_register
-first-below (And i) = i.rs1_is_register
-first-below (Mul i) = i.rs1_is_register
-first-below (Mulh i) = i.rs1_is_register
-first-below (Mulhsu i) = i.rs1_is_register
-first-below (Mulhu i) = i.rs1_is_register
-first-below (Div i) = i.rs1_is_register
-first-below (Divu i) = i.rs1_is_register
-first-below (Rem i) = i.rs1_is_register
-first-below (Remu i) = i.rs1_is_register
-first-below Ecall = omega arith
-first-below i = omega arith
+first-below i = first_in-below (fields_of i)
 
 pub second-below : (i : Instr) → second_source i < 32
 unfolding second_source
-second-below (Beq i) = i.rs2_is_register
-second-below (Bne i) = i.rs2_is_register
-second-below (Blt i) = i.rs2_is_register
-second-below (Bge i) = i.rs2_is_register
-second-below (Bltu i) = i.rs2_is_register
-second-below (Bgeu i) = i.rs2_is_register
-second-below (Sb i) = i.rs2_is_register
-second-below (Sh i) = i.rs2_is_register
-second-below (Sw i) = i.rs2_is_register
-second-below (Add i) = i.rs2_is_register
-second-below (Sub i) = i.rs2_is_register
-second-below (Sll i) = i.rs2_is_register
-second-below (Slt i) = i.rs2_is_register
-second-below (Sltu i) = i.rs2_is_register
-second-below (Xor i) = i.rs2_is_register
-second-below (Srl i) = i.rs2_is_register
-second-below (Sra i) = i.rs2_is_register
-second-below (Or i) = i.rs2_is_register
-second-below (And i) = i.rs2_is_register
-second-below (Mul i) = i.rs2_is_register
-second-below (Mulh i) = i.rs2_is_register
-second-below (Mulhsu i) = i.rs2_is_register
-second-below (Mulhu i) = i.rs2_is_register
-second-below (Div i) = i.rs2_is_register
-second-below (Divu i) = i.rs2_is_register
-second-below (Rem i) = i.rs2_is_register
-second-below (Remu i) = i.rs2_is_register
-second-below Ecall = omega arith
-second-below i = omega arith
+second-below i = second_in-below (fields_of i)
 
 pub last-below : (i : Instr) → destination i < 32
 unfolding destination
-last-below (Lui i) = i.rd_is_register
-last-below (Auipc i) = i.rd_is_register
-last-below (Jal i) = i.rd_is_register
-last-below (Jalr i) = i.rd_is_register
-last-below (Lb i) = i.rd_is_register
-last-below (Lh i) = i.rd_is_register
-last-below (Lw i) = i.rd_is_register
-last-below (Lbu i) = i.rd_is_register
-last-below (Lhu i) = i.rd_is_register
-last-below (Addi i) = i.rd_is_register
-last-below (Slti i) = i.rd_is_register
-last-below (Sltiu i) = i.rd_is_register
-last-below (Xori i) = i.rd_is_register
-last-below (Ori i) = i.rd_is_register
-last-below (Andi i) = i.rd_is_register
-last-below (Slli i) = i.rd_is_register
-last-below (Srli i) = i.rd_is_register
-last-below (Srai i) = i.rd_is_register
-last-below (Add i) = i.rd_is_register
-last-below (Sub i) = i.rd_is_register
-last-below (Sll i) = i.rd_is_register
-last-below (Slt i) = i.rd_is_register
-last-below (Sltu i) = i.rd_is_register
-last-below (Xor i) = i.rd_is_register
-last-below (Srl i) = i.rd_is_register
-last-below (Sra i) = i.rd_is_register
-last-below (Or i) = i.rd_is_register
-last-below (And i) = i.rd_is_register
-last-below (Mul i) = i.rd_is_register
-last-below (Mulh i) = i.rd_is_register
-last-below (Mulhsu i) = i.rd_is_register
-last-below (Mulhu i) = i.rd_is_register
-last-below (Div i) = i.rd_is_register
-last-below (Divu i) = i.rd_is_register
-last-below (Rem i) = i.rd_is_register
-last-below (Remu i) = i.rd_is_register
-last-below Ecall = omega arith
-last-below i = omega arith
+last-below i = written_in-below (fields_of i)
 
 registers-after : (t : Bool) (r : ℕ) (rest : List ℕ) → r < 32 → AreRegisters rest → AreRegisters (kept t r ++ rest)
 registers-after true r rest low others = (low, others)

@@ -2,130 +2,50 @@
 -- (RISC-V Unprivileged ISA 20191213, 2.2). x0 stands for a field that an instruction doesn't have: it is 0, and is never named.
 use Rattle.std.specs.Prelude.{◌≡◌, ◌<◌, ℕ, ◌==◌, ◌&&◌, not, Bool, List, [], ◌∷◌, ◌++◌, Option, Some, None, if◌then◌else◌}
 use Rattle.rv_decode.specs.declared.instr.Instr.{Instr}
-use Rattle.rv_decode.specs.declared.instr.Instr.TheVariants.{Lui, Auipc, Jal, Jalr, Beq, Bne, Blt, Bge, Bltu, Bgeu, Lb, Lh, Lw, Lbu, Lhu, Sb, Sh, Sw, Addi, Slti, Sltiu, Xori, Ori, Andi, Slli, Srli, Srai, Add, Sub, Sll, Slt, Sltu, Xor, Srl, Sra, Or, And, Mul, Mulh, Mulhsu, Mulhu, Div, Divu, Rem, Remu, Ecall}
+use Rattle.rv_decode.specs.declared.fields.Fields.{Fields}
+use Rattle.rv_decode.specs.declared.fields.Fields.TheVariants.{R, I, Shift, S, B, U, J, Call}
+use Rattle.rv_decode.specs.Fields.{fields_of}
 use Rattle.rv_step.specs.Codes.{call_register, argument_register}
 use Rattle.rv_step.specs.declared.effect.Effect.{Effect}
 use Rattle.rv_step.specs.declared.effect.Effect.TheVariants.{Write, Jump}
 
 -- the first register that is read
-unfoldable pub first_source : Instr → ℕ
-first_source (Jalr i) = i.rs1
-first_source (Beq i) = i.rs1
-first_source (Bne i) = i.rs1
-first_source (Blt i) = i.rs1
-first_source (Bge i) = i.rs1
-first_source (Bltu i) = i.rs1
-first_source (Bgeu i) = i.rs1
-first_source (Lb i) = i.rs1
-first_source (Lh i) = i.rs1
-first_source (Lw i) = i.rs1
-first_source (Lbu i) = i.rs1
-first_source (Lhu i) = i.rs1
-first_source (Sb i) = i.rs1
-first_source (Sh i) = i.rs1
-first_source (Sw i) = i.rs1
-first_source (Addi i) = i.rs1
-first_source (Slti i) = i.rs1
-first_source (Sltiu i) = i.rs1
-first_source (Xori i) = i.rs1
-first_source (Ori i) = i.rs1
-first_source (Andi i) = i.rs1
-first_source (Slli i) = i.rs1
-first_source (Srli i) = i.rs1
-first_source (Srai i) = i.rs1
-first_source (Add i) = i.rs1
-first_source (Sub i) = i.rs1
-first_source (Sll i) = i.rs1
-first_source (Slt i) = i.rs1
-first_source (Sltu i) = i.rs1
-first_source (Xor i) = i.rs1
-first_source (Srl i) = i.rs1
-first_source (Sra i) = i.rs1
-first_source (Or i) = i.rs1
-first_source (And i) = i.rs1
-first_source (Mul i) = i.rs1
-first_source (Mulh i) = i.rs1
-first_source (Mulhsu i) = i.rs1
-first_source (Mulhu i) = i.rs1
-first_source (Div i) = i.rs1
-first_source (Divu i) = i.rs1
-first_source (Rem i) = i.rs1
-first_source (Remu i) = i.rs1
-first_source Ecall = call_register
-first_source i = 0
+abbrev pub first_in : Fields → ℕ
+first_in (R i) = i.rs1
+first_in (I i) = i.rs1
+first_in (Shift i) = i.rs1
+first_in (S i) = i.rs1
+first_in (B i) = i.rs1
+first_in Call = call_register
+first_in fields = 0
 
 -- the second register that is read
-unfoldable pub second_source : Instr → ℕ
-second_source (Beq i) = i.rs2
-second_source (Bne i) = i.rs2
-second_source (Blt i) = i.rs2
-second_source (Bge i) = i.rs2
-second_source (Bltu i) = i.rs2
-second_source (Bgeu i) = i.rs2
-second_source (Sb i) = i.rs2
-second_source (Sh i) = i.rs2
-second_source (Sw i) = i.rs2
-second_source (Add i) = i.rs2
-second_source (Sub i) = i.rs2
-second_source (Sll i) = i.rs2
-second_source (Slt i) = i.rs2
-second_source (Sltu i) = i.rs2
-second_source (Xor i) = i.rs2
-second_source (Srl i) = i.rs2
-second_source (Sra i) = i.rs2
-second_source (Or i) = i.rs2
-second_source (And i) = i.rs2
-second_source (Mul i) = i.rs2
-second_source (Mulh i) = i.rs2
-second_source (Mulhsu i) = i.rs2
-second_source (Mulhu i) = i.rs2
-second_source (Div i) = i.rs2
-second_source (Divu i) = i.rs2
-second_source (Rem i) = i.rs2
-second_source (Remu i) = i.rs2
-second_source Ecall = argument_register
-second_source i = 0
+abbrev pub second_in : Fields → ℕ
+second_in (R i) = i.rs2
+second_in (S i) = i.rs2
+second_in (B i) = i.rs2
+second_in Call = argument_register
+second_in fields = 0
 
 -- the register that is written
+abbrev pub written_in : Fields → ℕ
+written_in (R i) = i.rd
+written_in (I i) = i.rd
+written_in (Shift i) = i.rd
+written_in (U i) = i.rd
+written_in (J i) = i.rd
+written_in Call = argument_register
+written_in fields = 0
+
+-- the same of an instruction
+unfoldable pub first_source : Instr → ℕ
+first_source i = first_in (fields_of i)
+
+unfoldable pub second_source : Instr → ℕ
+second_source i = second_in (fields_of i)
+
 unfoldable pub destination : Instr → ℕ
-destination (Lui i) = i.rd
-destination (Auipc i) = i.rd
-destination (Jal i) = i.rd
-destination (Jalr i) = i.rd
-destination (Lb i) = i.rd
-destination (Lh i) = i.rd
-destination (Lw i) = i.rd
-destination (Lbu i) = i.rd
-destination (Lhu i) = i.rd
-destination (Addi i) = i.rd
-destination (Slti i) = i.rd
-destination (Sltiu i) = i.rd
-destination (Xori i) = i.rd
-destination (Ori i) = i.rd
-destination (Andi i) = i.rd
-destination (Slli i) = i.rd
-destination (Srli i) = i.rd
-destination (Srai i) = i.rd
-destination (Add i) = i.rd
-destination (Sub i) = i.rd
-destination (Sll i) = i.rd
-destination (Slt i) = i.rd
-destination (Sltu i) = i.rd
-destination (Xor i) = i.rd
-destination (Srl i) = i.rd
-destination (Sra i) = i.rd
-destination (Or i) = i.rd
-destination (And i) = i.rd
-destination (Mul i) = i.rd
-destination (Mulh i) = i.rd
-destination (Mulhsu i) = i.rd
-destination (Mulhu i) = i.rd
-destination (Div i) = i.rd
-destination (Divu i) = i.rd
-destination (Rem i) = i.rd
-destination (Remu i) = i.rd
-destination Ecall = argument_register
-destination i = 0
+destination i = written_in (fields_of i)
 
 -- a register, if a test says so
 abbrev pub kept : Bool → ℕ → List ℕ

@@ -6,7 +6,8 @@
 //! `Machine::new` begins it for every digester. `need` finds from registers alone the one number of memory that an instruction reads or
 //! writes, or the byte of the input that it reads. `finish` changes registers and pc, and returns what is left to do. Both together are the
 //! step, whoever holds memory and the input (`two_parts_are_the_step`), and nothing else is read (`needs_tell_what_is_read`). `touches`
-//! gives the page that the next step stores to.
+//! gives the page that the next step stores to. `fetched_in` reads the instruction out of an opened chunk, and `named_by` gives the registers
+//! that it names.
 //!
 //! A machine has a version, that of the commitment to its states. In versions 1 and 2 its input lies in memory; in version 3
 //! it is offered to a call, byte by byte.
@@ -24,8 +25,10 @@ mod arithmetic;
 mod arithmetic_laws;
 mod asked;
 mod effect;
+mod fetching;
 mod laws;
 mod machine;
+mod naming;
 mod parts;
 mod running;
 mod stepping;
@@ -38,12 +41,14 @@ pub use arithmetic_laws::{
 };
 pub use asked::{Need, Outcome};
 pub use effect::{ILLEGAL_INSTRUCTION, MISALIGNED_JUMP};
+pub use fetching::{fetch_address, fetched_in, number_shown};
 pub use laws::{
     effects_read_named_registers, machines_are_valid, names_are_registers, needs_tell_what_is_read,
     one_page_changes, output_only_grows, runs_keep_the_input, steps_keep_valid_states,
     steps_read_named_registers, stopped_states_stay, two_parts_are_the_step,
 };
 pub use machine::{INPUT_BASE, Machine, OFFERING_VERSION};
+pub use naming::{Names, named_by};
 pub use parts::{finish, need};
 pub use running::advance;
 pub use stepping::step;
