@@ -5,8 +5,8 @@ ghost use Rattle.mem_plain.specs.Contents.{IsUsed};
 ghost use Rattle.mem_tree.specs.Page.{AreEmpty, IsPageOf, IsPageTree};
 ghost use Rattle.mem_tree.specs.Tree.{kept_of, page_at, AllMade, IsJoinedBut, is_among};
 
-use crate::kept::{Nodes, PageTree};
-use crate::page::page_tree_after;
+use crate::kept::{Nodes, PageTree, Renewed};
+use crate::page::{PageOf, page_tree_after};
 use digest_core::{Counted, Digester, leaf_text};
 use mem_plain::PlainMem;
 use merkle_nodes::fill_empty_nodes;
@@ -37,20 +37,18 @@ fn counted_page_tree<C: Counted, L: Ledger>(
     c: C,
     alloc: Global,
     empties: &[Digest32],
-    mem: &PlainMem,
-    page: u32,
+    of: &PageOf<'_>,
     blank: Blank,
-) -> Result<(Option<PageTree>, bool), Memory>
+) -> Result<Renewed, Memory>
     requires name { blank.name ≡ L.name }
     requires parts { blank.parts ≡ L.parts }
     requires one { L.parts ≡ 1 }
-    requires page { page < 2 ^ 20 }
     requires levels { length empties.now ≡ 28 }
     requires empty { AreEmpty C.digest_of empties.now }
-    ensures { IfOk result (λ a. IsPageTree C.digest_of a.0 mem.now page) }
+    ensures { IfOk result (λ r. IsPageTree C.digest_of r.tree of.now.mem.now of.now.page) }
 {
     let mut steps = Steps::<L>::new(blank);
-    page_tree_after(c, alloc, empties, None, mem, page, &mut steps)
+    page_tree_after(c, alloc, empties, None, of, &mut steps)
 }
 
 /// The subtree of a page, uncounted. An `Err` is out of memory.
@@ -58,23 +56,14 @@ fn plain_page_tree<D: Digester>(
     d: D,
     alloc: Global,
     empties: &[Digest32],
-    mem: &PlainMem,
-    page: u32,
+    of: &PageOf<'_>,
 ) -> Result<Option<PageTree>, Memory>
-    requires page { page < 2 ^ 20 }
     requires levels { length empties.now ≡ 28 }
     requires empty { AreEmpty D.digest_of empties.now }
-    ensures { IfOk result (λ tree. IsPageTree D.digest_of tree mem.now page) }
+    ensures { IfOk result (λ tree. IsPageTree D.digest_of tree of.now.mem.now of.now.page) }
 {
-    let (tree, _changed) = counted_page_tree::<D, Brand>(
-        d,
-        alloc,
-        empties,
-        mem,
-        page,
-        Blank::new(1),
-    )?;
-    Ok(tree)
+    let renewed = counted_page_tree::<D, Brand>(d, alloc, empties, of, Blank::new(1))?;
+    Ok(renewed.tree)
 }
 
 /// The subtrees of pages, in their order, computed side by side. An `Err`, of all or of one subtree, is out of memory.
@@ -100,7 +89,7 @@ fn trees_of<R: Threads + Sync, D: Digester + Send + Sync>(
                 requires levels { length empties.now ≡ 28 }
                 requires empty { AreEmpty D.digest_of empties.now }
                 ensures { IfOk result (λ tree. IsPageTree D.digest_of tree mem.entry.now page.now) }
-            { plain_page_tree(d, alloc, empties, mem, *page) },
+            { plain_page_tree(d, alloc, empties, &PageOf { mem, page: *page }) },
         )
         .collect(rt, alloc)
 }

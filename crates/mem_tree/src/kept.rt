@@ -14,6 +14,13 @@ pub struct PageTree {
     ghost parts: { vec_len chunks ≡ 128 },
 }
 
+/// The subtree of a page, none if every byte of the page is 0, and whether some chunk differs from what was kept before.
+#[derive(Drop)]
+pub struct Renewed {
+    pub tree: Option<PageTree>,
+    pub changed: bool,
+}
+
 /// The nodes of a tree that are kept: the subtrees of pages by the page's number; the nodes from the pages' roots up, by how many levels
 /// they are above these and by their place; and the empty node of each level, for all others.
 #[derive(Drop)]

@@ -7,7 +7,7 @@ ghost use Rattle.mem_tree.specs.Tree.{kept_of, page_at, page_node as node_in_pag
 ghost use Rattle.mem_tree.specs.Costs.{changed_chunks, needs, page_changes, page_needs};
 
 use crate::kept::{Nodes, PageTree};
-use crate::page::{page_tree_after, root_of};
+use crate::page::{PageOf, page_tree_after, root_of};
 use digest_core::{Counted, node_text};
 use mem_plain::PlainMem;
 use merkle_nodes::renewals_are_few;
@@ -36,6 +36,13 @@ fn page_width(level: u8) -> u32
         5 => 4,
         _ => 2,
     }
+}
+
+/// The pages that were touched since the last refresh, and whether that refresh ran out of memory.
+#[derive(Drop)]
+pub(crate) struct Touched<'a> {
+    pub(crate) pages: &'a BTreeSet<u32>,
+    pub(crate) failed: bool,
 }
 
 impl Nodes {
@@ -205,37 +212,35 @@ impl Nodes {
         &mut self,
         c: C,
         alloc: Global,
-        page: u32,
+        of: &PageOf<'_>,
         failed: bool,
-        mem: &PlainMem,
         steps: &mut Steps<L>,
     ) -> Result<(), Memory>
-        requires page { page < 2 ^ 20 }
         requires empty { AreEmpty C.digest_of self.old.empties }
         requires made { AllMade C.digest_of (kept_of self.old) }
-        ensures page { OnOk result (IsPageOf (page_at (kept_of self.new) page) mem.now page) }
-        ensures elsewhere { (p : ℕ) → p ≢ page → page_at (kept_of self.new) p ≡ page_at (kept_of self.old) p }
+        ensures page { OnOk result (IsPageOf (page_at (kept_of self.new) of.now.page) of.now.mem.now of.now.page) }
+        ensures elsewhere { (p : ℕ) → p ≢ of.now.page → page_at (kept_of self.new) p ≡ page_at (kept_of self.old) p }
         ensures made { AllMade C.digest_of (kept_of self.new) }
         ensures whole { OnOk result (IsJoinedBut C.digest_of (kept_of self.old) [] → IsJoinedBut C.digest_of (kept_of self.new) []) }
         ensures fresh { OnOk result (failed ≡ true → (stale left : List ℕ) → IsJoinedBut C.digest_of (kept_of self.old) stale →
-            ((p : ℕ) → p ≢ page → is_among left p ≡ false → is_among stale p ≡ false) →
+            ((p : ℕ) → p ≢ of.now.page → is_among left p ≡ false → is_among stale p ≡ false) →
             IsJoinedBut C.digest_of (kept_of self.new) left) }
         ensures kept { (stale : List ℕ) → IsJoinedBut C.digest_of (kept_of self.old) stale →
-            is_among stale page ≡ true → IsJoinedBut C.digest_of (kept_of self.new) stale }
+            is_among stale of.now.page ≡ true → IsJoinedBut C.digest_of (kept_of self.new) stale }
         ensures empties { self.new.empties ≡ self.old.empties }
         ensures steps { steps.new ≤ steps.old + 275 }
-        ensures few { failed ≡ false → steps.new ≤ steps.old + 28 * page_changes (page_at (kept_of self.old) page) mem.now page }
-        ensures least { OnOk result (steps.old + page_needs (page_at (kept_of self.old) page) mem.now page ≤ steps.new) }
+        ensures few { failed ≡ false → steps.new ≤ steps.old + 28 * page_changes (page_at (kept_of self.old) of.now.page) of.now.mem.now of.now.page }
+        ensures least { OnOk result (steps.old + page_needs (page_at (kept_of self.old) of.now.page) of.now.mem.now of.now.page ≤ steps.new) }
         ensures more { steps.old ≤ steps.new }
     {
         renewals_are_few();
-        let before = self.take_page(page);
-        let (tree, changed) = page_tree_after(c, alloc, &self.empties, before, mem, page, steps)?;
-        if changed || failed {
-            self.place(c, page, tree, steps)?;
+        let before = self.take_page(of.page);
+        let renewed = page_tree_after(c, alloc, &self.empties, before, of, steps)?;
+        if renewed.changed || failed {
+            self.place(c, of.page, renewed.tree, steps)?;
             return Ok(());
         }
-        self.put_page(page, tree)?;
+        self.put_page(of.page, renewed.tree)?;
         Ok(())
     }
 
@@ -246,31 +251,36 @@ impl Nodes {
         &mut self,
         c: C,
         alloc: Global,
-        touched: &BTreeSet<u32>,
-        failed: bool,
+        touched: &Touched<'_>,
         mem: &PlainMem,
         steps: &mut Steps<L>,
     ) -> Result<(), Memory>
-        requires pages { (p : ℕ) → is_among touched.now.keys p ≡ true → p < 2 ^ 20 }
+        requires pages { (p : ℕ) → is_among touched.now.pages.now.keys p ≡ true → p < 2 ^ 20 }
         requires empty { AreEmpty C.digest_of self.old.empties }
         requires made { AllMade C.digest_of (kept_of self.old) }
-        requires joined { IsJoinedBut C.digest_of (kept_of self.old) touched.now.keys }
-        requires whole { failed ≡ false → IsJoinedBut C.digest_of (kept_of self.old) [] }
-        ensures pages { OnOk result (((p : ℕ) → is_among touched.now.keys p ≡ false → IsPageOf (page_at (kept_of self.old) p) mem.now p) →
+        requires joined { IsJoinedBut C.digest_of (kept_of self.old) touched.now.pages.now.keys }
+        requires whole { touched.now.failed ≡ false → IsJoinedBut C.digest_of (kept_of self.old) [] }
+        ensures pages { OnOk result (((p : ℕ) → is_among touched.now.pages.now.keys p ≡ false → IsPageOf (page_at (kept_of self.old) p) mem.now p) →
             (p : ℕ) → IsPageOf (page_at (kept_of self.new) p) mem.now p) }
-        ensures others { (p : ℕ) → is_among touched.now.keys p ≡ false → page_at (kept_of self.new) p ≡ page_at (kept_of self.old) p }
+        ensures others { (p : ℕ) → is_among touched.now.pages.now.keys p ≡ false → page_at (kept_of self.new) p ≡ page_at (kept_of self.old) p }
         ensures made { AllMade C.digest_of (kept_of self.new) }
-        ensures joined { IsJoinedBut C.digest_of (kept_of self.new) touched.now.keys }
+        ensures joined { IsJoinedBut C.digest_of (kept_of self.new) touched.now.pages.now.keys }
         ensures whole { OnOk result (IsJoinedBut C.digest_of (kept_of self.new) []) }
         ensures empties { self.new.empties ≡ self.old.empties }
-        ensures steps { steps.new ≤ steps.old + 275 * length touched.now.keys }
-        ensures few { failed ≡ false → steps.new ≤ steps.old + 28 * changed_chunks (kept_of self.old) mem.now touched.now.keys }
-        ensures least { OnOk result (steps.old + needs (kept_of self.old) mem.now touched.now.keys ≤ steps.new) }
+        ensures steps { steps.new ≤ steps.old + 275 * length touched.now.pages.now.keys }
+        ensures few { touched.now.failed ≡ false → steps.new ≤ steps.old + 28 * changed_chunks (kept_of self.old) mem.now touched.now.pages.now.keys }
+        ensures least { OnOk result (steps.old + needs (kept_of self.old) mem.now touched.now.pages.now.keys ≤ steps.new) }
         ensures more { steps.old ≤ steps.new }
-        ensures some { OnErr result (0 < length touched.now.keys) }
+        ensures some { OnErr result (0 < length touched.now.pages.now.keys) }
     {
-        'pages: for page in touched.iter() {
-            self.renew_page(c, alloc, *page, failed, mem, steps)?;
+        'pages: for page in touched.pages.iter() {
+            self.renew_page(
+                c,
+                alloc,
+                &PageOf { mem, page: *page },
+                touched.failed,
+                steps,
+            )?;
         }
         Ok(())
     }

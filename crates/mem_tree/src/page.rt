@@ -8,7 +8,7 @@ ghost use Rattle.mem_tree.specs.Page.{AreEmpty, IsMadeTree, IsPageTree, chunk_in
 ghost use Rattle.mem_tree.specs.Tree.{IsRoot};
 ghost use Rattle.mem_tree.specs.Costs.{are_different, differs, has_changed, page_renewals};
 
-use crate::kept::PageTree;
+use crate::kept::{PageTree, Renewed};
 use digest_core::{Counted, leaf_text};
 use mem_plain::PlainMem;
 use merkle_nodes::{fill_empty_heap, renew_nodes, renewals_are_few, renewals_are_marked};
@@ -25,23 +25,30 @@ const HEAP_PLACES: usize = 256;
 /// How many levels of nodes are below the root of a page.
 const PAGE_LEVELS: u32 = 7;
 
+/// A page of a memory, by its number.
+#[derive(Drop)]
+pub(crate) struct PageOf<'a> {
+    pub(crate) mem: &'a PlainMem,
+    pub(crate) page: u32,
+    ghost below: { page < 2 ^ 20 },
+}
+
 /// Whether some byte of a page isn't 0.
-fn is_used(mem: &PlainMem, page: u32) -> bool
-    ensures { IsTrue result ↔ IsUsed mem.now page }
+fn is_used(of: &PageOf<'_>) -> bool
+    ensures { IsTrue result ↔ IsUsed of.now.mem.now of.now.page }
 {
-    match mem.next_page(page) {
-        Some(next) => next == page,
+    match of.mem.next_page(of.page) {
+        Some(next) => next == of.page,
         None => false,
     }
 }
 
-/// A chunk of a page.
-fn chunk_of(mem: &PlainMem, page: u32, j: usize) -> [u8; 32]
-    requires page { page < 2 ^ 20 }
-    requires chunk { j < 128 }
-    ensures { result ≡ page_chunk mem.now page j }
+/// A chunk of a page, by its place from 0 to 127.
+fn chunk_of(of: &PageOf<'_>, j: usize) -> [u8; 32]
+    requires { j < 128 }
+    ensures { result ≡ page_chunk of.now.mem.now of.now.page j }
 {
-    mem.chunk(128 * page + j as u32)
+    of.mem.chunk(128 * of.page + j as u32)
 }
 
 /// Whether two chunks have the same bytes.
@@ -51,31 +58,35 @@ fn is_same(chunk: &[u8; 32], other: &[u8; 32]) -> bool
     *chunk == *other
 }
 
+/// Marks of a heap's places, none of which is marked.
+fn no_marks() -> [bool; 256]
+    ensures len { length result ≡ 256 }
+    ensures none { (i : ℕ) → is_marked result i ≡ false }
+{
+    [false; HEAP_PLACES]
+}
+
 /// Digests those leaves of a page anew whose chunks have changed, with a step for each, and marks them.
 fn renew_leaves<C: Counted, L: Ledger>(
     c: C,
     nodes: &mut [Digest32],
     chunks: &mut [[u8; 32]],
-    marks: &mut [bool],
-    mem: &PlainMem,
-    page: u32,
+    of: &PageOf<'_>,
     steps: &mut Steps<L>,
-)
-    requires page { page < 2 ^ 20 }
+) -> [bool; 256]
     requires len { length nodes.old ≡ 256 }
     requires parts { length chunks.old ≡ 128 }
-    requires marks { length marks.old ≡ 256 }
     requires leaves { HasLeaves C.digest_of nodes.old 128 (leaf_of chunks.old) 128 }
-    requires unmarked { (i : ℕ) → is_marked marks.old i ≡ false }
     ensures leaves { HasLeaves C.digest_of nodes.new 128 (leaf_of chunks.new) 128 }
-    ensures chunks { (j : ℕ) → j < 128 → chunk_in chunks.new j ≡ page_chunk mem.now page j }
-    ensures kept { (i : ℕ) → is_marked marks.new i ≡ false → digest_at nodes.new i ≡ digest_at nodes.old i }
-    ensures low { (i : ℕ) → i < 128 → is_marked marks.new i ≡ false }
-    ensures marks { (j : ℕ) → j < 128 → is_marked marks.new (128 + j) ≡ are_different (chunk_in chunks.old j) (page_chunk mem.now page j) }
-    ensures steps { steps.new ≡ steps.old + how_many (λ j. is_marked marks.new (128 + j)) 128 }
+    ensures chunks { (j : ℕ) → j < 128 → chunk_in chunks.new j ≡ page_chunk of.now.mem.now of.now.page j }
+    ensures kept { (i : ℕ) → is_marked result i ≡ false → digest_at nodes.new i ≡ digest_at nodes.old i }
+    ensures low { (i : ℕ) → i < 128 → is_marked result i ≡ false }
+    ensures marks { (j : ℕ) → j < 128 → is_marked result (128 + j) ≡ are_different (chunk_in chunks.old j) (page_chunk of.now.mem.now of.now.page j) }
+    ensures steps { steps.new ≡ steps.old + how_many (λ j. is_marked result (128 + j)) 128 }
 {
+    let mut marks = no_marks();
     'chunks: for j in 0..PAGE_CHUNKS {
-        let chunk = chunk_of(mem, page, j);
+        let chunk = chunk_of(of, j);
         if !is_same(&chunks[j], &chunk) {
             let leaf = c.digest(&leaf_text(&chunk), steps);
             nodes[PAGE_CHUNKS + j] = leaf;
@@ -83,63 +94,48 @@ fn renew_leaves<C: Counted, L: Ledger>(
             marks[PAGE_CHUNKS + j] = true;
         }
     }
-}
-
-/// Marks of a heap's places, none of which is marked.
-fn no_marks() -> [bool; 256]
-    ensures none { (i : ℕ) → is_marked result i ≡ false }
-{
-    [false; HEAP_PLACES]
+    marks
 }
 
 /// Makes a heap and the chunks beside it those of a page, with a step for each changed chunk and each node above one. The result is
 /// whether some chunk has changed.
-fn renew<C: Counted, L: Ledger>(
+fn renew_heap<C: Counted, L: Ledger>(
     c: C,
     nodes: &mut [Digest32],
     chunks: &mut [[u8; 32]],
-    mem: &PlainMem,
-    page: u32,
+    of: &PageOf<'_>,
     steps: &mut Steps<L>,
 ) -> bool
-    requires page { page < 2 ^ 20 }
     requires parts { length chunks.old ≡ 128 }
     requires heap { IsHeap C.digest_of nodes.old 7 (leaf_of chunks.old) }
     ensures heap { IsHeap C.digest_of nodes.new 7 (leaf_of chunks.new) }
-    ensures chunks { (j : ℕ) → j < 128 → chunk_in chunks.new j ≡ page_chunk mem.now page j }
-    ensures changed { result ≡ is_changed (λ j. are_different (chunk_in chunks.old j) (page_chunk mem.now page j)) 7 0 }
+    ensures chunks { (j : ℕ) → j < 128 → chunk_in chunks.new j ≡ page_chunk of.now.mem.now of.now.page j }
+    ensures changed { result ≡ is_changed (λ j. are_different (chunk_in chunks.old j) (page_chunk of.now.mem.now of.now.page j)) 7 0 }
     ensures same { result ≡ false → digest_at nodes.new 1 ≡ digest_at nodes.old 1 }
-    ensures steps { steps.new ≡ steps.old + renewals (λ j. are_different (chunk_in chunks.old j) (page_chunk mem.now page j)) 7 }
+    ensures steps { steps.new ≡ steps.old + renewals (λ j. are_different (chunk_in chunks.old j) (page_chunk of.now.mem.now of.now.page j)) 7 }
 {
     renewals_are_marked();
-    let mut marks = no_marks();
-    renew_leaves(c, nodes, chunks, &mut marks, mem, page, steps);
+    let mut marks = renew_leaves(c, nodes, chunks, of, steps);
     renew_nodes(c, nodes, &mut marks, PAGE_CHUNKS, steps);
     marks[1]
 }
 
-/// The subtree of a page from an earlier one, and whether some chunk has changed.
-fn renewed<C: Counted, L: Ledger>(
+/// Makes a subtree that of a page, with a step for each changed chunk and each node above one. The result is whether some chunk has
+/// changed.
+fn renew<C: Counted, L: Ledger>(
     c: C,
-    tree: PageTree,
-    mem: &PlainMem,
-    page: u32,
+    tree: &mut PageTree,
+    of: &PageOf<'_>,
     steps: &mut Steps<L>,
-) -> (PageTree, bool)
-    requires page { page < 2 ^ 20 }
-    requires heap { IsHeap C.digest_of tree.nodes.items 7 (leaf_of tree.chunks.items) }
-    ensures heap { IsHeap C.digest_of result.0.nodes.items 7 (leaf_of result.0.chunks.items) }
-    ensures chunks { (j : ℕ) → j < 128 → chunk_in result.0.chunks.items j ≡ page_chunk mem.now page j }
-    ensures changed { result.1 ≡ has_changed (Some tree) mem.now page }
-    ensures same { result.1 ≡ false → digest_at result.0.nodes.items 1 ≡ digest_at tree.nodes.items 1 }
-    ensures steps { steps.new ≡ steps.old + renewals (differs (Some tree) mem.now page) 7 }
+) -> bool
+    requires { IsHeap C.digest_of tree.old.nodes.items 7 (leaf_of tree.old.chunks.items) }
+    ensures heap { IsHeap C.digest_of tree.new.nodes.items 7 (leaf_of tree.new.chunks.items) }
+    ensures chunks { (j : ℕ) → j < 128 → chunk_in tree.new.chunks.items j ≡ page_chunk of.now.mem.now of.now.page j }
+    ensures changed { result ≡ has_changed (Some tree.old) of.now.mem.now of.now.page }
+    ensures same { result ≡ false → digest_at tree.new.nodes.items 1 ≡ digest_at tree.old.nodes.items 1 }
+    ensures steps { steps.new ≡ steps.old + renewals (differs (Some tree.old) of.now.mem.now of.now.page) 7 }
 {
-    let PageTree {
-        mut nodes,
-        mut chunks,
-    } = tree;
-    let changed = renew(c, &mut nodes, &mut chunks, mem, page, steps);
-    (PageTree { nodes, chunks }, changed)
+    renew_heap(c, &mut tree.nodes, &mut tree.chunks, of, steps)
 }
 
 /// The chunks of a page of zeros. An `Err` is out of memory.
@@ -175,33 +171,41 @@ pub(crate) fn page_tree_after<C: Counted, L: Ledger>(
     alloc: Global,
     empties: &[Digest32],
     before: Option<PageTree>,
-    mem: &PlainMem,
-    page: u32,
+    of: &PageOf<'_>,
     steps: &mut Steps<L>,
-) -> Result<(Option<PageTree>, bool), Memory>
-    requires page { page < 2 ^ 20 }
+) -> Result<Renewed, Memory>
     requires levels { length empties.now ≡ 28 }
     requires empty { AreEmpty C.digest_of empties.now }
     requires made { IsMadeTree C.digest_of before }
-    ensures tree { IfOk result (λ r. IsPageTree C.digest_of r.0 mem.now page) }
-    ensures changed { IfOk result (λ r. r.1 ≡ has_changed before mem.now page) }
-    ensures same { IfOk result (λ r. r.1 ≡ false → (empty : List ℕ) → heap_node r.0 1 empty ≡ heap_node before 1 empty) }
-    ensures there { IfOk result (λ r. r.1 ≡ false → is_some r.0 ≡ is_some before) }
-    ensures steps { OnOk result (steps.new ≡ steps.old + page_renewals before mem.now page) }
+    ensures tree { IfOk result (λ r. IsPageTree C.digest_of r.tree of.now.mem.now of.now.page) }
+    ensures changed { IfOk result (λ r. r.changed ≡ has_changed before of.now.mem.now of.now.page) }
+    ensures same { IfOk result (λ r. r.changed ≡ false → (empty : List ℕ) → heap_node r.tree 1 empty ≡ heap_node before 1 empty) }
+    ensures there { IfOk result (λ r. r.changed ≡ false → is_some r.tree ≡ is_some before) }
+    ensures steps { OnOk result (steps.new ≡ steps.old + page_renewals before of.now.mem.now of.now.page) }
     ensures none { OnErr result (steps.new ≡ steps.old) }
 {
     renewals_are_few();
-    if !is_used(mem, page) {
-        return Ok((None, before.is_some()));
+    if !is_used(of) {
+        return Ok(Renewed {
+            tree: None,
+            changed: before.is_some(),
+        });
     }
     match before {
-        Some(tree) => {
-            let (tree, changed) = renewed(c, tree, mem, page, steps);
-            Ok((Some(tree), changed))
+        Some(mut tree) => {
+            let changed = renew(c, &mut tree, of, steps);
+            Ok(Renewed {
+                tree: Some(tree),
+                changed,
+            })
         }
         None => {
-            let (tree, changed) = renewed(c, zeros(alloc, empties)?, mem, page, steps);
-            Ok((Some(tree), changed))
+            let mut tree = zeros(alloc, empties)?;
+            let changed = renew(c, &mut tree, of, steps);
+            Ok(Renewed {
+                tree: Some(tree),
+                changed,
+            })
         }
     }
 }

@@ -43,12 +43,19 @@ fn zeros<D: Digester>(d: D) -> [Digest32; 64]
     nodes
 }
 
-/// Whether a register holds one thing in one file and another in the other.
-fn has_changed(before: &Regs, after: &Regs, reg: u8) -> bool
+/// A register file, and the one that comes after it.
+#[derive(Drop)]
+struct Change<'a> {
+    before: &'a Regs,
+    after: &'a Regs,
+}
+
+/// Whether a register holds one thing in the one file and another in the other.
+fn has_changed(change: &Change<'_>, reg: u8) -> bool
     requires { reg < 32 }
-    ensures { result ≡ differs before.now after.now reg }
+    ensures { result ≡ differs change.now.before.now change.now.after.now reg }
 {
-    before.get(reg) != after.get(reg)
+    change.before.get(reg) != change.after.get(reg)
 }
 
 /// Digests the leaves of those registers anew that have changed, with a step for each, and marks them.
@@ -56,23 +63,22 @@ fn renew_leaves<C: Counted, L: Ledger>(
     c: C,
     nodes: &mut [Digest32],
     marks: &mut [bool],
-    before: &Regs,
-    after: &Regs,
+    change: &Change<'_>,
     steps: &mut Steps<L>,
 )
     requires len { length nodes.old ≡ 64 }
     requires marks { length marks.old ≡ 64 }
-    requires leaves { HasLeaves C.digest_of nodes.old 32 (register_leaf before.now) 32 }
+    requires leaves { HasLeaves C.digest_of nodes.old 32 (register_leaf change.now.before.now) 32 }
     requires unmarked { (i : ℕ) → is_marked marks.old i ≡ false }
-    ensures leaves { HasLeaves C.digest_of nodes.new 32 (register_leaf after.now) 32 }
+    ensures leaves { HasLeaves C.digest_of nodes.new 32 (register_leaf change.now.after.now) 32 }
     ensures kept { (i : ℕ) → is_marked marks.new i ≡ false → digest_at nodes.new i ≡ digest_at nodes.old i }
     ensures low { (i : ℕ) → i < 32 → is_marked marks.new i ≡ false }
-    ensures marks { (r : ℕ) → r < 32 → is_marked marks.new (32 + r) ≡ differs before.now after.now r }
+    ensures marks { (r : ℕ) → r < 32 → is_marked marks.new (32 + r) ≡ differs change.now.before.now change.now.after.now r }
     ensures steps { steps.new ≡ steps.old + how_many (λ r. is_marked marks.new (32 + r)) 32 }
 {
     'registers: for reg in 0..32u8 {
-        if has_changed(before, after, reg) {
-            let leaf = c.digest(&register_text(after.get(reg)), steps);
+        if has_changed(change, reg) {
+            let leaf = c.digest(&register_text(change.after.get(reg)), steps);
             nodes[REGISTERS + reg as usize] = leaf;
             marks[REGISTERS + reg as usize] = true;
         }
@@ -83,17 +89,16 @@ fn renew_leaves<C: Counted, L: Ledger>(
 fn renew<C: Counted, L: Ledger>(
     c: C,
     nodes: &mut [Digest32],
-    before: &Regs,
-    after: &Regs,
+    change: &Change<'_>,
     steps: &mut Steps<L>,
 )
-    requires { IsHeap C.digest_of nodes.old 5 (register_leaf before.now) }
-    ensures heap { IsHeap C.digest_of nodes.new 5 (register_leaf after.now) }
-    ensures steps { steps.new ≡ steps.old + register_renewals before.now after.now }
+    requires { IsHeap C.digest_of nodes.old 5 (register_leaf change.now.before.now) }
+    ensures heap { IsHeap C.digest_of nodes.new 5 (register_leaf change.now.after.now) }
+    ensures steps { steps.new ≡ steps.old + register_renewals change.now.before.now change.now.after.now }
 {
     renewals_are_marked();
     let mut marks = no_marks();
-    renew_leaves(c, nodes, &mut marks, before, after, steps);
+    renew_leaves(c, nodes, &mut marks, change, steps);
     renew_nodes(c, nodes, &mut marks, REGISTERS, steps);
 }
 
@@ -150,7 +155,11 @@ impl<D: Digester> RegTree<D> {
         ensures steps { steps.new ≡ steps.old + register_renewals self.old regs.now }
     {
         let mut nodes = self.nodes;
-        renew(self.d, &mut nodes, &self.regs, regs, steps);
+        let change = Change {
+            before: &self.regs,
+            after: regs,
+        };
+        renew(self.d, &mut nodes, &change, steps);
         self.regs = *regs;
         self.nodes = nodes;
     }

@@ -10,9 +10,9 @@ use Rattle.mem_tree.specs.declared.kept.PageTree.{PageTree}
 use Rattle.mem_tree.proofs.AmongLemmas.{among-head, among-tail, among-other, sorted-apart}
 use Rattle.mem_tree.proofs.kept.Nodes.refresh.Goals as goal
 
-pub renew_page-requires-clause-page : goal.renew_page-requires-clause-page
-renew_page-requires-clause-page g c =
-    c.requires.pages c.in-Some.page.now (c.pages.invariant.among c.in-Some.page.now (subst (λ l. is_among l c.in-Some.page.now ≡ true) (sym c.in-Some.ensures.steps) (among-head c.in-Some.page.now c.next.new.self)))
+pub invariant_of-renew_page : goal.invariant_of-renew_page
+invariant_of-renew_page g c =
+    record { below = c.requires.pages c.in-Some.page.now (c.pages.invariant.among c.in-Some.page.now (subst (λ l. is_among l c.in-Some.page.now ≡ true) (sym c.in-Some.ensures.steps) (among-head c.in-Some.page.now c.next.new.self))) }
 
 pub renew_page-requires-clause-empty : goal.renew_page-requires-clause-empty
 renew_page-requires-clause-empty g c = subst (AreEmpty g.C.Counted.digest_of) (sym c.pages.invariant.empties) c.requires.empty
@@ -45,10 +45,10 @@ pages-preserved g c =
           (λ same. subst (λ q. IsPageOf (page_at (kept_of c.renew_page.new.self) q) m q) (sym same) ok.page)
           (λ other. subst (λ (o : Option PageTree). IsPageOf o m p) (sym (done.elsewhere p other)) (inv.pages before p (subst (λ l. is_among l p ≡ false) (sym step) (among-other page rest p other not))))
           (cases_eq p page);
-      others = λ p not. done.elsewhere p (λ e. true≢false (sym there ∙ (ap (is_among c.args.touched.now.keys) (sym e) ∙ not))) ∙ inv.others p not;
+      others = λ p not. done.elsewhere p (λ e. true≢false (sym there ∙ (ap (is_among c.args.touched.now.pages.now.keys) (sym e) ∙ not))) ∙ inv.others p not;
       left = λ p at. done.elsewhere p (λ e. true≢false (sym at ∙ (ap (is_among rest) e ∙ apart))) ∙ inv.left p (subst (λ l. is_among l p ≡ true) (sym step) (among-tail page rest p at));
       made = done.made;
-      joined = done.kept c.args.touched.now.keys inv.joined there;
+      joined = done.kept c.args.touched.now.pages.now.keys inv.joined there;
       fresh = λ failed. ok.fresh failed c.pages.page-iterator rest (inv.fresh failed) (λ p other not. subst (λ l. is_among l p ≡ false) (sym step) (among-other page rest p other not));
       whole = λ failed. ok.whole (inv.whole failed);
       empties = done.empties ∙ inv.empties;
@@ -88,7 +88,7 @@ pub returns-in_err-renew_page-clause-others : goal.returns-in_err-renew_page-cla
 returns-in_err-renew_page-clause-others g c = λ p not.
     let page = c.in-Some.page.now in
     let there = c.pages.invariant.among page (subst (λ l. is_among l page ≡ true) (sym c.in-Some.ensures.steps) (among-head page c.next.new.self)) in
-    c.renew_page.ensures.elsewhere p (λ e. true≢false (sym there ∙ (ap (is_among c.args.touched.now.keys) (sym e) ∙ not))) ∙ c.pages.invariant.others p not
+    c.renew_page.ensures.elsewhere p (λ e. true≢false (sym there ∙ (ap (is_among c.args.touched.now.pages.now.keys) (sym e) ∙ not))) ∙ c.pages.invariant.others p not
 
 pub returns-in_err-renew_page-clause-few : goal.returns-in_err-renew_page-clause-few
 returns-in_err-renew_page-clause-few g c = λ failed.

@@ -10,19 +10,19 @@ use Rattle.mem_tree.proofs.kept.Nodes.refresh.Given as goal
 abbrev pub invariant-pages : goal.invariant-pages
 invariant-pages g l = record {
   sorted : IsStrictlySortedBy nat_cmp l.page-iterator;
-  among : (p : ℕ) → is_among l.page-iterator p ≡ true → is_among l.touched.keys p ≡ true;
-  rest : length l.page-iterator ≤ length l.touched.keys;
-  pages : ((p : ℕ) → is_among l.touched.keys p ≡ false → IsPageOf (page_at (kept_of l.fn.self) p) l.mem p) →
+  among : (p : ℕ) → is_among l.page-iterator p ≡ true → is_among l.touched.pages.now.keys p ≡ true;
+  rest : length l.page-iterator ≤ length l.touched.pages.now.keys;
+  pages : ((p : ℕ) → is_among l.touched.pages.now.keys p ≡ false → IsPageOf (page_at (kept_of l.fn.self) p) l.mem p) →
       (p : ℕ) → is_among l.page-iterator p ≡ false → IsPageOf (page_at (kept_of l.self) p) l.mem p;
-  others : (p : ℕ) → is_among l.touched.keys p ≡ false → page_at (kept_of l.self) p ≡ page_at (kept_of l.fn.self) p;
+  others : (p : ℕ) → is_among l.touched.pages.now.keys p ≡ false → page_at (kept_of l.self) p ≡ page_at (kept_of l.fn.self) p;
   left : (p : ℕ) → is_among l.page-iterator p ≡ true → page_at (kept_of l.self) p ≡ page_at (kept_of l.fn.self) p;
   made : AllMade g.C.Counted.digest_of (kept_of l.self);
-  joined : IsJoinedBut g.C.Counted.digest_of (kept_of l.self) l.touched.keys;
-  fresh : l.failed ≡ true → IsJoinedBut g.C.Counted.digest_of (kept_of l.self) l.page-iterator;
-  whole : l.failed ≡ false → IsJoinedBut g.C.Counted.digest_of (kept_of l.self) [];
+  joined : IsJoinedBut g.C.Counted.digest_of (kept_of l.self) l.touched.pages.now.keys;
+  fresh : l.touched.failed ≡ true → IsJoinedBut g.C.Counted.digest_of (kept_of l.self) l.page-iterator;
+  whole : l.touched.failed ≡ false → IsJoinedBut g.C.Counted.digest_of (kept_of l.self) [];
   empties : l.self.empties ≡ l.fn.self.empties;
-  steps : l.steps + 275 * length l.page-iterator ≤ l.initial.steps + 275 * length l.touched.keys;
-  few : l.failed ≡ false → l.steps + 28 * changed_chunks (kept_of l.fn.self) l.mem l.page-iterator ≤ l.initial.steps + 28 * changed_chunks (kept_of l.fn.self) l.mem l.touched.keys;
-  least : l.initial.steps + needs (kept_of l.fn.self) l.mem l.touched.keys ≤ l.steps + needs (kept_of l.fn.self) l.mem l.page-iterator;
+  steps : l.steps + 275 * length l.page-iterator ≤ l.initial.steps + 275 * length l.touched.pages.now.keys;
+  few : l.touched.failed ≡ false → l.steps + 28 * changed_chunks (kept_of l.fn.self) l.mem l.page-iterator ≤ l.initial.steps + 28 * changed_chunks (kept_of l.fn.self) l.mem l.touched.pages.now.keys;
+  least : l.initial.steps + needs (kept_of l.fn.self) l.mem l.touched.pages.now.keys ≤ l.steps + needs (kept_of l.fn.self) l.mem l.page-iterator;
   more : l.initial.steps ≤ l.steps;
 }
