@@ -5,7 +5,8 @@ use Rattle.std.specs.Option.{option_or}
 use Rattle.rd_base.specs.declared.digest.Digest32.{Digest32}
 use Rattle.bisect_game.specs.declared.question.Question.{Question}
 use Rattle.bisect_game.specs.declared.settled.Settled.{Settled}
-use Rattle.bisect_game.specs.declared.setup.Setup.{Setup}
+use Rattle.bisect_game.specs.declared.claimed.Claimed.{Claimed}
+use Rattle.bisect_game.specs.Setup.{Setup}
 use Rattle.bisect_game.specs.Ruling.{Ruling}
 use Rattle.bisect_game.specs.Rules.{Rules}
 use Rattle.bisect_game.specs.Bisection.{Bisection, question_of, is_closed, advance}
@@ -14,21 +15,34 @@ use Rattle.bisect_game.specs.Bisection.{Bisection, question_of, is_closed, advan
 abbrev pub Answers : Type 0
 Answers = ℕ → Question → Option Settled
 
+-- what the rounds of a dispute go by: over how many steps it is, and in how many parts a round cuts its interval
+pub record RoomOf : Type 0 where
+  pub bound : ℕ
+  pub fan : ℕ
+
+-- a prover and the root that it claims at the bound
+abbrev pub claimed_by : ℕ × Digest32 → Claimed
+claimed_by x = record { prover = x.0; root = x.1 }
+
 -- a dispute as it begins: over the whole run, with the agreed root at step 0 and each side's claimed root at the bound
-abbrev pub dispute_of : Setup → ℕ → ℕ → ℕ × Digest32 → ℕ × Digest32 → Bisection
-dispute_of setup stage number x y =
+abbrev pub dispute_from : RoomOf → ℕ → ℕ → Digest32 → Claimed → Claimed → Bisection
+dispute_from room stage number start x y =
     record {
       stage = stage;
       number = number;
-      fan = setup.fan;
-      first = x.0;
-      second = y.0;
-      place = record { lo = 0; hi = setup.bound; agreed = setup.start; first = x.1; second = y.1 };
+      fan = room.fan;
+      first = x.prover;
+      second = y.prover;
+      place = record { lo = 0; hi = room.bound; agreed = start; first = x.root; second = y.root };
       past = [];
       by_first = None;
       by_second = None;
       close = None;
     }
+
+-- one of a match with these numbers
+abbrev pub dispute_of : Setup → ℕ → ℕ → Claimed → Claimed → Bisection
+dispute_of setup stage number x y = dispute_from (record { bound = setup.bound; fan = setup.fan }) stage number setup.start x y
 
 -- what is settled of the round, with what the answers have beside it
 abbrev pub filled : Answers → Bisection → Bisection

@@ -1,7 +1,7 @@
 -- To believe: the answers that a dispute holds. Whatever is settled in whatever order, each answer while its side has an open question,
 -- a dispute is what is played over them.
 use Rattle.std.specs.Prelude.{◌≡◌, ◌≢◌, ℕ, zero, suc, ◌-◌, ◌==◌, true, List, [], ◌∷◌, Option, Some, None, if◌then◌else◌}
-use Rattle.rd_base.specs.declared.digest.Digest32.{Digest32}
+use Rattle.bisect_game.specs.declared.claimed.Claimed.{Claimed}
 use Rattle.bisect_game.specs.declared.settled.Round.{Round}
 use Rattle.bisect_game.specs.declared.settled.Settled.{Settled}
 use Rattle.bisect_game.specs.declared.settled.Side.{Side}
@@ -43,7 +43,7 @@ EachIsAsked ruling (x ∷ xs) d = (asks x.0 d ≡ true) × EachIsAsked ruling xs
 -- a dispute of two provers after any such answers is the one that is played over the answers that it holds
 abbrev pub DisputesArePlayed : Type 0
 DisputesArePlayed =
-    (rules : Rules) (stage number : ℕ) (x y : ℕ × Digest32) (xs : List (Side × Settled)) → ArePlayable rules → x.0 ≢ y.0 →
+    (rules : Rules) (stage number : ℕ) (x y : Claimed) (xs : List (Side × Settled)) → ArePlayable rules → x.prover ≢ y.prover →
     EachIsAsked rules.ruling xs (dispute_of rules.setup stage number x y) →
     settled_one_by_one rules.ruling xs (dispute_of rules.setup stage number x y)
     ≡ played rules (held (settled_one_by_one rules.ruling xs (dispute_of rules.setup stage number x y))) (dispute_of rules.setup stage number x y)

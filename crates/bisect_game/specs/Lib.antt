@@ -1,5 +1,6 @@
 pub mod Says
 pub mod Ruling
+pub mod Setup
 pub mod Rules
 pub mod Bisection
 pub mod Closing

@@ -3,6 +3,7 @@
 -- step, or the two proofs of the step where the dispute ends open two different strings of one digest.
 use Rattle.std.specs.Prelude.{◌≡◌, ◌≢◌, ℕ, ◌+◌, ◌-◌, ◌<◌, ◌≤◌, Bool, true, false, not, ◌&&◌, ◌⊎◌, List, Some, if◌then◌else◌}
 use Rattle.rd_base.specs.declared.digest.Digest32.{Digest32}
+use Rattle.bisect_game.specs.declared.claimed.Claimed.{Claimed}
 use Rattle.bisect_game.specs.declared.settled.Settled.{Settled}
 use Rattle.bisect_game.specs.declared.settled.Close.{Close}
 use Rattle.bisect_game.specs.declared.settled.Close.TheVariants.{Out, Collision}
@@ -41,10 +42,10 @@ pub record EndsWhereTheyPart (rules : Rules) (one other : Truth) (d : Bisection)
   pub close : d.close ≡ Some (closed_by_proofs rules.ruling one other d.place.lo)
 
 -- a dispute that has closed after some answers, in whatever order, of which each of a side is that of its run
-pub record IsBetweenRuns (rules : Rules) (one other : Truth) (x y : ℕ × Digest32) (stage number : ℕ) (answers : List (Side × Settled)) (d : Bisection) : Type 0 where
-  pub first : IsClaimedRun rules one (x.1)
-  pub second : IsClaimedRun rules other (y.1)
-  pub differ : x.1 ≢ y.1
+pub record IsBetweenRuns (rules : Rules) (one other : Truth) (x y : Claimed) (stage number : ℕ) (answers : List (Side × Settled)) (d : Bisection) : Type 0 where
+  pub first : IsClaimedRun rules one x.root
+  pub second : IsClaimedRun rules other y.root
+  pub differ : x.root ≢ y.root
   pub asked : EachIsAsked rules.ruling answers (dispute_of rules.setup stage number x y)
   pub after : d ≡ settled_one_by_one rules.ruling answers (dispute_of rules.setup stage number x y)
   pub by_first : IsTruthful one First d
@@ -53,7 +54,7 @@ pub record IsBetweenRuns (rules : Rules) (one other : Truth) (x y : ℕ × Diges
 
 abbrev pub RunsPartWhereTheyEnd : Type 0
 RunsPartWhereTheyEnd =
-    (rules : Rules) (one other : Truth) (x y : ℕ × Digest32) (stage number : ℕ) (answers : List (Side × Settled)) (d : Bisection) → ArePlayable rules →
+    (rules : Rules) (one other : Truth) (x y : Claimed) (stage number : ℕ) (answers : List (Side × Settled)) (d : Bisection) → ArePlayable rules →
     IsBetweenRuns rules one other x y stage number answers d → EndsWhereTheyPart rules one other d
 
 -- A LIE AT ONE STEP: the run is the true one before step s, its proof of step s - 1 is that of a true step, and from step s on each of its steps

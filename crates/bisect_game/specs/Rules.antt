@@ -1,5 +1,5 @@
 -- To believe: what a match is played by, and which answers fit a question.
-use Rattle.std.specs.Prelude.{ℕ, ◌-◌, ◌^◌, ◌<◌, ◌≤◌, ◌==◌, length, Bool, true, false, if◌then◌else◌}
+use Rattle.std.specs.Prelude.{◌-◌, ◌<◌, ◌≤◌, ◌==◌, length, Bool, true, false, if◌then◌else◌}
 use Rattle.rd_base.specs.declared.answer.Answer.{Answer}
 use Rattle.rd_base.specs.declared.answer.Answer.TheVariants as answer
 use Rattle.bisect_game.specs.declared.question.Kind.{Kind}
@@ -7,7 +7,7 @@ use Rattle.bisect_game.specs.declared.question.Kind.TheVariants as kind
 use Rattle.bisect_game.specs.declared.question.Question.{Question}
 use Rattle.bisect_game.specs.declared.settled.Settled.{Settled}
 use Rattle.bisect_game.specs.declared.settled.Settled.TheVariants.{Given, Faulty}
-use Rattle.bisect_game.specs.declared.setup.Setup.{Setup}
+use Rattle.bisect_game.specs.Setup.{Setup}
 use Rattle.bisect_game.specs.Ruling.{Ruling}
 
 -- what a match is played by: who decides, and the numbers
@@ -17,15 +17,6 @@ pub record Rules : Type 0 where
 
 abbrev pub rules_of : Ruling → Setup → Rules
 rules_of r t = record { ruling = r; setup = t }
-
--- the numbers of a match are in their ranges: 1 to 65,536 provers, a bound of 1 to 2^32 - 1 steps, a fan of 2 to 16
-pub record AreInRange (setup : Setup) : Type 0 where
-  pub some : 0 < setup.provers
-  pub few : setup.provers ≤ 2 ^ 16
-  pub steps : 0 < setup.bound
-  pub short : setup.bound < 2 ^ 32
-  pub parted : 1 < setup.fan
-  pub few_parts : setup.fan ≤ 16
 
 -- rules by which a match can be played: somebody plays, a round cuts its interval in 2 to 16 parts, and there is a step
 pub record ArePlayable (rules : Rules) : Type 0 where

@@ -1,8 +1,9 @@
 //! A dispute, and the memory that it takes.
-ghost use Rattle.std.specs.Prelude.{◌≡◌, ◌<◌, ◌≤◌, ◌^◌, [], true, false, ◌||◌, Some, None, is_none, option_copied, IfOk, if◌then◌else◌};
+ghost use Rattle.std.specs.Prelude.{◌≡◌, ◌<◌, ◌≤◌, ◌^◌, true, false, ◌||◌, Some, None, is_none, option_copied, IfOk, if◌then◌else◌};
 ghost use Rattle.bisect_game.specs.declared.settled.Side.TheVariants.{First, Second};
 ghost use Rattle.bisect_game.specs.Bisection.{prover_of, asks, settle_side, question_of, decided, went_on};
 ghost use Rattle.bisect_game.specs.Closing.{is_step};
+ghost use Rattle.bisect_game.specs.Disputes.{claimed_by, dispute_from};
 ghost use Rattle.bisect_game.specs.Truth.{own_open};
 
 use crate::judge::Judge;
@@ -16,7 +17,7 @@ use std::marker::Model;
 /// The most past rounds of a dispute below a bound of 2^32, whatever the fan.
 const MOST_ROUNDS: usize = 32;
 
-/// The memory of one dispute.
+/// The memory of one dispute. Contracts see over how many steps it is, and in how many parts a round cuts its interval.
 #[derive(Drop)]
 pub struct Room {
     rounds: Vec<Round>,
@@ -25,11 +26,12 @@ pub struct Room {
 }
 
 impl Model for Room {
-    ghost use Rattle.std.specs.Prelude.{◌≡◌, ◌<◌, ◌≤◌, ◌^◌, [], ℕ, vec_capacity};
+    ghost use Rattle.std.specs.Prelude.{◌≡◌, ◌<◌, ◌≤◌, ◌^◌, [], vec_capacity};
+    ghost use Rattle.bisect_game.specs.Disputes.{RoomOf};
 
-    ghost Value = { ℕ × ℕ };
+    ghost Value = { RoomOf };
 
-    ghost view = { λ r. (r.bound, r.fan) };
+    ghost view = { λ r. record { bound = r.bound; fan = r.fan } };
 
     ghost invariant = { λ r. (0 < r.bound) × (r.bound < 2 ^ 32) × (1 < r.fan) × (r.fan ≤ 16) × (r.rounds.items ≡ []) × (32 ≤ vec_capacity r.rounds) };
 }
@@ -42,7 +44,7 @@ impl Room {
         requires short { bound < 2 ^ 32 }
         requires parted { 1 < fan }
         requires few_parts { fan ≤ 16 }
-        ensures { IfOk result (λ room. room ≡ (bound, fan)) }
+        ensures { IfOk result (λ room. room ≡ record { bound = bound; fan = fan }) }
     {
         Ok(Room {
             rounds: Vec::with_capacity(alloc, MOST_ROUNDS)?,
@@ -101,7 +103,7 @@ impl Dispute {
         first: (u32, Digest32),
         second: (u32, Digest32),
     ) -> Dispute
-        ensures { result ≡ record { stage = stage; number = number; fan = room.1; first = first.0; second = second.0; place = record { lo = 0; hi = room.0; agreed = start; first = first.1; second = second.1 }; past = []; by_first = None; by_second = None; close = None } }
+        ensures { result ≡ dispute_from room stage number start (claimed_by first) (claimed_by second) }
     {
         let Room { rounds, bound, fan } = room;
         Dispute {

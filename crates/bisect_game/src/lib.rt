@@ -9,6 +9,7 @@
 #![tactic(auto)]
 
 mod answerer;
+mod claimed;
 mod dispute;
 mod judge;
 mod laws;
@@ -19,6 +20,7 @@ mod setup;
 mod steps;
 
 pub use answerer::{Answerer, Provers};
+pub use claimed::Claimed;
 pub use dispute::{Dispute, Room};
 pub use judge::Judge;
 pub use laws::{
