@@ -1,9 +1,9 @@
 -- What holds of each row, found by computing.
 use Rattle.std.proofs.Common.{◌≡◌, ℕ, ◌+◌, ◌<◌, ◌^◌, ◌&&◌, Bool, true, false, List, [], ◌∷◌, refl, Option, Some, None}
-use Rattle.std.specs.Prelude.{nat_lt, bytes_eq, if◌then◌else◌, IfSome}
+use Rattle.std.specs.Prelude.{nat_lt, bytes_eq, if◌then◌else◌, IfSome, option_or}
 use Rattle.std.proofs.lemmas.Bool.{and_parts, ltb-true}
 use Rattle.rv_text.specs.Operands.{slots_of}
-use Rattle.rv_text.specs.Rows.{Named, register_rows, multiply_rows, immediate_rows, memory_rows, branch_rows, other_rows, row_in, or_else, row_named, most_in}
+use Rattle.rv_text.specs.Rows.{Named, register_rows, multiply_rows, immediate_rows, memory_rows, branch_rows, other_rows, row_in, row_named, most_in}
 use Rattle.rv_text.specs.declared.row.Row.{Row}
 
 abbrev pub fits : Row → Bool
@@ -23,7 +23,7 @@ row-holds p name (n ∷ ns) h =
     let k = and_parts (p n.row) (all_rows p ns) h in
     elim (bytes_eq name n.name) as (λ b. Holds p (if b then Some n.row else row_in name ns)) [ true ↦ k.0 | false ↦ row-holds p name ns k.1 ]
 
-either-holds : (p : Row → Bool) (a b : Option Row) → Holds p a → Holds p b → Holds p (or_else a b)
+either-holds : (p : Row → Bool) (a b : Option Row) → Holds p a → Holds p b → Holds p (option_or a b)
 unfolding Holds
 either-holds p (Some r) b h k = h
 either-holds p None b h k = k

@@ -1,6 +1,6 @@
 -- To believe: the mnemonics, one row for each with the form of its operands. Derived: the word of a row without operands, tied to the
 -- words of the instructions by the law `each_word_is_said`.
-use Rattle.std.specs.Prelude.{ℕ, ◌+◌, if◌then◌else◌, List, [], ◌∷◌, ℤ, Option, Some, None, codes, bytes_eq}
+use Rattle.std.specs.Prelude.{ℕ, ◌+◌, if◌then◌else◌, List, [], ◌∷◌, ℤ, Option, Some, None, option_or, codes, bytes_eq}
 use Rattle.rv_text.specs.Fields.{placed_at, most_at}
 use Rattle.rv_text.specs.Operands.{slots_of, field_of}
 use Rattle.rv_text.specs.declared.form.Form.{Form}
@@ -66,15 +66,11 @@ abbrev pub row_in : List ℕ → List Named → Option Row
 row_in name [] = None
 row_in name (n ∷ ns) = if bytes_eq name n.name then Some n.row else row_in name ns
 
-abbrev pub or_else : Option Row → Option Row → Option Row
-or_else (Some r) other = Some r
-or_else None other = other
-
 -- the row of a mnemonic
 unfoldable pub row_named : List ℕ → Option Row
 row_named name =
-    or_else (row_in name immediate_rows) (or_else (row_in name register_rows) (or_else (row_in name memory_rows)
-    (or_else (row_in name branch_rows) (or_else (row_in name other_rows) (row_in name multiply_rows)))))
+    option_or (row_in name immediate_rows) (option_or (row_in name register_rows) (option_or (row_in name memory_rows)
+    (option_or (row_in name branch_rows) (option_or (row_in name other_rows) (row_in name multiply_rows)))))
 
 -- the bits of all operands in the word
 abbrev pub placed_in : List Slot → List ℤ → ℕ

@@ -1,6 +1,6 @@
 //! The rows of the mnemonics.
 ghost use Rattle.std.specs.Prelude.{◌≡◌, ◌+◌, ◌<◌, ◌^◌, Some, IfSome};
-ghost use Rattle.rv_text.specs.Rows.{row as the_row, row_in, register_rows, multiply_rows, immediate_rows, memory_rows, branch_rows, other_rows, or_else as the_or_else, row_named as the_row_named, most_in};
+ghost use Rattle.rv_text.specs.Rows.{row as the_row, row_in, register_rows, multiply_rows, immediate_rows, memory_rows, branch_rows, other_rows, row_named as the_row_named, most_in};
 ghost use Rattle.rv_text.specs.Operands.{slots_of};
 
 use crate::form::Form;
@@ -173,24 +173,14 @@ fn other_row(name: &[u8]) -> Option<Row>
     }
 }
 
-/// The first row, or else the other one.
-fn or_else(row: Option<Row>, other: Option<Row>) -> Option<Row>
-    ensures { result ≡ the_or_else row other }
-{
-    match row {
-        Some(row) => Some(row),
-        None => other,
-    }
-}
-
 /// The row of a mnemonic, by groups, so that each is a short chain of tests.
 #[tactic(auto, unfolding(crate::specs::Rows::row_named))]
 fn first_row(name: &[u8]) -> Option<Row>
     ensures { result ≡ the_row_named name.now }
 {
-    let rare = or_else(other_row(name), multiply_row(name));
-    let moving = or_else(memory_row(name), or_else(branch_row(name), rare));
-    or_else(immediate_row(name), or_else(register_row(name), moving))
+    let rare = other_row(name).or(multiply_row(name));
+    let moving = memory_row(name).or(branch_row(name).or(rare));
+    immediate_row(name).or(register_row(name).or(moving))
 }
 
 /// The row of a mnemonic.

@@ -4,7 +4,7 @@ use Rattle.std.proofs.lemmas.Bool.{false≢true, and_from}
 use Rattle.std.proofs.lemmas.Bool.Decides.{nat_tests}
 use Rattle.std.proofs.lemmas.Int.{ints}
 use Rattle.std.proofs.lemmas.Slice.Eq.{bytes_eq-Decides}
-use Rattle.std.specs.Prelude.{if◌then◌else◌, bytes_eq, nat_lt, is_ok, is_some, option_and_then}
+use Rattle.std.specs.Prelude.{if◌then◌else◌, bytes_eq, nat_lt, is_ok, is_some, option_and_then, option_or}
 use Rattle.rd_base.specs.Results.{◌>>=◌}
 use Rattle.rv_decode.specs.Word.{word_of}
 use Rattle.rv_decode.specs.declared.instr.Instr.{Instr}
@@ -13,7 +13,7 @@ use Rattle.rv_text.specs.Numbers.{is_x, natural_in, below_32, number_in, registe
 use Rattle.rv_text.specs.Fields.{within, is_in}
 use Rattle.rv_text.specs.Faults.{earlier}
 use Rattle.rv_text.specs.Operands.{Distances, slots_of, field_of, written, distant, registered, registered_in, operand_in, both, after_slot, or_other_form, operands_in, operands_of, next_operand, after_operand, has_none}
-use Rattle.rv_text.specs.Rows.{Named, row, row_in, or_else, row_named, placed_in, word_by, register_rows, multiply_rows, immediate_rows, memory_rows, branch_rows, other_rows}
+use Rattle.rv_text.specs.Rows.{Named, row, row_in, row_named, placed_in, word_by, register_rows, multiply_rows, immediate_rows, memory_rows, branch_rows, other_rows}
 use Rattle.rv_text.specs.Lines.{first_word, after_first_word, word_of_row, word_of_statement}
 use Rattle.rv_text.specs.Spelling.{Spelling, spelled, spelling_of, raw}
 use Rattle.rv_text.specs.Meaning.{IsSpelledBy, IsWordOf, of_instruction, of_itself, StandsForWord}
@@ -129,7 +129,7 @@ row-found (n ∷ ns) all name r e = elim (bytes_eq name n.name) as (λ b. bytes_
   | false ↦ λ q e. row-found ns all.rest name r e
 ] refl e
 
-either-found : (name : List ℕ) (a b : Option Row) → ((r : Row) → a ≡ Some r → Builds name r.form) → ((r : Row) → b ≡ Some r → Builds name r.form) → (r : Row) → or_else a b ≡ Some r → Builds name r.form
+either-found : (name : List ℕ) (a b : Option Row) → ((r : Row) → a ≡ Some r → Builds name r.form) → ((r : Row) → b ≡ Some r → Builds name r.form) → (r : Row) → option_or a b ≡ Some r → Builds name r.form
 either-found name (Some x) b h k r e = h r e
 either-found name None b h k r e = k r e
 
