@@ -1,16 +1,15 @@
 //! What manners make of an answer.
 ghost use Rattle.std.specs.Prelude.{◌≡◌, ◌≤◌, ◌+◌, ◌++◌, IfOk, length, map};
-ghost use Rattle.open_proof.specs.Facts as facts;
 ghost use Rattle.prover_script.specs.Manners as manners;
 ghost use Rattle.prover_script.specs.Manners.{with_output, with_shown, with_forgery, noise, with_roots};
 
 use bisect_game::Kind;
 use digest_core::{Digester, noise_text};
-use open_proof::{Names, called_by, facts_of};
 use rd_base::{
-    Answer, Boxed, Claim, ClaimOutput, Digest32, Memory, Proof, Qid, RegOpening, RegOpenings,
-    RegisterNumber, RootList,
+    Answer, Boxed, Claim, ClaimOutput, Ctl, Digest32, Memory, Opening, Proof, Qid, RegOpening,
+    RegOpenings, RegisterNumber, RootList,
 };
+use rv_step::{Names, fetch_address, fetched_in, named_by};
 use std::alloc::Global;
 
 /// A claim that answers the claim's question, with another output; any other answer stays. An `Err` is out of memory.
@@ -70,18 +69,17 @@ fn with_opened(reg: u8, value: u32, opened: &RegOpenings, names: &[u8]) -> RegOp
     altered
 }
 
-/// The registers that the instruction fetched by a proof names.
-fn named_in(proof: &Proof) -> Names
-    ensures { result ≡ facts.named_called (facts.facts_of proof.now) }
+/// The registers that the instruction fetched by a proof names, by the chunk that it opens and its control fields.
+fn named_in(fetch: &Option<Opening>, ctl: &Ctl) -> Names
+    ensures { result ≡ manners.named_in fetch.now ctl.now }
 {
-    called_by(&facts_of(proof)).names
+    named_by(&fetched_in(fetch, fetch_address(ctl)))
 }
 
 /// A proof with another value in a register, if it shows that register. It takes no memory.
 fn with_shown(reg: RegisterNumber, value: u32, proof: &Proof) -> Proof
     ensures { result ≡ with_shown reg value proof.now }
 {
-    let names = named_in(proof);
     match proof {
         Proof::V1(proof) => {
             let mut shown = *proof;
@@ -89,11 +87,13 @@ fn with_shown(reg: RegisterNumber, value: u32, proof: &Proof) -> Proof
             Proof::V1(shown)
         }
         Proof::V2(proof) => {
+            let names = named_in(&proof.fetch, &proof.ctl);
             let mut shown = proof.copy();
             shown.named = with_opened(reg.get(), value, &proof.named, names.as_slice());
             Proof::V2(shown)
         }
         Proof::V3(proof) => {
+            let names = named_in(&proof.fetch, &proof.ctl);
             let mut shown = proof.copy();
             shown.named = with_opened(reg.get(), value, &proof.named, names.as_slice());
             Proof::V3(shown)
