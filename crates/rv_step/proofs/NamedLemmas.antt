@@ -11,7 +11,7 @@ use Rattle.rv_decode.specs.Fields.{fields_of}
 use Rattle.rv_decode.specs.declared.fields.Fields.{Fields}
 use Rattle.rv_decode.specs.declared.fields.Fields.TheVariants as fields
 use Rattle.rv_decode.specs.declared.instr.Instr.{Instr}
-use Rattle.rv_decode.specs.declared.instr.Instr.TheVariants.{Lui, Auipc, Jal, Jalr, Beq, Bne, Blt, Bge, Bltu, Bgeu, Lb, Lh, Lw, Lbu, Lhu, Sb, Sh, Sw, Addi, Slti, Sltiu, Xori, Ori, Andi, Slli, Srli, Srai, Add, Sub, Sll, Slt, Sltu, Xor, Srl, Sra, Or, And, Mul, Mulh, Mulhsu, Mulhu, Div, Divu, Rem, Remu, Fence, Ecall, Ebreak}
+use Rattle.rv_decode.specs.declared.instr.Instr.TheVariants.{Jal, Jalr, Beq, Bne, Blt, Bge, Bltu, Bgeu, Lb, Lh, Lw, Lbu, Lhu, Sb, Sh, Sw, Addi, Slti, Sltiu, Xori, Ori, Andi, Slli, Srli, Srai, Add, Sub, Sll, Slt, Sltu, Xor, Srl, Sra, Or, And, Mul, Mulh, Mulhsu, Mulhu, Div, Divu, Rem, Remu, Fence, Ecall, Ebreak}
 use Rattle.rv_step.specs.Arithmetic.{word, plus, minus, is_equal, is_different, is_less_signed, is_at_least_signed, is_less_unsigned, is_at_least_unsigned, set_less_signed, set_less_unsigned, by_low_five, shifted_left, shifted_right, shifted_right_signed, zero_extended, sign_extended, product_low, product_high, product_high_signed_unsigned, product_high_unsigned, quotient, quotient_unsigned, remainder, remainder_unsigned}
 use Rattle.rv_step.specs.Effect.{effect_with, jumps, branches_to, branches, loads, stores, of_number, of_places, of_two, gives, calls, at_offset, x}
 use Rattle.rv_step.specs.Parts.{needed_in, load_needed, store_needed, call_needed}
