@@ -41,33 +41,34 @@ fn is_some_used(mem: &PlainMem, first: u32, width: u32) -> bool
     }
 }
 
-/// The node this many levels above the pages' roots, over `width` pages. A subtree of zeros is not entered.
-fn upper_part<D: Digester>(
+/// What the nodes of a memory are made of: the digester, the memory, and the empty node of each level.
+#[derive(Drop)]
+struct Source<'a, D: Digester> {
     d: D,
-    mem: &PlainMem,
-    empties: &[Digest32],
-    above: u8,
-    width: u32,
-    k: u32,
-) -> Digest32
-    requires len { length empties.now ≡ 28 }
-    requires empties { (l : ℕ) → l < 28 → digest_at empties.now l ≡ zero_node D.digest_of l }
+    mem: &'a PlainMem,
+    empties: &'a [Digest32],
+    ghost levels: { length empties.now ≡ 28 },
+    ghost empty: { (l : ℕ) → l < 28 → digest_at empties.now l ≡ zero_node D.digest_of l },
+}
+
+/// The node this many levels above the pages' roots, over `width` pages. A subtree of zeros is not entered.
+fn upper_part<D: Digester>(of: &Source<'_, D>, above: u8, width: u32, k: u32) -> Digest32
     requires above { above ≤ 20 }
     requires width { width ≡ 2 ^ above }
     requires below { k < 2 ^ (20 - above) }
-    ensures { result.0 ≡ memory_node D.digest_of mem.now (7 + above) k }
+    ensures { result.0 ≡ memory_node D.digest_of of.now.mem.now (7 + above) k }
 {
     node_equations();
     memory_nodes();
-    if !is_some_used(mem, k * width, width) {
-        return empties[(PAGE_LEVEL + above) as usize];
+    if !is_some_used(of.mem, k * width, width) {
+        return of.empties[(PAGE_LEVEL + above) as usize];
     }
     if above == 0 {
-        return page_part(d, mem, PAGE_LEVEL, k);
+        return page_part(of.d, of.mem, PAGE_LEVEL, k);
     }
-    let left = upper_part(d, mem, empties, above - 1, width / 2, 2 * k);
-    let right = upper_part(d, mem, empties, above - 1, width / 2, 2 * k + 1);
-    d.digest(node_text(&left, &right).as_slice())
+    let left = upper_part(of, above - 1, width / 2, 2 * k);
+    let right = upper_part(of, above - 1, width / 2, 2 * k + 1);
+    of.d.digest(node_text(&left, &right).as_slice())
 }
 
 /// The digest of a memory, from scratch and without memory: each page that holds a byte other than 0 is digested.
@@ -76,5 +77,10 @@ pub(crate) fn memory_root<D: Digester>(d: D, mem: &PlainMem) -> Digest32
 {
     let mut empties = [Digest32::ZERO; LEVELS];
     fill_empty_nodes(d, &leaf_text(&[0; 32]), &mut empties);
-    upper_part(d, mem, &empties, UPPER_LEVELS, PAGES, 0)
+    let of = Source {
+        d,
+        mem,
+        empties: &empties,
+    };
+    upper_part(&of, UPPER_LEVELS, PAGES, 0)
 }
