@@ -11,6 +11,17 @@ use rd_base::{Answer, same_digest};
 use std::alloc::AllocError;
 use std::fmt::Write;
 
+/// A round that asked for roots: its number in its dispute, from 1, the interval that it cuts, from the step `lo` to the step `hi`, and what
+/// each side's answer was settled as.
+#[derive(Clone, Copy)]
+struct NumberedRound<'a> {
+    number: usize,
+    lo: u64,
+    hi: u64,
+    first: &'a Settled,
+    second: &'a Settled,
+}
+
 /// Adds the part of a line about both sides, and ends the line.
 fn add_said(
     text: &mut String,
@@ -34,18 +45,13 @@ fn middle(lo: u64, hi: u64) -> u64
 }
 
 /// Adds the line of a round of two parts.
-fn add_halves(
-    text: &mut String,
-    dispute: &Dispute,
-    number: usize,
-    mid: u64,
-    first: &Settled,
-    second: &Settled,
-) -> Result<(), AllocError>
-    ensures { OnOk result (string_bytes text.new ≡ string_bytes text.old ++ line_text (line_of_halves dispute.now number mid first.now second.now)) }
+fn add_halves(text: &mut String, dispute: &Dispute, round: &NumberedRound) -> Result<(), AllocError>
+    ensures { OnOk result (string_bytes text.new ≡ string_bytes text.old ++ line_text (line_of_halves dispute.now round.now.number (middle round.now.lo round.now.hi) round.now.first.now round.now.second.now)) }
 {
+    let number = round.number;
+    let mid = middle(round.lo, round.hi);
     write!(text, "round {number} at {mid}")?;
-    match (first, second) {
+    match (round.first, round.second) {
         (Settled::Given(Answer::Root(x)), Settled::Given(Answer::Root(y))) => {
             if same_digest(x, y) {
                 text.push_str(" same\n")
@@ -53,7 +59,12 @@ fn add_halves(
                 text.push_str(" differ\n")
             }
         }
-        _ => add_said(text, dispute, said_word(first), said_word(second)),
+        _ => add_said(
+            text,
+            dispute,
+            said_word(round.first),
+            said_word(round.second),
+        ),
     }
 }
 
@@ -85,41 +96,30 @@ fn add_kept(
 }
 
 /// Adds the line of a round of a larger fan.
-fn add_parts(
-    text: &mut String,
-    dispute: &Dispute,
-    number: usize,
-    lo: u64,
-    hi: u64,
-    first: &Settled,
-    second: &Settled,
-) -> Result<(), AllocError>
-    ensures { OnOk result (string_bytes text.new ≡ string_bytes text.old ++ line_text (line_of_parts dispute.now (record { number = number; lo = lo; hi = hi; parts = min dispute.now.fan (hi - lo) }) first.now second.now)) }
+fn add_parts(text: &mut String, dispute: &Dispute, round: &NumberedRound) -> Result<(), AllocError>
+    ensures { OnOk result (string_bytes text.new ≡ string_bytes text.old ++ line_text (line_of_parts dispute.now (record { number = round.now.number; lo = round.now.lo; hi = round.now.hi; parts = min dispute.now.fan (round.now.hi - round.now.lo) }) round.now.first.now round.now.second.now)) }
 {
-    let parts = parts_of(dispute.fan(), lo, hi);
-    add_parted(text, number, lo, hi, parts)?;
-    match (first, second) {
+    let parts = parts_of(dispute.fan(), round.lo, round.hi);
+    add_parted(text, round.number, round.lo, round.hi, parts)?;
+    match (round.first, round.second) {
         (Settled::Given(x), Settled::Given(y)) => add_kept(text, parts, x, y),
-        _ => add_said(text, dispute, said_word(first), said_word(second)),
+        _ => add_said(
+            text,
+            dispute,
+            said_word(round.first),
+            said_word(round.second),
+        ),
     }
 }
 
 /// Adds the line of a round that asked for roots.
-fn add_round(
-    text: &mut String,
-    dispute: &Dispute,
-    number: usize,
-    lo: u64,
-    hi: u64,
-    first: &Settled,
-    second: &Settled,
-) -> Result<(), AllocError>
-    ensures { OnOk result (string_bytes text.new ≡ string_bytes text.old ++ line_text (line_of_round dispute.now number lo hi first.now second.now)) }
+fn add_round(text: &mut String, dispute: &Dispute, round: &NumberedRound) -> Result<(), AllocError>
+    ensures { OnOk result (string_bytes text.new ≡ string_bytes text.old ++ line_text (line_of_round dispute.now round.now.number round.now.lo round.now.hi round.now.first.now round.now.second.now)) }
 {
     if dispute.fan() == 2 {
-        add_halves(text, dispute, number, middle(lo, hi), first, second)
+        add_halves(text, dispute, round)
     } else {
-        add_parts(text, dispute, number, lo, hi, first, second)
+        add_parts(text, dispute, round)
     }
 }
 
@@ -129,15 +129,14 @@ fn add_rounds(text: &mut String, dispute: &Dispute) -> Result<(), AllocError>
 {
     let rounds = dispute.rounds();
     'rounds: for (i, round) in rounds.iter().enumerate() {
-        add_round(
-            text,
-            dispute,
-            i + 1,
-            round.lo,
-            round.hi,
-            &round.first,
-            &round.second,
-        )?;
+        let numbered = NumberedRound {
+            number: i + 1,
+            lo: round.lo,
+            hi: round.hi,
+            first: &round.first,
+            second: &round.second,
+        };
+        add_round(text, dispute, &numbered)?;
     }
     Ok(())
 }
@@ -187,7 +186,14 @@ fn add_last(text: &mut String, dispute: &Dispute) -> Result<(), AllocError>
         return add_step(text, dispute, first, second);
     }
     let number = dispute.rounds().len() + 1;
-    add_round(text, dispute, number, lo, hi, first, second)
+    let numbered = NumberedRound {
+        number,
+        lo,
+        hi,
+        first,
+        second,
+    };
+    add_round(text, dispute, &numbered)
 }
 
 /// Adds the line of a stage, if it isn't that of the dispute before.
