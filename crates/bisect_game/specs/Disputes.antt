@@ -41,8 +41,11 @@ dispute_from room stage number start x y =
     }
 
 -- one of a match with these numbers
+abbrev pub room_of : Setup → RoomOf
+room_of setup = record { bound = setup.bound; fan = setup.fan }
+
 abbrev pub dispute_of : Setup → ℕ → ℕ → Claimed → Claimed → Bisection
-dispute_of setup stage number x y = dispute_from (record { bound = setup.bound; fan = setup.fan }) stage number setup.start x y
+dispute_of setup stage number x y = dispute_from (room_of setup) stage number setup.start x y
 
 -- what is settled of the round, with what the answers have beside it
 abbrev pub filled : Answers → Bisection → Bisection

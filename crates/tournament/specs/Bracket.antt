@@ -6,6 +6,7 @@ use Rattle.std.specs.Option.{option_or}
 use Rattle.rd_base.specs.declared.digest.Digest32.{Digest32}
 use Rattle.rd_base.specs.declared.claim.Claim.{Claim}
 use Rattle.rd_base.specs.declared.answer.Answer.TheVariants as answer
+use Rattle.bisect_game.specs.declared.claimed.Claimed.{Claimed}
 use Rattle.bisect_game.specs.declared.question.Question.{Question}
 use Rattle.bisect_game.specs.declared.settled.Settled.{Settled}
 use Rattle.bisect_game.specs.declared.settled.Settled.TheVariants.{Given}
@@ -89,8 +90,8 @@ pairs rules t = pairs_of rules.ruling rules.setup.provers (live t)
 
 -- STAGES: a dispute for each pair, numbered on through the match
 
-abbrev pub side_of : Ruling → ℕ × Claim → ℕ × Digest32
-side_of r x = (x.0, r.root_of x.1)
+abbrev pub side_of : Ruling → ℕ × Claim → Claimed
+side_of r x = record { prover = x.0; root = r.root_of x.1 }
 
 abbrev pub disputes_of : Rules → ℕ → ℕ → List ((ℕ × Claim) × (ℕ × Claim)) → List Bisection
 disputes_of rules stage number [] = []

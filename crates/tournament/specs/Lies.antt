@@ -2,7 +2,7 @@
 -- ends where the two runs part. So against a prover that answers truly, one whose run leaves the true one at step s, and none of whose later
 -- steps is false, is out in the proof of step s - 1, or the dispute closes by a collision: two different strings of one digest, which the
 -- two proofs of the step where it ends open.
-use Rattle.std.specs.Prelude.{◌≡◌, ℕ, ◌<◌, ◌≤◌, Bool, true, false, ◌⊎◌, List, [], ◌∷◌}
+use Rattle.std.specs.Prelude.{◌≡◌, ℕ, ◌<◌, ◌≤◌, true, false, ◌⊎◌, List, [], ◌∷◌}
 use Rattle.bisect_game.specs.declared.settled.Close.TheVariants.{Out}
 use Rattle.bisect_game.specs.Bisection.{Bisection, is_closed}
 use Rattle.bisect_game.specs.Parting.{IsClaimedRun, EndsWhereTheyPart, LeavesAt, IsRefutedAt, HasCollided}

@@ -1,5 +1,5 @@
 -- To believe: what contracts see of a match: who judges it, the numbers by which it is played, and its state.
-use Rattle.bisect_game.specs.declared.setup.Setup.{Setup}
+use Rattle.bisect_game.specs.Setup.{Setup}
 use Rattle.bisect_game.specs.Ruling.{Ruling}
 use Rattle.bisect_game.specs.Rules.{Rules, rules_of}
 use Rattle.tournament.specs.Moves.{MatchState}

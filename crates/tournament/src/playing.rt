@@ -1,11 +1,11 @@
 //! A match before a judge.
 ghost use Rattle.std.specs.Prelude.{◌≡◌, ◌↔◌, ℕ, ◌+◌, ◌-◌, ◌*◌, ◌<◌, ◌≤◌, ◌^◌, true, false, List, length, Some, None, IfOk, replicate, if◌then◌else◌};
 ghost use Rattle.bisect_game.specs.Truth.{Truth, IsRun};
-ghost use Rattle.bisect_game.specs.declared.setup.Setup.{Setup};
+ghost use Rattle.bisect_game.specs.Setup.{Setup, AreInRange};
 ghost use Rattle.tournament.specs.Bracket.{open_question, is_complete, verdict_of};
 ghost use Rattle.tournament.specs.Moves.{passes_of, settled_by, moved, begun};
 ghost use Rattle.tournament.specs.Posting.{answer_of, posted, reply_by, reply_to, passes_on, Post, after_posts};
-ghost use Rattle.bisect_game.specs.Rules.{AreInRange, rules_of};
+ghost use Rattle.bisect_game.specs.Rules.{rules_of};
 ghost use Rattle.tournament.specs.Match.{rules_in};
 ghost use Rattle.tournament.specs.Keeping.{IsMove};
 ghost use Rattle.tournament.specs.Rulings.{rulings_of};
@@ -23,7 +23,7 @@ use crate::reading::{all_closed, all_there, question_in};
 use crate::record::Record;
 use crate::sheet::Sheet;
 use crate::verdict::Verdict;
-use bisect_game::{Judge, Question, Settled, Setup};
+use bisect_game::{Claimed, Judge, Question, Settled, Setup};
 use rd_base::{Digest32, Memory, Qid, same_qid};
 use std::alloc::Global;
 use std::marker::Model;
@@ -48,7 +48,7 @@ pub struct Match<J: Judge + Drop> {
     judge: J,
     sheet: Sheet,
     passed: Vec<u32>,
-    live: Vec<(u32, Digest32)>,
+    live: Vec<Claimed>,
 }
 
 impl<J: Judge + Drop> Model for Match<J> {
@@ -84,13 +84,7 @@ impl<J: Judge + Drop> Match<J> {
         requires few_parts { fan ≤ 16 }
         ensures { let setup : Setup = record { provers = provers; bound = bound; fan = fan; patience = patience; start = start } in IfOk result (λ m. m ≡ record { judge = J.names judge; setup = setup; game = begun (rules_of (J.ruling (J.names judge)) setup) }) }
     {
-        let setup = Setup {
-            provers,
-            bound,
-            fan,
-            patience,
-            start,
-        };
+        let setup = Setup::new(provers, bound, fan, patience, start);
         Ok(Match {
             judge,
             sheet: Sheet::new(alloc, setup)?,
@@ -104,7 +98,9 @@ impl<J: Judge + Drop> Match<J> {
         ensures is { result ≡ self.now.setup }
         ensures ranges { AreInRange result }
     {
-        self.sheet.setup()
+        let setup = self.sheet.setup();
+        setup.is_in_range();
+        setup
     }
 
     /// Whether it is over: nothing is open.
@@ -202,7 +198,7 @@ impl<J: Judge + Drop> Match<J> {
                 reply
             }
             Move::Pass => {
-                if self.passed[p as usize - 1] < self.setup().patience {
+                if self.passed[p as usize - 1] < self.setup().patience() {
                     self.count_pass(p);
                     Reply::Taken
                 } else {

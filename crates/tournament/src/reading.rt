@@ -4,8 +4,8 @@ ghost use Rattle.tournament.specs.Bracket.{put_out, is_out_by, collided, all_the
 ghost use Rattle.tournament.specs.Keeping.{asks_of, asked_from, sides};
 
 use crate::verdict::Verdict;
-use bisect_game::{Close, Dispute, Judge, Question, Settled, Side};
-use rd_base::{Answer, Claim, Digest32, OpenText};
+use bisect_game::{Claimed, Close, Dispute, Judge, Question, Settled, Side};
+use rd_base::{Answer, Claim, OpenText};
 
 /// Whether a dispute has eliminated a side.
 fn has_put_out(dispute: &Dispute) -> bool
@@ -134,7 +134,7 @@ pub(crate) fn fill_live<J: Judge>(
     disputes: &[Dispute],
     p: u32,
     claims: &[Option<Settled>],
-    live: &mut Vec<(u32, Digest32)>,
+    live: &mut Vec<Claimed>,
 )
     requires room { vec_len live.old + length claims.now ≤ vec_capacity live.old }
     requires few { p + length claims.now < 2 ^ 32 }
@@ -145,7 +145,10 @@ pub(crate) fn fill_live<J: Judge>(
         [] => {}
         [Some(Settled::Given(Answer::Claim(claim))), rest @ ..] => {
             if !is_out_in(disputes, p) {
-                live.push_reserved((p, judge.root_of(claim)));
+                live.push_reserved(Claimed {
+                    prover: p,
+                    root: judge.root_of(claim),
+                });
             }
             fill_live(judge, disputes, p + 1, rest, live);
         }

@@ -3,14 +3,14 @@ ghost use Rattle.std.specs.Prelude.{◌≡◌, ◌+◌, ◌<◌, ◌≤◌, ◌^
 ghost use Rattle.tournament.specs.Bracket.{put, is_stage_due, last_stage, stage_opened, verdict_of};
 ghost use Rattle.tournament.specs.Keeping.{Sheet, other_from, side_pairs, disputes_over, and_also, AllRooms};
 ghost use Rattle.bisect_game.specs.Disputes.{dispute_of};
-ghost use Rattle.bisect_game.specs.Rules.{AreInRange, rules_of};
+ghost use Rattle.bisect_game.specs.Rules.{rules_of};
 
 use crate::reading::{
     all_out, all_there, claims_collision, disputes_collision, fill_live, last_stage, lowest,
 };
 use crate::record::Record;
 use crate::verdict::Verdict;
-use bisect_game::{Dispute, Judge, Room, Settled, Setup};
+use bisect_game::{Claimed, Dispute, Judge, Room, Settled, Setup};
 use rd_base::{Digest32, Memory, same_digest};
 use std::alloc::Global;
 use std::marker::Model;
@@ -35,7 +35,7 @@ impl Model for Sheet {
 }
 
 /// The place of the first prover with another root, of provers the first of which is at place `i`.
-fn other_from(live: &[(u32, Digest32)], i: usize, root: &Digest32) -> Option<usize>
+fn other_from(live: &[Claimed], i: usize, root: &Digest32) -> Option<usize>
     requires { i + length live.now < 2 ^ 64 }
     ensures is { result ≡ other_from i root.now live.now }
     ensures within { IfSome result (λ j. j < i + length live.now) }
@@ -44,7 +44,7 @@ fn other_from(live: &[(u32, Digest32)], i: usize, root: &Digest32) -> Option<usi
     match live {
         [] => None,
         [first, rest @ ..] => {
-            if same_digest(&first.1, root) {
+            if same_digest(&first.root, root) {
                 other_from(rest, i + 1, root)
             } else {
                 Some(i)
@@ -56,13 +56,12 @@ fn other_from(live: &[(u32, Digest32)], i: usize, root: &Digest32) -> Option<usi
 /// The rooms of this many disputes. An `Err` is out of memory.
 #[tactic(auto, using(crate::proofs::keeping::KeepingLemmas::rooms_more))]
 fn rooms_for(alloc: Global, setup: Setup, many: usize) -> Result<Vec<Room>, Memory>
-    requires ranges { AreInRange setup }
     ensures len { IfOk result (λ v. vec_len v ≡ many) }
     ensures rooms { IfOk result (λ v. AllRooms setup v.items) }
 {
     let mut rooms = Vec::with_capacity(alloc, many)?;
     for _ in 0..many {
-        rooms.push(Room::new(alloc, setup.bound, setup.fan)?)?;
+        rooms.push(Room::new(alloc, setup.bound(), setup.fan())?)?;
     }
     Ok(rooms)
 }
@@ -70,10 +69,9 @@ fn rooms_for(alloc: Global, setup: Setup, many: usize) -> Result<Vec<Room>, Memo
 impl Sheet {
     /// A sheet on which nothing is settled, with room for the whole match.
     pub(crate) fn new(alloc: Global, setup: Setup) -> Result<Sheet, Memory>
-        requires ranges { AreInRange setup }
         ensures { IfOk result (λ s. s ≡ record { setup = setup; record_ = record { claims = replicate setup.provers None; disputes = [] } }) }
     {
-        let provers = setup.provers as usize;
+        let provers = setup.provers() as usize;
         Ok(Sheet {
             setup,
             record_: Record::new(alloc, provers)?,
@@ -83,14 +81,13 @@ impl Sheet {
 
     /// The numbers by which it is played.
     pub(crate) fn setup(&self) -> Setup
-        ensures is { result ≡ self.now.setup }
-        ensures ranges { AreInRange result }
+        ensures { result ≡ self.now.setup }
     {
         self.setup
     }
 
     /// Opens one dispute.
-    fn open_one(&mut self, stage: u32, first: (u32, Digest32), second: (u32, Digest32))
+    fn open_one(&mut self, stage: u32, first: Claimed, second: Claimed)
         requires few { length self.old.record_.disputes + 1 < self.old.setup.provers }
         requires stage { stage ≤ length self.old.record_.disputes + 1 }
         ensures setup { self.new.setup ≡ self.old.setup }
@@ -100,12 +97,14 @@ impl Sheet {
             unreachable!()
         };
         let number = self.record_.disputes().len() as u32 + 1;
-        self.record_.push(Dispute::new(room, stage, number, self.setup.start, first, second));
+        let first = (first.prover, first.root);
+        let second = (second.prover, second.root);
+        self.record_.push(Dispute::new(room, stage, number, self.setup.start(), first, second));
     }
 
     /// Opens the disputes of a stage: takes the first prover of `live`, opens its dispute with the next one of another root, if there is
     /// one, and does the same with the others; for `left` first provers at most.
-    fn open_pairs(&mut self, stage: u32, left: u32, live: &mut Vec<(u32, Digest32)>)
+    fn open_pairs(&mut self, stage: u32, left: u32, live: &mut Vec<Claimed>)
         requires few { length self.old.record_.disputes + length (side_pairs left live.old.items) < self.old.setup.provers }
         requires stage { stage ≤ length self.old.record_.disputes + 1 }
         ensures setup { self.new.setup ≡ self.old.setup }
@@ -116,7 +115,7 @@ impl Sheet {
             return;
         }
         let first = live.remove(0);
-        match other_from(live.as_slice(), 0, &first.1) {
+        match other_from(live.as_slice(), 0, &first.root) {
             None => self.open_pairs(stage, left - 1, live),
             Some(i) => {
                 let second = live.remove(i);
@@ -140,11 +139,12 @@ impl Sheet {
         ensures is { result ≡ last_stage self.now.record_.disputes + 1 }
         ensures few { result ≤ length self.now.record_.disputes + 1 }
     {
+        self.setup.is_in_range();
         last_stage(self.record_.disputes()) + 1
     }
 
     /// Opens the next stage if it is due.
-    fn open_due<J: Judge>(&mut self, judge: &J, live: &mut Vec<(u32, Digest32)>)
+    fn open_due<J: Judge>(&mut self, judge: &J, live: &mut Vec<Claimed>)
         requires few { length (stage_opened (rules_of (J.ruling (J.names judge.now)) self.old.setup) self.old.record_).disputes < self.old.setup.provers }
         requires room { self.old.setup.provers ≤ vec_capacity live.old }
         ensures setup { self.new.setup ≡ self.old.setup }
@@ -154,7 +154,7 @@ impl Sheet {
         if !self.is_stage_due(judge) {
             return;
         }
-        let provers = self.setup.provers;
+        let provers = self.setup.provers();
         let stage = self.next_stage();
         live.clear();
         fill_live(
@@ -173,7 +173,7 @@ impl Sheet {
         judge: &J,
         p: u32,
         settled: Settled,
-        live: &mut Vec<(u32, Digest32)>,
+        live: &mut Vec<Claimed>,
     )
         requires some { 0 < p }
         requires few { p ≤ self.old.setup.provers }
@@ -197,6 +197,7 @@ impl Sheet {
         if let Some((x, y)) = disputes_collision(self.record_.disputes()) {
             return Verdict::Collision(x, y);
         }
+        self.setup.is_in_range();
         lowest(self.record_.disputes(), 1, self.record_.claims())
     }
 }

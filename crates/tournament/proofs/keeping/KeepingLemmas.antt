@@ -3,8 +3,9 @@ use Rattle.std.proofs.Common.{◌≡◌, ℕ, zero, suc, ◌+◌, ◌-◌, ◌<�
 use Rattle.std.specs.List.{remove}
 use Rattle.std.proofs.lemmas.Bool.{and_parts}
 use Rattle.rd_base.specs.declared.digest.Digest32.{Digest32}
-use Rattle.bisect_game.specs.declared.setup.Setup.{Setup}
+use Rattle.bisect_game.specs.Setup.{Setup}
 use Rattle.rd_base.specs.declared.claim.Claim.{Claim}
+use Rattle.bisect_game.specs.declared.claimed.Claimed.{Claimed}
 use Rattle.bisect_game.specs.declared.settled.Settled.{Settled}
 use Rattle.bisect_game.specs.declared.settled.Side.{Side}
 use Rattle.bisect_game.specs.declared.settled.Side.TheVariants.{First, Second}
@@ -15,7 +16,7 @@ use Rattle.tournament.proofs.OpenedLemmas.{opened-due}
 use Rattle.tournament.proofs.SidesLemmas.{SameSides, sides-first, sides-second}
 use Rattle.tournament.specs.Bracket.{Record, last_stage, Taken, passed_over, take_other, pairs_of, side_of, disputes_of, asks_first, asks_second, settled_in, live, live_from, is_stage_due, stage_opened, put, claim_missing}
 use Rattle.tournament.specs.Keeping.{asks_of, asked_from, sides, Taking, going_by, take_side, side_pairs, other_from, disputes_over, and_also, AllRooms, IsSheet}
-use Rattle.bisect_game.specs.Disputes.{dispute_of}
+use Rattle.bisect_game.specs.Disputes.{RoomOf, room_of, dispute_from, dispute_of}
 use Rattle.bisect_game.specs.Rules.{rules_of}
 
 -- stages and rooms
@@ -33,21 +34,20 @@ pub stage-kept : (ruling : Ruling) (by : Side) (s : Settled) (d : Bisection) →
 stage-kept ruling First s d = let k : SameSides d (settle_first ruling s d) = sides-first ruling s d in k.stage
 stage-kept ruling Second s d = let k : SameSides d (settle_second ruling s d) = sides-second ruling s d in k.stage
 
-rooms-last : (t : Setup) (rs : List (ℕ × ℕ)) (r : ℕ × ℕ) → AllRooms t (rs ++ r ∷ []) → AllRooms t rs × (r ≡ (t.bound, t.fan))
+rooms-last : (t : Setup) (rs : List RoomOf) (r : RoomOf) → AllRooms t (rs ++ r ∷ []) → AllRooms t rs × (r ≡ room_of t)
 rooms-last t [] r a = (tt, a.0)
-rooms-last t (q ∷ rs) r a = let rest : AllRooms t rs × (r ≡ (t.bound, t.fan)) = rooms-last t rs r a.1 in ((a.0, rest.0), rest.1)
+rooms-last t (q ∷ rs) r a = let rest : AllRooms t rs × (r ≡ room_of t) = rooms-last t rs r a.1 in ((a.0, rest.0), rest.1)
 
-pub sheet-room : (t : Setup) (r : Record) (free : ℕ) (rooms rest : List (ℕ × ℕ)) (room : ℕ × ℕ) → IsSheet t r rooms free → rooms ≡ rest ++ room ∷ [] → room ≡ (t.bound, t.fan)
-sheet-room t r free rooms rest room i e = let a : AllRooms t rest × (room ≡ (t.bound, t.fan)) = rooms-last t rest room (rw e at i.rooms_) in a.1
+pub sheet-room : (t : Setup) (r : Record) (free : ℕ) (rooms rest : List RoomOf) (room : RoomOf) → IsSheet t r rooms free → rooms ≡ rest ++ room ∷ [] → room ≡ room_of t
+sheet-room t r free rooms rest room i e = let a : AllRooms t rest × (room ≡ room_of t) = rooms-last t rest room (rw e at i.rooms_) in a.1
 
-pub sheet-opened : (t : Setup) (r w : Record) (free less stage number : ℕ) (rooms rest : List (ℕ × ℕ)) (room : ℕ × ℕ) (x y : ℕ × Digest32) (d : Bisection) → IsSheet t r rooms free →
+pub sheet-opened : (t : Setup) (r w : Record) (free less stage number : ℕ) (rooms rest : List RoomOf) (room : RoomOf) (x y : Claimed) (d : Bisection) → IsSheet t r rooms free →
     rooms ≡ rest ++ room ∷ [] → w ≡ and_also r (d ∷ []) → d.stage ≡ stage → stage ≤ length r.disputes + 1 → less + 1 ≡ free → IsSheet t w rest less
 sheet-opened t r w free less stage number rooms rest room x y d i er ew es few el =
-    let a : AllRooms t rest × (room ≡ (t.bound, t.fan)) = rooms-last t rest room (rw er at i.rooms_) in
+    let a : AllRooms t rest × (room ≡ room_of t) = rooms-last t rest room (rw er at i.rooms_) in
     let n : length w.disputes ≡ length r.disputes + 1 = ap (λ (z : Record). length z.disputes) ew ∙ length-append r.disputes (d ∷ []) in
     let g : last_stage w.disputes ≡ max (last_stage r.disputes) (max d.stage 0) = ap (λ (z : Record). last_stage z.disputes) ew ∙ stages-append r.disputes (d ∷ []) in
     record {
-      ranges = i.ranges;
       claims_ = ap (λ (z : Record). length z.claims) ew ∙ i.claims_;
       stages = omega (arith, g, n, es, few, i.stages);
       rooms_ = a.0;
@@ -56,11 +56,11 @@ sheet-opened t r w free less stage number rooms rest room x y d i er ew es few e
 
 -- one dispute more
 
-pub one-opened : (t : Setup) (r w : Record) (stage number : ℕ) (room : ℕ × ℕ) (x y : ℕ × Digest32) (d : Bisection) → w ≡ and_also r (d ∷ []) → number ≡ length r.disputes + 1 → room ≡ (t.bound, t.fan) →
-    d ≡ record { stage = stage; number = number; fan = room.1; first = x.0; second = y.0; place = record { lo = 0; hi = room.0; agreed = t.start; first = x.1; second = y.1 }; past = []; by_first = None; by_second = None; close = None } →
+pub one-opened : (t : Setup) (r w : Record) (stage number : ℕ) (room : RoomOf) (start : Digest32) (x y : Claimed) (d : Bisection) → w ≡ and_also r (d ∷ []) → number ≡ length r.disputes + 1 → room ≡ room_of t →
+    start ≡ t.start → d ≡ dispute_from room stage number start x y →
     w ≡ and_also r (dispute_of t stage (length r.disputes + 1) x y ∷ [])
-one-opened t r w stage number room x y d ew en er ed =
-    let same : d ≡ dispute_of t stage (length r.disputes + 1) x y = ed ∙ rw (er, en) refl in
+one-opened t r w stage number room start x y d ew en er es ed =
+    let same : d ≡ dispute_of t stage (length r.disputes + 1) x y = ed ∙ rw (er, en, es) refl in
     rw (ew, same) refl
 
 -- where a prover is asked, it is settled
@@ -158,40 +158,39 @@ claims-length [] k o = refl
 claims-length (s ∷ ss) zero o = refl
 claims-length (s ∷ ss) (suc k) o = ap suc (claims-length ss k o)
 
-sheet-by : (rules : Rules) (t : Setup) (r : Record) (rooms : List (ℕ × ℕ)) (free p : ℕ) (s : Settled) (b : Bool) → IsSheet t r rooms free →
+sheet-by : (rules : Rules) (t : Setup) (r : Record) (rooms : List RoomOf) (free p : ℕ) (s : Settled) (b : Bool) → IsSheet t r rooms free →
     IsSheet t (if b then record r { claims = slice_set r.claims (p - 1) (Some s) } else record r { disputes = settled_in rules p s r.disputes }) rooms free
-sheet-by rules t r rooms free p s true i = record { ranges = i.ranges; claims_ = claims-length r.claims (p - 1) (Some s) ∙ i.claims_; stages = i.stages; rooms_ = i.rooms_; room = i.room }
+sheet-by rules t r rooms free p s true i = record { claims_ = claims-length r.claims (p - 1) (Some s) ∙ i.claims_; stages = i.stages; rooms_ = i.rooms_; room = i.room }
 sheet-by rules t r rooms free p s false i = record {
-  ranges = i.ranges;
   claims_ = i.claims_;
   stages = rw (stage-settled rules p s r.disputes, many-settled rules p s r.disputes) i.stages;
   rooms_ = i.rooms_;
   room = rw (many-settled rules p s r.disputes) i.room;
 }
 
-pub sheet-put : (rules : Rules) (t : Setup) (r w : Record) (rooms : List (ℕ × ℕ)) (free p : ℕ) (s : Settled) → IsSheet t r rooms free → w ≡ put rules p s r → IsSheet t w rooms free
+pub sheet-put : (rules : Rules) (t : Setup) (r w : Record) (rooms : List RoomOf) (free p : ℕ) (s : Settled) → IsSheet t r rooms free → w ≡ put rules p s r → IsSheet t w rooms free
 sheet-put rules t r w rooms free p s i e = rw e (sheet-by rules t r rooms free p s (claim_missing (slice_get r.claims (p - 1))) i)
 
 -- pairs of sides
 
-other-by : (i j : ℕ) (root : Digest32) (xs : List (ℕ × Digest32)) (b : Bool) → (if b then other_from (i + 1) root xs else Some i) ≡ Some j → (other_from (i + 1) root xs ≡ Some j → i + 1 ≤ j) → i ≤ j
+other-by : (i j : ℕ) (root : Digest32) (xs : List Claimed) (b : Bool) → (if b then other_from (i + 1) root xs else Some i) ≡ Some j → (other_from (i + 1) root xs ≡ Some j → i + 1 ≤ j) → i ≤ j
 other-by i j root xs true e r = omega (arith, r e)
 other-by i j root xs false e r = let same : i ≡ j = cc in omega arith
 
-other-more : (i j : ℕ) (root : Digest32) (xs : List (ℕ × Digest32)) → other_from i root xs ≡ Some j → i ≤ j
+other-more : (i j : ℕ) (root : Digest32) (xs : List Claimed) → other_from i root xs ≡ Some j → i ≤ j
 other-more i j root [] e = absurd (cc)
-other-more i j root (x ∷ xs) e = other-by i j root xs (same_digest x.1 root) e (other-more (i + 1) j root xs)
+other-more i j root (x ∷ xs) e = other-by i j root xs (same_digest x.root root) e (other-more (i + 1) j root xs)
 
-none-choice : (i : ℕ) (root : Digest32) (x : ℕ × Digest32) (xs : List (ℕ × Digest32)) (b : Bool) → (if b then other_from (i + 1) root xs else Some i) ≡ None → (other_from (i + 1) root xs ≡ None → take_side root xs ≡ None) →
+none-choice : (i : ℕ) (root : Digest32) (x : Claimed) (xs : List Claimed) (b : Bool) → (if b then other_from (i + 1) root xs else Some i) ≡ None → (other_from (i + 1) root xs ≡ None → take_side root xs ≡ None) →
     (if b then going_by x (take_side root xs) else Some (x, xs)) ≡ None
 none-choice i root x xs true e r = ap (going_by x) (r e)
 none-choice i root x xs false e r = absurd (cc)
 
-other-none : (i : ℕ) (root : Digest32) (xs : List (ℕ × Digest32)) → other_from i root xs ≡ None → take_side root xs ≡ None
+other-none : (i : ℕ) (root : Digest32) (xs : List Claimed) → other_from i root xs ≡ None → take_side root xs ≡ None
 other-none i root [] e = refl
-other-none i root (x ∷ xs) e = none-choice i root x xs (same_digest x.1 root) e (other-none (i + 1) root xs)
+other-none i root (x ∷ xs) e = none-choice i root x xs (same_digest x.root root) e (other-none (i + 1) root xs)
 
-some-choice : (i : ℕ) (root : Digest32) (k j : ℕ) (y : ℕ × Digest32) (x : ℕ × Digest32) (xs : List (ℕ × Digest32)) (b : Bool) → k ≡ i + j → (if b then other_from (i + 1) root xs else Some i) ≡ Some k →
+some-choice : (i : ℕ) (root : Digest32) (k j : ℕ) (y : Claimed) (x : Claimed) (xs : List Claimed) (b : Bool) → k ≡ i + j → (if b then other_from (i + 1) root xs else Some i) ≡ Some k →
     ((m : ℕ) → other_from (i + 1) root xs ≡ Some k → k ≡ i + 1 + m → take_side root xs ≡ Some (slice_index_or xs m y, remove xs m)) →
     (if b then going_by x (take_side root xs) else Some (x, xs)) ≡ Some (slice_index_or (x ∷ xs) j y, remove (x ∷ xs) j)
 some-choice i root k zero y x xs true kj e r = absurd (omega (arith, other-more (i + 1) k root xs e, kj))
@@ -199,20 +198,20 @@ some-choice i root k (suc j) y x xs true kj e r = ap (going_by x) (r j e (omega 
 some-choice i root k zero y x xs false kj e r = refl
 some-choice i root k (suc j) y x xs false kj e r = let same : i ≡ k = cc in absurd (omega arith)
 
-other-some : (i : ℕ) (root : Digest32) (k j : ℕ) (y : ℕ × Digest32) (xs : List (ℕ × Digest32)) → other_from i root xs ≡ Some k → k ≡ i + j → take_side root xs ≡ Some (slice_index_or xs j y, remove xs j)
+other-some : (i : ℕ) (root : Digest32) (k j : ℕ) (y : Claimed) (xs : List Claimed) → other_from i root xs ≡ Some k → k ≡ i + j → take_side root xs ≡ Some (slice_index_or xs j y, remove xs j)
 other-some i root k j y [] e kj = absurd (cc)
-other-some i root k j y (x ∷ xs) e kj = some-choice i root k j y x xs (same_digest x.1 root) kj e (λ m f g. other-some (i + 1) root k m y xs f g)
+other-some i root k j y (x ∷ xs) e kj = some-choice i root k j y x xs (same_digest x.root root) kj e (λ m f g. other-some (i + 1) root k m y xs f g)
 
-pub pairs-none : (left : ℕ) (old new : List (ℕ × Digest32)) (x : ℕ × Digest32) → 0 < left → 0 < length old → x ≡ slice_index_or old 0 x → new ≡ remove old 0 → None ≡ other_from 0 x.1 new → side_pairs left old ≡ side_pairs (left - 1) new
+pub pairs-none : (left : ℕ) (old new : List Claimed) (x : Claimed) → 0 < left → 0 < length old → x ≡ slice_index_or old 0 x → new ≡ remove old 0 → None ≡ other_from 0 x.root new → side_pairs left old ≡ side_pairs (left - 1) new
 pairs-none zero old new x some many ex en e = absurd (omega arith)
 pairs-none (suc n) [] new x some many ex en e = absurd (omega arith)
 pairs-none (suc n) (z ∷ zs) new x some many ex en e =
     let l : suc n - 1 ≡ n = omega arith in
     let nz : new ≡ zs = en in
-    let t : take_side z.1 zs ≡ None = other-none 0 z.1 zs (sym (rw (nz, ex) at e)) in
+    let t : take_side z.root zs ≡ None = other-none 0 z.root zs (sym (rw (nz, ex) at e)) in
     rw (l, nz) (ap (λ (o : Taking). elim o [ None ↦ side_pairs n zs | Some u ↦ (z, u.0) ∷ side_pairs n u.1 ]) t)
 
-pub pairs-some : (left i : ℕ) (old new rest : List (ℕ × Digest32)) (x y : ℕ × Digest32) → 0 < left → 0 < length old → x ≡ slice_index_or old 0 x → new ≡ remove old 0 → Some i ≡ other_from 0 x.1 new → y ≡ slice_index_or new i y → rest ≡ remove new i →
+pub pairs-some : (left i : ℕ) (old new rest : List Claimed) (x y : Claimed) → 0 < left → 0 < length old → x ≡ slice_index_or old 0 x → new ≡ remove old 0 → Some i ≡ other_from 0 x.root new → y ≡ slice_index_or new i y → rest ≡ remove new i →
     side_pairs left old ≡ (x, y) ∷ side_pairs (left - 1) rest
 pairs-some zero i old new rest x y some many ex en e ey er = absurd (omega arith)
 pairs-some (suc n) i [] new rest x y some many ex en e ey er = absurd (omega arith)
@@ -220,12 +219,12 @@ pairs-some (suc n) i (z ∷ zs) new rest x y some many ex en e ey er =
     let l : suc n - 1 ≡ n = omega arith in
     let xz : x ≡ z = ex in
     let nz : new ≡ zs = en in
-    let o : other_from 0 x.1 new ≡ Some i = sym e in
-    let t : take_side x.1 new ≡ Some (slice_index_or new i y, remove new i) = other-some 0 x.1 i i y new o (omega arith) in
-    let tz : take_side z.1 zs ≡ Some (y, rest) = ap (λ (w : ℕ × Digest32). take_side w.1 zs) (sym xz) ∙ (ap (take_side x.1) (sym nz) ∙ (t ∙ rw (← ey, er) refl)) in
+    let o : other_from 0 x.root new ≡ Some i = sym e in
+    let t : take_side x.root new ≡ Some (slice_index_or new i y, remove new i) = other-some 0 x.root i i y new o (omega arith) in
+    let tz : take_side z.root zs ≡ Some (y, rest) = ap (λ (w : Claimed). take_side w.root zs) (sym xz) ∙ (ap (take_side x.root) (sym nz) ∙ (t ∙ rw (← ey, er) refl)) in
     rw (l, xz) (ap (λ (o : Taking). elim o [ None ↦ side_pairs n zs | Some u ↦ (z, u.0) ∷ side_pairs n u.1 ]) tz)
 
-pub pairs-opened : (t : Setup) (g : ℕ) (r s u : Record) (x y : ℕ × Digest32) (ps qs : List ((ℕ × Digest32) × (ℕ × Digest32))) → s ≡ and_also r (dispute_of t g (length r.disputes + 1) x y ∷ []) →
+pub pairs-opened : (t : Setup) (g : ℕ) (r s u : Record) (x y : Claimed) (ps qs : List (Claimed × Claimed)) → s ≡ and_also r (dispute_of t g (length r.disputes + 1) x y ∷ []) →
     u ≡ and_also s (disputes_over t g (length s.disputes + 1) ps) → qs ≡ (x, y) ∷ ps → u ≡ and_also r (disputes_over t g (length r.disputes + 1) qs)
 pairs-opened t g r s u x y ps qs es eu eq =
     let n : length s.disputes ≡ length r.disputes + 1 = ap (λ (z : Record). length z.disputes) es ∙ length-append r.disputes (dispute_of t g (length r.disputes + 1) x y ∷ []) in
@@ -264,16 +263,16 @@ over-sides r t g zero k xs = refl
 over-sides r t g (suc n) k [] = refl
 over-sides r t g (suc n) k (x ∷ xs) = over-by r t g n k x xs (take_other r (r.root_of x.1) xs) (take_side (r.root_of x.1) (sides r xs)) (taken-sides r (r.root_of x.1) xs) (λ m ys. over-sides r t g n m ys)
 
-over-length : (t : Setup) (g k : ℕ) (ps : List ((ℕ × Digest32) × (ℕ × Digest32))) → length (disputes_over t g k ps) ≡ length ps
+over-length : (t : Setup) (g k : ℕ) (ps : List (Claimed × Claimed)) → length (disputes_over t g k ps) ≡ length ps
 over-length t g k [] = refl
 over-length t g k (p ∷ ps) = ap suc (over-length t g (k + 1) ps)
 
-pub stage-is : (r : Ruling) (t : Setup) (rec : Record) (xs : List (ℕ × Digest32)) → is_stage_due (rules_of r t) rec ≡ true → xs ≡ sides r (live rec) →
+pub stage-is : (r : Ruling) (t : Setup) (rec : Record) (xs : List Claimed) → is_stage_due (rules_of r t) rec ≡ true → xs ≡ sides r (live rec) →
     stage_opened (rules_of r t) rec ≡ and_also rec (disputes_over t (last_stage rec.disputes + 1) (length rec.disputes + 1) (side_pairs t.provers xs))
 stage-is r t rec xs due e =
-    opened-due (rules_of r t) rec due ∙ ap (and_also rec) (over-sides r t (last_stage rec.disputes + 1) t.provers (length rec.disputes + 1) (live rec) ∙ ap (λ (ys : List (ℕ × Digest32)). disputes_over t (last_stage rec.disputes + 1) (length rec.disputes + 1) (side_pairs t.provers ys)) (sym e))
+    opened-due (rules_of r t) rec due ∙ ap (and_also rec) (over-sides r t (last_stage rec.disputes + 1) t.provers (length rec.disputes + 1) (live rec) ∙ ap (λ (ys : List Claimed). disputes_over t (last_stage rec.disputes + 1) (length rec.disputes + 1) (side_pairs t.provers ys)) (sym e))
 
-pub stage-few : (r : Ruling) (t : Setup) (rec : Record) (xs : List (ℕ × Digest32)) → is_stage_due (rules_of r t) rec ≡ true → xs ≡ sides r (live rec) → length (stage_opened (rules_of r t) rec).disputes < t.provers →
+pub stage-few : (r : Ruling) (t : Setup) (rec : Record) (xs : List Claimed) → is_stage_due (rules_of r t) rec ≡ true → xs ≡ sides r (live rec) → length (stage_opened (rules_of r t) rec).disputes < t.provers →
     length rec.disputes + length (side_pairs t.provers xs) < t.provers
 stage-few r t rec xs due e few =
     let n : length (stage_opened (rules_of r t) rec).disputes ≡ length rec.disputes + length (disputes_over t (last_stage rec.disputes + 1) (length rec.disputes + 1) (side_pairs t.provers xs)) =
@@ -317,10 +316,10 @@ put-there rules p i s side t hs gs cs x d e ed ec ea ex there asked at is =
     let n : settled_in rules p s t.disputes ≡ slice_set hs i e = rw ed (a.settles e (is ∙ ap (λ (y : Bisection). settle_side rules.ruling side s y) at)) in
     rw (m, n, ec) refl
 
-pub filled-live : (r : Ruling) (rec : Record) (hs gs : List Bisection) (cs bs : List (Option Settled)) (xs zs : List (ℕ × Digest32)) → rec.disputes ≡ hs → rec.claims ≡ cs → gs ≡ hs → bs ≡ cs → zs ≡ [] →
+pub filled-live : (r : Ruling) (rec : Record) (hs gs : List Bisection) (cs bs : List (Option Settled)) (xs zs : List Claimed) → rec.disputes ≡ hs → rec.claims ≡ cs → gs ≡ hs → bs ≡ cs → zs ≡ [] →
     xs ≡ zs ++ sides r (live_from gs 1 bs) → xs ≡ sides r (live rec)
 filled-live r rec hs gs cs bs xs zs ed ec ea eb ez e = rw (ed, ec) (rw (ez, ea, eb) at e)
 
-pub rooms_more : (t : Setup) (rs : List (ℕ × ℕ)) (r : ℕ × ℕ) → AllRooms t rs → r ≡ (t.bound, t.fan) → AllRooms t (rs ++ r ∷ [])
+pub rooms_more : (t : Setup) (rs : List RoomOf) (r : RoomOf) → AllRooms t rs → r ≡ room_of t → AllRooms t (rs ++ r ∷ [])
 rooms_more t [] r a e = (e, tt)
 rooms_more t (q ∷ rs) r a e = (a.0, rooms_more t rs r a.1 e)

@@ -1,21 +1,18 @@
 -- Every dispute between two provers that answer by runs of their own ends where the runs part.
-use Rattle.std.proofs.Common.{◌≡◌, ℕ, true, false, ◌⊎◌, ◌<◌, ◌≤◌, List, [], ◌∷◌, sym, ◌∙◌, ap, subst}
+use Rattle.std.proofs.Common.{◌≡◌, ℕ, List, [], ◌∷◌, sym, ◌∙◌, ap, subst}
 use Rattle.rd_base.specs.declared.claim.Claim.{Claim}
-use Rattle.bisect_game.specs.declared.settled.Close.TheVariants.{Out}
-use Rattle.bisect_game.specs.Bisection.{Bisection, is_closed}
+use Rattle.bisect_game.specs.Bisection.{Bisection}
 use Rattle.bisect_game.specs.Laws.{BisectionLaws}
-use Rattle.bisect_game.specs.Parting.{IsClaimedRun, EndsWhereTheyPart, IsBetweenRuns, RunsPartWhereTheyEnd, LeavesAt, IsRefutedAt, HasCollided, LieIsRefutedAtItsStep}
+use Rattle.bisect_game.specs.Parting.{IsClaimedRun, RunsPartWhereTheyEnd, LeavesAt, LieIsRefutedAtItsStep}
 use Rattle.bisect_game.specs.Rules.{Rules, ArePlayable}
 use Rattle.bisect_game.specs.Ruling.{IsFair}
 use Rattle.bisect_game.specs.Truth.{Truth, IsRun}
 use Rattle.tournament.specs.Bracket.{Record}
-use Rattle.bisect_game.specs.Says.{Says}
-use Rattle.tournament.specs.Journals.{turns, Legal, LegalListsArePosts}
+use Rattle.tournament.specs.Journals.{turns, LegalListsArePosts}
 use Rattle.tournament.specs.Moves.{MatchState, begun}
 use Rattle.tournament.specs.Posting.{Post, after_posts, record_after}
-use Rattle.tournament.specs.Truthful.{IsTruthfulProver}
 use Rattle.tournament.specs.Theorem.{HasTrueClaimSoFar, AllTrueIn, AreTrue}
-use Rattle.tournament.specs.Lies.{ClaimsItsRun, AllEndWhereTheyPart, DisputesEndWhereRunsPart, IsLieFound, AllLiesFound, LiesAreFound, ScriptsOfARun, LiesOfScriptsAreFound}
+use Rattle.tournament.specs.Lies.{ClaimsItsRun, AllEndWhereTheyPart, DisputesEndWhereRunsPart, AllLiesFound, LiesAreFound, ScriptsOfARun, LiesOfScriptsAreFound}
 use Rattle.tournament.proofs.safety.PairLemmas.{IsOneByOne, AllOneByOne, all-one-by-one, true-given}
 
 module _ (laws : BisectionLaws) (parting : RunsPartWhereTheyEnd) where
@@ -33,7 +30,7 @@ module _ (laws : BisectionLaws) (parting : RunsPartWhereTheyEnd) where
         let is_q : o.q ≡ q = sym o.is_second ∙ second in
         let mine : o.first ≡ one.claim = (true-given laws) one r p o.first cp (rw is_p at o.by_first) in
         let theirs : o.second ≡ other.claim = (true-given laws) other r q o.second cq (rw is_q at o.by_second) in
-        parting rules one other (o.p, rules.ruling.root_of o.first) (o.q, rules.ruling.root_of o.second) o.stage o.number o.answers d playable (record {
+        parting rules one other (record { prover = o.p; root = rules.ruling.root_of o.first }) (record { prover = o.q; root = rules.ruling.root_of o.second }) o.stage o.number o.answers d playable (record {
           first = claimed rules one r p o.first io mine;
           second = claimed rules other r q o.second jo theirs;
           differ = o.differ;

@@ -1,10 +1,9 @@
 -- What every record of a match keeps: disputes in play, each side right, and claims that fit.
-use Rattle.std.proofs.Common.{◌≡◌, ◌≢◌, ℕ, zero, suc, ◌+◌, ◌-◌, ◌<◌, Bool, true, false, not, ◌&&◌, ◌||◌, ◌==◌, if◌then◌else◌, List, [], ◌∷◌, ◌++◌, length, replicate, slice_get, slice_set, inl, inr, Option, Some, None, is_some, is_none, refl, sym, ◌∙◌, ap, arith}
+use Rattle.std.proofs.Common.{◌≡◌, ◌≢◌, ℕ, zero, suc, ◌+◌, ◌-◌, ◌<◌, Bool, true, false, not, ◌&&◌, ◌||◌, ◌==◌, if◌then◌else◌, List, [], ◌∷◌, ◌++◌, length, slice_get, slice_set, inl, inr, Option, Some, None, is_some, is_none, refl, sym, ◌∙◌, ap, arith}
 use Rattle.std.proofs.lemmas.Bool.Decides.{nat_tests}
 use Rattle.std.proofs.lemmas.Bool.{cases_Bool, and_parts}
 use Rattle.rd_base.specs.declared.digest.Digest32.{Digest32}
 use Rattle.rd_base.specs.declared.claim.Claim.{Claim}
-use Rattle.bisect_game.specs.declared.question.Kind.TheVariants as kind
 use Rattle.bisect_game.specs.declared.question.Question.{Question}
 use Rattle.rd_base.specs.declared.answer.Answer.TheVariants as answer
 use Rattle.bisect_game.specs.declared.settled.Settled.{Settled}
@@ -16,16 +15,16 @@ use Rattle.bisect_game.specs.Bisection.{Bisection, question_of, kind_over, settl
 use Rattle.bisect_game.specs.Laws.{IsPlay, KeepsRight}
 use Rattle.bisect_game.specs.Rules.{Rules, ArePlayable}
 use Rattle.bisect_game.specs.Ruling.{Ruling, IsFair, same_digest}
-use Rattle.bisect_game.specs.Truth.{Truth, IsRun, IsFit, IsFitSoFar, IsRight, is_put_out}
+use Rattle.bisect_game.specs.Truth.{Truth, IsRun, IsFit, IsRight, is_put_out}
 use Rattle.tournament.proofs.safety.ClaimLemmas.{FitClaims, fit-none, fit-set, fit-asked}
 use Rattle.tournament.proofs.safety.LiveLemmas.{live-contains}
 use Rattle.tournament.proofs.OpenedLemmas.{opened-not, opened-due}
 use Rattle.tournament.proofs.ReachLemmas.{same-not}
 use Rattle.tournament.proofs.SidesLemmas.{SameSides, sides-first, sides-second}
-use Rattle.tournament.specs.Bracket.{Record, is_out_by, is_out_in, claim_in, also, live_from, live, Taken, passed_over, take_other, pairs_of, pairs, last_stage, disputes_of, all_there, is_stage_due, stage_opened, nothing_settled, asks_first, asks_second, question_in, claim_missing, open_question, settled_in, put, settle, is_complete}
+use Rattle.tournament.specs.Bracket.{Record, is_out_by, is_out_in, claim_in, also, live_from, live, Taken, passed_over, take_other, pairs_of, pairs, last_stage, disputes_of, all_there, is_stage_due, stage_opened, nothing_settled, asks_first, asks_second, question_in, claim_missing, settled_in, put, settle, is_complete}
 use Rattle.bisect_game.specs.Rules.{claim_question}
 use Rattle.tournament.specs.Settling.{after}
-use Rattle.tournament.specs.Fitting.{MaySettle, AllFit}
+use Rattle.tournament.specs.Fitting.{AllFit}
 use Rattle.tournament.specs.Theorem.{Stays, is_out_by_claim, HasTrueClaimSoFar, HasTrueClaim, TrueIn, AllTrueIn, AreTrue, RightIn, AllRightIn, AllProvedIn}
 use Rattle.bisect_game.specs.Laws.{BisectionLaws}
 

@@ -16,7 +16,7 @@ use Rattle.tournament.specs.Collisions.{HasGiven}
 use Rattle.tournament.specs.Posting.{Post, record_after}
 use Rattle.tournament.specs.Settling.{after}
 use Rattle.tournament.specs.Theorem.{HasTrueClaimSoFar}
-use Rattle.tournament.specs.Survivors.{AreOfTwoRoots, AllOfTwoRoots, SidesHaveTwoRoots, NoneBetween, OneRootNeverMeets, TruthfulNeverMeet}
+use Rattle.tournament.specs.Survivors.{AllOfTwoRoots, SidesHaveTwoRoots, NoneBetween, OneRootNeverMeets, TruthfulNeverMeet}
 use Rattle.tournament.proofs.OpenedLemmas.{opened-not, opened-due}
 use Rattle.tournament.proofs.SidesLemmas.{SameSides, sides-first, sides-second}
 use Rattle.tournament.proofs.PostLemmas.{posts_settle}
@@ -38,8 +38,8 @@ pub record IsOneByOne (rules : Rules) (r : Record) (d : Bisection) : Type 0 wher
   pub stage : ℕ
   pub number : ℕ
   pub answers : List (Side × Settled)
-  pub asked : EachIsAsked rules.ruling answers (dispute_of rules.setup stage number (p, rules.ruling.root_of first) (q, rules.ruling.root_of second))
-  pub after_ : d ≡ settled_one_by_one rules.ruling answers (dispute_of rules.setup stage number (p, rules.ruling.root_of first) (q, rules.ruling.root_of second))
+  pub asked : EachIsAsked rules.ruling answers (dispute_of rules.setup stage number (record { prover = p; root = rules.ruling.root_of first }) (record { prover = q; root = rules.ruling.root_of second }))
+  pub after_ : d ≡ settled_one_by_one rules.ruling answers (dispute_of rules.setup stage number (record { prover = p; root = rules.ruling.root_of first }) (record { prover = q; root = rules.ruling.root_of second }))
 
 abbrev pub AllOneByOne : Rules → Record → List Bisection → Type 0
 AllOneByOne rules r [] = Unit {0}
@@ -55,7 +55,7 @@ asked-more ruling (y ∷ xs) x d each last = (each.0, asked-more ruling xs x (se
 
 one-side : (rules : Rules) (r : Record) (by : Side) (s : Settled) (d : Bisection) → SameSides d (settle_side rules.ruling by s d) → asks by d ≡ true → IsOneByOne rules r d → IsOneByOne rules r (settle_side rules.ruling by s d)
 one-side rules r by s d k asked o =
-    let begun : Bisection = dispute_of rules.setup o.stage o.number (o.p, rules.ruling.root_of o.first) (o.q, rules.ruling.root_of o.second) in
+    let begun : Bisection = dispute_of rules.setup o.stage o.number (record { prover = o.p; root = rules.ruling.root_of o.first }) (record { prover = o.q; root = rules.ruling.root_of o.second }) in
     record {
       p = o.p;
       q = o.q;

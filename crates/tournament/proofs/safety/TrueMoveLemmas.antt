@@ -7,7 +7,7 @@ use Rattle.bisect_game.specs.declared.question.Question.{Question}
 use Rattle.bisect_game.specs.declared.settled.Settled.{Settled}
 use Rattle.bisect_game.specs.declared.settled.Settled.TheVariants.{Spent}
 use Rattle.bisect_game.specs.Rules.{Rules, judged}
-use Rattle.bisect_game.specs.Truth.{Truth, IsRun, IsTrueSettled}
+use Rattle.bisect_game.specs.Truth.{Truth, IsTrueSettled}
 use Rattle.bisect_game.specs.Laws.{BisectionLaws}
 use Rattle.tournament.specs.Bracket.{open_question}
 use Rattle.tournament.specs.Moves.{MatchState, begun, passes_of, settled_by, moved}

@@ -19,7 +19,7 @@ use Rattle.bisect_game.specs.Ruling.{Ruling}
 use Rattle.bisect_game.specs.Rules.{Rules, is_fit, judged}
 use Rattle.bisect_game.specs.Closing.{close_of}
 use Rattle.bisect_game.specs.Bisection.{Bisection, kind_over, question_of, closed_with, went_on, closed_or, decided, advanced, settle_first, settle_second}
-use Rattle.bisect_game.specs.Truth.{Truth, IsRun, IsTrueAnswer, IsTrueSettled, IsFit, AllTrue, IsTruthful, own_answer, own_open}
+use Rattle.bisect_game.specs.Truth.{Truth, IsTrueAnswer, IsTrueSettled, IsFit, AllTrue, IsTruthful, own_answer, own_open}
 use Rattle.bisect_game.specs.Laws.{BisectionLaws, TrueAnswersFit}
 use Rattle.tournament.specs.Bracket.{Record, claim_missing, asks_first, asks_second, question_in, open_question, disputes_of, last_stage, pairs, is_stage_due, stage_opened, settled_in, put, settle, nothing_settled, bracket}
 use Rattle.bisect_game.specs.Rules.{claim_question}

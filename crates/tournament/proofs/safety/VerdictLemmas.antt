@@ -11,7 +11,7 @@ use Rattle.bisect_game.specs.declared.settled.Settled.TheVariants.{Given}
 use Rattle.bisect_game.specs.declared.settled.Close.{Close}
 use Rattle.bisect_game.specs.declared.settled.Close.TheVariants.{Out, Collision}
 use Rattle.tournament.specs.declared.verdict.Verdict.TheVariants.{Collision}
-use Rattle.bisect_game.specs.Bisection.{Bisection, is_closed, settle_first, settle_second, closed_or, closed_with, went_on, decided, advanced}
+use Rattle.bisect_game.specs.Bisection.{Bisection, is_closed, settle_first, settle_second, closed_or, went_on, decided, advanced}
 use Rattle.bisect_game.specs.Closing.{both_proved, closed_by, close_of, is_out, is_proved, is_root, is_step}
 use Rattle.bisect_game.specs.Rules.{Rules, ArePlayable}
 use Rattle.bisect_game.specs.Ruling.{Ruling, IsFair, IsCollision, same_digest}

@@ -7,7 +7,7 @@ use Rattle.tournament.proofs.sheet.Sheet.+open_pairs.Goals as goal
 
 pub open_pairs-requires : goal.open_pairs-requires
 open_pairs-requires t c =
-    let e : None ≡ other_from 0 c.remove-first.result.1 c.remove-first.new.self.items = rw c.as_slice.ensures.value at c.in-None.ensures.is in
+    let e : None ≡ other_from 0 c.remove-first.result.root c.remove-first.new.self.items = rw c.as_slice.ensures.value at c.in-None.ensures.is in
     let p : side_pairs c.args.left c.args.live.now.items ≡ side_pairs (c.args.left - 1) c.remove-first.new.self.items =
     pairs-none c.args.left c.args.live.now.items c.remove-first.new.self.items c.remove-first.result (omega (arith, c.if-left-eq0.false)) (omega (arith, c.remove-first.ensures.len, c.args.live.now.ok.0)) c.remove-first.ensures.value c.remove-first.ensures.items e in
     let n : length (side_pairs c.args.left c.args.live.now.items) ≡ length (side_pairs (c.args.left - 1) c.remove-first.new.self.items) = ap (λ ps. length ps) p in
@@ -15,7 +15,7 @@ open_pairs-requires t c =
 
 pub open_one-requires : goal.open_one-requires
 open_one-requires t c =
-    let e : Some c.in-Some.i ≡ other_from 0 c.remove-first.result.1 c.remove-first.new.self.items = rw c.as_slice.ensures.value at c.in-Some.ensures.is in
+    let e : Some c.in-Some.i ≡ other_from 0 c.remove-first.result.root c.remove-first.new.self.items = rw c.as_slice.ensures.value at c.in-Some.ensures.is in
     let p : side_pairs c.args.left c.args.live.now.items ≡ (c.remove-first.result, c.remove-second.result) ∷ side_pairs (c.args.left - 1) c.remove-second.new.self.items =
     pairs-some c.args.left c.in-Some.i c.args.live.now.items c.remove-first.new.self.items c.remove-second.new.self.items c.remove-first.result c.remove-second.result (omega (arith, c.if-left-eq0.false)) (omega (arith, c.remove-first.ensures.len, c.args.live.now.ok.0))
     c.remove-first.ensures.value c.remove-first.ensures.items e c.remove-second.ensures.value c.remove-second.ensures.items in
@@ -24,7 +24,7 @@ open_one-requires t c =
 
 pub open_pairs-requires-in-Some : goal.open_pairs-requires-in-Some
 open_pairs-requires-in-Some t c =
-    let e : Some c.in-Some.i ≡ other_from 0 c.remove-first.result.1 c.remove-first.new.self.items = rw c.as_slice.ensures.value at c.in-Some.ensures.is in
+    let e : Some c.in-Some.i ≡ other_from 0 c.remove-first.result.root c.remove-first.new.self.items = rw c.as_slice.ensures.value at c.in-Some.ensures.is in
     let p : side_pairs c.args.left c.args.live.now.items ≡ (c.remove-first.result, c.remove-second.result) ∷ side_pairs (c.args.left - 1) c.remove-second.new.self.items =
     pairs-some c.args.left c.in-Some.i c.args.live.now.items c.remove-first.new.self.items c.remove-second.new.self.items c.remove-first.result c.remove-second.result (omega (arith, c.if-left-eq0.false)) (omega (arith, c.remove-first.ensures.len, c.args.live.now.ok.0))
     c.remove-first.ensures.value c.remove-first.ensures.items e c.remove-second.ensures.value c.remove-second.ensures.items in
@@ -36,14 +36,14 @@ open_pairs-requires-in-Some t c =
 
 pub returns-in-None-clause-record_ : goal.returns-in-None-clause-record_
 returns-in-None-clause-record_ t c =
-    let e : None ≡ other_from 0 c.remove-first.result.1 c.remove-first.new.self.items = rw c.as_slice.ensures.value at c.in-None.ensures.is in
+    let e : None ≡ other_from 0 c.remove-first.result.root c.remove-first.new.self.items = rw c.as_slice.ensures.value at c.in-None.ensures.is in
     let p : side_pairs c.args.left c.args.live.now.items ≡ side_pairs (c.args.left - 1) c.remove-first.new.self.items =
     pairs-none c.args.left c.args.live.now.items c.remove-first.new.self.items c.remove-first.result (omega (arith, c.if-left-eq0.false)) (omega (arith, c.remove-first.ensures.len, c.args.live.now.ok.0)) c.remove-first.ensures.value c.remove-first.ensures.items e in
     rw p c.open_pairs.ensures.record_
 
 pub returns-in-Some-clause-record_ : goal.returns-in-Some-clause-record_
 returns-in-Some-clause-record_ t c =
-    let e : Some c.in-Some.i ≡ other_from 0 c.remove-first.result.1 c.remove-first.new.self.items = rw c.as_slice.ensures.value at c.in-Some.ensures.is in
+    let e : Some c.in-Some.i ≡ other_from 0 c.remove-first.result.root c.remove-first.new.self.items = rw c.as_slice.ensures.value at c.in-Some.ensures.is in
     let p : side_pairs c.args.left c.args.live.now.items ≡ (c.remove-first.result, c.remove-second.result) ∷ side_pairs (c.args.left - 1) c.remove-second.new.self.items =
     pairs-some c.args.left c.in-Some.i c.args.live.now.items c.remove-first.new.self.items c.remove-second.new.self.items c.remove-first.result c.remove-second.result (omega (arith, c.if-left-eq0.false)) (omega (arith, c.remove-first.ensures.len, c.args.live.now.ok.0))
     c.remove-first.ensures.value c.remove-first.ensures.items e c.remove-second.ensures.value c.remove-second.ensures.items in

@@ -17,7 +17,7 @@ open_pairs-requires-clause-few g c =
     (sym (ap (λ (s : Sheet). s.record_.disputes) c.self.view_is)) (sym (ap (λ (s : Sheet). s.record_.claims) c.self.view_is)) c.disputes.ensures c.claims.ensures c.clear.ensures.items c.fill_live.ensures.items in
     let due : is_stage_due (rules_of (g.J.Judge.ruling (g.J.Judge.names c.args.judge.now)) c.args.self.now.setup) c.args.self.now.record_ ≡ true = sym c.is_stage_due.ensures ∙ c.if-not-is_stage_due.false in
     let n : c.self.inside.setup.provers ≡ c.args.self.now.setup.provers = ap (λ (s : Sheet). s.setup.provers) c.self.view_is in
-    rw n (stage-few (g.J.Judge.ruling (g.J.Judge.names c.args.judge.now)) c.args.self.now.setup c.args.self.now.record_ c.fill_live.new.live.items due xs c.requires.few)
+    rw (c.provers-provers.ensures.is, n) (stage-few (g.J.Judge.ruling (g.J.Judge.names c.args.judge.now)) c.args.self.now.setup c.args.self.now.record_ c.fill_live.new.live.items due xs c.requires.few)
 
 pub returns-clause-record_ : goal.returns-clause-record_
 returns-clause-record_ g c =
@@ -26,4 +26,4 @@ returns-clause-record_ g c =
     (sym (ap (λ (s : Sheet). s.record_.disputes) c.self.view_is)) (sym (ap (λ (s : Sheet). s.record_.claims) c.self.view_is)) c.disputes.ensures c.claims.ensures c.clear.ensures.items c.fill_live.ensures.items in
     let due : is_stage_due (rules_of (g.J.Judge.ruling (g.J.Judge.names c.args.judge.now)) c.args.self.now.setup) c.args.self.now.record_ ≡ true = sym c.is_stage_due.ensures ∙ c.if-not-is_stage_due.false in
     let n : c.self.inside.setup.provers ≡ c.args.self.now.setup.provers = ap (λ (s : Sheet). s.setup.provers) c.self.view_is in
-    rw (n, c.next_stage-stage.ensures.is) at c.open_pairs.ensures.record_ ∙ sym (stage-is (g.J.Judge.ruling (g.J.Judge.names c.args.judge.now)) c.args.self.now.setup c.args.self.now.record_ c.fill_live.new.live.items due xs)
+    rw (c.provers-provers.ensures.is, n, c.next_stage-stage.ensures.is) at c.open_pairs.ensures.record_ ∙ sym (stage-is (g.J.Judge.ruling (g.J.Judge.names c.args.judge.now)) c.args.self.now.setup c.args.self.now.record_ c.fill_live.new.live.items due xs)

@@ -12,5 +12,5 @@ invariant_of-self c =
 pub returns-clause-record_ : goal.returns-clause-record_
 returns-clause-record_ c =
     rw (← c.self.view_is)
-    (one-opened c.self.inside.setup c.self.inside.record_ c.push.new.self c.args.stage (length c.disputes.result.now + 1) c.in-Some.room c.args.first c.args.second c.new.result c.push.ensures
-    (ap (λ (ds : List Bisection). length ds + 1) c.disputes.ensures) (sheet-room c.self.inside.setup c.self.inside.record_ _ c.self.inside.rooms.items c.pop.new.self.items c.in-Some.room c.self.invariant c.in-Some.ensures.items) c.new.ensures)
+    (one-opened c.self.inside.setup c.self.inside.record_ c.push.new.self c.args.stage (length c.disputes.result.now + 1) c.in-Some.room c.start.result c.args.first c.args.second c.new.result c.push.ensures
+    (ap (λ (ds : List Bisection). length ds + 1) c.disputes.ensures) (sheet-room c.self.inside.setup c.self.inside.record_ _ c.self.inside.rooms.items c.pop.new.self.items c.in-Some.room c.self.invariant c.in-Some.ensures.items) c.start.ensures c.new.ensures)
