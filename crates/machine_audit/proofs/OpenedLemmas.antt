@@ -14,7 +14,7 @@ use Rattle.merkle_nodes.specs.Node.{digest_at}
 use Rattle.merkle_nodes.specs.Opening.{joined, opened}
 use Rattle.out_chain.specs.Collision.{links_after, links_of, opened_by_claim}
 use Rattle.out_chain.specs.Root.{control_text_of, claim_text}
-use Rattle.open_proof.specs.Called.{fetch_address}
+use Rattle.rv_step.specs.Fetching.{fetch_address}
 use Rattle.open_proof.specs.Opened.{texts_from}
 use Rattle.open_proof.specs.Facts.{facts_of, named_called, operand_called, input_called}
 use Rattle.open_proof.specs.Next.{storage_texts, storage_held, registers_held, text_before}

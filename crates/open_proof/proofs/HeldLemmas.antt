@@ -23,9 +23,10 @@ use Rattle.rv_step.specs.declared.effect.Effect.{Effect}
 use Rattle.rv_step.specs.declared.effect.Effect.TheVariants.{Write, Jump, Branch, Next, Store, Put, Exit, Trap}
 use Rattle.rv_step.specs.declared.asked.Need.{Need}
 use Rattle.rv_step.specs.declared.asked.Need.TheVariants as need
+use Rattle.rv_step.specs.Fetching.{number_shown, fetch_address, fetched_in}
 use Rattle.mem_tree.specs.InputTree.{input_root}
-use Rattle.open_proof.specs.Held.{held_of, held_after, number_shown, path_text, chunk_with}
-use Rattle.open_proof.specs.Called.{address_needed, fetch_address, fetched_in}
+use Rattle.open_proof.specs.Held.{held_of, held_after, path_text, chunk_with}
+use Rattle.open_proof.specs.Called.{address_needed}
 use Rattle.open_proof.specs.OpenedChunk.{IsShown, IsShownAt, fetched_at, fetch_of_state}
 use Rattle.open_proof.specs.Facts.{needed_by, byte_needed, byte_in, byte_shown, offer_shown}
 use Rattle.open_proof.specs.Next.{after_word, step_held}

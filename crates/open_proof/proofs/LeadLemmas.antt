@@ -18,11 +18,12 @@ use Rattle.rv_step.specs.Named.{named_by, AreRegisters}
 use Rattle.rv_step.specs.State.{State}
 use Rattle.rv_step.specs.Step.{step}
 use Rattle.rv_step.specs.Valid.{IsValid}
+use Rattle.rv_step.specs.Fetching.{fetch_address, fetched_in}
 use Rattle.state_commit.specs.StateRoot.{ctl_of, memory_digest, storage_digest, root_in}
 use Rattle.mem_tree.specs.InputTree.{input_root}
 use Rattle.mem_tree.specs.RegisterTree.{registers_root}
 use Rattle.open_proof.specs.Held.{held_of}
-use Rattle.open_proof.specs.Called.{fetch_address, fetched_in, address_needed}
+use Rattle.open_proof.specs.Called.{address_needed}
 use Rattle.open_proof.specs.OpenedChunk.{IsShownAt, fetched_at, fetch_of_state}
 use Rattle.open_proof.specs.Facts.{fetched, named_called, file_of, values_of, file_shown, file_of_facts, needed_by, byte_needed, offer_shown}
 use Rattle.open_proof.specs.Next.{step_held, storage_held, root_changed, held_shown, held_next, root_of_next, root_next}

@@ -4,8 +4,8 @@ use Rattle.rd_base.specs.declared.opened.InOpening.{InOpening}
 use Rattle.rd_base.specs.declared.opened.Opening.{Opening}
 use Rattle.rd_base.specs.declared.opened.RegOpening.{RegOpening}
 use Rattle.out_chain.specs.Collision.{first_collision}
+use Rattle.rv_step.specs.Fetching.{fetch_address}
 use Rattle.open_proof.specs.Opened.{first_there}
-use Rattle.open_proof.specs.Called.{fetch_address}
 use Rattle.open_proof.specs.Facts.{operand_called, input_called}
 use Rattle.open_proof.specs.Openings.{chunk_ways, register_way, each_way, register_ways, input_ways, fetch_ways, named_ways, operand_ways, read_ways}
 use Rattle.open_proof.specs.Ways.{Way, way_texts}

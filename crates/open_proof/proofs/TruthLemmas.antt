@@ -26,12 +26,13 @@ use Rattle.rv_step.specs.Step.{step}
 use Rattle.rv_step.specs.Valid.{IsValid, HasWordCode}
 use Rattle.rv_step.specs.declared.asked.Need.{Need}
 use Rattle.rv_step.specs.declared.asked.Need.TheVariants as need
+use Rattle.rv_step.specs.Fetching.{fetch_address}
 use Rattle.state_commit.specs.StateRoot.{ctl_of, memory_digest, registers_digest, storage_of, storage_digest, state_text_in, root_in}
 use Rattle.state_commit.specs.Strings.{IsStringIn}
 use Rattle.state_commit.specs.Strings.IsStringIn.{is_state, is_control, is_memory, is_registers, is_register, is_storage, is_input}
 use Rattle.mem_tree.specs.RegisterTree.{register_leaf, register_node, registers_root}
 use Rattle.mem_tree.specs.InputTree.{input_node, input_root}
-use Rattle.open_proof.specs.Called.{fetch_address, address_needed}
+use Rattle.open_proof.specs.Called.{address_needed}
 use Rattle.open_proof.specs.OpenedChunk.{IsShownAt, opening_at, siblings_of, fetch_of_state}
 use Rattle.open_proof.specs.Conditions.{AllHold, LeadsFrom, conditions}
 use Rattle.open_proof.specs.Facts.{facts_of, fetched, named_called, values_of, file_of, file_shown, file_of_facts, needed_by, needed_of, operand_called, byte_needed, input_called, offering}

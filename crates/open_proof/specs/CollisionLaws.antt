@@ -20,8 +20,8 @@ use Rattle.merkle_nodes.specs.PathLaws.{opens-climbs, one_opening}
 use Rattle.out_chain.specs.Root.{control_text_of}
 use Rattle.out_chain.specs.Collision.{first_collision}
 use Rattle.out_chain.specs.ClaimLaws.{collision-none, collision_of_same, first-collides, contains-tail}
+use Rattle.rv_step.specs.Fetching.{fetch_address}
 use Rattle.open_proof.specs.Opened.{first_there, texts_from}
-use Rattle.open_proof.specs.Called.{fetch_address}
 use Rattle.open_proof.specs.Conditions.{LeadsFrom}
 use Rattle.open_proof.specs.Facts.{facts_of, named_called, needed_of, operand_called, byte_needed, input_called}
 use Rattle.open_proof.specs.InRange.{is_in_range}

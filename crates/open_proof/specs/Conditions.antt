@@ -2,7 +2,7 @@
 -- leads from one root to another.
 use Rattle.std.specs.Prelude.{◌≡◌, ◌⊎◌, ℕ, List, [], ◌∷◌, is_some}
 use Rattle.rd_base.specs.declared.digest.Digest32.{Digest32}
-use Rattle.open_proof.specs.Called.{fetch_address}
+use Rattle.rv_step.specs.Fetching.{fetch_address}
 use Rattle.open_proof.specs.Facts.{named_called, operand_called, input_called}
 use Rattle.open_proof.specs.Openings.{AreCounted, fetch_ways, named_ways, operand_ways, read_ways}
 use Rattle.open_proof.specs.Next.{root_before, root_next}

@@ -12,7 +12,8 @@ use Rattle.rv_step.specs.Offer.{offered}
 use Rattle.rv_step.specs.Parts.{needed_in}
 use Rattle.rv_step.specs.declared.asked.Need.{Need}
 use Rattle.rv_step.specs.declared.asked.Need.TheVariants as need
-use Rattle.open_proof.specs.Called.{fetch_address, fetched_in, address_needed}
+use Rattle.rv_step.specs.Fetching.{fetch_address, fetched_in}
+use Rattle.open_proof.specs.Called.{address_needed}
 use Rattle.open_proof.specs.declared.facts.Facts.{Facts}
 use Rattle.open_proof.specs.declared.facts.HeldInput.{HeldInput}
 use Rattle.open_proof.specs.declared.facts.HeldRegisters.{HeldRegisters}

@@ -1,10 +1,10 @@
 -- To believe: a state seen from what a proof holds of it, where digests stand for memory and output, and what an effect changes of
 -- that. The law `shown_states_lead` ties the step on it to the step of the machine.
-use Rattle.std.specs.Prelude.{ℕ, ◌+◌, ◌/◌, ◌%◌, ◌^◌, List, Option, Some, None}
+use Rattle.std.specs.Prelude.{ℕ, ◌+◌, ◌/◌, ◌%◌, ◌^◌, List, Option, Some}
 use Rattle.rd_base.specs.declared.status.Ctl.{Ctl}
 use Rattle.rd_base.specs.declared.digest.Digest32.{Digest32}
 use Rattle.rd_base.specs.declared.opened.Opening.{Opening}
-use Rattle.mem_plain.specs.Page.{number_in, with_number_in}
+use Rattle.mem_plain.specs.Page.{with_number_in}
 use Rattle.digest_core.specs.Text.{leaf_text, link_text}
 use Rattle.merkle_nodes.specs.Node.{digest_at}
 use Rattle.merkle_nodes.specs.Opening.{opened}
@@ -23,11 +23,6 @@ pub record Held : Type 0 where
 -- what is held of a state
 abbrev pub held_of : (List ℕ → List ℕ) → State → Held
 held_of digest s = record { mem = memory_digest digest s; regs = s.regs; ctl = ctl_of digest s }
-
--- the number of this many bytes at an address, in the chunk that holds them
-abbrev pub number_shown : Option Opening → ℕ → ℕ → ℕ
-number_shown (Some o) addr width = number_in o.chunk (addr % 32) width
-number_shown None addr width = 0
 
 -- the string at a level of the path of an opened chunk that holds an address: its leaf string at level 0
 abbrev pub path_text : (List ℕ → List ℕ) → Opening → ℕ → ℕ → List ℕ

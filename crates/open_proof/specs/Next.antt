@@ -14,7 +14,8 @@ use Rattle.out_chain.specs.Root.{parts_text}
 use Rattle.rv_step.specs.Effect.{effect_with}
 use Rattle.rv_step.specs.Codes.{misaligned_jump, illegal_instruction}
 use Rattle.rv_step.specs.declared.effect.Effect.TheVariants.{Trap}
-use Rattle.open_proof.specs.Held.{Held, held_after, number_shown}
+use Rattle.rv_step.specs.Fetching.{number_shown}
+use Rattle.open_proof.specs.Held.{Held, held_after}
 use Rattle.open_proof.specs.Facts.{named_called, file_of_facts, offer_shown}
 use Rattle.open_proof.specs.declared.facts.Facts.{Facts}
 use Rattle.open_proof.specs.declared.facts.HeldInput.{HeldInput}

@@ -10,8 +10,8 @@ use Rattle.merkle_nodes.specs.Node.{beside}
 use Rattle.merkle_nodes.specs.Opening.{IsPath}
 use Rattle.mem_tree.specs.Memory.{memory_leaf, memory_node}
 use Rattle.rv_step.specs.State.{State}
+use Rattle.rv_step.specs.Fetching.{fetch_address}
 use Rattle.state_commit.specs.StateRoot.{ctl_of}
-use Rattle.open_proof.specs.Called.{fetch_address}
 
 -- the path of a chunk, by its index: the node beside it at each of the levels 0 to 26
 unfoldable pub siblings_of : (List ℕ → List ℕ) → Contents → ℕ → List Digest32

@@ -4,7 +4,7 @@ use Rattle.rd_base.specs.declared.opened.InOpening.{InOpening}
 use Rattle.rd_base.specs.declared.opened.Opening.{Opening}
 use Rattle.rd_base.specs.declared.opened.RegOpening.{RegOpening}
 use Rattle.digest_core.specs.Text.{leaf_text, register_text}
-use Rattle.open_proof.specs.Called.{fetch_address}
+use Rattle.rv_step.specs.Fetching.{fetch_address}
 use Rattle.open_proof.specs.Facts.{named_called, operand_called, input_called}
 use Rattle.open_proof.specs.Ways.{Way}
 use Rattle.open_proof.specs.declared.facts.Facts.{Facts}

@@ -4,17 +4,12 @@ ghost use Rattle.open_proof.specs.Facts as facts;
 
 mod called;
 mod laws;
-mod names;
 mod ranges;
 
-pub use called::{
-    Called, address_needed, byte_needed, called_by, fetch_address, fetched_in, file_shown,
-    needed_by, number_shown, offering,
-};
+pub use called::{Called, address_needed, byte_needed, called_by, file_shown, needed_by, offering};
 pub use laws::{
     plain_proofs_lead, proofs_lead_to_the_next_state, shown_states_lead, states_name_registers,
 };
-pub use names::{Names, named_by};
 pub use ranges::proofs_are_in_range;
 use rd_base::{Ctl, Digest32, InOpening, Opening, Proof, RegOpenings, Regs};
 

@@ -22,10 +22,9 @@ mod ways;
 
 pub use collision::{proofs_from_one_root, step_collision};
 pub use facts::{
-    Called, Facts, HeldInput, HeldRegisters, Names, address_needed, byte_needed, called_by,
-    facts_of, fetch_address, fetched_in, file_shown, named_by, needed_by, number_shown, offering,
-    plain_proofs_lead, proofs_are_in_range, proofs_lead_to_the_next_state, shown_states_lead,
-    states_name_registers,
+    Called, Facts, HeldInput, HeldRegisters, address_needed, byte_needed, called_by, facts_of,
+    file_shown, needed_by, offering, plain_proofs_lead, proofs_are_in_range,
+    proofs_lead_to_the_next_state, shown_states_lead, states_name_registers,
 };
 pub use proving::{make_claim, make_proof};
 pub use ways::{Way, changed_chunk, changed_register, climb, root_after, ways_climb, ways_of};

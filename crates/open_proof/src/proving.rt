@@ -12,7 +12,7 @@ mod called;
 mod opening;
 
 use crate::facts::plain_proofs_lead;
-use crate::proving::called::called_by;
+use crate::proving::called::called_by_state;
 use crate::proving::opening::{input_opening_at, named_openings, opening_at};
 use digest_core::{Digester, storage_text};
 use rd_base::{
@@ -77,7 +77,7 @@ pub fn make_claim<D: Digester>(
 fn proof_1<D: Digester>(committed: &Committed<D>) -> StepProof
     ensures { result ≡ plain.plain_proof_1 D.digest_of committed.now }
 {
-    let called = called_by(committed);
+    let called = called_by_state(committed);
     StepProof {
         mem: committed.memory().root(),
         regs: committed.machine().regs,
@@ -92,7 +92,7 @@ fn proof_2<D: Digester>(committed: &Committed<D>) -> StepProof2
     requires { committed.now.version ≡ 2 }
     ensures { result ≡ plain.plain_proof_2 D.digest_of committed.now }
 {
-    let called = called_by(committed);
+    let called = called_by_state(committed);
     StepProof2 {
         mem: committed.memory().root(),
         regs: committed.registers_digest(),
@@ -108,7 +108,7 @@ fn proof_3<D: Digester>(committed: &Committed<D>) -> StepProof3
     requires { committed.now.version ≡ 3 }
     ensures { result ≡ plain.plain_proof_3 D.digest_of committed.now }
 {
-    let called = called_by(committed);
+    let called = called_by_state(committed);
     StepProof3 {
         mem: committed.memory().root(),
         input_len: input_len(committed),

@@ -11,13 +11,14 @@ ghost use Rattle.open_proof.specs.Ways as way_specs;
 ghost use Rattle.open_proof.specs.Slots as slots;
 ghost use Rattle.open_proof.specs.Slots.{digest_after, digests_after, there};
 
-use crate::facts::{Called, Facts, HeldInput, HeldRegisters, fetch_address};
+use crate::facts::{Called, Facts, HeldInput, HeldRegisters};
 use digest_core::{Counted, Digester, leaf_text, register_text};
 use merkle_nodes::{climb_counted, climbing_is_opening, joined_text};
 use rd_base::{
     Digest32, InOpening, OpenText, Opening, Path, RegOpening, Regs, Steps, paths_have_27_levels,
     same_digest,
 };
+use rv_step::fetch_address;
 use std::marker::Model;
 use std::sync::ledger::Ledger;
 

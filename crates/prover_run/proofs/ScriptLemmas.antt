@@ -23,7 +23,7 @@ use Rattle.mem_plain.specs.Contents.{Contents, chunk_at, number_at}
 use Rattle.mem_plain.specs.Page.{number_in}
 use Rattle.rv_step.specs.Alike.{named_at}
 use Rattle.rv_step.specs.Named.{named_by}
-use Rattle.open_proof.specs.Called.{fetched_in}
+use Rattle.rv_step.specs.Fetching.{fetched_in}
 use Rattle.open_proof.specs.OpenedChunk.{opening_at, fetched_at, fetch_of_state}
 use Rattle.open_proof.specs.PlainProof.{register_opening, plain_proof, plain_proof_1, plain_proof_2, plain_proof_3}
 use Rattle.open_proof.specs.Shown.{word_of_state}

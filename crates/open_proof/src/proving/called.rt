@@ -5,13 +5,11 @@ ghost use Rattle.rv_step.specs.Named.{AreRegisters};
 ghost use Rattle.open_proof.specs.OpenedChunk as openings;
 ghost use Rattle.open_proof.specs.Shown as shown;
 
-use crate::facts::{
-    HeldInput, Names, address_needed, byte_needed, fetch_address, named_by, needed_by,
-    states_name_registers,
-};
+use crate::facts::{HeldInput, address_needed, byte_needed, needed_by, states_name_registers};
 use digest_core::Digester;
 use mem_plain::PlainMem;
 use rv_decode::{Instr, decode};
+use rv_step::{Names, fetch_address, named_by};
 use state_commit::{Committed, INPUT_TREE};
 
 /// The instruction at an address that is a multiple of 4, in memory.
@@ -43,7 +41,7 @@ fn tree_of<D: Digester>(committed: &Committed<D>) -> Option<HeldInput>
 
 /// For which openings a state calls.
 #[derive(Debug, Drop)]
-pub(crate) struct Called {
+pub(crate) struct CalledByState {
     /// The address of the word that it fetches.
     pub(crate) fetch: Option<u32>,
     /// The registers that its instruction names.
@@ -55,7 +53,7 @@ pub(crate) struct Called {
 }
 
 /// For which openings a machine's state calls.
-pub(crate) fn called_by<D: Digester>(committed: &Committed<D>) -> Called
+pub(crate) fn called_by_state<D: Digester>(committed: &Committed<D>) -> CalledByState
     ensures fetch { result.fetch ≡ openings.fetch_of_state D.digest_of committed.now }
     ensures names { result.names ≡ named_at committed.now }
     ensures registers { AreRegisters result.names }
@@ -69,7 +67,7 @@ pub(crate) fn called_by<D: Digester>(committed: &Committed<D>) -> Called
     let word = fetched_at(&machine.mem, fetch);
     let tree = tree_of(committed);
     let need = needed_by(&tree, &machine.regs, machine.ctl.pc, &word);
-    Called {
+    CalledByState {
         fetch,
         names: named_by(&word),
         operand: address_needed(need),

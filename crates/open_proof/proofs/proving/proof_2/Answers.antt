@@ -19,6 +19,6 @@ returns g c =
     } in
     let other : s.version ≢ 1 = λ one. absurd (omega (arith, one, c.requires)) in
     whole-2 digest s p (c.root.ensures s.memory c.memory.ensures.tree) (c.registers_digest.ensures ∙ tree-digest digest s.version s.regs other) c.ctl_of.ensures
-    (c.opening_at.ensures ∙ ap (opening_at digest s.memory) c.called_by-called.ensures.fetch)
-    (c.named_openings.ensures ∙ ap (λ (rs : List ℕ). map (register_opening digest s.regs) rs) (c.as_slice.ensures.value ∙ c.called_by-called.ensures.names))
-    (c.opening_at-2.ensures ∙ ap (opening_at digest s.memory) c.called_by-called.ensures.operand)
+    (c.opening_at.ensures ∙ ap (opening_at digest s.memory) c.called_by_state-called.ensures.fetch)
+    (c.named_openings.ensures ∙ ap (λ (rs : List ℕ). map (register_opening digest s.regs) rs) (c.as_slice.ensures.value ∙ c.called_by_state-called.ensures.names))
+    (c.opening_at-2.ensures ∙ ap (opening_at digest s.memory) c.called_by_state-called.ensures.operand)

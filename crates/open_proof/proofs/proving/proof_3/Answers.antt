@@ -23,7 +23,7 @@ returns g c =
     let other : s.version ≢ 1 = λ one. absurd (omega (arith, one, c.requires)) in
     whole-3 digest s p (c.root.ensures s.memory c.memory.ensures.tree) c.input_len.ensures (c.root-2.ensures.root s c.input.ensures c.requires)
     (c.registers_digest.ensures ∙ tree-digest digest s.version s.regs other) c.ctl_of.ensures
-    (c.opening_at.ensures ∙ ap (opening_at digest s.memory) c.called_by-called.ensures.fetch)
-    (c.named_openings.ensures ∙ ap (λ (rs : List ℕ). map (register_opening digest s.regs) rs) (c.as_slice.ensures.value ∙ c.called_by-called.ensures.names))
-    (c.opening_at-2.ensures ∙ ap (opening_at digest s.memory) c.called_by-called.ensures.operand)
-    (c.input_opening_at.ensures ∙ ap (input_opening_at digest s.input) c.called_by-called.ensures.input)
+    (c.opening_at.ensures ∙ ap (opening_at digest s.memory) c.called_by_state-called.ensures.fetch)
+    (c.named_openings.ensures ∙ ap (λ (rs : List ℕ). map (register_opening digest s.regs) rs) (c.as_slice.ensures.value ∙ c.called_by_state-called.ensures.names))
+    (c.opening_at-2.ensures ∙ ap (opening_at digest s.memory) c.called_by_state-called.ensures.operand)
+    (c.input_opening_at.ensures ∙ ap (input_opening_at digest s.input) c.called_by_state-called.ensures.input)

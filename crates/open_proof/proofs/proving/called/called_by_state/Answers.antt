@@ -7,7 +7,7 @@ use Rattle.open_proof.specs.Shown.{tree_of}
 use Rattle.open_proof.specs.declared.facts.HeldInput.{HeldInput}
 use Rattle.open_proof.proofs.CalledLemmas.{fetch-is, need-is, word-is}
 use Rattle.open_proof.proofs.WholeLemmas.{byte-within}
-use Rattle.open_proof.proofs.proving.called.called_by.Goals as goal
+use Rattle.open_proof.proofs.proving.called.called_by_state.Goals as goal
 
 pub returns-clause-fetch : goal.returns-clause-fetch
 returns-clause-fetch g c =
