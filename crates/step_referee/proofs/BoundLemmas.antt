@@ -9,6 +9,7 @@ use Rattle.rd_base.specs.declared.opened.RegOpening.{RegOpening}
 use Rattle.rd_base.specs.declared.proof.Proof.{Proof}
 use Rattle.rd_base.specs.declared.proof.Proof.TheVariants.{V1, V2, V3}
 use Rattle.rv_decode.specs.Reading.{reading_of}
+use Rattle.rv_decode.specs.Fields.{fields_of}
 use Rattle.rv_decode.specs.declared.instr.Instr.{Instr}
 use Rattle.rv_decode.specs.declared.instr.Instr.TheVariants.{Lb, Lh, Lw, Lbu, Lhu, Sb, Sh, Sw, Ecall}
 use Rattle.rv_step.specs.Effect.{effect_with, x}
@@ -18,8 +19,9 @@ use Rattle.rv_step.specs.Step.{regs_after}
 use Rattle.rv_step.specs.declared.asked.Need.TheVariants as need
 use Rattle.rv_step.specs.declared.effect.Effect.{Effect}
 use Rattle.rv_step.specs.declared.effect.Effect.TheVariants.{Write, Jump, Branch, Next, Store, Put, Exit, Trap}
-use Rattle.open_proof.specs.Held.{Held, held_after, number_shown}
-use Rattle.open_proof.specs.Called.{address_needed, fetch_address}
+use Rattle.rv_step.specs.Fetching.{number_shown, fetch_address}
+use Rattle.open_proof.specs.Held.{Held, held_after}
+use Rattle.open_proof.specs.Called.{address_needed}
 use Rattle.open_proof.specs.Facts.{facts_of, fetched, named_called, file_of_facts, needed_by, operand_called, byte_needed, input_called, offering, offer_shown}
 use Rattle.open_proof.specs.Next.{after_word, step_held, held_shown}
 use Rattle.open_proof.specs.Openings.{chunk_ways, each_way, input_ways}
@@ -165,7 +167,7 @@ call-address version number argument = go (eqb number 2) (eqb version 3)
     go false b = refl
 
 access-two : (version : ℕ) (xs : List ℕ) (i : Instr) → is_some (address_needed (needed_in version xs i)) ≡ true → length (named i) ≤ 2
-unfolding named needed_in first_source second_source destination
+unfolding named needed_in fields_of first_source second_source destination
 access-two version xs (Lb i) called = once-second i.rs1 i.rd
 access-two version xs (Lh i) called = once-second i.rs1 i.rd
 access-two version xs (Lw i) called = once-second i.rs1 i.rd
@@ -194,7 +196,7 @@ none-called : {A : Type 0} (o : Option ℕ) → o ≡ None → is_some o ≡ tru
 none-called o none called = absurd (true≢false (sym called ∙ ap is_some none))
 
 read-two : (t : HeldInput) (xs : List ℕ) (i : Instr) → is_some (byte_needed (Some t) (needed_in 3 xs i)) ≡ true → (length (named i) ≤ 2) × (address_needed (needed_in 3 xs i) ≡ None)
-unfolding named needed_in first_source second_source destination
+unfolding named needed_in fields_of first_source second_source destination
 read-two t xs (Lb i) called = none-called _ (load-reads-none t _ _ _ _) called
 read-two t xs (Lh i) called = none-called _ (load-reads-none t _ _ _ _) called
 read-two t xs (Lw i) called = none-called _ (load-reads-none t _ _ _ _) called

@@ -10,7 +10,8 @@ use Rattle.rv_step.specs.declared.asked.Need.{Need}
 use Rattle.rv_step.specs.declared.asked.Need.TheVariants as need
 use Rattle.rv_step.specs.declared.effect.Effect.{Effect}
 use Rattle.rv_step.specs.declared.effect.Effect.TheVariants.{Write, Jump, Branch, Next, Store, Put, Exit, Trap}
-use Rattle.open_proof.specs.Held.{Held, held_after, mem_after, number_shown}
+use Rattle.rv_step.specs.Fetching.{number_shown}
+use Rattle.open_proof.specs.Held.{Held, held_after, mem_after}
 use Rattle.open_proof.specs.Facts.{offering, byte_shown, offer_shown}
 use Rattle.open_proof.specs.declared.facts.HeldInput.{HeldInput}
 use Rattle.step_referee.specs.HeldParts.{links_of_effect}

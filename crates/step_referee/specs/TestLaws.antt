@@ -7,7 +7,7 @@ use Rattle.std.proofs.lemmas.Slice.Eq.{bytes_eq-Decides}
 use Rattle.rd_base.specs.declared.digest.Digest32.{Digest32}
 use Rattle.merkle_nodes.specs.Node.{digest_at}
 use Rattle.merkle_nodes.specs.PathLaws.{opens-climbs, climbs-opens}
-use Rattle.open_proof.specs.Called.{fetch_address}
+use Rattle.rv_step.specs.Fetching.{fetch_address}
 use Rattle.open_proof.specs.Conditions.{Refusal, Condition, AllHold, FirstFails, conditions, LeadsFrom}
 use Rattle.open_proof.specs.Conditions.Refusal.{shape, opening}
 use Rattle.open_proof.specs.Facts.{named_called, operand_called, input_called}

@@ -1,7 +1,7 @@
 -- Derived, tied to the conditions of a proof by the clauses of `check_step`: the answer by tests, in the order of the conditions.
 use Rattle.std.specs.Prelude.{ℕ, ◌+◌, ◌==◌, List, [], ◌∷◌, Bool, true, false, Option, Some, None, bytes_eq, if◌then◌else◌}
 use Rattle.rd_base.specs.declared.digest.Digest32.{Digest32}
-use Rattle.open_proof.specs.Called.{fetch_address}
+use Rattle.rv_step.specs.Fetching.{fetch_address}
 use Rattle.open_proof.specs.Conditions.{Refusal}
 use Rattle.open_proof.specs.Conditions.Refusal.{shape, opening}
 use Rattle.open_proof.specs.Facts.{named_called, operand_called, input_called}

@@ -10,7 +10,8 @@ use Rattle.rv_decode.specs.declared.instr.Instr.{Instr}
 use Rattle.rv_step.specs.Effect.{effect_with}
 use Rattle.rv_step.specs.declared.effect.Effect.{Effect}
 use Rattle.rv_step.specs.declared.effect.Effect.TheVariants.{Store, Put}
-use Rattle.open_proof.specs.Held.{Held, number_shown}
+use Rattle.rv_step.specs.Fetching.{number_shown}
+use Rattle.open_proof.specs.Held.{Held}
 use Rattle.open_proof.specs.Conditions.{Condition}
 use Rattle.open_proof.specs.Facts.{named_called, file_of_facts, offer_shown}
 use Rattle.open_proof.specs.Next.{held_shown, held_next}

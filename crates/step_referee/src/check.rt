@@ -18,11 +18,9 @@ use crate::check::carrying::{Parts, step_on};
 use crate::check::roots::{registers_changed, registers_held, root_of, storage_held};
 use digest_core::{Counted, Digester};
 pub use laws::leading_is_decided;
-use open_proof::{
-    Facts, HeldRegisters, called_by, facts_of, fetch_address, file_shown, ways_climb, ways_of,
-};
+use open_proof::{Facts, HeldRegisters, called_by, facts_of, file_shown, ways_climb, ways_of};
 use rd_base::{Digest32, Proof, Steps, same_digest};
-use rv_step::names_are_registers;
+use rv_step::{fetch_address, names_are_registers};
 use std::sync::ledger::Ledger;
 
 /// The result of the check of a proof of one step.

@@ -1,7 +1,7 @@
-//! The registers that an instruction names, of `open_proof`.
+//! The registers that an instruction names, of `rv_step`.
 
-use open_proof::named_by;
 use rv_decode::decode;
+use rv_step::named_by;
 
 /// The registers that each of some words names, in the order of its fields: what is read first, and last what is written.
 type Row = (&'static [u8], &'static [u32]);

@@ -4,18 +4,20 @@ ghost use Rattle.rd_base.specs.declared.opened.Opening.{Opening};
 ghost use Rattle.rv_step.specs.Effect.{effect_with};
 ghost use Rattle.rv_step.specs.Parts.{finished};
 ghost use Rattle.rv_step.specs.declared.effect.Effect.TheVariants as effects;
-ghost use Rattle.open_proof.specs.Held.{held_after, number_shown as shown};
+ghost use Rattle.rv_step.specs.Fetching.{number_shown as shown};
+ghost use Rattle.open_proof.specs.Held.{held_after};
 ghost use Rattle.open_proof.specs.Facts as facts_of_proof;
 ghost use Rattle.open_proof.specs.Next.{step_held};
 ghost use Rattle.step_referee.specs.HeldParts.{held_in, links_of_effect};
 ghost use Rattle.step_referee.specs.Ticks.{digests_of_effect, digests_on};
 
 use digest_core::{Counted, link_text};
-use open_proof::{Facts, HeldInput, changed_chunk, number_shown, offering, root_after};
+use open_proof::{Facts, HeldInput, changed_chunk, offering, root_after};
 use rd_base::{Ctl, Digest32, InOpening, Regs, Status, Steps};
 use rv_decode::{Instr, decode};
 use rv_step::{
-    ILLEGAL_INSTRUCTION, MISALIGNED_JUMP, Need, Outcome, finish, need, two_parts_are_the_step,
+    ILLEGAL_INSTRUCTION, MISALIGNED_JUMP, Need, Outcome, finish, need, number_shown,
+    two_parts_are_the_step,
 };
 use std::sync::ledger::Ledger;
 
