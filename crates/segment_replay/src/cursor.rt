@@ -16,7 +16,7 @@ use mem_plain::PlainMem;
 use mem_tree::{MemTree, input_root};
 use rd_base::{Digest32, Memory};
 use rv_step::Machine;
-use state_commit::{INPUT_TREE, KeptRegisters, root_of_parts};
+use state_commit::{INPUT_TREE, KeptRegisters, Parts, root_of_parts};
 use std::alloc::Global;
 use std::thread::Threads;
 
@@ -262,6 +262,13 @@ pub fn run_input_root<D: Digester>(d: D, run: &Run) -> Digest32
     }
 }
 
+/// A cursor, and the root of a step whose state its machine has.
+#[derive(Drop)]
+pub struct Rooted<D: Digester> {
+    pub cursor: Cursor<D>,
+    pub root: Digest32,
+}
+
 /// The root of a step, and a cursor for the next one. From version 2 on those leaves alone of the
 /// registers are digested that differ from those of the root before. An `Err` is out of memory.
 pub fn root_of_step<D: Digester + Send + Sync, R: Threads + Sync>(
@@ -271,27 +278,24 @@ pub fn root_of_step<D: Digester + Send + Sync, R: Threads + Sync>(
     registers: &mut KeptRegisters<D>,
     kept: Option<Cursor<D>>,
     step: u64,
-) -> Result<(Cursor<D>, Digest32), Memory>
+) -> Result<Rooted<D>, Memory>
     requires registers { registers.old ≡ replay.now.run.now.first.version }
     requires machine { IfSome kept (λ c. IsMachineOf D.digest_of replay.now.run.now c.at c.machine) }
     requires tree { IfSome kept (λ c. IsFresh D.digest_of c.tree c.machine.mem) }
     ensures registers { registers.new ≡ registers.old }
-    ensures machine { IfOk result (λ r. IsMachineOf D.digest_of replay.now.run.now r.0.at r.0.machine) }
-    ensures tree { IfOk result (λ r. IsFresh D.digest_of r.0.tree r.0.machine.mem) }
-    ensures root { IfOk result (λ r. r.1.0 ≡ root_at D.digest_of replay.now.run.now step) }
+    ensures machine { IfOk result (λ r. IsMachineOf D.digest_of replay.now.run.now r.cursor.at r.cursor.machine) }
+    ensures tree { IfOk result (λ r. IsFresh D.digest_of r.cursor.tree r.cursor.machine.mem) }
+    ensures root { IfOk result (λ r. r.root.0 ≡ root_at D.digest_of replay.now.run.now step) }
 {
     tampered_runs_keep_the_input();
     let goal = goal_of(replay.run, step);
     let cursor = cursor_at(rt, alloc, replay, kept, goal)?;
     let machine = &cursor.machine;
-    let digest = registers.digest(&machine.regs);
-    let root = root_of_parts(
-        replay.d,
-        machine.version,
-        cursor.tree.root(),
-        digest,
-        replay.input,
-        machine,
-    );
-    Ok((cursor, root))
+    let parts = Parts {
+        memory: cursor.tree.root(),
+        registers: registers.digest(&machine.regs),
+        input: replay.input,
+    };
+    let root = root_of_parts(replay.d, machine.version, &parts, machine);
+    Ok(Rooted { cursor, root })
 }

@@ -6,7 +6,7 @@ ghost use Rattle.segment_replay.specs.Roots.{IsInputRoot, root_at, digests};
 ghost use Rattle.segment_replay.specs.Cursor.{IsKept};
 ghost use Rattle.segment_replay.specs.Pieces.{ArePieces};
 
-use crate::cursor::{Cursor, machine_of_step, root_of_step, run_input_root};
+use crate::cursor::{Cursor, Rooted, machine_of_step, root_of_step, run_input_root};
 use crate::replay::Replay;
 use checkpoint_run::Run;
 use digest_core::Digester;
@@ -43,8 +43,8 @@ fn replayed<D: Digester + Send + Sync, R: Threads + Sync>(
     'steps: for step in steps {
         let kept = worker.cursor.take();
         let registers = &mut worker.registers;
-        let (moved, root) = root_of_step(rt, alloc, replay, registers, kept, *step)?;
-        worker.cursor = Some(moved);
+        let Rooted { cursor, root } = root_of_step(rt, alloc, replay, registers, kept, *step)?;
+        worker.cursor = Some(cursor);
         roots.push(root)?;
     }
     Ok(roots)

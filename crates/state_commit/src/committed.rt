@@ -5,7 +5,7 @@ ghost use Rattle.mem_tree.specs.Tree.{IsTreeOf};
 ghost use Rattle.rv_step.specs.State.{state_of};
 ghost use Rattle.state_commit.specs.Committing.{HasTreeFor, HasRegisters, HasInput};
 
-use crate::root::{WHOLE_REGISTERS, root_of_parts};
+use crate::root::{Parts, WHOLE_REGISTERS, root_of_parts};
 use crate::shared_input::SharedInput;
 use digest_core::{Digester, registers_text};
 use mem_plain::PlainMem;
@@ -201,14 +201,12 @@ impl<D: Digester> Committed<D> {
     pub fn root(&self) -> Digest32
         ensures { result.0 ≡ root_in D.digest_of self.now.version self.now }
     {
-        root_of_parts(
-            self.d,
-            self.machine.version,
-            self.memory.root(),
-            self.registers_digest(),
-            self.input.root(),
-            &self.machine,
-        )
+        let parts = Parts {
+            memory: self.memory.root(),
+            registers: self.registers_digest(),
+            input: self.input.root(),
+        };
+        root_of_parts(self.d, self.machine.version, &parts, &self.machine)
     }
 
     /// The path of a chunk of the machine's memory, by the chunk's index below 2^27: its sibling at each level below the root, the

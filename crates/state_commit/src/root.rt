@@ -50,26 +50,28 @@ fn storage_digest<D: Digester>(
     }
 }
 
-/// The root of a machine's state in a version of the commitment, from the root of its memory, the digest of its registers in this version,
-/// and the root of its input, which only version 3 needs. The machine's chain is that of its output, by this digester. It takes two
-/// digests, and in version 3 three.
-pub fn root_of_parts<D: Digester>(
-    d: D,
-    version: u32,
-    memory: Digest32,
-    registers: Digest32,
-    input: Digest32,
-    machine: &Machine,
-) -> Digest32
+/// The digests of a state's parts in a version of the commitment: the root of its memory, the digest of its registers in this version,
+/// and the root of its input, which only version 3 needs.
+#[derive(Clone, Copy)]
+pub struct Parts {
+    pub memory: Digest32,
+    pub registers: Digest32,
+    pub input: Digest32,
+}
+
+/// The root of a machine's state in a version of the commitment, from the digests of its parts. The machine's chain is that of its
+/// output, by this digester. It takes two digests, and in version 3 three.
+pub fn root_of_parts<D: Digester>(d: D, version: u32, parts: &Parts, machine: &Machine) -> Digest32
     requires chained { IsChained D.digest_of machine.now }
-    requires memory { memory.0 ≡ state.memory_digest D.digest_of (state_of machine.now) }
-    requires registers { registers.0 ≡ state.registers_digest D.digest_of version machine.now.regs }
-    requires input { version ≡ 3 → input.0 ≡ inputs.input_root D.digest_of machine.now.input.items }
+    requires memory { parts.now.memory.0 ≡ state.memory_digest D.digest_of (state_of machine.now) }
+    requires registers { parts.now.registers.0 ≡ state.registers_digest D.digest_of version machine.now.regs }
+    requires input { version ≡ 3 → parts.now.input.0 ≡ inputs.input_root D.digest_of machine.now.input.items }
     ensures { result.0 ≡ state.root_in D.digest_of version (state_of machine.now) }
 {
     let _out_len = machine.ctl.out_len;
-    let storage = storage_digest(d, version, memory, machine.input.len() as u32, input);
-    parts_root(d, storage, registers, &machine.ctl)
+    let input_len = machine.input.len() as u32;
+    let storage = storage_digest(d, version, parts.memory, input_len, parts.input);
+    parts_root(d, storage, parts.registers, &machine.ctl)
 }
 
 /// The root of the input that a state's root has in a version of the commitment: 32 zeros in a version that has none.
@@ -90,14 +92,12 @@ pub fn state_root<D: Digester>(d: D, version: u32, machine: &Machine) -> Digest3
     requires { IsChained D.digest_of machine.now }
     ensures { result.0 ≡ state.root_in D.digest_of version (state_of machine.now) }
 {
-    root_of_parts(
-        d,
-        version,
-        memory_root(d, &machine.mem),
-        registers_digest(d, version, &machine.regs),
-        input_part(d, version, &machine.input),
-        machine,
-    )
+    let parts = Parts {
+        memory: memory_root(d, &machine.mem),
+        registers: registers_digest(d, version, &machine.regs),
+        input: input_part(d, version, &machine.input),
+    };
+    root_of_parts(d, version, &parts, machine)
 }
 
 /// The root of a machine's state in its own version, from the tree of its input. It is made from scratch but for the input, no part of
@@ -107,12 +107,10 @@ pub fn state_root_with<D: Digester>(d: D, machine: &Machine, input: &SharedInput
     requires input { HasInput D.digest_of (state_of machine.now) input.now }
     ensures { result.0 ≡ state.root_in D.digest_of machine.now.version (state_of machine.now) }
 {
-    root_of_parts(
-        d,
-        machine.version,
-        memory_root(d, &machine.mem),
-        registers_digest(d, machine.version, &machine.regs),
-        input.root(),
-        machine,
-    )
+    let parts = Parts {
+        memory: memory_root(d, &machine.mem),
+        registers: registers_digest(d, machine.version, &machine.regs),
+        input: input.root(),
+    };
+    root_of_parts(d, machine.version, &parts, machine)
 }

@@ -10,7 +10,7 @@ root_of_parts-root-requires-clause-registers g c =
     let r = c.args.replay.now.run.now in
     let m = c.in_ok-cursor.cursor.machine in
     let kept : m.version ≡ r.first.version = ap (λ (s : State). s.version) c.in_ok-cursor.ensures.machine.state ∙ c.tampered_runs_keep_the_input.ensures.version r.tamper r.first c.goal_of-goal.result in
-    c.digest-digest.ensures.value ∙ ap (λ (v : ℕ). registers_digest g.D.Digester.digest_of v m.regs) (c.requires.registers ∙ sym kept)
+    c.digest.ensures.value ∙ ap (λ (v : ℕ). registers_digest g.D.Digester.digest_of v m.regs) (c.requires.registers ∙ sym kept)
 
 pub root_of_parts-root-requires-clause-input : goal.root_of_parts-root-requires-clause-input
 root_of_parts-root-requires-clause-input g c three =
