@@ -37,8 +37,7 @@ impl Model for Room {
 }
 
 impl Room {
-    /// Room for a dispute over `bound` steps, from 1 to 2^32 - 1, of which a round cuts its interval in `fan` parts, from 2 to 16. An `Err`
-    /// is out of memory.
+    /// Room for a dispute over `bound` steps, from 1 to 2^32 - 1, of which a round cuts its interval in `fan` parts, from 2 to 16.
     pub fn new(alloc: Global, bound: u64, fan: u32) -> Result<Room, Memory>
         requires some { 0 < bound }
         requires short { bound < 2 ^ 32 }

@@ -6,6 +6,7 @@
 //! by laws that every judge proves. The layers above may rely on this: each call of a `Dispute` is the definition of a dispute
 //! (`specs/Bisection.antt`, `specs/Closing.antt`) moved one answer at a time, and takes no memory once its `Room` was made; the laws in
 //! `laws` hold of that definition. Read `setup`, `question`, `settled` and `judge` first, then `dispute`; `rounds` decides a round.
+//! An `Err` that no comment names is out of memory.
 #![tactic(auto)]
 
 mod answerer;

@@ -102,7 +102,7 @@ pub fn kept_part(parts: u32, first: &[Digest32], second: &[Digest32]) -> u32
 }
 
 /// The root at cut `j`. That at cut 0 is `first`, and the list has those after it.
-fn before(first: Digest32, roots: &[Digest32], j: usize) -> Digest32
+fn root_at_cut(first: Digest32, roots: &[Digest32], j: usize) -> Digest32
     requires { j ≤ length roots.now }
     ensures { result ≡ slice_index_or (first ∷ roots.now) j first }
 {
@@ -110,7 +110,7 @@ fn before(first: Digest32, roots: &[Digest32], j: usize) -> Digest32
 }
 
 /// The root at the cut after `j`. That at the last cut is `last`, and the list has those before it.
-fn after(roots: &[Digest32], last: Digest32, j: usize) -> Digest32
+fn root_after_cut(roots: &[Digest32], last: Digest32, j: usize) -> Digest32
     requires { j ≤ length roots.now }
     ensures { result ≡ slice_index_or (roots.now ++ last ∷ []) j last }
 {
@@ -124,18 +124,18 @@ pub(crate) fn kept(place: Interval, parts: u32, first: &Settled, second: &Settle
     requires long { parts ≤ place.hi - place.lo }
     ensures { result ≡ kept parts place (roots_of first.now) (roots_of second.now) }
 {
-    let mine = roots_of(first);
-    let yours = roots_of(second);
-    let j = kept_part(parts, mine, yours);
-    let agreed = before(place.agreed, mine, j as usize);
-    let my_root = after(mine, place.first, j as usize);
-    let your_root = after(yours, place.second, j as usize);
+    let of_first = roots_of(first);
+    let of_second = roots_of(second);
+    let j = kept_part(parts, of_first, of_second);
+    let agreed = root_at_cut(place.agreed, of_first, j as usize);
+    let first_root = root_after_cut(of_first, place.first, j as usize);
+    let second_root = root_after_cut(of_second, place.second, j as usize);
     Interval {
         lo: cut(place.lo, place.hi, parts, j),
         hi: cut(place.lo, place.hi, parts, j + 1),
         agreed,
-        first: my_root,
-        second: your_root,
+        first: first_root,
+        second: second_root,
     }
 }
 
@@ -169,8 +169,8 @@ fn both_proved<J: Judge>(judge: &J, agreed: Digest32, first: &Settled, second: &
     ensures { result ≡ both_proved (J.ruling (J.names judge.now)) agreed first.now second.now }
 {
     match (first, second) {
-        (Settled::Given(Answer::Step(mine)), Settled::Given(Answer::Step(yours))) => {
-            match judge.step_collision(agreed, mine.get(), yours.get()) {
+        (Settled::Given(Answer::Step(of_first)), Settled::Given(Answer::Step(of_second))) => {
+            match judge.step_collision(agreed, of_first.get(), of_second.get()) {
                 Some((x, y)) => Close::Collision(x, y),
                 None => Close::Out {
                     first: true,

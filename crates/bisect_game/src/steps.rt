@@ -16,7 +16,7 @@ fn can_cut(lo: u64, hi: u64, parts: u32) -> bool
     2 <= parts && (parts <= MOST_PARTS && u64::from(parts) <= hi.saturating_sub(lo))
 }
 
-/// The cuts between the ends of an interval, or its beginning if there are none. An `Err` is out of memory.
+/// The cuts between the ends of an interval, or its beginning if there are none.
 pub fn steps_asked(alloc: Global, lo: u64, hi: u64, parts: u32) -> Result<Vec<u64>, Memory>
     ensures value { IfOk result (λ v. v.items ≡ steps_asked lo hi parts) }
     ensures some { IfOk result (λ v. 0 < length v.items) }

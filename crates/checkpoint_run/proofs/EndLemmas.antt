@@ -5,7 +5,7 @@ use Rattle.std.specs.Option.{option_map}
 use Rattle.digest_core.specs.Chain.{chain_of}
 use Rattle.rv_step.specs.State.{State}
 use Rattle.checkpoint_run.specs.Recorded.{Recorded, KeptChain, AreChained, state_of_step, still_of}
-use Rattle.checkpoint_run.specs.Keeping.{Stands, AllStand, IsFound, IsRecorded, first_by, state_by, step_at, found_at, kept_chain}
+use Rattle.checkpoint_run.specs.Keeping.{StandsFor, AllStand, IsFound, IsRecorded, first_by, state_by, step_at, found_at, kept_chain}
 use Rattle.checkpoint_run.specs.UnderWay.{AllChained}
 use Rattle.checkpoint_run.proofs.RunLemmas.{KeepsInput, run_input}
 use Rattle.checkpoint_run.specs.declared.checkpoint.Checkpoint.{Checkpoint}
@@ -56,11 +56,11 @@ module _ (r now : Recorded) (until : ℕ) (cs : List Checkpoint) (versions : Lis
   same_state : state_of_step now c.step ≡ state_of_step now (k * now.every)
   same_state = ap (λ (x : Checkpoint). state_of_step now x.step) (sym found_is) ∙ its.same
 
-  pub stands_within : Stands c versions output (state_of_step now (k * now.every))
+  pub stands_within : StandsFor c versions output (state_of_step now (k * now.every))
   stands_within =
       let P : Recorded → Type 0 = λ x. AllStand cs versions output (state_of_step x) in
-      let Q : Option Checkpoint → Type 0 = λ o. IfSome o (λ x. Stands x versions output (state_of_step now x.step)) in
-      subst (Stands c versions output) same_state (subst Q (its.there ∙ ap Some found_is) (subst P same kept.each (found_at cs now.every k)))
+      let Q : Option Checkpoint → Type 0 = λ o. IfSome o (λ x. StandsFor x versions output (state_of_step now x.step)) in
+      subst (StandsFor c versions output) same_state (subst Q (its.there ∙ ap Some found_is) (subst P same kept.each (found_at cs now.every k)))
 
   pub chained_within : r.chains ≡ map kept_chain cs → (digest : List ℕ → List ℕ) → AreChained digest now → c.ctl.chain.0 ≡ chain_of digest (state_of_step now (k * now.every)).output
   chained_within chains digest chained =

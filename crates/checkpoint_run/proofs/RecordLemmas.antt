@@ -13,7 +13,7 @@ use Rattle.checkpoint_run.specs.TamperedRun.{run_from}
 use Rattle.checkpoint_run.specs.Versions.{is_among, AreBelow, IsShownBut}
 use Rattle.checkpoint_run.specs.NamedPages.{IsNamed, ArePages}
 use Rattle.checkpoint_run.specs.WrittenPages.{stored_by, flipped_by, written_by, how_many, writes}
-use Rattle.checkpoint_run.specs.Keeping.{Stands, AllStand, IsAdded, at_first, state_by}
+use Rattle.checkpoint_run.specs.Keeping.{StandsFor, AllStand, IsAdded, at_first, state_by}
 use Rattle.rv_step.specs.declared.machine.Machine.{Machine}
 use Rattle.checkpoint_run.specs.UnderWay.{AllChained, IsKeptTo}
 use Rattle.checkpoint_run.specs.declared.recording.Kept.{Kept}
@@ -31,7 +31,7 @@ slice_get_seam [] y ys = refl
 slice_get_seam (x ∷ xs) y ys = slice_get_seam xs y ys
 
 -- versions and output that are added change no checkpoint
-pub stands_on : (c : Checkpoint) (versions added : List Version) (output more : List ℕ) (s : State) → Stands c versions output s → Stands c (versions ++ added) (output ++ more) s
+pub stands_on : (c : Checkpoint) (versions added : List Version) (output more : List ℕ) (s : State) → StandsFor c versions output s → StandsFor c (versions ++ added) (output ++ more) s
 stands_on c versions added output more s stands = record {
   versions_there = omega (arith, length-append versions added, stands.versions_there);
   output_there = omega (arith, length-append output more, stands.output_there);
@@ -41,7 +41,7 @@ stands_on c versions added output more s stands = record {
 pub all_stand_on : (cs : List Checkpoint) (versions added : List Version) (output more : List ℕ) (run : ℕ → State) → AllStand cs versions output run → AllStand cs (versions ++ added) (output ++ more) run
 all_stand_on cs versions added output more run all k = each (slice_get cs k) (all k)
   where
-    each : (o : Option Checkpoint) → IfSome o (λ c. Stands c versions output (run c.step)) → IfSome o (λ c. Stands c (versions ++ added) (output ++ more) (run c.step))
+    each : (o : Option Checkpoint) → IfSome o (λ c. StandsFor c versions output (run c.step)) → IfSome o (λ c. StandsFor c (versions ++ added) (output ++ more) (run c.step))
     each (Some c) stands = stands_on c versions added output more (run c.step) stands
     each None nothing = tt
 
@@ -134,7 +134,7 @@ all_stand_added cs new versions step s ctl run all added pc status len here =
     let Q : List Checkpoint → Type 0 = λ xs. AllStand xs versions s.output run in
     let whole : take added.checkpoint.versions versions ≡ versions = take_all added.checkpoint.versions versions (omega (arith, added.versions_are)) in
     let out : take added.checkpoint.ctl.out_len s.output ≡ s.output = take_all added.checkpoint.ctl.out_len s.output (omega (arith, ap (λ x. x.out_len) added.ctl_is, len)) in
-    subst Q (sym added.pushed) (pushed (λ c. Stands c versions s.output (run c.step)) cs added.checkpoint all (record {
+    subst Q (sym added.pushed) (pushed (λ c. StandsFor c versions s.output (run c.step)) cs added.checkpoint all (record {
       versions_there = omega (arith, added.versions_are);
       output_there = omega (arith, ap (λ x. x.out_len) added.ctl_is, len);
       state =

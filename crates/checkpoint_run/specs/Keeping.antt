@@ -30,14 +30,14 @@ first_by [] versions output version input = record { regs = []; pc = 0; memory =
 first_by (c ∷ rest) versions output version input = state_by c versions output version input
 
 -- a checkpoint has its versions and its output, and stands for a state
-pub record Stands (c : Checkpoint) (versions : List Version) (output : List ℕ) (s : State) : Type 0 where
+pub record StandsFor (c : Checkpoint) (versions : List Version) (output : List ℕ) (s : State) : Type 0 where
   pub versions_there : c.versions ≤ length versions
   pub output_there : c.ctl.out_len ≤ length output
   pub state : state_by c versions output s.version s.input ≡ s
 
 -- each checkpoint stands for the state of its step
 abbrev pub AllStand : List Checkpoint → List Version → List ℕ → (ℕ → State) → Type 0
-AllStand checkpoints versions output run = (k : ℕ) → IfSome (slice_get checkpoints k) (λ c. Stands c versions output (run c.step))
+AllStand checkpoints versions output run = (k : ℕ) → IfSome (slice_get checkpoints k) (λ c. StandsFor c versions output (run c.step))
 
 -- the step of the checkpoint at a place
 abbrev pub step_at : List Checkpoint → ℕ → ℕ

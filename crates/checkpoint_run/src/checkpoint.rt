@@ -24,7 +24,7 @@ pub struct Checkpoint {
     pub versions: usize,
 }
 
-/// The pages of a memory that have a byte other than 0, and no others. An `Err` is out of memory.
+/// The pages of a memory that have a byte other than 0, and no others.
 pub fn used_pages(alloc: Global, mem: &PlainMem) -> Result<BTreeSet<u32>, Memory>
     ensures pages { IfOk result (λ s. AreBelow s.keys) }
     ensures shown { IfOk result (λ s. IsShownBut [] s.keys mem.now) }
@@ -59,7 +59,7 @@ fn add_versions(
 }
 
 /// Adds the checkpoint of a step with the state of a machine, with one version of each page in `changed` and of no other. Outside these
-/// pages the memory is what the versions so far show. `changed` is empty then. An `Err` is out of memory.
+/// pages the memory is what the versions so far show. `changed` is empty then.
 pub fn add_checkpoint(
     step: u64,
     machine: &Machine,
@@ -103,7 +103,7 @@ pub fn place_of(checkpoints: &[Checkpoint], every: u32, checkpoint: u64) -> usiz
     }
 }
 
-/// Puts the last version of a page that is below a place into a memory, if there is one. An `Err` is out of memory.
+/// Puts the last version of a page that is below a place into a memory, if there is one.
 fn put_last(
     versions: &[Version],
     index: &PagePlaces,
@@ -126,7 +126,7 @@ fn put_last(
 }
 
 /// The memory that the first `count` of some versions stand for. It copies the last version of each page, which is found by the page's
-/// places. An `Err` is out of memory.
+/// places.
 pub fn restored(
     alloc: Global,
     versions: &[Version],

@@ -18,6 +18,7 @@
 //! `specs/Keeping.antt`); the code of `record_run` shows that the first checkpoint has those of the pages in use at step 0 (`used_pages`,
 //! clause `only`). The page of a checkpoint is found by a search among the places of the page's versions (`page_places`). The code of
 //! `checkpoint` shows how much other memory a checkpoint takes. Read `specs/TamperedRun.antt` first, then `run`, then `recording`.
+//! An `Err` that no comment names is out of memory.
 #![tactic(auto)]
 
 mod checkpoint;

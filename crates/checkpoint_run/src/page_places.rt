@@ -15,7 +15,7 @@ pub struct PagePlaces {
     pub places: BTreeMap<u32, Vec<usize>>,
 }
 
-/// Takes the places of a page out of an index, which names the page from now on. An `Err` is out of memory.
+/// Takes the places of a page out of an index, which names the page from now on.
 fn take_places(alloc: Global, index: &mut PagePlaces, page: u32) -> Result<Vec<usize>, Memory>
     ensures taken { IfOk result (λ v. v.items ≡ places_at index.old.places.entries page) }
     ensures others { (p : ℕ) → p ≢ page → places_at index.new.places.entries p ≡ places_at index.old.places.entries p }
@@ -31,7 +31,7 @@ fn take_places(alloc: Global, index: &mut PagePlaces, page: u32) -> Result<Vec<u
     }
 }
 
-/// Adds the place of a version of a page, behind all that were added. An `Err` is out of memory.
+/// Adds the place of a version of a page, behind all that were added.
 fn add_place(alloc: Global, index: &mut PagePlaces, page: u32, place: usize) -> Result<(), Memory>
     ensures { (pages : List ℕ) → slice_index pages place ≡ page → IsIndex index.old.places.entries index.old.pages.items pages place → OnOk result (IsIndex index.new.places.entries index.new.pages.items pages (place + 1)) }
 {
@@ -41,7 +41,7 @@ fn add_place(alloc: Global, index: &mut PagePlaces, page: u32, place: usize) -> 
     Ok(())
 }
 
-/// The places of the versions of each page. An `Err` is out of memory.
+/// The places of the versions of each page.
 pub fn index_of(alloc: Global, versions: &[Version]) -> Result<PagePlaces, Memory>
     ensures { IfOk result (λ x. IsIndex x.places.entries x.pages.items (pages_of versions.now) (length versions.now)) }
 {

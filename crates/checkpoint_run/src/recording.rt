@@ -42,7 +42,7 @@ pub struct Recording {
     pub kept: Kept,
 }
 
-/// The machine of step 0, after what the tamper does there. An `Err` is out of memory.
+/// The machine of step 0, after what the tamper does there.
 fn first_machine(machine: &Machine, tamper: &Tamper) -> Result<Machine, Memory>
     ensures state { IfOk result (λ m. state_of m ≡ tampered tamper.now 0 (state_of machine.now)) }
     ensures chained { (digest : List ℕ → List ℕ) → IsChained digest machine.now → IfOk result (λ m. IsChained digest m) }
@@ -52,7 +52,7 @@ fn first_machine(machine: &Machine, tamper: &Tamper) -> Result<Machine, Memory>
     Ok(first)
 }
 
-/// The recording at step 0, with a checkpoint due after every `every` steps. An `Err` is out of memory.
+/// The recording at step 0, with a checkpoint due after every `every` steps.
 pub fn begin(
     alloc: Global,
     machine: &Machine,
@@ -83,7 +83,7 @@ pub fn begin(
     })
 }
 
-/// Places at which no page is named. An `Err` is out of memory.
+/// Places at which no page is named.
 fn none_lately(alloc: Global) -> Result<Vec<u64>, Memory>
     ensures places { IfOk result (λ lately. vec_len lately ≡ 256) }
     ensures none { IfOk result (λ lately. (pages : List ℕ) → AreNoted lately.items pages) }
@@ -99,8 +99,7 @@ fn forget(lately: &mut Vec<u64>)
     lately.fill(0);
 }
 
-/// Notes a page that was written, if one is named, and no other. One that was noted lately isn't looked up among all. An `Err`
-/// is out of memory.
+/// Notes a page that was written, if one is named, and no other. One that was noted lately isn't looked up among all.
 fn note(changed: &mut BTreeSet<u32>, lately: &mut Vec<u64>, page: Option<u32>) -> Result<(), Memory>
     requires places { vec_len lately.old ≡ 256 }
     requires noted { AreNoted lately.old.items changed.old.keys }
@@ -127,7 +126,7 @@ fn note(changed: &mut BTreeSet<u32>, lately: &mut Vec<u64>, page: Option<u32>) -
     }
 }
 
-/// Takes the machine of a step to the next one, and notes the pages that were written. An `Err` is out of memory.
+/// Takes the machine of a step to the next one, and notes the pages that were written.
 #[inline(always)]
 fn follow_noted<D: Digester>(
     d: D,
@@ -148,7 +147,7 @@ fn follow_noted<D: Digester>(
     Ok(())
 }
 
-/// Keeps the checkpoint of a step with the state of a machine. An `Err` is out of memory.
+/// Keeps the checkpoint of a step with the state of a machine.
 fn keep(step: u64, machine: &Machine, kept: &mut Kept) -> Result<(), Memory>
     requires pages { AreBelow kept.old.changed.keys }
     requires shown { IsShownBut kept.old.versions.items kept.old.changed.keys machine.now.mem }
@@ -167,7 +166,7 @@ fn keep(step: u64, machine: &Machine, kept: &mut Kept) -> Result<(), Memory>
     Ok(())
 }
 
-/// Takes the recording to the next step. An `Err` is out of memory.
+/// Takes the recording to the next step.
 #[inline(always)]
 fn go_on<D: Digester>(
     d: D,
@@ -198,7 +197,7 @@ fn go_on<D: Digester>(
     Ok(())
 }
 
-/// What `record_moves` does, in one loop for every tamper. An `Err` is out of memory.
+/// What `record_moves` does, in one loop for every tamper.
 #[inline(always)]
 fn record_steps<D: Digester>(
     d: D,
@@ -219,7 +218,7 @@ fn record_steps<D: Digester>(
 }
 
 /// Takes a recording at step 0 to the bound, or to the step from which no step changes anything but what a tamper does, if that comes
-/// first. An `Err` is out of memory.
+/// first.
 ///
 /// A run that nobody tampers with has a loop of its own, which takes no instruction to ask what a tamper does.
 fn record_moves<D: Digester>(
@@ -241,7 +240,7 @@ fn record_moves<D: Digester>(
 }
 
 /// Keeps the state of a run that has ended, if its next checkpoint lies before the step of a tamper that is still to come. It is found
-/// for each checkpoint before that step, however many there are. An `Err` is out of memory.
+/// for each checkpoint before that step, however many there are.
 fn keep_ended(due: u64, step: u64, machine: &Machine, kept: &mut Kept) -> Result<(), Memory>
     requires pages { AreBelow kept.old.changed.keys }
     requires shown { IsShownBut kept.old.versions.items kept.old.changed.keys machine.now.mem }
@@ -258,7 +257,6 @@ fn keep_ended(due: u64, step: u64, machine: &Machine, kept: &mut Kept) -> Result
 }
 
 /// Takes a recording that has ended over the stretch in which nothing happens, at once, to the step of the tamper that is still to come.
-/// An `Err` is out of memory.
 fn pass_over<D: Digester>(
     d: D,
     tamper: &Tamper,
@@ -291,7 +289,7 @@ fn pass_over<D: Digester>(
 }
 
 /// Takes a recording that has ended to the step from which the run stands still: that of a tamper that is still to come, or else where it
-/// is. An `Err` is out of memory.
+/// is.
 fn finish<D: Digester>(
     d: D,
     tamper: &Tamper,
@@ -310,7 +308,7 @@ fn finish<D: Digester>(
 }
 
 /// Takes a recording at step 0 to the bound, or to the step from which the run stands still if that comes first. A stretch in which nothing
-/// happens takes no time, however long it is. An `Err` is out of memory.
+/// happens takes no time, however long it is.
 pub fn record_to_end<D: Digester>(
     d: D,
     tamper: &Tamper,

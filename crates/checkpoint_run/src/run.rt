@@ -107,7 +107,7 @@ impl Run {
 
 /// Records the run of a prover from a machine, with this tamper, up to the step `bound`, with a checkpoint at every `every`
 /// steps (at least 1) from step 0 on. It makes no step after the one from which the run stands still. The machine's chain is
-/// that of its output, by the digester `d`, and so are the checkpoints'. An `Err` is out of memory.
+/// that of its output, by the digester `d`, and so are the checkpoints'.
 pub fn record_run<D: Digester>(
     alloc: Global,
     d: D,
@@ -163,7 +163,7 @@ pub fn record_run<D: Digester>(
 
 /// The machine of a checkpoint: that of the step `checkpoint` times the spacing. The step is not above the one from which
 /// the run stands still, so that there is such a checkpoint. Its chain is that of its output by the digester that recorded the
-/// run. An `Err` is out of memory.
+/// run.
 pub fn machine_at(run: &Run, checkpoint: u64) -> Result<Machine, Memory>
     requires { checkpoint * run.now.every ≤ still_of run.now }
     ensures state { IfOk result (λ m. state_of m ≡ state_of_step run.now (checkpoint * run.now.every)) }

@@ -61,7 +61,7 @@ pub fn same_until(tamper: &Tamper, goal: u64, i: u64, machine: &Machine) -> u64
     }
 }
 
-/// What the tamper does to the machine of step `i`, and the page in which it changes a byte. An `Err` is out of memory.
+/// What the tamper does to the machine of step `i`, and the page in which it changes a byte.
 #[inline(always)]
 pub fn tamper_at(tamper: &Tamper, i: u64, machine: &mut Machine) -> Result<Option<u32>, Memory>
     ensures state { OnOk result (state_of machine.new ≡ tampered tamper.now i (state_of machine.old)) }
@@ -85,8 +85,7 @@ pub fn tamper_at(tamper: &Tamper, i: u64, machine: &mut Machine) -> Result<Optio
     }
 }
 
-/// The machine's step from step `i` on, which an early end leaves out, and the page that it stores to. An `Err` is out of
-/// memory.
+/// The machine's step from step `i` on, which an early end leaves out, and the page that it stores to.
 #[inline(always)]
 fn step_from<D: Digester>(
     d: D,
@@ -114,7 +113,7 @@ fn step_from<D: Digester>(
 }
 
 /// Takes the machine of step `i` to the next one. The result is the pages that were written: that of the step's store, and then
-/// that of a byte that is flipped. An `Err` is out of memory.
+/// that of a byte that is flipped.
 #[inline(always)]
 pub fn follow<D: Digester>(
     d: D,

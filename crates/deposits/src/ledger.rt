@@ -53,7 +53,7 @@ fn none_out(alloc: Global, many: usize) -> Result<Vec<bool>, Memory>
 }
 
 impl Ledger {
-    /// A ledger of 1 to 16 provers, each of which has put down a stake of at most 1,000,000,000. An `Err` is out of memory.
+    /// A ledger of 1 to 16 provers, each of which has put down a stake of at most 1,000,000,000.
     pub fn new(alloc: Global, provers: u32, stake: u64) -> Result<Ledger, Memory>
         requires some { 0 < provers }
         requires few { provers ≤ 16 }

@@ -2,7 +2,7 @@
 //!
 //! It knows no machine and no hash, only the record of a match. The layers above may rely on this: `balances` is the
 //! closed form of `specs/Balances.antt`, and a `Ledger` moves stakes one event at a time (`specs/Accounts.antt`), never below 0
-//! and in any order (`laws`). Read `settling` first, then `ledger`.
+//! and in any order (`laws`). Read `settling` first, then `ledger`. An `Err` that no comment names is out of memory.
 #![tactic(auto)]
 
 mod amounts;

@@ -51,7 +51,7 @@ fn tell_disputes(ledger: &mut Ledger, disputes: &[Dispute])
 /// to the pool, in a dispute to the other side if that stays live, and to the pool if both are out.
 ///
 /// Each of 1 to 16 provers has put down a stake of at most 1,000,000,000. The record has one settled claim per prover, the sides of each
-/// dispute are two of them, and nobody is eliminated twice, as in the record of each match that has ended. An `Err` is out of memory.
+/// dispute are two of them, and nobody is eliminated twice, as in the record of each match that has ended.
 pub fn balances(
     alloc: Global,
     stake: u64,

@@ -20,7 +20,7 @@ use Rattle.step_referee.specs.MachineFair.{steps-collide, claims-collide}
 use Rattle.proof_wire.specs.Wire.{claim, proof_form}
 use Rattle.transcript_text.specs.declared.text.TextMove.{TextMove}
 use Rattle.transcript_text.specs.MoveLists.{qid_of, move_if, moves_of_claims, moves_of_past, moves_of_round, moves_of_dispute, moves_of_disputes, moves_of}
-use Rattle.transcript_text.specs.FullLines.{IsWritten, AreWritten}
+use Rattle.transcript_text.specs.FullLines.{HasWireForm, AreWritten}
 use Rattle.transcript_text.specs.reader.InLimits.{IsString}
 use Rattle.transcript_text.specs.reader.Laws.{HasStrings}
 use Rattle.audit.specs.LineByLine.{rules_of_head}
@@ -39,7 +39,7 @@ record OpensStrings (r : Ruling) : Type 0 where
 -- ANSWERS WITH WIRE FORMS, from the moves of a record
 
 abbrev IsWrittenIf : Option Settled → Type 0
-IsWrittenIf (Some s) = IsWritten s
+IsWrittenIf (Some s) = HasWireForm s
 IsWrittenIf None = Unit {0}
 
 abbrev AreClaimsWritten : List (Option Settled) → Type 0

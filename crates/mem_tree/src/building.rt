@@ -32,7 +32,7 @@ fn used_pages(alloc: Global, mem: &PlainMem) -> Result<Vec<u32>, Memory>
     Ok(pages)
 }
 
-/// What `page_tree_after` gives for a page of which nothing was kept, with a counter of its own. An `Err` is out of memory.
+/// What `page_tree_after` gives for a page of which nothing was kept, with a counter of its own.
 fn counted_page_tree<C: Counted, L: Ledger>(
     c: C,
     alloc: Global,
@@ -51,7 +51,7 @@ fn counted_page_tree<C: Counted, L: Ledger>(
     page_tree_after(c, alloc, empties, None, of, &mut steps)
 }
 
-/// The subtree of a page, uncounted. An `Err` is out of memory.
+/// The subtree of a page, uncounted.
 fn plain_page_tree<D: Digester>(
     d: D,
     alloc: Global,
@@ -109,7 +109,7 @@ fn no_nodes<D: Digester>(alloc: Global, d: D) -> Nodes
     }
 }
 
-/// The nodes of a memory, whose pages' subtrees are computed side by side, with a counter of its own. An `Err` is out of memory.
+/// The nodes of a memory, whose pages' subtrees are computed side by side, with a counter of its own.
 pub(crate) fn nodes_in<R: Threads + Sync, D: Digester + Send + Sync, L: Ledger>(
     rt: &R,
     alloc: Global,

@@ -121,14 +121,14 @@ fn root_in(nodes: &[Digest32]) -> Digest32
     nodes[1]
 }
 
-/// This many places of a heap. An `Err` is out of memory.
+/// This many places of a heap.
 fn empty_places(alloc: Global, places: usize) -> Result<Vec<Digest32>, Memory>
     ensures { IfOk result (λ v. length v.items ≡ places) }
 {
     Ok(vec![in alloc; Digest32::ZERO; places]?)
 }
 
-/// This many marks, none of which is set. An `Err` is out of memory.
+/// This many marks, none of which is set.
 fn no_marks(alloc: Global, places: usize) -> Result<Vec<bool>, Memory>
     ensures len { IfOk result (λ v. length v.items ≡ places) }
     ensures none { IfOk result (λ v. (i : ℕ) → is_marked v.items i ≡ false) }
@@ -161,7 +161,7 @@ impl<D: Digester> InputTree<D> {
     ghost use Rattle.mem_tree.specs.InputTree.{input_leaf, input_root};
 
     /// The tree of an input of at most 1,048,576 bytes, by 16 digests for the tree over zeros, and one for each of its chunks and each node
-    /// above one. An `Err` is out of memory.
+    /// above one.
     pub fn build(alloc: Global, d: D, input: &[u8]) -> Result<Self, Memory>
         requires { length input.now ≤ 1048576 }
         ensures { IfOk result (λ t. IsInputTree D.digest_of t input.now) }

@@ -138,7 +138,7 @@ fn renew<C: Counted, L: Ledger>(
     renew_heap(c, &mut tree.nodes, &mut tree.chunks, of, steps)
 }
 
-/// The chunks of a page of zeros. An `Err` is out of memory.
+/// The chunks of a page of zeros.
 fn no_bytes(alloc: Global) -> Result<Vec<[u8; 32]>, Memory>
     ensures items { IfOk result (λ v. v.items ≡ zero_chunks) }
     ensures len { IfOk result (λ v. vec_len v ≡ 128) }
@@ -150,7 +150,7 @@ fn no_bytes(alloc: Global) -> Result<Vec<[u8; 32]>, Memory>
     Ok(chunks)
 }
 
-/// The subtree of a page of zeros, from the empty node of each level. It makes no digest. An `Err` is out of memory.
+/// The subtree of a page of zeros, from the empty node of each level. It makes no digest.
 fn zeros(alloc: Global, empties: &[Digest32]) -> Result<PageTree, Memory>
     requires { length empties.now ≡ 28 }
     ensures heap { (digest : List ℕ → List ℕ) → AreEmpty digest empties.now →

@@ -1,8 +1,8 @@
 -- What the code's steps come to.
 use Rattle.std.proofs.Common.{◌≡◌, ℕ, List, [], ◌∷◌, Option, Some, None, Bool, true, false, true≢false, is_some, not, ◌&&◌, refl, sym, ap, ◌∙◌}
 use Rattle.std.specs.Prelude.{bytes_eq, if◌then◌else◌}
+use Rattle.std.specs.Option.{option_or}
 use Rattle.out_chain.specs.Collision.{collides, first_collision}
-use Rattle.open_proof.specs.Opened.{first_there}
 
 pub collision-first : (digest : List ℕ → List ℕ) (x y : List ℕ) (xs ys : List (List ℕ)) → collides digest x y ≡ true → first_collision digest (x ∷ xs) (y ∷ ys) ≡ Some (x, y)
 unfolding first_collision
@@ -28,10 +28,10 @@ collides-code digest x y of_x of_y t x_is y_is test =
     ap (λ d. not (bytes_eq x y) && bytes_eq d (digest y)) (sym x_is) ∙ (ap (λ d. not (bytes_eq x y) && bytes_eq of_x d) (sym y_is) ∙ sym test)
 
 -- the first of two that is there, as the code finds it
-pub there-is : {A : Type 0} (found first other : Option A) → found ≡ first → true ≡ is_some found → found ≡ first_there first other
-there-is (Some x) first other is test = ap (λ o. first_there o other) is
+pub there-is : {A : Type 0} (found first other : Option A) → found ≡ first → true ≡ is_some found → found ≡ option_or first other
+there-is (Some x) first other is test = ap (λ o. option_or o other) is
 there-is None first other is test = absurd (true≢false test)
 
-pub there-next : {A : Type 0} (found first other last : Option A) → found ≡ first → false ≡ is_some found → last ≡ other → last ≡ first_there first other
+pub there-next : {A : Type 0} (found first other last : Option A) → found ≡ first → false ≡ is_some found → last ≡ other → last ≡ option_or first other
 there-next (Some x) first other last is test rest = absurd (true≢false (sym test))
-there-next None first other last is test rest = rest ∙ ap (λ o. first_there o other) is
+there-next None first other last is test rest = rest ∙ ap (λ o. option_or o other) is

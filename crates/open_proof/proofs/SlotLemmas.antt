@@ -1,11 +1,11 @@
 -- The slots of a proof's ways.
 use Rattle.std.proofs.Common.{◌≡◌, ◌⊎◌, inl, inr, ⊎_elim, ℕ, zero, suc, ◌<◌, ◌≤◌, List, [], ◌∷◌, length, get_or, slice_get, slice_index, Option, Some, None, refl, sym, ap, ◌∙◌, arith}
+use Rattle.std.specs.Option.{option_or}
 use Rattle.rd_base.specs.declared.opened.InOpening.{InOpening}
 use Rattle.rd_base.specs.declared.opened.Opening.{Opening}
 use Rattle.rd_base.specs.declared.opened.RegOpening.{RegOpening}
 use Rattle.out_chain.specs.Collision.{first_collision}
 use Rattle.rv_step.specs.Fetching.{fetch_address}
-use Rattle.open_proof.specs.Opened.{first_there}
 use Rattle.open_proof.specs.Facts.{operand_called, input_called}
 use Rattle.open_proof.specs.Openings.{chunk_ways, register_way, each_way, register_ways, input_ways, fetch_ways, named_ways, operand_ways, read_ways}
 use Rattle.open_proof.specs.Ways.{Way, way_texts}
@@ -62,21 +62,21 @@ named_few rs (Opened root named) few = let each = each_few root.0 rs named in om
 -- ---- the collision of two proofs' slots is that of their ways
 
 module _ {A : Type 0} where
-  first-none : (a : Option A) → first_there a None ≡ a
+  first-none : (a : Option A) → option_or a None ≡ a
   first-none (Some x) = refl
   first-none None = refl
 
-  first-first : (a b c : Option A) → first_there a (first_there b c) ≡ first_there (first_there a b) c
+  first-first : (a b c : Option A) → option_or a (option_or b c) ≡ option_or (option_or a b) c
   first-first (Some x) b c = refl
   first-first None b c = refl
 
 -- of at most one way each
 alone-collide : (digest : List ℕ → List ℕ) (vs ws : List Way) (xs ys : List (Option Way)) → length vs ≤ 1 → length ws ≤ 1
-    → slots_collision digest (slice_get vs 0 ∷ xs) (slice_get ws 0 ∷ ys) ≡ first_there (ways_collision digest vs ws) (slots_collision digest xs ys)
+    → slots_collision digest (slice_get vs 0 ∷ xs) (slice_get ws 0 ∷ ys) ≡ option_or (ways_collision digest vs ws) (slots_collision digest xs ys)
 alone-collide digest [] ws xs ys few less = refl
 alone-collide digest (v ∷ []) [] xs ys few less = refl
 alone-collide digest (v ∷ []) (w ∷ []) xs ys few less =
-    ap (λ found. first_there found (slots_collision digest xs ys)) (sym (first-none (first_collision digest (way_texts digest v) (way_texts digest w))))
+    ap (λ found. option_or found (slots_collision digest xs ys)) (sym (first-none (first_collision digest (way_texts digest v) (way_texts digest w))))
 alone-collide digest (v ∷ []) (w ∷ x ∷ ws) xs ys few less = absurd (omega arith)
 alone-collide digest (v ∷ u ∷ vs) ws xs ys few less = absurd (omega arith)
 
@@ -99,14 +99,14 @@ collide-none digest (suc n) [] xs ys = collide-none digest n [] xs ys
 collide-none digest (suc n) (v ∷ vs) xs ys = collide-none digest n vs xs ys
 
 padded-collide : (digest : List ℕ → List ℕ) (n : ℕ) (vs ws : List Way) (xs ys : List (Option Way)) → length vs ≤ n → length ws ≤ n
-    → slots_collision digest (padded n vs xs) (padded n ws ys) ≡ first_there (ways_collision digest vs ws) (slots_collision digest xs ys)
+    → slots_collision digest (padded n vs xs) (padded n ws ys) ≡ option_or (ways_collision digest vs ws) (slots_collision digest xs ys)
 unfolding padded
 padded-collide digest n [] ws xs ys few less = none-collide digest n ws xs ys
 padded-collide digest n (v ∷ vs) [] xs ys few less = collide-none digest n (v ∷ vs) xs ys
 padded-collide digest zero (v ∷ vs) (w ∷ ws) xs ys few less = absurd (omega arith)
 padded-collide digest (suc n) (v ∷ vs) (w ∷ ws) xs ys few less =
     let pair = first_collision digest (way_texts digest v) (way_texts digest w) in
-    ap (first_there pair) (padded-collide digest n vs ws xs ys (omega arith) (omega arith)) ∙ first-first pair (ways_collision digest vs ws) (slots_collision digest xs ys)
+    ap (option_or pair) (padded-collide digest n vs ws xs ys (omega arith) (omega arith)) ∙ first-first pair (ways_collision digest vs ws) (slots_collision digest xs ys)
 
 three-padded : (ws : List Way) (xs : List (Option Way)) → length ws ≤ 3 → (slice_get ws 0 ∷ slice_get ws 1 ∷ slice_get ws 2 ∷ xs) ≡ padded 3 ws xs
 unfolding padded
@@ -118,7 +118,7 @@ three-padded (a ∷ b ∷ c ∷ d ∷ ws) xs few = absurd (omega arith)
 
 three-collide : (digest : List ℕ → List ℕ) (vs ws : List Way) (xs ys : List (Option Way)) → length vs ≤ 3 → length ws ≤ 3
     → slots_collision digest (slice_get vs 0 ∷ slice_get vs 1 ∷ slice_get vs 2 ∷ xs) (slice_get ws 0 ∷ slice_get ws 1 ∷ slice_get ws 2 ∷ ys)
-    ≡ first_there (ways_collision digest vs ws) (slots_collision digest xs ys)
+    ≡ option_or (ways_collision digest vs ws) (slots_collision digest xs ys)
 three-collide digest vs ws xs ys few less =
     ap (λ (l : List (Option Way)). slots_collision digest l (slice_get ws 0 ∷ slice_get ws 1 ∷ slice_get ws 2 ∷ ys)) (three-padded vs xs few)
     ∙ (ap (slots_collision digest (padded 3 vs xs)) (three-padded ws ys less) ∙ padded-collide digest 3 vs ws xs ys few less)
@@ -148,6 +148,6 @@ slots_collide digest x y few less =
     let rest_x : List (Option Way) = slice_get (named_ways x) 0 ∷ slice_get (named_ways x) 1 ∷ slice_get (named_ways x) 2 ∷ data_x in
     let rest_y : List (Option Way) = slice_get (named_ways y) 0 ∷ slice_get (named_ways y) 1 ∷ slice_get (named_ways y) 2 ∷ data_y in
     alone-collide digest (fetch_ways x) (fetch_ways y) rest_x rest_y (chunk-few x.mem.0 x.fetch (fetch_address x.ctl)) (chunk-few y.mem.0 y.fetch (fetch_address y.ctl))
-    ∙ ap (first_there fetch) (three-collide digest (named_ways x) (named_ways y) data_x data_y few less
-    ∙ ap (first_there named) (alone-collide digest (operand_ways x) (operand_ways y) last_x last_y (chunk-few x.mem.0 x.operand (operand_called x)) (chunk-few y.mem.0 y.operand (operand_called y))
-    ∙ ap (first_there operand) (alone-collide digest (read_ways x) (read_ways y) [] [] (input-few x.input_tree x.input (input_called x)) (input-few y.input_tree y.input (input_called y)) ∙ first-none read)))
+    ∙ ap (option_or fetch) (three-collide digest (named_ways x) (named_ways y) data_x data_y few less
+    ∙ ap (option_or named) (alone-collide digest (operand_ways x) (operand_ways y) last_x last_y (chunk-few x.mem.0 x.operand (operand_called x)) (chunk-few y.mem.0 y.operand (operand_called y))
+    ∙ ap (option_or operand) (alone-collide digest (read_ways x) (read_ways y) [] [] (input-few x.input_tree x.input (input_called x)) (input-few y.input_tree y.input (input_called y)) ∙ first-none read)))

@@ -2,6 +2,7 @@
 -- same as clauses.
 use Rattle.std.proofs.Common.{◌≡◌, ◌≢◌, ℕ, zero, suc, ◌+◌, ◌/◌, ◌<◌, ◌≤◌, ◌⊎◌, inl, inr, List, [], ◌∷◌, length, Option, Some, None, is_some, Bool, true, false, true≢false, ◌&&◌, Contains, refl, sym, ap, ◌∙◌, subst, arith, ⊎_elim}
 use Rattle.std.specs.Prelude.{bytes_eq, if◌then◌else◌}
+use Rattle.std.specs.Option.{option_or}
 use Rattle.std.proofs.lemmas.Bool.{cases_eq, eq-eqb}
 use Rattle.std.proofs.lemmas.List.{ext_get_or}
 use Rattle.std.proofs.lemmas.List.Elements.{Contains-append_left, Contains-append_right}
@@ -21,7 +22,7 @@ use Rattle.out_chain.specs.Root.{control_text_of}
 use Rattle.out_chain.specs.Collision.{first_collision}
 use Rattle.out_chain.specs.ClaimLaws.{collision-none, collision_of_same, first-collides, contains-tail}
 use Rattle.rv_step.specs.Fetching.{fetch_address}
-use Rattle.open_proof.specs.Opened.{first_there, texts_from}
+use Rattle.open_proof.specs.Opened.{texts_from}
 use Rattle.open_proof.specs.Conditions.{LeadsFrom}
 use Rattle.open_proof.specs.Facts.{facts_of, named_called, needed_of, operand_called, byte_needed, input_called}
 use Rattle.open_proof.specs.InRange.{is_in_range}
@@ -37,11 +38,11 @@ use Rattle.open_proof.specs.declared.facts.HeldRegisters.TheVariants.{Whole, Ope
 use Rattle.open_proof.specs.Collision.{ways_collision, parts_collision, all_ways_collision, opened_collision, opens_in, step_collision, IsStepCollision}
 
 -- neither of two is there, or one is
-none-there : {A : Type 0} (first other : Option A) → first_there first other ≡ None → (first ≡ None) × (other ≡ None)
+none-there : {A : Type 0} (first other : Option A) → option_or first other ≡ None → (first ≡ None) × (other ≡ None)
 none-there (Some x) other none = absurd cc
 none-there None other none = (refl, none)
 
-either-there : {A : Type 0} (first other : Option A) (x : A) → first_there first other ≡ Some x → (first ≡ Some x) ⊎ (other ≡ Some x)
+either-there : {A : Type 0} (first other : Option A) (x : A) → option_or first other ≡ Some x → (first ≡ Some x) ⊎ (other ≡ Some x)
 either-there (Some found) other x some = inl some
 either-there None other x some = inr some
 
@@ -364,14 +365,14 @@ proofs_apart digest is_digest version a b c x y x_range y_range x_leads y_leads 
 -- a proof has no collision with itself
 ways-same : (digest : List ℕ → List ℕ) (ws : List Way) → ways_collision digest ws ws ≡ None
 ways-same digest [] = refl
-ways-same digest (w ∷ ws) = ap (λ found. first_there found (ways_collision digest ws ws)) (collision_of_same digest (way_texts digest w)) ∙ ways-same digest ws
+ways-same digest (w ∷ ws) = ap (λ found. option_or found (ways_collision digest ws ws)) (collision_of_same digest (way_texts digest w)) ∙ ways-same digest ws
 
 pub no_collision_of_equal : (digest : List ℕ → List ℕ) (version : ℕ) (a : Digest32) (x : Facts) → step_collision digest version a x x ≡ None
 unfolding step_collision
 no_collision_of_equal digest version a x = go (opens_in digest version a x)
   where
-    neither : (first other : Option (List ℕ × List ℕ)) → first ≡ None → other ≡ None → first_there first other ≡ None
-    neither first other one two = ap (λ o. first_there o other) one ∙ two
+    neither : (first other : Option (List ℕ × List ℕ)) → first ≡ None → other ≡ None → option_or first other ≡ None
+    neither first other one two = ap (λ o. option_or o other) one ∙ two
 
     nothing : opened_collision digest x x ≡ None
     nothing = neither (parts_collision digest x x) (all_ways_collision digest x x)

@@ -1,13 +1,13 @@
 -- Derived: the ways of a proof as the code has them, in six slots that may be empty, one level of a way after another, and the way of
 -- what a step has changed.
 use Rattle.std.specs.Prelude.{ℕ, ◌+◌, ◌/◌, ◌%◌, ◌==◌, List, [], ◌∷◌, length, slice_get, slice_index, Option, Some, None, if◌then◌else◌}
+use Rattle.std.specs.Option.{option_or}
 use Rattle.rd_base.specs.declared.digest.Digest32.{Digest32}
 use Rattle.rd_base.specs.declared.opened.Opening.{Opening}
 use Rattle.rd_base.specs.declared.opened.RegOpening.{RegOpening}
 use Rattle.merkle_nodes.specs.Opening.{joined}
 use Rattle.out_chain.specs.Collision.{first_collision}
 use Rattle.open_proof.specs.Held.{chunk_with}
-use Rattle.open_proof.specs.Opened.{first_there}
 use Rattle.open_proof.specs.Openings.{chunk_way, register_way, fetch_ways, named_ways, operand_ways, read_ways}
 use Rattle.open_proof.specs.Ways.{Way, way_text, way_texts}
 use Rattle.open_proof.specs.declared.facts.Facts.{Facts}
@@ -42,7 +42,7 @@ slot_collision digest (Some v) (Some w) = first_collision digest (way_texts dige
 slot_collision digest v w = None
 
 abbrev pub slots_collision : (List ℕ → List ℕ) → List (Option Way) → List (Option Way) → Option (List ℕ × List ℕ)
-slots_collision digest (v ∷ vs) (w ∷ ws) = first_there (slot_collision digest v w) (slots_collision digest vs ws)
+slots_collision digest (v ∷ vs) (w ∷ ws) = option_or (slot_collision digest v w) (slots_collision digest vs ws)
 slots_collision digest vs ws = None
 
 -- the digest of a tree after a change: its root, or that to which the changed way climbs

@@ -23,7 +23,7 @@ pub struct RunReader<D: Replays> {
     pub plan: Plan,
 }
 
-/// Keeps the root of a step. An `Err` is out of memory.
+/// Keeps the root of a step.
 fn keep(kept: &mut BTreeMap<u64, Digest32>, step: u64, root: Digest32) -> Result<(), Memory>
     ensures { (roots : ℕ → List ℕ) → root.0 ≡ roots step → AreKept roots kept.old.entries → AreKept roots kept.new.entries }
 {
@@ -38,7 +38,7 @@ fn kept_root(kept: &BTreeMap<u64, Digest32>, step: u64) -> Option<Digest32>
     kept.get(&step).copied()
 }
 
-/// The root of a step, made from the root that was made last. An `Err` is out of memory.
+/// The root of a step, made from the root that was made last.
 #[tactic(auto, using(crate::proofs::RunLemmas::same_length, crate::proofs::RunLemmas::root_of_place))]
 fn made<D: Replays, R: Threads + Sync>(
     rt: &R,
@@ -55,7 +55,7 @@ fn made<D: Replays, R: Threads + Sync>(
     Ok(roots[0])
 }
 
-/// The root of a step, which is kept, or else is made and kept. An `Err` is out of memory.
+/// The root of a step, which is kept, or else is made and kept.
 fn root<D: Replays, R: Threads + Sync>(
     rt: &R,
     reader: &RunReader<D>,
@@ -76,7 +76,7 @@ fn root<D: Replays, R: Threads + Sync>(
     Ok(root)
 }
 
-/// The roots of steps, in their order, if all of them are kept. An `Err` is out of memory.
+/// The roots of steps, in their order, if all of them are kept.
 fn kept_roots(
     alloc: Global,
     kept: &BTreeMap<u64, Digest32>,
@@ -113,7 +113,7 @@ fn keep_all(
     keep_all(kept, later_steps, later_roots)
 }
 
-/// The roots of 1 to 15 steps, in their order, which are kept, or else are made in one go and kept. An `Err` is out of memory.
+/// The roots of 1 to 15 steps, in their order, which are kept, or else are made in one go and kept.
 #[tactic(auto, using(crate::proofs::RunLemmas::same_length))]
 fn roots_of_steps<D: Replays, R: Threads + Sync>(
     rt: &R,
@@ -139,7 +139,7 @@ fn roots_of_steps<D: Replays, R: Threads + Sync>(
 }
 
 /// The plain answer of a prover to what is asked, read off its recorded run. Its last output is at most 4,294,967,295 bytes
-/// long. An `Err` is out of memory.
+/// long.
 #[tactic(auto, using(crate::proofs::RunLemmas::roots_of_run, crate::proofs::RunLemmas::answers_of_run), unfolding(crate::specs::Prover::root_of))]
 pub fn plain_answer<D: Replays, R: Threads + Sync>(
     rt: &R,

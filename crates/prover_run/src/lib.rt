@@ -10,7 +10,7 @@
 //! A root is made from the root that was made last, as the run is kept with a cursor for each worker (`KeptRun`). If several roots are
 //! asked at once, as in rounds of more than two parts, the workers share them. A run is recorded once, and each root is made once. This
 //! isn't proved: the code of `prover` and `answering` shows it, and tests in `test_provers` count the digests. Read `specs/Plain.antt`
-//! first, then `prover`, then `provers`.
+//! first, then `prover`, then `provers`. An `Err` that no comment names is out of memory.
 #![tactic(auto)]
 
 mod answering;

@@ -50,8 +50,7 @@ impl<D: Replays> Model for RunAnswerer<D> {
 impl<D: Replays> RunAnswerer<D> {
     /// A prover whose run goes from a machine, with this tamper, up to the step `bound`, below 2^32. Its run is recorded with
     /// a checkpoint at every `every` steps (at least 1), and the roots that one question asks are made in at most `workers` pieces (at
-    /// least 1), side by side. The machine has no output, and its chain is that of no output by the digester `d`. An `Err` is out of
-    /// memory.
+    /// least 1), side by side. The machine has no output, and its chain is that of no output by the digester `d`.
     pub fn new(
         alloc: Global,
         d: D,
@@ -77,7 +76,7 @@ impl<D: Replays> RunAnswerer<D> {
         RunAnswerer::with_input(alloc, d, machine, input, tamper, plan)
     }
 
-    /// `new`, from the tree of the machine's input, so that no part of the input is digested. An `Err` is out of memory.
+    /// `new`, from the tree of the machine's input, so that no part of the input is digested.
     pub fn with_input(
         alloc: Global,
         d: D,
@@ -103,7 +102,7 @@ impl<D: Replays> RunAnswerer<D> {
     }
 }
 
-/// The run that was recorded before, or else the recorded run of a prover. An `Err` is out of memory.
+/// The run that was recorded before, or else the recorded run of a prover.
 fn recorded<D: Replays>(
     reader: &RunReader<D>,
     start: &Machine,

@@ -66,7 +66,7 @@ impl<D: Digester> Model for CaseProvers<D> {
     ghost invariant = { λ c. vec_len c.scripts < 2 ^ 32 };
 }
 
-/// Copies of the scripts. An `Err` is out of memory.
+/// Copies of the scripts.
 fn copied(alloc: Global, scripts: &[Script]) -> Result<Vec<Script>, Memory>
     ensures { IfOk result (λ v. v.items ≡ scripts.now) }
 {
@@ -123,7 +123,7 @@ impl<D: Digester> Provers for CaseProvers<D> {
     ghost give_one_answer = { λ n. case_provers_give_one_answer D.digest_of n.start n.bound n.scripts };
 }
 
-/// The answerer of a script, whose run starts there and goes by this plan. An `Err` is out of memory.
+/// The answerer of a script, whose run starts there and goes by this plan.
 fn answerer_of<D: Replays>(
     alloc: Global,
     d: D,
@@ -160,7 +160,7 @@ fn put_answerers<D: Replays>(
 }
 
 /// The answerers of the provers with these scripts, in their order, whose runs start there and go by this plan. No part of the input is
-/// digested. An `Err` is out of memory.
+/// digested.
 pub fn answerers_with_input<D: Replays>(
     alloc: Global,
     d: D,
@@ -177,7 +177,7 @@ pub fn answerers_with_input<D: Replays>(
 }
 
 /// `answerers_with_input` for runs that start in this machine, which has no output, and whose chain is that of no output by the
-/// digester `d`. It builds the tree of the machine's input itself, once for all of them; only version 3 has one. An `Err` is out of memory.
+/// digester `d`. It builds the tree of the machine's input itself, once for all of them; only version 3 has one.
 pub fn answerers_of<D: Replays>(
     alloc: Global,
     d: D,

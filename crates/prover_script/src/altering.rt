@@ -12,7 +12,7 @@ use rd_base::{
 use rv_step::{Names, fetch_address, fetched_in, named_by};
 use std::alloc::Global;
 
-/// A claim that answers the claim's question, with another output; any other answer stays. An `Err` is out of memory.
+/// A claim that answers the claim's question, with another output; any other answer stays.
 pub fn with_output(
     alloc: Global,
     output: &ClaimOutput,
@@ -101,8 +101,7 @@ fn with_shown(reg: RegisterNumber, value: u32, proof: &Proof) -> Proof
     }
 }
 
-/// A proof that answers the question for this step, with another value in a register; any other answer stays. An `Err` is out
-/// of memory.
+/// A proof that answers the question for this step, with another value in a register; any other answer stays.
 pub fn with_forgery(
     alloc: Global,
     step: u32,
@@ -132,7 +131,7 @@ pub fn noise<D: Digester>(d: D, seed: u32, qid: Qid) -> Digest32
     d.digest(noise_text(seed, qid.dispute, qid.round).as_slice())
 }
 
-/// One root in place of each of these. An `Err` is out of memory.
+/// One root in place of each of these.
 fn each_is(alloc: Global, root: Digest32, roots: &RootList) -> Result<RootList, Memory>
     ensures { IfOk result (λ l. l ≡ map (λ _. root) roots.now) }
 {
@@ -143,8 +142,7 @@ fn each_is(alloc: Global, root: Digest32, roots: &RootList) -> Result<RootList, 
     Ok(RootList::new(same).unwrap())
 }
 
-/// One digest in place of the root, or of each of the roots, that answers a question for roots; any other answer stays. An `Err`
-/// is out of memory.
+/// One digest in place of the root, or of each of the roots, that answers a question for roots; any other answer stays.
 pub fn with_roots(
     alloc: Global,
     root: Digest32,

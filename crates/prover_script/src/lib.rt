@@ -4,7 +4,7 @@
 //! answerer, a function of the question and of the passes so far, which no call changes, not even one that runs out of
 //! memory; `waits` decides whether that is a pass, for an answerer that always answers; and a manner gives one answer to one
 //! question if the answerer without it does (`laws`). Read `specs/Manners.antt` first, then `altering` and `tape`, then
-//! `scripted`.
+//! `scripted`. An `Err` that no comment names is out of memory.
 #![tactic(auto)]
 
 mod altering;

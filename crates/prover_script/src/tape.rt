@@ -17,7 +17,7 @@ pub fn written(entries: &[TapeAnswer], qid: Qid) -> Option<&Answer>
     None
 }
 
-/// A copy of the first answer that is written down for the question of this number. An `Err` is out of memory.
+/// A copy of the first answer that is written down for the question of this number.
 pub fn written_copy(
     alloc: Global,
     entries: &[TapeAnswer],

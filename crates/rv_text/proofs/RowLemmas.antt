@@ -1,6 +1,7 @@
 -- What holds of each row, found by computing.
 use Rattle.std.proofs.Common.{◌≡◌, ℕ, ◌+◌, ◌<◌, ◌^◌, ◌&&◌, Bool, true, false, List, [], ◌∷◌, refl, Option, Some, None}
-use Rattle.std.specs.Prelude.{nat_lt, bytes_eq, if◌then◌else◌, IfSome, option_or}
+use Rattle.std.specs.Prelude.{nat_lt, bytes_eq, if◌then◌else◌, IfSome}
+use Rattle.std.specs.Option.{option_or}
 use Rattle.std.proofs.lemmas.Bool.{and_parts, ltb-true}
 use Rattle.rv_text.specs.Operands.{slots_of}
 use Rattle.rv_text.specs.Rows.{Named, register_rows, multiply_rows, immediate_rows, memory_rows, branch_rows, other_rows, row_in, row_named, most_in}

@@ -26,15 +26,15 @@ Follows (Some rest) is_such = is_such rest
 Follows None is_such = ⊥
 
 -- this operand is in the place of this field
-abbrev pub Stands : Field → List ℕ → List Slot → List ℕ → Type 0
-Stands field operand [] text = ⊥
-Stands field operand (s ∷ slots) text = IsFirst field operand s text ⊎ Follows (after_slot s (after_operand text)) (λ rest. Stands field operand slots rest)
+abbrev pub IsInPlace : Field → List ℕ → List Slot → List ℕ → Type 0
+IsInPlace field operand [] text = ⊥
+IsInPlace field operand (s ∷ slots) text = IsFirst field operand s text ⊎ Follows (after_slot s (after_operand text)) (λ rest. IsInPlace field operand slots rest)
 
 -- a statement's target is this name
 pub record HasTarget (text : List ℕ) (field : Field) (name : List ℕ) : Type 0 where
   pub row : Row
   pub is_row : row_named (first_word text) ≡ Some row
-  pub stands : Stands field name (slots_of row.form) (after_first_word text)
+  pub stands : IsInPlace field name (slots_of row.form) (after_first_word text)
   pub is_target : is_target field ≡ true
   pub is_name : is_name name ≡ true
 

@@ -1,6 +1,7 @@
 -- To believe: the mnemonics, one row for each with the form of its operands. Derived: the word of a row without operands, tied to the
 -- words of the instructions by the law `each_word_is_said`.
-use Rattle.std.specs.Prelude.{ℕ, ◌+◌, if◌then◌else◌, List, [], ◌∷◌, ℤ, Option, Some, None, option_or, codes, bytes_eq}
+use Rattle.std.specs.Prelude.{ℕ, ◌+◌, if◌then◌else◌, List, [], ◌∷◌, ℤ, Option, Some, None, codes, bytes_eq}
+use Rattle.std.specs.Option.{option_or}
 use Rattle.rv_text.specs.Fields.{placed_at, most_at}
 use Rattle.rv_text.specs.Operands.{slots_of, field_of}
 use Rattle.rv_text.specs.declared.form.Form.{Form}

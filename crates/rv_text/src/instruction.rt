@@ -76,7 +76,7 @@ fn add_upper(text: &mut String, name: &str, t: UType) -> Result<(), AllocError>
     write!(text, "{name} x{}, {upper}", t.rd)
 }
 
-/// Adds the line of an instruction that isn't a fence. An `Err` is out of memory.
+/// Adds the line of an instruction that isn't a fence.
 #[tactic(auto, unfolding(crate::specs::Spelling::spelling_of))]
 pub fn add_instruction(text: &mut String, i: Instr) -> Result<(), AllocError>
     requires { is_fence i ≡ false }

@@ -18,7 +18,7 @@ pub enum Scope<'m, 'a> {
     At(&'m Places<'a>, u32),
 }
 
-/// Gives a name its place. An `Err` is out of memory.
+/// Gives a name its place.
 pub fn define<'a>(names: &mut Places<'a>, name: &'a [u8], place: u32) -> Result<(), AllocError>
     ensures { OnOk result (places_of names.new ≡ with_name (places_of names.old) name.now place) }
 {

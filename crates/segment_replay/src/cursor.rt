@@ -37,8 +37,7 @@ pub struct Cursor<D: Digester> {
     pub tree: MemTree<D>,
 }
 
-/// The machine of a step up to the one from which the run stands still, replayed from the last checkpoint up to it. An `Err`
-/// is out of memory.
+/// The machine of a step up to the one from which the run stands still, replayed from the last checkpoint up to it.
 fn machine_up_to<D: Digester>(d: D, run: &Run, goal: u64) -> Result<Machine, Memory>
     requires goal { goal ≤ still_of run.now }
     requires chained { AreChained D.digest_of run.now }
@@ -64,7 +63,7 @@ fn goal_of(run: &Run, step: u64) -> u64
     step.min(run.still())
 }
 
-/// The machine of a step; above the bound it is that of the bound. An `Err` is out of memory.
+/// The machine of a step; above the bound it is that of the bound.
 pub fn machine_of_step<D: Digester>(d: D, run: &Run, step: u64) -> Result<Machine, Memory>
     requires { AreChained D.digest_of run.now }
     ensures { IfOk result (λ m. IsMachineOf D.digest_of run.now (min step run.now.bound) m) }
@@ -73,7 +72,7 @@ pub fn machine_of_step<D: Digester>(d: D, run: &Run, step: u64) -> Result<Machin
     machine_up_to(d, run, goal)
 }
 
-/// Touches a page, if one is named. An `Err` is out of memory.
+/// Touches a page, if one is named.
 fn touch_named<D: Digester>(tree: &mut MemTree<D>, page: Option<u32>) -> Result<(), Memory>
     requires { ArePages (page ∷ []) }
     ensures tree { OnOk result ((m : Contents) → IsTreeOf D.digest_of tree.old m → IsTreeOf D.digest_of tree.new m) }
@@ -90,7 +89,7 @@ fn touch_named<D: Digester>(tree: &mut MemTree<D>, page: Option<u32>) -> Result<
 }
 
 /// The cursor at a later step, up to the goal, with the pages touched that were written: at the next step, or behind a stretch in which
-/// nothing happens. An `Err` is out of memory.
+/// nothing happens.
 fn step_towards<D: Digester>(
     replay: &Replay<'_, D>,
     cursor: Cursor<D>,
@@ -116,8 +115,7 @@ fn step_towards<D: Digester>(
     Ok(Cursor { at, machine, tree })
 }
 
-/// The cursor at a later step, up to the one from which the run stands still, with the steps in between carried out. An `Err` is out of
-/// memory.
+/// The cursor at a later step, up to the one from which the run stands still, with the steps in between carried out.
 fn step_to<D: Digester>(
     replay: &Replay<'_, D>,
     cursor: Cursor<D>,
@@ -164,7 +162,7 @@ fn is_cheaper_to_step(machine: &Machine, steps: u64) -> bool {
         || has_pages(&machine.mem, steps.div_ceil(STEPS_WORTH_A_PAGE))
 }
 
-/// A tree with each page touched that a memory has in use, beside those that were. An `Err` is out of memory.
+/// A tree with each page touched that a memory has in use, beside those that were.
 fn touch_used_pages<D: Digester>(tree: MemTree<D>, mem: &PlainMem) -> Result<MemTree<D>, Memory>
     ensures tree { IfOk result (λ t. (m : Contents) → IsTreeOf D.digest_of tree m → IsTreeOf D.digest_of t m) }
     ensures used { IfOk result (λ t. HasTouched t mem.now) }
@@ -179,7 +177,7 @@ fn touch_used_pages<D: Digester>(tree: MemTree<D>, mem: &PlainMem) -> Result<Mem
     Ok(with)
 }
 
-/// The tree of a cursor, with each page touched that its memory has in use. The machine is dropped. An `Err` is out of memory.
+/// The tree of a cursor, with each page touched that its memory has in use. The machine is dropped.
 fn release_tree<D: Digester>(cursor: Cursor<D>) -> Result<MemTree<D>, Memory>
     ensures tree { IfOk result (λ t. (m : Contents) → IsTreeOf D.digest_of cursor.tree m → IsTreeOf D.digest_of t m) }
     ensures used { IfOk result (λ t. HasTouched t cursor.machine.mem) }
@@ -190,7 +188,7 @@ fn release_tree<D: Digester>(cursor: Cursor<D>) -> Result<MemTree<D>, Memory>
 
 /// The cursor of a step, ahead or behind, up to the one from which the run stands still: its machine is replayed from the last
 /// checkpoint up to the step, and its tree is that of the cursor that is kept, brought up to the machine's memory. So the chunks alone
-/// that differ are digested, and the nodes above them. An `Err` is out of memory.
+/// that differ are digested, and the nodes above them.
 fn restore_to<D: Digester>(
     replay: &Replay<'_, D>,
     cursor: Cursor<D>,
@@ -215,7 +213,7 @@ fn restore_to<D: Digester>(
 
 /// The cursor of a step, up to the one from which the run stands still: the cursor that is kept moved on, if the step lies
 /// ahead of it, and either is near or no checkpoint lies between; else the kept one turned to the step; and a new one if none
-/// is kept. An `Err` is out of memory.
+/// is kept.
 fn cursor_at<D: Digester + Send + Sync, R: Threads + Sync>(
     rt: &R,
     alloc: Global,
@@ -270,7 +268,7 @@ pub struct Rooted<D: Digester> {
 }
 
 /// The root of a step, and a cursor for the next one. From version 2 on those leaves alone of the
-/// registers are digested that differ from those of the root before. An `Err` is out of memory.
+/// registers are digested that differ from those of the root before.
 pub fn root_of_step<D: Digester + Send + Sync, R: Threads + Sync>(
     rt: &R,
     alloc: Global,

@@ -16,7 +16,7 @@ use std::alloc::Global;
 use std::marker::Model;
 use std::thread::Threads;
 
-/// The machine of a step with the trees of its version, from the tree of the run's input. An `Err` is out of memory.
+/// The machine of a step with the trees of its version, from the tree of the run's input.
 fn committed_with_input<D: Digester + Send + Sync, R: Threads + Sync>(
     rt: &R,
     alloc: Global,
@@ -114,7 +114,7 @@ impl<D: Digester> KeptRun<D> {
     }
 
     /// The machine of a step with the trees of its version, that of its input shared with the run; above the bound the state of the
-    /// bound stands for it. An `Err` is out of memory.
+    /// bound stands for it.
     pub fn committed<R: Threads + Sync>(
         &self,
         rt: &R,

@@ -14,6 +14,7 @@
 //! between if the next step lies ahead, and either is near, measured by the pages in use, or has no checkpoint before it; else it replays
 //! from the last checkpoint up to the step, and compares all pages in use. This isn't proved: the code of `cursor` shows it, and tests in
 //! `test_provers` count the digests. Read `specs/Roots.antt` first, then `kept_run`, `replaying` and `cursor`.
+//! An `Err` that no comment names is out of memory.
 #![tactic(auto)]
 
 mod cursor;

@@ -192,7 +192,7 @@ pub fn roots_by<D: Digester + Send + Sync, R: Threads + Sync>(
 }
 
 /// `roots`, from the root of the run's input, which `run_input_root` gives. So it is made once, however often roots are asked of a run, or
-/// of runs of one machine. An `Err` is out of memory.
+/// of runs of one machine.
 pub fn roots_with_input<D: Digester + Send + Sync, R: Threads + Sync>(
     rt: &R,
     alloc: Global,
@@ -215,7 +215,7 @@ pub fn roots_with_input<D: Digester + Send + Sync, R: Threads + Sync>(
 /// The roots of the run's states of some steps, each in the version of the run, in the order asked; a step may be asked more than
 /// once, and above the bound the state of the bound stands for it. The steps are cut into at most `workers` (at least 1) pieces of
 /// consecutive entries. Several pieces are replayed by a thread each, if one can be made, and a single one in the caller's thread. The
-/// chain of each of the run's checkpoints is that of its output by this digester, as `record_run` makes it. An `Err` is out of memory.
+/// chain of each of the run's checkpoints is that of its output by this digester, as `record_run` makes it.
 pub fn roots<D: Digester + Send + Sync, R: Threads + Sync>(
     rt: &R,
     alloc: Global,
@@ -233,7 +233,7 @@ pub fn roots<D: Digester + Send + Sync, R: Threads + Sync>(
 }
 
 /// The machine of the run's state of a step, with the trees of its version; above the bound the state of the bound stands for it. The
-/// chain of each of the run's checkpoints is that of its output by this digester, as `record_run` makes it. An `Err` is out of memory.
+/// chain of each of the run's checkpoints is that of its output by this digester, as `record_run` makes it.
 pub fn committed_at<D: Digester + Send + Sync, R: Threads + Sync>(
     rt: &R,
     alloc: Global,

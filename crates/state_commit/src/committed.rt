@@ -16,7 +16,7 @@ use std::alloc::Global;
 use std::marker::Model;
 use std::thread::Threads;
 
-/// Brings a tree up to a memory that differs from the tree's in one page at most. An `Err` is out of memory.
+/// Brings a tree up to a memory that differs from the tree's in one page at most.
 fn follow<D: Digester>(
     tree: &mut MemTree<D>,
     page: Option<u32>,

@@ -7,6 +7,7 @@
 //! defines the strings of a state; two valid states with one root are the same, or two different strings of them have one digest
 //! (`a_root_binds`). A `KeptRegisters` serves a caller that asks for the roots of many states. A `SharedInput`, the tree of an input,
 //! serves all callers that ask for states of machines with this input. Read `specs/StateRoot.antt` first, then `root` and `committed`.
+//! An `Err` that no comment names is out of memory.
 #![tactic(auto)]
 
 mod committed;

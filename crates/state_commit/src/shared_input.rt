@@ -36,7 +36,7 @@ impl<D: Digester> SharedInput<D> {
     ghost use Rattle.merkle_nodes.specs.Opening.{IsPath};
     ghost use Rattle.mem_tree.specs.InputTree.{input_leaf, input_root};
 
-    /// The tree of a machine's input, if its version has one. It has 2 MiB. An `Err` is out of memory.
+    /// The tree of a machine's input, if its version has one. It has 2 MiB.
     pub fn of(alloc: Global, d: D, machine: &Machine) -> Result<Self, Memory>
         ensures { IfOk result (HasInput D.digest_of (state_of machine.now)) }
     {

@@ -5,7 +5,7 @@
 //! dispute theorem (`laws`) holds of that definition whatever is posted in whatever order, and of every match
 //! (`Match::is_after_posts`, `Match::keeps_true_provers`, `Match::has_few_disputes_and_rounds`, `Match::is_never_stuck`,
 //! `Match::has_survivors_that_agree`). Read `verdict` and `posting` first, then `playing`; `record` is what a match leaves. The
-//! numbers of a match are a `Setup` of `bisect_game`.
+//! numbers of a match are a `Setup` of `bisect_game`. An `Err` that no comment names is out of memory.
 #![tactic(auto)]
 
 mod laws;

@@ -66,7 +66,7 @@ impl<J: Judge + Drop> Model for Match<J> {
 impl<J: Judge + Drop> Match<J> {
     /// A match that begins, of `provers` provers (1 to 65,536), over `bound` steps (1 to 4,294,967,295) from the root `start`, of which
     /// a round cuts its interval in `fan` parts (2 to 16), with `patience` passes allowed on a question. It takes the memory of the
-    /// whole match. An `Err` is out of memory.
+    /// whole match.
     pub fn new(
         alloc: Global,
         judge: J,

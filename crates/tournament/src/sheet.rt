@@ -53,7 +53,7 @@ fn other_from(live: &[Claimed], i: usize, root: &Digest32) -> Option<usize>
     }
 }
 
-/// The rooms of this many disputes. An `Err` is out of memory.
+/// The rooms of this many disputes.
 #[tactic(auto, using(crate::proofs::keeping::KeepingLemmas::rooms_more))]
 fn rooms_for(alloc: Global, setup: Setup, many: usize) -> Result<Vec<Room>, Memory>
     ensures len { IfOk result (λ v. vec_len v ≡ many) }

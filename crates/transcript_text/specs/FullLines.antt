@@ -53,12 +53,12 @@ abbrev pub text_of : FullText → List ℕ
 text_of text = refereed_text text.head ++ (codes "\n" ++ (moves_text text.moves ++ line_text (line_of_stated text.stated)))
 
 -- an answer has a wire form
-abbrev pub IsWritten : Settled → Type 0
-IsWritten (Given a) = (wire_form a).fits
-IsWritten (Faulty a) = (wire_form a).fits
-IsWritten Spent = Unit {0}
+abbrev pub HasWireForm : Settled → Type 0
+HasWireForm (Given a) = (wire_form a).fits
+HasWireForm (Faulty a) = (wire_form a).fits
+HasWireForm Spent = Unit {0}
 
 -- each answer has
 abbrev pub AreWritten : List TextMove → Type 0
 AreWritten [] = Unit {0}
-AreWritten (m ∷ ms) = IsWritten m.settled × AreWritten ms
+AreWritten (m ∷ ms) = HasWireForm m.settled × AreWritten ms

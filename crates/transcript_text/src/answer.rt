@@ -23,7 +23,7 @@ pub(crate) fn add_answer(
     write!(text, " {digits}")
 }
 
-/// The line that answers with the status and the output of a run. An `Err` is out of memory.
+/// The line that answers with the status and the output of a run.
 pub fn answer_line(alloc: Global, status: Status, output: &[u8]) -> Result<Vec<u8>, Memory>
     ensures { IfOk result (λ text. text.items ≡ answer_line_text status output.now) }
 {

@@ -52,7 +52,7 @@ pub(crate) fn add_claims(
     Ok(())
 }
 
-/// The line of each prover whose claim is settled, of whom the first has the number 1. An `Err` is out of memory.
+/// The line of each prover whose claim is settled, of whom the first has the number 1.
 pub fn claim_lines(alloc: Global, claims: &[Option<Settled>]) -> Result<String, AllocError>
     ensures { IfOk result (λ text. string_bytes text ≡ lines_text (lines_of_claims 1 claims.now)) }
 {

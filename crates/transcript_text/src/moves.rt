@@ -3,7 +3,7 @@ ghost use Rattle.std.specs.Prelude.{◌≡◌, ◌++◌, string_bytes, OnOk};
 ghost use Rattle.std.specs.Option.{option_copied};
 ghost use Rattle.transcript_text.specs.MoveLists.{qid_of, move_if, moves_of_claims, moves_of_round, moves_of_dispute, moves_of_past, moves_of_disputes, moves_of};
 ghost use Rattle.proof_wire.specs.Wire.{wire_form};
-ghost use Rattle.transcript_text.specs.FullLines.{wire_text, settled_text, asked_text, moves_text, IsWritten, AreWritten};
+ghost use Rattle.transcript_text.specs.FullLines.{wire_text, settled_text, asked_text, moves_text, HasWireForm, AreWritten};
 
 use bisect_game::{Dispute, Settled, Side};
 use proof_wire::encode;
@@ -27,7 +27,7 @@ fn add_wire_form(text: &mut String, alloc: Global, answer: &Answer) -> Result<()
 /// Adds what an answer is settled as.
 fn add_settled(text: &mut String, alloc: Global, settled: &Settled) -> Result<(), Memory>
     ensures text { OnOk result (string_bytes text.new ≡ string_bytes text.old ++ settled_text settled.now) }
-    ensures written { OnOk result (IsWritten settled.now) }
+    ensures written { OnOk result (HasWireForm settled.now) }
 {
     match settled {
         Settled::Given(answer) => {

@@ -33,7 +33,7 @@ fn add_refereed(text: &mut String, alloc: Global, head: &Head) -> Result<(), All
 /// ends with a line feed.
 ///
 /// What isn't settled yet has no line, and neither has an accepted claim that wasn't given. Each answer that is written has a wire
-/// form (`written`). An `Err` is out of memory.
+/// form (`written`).
 pub fn full(
     alloc: Global,
     head: &Head,

@@ -59,7 +59,7 @@ fn add_head(text: &mut String, head: &Head) -> Result<(), AllocError>
     text.push_str("\n")
 }
 
-/// The line of a match's head. An `Err` is out of memory.
+/// The line of a match's head.
 pub fn head_line(alloc: Global, head: &Head) -> Result<String, AllocError>
     ensures { IfOk result (λ text. string_bytes text ≡ head_line head.now) }
 {
@@ -117,8 +117,7 @@ pub(crate) fn add_verdict(
     }
 }
 
-/// The line of a verdict, by what each prover's claim was settled as; it is empty if an accepted claim wasn't given. An `Err`
-/// is out of memory.
+/// The line of a verdict, by what each prover's claim was settled as; it is empty if an accepted claim wasn't given.
 pub fn verdict_line(
     alloc: Global,
     claims: &[Option<Settled>],
@@ -186,7 +185,7 @@ fn add_balances(text: &mut String, balances: Option<&Balances>) -> Result<(), Al
 /// The report of a match: the line of its head, one line for each prover, the disputes with their rounds, in a match with
 /// deposits what each prover has and what is in the pool, and the line of the verdict. Each line ends with a line feed.
 ///
-/// What isn't settled yet has no line, and neither has an accepted claim that wasn't given. An `Err` is out of memory.
+/// What isn't settled yet has no line, and neither has an accepted claim that wasn't given.
 pub fn report(
     alloc: Global,
     head: &Head,

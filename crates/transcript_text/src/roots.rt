@@ -5,7 +5,7 @@ ghost use Rattle.transcript_text.specs.Roots.{root_line};
 use rd_base::Digest32;
 use std::alloc::{AllocError, Global};
 
-/// The line of a root, with its number. An `Err` is out of memory.
+/// The line of a root, with its number.
 pub fn root_line(alloc: Global, number: u64, root: Digest32) -> Result<String, AllocError>
     ensures { IfOk result (λ text. string_bytes text ≡ root_line number root.0) }
 {

@@ -47,7 +47,7 @@ fn add_counts(text: &mut String, disputes: usize, rounds: u64) -> Result<(), All
 /// The line that sums up the match of the large workload of a seed: how many play, how many disputes and bisection rounds
 /// there were, and the verdict. It ends with a line feed.
 ///
-/// An accepted claim that wasn't given leaves the verdict out. An `Err` is out of memory.
+/// An accepted claim that wasn't given leaves the verdict out.
 pub fn summary(
     alloc: Global,
     seed: u32,

@@ -11,7 +11,7 @@ use Rattle.rv_text.specs.Operands.{Distances, slots_of, field_of, written, dista
 use Rattle.rv_text.specs.Rows.{row_named, word_by}
 use Rattle.rv_text.specs.Lines.{first_word, after_first_word, word_of_row, word_of_statement, word_in}
 use Rattle.rv_text.specs.Assembly.{near}
-use Rattle.rv_text.specs.Later.{OfName, Follows, Stands, HasTarget, HasUndefinedTarget, HasFarTarget}
+use Rattle.rv_text.specs.Later.{OfName, Follows, IsInPlace, HasTarget, HasUndefinedTarget, HasFarTarget}
 use Rattle.rv_text.specs.declared.row.Row.{Row}
 use Rattle.rv_text.specs.declared.field.Field.{Field}
 use Rattle.rv_text.specs.declared.field.Field.TheVariants.{Rd, Rs1, Rs2, Immediate, Shift, StoreOffset, BranchTarget, JumpTarget, Upper, Word}
@@ -81,10 +81,10 @@ both-later C (Err j) s (Err l) ss h i = λ x e. elim (err-not_ok x (earlier j l)
 
 -- what follows from each operand that stands there
 abbrev Standing : (FaultKind → Type 0) → Distances → List Slot → List ℕ → Type 0
-Standing C d slots text = (f : Field) (name : List ℕ) → Stands f name slots text → Distant C d f name
+Standing C d slots text = (f : Field) (name : List ℕ) → IsInPlace f name slots text → Distant C d f name
 
 behind-later : (C : FaultKind → Type 0) (d : Distances) (slots : List Slot) (o : Option (List ℕ)) → ((text : List ℕ) → Standing C d slots text → Later C (operands_in near slots text) (operands_in d slots text))
-    → ((f : Field) (name : List ℕ) → Follows o (λ rest. Stands f name slots rest) → Distant C d f name)
+    → ((f : Field) (name : List ℕ) → Follows o (λ rest. IsInPlace f name slots rest) → Distant C d f name)
     → Later C (or_other_form (option_map (λ rest. operands_in near slots rest) o)) (or_other_form (option_map (λ rest. operands_in d slots rest) o))
 behind-later C d slots (Some text) h c = h text c
 behind-later C d slots None h c = same-later C (Err OtherForm)

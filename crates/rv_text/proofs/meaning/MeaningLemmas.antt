@@ -4,7 +4,8 @@ use Rattle.std.proofs.lemmas.Bool.{false≢true, and_from}
 use Rattle.std.proofs.lemmas.Bool.Decides.{nat_tests}
 use Rattle.std.proofs.lemmas.Int.{ints}
 use Rattle.std.proofs.lemmas.Slice.Eq.{bytes_eq-Decides}
-use Rattle.std.specs.Prelude.{if◌then◌else◌, bytes_eq, nat_lt, is_ok, is_some, option_and_then, option_or}
+use Rattle.std.specs.Prelude.{if◌then◌else◌, bytes_eq, nat_lt, is_ok, is_some, option_and_then}
+use Rattle.std.specs.Option.{option_or}
 use Rattle.rd_base.specs.Results.{◌>>=◌}
 use Rattle.rv_decode.specs.Word.{word_of}
 use Rattle.rv_decode.specs.declared.instr.Instr.{Instr}

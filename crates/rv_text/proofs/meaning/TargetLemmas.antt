@@ -8,7 +8,7 @@ use Rattle.rv_text.specs.Operands.{Distances, slots_of, next_operand, after_slot
 use Rattle.rv_text.specs.Rows.{row_named}
 use Rattle.rv_text.specs.Lines.{first_word, after_first_word, word_in}
 use Rattle.rv_text.specs.Assembly.{near}
-use Rattle.rv_text.specs.Later.{Follows, Stands, HasTarget, HasUndefinedTarget, HasFarTarget}
+use Rattle.rv_text.specs.Later.{Follows, IsInPlace, HasTarget, HasUndefinedTarget, HasFarTarget}
 use Rattle.rv_text.specs.Causes.{IsOutside, IsUndefined, SomeOperand, HasFaultyOperand, HasFault, IsLeast}
 use Rattle.rv_text.specs.declared.row.Row.{Row}
 use Rattle.rv_text.specs.declared.field.Field.{Field}
@@ -23,12 +23,12 @@ unfolding row_named
 named-there [] row e = absurd cc
 named-there (c ∷ cs) row e = refl
 
-behind-some : (F : Field → List ℕ → Type 0) (field : Field) (name : List ℕ) (slots : List Slot) → ((text : List ℕ) → Stands field name slots text → SomeOperand F slots text)
-    → (o : Option (List ℕ)) → Follows o (λ rest. Stands field name slots rest) → Follows o (λ rest. SomeOperand F slots rest)
+behind-some : (F : Field → List ℕ → Type 0) (field : Field) (name : List ℕ) (slots : List Slot) → ((text : List ℕ) → IsInPlace field name slots text → SomeOperand F slots text)
+    → (o : Option (List ℕ)) → Follows o (λ rest. IsInPlace field name slots rest) → Follows o (λ rest. SomeOperand F slots rest)
 behind-some F field name slots each (Some rest) h = each rest h
 behind-some F field name slots each None h = absurd h
 
-stands-some : (F : Field → List ℕ → Type 0) (field : Field) (name : List ℕ) → F field name → (slots : List Slot) (text : List ℕ) → Stands field name slots text → SomeOperand F slots text
+stands-some : (F : Field → List ℕ → Type 0) (field : Field) (name : List ℕ) → F field name → (slots : List Slot) (text : List ℕ) → IsInPlace field name slots text → SomeOperand F slots text
 stands-some F field name is [] text h = absurd h
 stands-some F field name is (s ∷ slots) text (inl first) = inl (subst (λ f. F f (next_operand text)) (sym first.is_field) (subst (λ x. F field x) (sym first.is_operand) is))
 stands-some F field name is (s ∷ slots) text (inr follows) = inr (behind-some F field name slots (λ t h. stands-some F field name is slots t h) (after_slot s (after_operand text)) follows)

@@ -23,7 +23,7 @@ use Rattle.transcript_text.specs.declared.text.FullText.{FullText}
 use Rattle.transcript_text.specs.declared.reader.entry.Entry.TheVariants.{Move, Verdict}
 use Rattle.transcript_text.specs.declared.reader.entry.HeadNumbers.{HeadNumbers}
 use Rattle.transcript_text.specs.Lines.{line_of_stated}
-use Rattle.transcript_text.specs.FullLines.{IsWritten, start_text, refereed_text, wire_text, settled_text, asked_text, move_text, moves_text, text_of}
+use Rattle.transcript_text.specs.FullLines.{HasWireForm, start_text, refereed_text, wire_text, settled_text, asked_text, move_text, moves_text, text_of}
 use Rattle.transcript_text.specs.reader.TextLines.{Lines, tail, line, lines_of}
 use Rattle.transcript_text.specs.reader.Fields.{number_after, digest_of, answer_of, name_at}
 use Rattle.transcript_text.specs.reader.Entries.{head_in, settled_in, move_in, status_at, output_in, accepted_in, string_in, collided_in, verdict_in, entry_in}
@@ -64,7 +64,7 @@ answer-back : WireReads → (a : Answer) → (wire_form a).fits → answer_of (w
 unfolding answer_of wire_text
 answer-back wire a fits = rw (hex-back (wire_form a).bytes (wire-bytes wire a fits), wire.read a (wire_form a).bytes (fits, refl)) refl
 
-settled-back : WireReads → (s : Settled) → IsWritten s → settled_in (settled_text s) ≡ Ok s
+settled-back : WireReads → (s : Settled) → HasWireForm s → settled_in (settled_text s) ≡ Ok s
 unfolding settled_in
 settled-back wire (Given a) w = rw (answer-back wire a w) refl
 settled-back wire (Faulty a) w = rw (answer-back wire a w) refl
@@ -97,7 +97,7 @@ without-answer : (a : Answer) → AreBytes (wire_form a).bytes → Without 10 (w
 unfolding wire_text
 without-answer a bytes = encoded-without 10 (wire_form a).bytes (omega arith) bytes
 
-without-settled : WireReads → (s : Settled) → IsWritten s → Without 10 (settled_text s)
+without-settled : WireReads → (s : Settled) → HasWireForm s → Without 10 (settled_text s)
 without-settled wire (Given a) w = without-both 10 (codes "given ") (wire_text a) (without-literal 10 (codes "given ") refl) (without-answer a (wire-bytes wire a w))
 without-settled wire (Faulty a) w = without-both 10 (codes "faulty ") (wire_text a) (without-literal 10 (codes "faulty ") refl) (without-answer a (wire-bytes wire a w))
 without-settled wire Spent w = without-literal 10 (codes "spent") refl

@@ -31,7 +31,7 @@ use Rattle.transcript_text.specs.reader.Fields.{after, skip, small_number_at, nu
 use Rattle.transcript_text.specs.reader.Entries.{head_in, faulty_or_spent, given_or_not, settled_in, move_in, coded, trapped_or_not, exited_or_not, running_or_not, status_at, output_in, accepted_in, string_in, collided_in, collided_or_none, accepted_or_not, verdict_in, move_or_verdict, entry_in}
 use Rattle.transcript_text.specs.reader.ReadText.{is_prover, are_in_limits, head_of, head_with, ended, line_read, later, rest_with, text_in, read_text}
 use Rattle.transcript_text.specs.reader.InLimits.{AreBytes, IsWithin, IsHeadInLimits, IsMoveInLimits, AreMovesInLimits, IsStatusInLimits, IsString, IsStatedInLimits, IsInLimits}
-use Rattle.transcript_text.specs.FullLines.{IsWritten}
+use Rattle.transcript_text.specs.FullLines.{HasWireForm}
 use Rattle.transcript_text.proofs.read_back.SpellLemmas.{bind-ok, okay, ok-same, or-ok, small-is, hex-is, some-hex-is, WireSpells}
 use Rattle.transcript_text.proofs.read_back.TextSpellLemmas.{AreWithin, are-within, pair-same, head-same, text-same}
 
@@ -41,24 +41,24 @@ answer-fits : WireSpells → (digits : List ℕ) (a : Answer) → answer_of digi
 unfolding answer_of
 answer-fits wire digits a e = let b = bind-ok (hex_of digits) _ a e in (wire a b.0 (hex-is digits b.0 b.1).bytes (or-ok (answer_in b.0) a b.2)).0
 
-writable-by : WireSpells → (digits : List ℕ) (call : Answer → Settled) (s : Settled) → ((a : Answer) → (wire_form a).fits → IsWritten (call a)) → (answer_of digits >>= (λ a. Ok (call a))) ≡ Ok s → IsWritten s
+writable-by : WireSpells → (digits : List ℕ) (call : Answer → Settled) (s : Settled) → ((a : Answer) → (wire_form a).fits → HasWireForm (call a)) → (answer_of digits >>= (λ a. Ok (call a))) ≡ Ok s → HasWireForm s
 writable-by wire digits call s fit e =
     let b = bind-ok (answer_of digits) (λ a. Ok (call a)) s e in
-    subst IsWritten (ok-same (call b.0) s b.2) (fit b.0 (answer-fits wire digits b.0 b.1))
+    subst HasWireForm (ok-same (call b.0) s b.2) (fit b.0 (answer-fits wire digits b.0 b.1))
 
-spent-writable : (s : Settled) (c : Bool) → (if c then okay {E = LineFault} Spent else Err NoForm) ≡ Ok s → IsWritten s
-spent-writable s true e = subst IsWritten (ok-same Spent s e) tt
+spent-writable : (s : Settled) (c : Bool) → (if c then okay {E = LineFault} Spent else Err NoForm) ≡ Ok s → HasWireForm s
+spent-writable s true e = subst HasWireForm (ok-same Spent s e) tt
 spent-writable s false e = absurd (cc)
 
-faulty-writable : WireSpells → (bytes : List ℕ) (s : Settled) (o : Option (List ℕ)) → faulty_or_spent bytes o ≡ Ok s → IsWritten s
+faulty-writable : WireSpells → (bytes : List ℕ) (s : Settled) (o : Option (List ℕ)) → faulty_or_spent bytes o ≡ Ok s → HasWireForm s
 faulty-writable wire bytes s (Some digits) e = writable-by wire digits Faulty s (λ a fits. fits) e
 faulty-writable wire bytes s None e = spent-writable s (bytes_eq bytes (codes "spent")) e
 
-given-writable : WireSpells → (bytes : List ℕ) (s : Settled) (o : Option (List ℕ)) → given_or_not bytes o ≡ Ok s → IsWritten s
+given-writable : WireSpells → (bytes : List ℕ) (s : Settled) (o : Option (List ℕ)) → given_or_not bytes o ≡ Ok s → HasWireForm s
 given-writable wire bytes s (Some digits) e = writable-by wire digits Given s (λ a fits. fits) e
 given-writable wire bytes s None e = faulty-writable wire bytes s (after (codes "faulty ") bytes) e
 
-settled-writable : WireSpells → (bytes : List ℕ) (s : Settled) → settled_in bytes ≡ Ok s → IsWritten s
+settled-writable : WireSpells → (bytes : List ℕ) (s : Settled) → settled_in bytes ≡ Ok s → HasWireForm s
 unfolding settled_in
 settled-writable wire bytes s e = given-writable wire bytes s (after (codes "given ") bytes) e
 
@@ -66,7 +66,7 @@ settled-writable wire bytes s e = given-writable wire bytes s (after (codes "giv
 record IsMoveRead (m : TextMove) : Type 0 where
   dispute : m.qid.dispute < 4294967296
   round : m.qid.round < 4294967296
-  settled : IsWritten m.settled
+  settled : HasWireForm m.settled
 
 move-read : WireSpells → (bytes : List ℕ) (m : TextMove) → move_in bytes ≡ Ok m → IsMoveRead m
 unfolding move_in

@@ -28,7 +28,7 @@ use Rattle.transcript_text.specs.declared.text.Stated.TheVariants as stated
 use Rattle.transcript_text.specs.MoveLists.{qid_of, move_if, moves_of_claims, moves_of_round, moves_of_past, moves_of_dispute, moves_of_disputes, moves_of}
 use Rattle.tournament.specs.Numbers.{IsProver, AreNumbered, IsOfProvers, RecordsAreOfProvers}
 use Rattle.transcript_text.specs.StatedVerdict.{settled_at, given_claim, stated_claim, stated_of, VerdictsAreStated}
-use Rattle.transcript_text.specs.FullLines.{IsWritten, AreWritten}
+use Rattle.transcript_text.specs.FullLines.{HasWireForm, AreWritten}
 use Rattle.transcript_text.specs.Laws.{parts_of}
 use Rattle.transcript_text.specs.reader.InLimits.{AreBytes, IsHeadInLimits, IsMoveInLimits, AreMovesInLimits, IsStatusInLimits, IsStatedInLimits, IsInLimits}
 use Rattle.transcript_text.specs.reader.Laws.{IsHeadOf, HasStrings, IsReadBack, ReadsRecordsBack, MatchesAreReadBack}

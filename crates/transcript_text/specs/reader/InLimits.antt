@@ -2,7 +2,7 @@
 use Rattle.std.specs.Prelude.{◌≡◌, ℕ, ◌^◌, ◌<◌, ◌≤◌, List, [], ◌∷◌, length, slice_index}
 use Rattle.rd_base.specs.declared.status.Status.{Status}
 use Rattle.rd_base.specs.declared.status.Status.TheVariants.{Running, Exited, Trapped}
-use Rattle.transcript_text.specs.FullLines.{IsWritten}
+use Rattle.transcript_text.specs.FullLines.{HasWireForm}
 use Rattle.transcript_text.specs.declared.limits.Limit.{Limit}
 use Rattle.transcript_text.specs.declared.text.Head.{Head}
 use Rattle.transcript_text.specs.declared.text.TextMove.{TextMove}
@@ -32,7 +32,7 @@ pub record IsMoveInLimits (provers : ℕ) (m : TextMove) : Type 0 where
   pub dispute : m.qid.dispute < 2 ^ 32
   pub round : m.qid.round < 2 ^ 32
   pub prover : (1 ≤ m.prover) × (m.prover ≤ provers)
-  pub settled : IsWritten m.settled
+  pub settled : HasWireForm m.settled
 
 abbrev pub AreMovesInLimits : ℕ → List TextMove → Type 0
 AreMovesInLimits provers [] = Unit {0}
