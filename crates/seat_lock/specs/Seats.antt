@@ -1,5 +1,5 @@
 -- To believe: what contracts see of a lock and of a seat, and of a seat after `new`, `split` and `join`.
-use Rattle.std.specs.Prelude.{ℕ, suc, ◌-◌, List, [], ◌∷◌, ◌++◌, Option, Some}
+use Rattle.std.specs.Prelude.{ℕ, suc, ◌-◌, List, [], ◌∷◌, ◌++◌, Option, Some, Result, IfOk}
 use Rattle.atomic_table.specs.Seated.{TableId}
 use Rattle.seat_lock.specs.History.{LogEntry, History, turns_of, longer_of}
 
@@ -21,6 +21,10 @@ pub record Known (H : Type 0) : Type 0 where
   pub joined : List History
   -- the places in the log of the entries that it added, and then of those that seats joined into it added
   pub receipts : List ℕ
+
+-- a lock, or a board over one, was made with its first seat, and this holds of the two
+abbrev pub IfMade : {A B E : Type 0} → Result (A × B) E → (A → B → Type 0) → Type 0
+IfMade made fact = IfOk made (λ both. fact both.0 both.1)
 
 module _ {H : Type 0} where
   -- the first seat of a lock whose value has this head and this log

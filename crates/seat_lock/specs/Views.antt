@@ -63,6 +63,17 @@ module _ {H : Type 0} where
   known_as lock number v = record { lock = lock; number = number; head = v.head; out = v.out; seen = v.seen; joined = v.joined; receipts = v.receipts }
 
 module _ {T H : Type 0} where
+  -- a seat's view, and the slots that are lent to it with what they hold
+  abbrev pub view_of : Me (Option T) (View H) → View H
+  view_of me = me.0
+
+  abbrev pub lent_to : Me (Option T) (View H) → List (ℕ × Option T)
+  lent_to me = me.1
+
+  -- the seat waits for the number in its ticket, hasn't learnt that it is served, and has no slot
+  abbrev pub WaitsFor : ℕ → Me (Option T) (View H) → Type 0
+  WaitsFor ticket me = ((view_of me).ticket ≡ Some ticket) × ((view_of me).served ≢ Some ticket) × (lent_to me ≡ [])
+
   abbrev pub known : Seat (Option T) (View H) → Known H
   known seat = known_as seat.table_id seat.id seat.me.0
 

@@ -1,10 +1,10 @@
 //! The lock and its seats.
-ghost use Rattle.std.specs.Prelude.{◌≡◌, ◌≢◌, ◌+◌, ◌^◌, ◌<◌, [], ◌∷◌, length, Some, IfOk, MatchBool};
+ghost use Rattle.std.specs.Prelude.{◌≡◌, ◌+◌, ◌^◌, ◌<◌, [], ◌∷◌, length, Some, MatchBool};
 ghost use Rattle.std.specs.List.{All};
 ghost use Rattle.seat_lock.specs.History.{History, log_of, Begins, NoneTwice};
-ghost use Rattle.seat_lock.specs.Seats.{first_seat, after_split, split_off, after_join};
+ghost use Rattle.seat_lock.specs.Seats.{IfMade, first_seat, after_split, split_off, after_join};
 ghost use Rattle.seat_lock.specs.Turned.{Turned};
-ghost use Rattle.seat_lock.specs.Views.{InTurn, IsAtRest, StillWaits, BeginsTurn, EndsTurn, with_ticket};
+ghost use Rattle.seat_lock.specs.Views.{view_of, lent_to, WaitsFor, InTurn, IsAtRest, StillWaits, BeginsTurn, EndsTurn, with_ticket};
 
 use crate::logged::{Job, Logged};
 use crate::view::{DrawTicket, EndTurn, JoinIn, LockRule, LookAtServed, SplitOff, View};
@@ -32,9 +32,11 @@ const LOOKS: u32 = 64;
 /// A waiter with more turns than this ahead of its own sleeps.
 const MOST_AWAKE: u64 = 2;
 
-/// For how long a waiter sleeps, in microseconds: for each turn ahead of its own, and at most.
+/// For how long a waiter sleeps for each turn ahead of its own, in microseconds: about as long as a turn takes.
 const SLEEP_FOR_EACH_TURN: u64 = 10;
 
+/// The longest that a waiter sleeps at a time, in microseconds, however many turns are ahead of its own. Turns go by ticket, so one that
+/// sleeps past its own turn holds up all behind it, for no longer than this.
 const LONGEST_SLEEP: u64 = 1_000;
 
 type LockTable<T> = Table<Option<T>, View<<T as Logged>::Head>, Snapshot<T>, LockRule, Global>;
@@ -82,7 +84,7 @@ fn draw_ticket<T: Logged>(table: &LockTable<T>, seat: &mut TableSeat<T>) -> u64
     requires lock { (seat.old.table_id ≡ table.now.shared.table_id) × (table.now.shared.table_id.words ≡ 2) }
     requires rest { IsAtRest seat.old }
     ensures same { (seat.new.table_id ≡ seat.old.table_id) × (seat.new.id ≡ seat.old.id) }
-    ensures drawn { seat.new.me ≡ (with_ticket result seat.old.me.0, []) }
+    ensures drawn { seat.new.me ≡ (with_ticket result (view_of seat.old.me), []) }
 {
     table.shared.fetch_add::<DrawTicket>(seat, TICKET, 1)
 }
@@ -90,7 +92,7 @@ fn draw_ticket<T: Logged>(table: &LockTable<T>, seat: &mut TableSeat<T>) -> u64
 /// Looks at the number served a few times, until it is the seat's ticket. The result is whether it is: then the seat's turn has begun.
 fn look_for_turn<T: Logged>(table: &LockTable<T>, seat: &mut TableSeat<T>, ticket: u64) -> bool
     requires lock { (seat.old.table_id ≡ table.now.shared.table_id) × (table.now.shared.table_id.words ≡ 2) }
-    requires waits { (seat.old.me.0.ticket ≡ Some ticket) × (seat.old.me.0.served ≢ Some ticket) × (seat.old.me.1 ≡ []) }
+    requires waits { WaitsFor ticket seat.old.me }
     ensures same { (seat.new.table_id ≡ seat.old.table_id) × (seat.new.id ≡ seat.old.id) }
     ensures begins { MatchBool result (BeginsTurn T.head T.log seat.old.me ticket seat.new.me) (StillWaits ticket seat.old.me seat.new.me) }
 {
@@ -131,7 +133,7 @@ fn wait_for_turn<T: Logged, R: Wait>(
     ticket: u64,
 )
     requires lock { (seat.old.table_id ≡ table.now.shared.table_id) × (table.now.shared.table_id.words ≡ 2) }
-    requires waits { (seat.old.me.0.ticket ≡ Some ticket) × (seat.old.me.0.served ≢ Some ticket) × (seat.old.me.1 ≡ []) }
+    requires waits { WaitsFor ticket seat.old.me }
     ensures same { (seat.new.table_id ≡ seat.old.table_id) × (seat.new.id ≡ seat.old.id) }
     ensures begins { BeginsTurn T.head T.log seat.old.me ticket seat.new.me }
 {
@@ -151,11 +153,11 @@ fn act_in_turn<T: Logged, J: Job<T>>(
     job: J,
 ) -> J::Out
     requires lock { (seat.old.table_id ≡ table.now.shared.table_id) × (table.now.shared.table_id.words ≡ 2) }
-    requires turn { InTurn seat.old.me.0 }
-    requires value { (x : T) × (seat.old.me.1 ≡ (0, Some x) ∷ []) × J.fits job (T.head x) × (seat.old.me.0.head ≡ Some (T.head x)) × (T.log x ≡ log_of seat.old.me.0.seen) }
+    requires turn { InTurn (view_of seat.old.me) }
+    requires value { (x : T) × (lent_to seat.old.me ≡ (0, Some x) ∷ []) × J.fits job (T.head x) × ((view_of seat.old.me).head ≡ Some (T.head x)) × (T.log x ≡ log_of (view_of seat.old.me).seen) }
     ensures same { (seat.new.table_id ≡ seat.old.table_id) × (seat.new.id ≡ seat.old.id) }
-    ensures acted { (x : T) × (y : T) × (seat.old.me.1 ≡ (0, Some x) ∷ []) × J.does job x y result × (T.head y ≡ T.head x) × EndsTurn T.log seat.old.me y seat.new.me }
-    ensures none_twice { NoneTwice seat.new.me.0.receipts }
+    ensures acted { (x : T) × (y : T) × (lent_to seat.old.me ≡ (0, Some x) ∷ []) × J.does job x y result × (T.head y ≡ T.head x) × EndsTurn T.log seat.old.me y seat.new.me }
+    ensures none_twice { NoneTwice (view_of seat.new.me).receipts }
 {
     let words = &table.shared;
     let mut value = match words.exchange(seat, VALUE, None) {
@@ -178,7 +180,7 @@ impl<T: Logged> SeatLock<T> {
     pub fn new(alloc: Global, value: T) -> Result<(SeatLock<T>, Seat<T>), Memory>
     where
         T: Drop,
-        ensures { IfOk result (λ made. made.1 ≡ first_seat made.0 (T.head value) (T.log value)) }
+        ensures { IfMade result (λ lock seat. seat ≡ first_seat lock (T.head value) (T.log value)) }
     {
         let about = Snapshot::of(&value);
         let mut slots = Vec::with_capacity(alloc, 1)?;
