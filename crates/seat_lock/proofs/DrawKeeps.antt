@@ -4,7 +4,7 @@ use mathlib.Core.Option.{none}
 use Rattle.std.proofs.Math.Nat.{mod-add-mod}
 use Rattle.atomic_table.specs.Table.{Me, step, keeps, Allows}
 use Rattle.atomic_table.proofs.Lists.{at_longer, at_last}
-use Rattle.seat_lock.specs.declared.view.View.{View}
+use Rattle.seat_lock.specs.View.{View}
 use Rattle.seat_lock.specs.History.{LogEntry, log_of}
 use Rattle.seat_lock.specs.Rule.{word_size, weight, holds_ticket, Fits}
 use Rattle.seat_lock.specs.Views.{with_ticket, Draws}

@@ -5,7 +5,7 @@ use mathlib.Core.Option as maybe
 use lib.ListN.{get_elem?}
 use Rattle.atomic_table.specs.Table.{rest, Me, step, gives, stepped, Allows}
 use Rattle.atomic_table.proofs.Lists.{set_here, drop_at}
-use Rattle.seat_lock.specs.declared.view.View.{View}
+use Rattle.seat_lock.specs.View.{View}
 use Rattle.seat_lock.specs.History.{LogEntry, Turn, History, log_of, GrowsByAtMostOne, Begins, times, with_receipt, NoneTwice}
 use Rattle.seat_lock.specs.Rule.{word_size, weight, holds_ticket, Fits}
 use Rattle.seat_lock.specs.Views.{InTurn, after_turn, Ends}

@@ -5,7 +5,7 @@ use lib.ListN.{get_elem?}
 use Rattle.std.proofs.lemmas.List.Elements.{All-cons, All-append}
 use Rattle.atomic_table.specs.Table.{Joins}
 use Rattle.atomic_table.proofs.Lists.{set_here, set_else}
-use Rattle.seat_lock.specs.declared.view.View.{View}
+use Rattle.seat_lock.specs.View.{View}
 use Rattle.seat_lock.specs.History.{LogEntry, History, Begins, times}
 use Rattle.seat_lock.specs.Rule.{word_size, weight, total, lives, holds_ticket, Fits}
 use Rattle.seat_lock.specs.Views.{with_joined, spent}

@@ -8,7 +8,7 @@ use lib.Seq.{set-get_or}
 use Rattle.std.proofs.lemmas.List.Elements.{All-nil}
 use Rattle.atomic_table.specs.Table.{Me, step, keeps, takes, stepped, Allows}
 use Rattle.atomic_table.proofs.Lists.{set_here}
-use Rattle.seat_lock.specs.declared.view.View.{View}
+use Rattle.seat_lock.specs.View.{View}
 use Rattle.seat_lock.specs.History.{LogEntry, log_of, Begins}
 use Rattle.seat_lock.specs.Rule.{word_size, holds_ticket, NoneInTurn, Fits}
 use Rattle.seat_lock.specs.Views.{InTurn, with_served, at_turn, LooksAt}

@@ -7,7 +7,7 @@ use lib.ListN.{get_elem?}
 use Rattle.std.specs.List.{All}
 use Rattle.std.proofs.lemmas.List.Elements.{All-nil}
 use Rattle.atomic_table.specs.Table.{opening, Final, Seen}
-use Rattle.seat_lock.specs.declared.view.View.{View}
+use Rattle.seat_lock.specs.View.{View}
 use Rattle.seat_lock.specs.History.{LogEntry, History, log_of, turns_of, Begins, times, NoneTwice}
 use Rattle.seat_lock.specs.Rule.{weight, total, lives, NoneInTurn, Fits}
 use Rattle.seat_lock.specs.Seats.{LockId, Known}

@@ -6,7 +6,7 @@ use native.Mathlib.Decide.{ℕ_discrete}
 use lib.ListN.{get_elem?}
 use Rattle.atomic_table.specs.Table.{State}
 use Rattle.atomic_table.proofs.Lists.{at_set, set_here, set_else}
-use Rattle.seat_lock.specs.declared.view.View.{View}
+use Rattle.seat_lock.specs.View.{View}
 use Rattle.seat_lock.specs.History.{LogEntry, log_of, times}
 use Rattle.seat_lock.specs.Rule.{word_size, weight, total, once_below, lives, holds_ticket, NoneInTurn, CountsTheOthers, Kept}
 use Rattle.seat_lock.specs.Views.{InTurn}

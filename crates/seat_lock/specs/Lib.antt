@@ -1,4 +1,5 @@
 pub mod History
+pub mod View
 pub mod Seats
 pub mod Turned
 pub mod Views

@@ -6,7 +6,7 @@ use mathlib.Core.Option.{some, none}
 use mathlib.Core.Option as maybe
 use lib.ListN.{get_elem?}
 use Rattle.atomic_table.specs.Table.{State}
-use Rattle.seat_lock.specs.declared.view.View.{View}
+use Rattle.seat_lock.specs.View.{View}
 use Rattle.seat_lock.specs.History.{LogEntry, History, log_of, Begins, times}
 use Rattle.seat_lock.specs.Views.{InTurn}
 

@@ -10,24 +10,21 @@
 //! | end a turn with an entry, or without one | word 1, raised | the view loses its ticket and has seen the turn, with a receipt for the entry; the slot is at home again |
 use crate::logged::Logged;
 use atomic_table::{Join, Play, Split, TableRule};
-use std::collections::LinkedList;
-use std::marker::PhantomData;
+use std::marker::{Model, PhantomData};
 use std::snapshot::Snapshot;
 
-/// What a seat knows. No value of it is made.
+/// What a seat knows. It has no bytes, and no program makes one: contracts alone see what it holds (`specs/View.antt`).
 pub struct View<H> {
-    /// The head of the value, unless the view is spent.
-    pub head: Option<H>,
-    /// The ticket that it holds, and the number served that it last learnt.
-    pub ticket: Option<u64>,
-    pub served: Option<u64>,
-    /// How many seats that were split off it are out.
-    pub out: u64,
-    /// The turns that it has seen; and, since its last turn, what it and the seats joined into it had seen.
-    pub seen: LinkedList<Option<LinkedList<u64>>>,
-    pub joined: LinkedList<LinkedList<Option<LinkedList<u64>>>>,
-    /// The places of the entries that it added.
-    pub receipts: LinkedList<u64>,
+    marker: PhantomData<H>,
+}
+
+impl<H> Model for View<H> {
+    ghost use Rattle.seat_lock.specs.View.{View};
+    ghost use Rattle.seat_lock.specs.Views.{spent};
+
+    ghost Value = { View H };
+
+    ghost view = { λ _. spent };
 }
 
 /// The rule that holds between any two steps.
