@@ -1,8 +1,8 @@
 //! The board of one task.
-ghost use Rattle.std.specs.Prelude.{◌≡◌, ◌+◌, ◌^◌, ◌<◌, ◌≤◌, [], ◌∷◌, length, Some, IfOk};
+ghost use Rattle.std.specs.Prelude.{◌≡◌, ◌+◌, ◌^◌, ◌<◌, ◌≤◌, [], ◌∷◌, length, Some};
 ghost use Rattle.std.specs.List.{All};
 ghost use Rattle.seat_lock.specs.History.{log_of, Begins, NoneTwice};
-ghost use Rattle.seat_lock.specs.Seats.{first_seat, after_split, split_off, after_join};
+ghost use Rattle.seat_lock.specs.Seats.{IfMade, first_seat, after_split, split_off, after_join};
 ghost use Rattle.board_book.specs.declared.opening.Opening.{Opening};
 ghost use Rattle.tournament.specs.Posting.{answer_of};
 ghost use Rattle.bisect_game.specs.Rules.{rules_of};
@@ -58,7 +58,7 @@ impl<J: Judge + Drop, P: Provers + Drop> Board<J, P> {
     /// A board over the book, and its first seat, which has seen the book's journal. An `Err` is out of memory; the book is then
     /// dropped.
     pub fn new(alloc: Global, book: Book<J, P>) -> Result<(Board<J, P>, Seat<J, P>), Memory>
-        ensures { IfOk result (λ made. made.1 ≡ first_seat made.0 book.opening (log_of_journal (of_task 1 book.journal))) }
+        ensures { IfMade result (λ board seat. seat ≡ first_seat board book.opening (log_of_journal (of_task 1 book.journal))) }
     {
         let (tasks, seat) = TaskBoard::new(alloc, Books::one(alloc, book)?)?;
         Ok((Board { tasks }, Seat { tasks: seat }))

@@ -1,8 +1,8 @@
 //! The board of many tasks, and its seats.
-ghost use Rattle.std.specs.Prelude.{◌≡◌, ◌+◌, ◌^◌, ◌<◌, length, List, Some, IfOk};
+ghost use Rattle.std.specs.Prelude.{◌≡◌, ◌+◌, ◌^◌, ◌<◌, length, List, Some};
 ghost use Rattle.std.specs.List.{All};
 ghost use Rattle.seat_lock.specs.History.{log_of, Begins, NoneTwice};
-ghost use Rattle.seat_lock.specs.Seats.{first_seat, after_split, split_off, after_join};
+ghost use Rattle.seat_lock.specs.Seats.{IfMade, first_seat, after_split, split_off, after_join};
 ghost use Rattle.board_book.specs.declared.opening.Opening.{Opening};
 ghost use Rattle.tournament.specs.Posting.{answer_of};
 ghost use Rattle.board_book.specs.Tasks.{openings, tasks_of};
@@ -45,7 +45,7 @@ impl<J: Judge + Drop, P: Provers + Drop> TaskBoard<J, P> {
         alloc: Global,
         books: Books<J, P>,
     ) -> Result<(TaskBoard<J, P>, TaskSeat<J, P>), Memory>
-        ensures { IfOk result (λ made. made.1 ≡ first_seat made.0 (openings books.books) (log_of_journal books.journal)) }
+        ensures { IfMade result (λ board seat. seat ≡ first_seat board (openings books.books) (log_of_journal books.journal)) }
     {
         let (lock, seat) = SeatLock::new(alloc, Locked { books })?;
         Ok((TaskBoard { lock }, seat))

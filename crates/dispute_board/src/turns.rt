@@ -11,8 +11,22 @@ use bisect_game::{Judge, Provers};
 use board_book::{Ask, Book, Books, Opening, tasks_are_numbered};
 use rd_base::Qid;
 use seat_lock::{Job, Logged};
-use std::collections::LinkedList;
+use std::marker::{Model, PhantomData};
 use tournament::{Move, Reply, is_pass};
+
+/// The openings of all books. It has no bytes, and no program makes one: contracts alone see it, as their list.
+pub struct Openings<N, M> {
+    marker: PhantomData<Opening<N, M>>,
+}
+
+impl<N, M> Model for Openings<N, M> {
+    ghost use Rattle.std.specs.Prelude.{List, []};
+    ghost use Rattle.board_book.specs.declared.opening.Opening.{Opening};
+
+    ghost Value = { List (Opening N M) };
+
+    ghost view = { λ _. [] };
+}
 
 /// The books of all tasks under a lock. Their head is the list of their openings, and their log is the journal of all. No other crate
 /// can name it, so that none does anything else in a turn than ask or post.
@@ -25,8 +39,7 @@ impl<J: Judge + Drop, P: Provers + Drop> Logged for Locked<J, P> {
     ghost use Rattle.board_book.specs.Tasks.{openings};
     ghost use Rattle.dispute_board.specs.OneHistory.{log_of_journal};
 
-    /// Contracts alone see a head, and see this type as the plain list of the openings.
-    type Head = LinkedList<Opening<J::Names, P::Names>>;
+    type Head = Openings<J::Names, P::Names>;
 
     ghost log = { λ locked. log_of_journal locked.books.journal };
 
