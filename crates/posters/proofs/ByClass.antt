@@ -70,54 +70,54 @@ block_at : (from long : ℕ) (ns block : List ℕ) (j : ℕ) → block ≡ take 
 block_at from long ns block j is below = ap (λ l. get_or l j 0) is ∙ get_or-take long (drop from ns) j 0 below ∙ get_or-drop from ns j 0
 
 module _ {W : Type 0} (class : W → ℕ) (classes : ℕ) (ns : List ℕ) where
-  -- one worker is suited to what is of its class alone
-  pub suits-one : (from long : ℕ) (workers : List W) (block : List ℕ) → Suits class classes ns from long workers → length workers < 2 → block ≡ take long (drop from ns) → length block ≡ long
-      → All (λ w. All (λ n. n % classes ≡ class w) block) workers
-  suits-one from long workers block s few is len i d below j e within =
+  -- one server is suited to what is of its class alone
+  pub suits-one : (from long : ℕ) (servers : List W) (block : List ℕ) → Suits class classes ns from long servers → length servers < 2 → block ≡ take long (drop from ns) → length block ≡ long
+      → All (λ w. All (λ n. n % classes ≡ class w) block) servers
+  suits-one from long servers block s few is len i d below j e within =
       let here : get_or block j e ≡ get_or ns (from + j) 0 = get_or_default block j e 0 within ∙ block_at from long ns block j is (omega arith) in
-      let own = s.workers_classes i d below in
+      let own = s.servers_classes i d below in
       let least = s.least (from + j) (omega arith) (omega arith) in
       let most = s.most (from + j) (omega arith) (omega arith) in
-      ap (λ n. n % classes) here ∙ (let g : get_or ns (from + j) 0 % classes ≡ class (get_or workers i d) = omega arith in g)
+      ap (λ n. n % classes) here ∙ (let g : get_or ns (from + j) 0 % classes ≡ class (get_or servers i d) = omega arith in g)
 
-  -- the first half of the workers is suited to the numbers below the class of the one in the middle
-  pub suits-near : (from long half place middle : ℕ) (workers left : List W) (block : List ℕ) (d : W) → Suits class classes ns from long workers → left ≡ take half workers → length left ≡ half → half < length workers
-      → block ≡ take long (drop from ns) → place ≤ long → middle ≡ class (get_or workers half d) → ((j : ℕ) → j < place → get_or block j 0 % classes < middle) → (near : ℕ) → near ≡ place → Suits class classes ns from near left
-  suits-near from long half place middle workers left block d s is len le block_is within mid lower near near_is = record {
+  -- the first half of the servers is suited to the numbers below the class of the one in the middle
+  pub suits-near : (from long half place middle : ℕ) (servers left : List W) (block : List ℕ) (d : W) → Suits class classes ns from long servers → left ≡ take half servers → length left ≡ half → half < length servers
+      → block ≡ take long (drop from ns) → place ≤ long → middle ≡ class (get_or servers half d) → ((j : ℕ) → j < place → get_or block j 0 % classes < middle) → (near : ℕ) → near ≡ place → Suits class classes ns from near left
+  suits-near from long half place middle servers left block d s is len le block_is within mid lower near near_is = record {
     first = s.first;
     by_class = s.by_class;
-    workers_classes = λ i e below. ap class (ap (λ l. get_or l i e) is ∙ get_or-take half workers i e (omega arith)) ∙ s.workers_classes i e (omega arith);
+    servers_classes = λ i e below. ap class (ap (λ l. get_or l i e) is ∙ get_or-take half servers i e (omega arith)) ∙ s.servers_classes i e (omega arith);
     least = λ j at before. s.least j at (omega arith);
     most = λ j at before.
         let k : ℕ = j - from in
         let here : get_or block k 0 ≡ get_or ns (from + k) 0 = block_at from long ns block k block_is (omega arith) in
         let low : get_or ns (from + k) 0 % classes < middle = subst (λ n. n % classes < middle) here (lower k (omega arith)) in
         let there : from + k ≡ j = omega arith in
-        let own = s.workers_classes half d le in
+        let own = s.servers_classes half d le in
         subst (λ n. get_or ns n 0 % classes < s.first + length left) there (omega arith);
   }
 
   -- and the second half to the others
-  pub suits-far : (from long half place middle : ℕ) (workers right : List W) (block : List ℕ) (d : W) → Suits class classes ns from long workers → right ≡ drop half workers → length right + half ≡ length workers → half < length workers
-      → block ≡ take long (drop from ns) → length block ≡ long → from + long ≤ length ns → middle ≡ class (get_or workers half d) → (place < length block → middle ≤ get_or block place 0 % classes) → (next far : ℕ) → next ≡ from + place → far + place ≡ long → Suits class classes ns next far right
-  suits-far from long half place middle workers right block d s is len le block_is block_long within mid upper next far next_is far_is = record {
+  pub suits-far : (from long half place middle : ℕ) (servers right : List W) (block : List ℕ) (d : W) → Suits class classes ns from long servers → right ≡ drop half servers → length right + half ≡ length servers → half < length servers
+      → block ≡ take long (drop from ns) → length block ≡ long → from + long ≤ length ns → middle ≡ class (get_or servers half d) → (place < length block → middle ≤ get_or block place 0 % classes) → (next far : ℕ) → next ≡ from + place → far + place ≡ long → Suits class classes ns next far right
+  suits-far from long half place middle servers right block d s is len le block_is block_long within mid upper next far next_is far_is = record {
     first = s.first + half;
     by_class = s.by_class;
-    workers_classes = λ i e below. ap class (ap (λ l. get_or l i e) is ∙ get_or-drop half workers i e) ∙ s.workers_classes (half + i) e (omega arith) ∙ (let g : s.first + (half + i) ≡ s.first + half + i = omega arith in g);
+    servers_classes = λ i e below. ap class (ap (λ l. get_or l i e) is ∙ get_or-drop half servers i e) ∙ s.servers_classes (half + i) e (omega arith) ∙ (let g : s.first + (half + i) ≡ s.first + half + i = omega arith in g);
     least = λ j at before.
         let here : get_or block place 0 ≡ get_or ns (from + place) 0 = block_at from long ns block place block_is (omega arith) in
         let high : middle ≤ get_or ns (from + place) 0 % classes = subst (λ n. middle ≤ n % classes) here (upper (omega arith)) in
         let order : get_or ns (from + place) 0 % classes ≤ get_or ns j 0 % classes = s.by_class (from + place) j (omega arith) (omega arith) in
-        let own = s.workers_classes half d le in omega arith;
+        let own = s.servers_classes half d le in omega arith;
     most = λ j at before. let m = s.most j (omega arith) (omega arith) in omega arith;
   }
 
-  -- at first: all workers and all numbers
-  pub suits-all : (long : ℕ) (workers : List W) → 0 < classes → classes ≡ length workers → IsByClass classes ns → HaveClasses class 0 workers → Suits class classes ns 0 long workers
-  suits-all long workers some count by_class have = record {
+  -- at first: all servers and all numbers
+  pub suits-all : (long : ℕ) (servers : List W) → 0 < classes → classes ≡ length servers → IsByClass classes ns → HaveClasses class 0 servers → Suits class classes ns 0 long servers
+  suits-all long servers some count by_class have = record {
     first = 0;
     by_class = by_class;
-    workers_classes = have;
+    servers_classes = have;
     least = λ j at before. omega arith;
     most = λ j at before. let m = mod-lt (get_or ns j 0) some in omega arith;
   }

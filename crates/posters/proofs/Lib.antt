@@ -1,7 +1,7 @@
 pub mod Answering
 pub mod Numbering
 pub mod Seats
-pub mod Workers
+pub mod Servers
 pub mod Swaps
 pub mod Blocks
 pub mod ByClass

@@ -1,4 +1,4 @@
--- Derived: numbers in the order of their classes, and workers that suit them. `arrange` ends with `IsByClass`.
+-- Derived: numbers in the order of their classes, and servers that suit them. `arrange` ends with `IsByClass`.
 use Rattle.std.specs.Prelude.{ℕ, ◌+◌, ◌%◌, ◌<◌, ◌≤◌, List, length, slice_index}
 use Rattle.posters.specs.Classes.{HaveClasses}
 
@@ -6,10 +6,10 @@ use Rattle.posters.specs.Classes.{HaveClasses}
 abbrev pub IsByClass : ℕ → List ℕ → Type 0
 IsByClass classes numbers = (i j : ℕ) → i ≤ j → j < length numbers → slice_index numbers i % classes ≤ slice_index numbers j % classes
 
--- workers of the classes from the first on, for the `long` numbers from the place `from` on, which are of these classes and in their order
-pub record Suits {W : Type 0} (class : W → ℕ) (classes : ℕ) (numbers : List ℕ) (from long : ℕ) (workers : List W) : Type 0 where
+-- servers of the classes from the first on, for the `long` numbers from the place `from` on, which are of these classes and in their order
+pub record Suits {W : Type 0} (class : W → ℕ) (classes : ℕ) (numbers : List ℕ) (from long : ℕ) (servers : List W) : Type 0 where
   pub first : ℕ
   pub by_class : IsByClass classes numbers
-  pub workers_classes : HaveClasses class first workers
+  pub servers_classes : HaveClasses class first servers
   pub least : (j : ℕ) → from ≤ j → j < from + long → first ≤ slice_index numbers j % classes
-  pub most : (j : ℕ) → from ≤ j → j < from + long → slice_index numbers j % classes < first + length workers
+  pub most : (j : ℕ) → from ≤ j → j < from + long → slice_index numbers j % classes < first + length servers

@@ -17,4 +17,4 @@ mod serving;
 
 pub use one_task::{Gate, play};
 pub use playing::{OpenGate, Place, TaskGate, play_tasks};
-pub use round_robin::{Worker, serve_all};
+pub use round_robin::{ClassServer, serve_all};

@@ -10,7 +10,7 @@ ghost use Rattle.board_book.specs.declared.opening.Opening.{Opening};
 ghost use Rattle.posters.specs.Serving.{kept_of, IsSeatOf, IsProver, MayServe};
 
 use crate::playing::{Place, TaskGate};
-use crate::round_robin::Worker;
+use crate::round_robin::ClassServer;
 use bisect_game::{Answerer, Judge, Provers};
 use board_book::{Ask, tasks_are_numbered};
 use dispute_board::{TaskBoard, TaskSeat, what_is_said_may_be_posted};
@@ -256,8 +256,10 @@ impl<'g, J: Judge + Drop, P: Provers + Drop, G: TaskGate> Hall<'g, J, P, G> {
     }
 }
 
-impl<'g, J: Judge + Drop, P: Provers + Drop, A: Answerer, G: TaskGate> Worker<Hall<'g, J, P, G>, A>
-    for Poster<J, P> {
+impl<'g, J: Judge + Drop, P: Provers + Drop, A: Answerer, G: TaskGate> ClassServer<
+    Hall<'g, J, P, G>,
+    A,
+> for Poster<J, P> {
     ghost use Rattle.std.specs.Prelude.{◌≡◌, ℕ, Option, List};
     ghost use Rattle.rd_base.specs.declared.answer.Answer.{Answer};
     ghost use Rattle.bisect_game.specs.declared.question.Question.{Question};

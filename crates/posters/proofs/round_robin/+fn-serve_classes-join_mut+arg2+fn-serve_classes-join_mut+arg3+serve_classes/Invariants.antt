@@ -8,4 +8,4 @@ abbrev pub decreases-join_mut+arg3 : goal.decreases-join_mut+arg3
 decreases-join_mut+arg3 g l = length l.right.now
 
 abbrev pub decreases-serve_classes : goal.decreases-serve_classes
-decreases-serve_classes g l = length l.workers.now
+decreases-serve_classes g l = length l.servers.now

@@ -13,7 +13,7 @@ pub serve_classes-requires-clause-ready : goal.serve_classes-requires-clause-rea
 serve_classes-requires-clause-ready g c κs within =
     let ready = c.requires.ready in let arranged = c.arrange.ensures in let v = c.loop-number.invariant in let js = c.arrange.new.swaps.items in
     let end : c.loop-number.number ≡ length c.args.items.now = search rules in
-    (ready.0, ready.1, said_swapped g.W.Worker.meaning ready.0 js c.args.items.now c.arrange.new.items (range_with_len 0 (length c.args.items.now)) c.arrange.new.numbers.items ready.2 arranged.items (arranged.numbers ∙ ap (swapped 0 js) (v.0 ∙ ap (range_with_len 0) end)))
+    (ready.0, ready.1, said_swapped g.Server.ClassServer.meaning ready.0 js c.args.items.now c.arrange.new.items (range_with_len 0 (length c.args.items.now)) c.arrange.new.numbers.items ready.2 arranged.items (arranged.numbers ∙ ap (swapped 0 js) (v.0 ∙ ap (range_with_len 0) end)))
 
 pub serve_classes-requires-clause-few : goal.serve_classes-requires-clause-few
 serve_classes-requires-clause-few g c κs within =
@@ -25,8 +25,8 @@ serve_classes-requires-clause-few g c κs within =
 
 pub serve_classes-requires-clause-classes : goal.serve_classes-requires-clause-classes
 serve_classes-requires-clause-classes g c κs within =
-    suits-all (λ w. g.W.Worker.class_of (g.W.Worker.stays w)) (length c.args.workers.now) c.arrange.new.numbers.items (length c.arrange.new.items) c.args.workers.now (search rules) refl c.arrange.ensures.by_class c.requires.classes
+    suits-all (λ w. g.Server.ClassServer.class_of (g.Server.ClassServer.stays w)) (length c.args.servers.now) c.arrange.new.numbers.items (length c.arrange.new.items) c.args.servers.now (search rules) refl c.arrange.ensures.by_class c.requires.classes
 
 pub returns-clause-items : goal.returns-clause-items
 returns-clause-items g c = let arranged = c.arrange.ensures in
-    meant_again g.W.Worker.meaning c.arrange.new.swaps.items c.args.items.now c.arrange.new.items c.serve_classes.new.items c.restore.new.items arranged.few arranged.places arranged.items c.serve_classes.ensures.items c.restore.ensures
+    meant_again g.Server.ClassServer.meaning c.arrange.new.swaps.items c.args.items.now c.arrange.new.items c.serve_classes.new.items c.restore.new.items arranged.few arranged.places arranged.items c.serve_classes.ensures.items c.restore.ensures

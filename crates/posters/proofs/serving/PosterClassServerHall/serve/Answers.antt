@@ -1,7 +1,7 @@
 use Rattle.std.proofs.Common.{ℕ, Option, map, ap, ◌∙◌}
 use Rattle.rd_base.specs.declared.answer.Answer.{Answer}
 use Rattle.bisect_game.specs.declared.question.Question.{Question}
-use Rattle.posters.proofs.serving.PosterWorkerHall.serve.Goals as goal
+use Rattle.posters.proofs.serving.PosterClassServerHall.serve.Goals as goal
 
 pub serve_until_over-requires-clause-seat : goal.serve_until_over-requires-clause-seat
 serve_until_over-requires-clause-seat g c κs within = let r = c.requires.ready in let kept = r.1.1 in
