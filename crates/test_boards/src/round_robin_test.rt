@@ -1,8 +1,8 @@
-//! Tests of many items served by a few workers.
+//! Tests of many items served by a few servers.
 ghost use Rattle.std.specs.Prelude.{◌≡◌, length, IfOk};
 ghost use Rattle.posters.specs.Classes.{HaveClasses};
 
-use posters::{Worker, serve_all};
+use posters::{ClassServer, serve_all};
 use std::alloc::{AllocError, Global};
 use std::sync::Wait;
 use std::test::Fail;
@@ -22,7 +22,7 @@ struct Server {
     class: u32,
 }
 
-impl Worker<u32, Item> for Server {
+impl ClassServer<u32, Item> for Server {
     ghost use Rattle.std.specs.Prelude.{ℕ};
 
     ghost Kept = { ℕ };
@@ -139,7 +139,7 @@ fn each_item_is_served_once_by_its_class_and_stands_at_its_place_again(
         (3, 5, 3),
         (5, 1, 5),
         (0, 2, 0),
-        // without workers nothing is served
+        // without servers nothing is served
         (4, 0, 4),
     ] {
         assert_eq!(rt; served(&rt, rt.alloc(), count, classes)?, Some(len));
