@@ -8,14 +8,14 @@ use Rattle.rd_base.specs.declared.answer.Answer.{Answer}
 use Rattle.rd_base.specs.declared.answer.Qid.{Qid}
 use Rattle.bisect_game.specs.declared.question.Question.{Question}
 use Rattle.bisect_game.specs.Says.{Says, AnswerAs}
-use Rattle.bisect_game.specs.Rules.{Rules}
+use Rattle.bisect_game.specs.Rules.{Rules, ArePlayable}
 use Rattle.tournament.specs.declared.posting.Reply.{Reply}
 use Rattle.tournament.specs.declared.posting.Reply.TheVariants.{Stale}
 use Rattle.tournament.specs.Bracket.{open_question, is_complete, bracket}
 use Rattle.tournament.specs.Moves.{MatchState, begun, passes_of, settled_by, moved}
 use Rattle.tournament.specs.Journals.{turn, turn_on, turns, IsAskedOf, Legal, answers_of, RecordOfCase}
 use Rattle.tournament.specs.Length.{IsMost, most_entries, SpareIsEnough}
-use Rattle.bisect_game.specs.declared.setup.Setup.{Setup}
+use Rattle.bisect_game.specs.Setup.{Setup}
 use Rattle.rd_base.specs.Questions.{same_qid}
 use Rattle.tournament.specs.Posting.{posted, posted_on, reply_by, reply_on, reply_to}
 use Rattle.bisect_game.specs.Rules.{rules_of}
@@ -188,23 +188,19 @@ set_length (x ∷ xs) (suc i) y = ap suc (set_length xs i y)
 
 -- a book over has the record of its case, and asks what it asks
 
-pub book-record : RecordOfCase → (rules : Rules) (says : Says) (count : ℕ) (es : List Entry) (st : MatchState) (room capacity : ℕ) → IsBook rules says count es st room capacity →
+pub book-record : RecordOfCase → (rules : Rules) (says : Says) (es : List Entry) (st : MatchState) → ArePlayable rules → IsJournal rules says es (begun rules) → state_after rules says es ≡ st →
     is_complete st.record_ ≡ true → st.record_ ≡ bracket rules (answers_of rules says)
-book-record one rules says count es st room capacity b complete =
-    let legal : Legal rules says (who es) (begun rules) = journal-legal rules says es (begun rules) b.legal in
-    rw b.state at (one rules says (who es) b.playable legal (rw (← b.state) at complete))
+book-record one rules says es st playable legal state complete =
+    rw state at (one rules says (who es) playable (journal-legal rules says es (begun rules) legal) (rw (← state) at complete))
 
-pub book-asks : AskedByTheCase → (rules : Rules) (says : Says) (count : ℕ) (es : List Entry) (st : MatchState) (room capacity : ℕ) → IsBook rules says count es st room capacity →
+pub book-asks : AskedByTheCase → (rules : Rules) (says : Says) (es : List Entry) (st : MatchState) → ArePlayable rules → IsJournal rules says es (begun rules) → state_after rules says es ≡ st →
     (p : ℕ) (q : Question) → 0 < p → open_question rules st.record_ p ≡ Some q → asked rules (bracket rules (answers_of rules says)) p q.qid ≡ Some q.kind
-book-asks by rules says count es st room capacity b p q some e =
-    let legal : Legal rules says (who es) (begun rules) = journal-legal rules says es (begun rules) b.legal in
-    by rules says (who es) p q b.playable legal some (rw (← b.state) at e)
+book-asks by rules says es st playable legal state p q some e = by rules says (who es) p q playable (journal-legal rules says es (begun rules) legal) some (rw (← state) at e)
 
-pub book-safe : TruthfulProversAreSafe → (rules : Rules) (says : Says) (count : ℕ) (es : List Entry) (st : MatchState) (room capacity : ℕ) → IsBook rules says count es st room capacity → IsFair rules.ruling →
+pub book-safe : TruthfulProversAreSafe → (rules : Rules) (says : Says) (es : List Entry) (st : MatchState) → ArePlayable rules → IsJournal rules says es (begun rules) → state_after rules says es ≡ st → IsFair rules.ruling →
     (t : Truth) (p : ℕ) → IsRun rules t → 0 < p → p ≤ rules.setup.provers → IsTruthfulProver rules says t p → IsSafe rules t p st.record_
-book-safe safe rules says count es st room capacity b fair t p run low high truthful =
-    let legal : Legal rules says (who es) (begun rules) = journal-legal rules says es (begun rules) b.legal in
-    rw b.state at (safe rules says t (who es) p b.playable fair run low high truthful legal)
+book-safe safe rules says es st playable legal state fair t p run low high truthful =
+    rw state at (safe rules says t (who es) p playable fair run low high truthful (journal-legal rules says es (begun rules) legal))
 
 -- the empty book
 

@@ -10,7 +10,7 @@ use Rattle.std.specs.List.{All}
 use Rattle.std.proofs.lemmas.List.Elements.{All-head, All-tail, All-get_or}
 use Rattle.bisect_game.specs.Says.{Says}
 use Rattle.bisect_game.specs.Ruling.{Ruling}
-use Rattle.bisect_game.specs.declared.setup.Setup.{Setup}
+use Rattle.bisect_game.specs.Setup.{Setup}
 use Rattle.tournament.specs.Moves.{MatchState, begun}
 use Rattle.tournament.specs.Journals.{turns}
 use Rattle.tournament.specs.Length.{IsMost, most_entries}

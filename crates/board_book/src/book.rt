@@ -2,13 +2,13 @@
 ghost use denote.Param.Send.{IsSync};
 ghost use Rattle.std.specs.Prelude.{◌≡◌, ◌+◌, ◌<◌, ◌≤◌, ◌^◌, ◌∷◌, ◌++◌, [], ℕ, List, Some, None, if◌then◌else◌, IfOk, IfErr, IfSome, IfNone, length, true, is_none};
 ghost use Rattle.bisect_game.specs.declared.question.Question.{Question};
-ghost use Rattle.bisect_game.specs.declared.setup.Setup.{Setup};
+ghost use Rattle.bisect_game.specs.Setup.{Setup};
 ghost use Rattle.tournament.specs.Bracket.{open_question, is_complete, bracket, verdict_of};
 ghost use Rattle.tournament.specs.Moves.{passes_of, begun};
 ghost use Rattle.tournament.specs.Journals.{answers_of};
 ghost use Rattle.rd_base.specs.Questions.{same_qid};
 ghost use Rattle.tournament.specs.Posting.{answer_of, posted, reply_to};
-ghost use Rattle.bisect_game.specs.Rules.{rules_of};
+ghost use Rattle.bisect_game.specs.Rules.{ArePlayable, rules_of};
 ghost use Rattle.bisect_game.specs.Says.{AnswerAs};
 ghost use Rattle.bisect_game.specs.Truth.{Truth, IsRun};
 ghost use Rattle.tournament.specs.Asked.{asked};
@@ -93,16 +93,11 @@ impl<J: Judge + Drop, P: Provers + Drop> Book<J, P> {
         requires patience { patience ≤ 100 }
         ensures { let setup : Setup = record { provers = P.many (P.names provers); bound = bound; fan = fan; patience = patience; start = start } in IfOk result (λ b. b ≡ record { opening = record { judge = J.names judge; provers = P.names provers; setup = setup }; journal = []; game = begun (rules_of (J.ruling (J.names judge)) setup) }) }
     {
-        let setup = Setup {
-            provers: provers.count(),
-            bound,
-            fan,
-            patience,
-            start,
-        };
+        let count = provers.count();
+        let setup = Setup::new(count, bound, fan, patience, start);
         let room = most_entries(setup);
         Ok(Book {
-            game: Match::new(alloc, judge, setup.provers, bound, fan, patience, start)?,
+            game: Match::new(alloc, judge, count, bound, fan, patience, start)?,
             journal: Vec::with_capacity(alloc, room as usize)?,
             provers,
             room,
@@ -202,6 +197,21 @@ impl<J: Judge + Drop, P: Provers + Drop> Book<J, P> {
         let _ = &self.room;
     }
 
+    /// It is played by rules by which a match can be played.
+    fn is_playable(&self)
+        ensures { ArePlayable (rules_of (J.ruling self.now.opening.judge) self.now.opening.setup) }
+    {
+        let _ = &self.room;
+    }
+
+    /// Its journal is no longer than a legal one can be.
+    pub(crate) fn fits_its_room(&self)
+        ensures { let setup = self.now.opening.setup in (k : ℕ) × IsMost setup.fan setup.bound k × (length self.now.journal ≤ most_entries setup k) }
+    {
+        spare_is_enough();
+        let _ = &self.room;
+    }
+
     /// The most entries that a legal journal can have. The book has memory for them.
     pub fn room(&self) -> u64
         ensures most { let rules = rules_of (J.ruling self.now.opening.judge) self.now.opening.setup in (k : ℕ) × IsMost rules.setup.fan rules.setup.bound k × (result ≡ most_entries rules.setup k) }
@@ -250,7 +260,7 @@ impl<J: Judge + Drop, P: Provers + Drop> Book<J, P> {
         ensures found { IfSome result (λ x. (0 < x.p) × (x.p ≤ self.now.opening.setup.provers) × (open_question (rules_of (J.ruling self.now.opening.judge) self.now.opening.setup) self.now.game.record_ x.p ≡ Some x.question) × (x.passes ≡ passes_of self.now.game x.p)) }
         ensures none { IfNone result (is_complete self.now.game.record_ ≡ true) }
     {
-        let provers = self.game.setup().provers;
+        let provers = self.game.setup().provers();
         for i in 0..provers {
             if let Some(question) = self.game.question(i + 1) {
                 let passes = self.game.passes(i + 1);
@@ -329,7 +339,8 @@ impl<J: Judge + Drop, P: Provers + Drop> Book<J, P> {
         ensures { let rules = rules_of (J.ruling self.now.opening.judge) self.now.opening.setup in is_complete self.now.game.record_ ≡ true → self.now.game.record_ ≡ bracket rules (answers_of rules (P.says self.now.opening.provers)) }
     {
         one_record_of_a_case();
-        let _ = &self.room;
+        self.is_playable();
+        self.is_legal();
     }
 
     /// A number names one question: an open question is the one that the record of the case asks its prover under its number.
@@ -337,7 +348,8 @@ impl<J: Judge + Drop, P: Provers + Drop> Book<J, P> {
         ensures { let rules = rules_of (J.ruling self.now.opening.judge) self.now.opening.setup in (p : ℕ) (q : Question) → 0 < p → open_question rules self.now.game.record_ p ≡ Some q → asked rules (bracket rules (answers_of rules (P.says self.now.opening.provers))) p q.qid ≡ Some q.kind }
     {
         a_number_names_one_question();
-        let _ = &self.room;
+        self.is_playable();
+        self.is_legal();
     }
 
     /// The dispute theorem: a prover that answers truly within its patience each question that the record of the case asks it
@@ -346,6 +358,7 @@ impl<J: Judge + Drop, P: Provers + Drop> Book<J, P> {
         ensures { let rules = rules_of (J.ruling self.now.opening.judge) self.now.opening.setup in (t : Truth) (p : ℕ) → IsRun rules t → 0 < p → p ≤ self.now.opening.setup.provers → IsTruthfulProver rules (P.says self.now.opening.provers) t p → IsSafe rules t p self.now.game.record_ }
     {
         truthful_provers_are_safe();
-        let _ = &self.room;
+        self.is_playable();
+        self.is_legal();
     }
 }

@@ -176,7 +176,7 @@ impl<J: Judge + Drop, P: Provers + Drop> Books<J, P> {
         let before = book.journal().len();
         let reply = book.post(p, qid, turn);
         book.is_legal();
-        book.room();
+        book.fits_its_room();
         note_from(&mut self.journal, t, book.journal(), before);
         reply
     }
@@ -201,7 +201,7 @@ impl<J: Judge + Drop, P: Provers + Drop> Books<J, P> {
         let before = book.journal().len();
         let ended = book.finish_alone(rt, answerers);
         book.is_legal();
-        book.room();
+        book.fits_its_room();
         note_from(&mut self.journal, t, book.journal(), before);
         ended
     }
@@ -224,7 +224,7 @@ impl<J: Judge + Drop, P: Provers + Drop> Books<J, P> {
         ensures books { (b : BookOf J.Names P.Names) × (numbered self.old.books t ≡ Some b) × ((c : BookOf J.Names P.Names) × (c.opening ≡ b.opening) × (self.new.books ≡ set self.old.books (t - 1) c) × IfOk result (λ _. is_complete c.game.record_ ≡ true)) }
         ensures prefix { (xs : List (ℕ × Entry)) × (self.new.journal ≡ self.old.journal ++ xs) }
     {
-        let provers = self.book(t).game().setup().provers as usize;
+        let provers = self.book(t).game().setup().provers() as usize;
         let (_, rest) = answerers.split_at_mut(from);
         let (own, _) = rest.split_at_mut(provers);
         self.finish_task(rt, t, own)?;

@@ -25,28 +25,22 @@ fn most_rounds(bound: u64, fan: u32) -> u64
 /// The most entries of a journal: each question takes one for each pass and one more, and there are a claim of each
 /// prover and two questions in each round.
 fn entries_for(setup: Setup, rounds: u64) -> u64
-    requires some { 0 < setup.provers }
     requires few { setup.provers ≤ 16 }
     requires patience { setup.patience ≤ 100 }
     requires rounds { rounds < 36 }
     ensures few { result < 2 ^ 32 }
     ensures value { result ≡ most_entries setup rounds }
 {
-    let provers = u64::from(setup.provers);
-    (u64::from(setup.patience) + 1) * (provers + 2 * (provers - 1) * (rounds + 1))
+    let provers = u64::from(setup.provers());
+    (u64::from(setup.patience()) + 1) * (provers + 2 * (provers - 1) * (rounds + 1))
 }
 
 /// The most entries of a journal of a match.
 pub(crate) fn most_entries(setup: Setup) -> u64
-    requires some { 0 < setup.provers }
     requires few { setup.provers ≤ 16 }
-    requires steps { 0 < setup.bound }
-    requires short { setup.bound < 2 ^ 32 }
-    requires parted { 1 < setup.fan }
-    requires few_parts { setup.fan ≤ 16 }
     requires patience { setup.patience ≤ 100 }
     ensures few { result < 2 ^ 32 }
     ensures most { (k : _) × IsMost setup.fan setup.bound k × (result ≡ most_entries setup k) }
 {
-    entries_for(setup, most_rounds(setup.bound, setup.fan))
+    entries_for(setup, most_rounds(setup.bound(), setup.fan()))
 }

@@ -1,7 +1,8 @@
-use Rattle.tournament.specs.Match.{rules_in}
+use Rattle.bisect_game.specs.Rules.{rules_of}
 use Rattle.board_book.proofs.BookLemmas.{book-safe}
 use Rattle.board_book.proofs.book.Book.keeps_truthful_provers.Goals as goal
 
 pub returns : goal.returns
 returns g c =
-    rw (← c.self.view_is) (book-safe c.truthful_provers_are_safe.ensures (rules_in g.J.Judge.ruling c.self.inside.game) _ _ c.self.inside.journal.items c.self.inside.game.game _ _ c.self.invariant (g.met.J.Judge.is_fair c.self.inside.game.judge))
+    let opening = c.args.self.now.opening in
+    book-safe c.truthful_provers_are_safe.ensures (rules_of (g.J.Judge.ruling opening.judge) opening.setup) (g.P.Provers.says opening.provers) c.args.self.now.journal c.args.self.now.game c.is_playable.ensures c.is_legal.ensures.legal c.is_legal.ensures.state (g.met.J.Judge.is_fair opening.judge)

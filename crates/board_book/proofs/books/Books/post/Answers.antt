@@ -14,14 +14,14 @@ pub note_from-requires-clause-room : goal.note_from-requires-clause-room
 note_from-requires-clause-room g c =
     let few : c.args.t ≤ length c.self.inside.books.items = rw (← c.self.view_is) at c.requires.tasks in
     let grew : GrewAt g.J.Judge.ruling g.P.Provers.says c.self.inside.books.items c.args.t c.index_mut-book.result.now c.post-reply.new.self c.journal-before.result.now c.journal.result.now =
-    record { some = c.requires.task; few = few; lent = c.index_mut-book.ensures.value; old = c.journal-before.ensures; new = c.journal.ensures; grows = record { opening = c.post-reply.ensures.opening; journal = grown_by_note _ _ _ c.post-reply.ensures.journal; legal = c.is_legal.ensures.legal; few = (c.room.ensures.most.0, c.room.ensures.most.1, rw c.room.ensures.most.2 at c.room.ensures.holds) } } in
+    record { some = c.requires.task; few = few; lent = c.index_mut-book.ensures.value; old = c.journal-before.ensures; new = c.journal.ensures; grows = record { opening = c.post-reply.ensures.opening; journal = grown_by_note _ _ _ c.post-reply.ensures.journal; legal = c.is_legal.ensures.legal; few = c.fits_its_room.ensures } } in
     grew_room g.J.Judge.ruling g.P.Provers.says _ _ _ _ _ _ grew c.self.inside.journal.items _ c.self.invariant
 
 pub invariant_of-self : goal.invariant_of-self
 invariant_of-self g c =
     let few : c.args.t ≤ length c.self.inside.books.items = rw (← c.self.view_is) at c.requires.tasks in
     let grew : GrewAt g.J.Judge.ruling g.P.Provers.says c.self.inside.books.items c.args.t c.index_mut-book.result.now c.post-reply.new.self c.journal-before.result.now c.journal.result.now =
-    record { some = c.requires.task; few = few; lent = c.index_mut-book.ensures.value; old = c.journal-before.ensures; new = c.journal.ensures; grows = record { opening = c.post-reply.ensures.opening; journal = grown_by_note _ _ _ c.post-reply.ensures.journal; legal = c.is_legal.ensures.legal; few = (c.room.ensures.most.0, c.room.ensures.most.1, rw c.room.ensures.most.2 at c.room.ensures.holds) } } in
+    record { some = c.requires.task; few = few; lent = c.index_mut-book.ensures.value; old = c.journal-before.ensures; new = c.journal.ensures; grows = record { opening = c.post-reply.ensures.opening; journal = grown_by_note _ _ _ c.post-reply.ensures.journal; legal = c.is_legal.ensures.legal; few = c.fits_its_room.ensures } } in
     grew_kept g.J.Judge.ruling g.P.Provers.says _ _ _ _ _ _ grew c.self.inside.journal.items c.note_from.new.journal.items _ _ c.self.invariant c.note_from.ensures.items c.note_from.ensures.room
 
 pub returns-clause-openings : goal.returns-clause-openings
@@ -33,7 +33,7 @@ pub returns-clause-posts : goal.returns-clause-posts
 returns-clause-posts g c =
     let few : c.args.t ≤ length c.self.inside.books.items = rw (← c.self.view_is) at c.requires.tasks in
     let grew : GrewAt g.J.Judge.ruling g.P.Provers.says c.self.inside.books.items c.args.t c.index_mut-book.result.now c.post-reply.new.self c.journal-before.result.now c.journal.result.now =
-    record { some = c.requires.task; few = few; lent = c.index_mut-book.ensures.value; old = c.journal-before.ensures; new = c.journal.ensures; grows = record { opening = c.post-reply.ensures.opening; journal = grown_by_note _ _ _ c.post-reply.ensures.journal; legal = c.is_legal.ensures.legal; few = (c.room.ensures.most.0, c.room.ensures.most.1, rw c.room.ensures.most.2 at c.room.ensures.holds) } } in
+    record { some = c.requires.task; few = few; lent = c.index_mut-book.ensures.value; old = c.journal-before.ensures; new = c.journal.ensures; grows = record { opening = c.post-reply.ensures.opening; journal = grown_by_note _ _ _ c.post-reply.ensures.journal; legal = c.is_legal.ensures.legal; few = c.fits_its_room.ensures } } in
     let e : Entry = record { p = c.args.p; qid = c.args.qid; pass = is_none (answer_of c.args.turn); reply = c.post-reply.result } in
     rw (← c.self.view_is) (record {
       book = c.index_mut-book.result.now;
