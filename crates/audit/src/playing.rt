@@ -25,7 +25,7 @@ fn spend<J: Judge + Drop>(played: &mut Match<J>, p: u32, question: Question)
     ensures setup { played.new.setup ≡ played.old.setup }
     ensures state { let rules = rules_in J.ruling played.old in played.new.game ≡ fresh rules (settle rules p Spent played.old.game.record_) }
 {
-    let patience = played.setup().patience;
+    let patience = played.setup().patience();
     'passes: for _i in 0..patience {
         let _ = played.post(p, question.qid, Move::Pass);
     }

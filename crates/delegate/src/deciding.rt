@@ -127,7 +127,7 @@ fn text_in(alloc: Global, asked: Asked, case: &Case, end: &Ended) -> Result<Vec<
     ensures text { IfOk result (λ bytes. bytes.items ≡ (response_of (judging asked.text asked.name) (data_of case.now) end.now.setup.start end.now.match_record end.now.verdict).text) }
     ensures written { IfOk result (λ bytes. asked.text ≡ MatchText.Full → AreWritten (moves_of end.now.match_record)) }
 {
-    let head = head_of(asked.name, case, end.setup.start);
+    let head = head_of(asked.name, case, end.setup.start());
     text_of(
         alloc,
         asked.text,

@@ -56,7 +56,7 @@ pub(crate) fn full_in_parts<R: Threads + Sync>(
     for _ in 0..TURNS {
         for (place, player) in players.iter().enumerate() {
             let p = place as u32 + 1;
-            if p > game.setup().provers {
+            if p > game.setup().provers() {
                 return Ok(Vec::new(alloc));
             }
             let Some(question) = game.question(p) else {

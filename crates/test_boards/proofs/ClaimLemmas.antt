@@ -16,7 +16,7 @@ use Rattle.dispute_board.specs.OneHistory.{MayPost}
 use Rattle.toy_game.specs.Toy.{answers}
 use Rattle.toy_game.specs.declared.player.Player.{Player}
 use Rattle.toy_game.specs.declared.cast.Cast.{Cast}
-use Rattle.bisect_game.specs.declared.setup.Setup.{Setup}
+use Rattle.bisect_game.specs.Setup.{Setup}
 use Rattle.seat_lock.specs.Seats.{LockId, Known}
 use Rattle.test_boards.specs.Seats.{opening_of, IsSeatOfTwo}
 

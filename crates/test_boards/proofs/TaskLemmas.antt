@@ -3,7 +3,7 @@ use Rattle.std.proofs.Common.{◌≡◌, ℕ, zero, suc, ◌<◌, ◌≤◌, ◌
 use Rattle.std.proofs.lemmas.Option.{same_Some}
 use Rattle.rd_base.specs.declared.answer.Answer.{Answer}
 use Rattle.bisect_game.specs.declared.question.Question.{Question}
-use Rattle.bisect_game.specs.declared.setup.Setup.{Setup}
+use Rattle.bisect_game.specs.Setup.{Setup}
 use Rattle.seat_lock.specs.History.{LogEntry}
 use Rattle.seat_lock.specs.Seats.{LockId, Known, first_seat}
 use Rattle.seat_lock.specs.Turned.{SameSeat}

@@ -1,6 +1,6 @@
 -- To believe for the tests alone: tasks of players of the toy game, each over eight steps, in rounds of two parts, with a patience of 1.
 use Rattle.std.specs.Prelude.{ℕ, ◌<◌, ◌≤◌, ◌==◌, if◌then◌else◌, List, [], ◌∷◌}
-use Rattle.bisect_game.specs.declared.setup.Setup.{Setup}
+use Rattle.bisect_game.specs.Setup.{Setup}
 use Rattle.tournament.specs.Moves.{begun}
 use Rattle.bisect_game.specs.Rules.{rules_of}
 use Rattle.board_book.specs.declared.opening.Opening.{Opening}

@@ -19,7 +19,7 @@ fn move_prover<R: Threads + Sync>(
 ) -> Result<(), Memory>
     requires { IsSync R.row }
 {
-    if p == 0 || p > game.setup().provers {
+    if p == 0 || p > game.setup().provers() {
         return Ok(());
     }
     let Some(question) = game.question(p) else {
@@ -58,15 +58,13 @@ fn played<R: Threads + Sync>(
 /// What each prover of a match has at its end with a stake of 10. `None` if it isn't over, or has more than 16 provers.
 fn paid(alloc: Global, game: &Match<ToyJudge>) -> Result<Option<Balances>, Memory> {
     let setup = game.setup();
-    if setup.provers == 0 || setup.provers > 16 || setup.bound == 0 {
-        return Ok(None);
-    }
-    if setup.fan < 2 || setup.fan > 16 || !game.is_over() {
+    let provers = setup.provers();
+    if provers > 16 || !game.is_over() {
         return Ok(None);
     }
     game.is_after_posts();
     a_match_that_has_ended_is_settled_up();
-    Ok(Some(balances(alloc, 10, setup.provers, game.record())?))
+    Ok(Some(balances(alloc, 10, provers, game.record())?))
 }
 
 /// What these players have at the end of their match, with a stake of 10 each.

@@ -60,7 +60,7 @@ fn full_of<R: Threads + Sync>(
     for _ in 0..64 {
         for (place, player) in players.iter().enumerate() {
             let p = place as u32 + 1;
-            if p > game.setup().provers {
+            if p > game.setup().provers() {
                 return Ok(Vec::new(alloc));
             }
             let Some(question) = game.question(p) else {

@@ -74,7 +74,7 @@ fn move_prover<R: Threads + Sync>(
 ) -> Result<(), Memory>
     requires { IsSync R.row }
 {
-    if p == 0 || p > game.setup().provers {
+    if p == 0 || p > game.setup().provers() {
         return Ok(());
     }
     let Some(question) = game.question(p) else {

@@ -41,7 +41,7 @@ enum Replied {
 
 /// A prover posts a move under a number.
 fn post(game: &mut Match<ToyJudge>, p: u32, qid: Qid, turn: Move) -> Replied {
-    if p == 0 || p > game.setup().provers {
+    if p == 0 || p > game.setup().provers() {
         return Replied::NoProver;
     }
     let reply = game.post(p, qid, turn);
