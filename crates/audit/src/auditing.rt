@@ -41,7 +41,7 @@ fn end<J: Judge + Drop>(played: &Match<J>, line: u64, stated: &Stated) -> Audit
 /// beyond what the judge does for a proof, and keeps one match in memory. The head has 1 to 65,536 provers, a bound of 1 to 4,294,967,295
 /// steps and a fan of 2 to 16, and each move is of one of the provers, as in every text that was read (`a_read_text_may_be_audited`).
 ///
-/// `Refused` comes exactly at the first line that isn't the next legal entry, with the number of that line. An `Err` is out of memory.
+/// `Refused` comes exactly at the first line that isn't the next legal entry, with the number of that line.
 #[tactic(auto, unfolding(crate::specs::LineByLine::audited))]
 pub fn audit<J: Judge + Drop>(alloc: Global, text: &FullText, judge: J) -> Result<Audit, Memory>
     requires some { 0 < text.now.head.provers }

@@ -6,7 +6,7 @@
 //! only if it is the full text of the match whose provers say what the text says, so that the full text of each case is confirmed
 //! (`specs/OwnMatch.antt`), and that a confirmed verdict is right if one prover's lines are all given and true
 //! (`specs/TrueLines.antt`). No text can show that a prover's `spent` was deserved. Read `finding` first, then `next_entry`, `playing`
-//! and `auditing`.
+//! and `auditing`. An `Err` that no comment names is out of memory.
 #![tactic(auto)]
 
 mod auditing;

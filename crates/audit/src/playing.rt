@@ -58,7 +58,7 @@ fn answer<J: Judge + Drop>(played: &mut Match<J>, p: u32, question: Question, gi
 }
 
 /// Settles the open question of a prover as a line states it. The result is whether the line is right to call the answer given or faulty;
-/// if it isn't, the question was settled otherwise. An `Err` is out of memory.
+/// if it isn't, the question was settled otherwise.
 fn settle<J: Judge + Drop>(
     alloc: Global,
     played: &mut Match<J>,

@@ -9,7 +9,7 @@
 //! two tampered runs ends; and `specs/Earnings.antt`, what a prover has at the end.
 //!
 //! What decides a match is `referee`, which gets no case, no image and no machine. The crate reads no device and writes no text. Read
-//! `specs/Match.antt` first, then `playing`.
+//! `specs/Match.antt` first, then `playing`. An `Err` that no comment names is out of memory.
 #![tactic(auto)]
 
 mod laws;

@@ -24,7 +24,7 @@ use std::alloc::Global;
 use step_referee::MachineJudge;
 
 /// Opens the match of a case whose run starts in this machine: its book, and an answerer for each of its provers, which answers as its
-/// script says. In version 3 the tree of the input is built once, for the root and for all provers. An `Err` is out of memory.
+/// script says. In version 3 the tree of the input is built once, for the root and for all provers.
 fn open_match<D: Replays>(
     alloc: Global,
     d: D,
@@ -68,7 +68,7 @@ fn open_match<D: Replays>(
     Ok((book, answerers))
 }
 
-/// Opens the matches of loaded cases, in their order: their books, and the answerers of all their provers. An `Err` is out of memory.
+/// Opens the matches of loaded cases, in their order: their books, and the answerers of all their provers.
 pub fn open_matches<D: Replays>(
     alloc: Global,
     d: D,

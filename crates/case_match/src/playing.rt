@@ -18,7 +18,7 @@ use std::thread::Threads;
 
 /// The results of the matches of 1 to 8 loaded cases, in their order, played by commitments of the digester `d`. Posters go over the
 /// provers of all cases. Each case ends as it ends alone, whatever the others' provers do. Each machine has no output, and its chain is
-/// that of no output by `d`; each option is at least 1, and none changes the answer. An `Err` is out of memory.
+/// that of no output by `d`; each option is at least 1, and none changes the answer.
 pub fn ended_tasks<R: Threads + Wait + Sync, D: Replays>(
     rt: &R,
     alloc: Global,
@@ -39,7 +39,6 @@ where
 }
 
 /// The result of the match of one loaded case, as of one task. The record may be paid. The machine and the options are as for `ended_tasks`.
-/// An `Err` is out of memory.
 pub fn ended_one<R: Threads + Wait + Sync, D: Replays>(
     rt: &R,
     alloc: Global,

@@ -40,7 +40,7 @@ fn ending_of<J: Judge + Drop, P: Provers + Drop>(book: Book<J, P>) -> Ended
     }
 }
 
-/// The results of the matches of books that are over, in their order. An `Err` is out of memory.
+/// The results of the matches of books that are over, in their order.
 fn endings<J: Judge + Drop, P: Provers + Drop>(
     alloc: Global,
     mut books: Vec<Book<J, P>>,
@@ -58,7 +58,7 @@ fn endings<J: Judge + Drop, P: Provers + Drop>(
 
 /// Plays the matches of 1 to 8 books out, with this many posters over all of them, and decides them. The result has that of each, in their
 /// order. Their answerers are numbered through all books, and answer as their provers say. Each match ends as it ends alone, however many
-/// posters there are and whatever the others do. An `Err` is out of memory.
+/// posters there are and whatever the others do.
 pub fn decide<
     R: Threads + Wait + Sync,
     J: Judge + Drop + Send,

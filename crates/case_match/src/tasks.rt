@@ -21,7 +21,7 @@ use std::sync::Wait;
 use std::thread::Threads;
 use tournament::{Record, Verdict};
 
-/// Cases with the machines in which their runs start, one for each. No machine has any output. An `Err` is out of memory.
+/// Cases with the machines in which their runs start, one for each. No machine has any output.
 pub fn loaded_cases<'a>(
     alloc: Global,
     cases: &'a [Case],
@@ -45,7 +45,7 @@ pub fn loaded_cases<'a>(
     Ok(loads)
 }
 
-/// The record and the verdict of each match, in their order. An `Err` is out of memory.
+/// The record and the verdict of each match, in their order.
 fn endings(alloc: Global, ends: Vec<Ended>) -> Result<Vec<(Record, Verdict)>, Memory>
     ensures { IfOk result (λ endings. endings.items ≡ map (λ end. (end.match_record, end.verdict)) ends.items) }
 {
@@ -63,7 +63,7 @@ fn endings(alloc: Global, ends: Vec<Ended>) -> Result<Vec<(Record, Verdict)>, Me
 
 /// The matches of the cases of 1 to 8 tasks, whose runs start in these machines, one for each: what is settled in each, and how it
 /// ends. Posters go over the provers of all tasks. Each task ends as its case ends alone, whatever the others' provers do. The machines
-/// and the options are as for `verdict_of_case`. An `Err` is out of memory.
+/// and the options are as for `verdict_of_case`.
 pub fn verdict_of_tasks<R: Threads + Wait + Sync, D: Replays>(
     rt: &R,
     alloc: Global,

@@ -22,7 +22,7 @@ use tournament::{Record, Verdict};
 /// output, and its chain is that of no output by the digester `d`; each option is at least 1, and none changes the answer.
 ///
 /// The referee makes the root of this state and decides about claims and proofs of single steps; it never runs the program. In
-/// version 3 the tree of the input is built once, for this root and for all provers. An `Err` is out of memory.
+/// version 3 the tree of the input is built once, for this root and for all provers.
 pub fn verdict_of_case<R: Threads + Wait + Sync, D: Replays>(
     rt: &R,
     alloc: Global,

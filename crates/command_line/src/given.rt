@@ -125,8 +125,7 @@ fn request_in(matches: &ArgMatches<'_>) -> Option<Request>
     }
 }
 
-/// The command that the arguments name, of which the first is the program's name, and its options; `None` if they name none. An `Err` is
-/// out of memory.
+/// The command that the arguments name, of which the first is the program's name, and its options; `None` if they name none.
 pub fn command_given(alloc: Global, words: &[String]) -> Result<Option<Request>, Memory>
     ensures command { IfOk result (λ given. option_map (λ request. request.command) given ≡ chosen (texts words.now)) }
     ensures counts { IfOk result (λ given. IfSome given (λ request. AreAtLeastOne request.options)) }

@@ -6,7 +6,7 @@
 //! of the command. Which arguments are taken follows from `clap`'s definitions for a command line with these commands and options; the laws
 //! state it for plain ones, for each seed of `big` that begins with a decimal digit, and for any list of options of `judge` and of `big`
 //! whose numbers do. The crate reads no device and knows nothing of a case. Read `specs/Words.antt` first, then `request`, `parser` and
-//! `given`.
+//! `given`. An `Err` that no comment names is out of memory.
 #![tactic(auto)]
 
 mod given;

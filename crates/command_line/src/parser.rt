@@ -87,7 +87,7 @@ fn big_line<'a>(alloc: Global) -> Result<Parser<'a>, AllocError>
     with_match_options(alloc, big)
 }
 
-/// The command line: one of the commands. An `Err` is out of memory.
+/// The command line: one of the commands.
 #[tactic(auto, unfolding(crate::specs::Words::command_line))]
 pub fn command_line<'a>(alloc: Global) -> Result<Parser<'a>, AllocError>
     ensures { IfOk result (λ parser. app_of parser ≡ the_command_line) }

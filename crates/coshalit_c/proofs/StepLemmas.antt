@@ -13,7 +13,7 @@ use Rattle.step_referee.specs.declared.check.StepCheck.{StepCheck}
 use Rattle.step_referee.specs.declared.check.StepCheck.TheVariants.{Leads, NotOpen, WrongShape}
 use Rattle.coshalit_c.specs.Step as step
 use Rattle.coshalit_c.specs.Step.{IsOfProof, LeadsTo, FailsFirst}
-use Rattle.coshalit_c.specs.Found.{status_of, root_in}
+use Rattle.coshalit_c.specs.Found.{status_of_check, root_or_before}
 
 -- OF THE PROOF THAT BYTES SPELL
 
@@ -77,37 +77,37 @@ abbrev leading : Option StepCheck → Digest32
 leading (Some (Leads b)) = b
 leading other = record { 0 = [] }
 
-zero-leads : (found : Option StepCheck) → status_of found ≡ 0 → found ≡ Some (Leads (leading found))
+zero-leads : (found : Option StepCheck) → status_of_check found ≡ 0 → found ≡ Some (Leads (leading found))
 zero-leads (Some (Leads b)) is = refl
 zero-leads (Some NotOpen) is = absurd (cc is)
 zero-leads (Some WrongShape) is = absurd (cc is)
 zero-leads None is = absurd (cc is)
 
-one-not-open : (found : Option StepCheck) → status_of found ≡ 1 → found ≡ Some NotOpen
+one-not-open : (found : Option StepCheck) → status_of_check found ≡ 1 → found ≡ Some NotOpen
 one-not-open (Some (Leads b)) is = absurd (cc is)
 one-not-open (Some NotOpen) is = refl
 one-not-open (Some WrongShape) is = absurd (cc is)
 one-not-open None is = absurd (cc is)
 
-two-wrong-shape : (found : Option StepCheck) → status_of found ≡ 2 → found ≡ Some WrongShape
+two-wrong-shape : (found : Option StepCheck) → status_of_check found ≡ 2 → found ≡ Some WrongShape
 two-wrong-shape (Some (Leads b)) is = absurd (cc is)
 two-wrong-shape (Some NotOpen) is = absurd (cc is)
 two-wrong-shape (Some WrongShape) is = refl
 two-wrong-shape None is = absurd (cc is)
 
-says : {A X : Type 0} (k status : ℕ) (found said : Option StepCheck) → status ≡ status_of found → A → (status_of found ≡ k → found ≡ said) → status_of said ≡ k → (found ≡ said) ↔ X
+says : {A X : Type 0} (k status : ℕ) (found said : Option StepCheck) → status ≡ status_of_check found → A → (status_of_check found ≡ k → found ≡ said) → status_of_check said ≡ k → (found ≡ said) ↔ X
     → (status ≡ k) ↔ (A × X)
-says k status found said is fit back of-said iff = (λ k-is. (fit, iff.0 (back (sym is ∙ k-is))), λ both. is ∙ (ap status_of (iff.1 both.1) ∙ of-said))
+says k status found said is fit back of-said iff = (λ k-is. (fit, iff.0 (back (sym is ∙ k-is))), λ both. is ∙ (ap status_of_check (iff.1 both.1) ∙ of-said))
 
-pub says-not-open : {A : Type 0} (version status : ℕ) (root wire : List ℕ) (found : Option StepCheck) → status ≡ status_of found → A → IsFound version wire found (record { 0 = root })
+pub says-not-open : {A : Type 0} (version status : ℕ) (root wire : List ℕ) (found : Option StepCheck) → status ≡ status_of_check found → A → IsFound version wire found (record { 0 = root })
     → (status ≡ 1) ↔ (A × FailsFirst Refusal.opening version root wire)
 says-not-open version status root wire found is fit of = says 1 status found (Some NotOpen) is fit (one-not-open found) refl of.not_open
 
-pub says-wrong-shape : {A : Type 0} (version status : ℕ) (root wire : List ℕ) (found : Option StepCheck) → status ≡ status_of found → A → IsFound version wire found (record { 0 = root })
+pub says-wrong-shape : {A : Type 0} (version status : ℕ) (root wire : List ℕ) (found : Option StepCheck) → status ≡ status_of_check found → A → IsFound version wire found (record { 0 = root })
     → (status ≡ 2) ↔ (A × FailsFirst Refusal.shape version root wire)
 says-wrong-shape version status root wire found is fit of = says 2 status found (Some WrongShape) is fit (two-wrong-shape found) refl of.wrong_shape
 
-pub says-leads : {A : Type 0} (version status : ℕ) (root wire : List ℕ) (found : Option StepCheck) → status ≡ status_of found → A → IsFound version wire found (record { 0 = root })
+pub says-leads : {A : Type 0} (version status : ℕ) (root wire : List ℕ) (found : Option StepCheck) → status ≡ status_of_check found → A → IsFound version wire found (record { 0 = root })
     → (status ≡ 0) ↔ (A × step.Leads version root wire)
 says-leads version status root wire found is fit of =
     (λ zero. (fit, holding ((of.leads (leading found)).0 (zero-leads found (sym is ∙ zero)))), λ both. is ∙ leads-zero both.1)
@@ -115,20 +115,20 @@ says-leads version status root wire found is fit of =
     holding : IsOfProof wire (λ proof. LeadsFrom sha256 version (record { 0 = root }) (facts_of proof) (leading found)) → step.Leads version root wire
     holding leads = record { proof = leads.proof; spells = leads.spells; so = leads.so.hold }
 
-    leads-zero : step.Leads version root wire → status_of found ≡ 0
+    leads-zero : step.Leads version root wire → status_of_check found ≡ 0
     leads-zero leads =
-        ap status_of ((of.leads (record { 0 = root_next sha256 (facts_of leads.proof) })).1
+        ap status_of_check ((of.leads (record { 0 = root_next sha256 (facts_of leads.proof) })).1
         (record { proof = leads.proof; spells = leads.spells; so = record { hold = leads.so; root = refl } }))
 
 -- what is written
 
-pub leads-to : (version : ℕ) (root wire before now : List ℕ) (found : Option StepCheck) → IsFound version wire found (record { 0 = root }) → now ≡ root_in found before
-    → status_of found ≡ 0 → LeadsTo version root wire now
+pub leads-to : (version : ℕ) (root wire before now : List ℕ) (found : Option StepCheck) → IsFound version wire found (record { 0 = root }) → now ≡ root_or_before found before
+    → status_of_check found ≡ 0 → LeadsTo version root wire now
 leads-to version root wire before now found of written zero = by ((of.leads (leading found)).0 (zero-leads found zero))
   where
     by : IsOfProof wire (λ proof. LeadsFrom sha256 version (record { 0 = root }) (facts_of proof) (leading found)) → LeadsTo version root wire now
     by leads = record {
       proof = leads.proof;
       spells = leads.spells;
-      so = record { hold = leads.so.hold; root = (written ∙ ap (λ f. root_in f before) (zero-leads found zero)) ∙ leads.so.root };
+      so = record { hold = leads.so.hold; root = (written ∙ ap (λ f. root_or_before f before) (zero-leads found zero)) ∙ leads.so.root };
     }

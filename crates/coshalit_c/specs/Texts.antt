@@ -8,7 +8,7 @@ use Rattle.coshalit_c.specs.declared.texts.CoshalitAnswer.{CoshalitAnswer}
 
 -- the status and the length are those of the response, and its text is in the first bytes of the caller's room, as far as there are
 -- any; those behind it stay
-pub record IsWritten (response : Response) (answer : CoshalitAnswer) (before now : List ℕ) : Type 0 where
+pub record IsWrittenTo (response : Response) (answer : CoshalitAnswer) (before now : List ℕ) : Type 0 where
   pub status : answer.status ≡ status_number response.answered
   pub size : answer.length ≡ length response.text
   pub room : now ≡ take (length before) response.text ++ drop (length response.text) before
@@ -17,7 +17,7 @@ pub record IsWritten (response : Response) (answer : CoshalitAnswer) (before now
 pub record IsOutcome (command : Alone) (bytes : List ℕ) (answer : CoshalitAnswer) (before now : List ℕ) : Type 0 where
   pub response : Response
   pub outcome : IsOutcomeOf command bytes response
-  pub written : IsWritten response answer before now
+  pub written : IsWrittenTo response answer before now
 
 -- there is no text, and the caller's room is as it was
 pub record IsUntouched (answer : CoshalitAnswer) (before now : List ℕ) : Type 0 where

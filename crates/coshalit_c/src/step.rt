@@ -10,7 +10,7 @@ ghost use Rattle.open_proof.specs.Facts as facts_of_proof;
 ghost use Rattle.proof_wire.specs.Wire.{Spells};
 ghost use Rattle.step_referee.specs.declared.check.StepCheck.TheVariants as StepCheck;
 ghost use Rattle.coshalit_c.specs.Step.{IsOfProof, HaveLengths, Leads, LeadsTo, FailsFirst};
-ghost use Rattle.coshalit_c.specs.Found.{status_of, root_in};
+ghost use Rattle.coshalit_c.specs.Found.{status_of_check, root_or_before};
 
 use digest_core::{Digester, Sha256};
 use proof_wire::decode_step;
@@ -87,8 +87,8 @@ const WRONG_LENGTH: u32 = 4;
 /// The status of what is found, whose root, if it leads to one, is written.
 fn written(found: Option<StepCheck>, next: &mut [u8]) -> u32
     requires { length next.old ≡ 32 }
-    ensures status { result ≡ status_of found }
-    ensures root { next.new ≡ root_in found next.old }
+    ensures status { result ≡ status_of_check found }
+    ensures root { next.new ≡ root_or_before found next.old }
 {
     match found {
         Some(StepCheck::Leads(b)) => {

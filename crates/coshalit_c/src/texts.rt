@@ -1,7 +1,7 @@
 //! The commands that need no runtime, on a caller's bytes.
 ghost use Rattle.std.specs.Prelude.{◌≡◌, ◌≢◌};
 ghost use Rattle.delegate.specs.declared.alone.Alone.TheVariants as alone;
-ghost use Rattle.coshalit_c.specs.Texts.{IsWritten, IsOutcome, IsUntouched};
+ghost use Rattle.coshalit_c.specs.Texts.{IsWrittenTo, IsOutcome, IsUntouched};
 
 use delegate::{Alone, Answered, Response, answer_alone};
 use std::alloc::Global;
@@ -18,7 +18,7 @@ pub struct CoshalitAnswer {
 
 /// Writes a response's text to the first bytes of `room`, as far as there are any.
 fn written(response: &Response, room: &mut [u8]) -> CoshalitAnswer
-    ensures { IsWritten response.now result room.old room.new }
+    ensures { IsWrittenTo response.now result room.old room.new }
 {
     let text = response.text.as_slice();
     let count = text.len().min(room.len());

@@ -28,7 +28,7 @@ use Rattle.seat_lock.specs.History.{Turn, Begins, log_of, with_receipt}
 use Rattle.seat_lock.specs.Seats.{Known}
 use Rattle.seat_lock.specs.Turned.{Turned}
 use Rattle.dispute_board.specs.declared.turns.Posted.{Posted}
-use Rattle.dispute_board.specs.OneHistory.{numbers_of, log_of_journal, with_entry, turn_of, MayPost, MayPostFor, IsOfTheCase, IsReply, SaidMayBePosted, Stands, AsksOnBoard, PostsOnBoard, entry_unless_stale, own_state}
+use Rattle.dispute_board.specs.OneHistory.{numbers_of, log_of_journal, with_entry, turn_of, MayPost, MayPostFor, IsOfTheCase, IsReply, SaidMayBePosted, IsTurnAt, AsksOnBoard, PostsOnBoard, entry_unless_stale, own_state}
 use Rattle.dispute_board.specs.Turns.{is_due, reply_on_board, reply_in, AsksTheCase, Asks, Posts}
 
 -- what an answer of the board tells of the open question
@@ -119,7 +119,7 @@ log_with xs x = map-append numbers_of xs (x ∷ [])
 
 module _ {T H : Type 0} (head : T → H) (log : T → List (List ℕ)) where
   pub stands : (tasks : List Task) (before after : Known H) (x y : T) (es left : List (ℕ × Entry)) (added : Option (ℕ × Entry)) → Turned {T = T} head log before x y after → log x ≡ log_of_journal es → log y ≡ log_of_journal left → left ≡ with_entry es added →
-      IsTaskJournal es (games_of tasks) → IsTaskJournal left (games_of tasks) → Stands tasks before es added after
+      IsTaskJournal es (games_of tasks) → IsTaskJournal left (games_of tasks) → IsTurnAt tasks before es added after
   stands tasks before after x y es left added t ex ey is legal legal_after =
       let long : length (log x) ≡ length es = ap length ex ∙ length-map es numbers_of in
       let turn : t.turn ≡ turn_of added = which added (ey ∙ ap log_of_journal is) in

@@ -14,7 +14,7 @@ use Rattle.board_book.specs.Tasks.{Task, task_of, tasks_of}
 use Rattle.seat_lock.specs.Seats.{Known}
 use Rattle.seat_lock.specs.Turned.{SameSeat}
 use Rattle.dispute_board.specs.declared.turns.Posted.{Posted}
-use Rattle.dispute_board.specs.OneHistory.{MayPost, MayPostFor, IsThere, Stands, AsksOnBoard, PostsOnBoard}
+use Rattle.dispute_board.specs.OneHistory.{MayPost, MayPostFor, IsThere, IsTurnAt, AsksOnBoard, PostsOnBoard}
 use Rattle.dispute_board.specs.OneTask.{only_of, of_one, HasOneTask}
 
 module _ {H : Type 0} where
@@ -27,7 +27,7 @@ module _ {H : Type 0} where
   same_seat : (before after : Known (List H)) → SameSeat before after → SameSeat (of_one before) (of_one after)
   same_seat before after s = record { lock = s.lock; number = s.number; head = ap (option_and_then only_of) s.head; out = s.out }
 
-  stands_of_one : (tasks : List Task) (before after : Known (List H)) (journal : List (ℕ × Entry)) (added : Option (ℕ × Entry)) → Stands tasks before journal added after → Stands tasks (of_one before) journal added (of_one after)
+  stands_of_one : (tasks : List Task) (before after : Known (List H)) (journal : List (ℕ × Entry)) (added : Option (ℕ × Entry)) → IsTurnAt tasks before journal added after → IsTurnAt tasks (of_one before) journal added (of_one after)
   stands_of_one tasks before after journal added s = record {
     legal = s.legal;
     legal_after = s.legal_after;

@@ -101,7 +101,7 @@ SaidMayBePosted =
 -- ONE HISTORY
 
 -- a turn of a seat at this point of the journal, which added this entry or none
-pub record Stands {H : Type 0} (tasks : List Task) (before : Known H) (journal : List (ℕ × Entry)) (added : Option (ℕ × Entry)) (after : Known H) : Type 0 where
+pub record IsTurnAt {H : Type 0} (tasks : List Task) (before : Known H) (journal : List (ℕ × Entry)) (added : Option (ℕ × Entry)) (after : Known H) : Type 0 where
   -- the journal is legal, with the entry too
   pub legal : IsTaskJournal journal (games_of tasks)
   pub legal_after : IsTaskJournal (with_entry journal added) (games_of tasks)
@@ -136,7 +136,7 @@ pub record AsksOnBoard {H : Type 0} (tasks : List Task) (before : Known H) (t p 
   pub task : Task
   pub there : numbered tasks t ≡ Some task
   pub journal : List (ℕ × Entry)
-  pub stands : Stands tasks before journal None after
+  pub stands : IsTurnAt tasks before journal None after
   pub answer : ask ≡ ask_in task.rules (own_state task t journal) p
   pub asked : (q : Question) (n : ℕ) → ask ≡ variant.Question q n → IsOfTheCase task.rules task.says p q
 
@@ -146,6 +146,6 @@ pub record PostsOnBoard {H : Type 0} (tasks : List Task) (before : Known H) (t p
   pub task : Task
   pub there : numbered tasks t ≡ Some task
   pub journal : List (ℕ × Entry)
-  pub stands : Stands tasks before journal (entry_unless_stale t (record { p = p; qid = qid; pass = is_none m; reply = posted.reply })) after
+  pub stands : IsTurnAt tasks before journal (entry_unless_stale t (record { p = p; qid = qid; pass = is_none m; reply = posted.reply })) after
   pub reply : IsReply task.rules task.says (own_state task t journal) p qid m posted.reply
   pub receipt : posted.receipt ≡ receipt_of posted.reply (length journal)

@@ -39,7 +39,7 @@ pub struct Place {
     pub prover: u32,
 }
 
-/// Notes this many provers of task `t`, from 1 on. An `Err` is out of memory.
+/// Notes this many provers of task `t`, from 1 on.
 fn add_provers(places: &mut Vec<Place>, t: u32, count: u32) -> Result<(), Memory>
     ensures { IfOk result (λ _. places.new.items ≡ places.old.items ++ provers_from t 1 count) }
 {
@@ -124,7 +124,7 @@ fn join_posters<J: Judge + Drop, P: Provers + Drop>(
 /// a row in which none of its provers had anything to do, after a second without a post if some poster hasn't begun, and when another
 /// ended early; what is left undone is played alone then. One with nothing to do sleeps until another has posted, for a tenth of a second
 /// at most. In the books that are returned each match is over, whatever the threads did, and their journal begins with the one that
-/// they had. An `Err` is out of memory.
+/// they had.
 pub fn play_tasks<
     J: Judge + Drop + Send,
     P: Provers + Drop + Send,
