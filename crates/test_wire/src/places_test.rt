@@ -106,13 +106,43 @@ fn opening_in_order(alloc: Global) -> Result<(Opening, Vec<Run>), AllocError> {
 /// The bytes of the other opened chunk, `opening(21, 22)`.
 const OPERAND: [Run; 2] = [(21, 32), (22, 864)];
 
+/// Which chunks a proof of version 1 opens, and its flags.
+#[derive(Clone, Copy, Debug)]
+struct Opened {
+    flags: u8,
+    is_fetched: bool,
+    is_loaded: bool,
+}
+
+const OPENED: [Opened; 3] = [
+    Opened {
+        flags: 1,
+        is_fetched: true,
+        is_loaded: false,
+    },
+    Opened {
+        flags: 2,
+        is_fetched: false,
+        is_loaded: true,
+    },
+    Opened {
+        flags: 3,
+        is_fetched: true,
+        is_loaded: true,
+    },
+];
+
 #[test]
 fn each_field_of_a_proof_stands_in_its_place(rt: HostRuntime) -> Result<(), Fail> {
     let alloc = rt.alloc();
     let (regs, runs_of_regs) = registers_in_order(alloc)?;
     let (fetch, runs_of_fetch) = opening_in_order(alloc)?;
     let ctl = control_in_order();
-    for (flags, is_fetched, is_loaded) in [(1, true, false), (2, false, true), (3, true, true)] {
+    for Opened {
+        flags,
+        is_fetched,
+        is_loaded,
+    } in OPENED {
         let fetch = is_fetched.then_some(fetch);
         let operand = is_loaded.then_some(opening(21, 22));
         let answer = step(alloc, proof_1(18, regs, ctl, fetch, operand))?;
@@ -151,23 +181,49 @@ const REGISTERS_AS_BYTES: [Run; 9] = [
     (33, 160),
 ];
 
+/// How many registers a proof of version 2 with two chunks opens, and how many bytes it has.
+#[derive(Clone, Copy, Debug)]
+struct WithRegisters {
+    registers: usize,
+    size: usize,
+}
+
+const SIZES: [WithRegisters; 4] = [
+    WithRegisters {
+        registers: 0,
+        size: 1908,
+    },
+    WithRegisters {
+        registers: 1,
+        size: 2072,
+    },
+    WithRegisters {
+        registers: 2,
+        size: 2236,
+    },
+    WithRegisters {
+        registers: 3,
+        size: 2400,
+    },
+];
+
 /// Among the rows is that of a proof of version 2 that stores: 2,236 bytes with two chunks and two registers.
 #[test]
 fn each_field_of_a_proof_of_version_2_stands_in_its_place(rt: HostRuntime) -> Result<(), Fail> {
     let alloc = rt.alloc();
     let (fetch, runs_of_fetch) = opening_in_order(alloc)?;
     let (ctl, operand) = (control_in_order(), Some(opening(21, 22)));
-    for (count, size) in [(0, 1908), (1, 2072), (2, 2236), (3, 2400)] {
-        let opened = &REGISTERS_IN_ORDER[..count];
+    for WithRegisters { registers, size } in SIZES {
+        let opened = &REGISTERS_IN_ORDER[..registers];
         let answer = step(alloc, proof_2(18, 19, ctl, Some(fetch), opened, operand))?;
         let want = in_a_row(
             alloc,
             &[
                 &[(4, 1), (18, 32), (19, 32)],
                 &CONTROL_IN_ORDER,
-                &[(3, 1), (count as u8, 1)],
+                &[(3, 1), (registers as u8, 1)],
                 runs_of_fetch.as_slice(),
-                &REGISTERS_AS_BYTES[..3 * count],
+                &REGISTERS_AS_BYTES[..3 * registers],
                 &OPERAND,
             ],
         )?;
@@ -197,6 +253,27 @@ const FRONT_OF_VERSION_3: [Run; 8] = [
     (19, 32),
 ];
 
+/// Whether a proof of version 3 that reads the input opens data too, its flags, and how many bytes it has.
+#[derive(Clone, Copy, Debug)]
+struct Reading {
+    flags: u8,
+    is_loaded: bool,
+    size: usize,
+}
+
+const READINGS: [Reading; 2] = [
+    Reading {
+        flags: 5,
+        is_loaded: false,
+        size: 1888,
+    },
+    Reading {
+        flags: 7,
+        is_loaded: true,
+        size: 2784,
+    },
+];
+
 /// Among the rows is that of a proof of version 3 that reads the input: 1,888 bytes with flags 5 and two registers.
 #[test]
 fn each_field_of_a_proof_of_version_3_stands_in_its_place(rt: HostRuntime) -> Result<(), Fail> {
@@ -212,7 +289,11 @@ fn each_field_of_a_proof_of_version_3_stands_in_its_place(rt: HostRuntime) -> Re
         Some(opening(25, 26)),
         &REGISTERS_IN_ORDER[..2],
     );
-    for (flags, is_loaded, size) in [(5, false, 1888), (7, true, 2784)] {
+    for Reading {
+        flags,
+        is_loaded,
+        size,
+    } in READINGS {
         let operand = is_loaded.then_some(opening(21, 22));
         let answer = step(alloc, proof_3(18, input, 19, ctl, fetch, opened, operand))?;
         let want = in_a_row(

@@ -6,7 +6,7 @@ use std::alloc::{AllocError, Global};
 use std::process::Abort;
 use std::test::Fail;
 
-/// This many bytes of one value.
+/// A byte, and how often it stands in a row.
 pub(crate) type Run = (u8, usize);
 
 /// Runs, one behind another.
