@@ -136,6 +136,22 @@ fn accepted(verdict: &Verdict) -> u32 {
     }
 }
 
+/// The report of a match, and the prover whose claim is accepted, 0 if none is. The report is empty if the match isn't over.
+fn told(
+    alloc: Global,
+    head: &Head,
+    game: &Match<ToyJudge>,
+    balances: Option<&Balances>,
+) -> Result<(Vec<u8>, u32), Memory> {
+    match game.verdict() {
+        Some(verdict) => {
+            let text = report(alloc, head, game.record(), &verdict, balances)?;
+            Ok((text, accepted(&verdict)))
+        }
+        None => Ok((Vec::new(alloc), 0)),
+    }
+}
+
 /// The report of a match of these players, of whom there are 1 to 16, and whose claim is accepted, 0 if none is. The report is
 /// empty if there is no match on such terms, and if it isn't over.
 pub(crate) fn report_of<R: Threads + Sync>(
@@ -154,7 +170,6 @@ pub(crate) fn report_of<R: Threads + Sync>(
     if terms.bound == 0 || terms.bound > 4_294_967_295 || terms.fan < 2 || terms.fan > 16 {
         return Ok((Vec::new(alloc), 0));
     }
-    let game = played(rt, alloc, players, order, terms)?;
     let head = Head {
         provers: players.len() as u32,
         bound: terms.bound,
@@ -164,11 +179,6 @@ pub(crate) fn report_of<R: Threads + Sync>(
         digest: DigestName::Sha256,
         start: root(0),
     };
-    match game.verdict() {
-        Some(verdict) => {
-            let text = report(alloc, &head, game.record(), &verdict, balances)?;
-            Ok((text, accepted(&verdict)))
-        }
-        None => Ok((Vec::new(alloc), 0)),
-    }
+    let game = played(rt, alloc, players, order, terms)?;
+    told(alloc, &head, &game, balances)
 }

@@ -4,7 +4,7 @@ ghost use denote.Param.Send.{IsSync};
 use crate::playing::{HALVES, NOBODY, Terms, Wrong, report_of};
 use deposits::Balances;
 use rd_base::{Listed, Memory};
-use std::alloc::Global;
+use std::alloc::{AllocError, Global};
 use std::test::Fail;
 use std::thread::Threads;
 use toy_game::{HONEST, LIAR, Player, SILENT};
@@ -46,232 +46,337 @@ const FORGER: Player = Player {
 /// A prover that passes twice on each question.
 const LATE: Player = Player { late: 2, ..HONEST };
 
-/// The players of a match, the patience, who answers wrongly, whose claim is accepted, 0 for none, and the report.
-type Row = (&'static [Player], u32, Wrong, u32, &'static str);
+/// A whole report, of this many provers on these terms: the first line, with the four numbers that differ, and the lines behind it.
+fn report_with(
+    alloc: Global,
+    provers: usize,
+    terms: Terms,
+    lines: &str,
+) -> Result<String, AllocError> {
+    let Terms {
+        bound,
+        fan,
+        patience,
+        ..
+    } = terms;
+    format!(in alloc;
+        "match provers {provers} bound {bound} patience {patience} version 1 fan {fan} digest sha256\n{lines}"
+    )
+}
 
-/// Whether a match has its report. The true run is 0 to 6 and stays there; a liar's is another one from step 2 on.
+/// A match over 8 steps in halves, and its report. The true run is 0 to 6 and stays there; a liar's is another one from step 2 on.
+#[derive(Clone, Copy)]
+struct Row {
+    /// Who plays; prover 1 is the first.
+    players: &'static [Player],
+    /// How often a prover may pass on a question.
+    patience: u32,
+    /// Who gives an answer of another kind than asked.
+    wrong: Wrong,
+    /// The prover whose claim is accepted; 0 if none is.
+    accepted: u32,
+    /// The report's lines behind its first.
+    lines: &'static str,
+}
+
+/// Whether a match has its report.
 fn has_report<R: Threads + Sync>(rt: &R, alloc: Global, row: Row) -> Result<bool, Memory>
     requires { IsSync R.row }
 {
-    let (players, patience, wrong, accepted, want) = row;
     let terms = Terms {
-        patience,
-        wrong,
+        patience: row.patience,
+        wrong: row.wrong,
         ..HALVES
     };
-    let (text, prover) = report_of(rt, alloc, players, &[0, 1, 2, 3, 4], terms, None)?;
-    Ok(prover == accepted && text.as_slice() == want.as_bytes())
+    let (text, prover) = report_of(rt, alloc, row.players, &[0, 1, 2, 3, 4], terms, None)?;
+    let want = report_with(alloc, row.players.len(), terms, row.lines)?;
+    Ok(prover == row.accepted && text.as_slice() == want.as_bytes())
 }
 
 /// A liar, two liars before a true prover, three roots in two stages, and two liars that agree.
 const LIARS: [Row; 4] = [
-    (
-        &[HONEST, LIAR],
-        0,
-        NOBODY,
-        1,
-        "match provers 2 bound 8 patience 0 version 1 fan 2 digest sha256\n\
-         p1 claims running output\np2 claims running output\n\
-         stage 1\ndispute 1 p1 p2\n\
-         round 1 at 4 differ\nround 2 at 2 differ\nround 3 at 1 same\nstep 1 p1 proved p2 refuted\n\
-         accept running output\n",
-    ),
-    (
-        &[LIAR, LIAR, HONEST],
-        0,
-        NOBODY,
-        3,
-        "match provers 3 bound 8 patience 0 version 1 fan 2 digest sha256\n\
-         p1 claims running output\np2 claims running output\np3 claims running output\n\
-         stage 1\ndispute 1 p1 p3\n\
-         round 1 at 4 differ\nround 2 at 2 differ\nround 3 at 1 same\nstep 1 p1 refuted p3 proved\n\
-         stage 2\ndispute 2 p2 p3\n\
-         round 1 at 4 differ\nround 2 at 2 differ\nround 3 at 1 same\nstep 1 p2 refuted p3 proved\n\
-         accept running output\n",
-    ),
-    (
-        &[HONEST, LIAR, HONEST, OTHER_LIAR, LIAR],
-        0,
-        NOBODY,
-        1,
-        "match provers 5 bound 8 patience 0 version 1 fan 2 digest sha256\n\
-         p1 claims running output\np2 claims running output\np3 claims running output\n\
-         p4 claims running output\np5 claims running output\n\
-         stage 1\ndispute 1 p1 p2\n\
-         round 1 at 4 differ\nround 2 at 2 differ\nround 3 at 1 same\nstep 1 p1 proved p2 refuted\n\
-         dispute 2 p3 p4\n\
-         round 1 at 4 differ\nround 2 at 2 differ\nround 3 at 1 same\nstep 1 p3 proved p4 refuted\n\
-         stage 2\ndispute 3 p1 p5\n\
-         round 1 at 4 differ\nround 2 at 2 differ\nround 3 at 1 same\nstep 1 p1 proved p5 refuted\n\
-         accept running output\n",
-    ),
-    (
-        &[LIAR, LIAR],
-        0,
-        NOBODY,
-        1,
-        "match provers 2 bound 8 patience 0 version 1 fan 2 digest sha256\n\
-         p1 claims running output\np2 claims running output\naccept running output\n",
-    ),
+    Row {
+        players: &[HONEST, LIAR],
+        patience: 0,
+        wrong: NOBODY,
+        accepted: 1,
+        lines: "\
+            p1 claims running output\n\
+            p2 claims running output\n\
+            stage 1\n\
+            dispute 1 p1 p2\n\
+            round 1 at 4 differ\n\
+            round 2 at 2 differ\n\
+            round 3 at 1 same\n\
+            step 1 p1 proved p2 refuted\n\
+            accept running output\n",
+    },
+    Row {
+        players: &[LIAR, LIAR, HONEST],
+        patience: 0,
+        wrong: NOBODY,
+        accepted: 3,
+        lines: "\
+            p1 claims running output\n\
+            p2 claims running output\n\
+            p3 claims running output\n\
+            stage 1\n\
+            dispute 1 p1 p3\n\
+            round 1 at 4 differ\n\
+            round 2 at 2 differ\n\
+            round 3 at 1 same\n\
+            step 1 p1 refuted p3 proved\n\
+            stage 2\n\
+            dispute 2 p2 p3\n\
+            round 1 at 4 differ\n\
+            round 2 at 2 differ\n\
+            round 3 at 1 same\n\
+            step 1 p2 refuted p3 proved\n\
+            accept running output\n",
+    },
+    Row {
+        players: &[HONEST, LIAR, HONEST, OTHER_LIAR, LIAR],
+        patience: 0,
+        wrong: NOBODY,
+        accepted: 1,
+        lines: "\
+            p1 claims running output\n\
+            p2 claims running output\n\
+            p3 claims running output\n\
+            p4 claims running output\n\
+            p5 claims running output\n\
+            stage 1\n\
+            dispute 1 p1 p2\n\
+            round 1 at 4 differ\n\
+            round 2 at 2 differ\n\
+            round 3 at 1 same\n\
+            step 1 p1 proved p2 refuted\n\
+            dispute 2 p3 p4\n\
+            round 1 at 4 differ\n\
+            round 2 at 2 differ\n\
+            round 3 at 1 same\n\
+            step 1 p3 proved p4 refuted\n\
+            stage 2\n\
+            dispute 3 p1 p5\n\
+            round 1 at 4 differ\n\
+            round 2 at 2 differ\n\
+            round 3 at 1 same\n\
+            step 1 p1 proved p5 refuted\n\
+            accept running output\n",
+    },
+    Row {
+        players: &[LIAR, LIAR],
+        patience: 0,
+        wrong: NOBODY,
+        accepted: 1,
+        lines: "\
+            p1 claims running output\n\
+            p2 claims running output\n\
+            accept running output\n",
+    },
 ];
 
 #[test]
 fn liars_are_refuted_by_a_true_prover(rt: HostRuntime) -> Result<(), Fail> {
     for row in LIARS {
-        assert!(rt; has_report(&rt, rt.alloc(), row)?, "{row:?}");
+        let lines = row.lines;
+        assert!(rt; has_report(&rt, rt.alloc(), row)?, "{lines}");
     }
     Ok(())
 }
 
 /// Provers that pass for ever, from the claim on, in a dispute or at the proof, and one that passes as often as it may, or one time more.
 const SPENT: [Row; 5] = [
-    (
-        &[SILENT, SILENT],
-        0,
-        NOBODY,
-        0,
-        "match provers 2 bound 8 patience 0 version 1 fan 2 digest sha256\n\
-         out p1 spent\nout p2 spent\nnone left\n",
-    ),
-    (
-        &[SILENT_FROM_2, LIAR_SILENT_FROM_2],
-        0,
-        NOBODY,
-        0,
-        "match provers 2 bound 8 patience 0 version 1 fan 2 digest sha256\n\
-         p1 claims running output\np2 claims running output\n\
-         stage 1\ndispute 1 p1 p2\nround 1 at 4 differ\nround 2 at 2 p1 spent p2 spent\nnone left\n",
-    ),
-    (
-        &[HONEST, LIAR_SILENT_FROM_4],
-        0,
-        NOBODY,
-        1,
-        "match provers 2 bound 8 patience 0 version 1 fan 2 digest sha256\n\
-         p1 claims running output\np2 claims running output\n\
-         stage 1\ndispute 1 p1 p2\n\
-         round 1 at 4 differ\nround 2 at 2 differ\nround 3 at 1 same\nstep 1 p1 proved p2 spent\n\
-         accept running output\n",
-    ),
-    (
-        &[LATE, LIAR],
-        2,
-        NOBODY,
-        1,
-        "match provers 2 bound 8 patience 2 version 1 fan 2 digest sha256\n\
-         p1 claims running output\np2 claims running output\n\
-         stage 1\ndispute 1 p1 p2\n\
-         round 1 at 4 differ\nround 2 at 2 differ\nround 3 at 1 same\nstep 1 p1 proved p2 refuted\n\
-         accept running output\n",
-    ),
-    (
-        &[LATE, LIAR],
-        1,
-        NOBODY,
-        2,
-        "match provers 2 bound 8 patience 1 version 1 fan 2 digest sha256\n\
-         out p1 spent\np2 claims running output\naccept running output\n",
-    ),
+    Row {
+        players: &[SILENT, SILENT],
+        patience: 0,
+        wrong: NOBODY,
+        accepted: 0,
+        lines: "\
+            out p1 spent\n\
+            out p2 spent\n\
+            none left\n",
+    },
+    Row {
+        players: &[SILENT_FROM_2, LIAR_SILENT_FROM_2],
+        patience: 0,
+        wrong: NOBODY,
+        accepted: 0,
+        lines: "\
+            p1 claims running output\n\
+            p2 claims running output\n\
+            stage 1\n\
+            dispute 1 p1 p2\n\
+            round 1 at 4 differ\n\
+            round 2 at 2 p1 spent p2 spent\n\
+            none left\n",
+    },
+    Row {
+        players: &[HONEST, LIAR_SILENT_FROM_4],
+        patience: 0,
+        wrong: NOBODY,
+        accepted: 1,
+        lines: "\
+            p1 claims running output\n\
+            p2 claims running output\n\
+            stage 1\n\
+            dispute 1 p1 p2\n\
+            round 1 at 4 differ\n\
+            round 2 at 2 differ\n\
+            round 3 at 1 same\n\
+            step 1 p1 proved p2 spent\n\
+            accept running output\n",
+    },
+    Row {
+        players: &[LATE, LIAR],
+        patience: 2,
+        wrong: NOBODY,
+        accepted: 1,
+        lines: "\
+            p1 claims running output\n\
+            p2 claims running output\n\
+            stage 1\n\
+            dispute 1 p1 p2\n\
+            round 1 at 4 differ\n\
+            round 2 at 2 differ\n\
+            round 3 at 1 same\n\
+            step 1 p1 proved p2 refuted\n\
+            accept running output\n",
+    },
+    Row {
+        players: &[LATE, LIAR],
+        patience: 1,
+        wrong: NOBODY,
+        accepted: 2,
+        lines: "\
+            out p1 spent\n\
+            p2 claims running output\n\
+            accept running output\n",
+    },
 ];
 
 #[test]
 fn provers_that_pass_too_often_are_spent(rt: HostRuntime) -> Result<(), Fail> {
     for row in SPENT {
-        assert!(rt; has_report(&rt, rt.alloc(), row)?, "{row:?}");
+        let lines = row.lines;
+        assert!(rt; has_report(&rt, rt.alloc(), row)?, "{lines}");
     }
     Ok(())
 }
 
 /// Two claims of one root, two proofs that both lead, and two claims of one root among three.
 const COLLISIONS: [Row; 3] = [
-    (
-        &[HONEST, TWIN],
-        0,
-        NOBODY,
-        0,
-        "match provers 2 bound 8 patience 0 version 1 fan 2 digest sha256\n\
-         p1 claims running output\np2 claims running output\ncollision 01 02\n",
-    ),
-    (
-        &[HONEST, FORGER],
-        0,
-        NOBODY,
-        0,
-        "match provers 2 bound 8 patience 0 version 1 fan 2 digest sha256\n\
-         p1 claims running output\np2 claims running output\n\
-         stage 1\ndispute 1 p1 p2\n\
-         round 1 at 4 differ\nround 2 at 2 differ\nround 3 at 1 differ\nstep 0 p1 proved p2 proved\n\
-         collision 01 02\n",
-    ),
-    (
-        &[HONEST, LIAR, TWIN],
-        0,
-        NOBODY,
-        0,
-        "match provers 3 bound 8 patience 0 version 1 fan 2 digest sha256\n\
-         p1 claims running output\np2 claims running output\np3 claims running output\ncollision 01 02\n",
-    ),
+    Row {
+        players: &[HONEST, TWIN],
+        patience: 0,
+        wrong: NOBODY,
+        accepted: 0,
+        lines: "\
+            p1 claims running output\n\
+            p2 claims running output\n\
+            collision 01 02\n",
+    },
+    Row {
+        players: &[HONEST, FORGER],
+        patience: 0,
+        wrong: NOBODY,
+        accepted: 0,
+        lines: "\
+            p1 claims running output\n\
+            p2 claims running output\n\
+            stage 1\n\
+            dispute 1 p1 p2\n\
+            round 1 at 4 differ\n\
+            round 2 at 2 differ\n\
+            round 3 at 1 differ\n\
+            step 0 p1 proved p2 proved\n\
+            collision 01 02\n",
+    },
+    Row {
+        players: &[HONEST, LIAR, TWIN],
+        patience: 0,
+        wrong: NOBODY,
+        accepted: 0,
+        lines: "\
+            p1 claims running output\n\
+            p2 claims running output\n\
+            p3 claims running output\n\
+            collision 01 02\n",
+    },
 ];
 
 #[test]
 fn collisions_end_a_match(rt: HostRuntime) -> Result<(), Fail> {
     for row in COLLISIONS {
-        assert!(rt; has_report(&rt, rt.alloc(), row)?, "{row:?}");
+        let lines = row.lines;
+        assert!(rt; has_report(&rt, rt.alloc(), row)?, "{lines}");
     }
     Ok(())
 }
 
 /// Prover 1 gives an answer of another kind than asked: its claim, in a round, its proof.
 const FAULTY: [Row; 3] = [
-    (
-        &[HONEST, LIAR],
-        0,
-        Wrong {
+    Row {
+        players: &[HONEST, LIAR],
+        patience: 0,
+        wrong: Wrong {
             prover: 1,
             round: 0,
         },
-        2,
-        "match provers 2 bound 8 patience 0 version 1 fan 2 digest sha256\n\
-         out p1 faulty\np2 claims running output\naccept running output\n",
-    ),
-    (
-        &[HONEST, LIAR],
-        0,
-        Wrong {
+        accepted: 2,
+        lines: "\
+            out p1 faulty\n\
+            p2 claims running output\n\
+            accept running output\n",
+    },
+    Row {
+        players: &[HONEST, LIAR],
+        patience: 0,
+        wrong: Wrong {
             prover: 1,
             round: 2,
         },
-        2,
-        "match provers 2 bound 8 patience 0 version 1 fan 2 digest sha256\n\
-         p1 claims running output\np2 claims running output\n\
-         stage 1\ndispute 1 p1 p2\nround 1 at 4 differ\nround 2 at 2 p1 faulty p2 given\n\
-         accept running output\n",
-    ),
-    (
-        &[HONEST, LIAR],
-        0,
-        Wrong {
+        accepted: 2,
+        lines: "\
+            p1 claims running output\n\
+            p2 claims running output\n\
+            stage 1\n\
+            dispute 1 p1 p2\n\
+            round 1 at 4 differ\n\
+            round 2 at 2 p1 faulty p2 given\n\
+            accept running output\n",
+    },
+    Row {
+        players: &[HONEST, LIAR],
+        patience: 0,
+        wrong: Wrong {
             prover: 1,
             round: 4,
         },
-        0,
-        "match provers 2 bound 8 patience 0 version 1 fan 2 digest sha256\n\
-         p1 claims running output\np2 claims running output\n\
-         stage 1\ndispute 1 p1 p2\n\
-         round 1 at 4 differ\nround 2 at 2 differ\nround 3 at 1 same\nstep 1 p1 faulty p2 refuted\n\
-         none left\n",
-    ),
+        accepted: 0,
+        lines: "\
+            p1 claims running output\n\
+            p2 claims running output\n\
+            stage 1\n\
+            dispute 1 p1 p2\n\
+            round 1 at 4 differ\n\
+            round 2 at 2 differ\n\
+            round 3 at 1 same\n\
+            step 1 p1 faulty p2 refuted\n\
+            none left\n",
+    },
 ];
 
 #[test]
 fn an_answer_of_another_kind_is_faulty(rt: HostRuntime) -> Result<(), Fail> {
     for row in FAULTY {
-        assert!(rt; has_report(&rt, rt.alloc(), row)?, "{row:?}");
+        let lines = row.lines;
+        assert!(rt; has_report(&rt, rt.alloc(), row)?, "{lines}");
     }
     Ok(())
 }
 
-/// Whoever moves first, each of the six orders of three provers ends in one report.
+/// Whoever moves first, each of the six orders of three provers ends in one report, which stands here whole.
 #[test]
 fn all_orders_end_in_one_report(rt: HostRuntime) -> Result<(), Fail> {
     let late = Player { late: 1, ..HONEST };
@@ -281,13 +386,22 @@ fn all_orders_end_in_one_report(rt: HostRuntime) -> Result<(), Fail> {
         ..LIAR
     };
     let players = [LIAR, late, silent];
-    let want = "match provers 3 bound 8 patience 1 version 1 fan 2 digest sha256\n\
-                p1 claims running output\np2 claims running output\np3 claims running output\n\
-                stage 1\ndispute 1 p1 p2\n\
-                round 1 at 4 differ\nround 2 at 2 differ\nround 3 at 1 same\nstep 1 p1 refuted p2 proved\n\
-                stage 2\ndispute 2 p2 p3\n\
-                round 1 at 4 same\nround 2 at 6 p2 given p3 spent\n\
-                accept running output\n";
+    let want = "\
+        match provers 3 bound 8 patience 1 version 1 fan 2 digest sha256\n\
+        p1 claims running output\n\
+        p2 claims running output\n\
+        p3 claims running output\n\
+        stage 1\n\
+        dispute 1 p1 p2\n\
+        round 1 at 4 differ\n\
+        round 2 at 2 differ\n\
+        round 3 at 1 same\n\
+        step 1 p1 refuted p2 proved\n\
+        stage 2\n\
+        dispute 2 p2 p3\n\
+        round 1 at 4 same\n\
+        round 2 at 6 p2 given p3 spent\n\
+        accept running output\n";
     let orders = [
         [0, 1, 2],
         [0, 2, 1],
@@ -308,88 +422,133 @@ fn all_orders_end_in_one_report(rt: HostRuntime) -> Result<(), Fail> {
     Ok(())
 }
 
-/// A liar, the bound, the fan, who answers wrongly, and the report of a true prover and the liar.
-const PARTS: [(Player, u64, u32, Wrong, &str); 6] = [
-    (
-        LIAR,
-        8,
-        4,
-        NOBODY,
-        "match provers 2 bound 8 patience 0 version 1 fan 4 digest sha256\n\
-         p1 claims running output\np2 claims running output\nstage 1\ndispute 1 p1 p2\n\
-         round 1 in 0 8 by 4 keep 1\nround 2 in 0 2 by 2 keep 2\nstep 1 p1 proved p2 refuted\n\
-         accept running output\n",
-    ),
-    (
-        Player { from: 7, ..LIAR },
-        7,
-        3,
-        NOBODY,
-        "match provers 2 bound 7 patience 0 version 1 fan 3 digest sha256\n\
-         p1 claims running output\np2 claims running output\nstage 1\ndispute 1 p1 p2\n\
-         round 1 in 0 7 by 3 keep 3\nround 2 in 4 7 by 3 keep 3\nstep 6 p1 proved p2 refuted\n\
-         accept running output\n",
-    ),
-    (
-        Player { from: 1, ..LIAR },
-        8,
-        4,
-        NOBODY,
-        "match provers 2 bound 8 patience 0 version 1 fan 4 digest sha256\n\
-         p1 claims running output\np2 claims running output\nstage 1\ndispute 1 p1 p2\n\
-         round 1 in 0 8 by 4 keep 1\nround 2 in 0 2 by 2 keep 1\nstep 0 p1 proved p2 refuted\n\
-         accept running output\n",
-    ),
-    (
-        LIAR,
-        4_294_967_295,
-        16,
-        NOBODY,
-        "match provers 2 bound 4294967295 patience 0 version 1 fan 16 digest sha256\n\
-         p1 claims running output\np2 claims running output\nstage 1\ndispute 1 p1 p2\n\
-         round 1 in 0 4294967295 by 16 keep 1\nround 2 in 0 268435455 by 16 keep 1\n\
-         round 3 in 0 16777215 by 16 keep 1\nround 4 in 0 1048575 by 16 keep 1\n\
-         round 5 in 0 65535 by 16 keep 1\nround 6 in 0 4095 by 16 keep 1\n\
-         round 7 in 0 255 by 16 keep 1\nround 8 in 0 15 by 15 keep 2\nstep 1 p1 proved p2 refuted\n\
-         accept running output\n",
-    ),
-    (
-        LIAR,
-        8,
-        4,
-        Wrong {
+/// A match of a true prover and a liar without patience, and its report.
+#[derive(Clone, Copy)]
+struct InParts {
+    liar: Player,
+    /// How many steps a run has.
+    bound: u64,
+    /// In how many parts a round cuts its interval.
+    fan: u32,
+    /// Who gives an answer of another kind than asked.
+    wrong: Wrong,
+    /// The report's lines behind its first.
+    lines: &'static str,
+}
+
+const PARTS: [InParts; 6] = [
+    InParts {
+        liar: LIAR,
+        bound: 8,
+        fan: 4,
+        wrong: NOBODY,
+        lines: "\
+            p1 claims running output\n\
+            p2 claims running output\n\
+            stage 1\n\
+            dispute 1 p1 p2\n\
+            round 1 in 0 8 by 4 keep 1\n\
+            round 2 in 0 2 by 2 keep 2\n\
+            step 1 p1 proved p2 refuted\n\
+            accept running output\n",
+    },
+    InParts {
+        liar: Player { from: 7, ..LIAR },
+        bound: 7,
+        fan: 3,
+        wrong: NOBODY,
+        lines: "\
+            p1 claims running output\n\
+            p2 claims running output\n\
+            stage 1\n\
+            dispute 1 p1 p2\n\
+            round 1 in 0 7 by 3 keep 3\n\
+            round 2 in 4 7 by 3 keep 3\n\
+            step 6 p1 proved p2 refuted\n\
+            accept running output\n",
+    },
+    InParts {
+        liar: Player { from: 1, ..LIAR },
+        bound: 8,
+        fan: 4,
+        wrong: NOBODY,
+        lines: "\
+            p1 claims running output\n\
+            p2 claims running output\n\
+            stage 1\n\
+            dispute 1 p1 p2\n\
+            round 1 in 0 8 by 4 keep 1\n\
+            round 2 in 0 2 by 2 keep 1\n\
+            step 0 p1 proved p2 refuted\n\
+            accept running output\n",
+    },
+    InParts {
+        liar: LIAR,
+        bound: 4_294_967_295,
+        fan: 16,
+        wrong: NOBODY,
+        lines: "\
+            p1 claims running output\n\
+            p2 claims running output\n\
+            stage 1\n\
+            dispute 1 p1 p2\n\
+            round 1 in 0 4294967295 by 16 keep 1\n\
+            round 2 in 0 268435455 by 16 keep 1\n\
+            round 3 in 0 16777215 by 16 keep 1\n\
+            round 4 in 0 1048575 by 16 keep 1\n\
+            round 5 in 0 65535 by 16 keep 1\n\
+            round 6 in 0 4095 by 16 keep 1\n\
+            round 7 in 0 255 by 16 keep 1\n\
+            round 8 in 0 15 by 15 keep 2\n\
+            step 1 p1 proved p2 refuted\n\
+            accept running output\n",
+    },
+    InParts {
+        liar: LIAR,
+        bound: 8,
+        fan: 4,
+        wrong: Wrong {
             prover: 1,
             round: 2,
         },
-        "match provers 2 bound 8 patience 0 version 1 fan 4 digest sha256\n\
-         p1 claims running output\np2 claims running output\nstage 1\ndispute 1 p1 p2\n\
-         round 1 in 0 8 by 4 keep 1\nround 2 in 0 2 by 2 p1 faulty p2 given\n\
-         accept running output\n",
-    ),
-    (
-        LIAR_SILENT_FROM_2,
-        8,
-        3,
-        NOBODY,
-        "match provers 2 bound 8 patience 0 version 1 fan 3 digest sha256\n\
-         p1 claims running output\np2 claims running output\nstage 1\ndispute 1 p1 p2\n\
-         round 1 in 0 8 by 3 keep 1\nround 2 in 0 2 by 2 p1 given p2 spent\n\
-         accept running output\n",
-    ),
+        lines: "\
+            p1 claims running output\n\
+            p2 claims running output\n\
+            stage 1\n\
+            dispute 1 p1 p2\n\
+            round 1 in 0 8 by 4 keep 1\n\
+            round 2 in 0 2 by 2 p1 faulty p2 given\n\
+            accept running output\n",
+    },
+    InParts {
+        liar: LIAR_SILENT_FROM_2,
+        bound: 8,
+        fan: 3,
+        wrong: NOBODY,
+        lines: "\
+            p1 claims running output\n\
+            p2 claims running output\n\
+            stage 1\n\
+            dispute 1 p1 p2\n\
+            round 1 in 0 8 by 3 keep 1\n\
+            round 2 in 0 2 by 2 p1 given p2 spent\n\
+            accept running output\n",
+    },
 ];
 
 /// A round of a larger fan shows its interval, its parts and which one is kept, also if it has only two parts.
 #[test]
 fn each_round_of_several_parts_has_its_line(rt: HostRuntime) -> Result<(), Fail> {
-    for (liar, bound, fan, wrong, want) in PARTS {
+    for row in PARTS {
         let terms = Terms {
-            bound,
-            fan,
-            wrong,
+            bound: row.bound,
+            fan: row.fan,
+            wrong: row.wrong,
             ..HALVES
         };
-        let players = [HONEST, liar];
+        let players = [HONEST, row.liar];
         let (text, _) = report_of(&rt, rt.alloc(), &players, &[0, 1], terms, None)?;
+        let want = report_with(rt.alloc(), 2, terms, row.lines)?;
         assert_eq!(rt; text.as_slice(), want.as_bytes(), "{terms:?}");
     }
     Ok(())
@@ -405,21 +564,35 @@ fn balances_stand_before_the_verdict(rt: HostRuntime) -> Result<(), Fail> {
     };
     let players = [HONEST, LIAR];
     let terms = Terms { fan: 4, ..HALVES };
-    let want = "match provers 2 bound 8 patience 0 version 1 fan 4 digest sha256\n\
-                p1 claims running output\np2 claims running output\nstage 1\ndispute 1 p1 p2\n\
-                round 1 in 0 8 by 4 keep 1\nround 2 in 0 2 by 2 keep 2\nstep 1 p1 proved p2 refuted\n\
-                balance p1 20\nbalance p2 0\npool 0\naccept running output\n";
+    let lines = "\
+        p1 claims running output\n\
+        p2 claims running output\n\
+        stage 1\n\
+        dispute 1 p1 p2\n\
+        round 1 in 0 8 by 4 keep 1\n\
+        round 2 in 0 2 by 2 keep 2\n\
+        step 1 p1 proved p2 refuted\n\
+        balance p1 20\n\
+        balance p2 0\n\
+        pool 0\n\
+        accept running output\n";
     let (text, _) = report_of(&rt, alloc, &players, &[0, 1], terms, Some(&balances))?;
+    let want = report_with(alloc, 2, terms, lines)?;
     assert_eq!(rt; text.as_slice(), want.as_bytes());
     let balances = Balances {
         of: Listed::new(vec![in alloc; 0, 1_000_000_000]?),
         pool: 18_446_744_073_709_551_615,
     };
-    let want = "match provers 2 bound 8 patience 0 version 1 fan 2 digest sha256\n\
-                out p1 spent\nout p2 spent\n\
-                balance p1 0\nbalance p2 1000000000\npool 18446744073709551615\nnone left\n";
+    let lines = "\
+        out p1 spent\n\
+        out p2 spent\n\
+        balance p1 0\n\
+        balance p2 1000000000\n\
+        pool 18446744073709551615\n\
+        none left\n";
     let players = [SILENT, SILENT];
     let (text, _) = report_of(&rt, alloc, &players, &[0, 1], HALVES, Some(&balances))?;
+    let want = report_with(alloc, 2, HALVES, lines)?;
     assert_eq!(rt; text.as_slice(), want.as_bytes());
     Ok(())
 }
