@@ -8,6 +8,13 @@ use std::fmt::Display;
 use std::test::Fail;
 use transcript_text::TextFault;
 
+/// A fault, and the text that it prints.
+#[derive(Clone, Copy)]
+struct Printed<F> {
+    fault: F,
+    text: &'static str,
+}
+
 /// Whether a fault prints so.
 fn prints<F: Display>(alloc: Global, fault: &F, text: &str) -> Result<bool, Fail> {
     let printed = format!(in alloc; "{fault}")?;
@@ -15,103 +22,157 @@ fn prints<F: Display>(alloc: Global, fault: &F, text: &str) -> Result<bool, Fail
 }
 
 /// The first row of some faults that prints otherwise.
-fn first_other<F: Display>(alloc: Global, rows: &[(F, &str)]) -> Result<Option<usize>, Fail> {
-    for (row, (fault, text)) in rows.iter().enumerate() {
-        if !prints(alloc, fault, *text)? {
+fn first_other<F: Display>(alloc: Global, rows: &[Printed<F>]) -> Result<Option<usize>, Fail> {
+    for (row, printed) in rows.iter().enumerate() {
+        if !prints(alloc, &printed.fault, printed.text)? {
             return Ok(Some(row));
         }
     }
     Ok(None)
 }
 
-const OF_READS: [(ReadAll, &str); 3] = [
-    (ReadAll::Fault, "a read failed"),
-    (ReadAll::TooLong, "there are too many bytes"),
-    (ReadAll::Memory, "out of memory"),
+const OF_READS: [Printed<ReadAll>; 3] = [
+    Printed {
+        fault: ReadAll::Fault,
+        text: "a read failed",
+    },
+    Printed {
+        fault: ReadAll::TooLong,
+        text: "there are too many bytes",
+    },
+    Printed {
+        fault: ReadAll::Memory,
+        text: "out of memory",
+    },
 ];
 
-const OF_ANSWERS: [(WireFault, &str); 6] = [
-    (WireFault::Short, "the answer isn't whole"),
-    (
-        WireFault::BadTag,
-        "the tag, the flags or the count aren't known",
-    ),
-    (WireFault::BadStatus, "the status isn't known"),
-    (
-        WireFault::TrailingBytes,
-        "there are bytes behind the answer",
-    ),
-    (WireFault::BadLength, "the output is too long"),
-    (WireFault::Memory, "out of memory"),
+const OF_ANSWERS: [Printed<WireFault>; 6] = [
+    Printed {
+        fault: WireFault::Short,
+        text: "the answer isn't whole",
+    },
+    Printed {
+        fault: WireFault::BadTag,
+        text: "the tag, the flags or the count aren't known",
+    },
+    Printed {
+        fault: WireFault::BadStatus,
+        text: "the status isn't known",
+    },
+    Printed {
+        fault: WireFault::TrailingBytes,
+        text: "there are bytes behind the answer",
+    },
+    Printed {
+        fault: WireFault::BadLength,
+        text: "the output is too long",
+    },
+    Printed {
+        fault: WireFault::Memory,
+        text: "out of memory",
+    },
 ];
 
-const OF_CASES: [(CaseFault, &str); 8] = [
-    (CaseFault::NotJson, "the bytes are no JSON text"),
-    (CaseFault::NotObject, "the case is no object"),
-    (CaseFault::Missing(Key::Image), "image is missing"),
-    (CaseFault::WrongType(Key::Bound), "bound has another type"),
-    (
-        CaseFault::BadHex(Key::Input),
-        "input is no hexadecimal text",
-    ),
-    (CaseFault::OutOfRange(Key::Fan), "fan is out of range"),
-    (CaseFault::BadProver(16), "prover 16 is none that is known"),
-    (CaseFault::Memory, "out of memory"),
+const OF_CASES: [Printed<CaseFault>; 8] = [
+    Printed {
+        fault: CaseFault::NotJson,
+        text: "the bytes are no JSON text",
+    },
+    Printed {
+        fault: CaseFault::NotObject,
+        text: "the case is no object",
+    },
+    Printed {
+        fault: CaseFault::Missing(Key::Image),
+        text: "image is missing",
+    },
+    Printed {
+        fault: CaseFault::WrongType(Key::Bound),
+        text: "bound has another type",
+    },
+    Printed {
+        fault: CaseFault::BadHex(Key::Input),
+        text: "input is no hexadecimal text",
+    },
+    Printed {
+        fault: CaseFault::OutOfRange(Key::Fan),
+        text: "fan is out of range",
+    },
+    Printed {
+        fault: CaseFault::BadProver(16),
+        text: "prover 16 is none that is known",
+    },
+    Printed {
+        fault: CaseFault::Memory,
+        text: "out of memory",
+    },
 ];
 
 /// Of each key, and of tasks.
-const OF_KEYS: [(TaskFault, &str); 10] = [
-    (
-        TaskFault::Whole(CaseFault::Missing(Key::Tasks)),
-        "tasks is missing",
-    ),
-    (
-        TaskFault::Whole(CaseFault::Missing(Key::Format)),
-        "format is missing",
-    ),
-    (
-        TaskFault::Task(1, CaseFault::Missing(Key::Input)),
-        "task 1: input is missing",
-    ),
-    (
-        TaskFault::Task(2, CaseFault::Missing(Key::Patience)),
-        "task 2: patience is missing",
-    ),
-    (
-        TaskFault::Task(3, CaseFault::Missing(Key::Version)),
-        "task 3: version is missing",
-    ),
-    (
-        TaskFault::Task(4, CaseFault::Missing(Key::Stake)),
-        "task 4: stake is missing",
-    ),
-    (
-        TaskFault::Task(5, CaseFault::Missing(Key::Provers)),
-        "task 5: provers is missing",
-    ),
-    (
-        TaskFault::Task(8, CaseFault::NotObject),
-        "task 8: the case is no object",
-    ),
-    (
-        TaskFault::Whole(CaseFault::NotJson),
-        "the bytes are no JSON text",
-    ),
-    (TaskFault::Memory, "out of memory"),
+const OF_KEYS: [Printed<TaskFault>; 10] = [
+    Printed {
+        fault: TaskFault::Whole(CaseFault::Missing(Key::Tasks)),
+        text: "tasks is missing",
+    },
+    Printed {
+        fault: TaskFault::Whole(CaseFault::Missing(Key::Format)),
+        text: "format is missing",
+    },
+    Printed {
+        fault: TaskFault::Task(1, CaseFault::Missing(Key::Input)),
+        text: "task 1: input is missing",
+    },
+    Printed {
+        fault: TaskFault::Task(2, CaseFault::Missing(Key::Patience)),
+        text: "task 2: patience is missing",
+    },
+    Printed {
+        fault: TaskFault::Task(3, CaseFault::Missing(Key::Version)),
+        text: "task 3: version is missing",
+    },
+    Printed {
+        fault: TaskFault::Task(4, CaseFault::Missing(Key::Stake)),
+        text: "task 4: stake is missing",
+    },
+    Printed {
+        fault: TaskFault::Task(5, CaseFault::Missing(Key::Provers)),
+        text: "task 5: provers is missing",
+    },
+    Printed {
+        fault: TaskFault::Task(8, CaseFault::NotObject),
+        text: "task 8: the case is no object",
+    },
+    Printed {
+        fault: TaskFault::Whole(CaseFault::NotJson),
+        text: "the bytes are no JSON text",
+    },
+    Printed {
+        fault: TaskFault::Memory,
+        text: "out of memory",
+    },
 ];
 
-const OF_FULL_TEXTS: [(TextFault, &str); 5] = [
-    (TextFault::BadHead, "the first line is no head"),
-    (
-        TextFault::BadLine(18446744073709551615),
-        "line 18446744073709551615 is neither a move nor the verdict",
-    ),
-    (TextFault::Truncated, "the text is cut off"),
-    (
-        TextFault::OutOfRange(1),
-        "a number of line 1 is out of range",
-    ),
-    (TextFault::Memory, "out of memory"),
+const OF_FULL_TEXTS: [Printed<TextFault>; 5] = [
+    Printed {
+        fault: TextFault::BadHead,
+        text: "the first line is no head",
+    },
+    Printed {
+        fault: TextFault::BadLine(18446744073709551615),
+        text: "line 18446744073709551615 is neither a move nor the verdict",
+    },
+    Printed {
+        fault: TextFault::Truncated,
+        text: "the text is cut off",
+    },
+    Printed {
+        fault: TextFault::OutOfRange(1),
+        text: "a number of line 1 is out of range",
+    },
+    Printed {
+        fault: TextFault::Memory,
+        text: "out of memory",
+    },
 ];
 
 #[test]

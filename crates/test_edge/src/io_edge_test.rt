@@ -10,7 +10,7 @@ use std::test::Fail;
 const TEXT: &[u8] = b"hello, world";
 
 /// What a scripted device does in one call.
-#[derive(Clone, Copy, Debug)]
+#[derive(Clone, Copy)]
 enum Turn {
     /// It moves at most this many bytes.
     Moves(usize),
@@ -96,27 +96,83 @@ const BROKEN_PIPE: Turn = Turn::Fails(ErrorKind::BrokenPipe);
 
 const FULL: Turn = Turn::Fails(ErrorKind::StorageFull);
 
-/// The piece of each call, the limit, whether all fits, and the call after the last one, which would fail.
-const LIMITS: [(usize, usize, bool, u64); 9] = [
-    (1, 0, false, 2),
-    (1, 11, false, 13),
-    (1, 12, true, 14),
-    (7, 0, false, 2),
-    (7, 11, false, 3),
-    (7, 12, true, 4),
-    (7, 13, true, 4),
-    (4096, 11, false, 2),
-    (4096, 12, true, 3),
-];
-
-/// Whether a read in such pieces gives all, or is too long, and makes no call that fails.
-fn stops(
-    alloc: Global,
+/// A read of the text in pieces, up to a limit.
+#[derive(Clone, Copy)]
+struct Limit {
+    /// How many bytes each call gives.
     piece: usize,
     limit: usize,
+    /// Whether all fits.
     fits: bool,
+    /// The call after the last one, which would fail.
     failing: u64,
-) -> Result<bool, Fail> {
+}
+
+const LIMITS: [Limit; 9] = [
+    Limit {
+        piece: 1,
+        limit: 0,
+        fits: false,
+        failing: 2,
+    },
+    Limit {
+        piece: 1,
+        limit: 11,
+        fits: false,
+        failing: 13,
+    },
+    Limit {
+        piece: 1,
+        limit: 12,
+        fits: true,
+        failing: 14,
+    },
+    Limit {
+        piece: 7,
+        limit: 0,
+        fits: false,
+        failing: 2,
+    },
+    Limit {
+        piece: 7,
+        limit: 11,
+        fits: false,
+        failing: 3,
+    },
+    Limit {
+        piece: 7,
+        limit: 12,
+        fits: true,
+        failing: 4,
+    },
+    Limit {
+        piece: 7,
+        limit: 13,
+        fits: true,
+        failing: 4,
+    },
+    Limit {
+        piece: 4096,
+        limit: 11,
+        fits: false,
+        failing: 2,
+    },
+    Limit {
+        piece: 4096,
+        limit: 12,
+        fits: true,
+        failing: 3,
+    },
+];
+
+/// Whether such a read gives all, or is too long, and makes no call that fails.
+fn stops(alloc: Global, row: &Limit) -> Result<bool, Fail> {
+    let Limit {
+        piece,
+        limit,
+        fits,
+        failing,
+    } = *row;
     let fails = vec![in alloc; failing]?;
     let mut source = MemSource::new(TEXT.to_vec(alloc)?, piece.max(1), fails);
     let as_wanted = match read_all(alloc, &mut source, limit) {
@@ -129,9 +185,9 @@ fn stops(
 
 /// The first row of limits that isn't kept.
 fn first_other_limit(alloc: Global) -> Result<Option<usize>, Fail> {
-    for (row, (piece, limit, fits, failing)) in LIMITS.iter().enumerate() {
-        if !stops(alloc, *piece, *limit, *fits, *failing)? {
-            return Ok(Some(row));
+    for (place, row) in LIMITS.iter().enumerate() {
+        if !stops(alloc, row)? {
+            return Ok(Some(place));
         }
     }
     Ok(None)
@@ -167,23 +223,85 @@ fn a_failed_read_is_no_end_of_input_and_takes_nothing(rt: HostRuntime) -> Result
     Ok(())
 }
 
-/// The piece of each call, the room of the sink, the call that fails, and how many bytes it holds then. Calls are counted from 1, so that none
-/// fails at 0.
-const ROOMS: [(usize, usize, u64, usize); 9] = [
-    (1, 12, 0, 12),
-    (7, 12, 0, 12),
-    (4096, 13, 0, 12),
-    (1, 12, 3, 2),
-    (7, 12, 2, 7),
-    (4096, 12, 1, 0),
-    (1, 5, 0, 5),
-    (7, 11, 0, 11),
-    (4096, 0, 0, 0),
+/// A write of the text into a sink.
+#[derive(Clone, Copy)]
+struct Room {
+    /// How many bytes each call takes.
+    piece: usize,
+    /// How many bytes the sink has room for.
+    room: usize,
+    /// The call that fails. Calls are counted from 1, so that none fails at 0.
+    failing: u64,
+    /// How many bytes the sink holds then.
+    held: usize,
+}
+
+const ROOMS: [Room; 9] = [
+    Room {
+        piece: 1,
+        room: 12,
+        failing: 0,
+        held: 12,
+    },
+    Room {
+        piece: 7,
+        room: 12,
+        failing: 0,
+        held: 12,
+    },
+    Room {
+        piece: 4096,
+        room: 13,
+        failing: 0,
+        held: 12,
+    },
+    Room {
+        piece: 1,
+        room: 12,
+        failing: 3,
+        held: 2,
+    },
+    Room {
+        piece: 7,
+        room: 12,
+        failing: 2,
+        held: 7,
+    },
+    Room {
+        piece: 4096,
+        room: 12,
+        failing: 1,
+        held: 0,
+    },
+    Room {
+        piece: 1,
+        room: 5,
+        failing: 0,
+        held: 5,
+    },
+    Room {
+        piece: 7,
+        room: 11,
+        failing: 0,
+        held: 11,
+    },
+    Room {
+        piece: 4096,
+        room: 0,
+        failing: 0,
+        held: 0,
+    },
 ];
 
 /// Whether a sink holds this many bytes of the text after it was written, and a fault if and only if that isn't all.
-fn holds(alloc: Global, piece: usize, room: usize, call: u64, held: usize) -> Result<bool, Fail> {
-    let fails = vec![in alloc; call]?;
+fn holds(alloc: Global, row: &Room) -> Result<bool, Fail> {
+    let Room {
+        piece,
+        room,
+        failing,
+        held,
+    } = *row;
+    let fails = vec![in alloc; failing]?;
     let mut sink = MemSink::new(alloc, room, piece.max(1), fails)?;
     let is_whole = write_all(&mut sink, TEXT).is_ok();
     Ok(
@@ -195,9 +313,9 @@ fn holds(alloc: Global, piece: usize, room: usize, call: u64, held: usize) -> Re
 
 /// The first row of rooms whose sink holds something else.
 fn first_other_room(alloc: Global) -> Result<Option<usize>, Fail> {
-    for (row, (piece, room, call, held)) in ROOMS.iter().enumerate() {
-        if !holds(alloc, *piece, *room, *call, *held)? {
-            return Ok(Some(row));
+    for (place, row) in ROOMS.iter().enumerate() {
+        if !holds(alloc, row)? {
+            return Ok(Some(place));
         }
     }
     Ok(None)
@@ -219,24 +337,66 @@ fn read_once(turns: &'static [Turn]) -> (Option<usize>, u64, usize) {
     (answer, faults, reader.calls)
 }
 
-/// What a reader does in its calls, what a read answers, and how many calls are made.
-const READS: [(&[Turn], Option<usize>, usize); 8] = [
-    (&[ALL], Some(12), 1),
-    (&[FIVE], Some(5), 1),
-    (&[NOTHING, FIVE], Some(0), 1),
-    (&[INTERRUPTED, INTERRUPTED, FIVE], Some(5), 3),
-    (&[INTERRUPTED, NOTHING], Some(0), 2),
-    (&[WOULD_BLOCK, FIVE], None, 1),
-    (&[BROKEN_PIPE, FIVE], None, 1),
-    (&[INTERRUPTED, WOULD_BLOCK, FIVE], None, 2),
+/// A read from a scripted reader.
+#[derive(Clone, Copy)]
+struct ReadOnce {
+    /// What the reader does in its calls.
+    turns: &'static [Turn],
+    /// How many bytes the read gives; `None` for a fault.
+    answer: Option<usize>,
+    /// How many calls are made.
+    calls: usize,
+}
+
+const READS: [ReadOnce; 8] = [
+    ReadOnce {
+        turns: &[ALL],
+        answer: Some(12),
+        calls: 1,
+    },
+    ReadOnce {
+        turns: &[FIVE],
+        answer: Some(5),
+        calls: 1,
+    },
+    ReadOnce {
+        turns: &[NOTHING, FIVE],
+        answer: Some(0),
+        calls: 1,
+    },
+    ReadOnce {
+        turns: &[INTERRUPTED, INTERRUPTED, FIVE],
+        answer: Some(5),
+        calls: 3,
+    },
+    ReadOnce {
+        turns: &[INTERRUPTED, NOTHING],
+        answer: Some(0),
+        calls: 2,
+    },
+    ReadOnce {
+        turns: &[WOULD_BLOCK, FIVE],
+        answer: None,
+        calls: 1,
+    },
+    ReadOnce {
+        turns: &[BROKEN_PIPE, FIVE],
+        answer: None,
+        calls: 1,
+    },
+    ReadOnce {
+        turns: &[INTERRUPTED, WOULD_BLOCK, FIVE],
+        answer: None,
+        calls: 2,
+    },
 ];
 
 /// The first row of reads that answers something else, or counts otherwise.
 fn first_other_read() -> Option<usize> {
-    for (row, (turns, answer, calls)) in READS.iter().enumerate() {
-        let faults = u64::from(answer.is_none());
-        if read_once(*turns) != (*answer, faults, *calls) {
-            return Some(row);
+    for (place, row) in READS.iter().enumerate() {
+        let faults = u64::from(row.answer.is_none());
+        if read_once(row.turns) != (row.answer, faults, row.calls) {
+            return Some(place);
         }
     }
     None
@@ -248,7 +408,12 @@ fn a_read_is_short_or_interrupted_or_a_fault(rt: HostRuntime) {
 }
 
 /// How many calls and how many flushes are made, and how many bytes move.
-type Counts = (usize, usize, usize);
+#[derive(Clone, Copy, PartialEq, Eq)]
+struct Counts {
+    calls: usize,
+    flushes: usize,
+    moved: usize,
+}
 
 /// What a write to such a writer answers, `None` for a fault; how many faults are counted; and what the writer counts.
 fn written_once(turns: &'static [Turn], flushes: &'static [Turn]) -> (Option<usize>, u64, Counts) {
@@ -256,44 +421,144 @@ fn written_once(turns: &'static [Turn], flushes: &'static [Turn]) -> (Option<usi
     let mut sink = WriterSink::new(&mut writer);
     let answer = sink.write_some(TEXT).ok();
     let faults = sink.faults();
-    (
-        answer,
-        faults,
-        (writer.calls, writer.flush_calls, writer.moved),
-    )
+    let counts = Counts {
+        calls: writer.calls,
+        flushes: writer.flush_calls,
+        moved: writer.moved,
+    };
+    (answer, faults, counts)
 }
 
-/// What a writer does in its calls and in its flushes, what a write answers, and what is counted.
-const WRITES: [(&[Turn], &[Turn], Option<usize>, Counts); 11] = [
-    (&[ALL], &[NOTHING], Some(12), (1, 1, 12)),
-    (&[FIVE], &[NOTHING], Some(5), (1, 1, 5)),
-    (
-        &[INTERRUPTED, INTERRUPTED, FIVE],
-        &[NOTHING],
-        Some(5),
-        (3, 1, 5),
-    ),
-    (&[FIVE], &[INTERRUPTED, NOTHING], Some(5), (1, 2, 5)),
-    (&[NOTHING, FIVE], &[NOTHING], None, (1, 0, 0)),
-    (&[WOULD_BLOCK, FIVE], &[NOTHING], None, (1, 0, 0)),
-    (&[BROKEN_PIPE, FIVE], &[NOTHING], None, (1, 0, 0)),
-    (
-        &[INTERRUPTED, WOULD_BLOCK, FIVE],
-        &[NOTHING],
-        None,
-        (2, 0, 0),
-    ),
-    (&[FIVE], &[WOULD_BLOCK, NOTHING], None, (1, 1, 5)),
-    (&[FIVE], &[BROKEN_PIPE, NOTHING], None, (1, 1, 5)),
-    (&[ALL], &[FULL], None, (1, 1, 12)),
+/// A write to a scripted writer.
+#[derive(Clone, Copy)]
+struct WriteOnce {
+    /// What the writer does in its calls, and in its flushes.
+    turns: &'static [Turn],
+    flushes: &'static [Turn],
+    /// How many bytes the write takes; `None` for a fault.
+    answer: Option<usize>,
+    counts: Counts,
+}
+
+const WRITES: [WriteOnce; 11] = [
+    WriteOnce {
+        turns: &[ALL],
+        flushes: &[NOTHING],
+        answer: Some(12),
+        counts: Counts {
+            calls: 1,
+            flushes: 1,
+            moved: 12,
+        },
+    },
+    WriteOnce {
+        turns: &[FIVE],
+        flushes: &[NOTHING],
+        answer: Some(5),
+        counts: Counts {
+            calls: 1,
+            flushes: 1,
+            moved: 5,
+        },
+    },
+    WriteOnce {
+        turns: &[INTERRUPTED, INTERRUPTED, FIVE],
+        flushes: &[NOTHING],
+        answer: Some(5),
+        counts: Counts {
+            calls: 3,
+            flushes: 1,
+            moved: 5,
+        },
+    },
+    WriteOnce {
+        turns: &[FIVE],
+        flushes: &[INTERRUPTED, NOTHING],
+        answer: Some(5),
+        counts: Counts {
+            calls: 1,
+            flushes: 2,
+            moved: 5,
+        },
+    },
+    WriteOnce {
+        turns: &[NOTHING, FIVE],
+        flushes: &[NOTHING],
+        answer: None,
+        counts: Counts {
+            calls: 1,
+            flushes: 0,
+            moved: 0,
+        },
+    },
+    WriteOnce {
+        turns: &[WOULD_BLOCK, FIVE],
+        flushes: &[NOTHING],
+        answer: None,
+        counts: Counts {
+            calls: 1,
+            flushes: 0,
+            moved: 0,
+        },
+    },
+    WriteOnce {
+        turns: &[BROKEN_PIPE, FIVE],
+        flushes: &[NOTHING],
+        answer: None,
+        counts: Counts {
+            calls: 1,
+            flushes: 0,
+            moved: 0,
+        },
+    },
+    WriteOnce {
+        turns: &[INTERRUPTED, WOULD_BLOCK, FIVE],
+        flushes: &[NOTHING],
+        answer: None,
+        counts: Counts {
+            calls: 2,
+            flushes: 0,
+            moved: 0,
+        },
+    },
+    WriteOnce {
+        turns: &[FIVE],
+        flushes: &[WOULD_BLOCK, NOTHING],
+        answer: None,
+        counts: Counts {
+            calls: 1,
+            flushes: 1,
+            moved: 5,
+        },
+    },
+    WriteOnce {
+        turns: &[FIVE],
+        flushes: &[BROKEN_PIPE, NOTHING],
+        answer: None,
+        counts: Counts {
+            calls: 1,
+            flushes: 1,
+            moved: 5,
+        },
+    },
+    WriteOnce {
+        turns: &[ALL],
+        flushes: &[FULL],
+        answer: None,
+        counts: Counts {
+            calls: 1,
+            flushes: 1,
+            moved: 12,
+        },
+    },
 ];
 
 /// The first row of writes that answers something else, or counts otherwise.
 fn first_other_write() -> Option<usize> {
-    for (row, (turns, flushes, answer, counts)) in WRITES.iter().enumerate() {
-        let faults = u64::from(answer.is_none());
-        if written_once(*turns, *flushes) != (*answer, faults, *counts) {
-            return Some(row);
+    for (place, row) in WRITES.iter().enumerate() {
+        let faults = u64::from(row.answer.is_none());
+        if written_once(row.turns, row.flushes) != (row.answer, faults, row.counts) {
+            return Some(place);
         }
     }
     None
