@@ -17,8 +17,12 @@ fn fault_of(alloc: Global, text: &str) -> Option<CaseFault> {
     read_case(alloc, text.as_bytes()).err()
 }
 
-/// What takes the place of a part of a case, and the fault that the case has then.
-type Row = (&'static str, Option<CaseFault>);
+/// What takes the place of a part of a case, and the fault that the case has then; `None` if it is read.
+#[derive(Clone, Copy)]
+struct Row {
+    instead: &'static str,
+    fault: Option<CaseFault>,
+}
 
 /// Asserts for each row which fault the text has in which it takes the place of this part.
 fn assert_faults(
@@ -28,95 +32,252 @@ fn assert_faults(
     part: &str,
     rows: &[Row],
 ) -> Result<(), Fail> {
-    for (instead, want) in rows {
+    for Row { instead, fault } in rows {
         let text = text.replace(alloc, part, *instead)?;
-        assert_eq!(rt; fault_of(alloc, text.as_str()), *want, "{text}");
+        assert_eq!(rt; fault_of(alloc, text.as_str()), *fault, "{text}");
     }
     Ok(())
 }
 
-const NO_OBJECTS: [(&[u8], CaseFault); 11] = [
-    (b"", NotJson),
-    (b"\xff", NotJson),
-    (b"{\"format\":\"\xc3\"}", NotJson),
-    (b"{} 5", NotJson),
-    (b"{}}", NotJson),
-    (b"{\"bound\":08}", NotJson),
-    (b"[", NotJson),
-    (b"[]", NotObject),
-    (b"\"format\"", NotObject),
-    (b"null", NotObject),
-    (b" {} ", Missing(Key::Format)),
+/// Bytes, and the fault that they have as a case.
+#[derive(Clone, Copy)]
+struct Bytes {
+    bytes: &'static [u8],
+    fault: CaseFault,
+}
+
+const NO_OBJECTS: [Bytes; 11] = [
+    Bytes {
+        bytes: b"",
+        fault: NotJson,
+    },
+    Bytes {
+        bytes: b"\xff",
+        fault: NotJson,
+    },
+    Bytes {
+        bytes: b"{\"format\":\"\xc3\"}",
+        fault: NotJson,
+    },
+    Bytes {
+        bytes: b"{} 5",
+        fault: NotJson,
+    },
+    Bytes {
+        bytes: b"{}}",
+        fault: NotJson,
+    },
+    Bytes {
+        bytes: b"{\"bound\":08}",
+        fault: NotJson,
+    },
+    Bytes {
+        bytes: b"[",
+        fault: NotJson,
+    },
+    Bytes {
+        bytes: b"[]",
+        fault: NotObject,
+    },
+    Bytes {
+        bytes: b"\"format\"",
+        fault: NotObject,
+    },
+    Bytes {
+        bytes: b"null",
+        fault: NotObject,
+    },
+    Bytes {
+        bytes: b" {} ",
+        fault: Missing(Key::Format),
+    },
 ];
 
 #[test]
 fn bytes_that_hold_no_object_are_refused(rt: HostRuntime) {
-    for (bytes, want) in NO_OBJECTS {
-        assert_eq!(rt; read_case(rt.alloc(), bytes).err(), Some(want), "{bytes:?}");
+    for Bytes { bytes, fault } in NO_OBJECTS {
+        assert_eq!(rt;
+            read_case(rt.alloc(), bytes).err(),
+            Some(fault),
+            "{bytes:?}"
+        );
     }
 }
 
 /// A part of the case and what takes its place: a fault.
-type Instead = (&'static str, &'static str);
+#[derive(Clone, Copy)]
+struct Instead {
+    part: &'static str,
+    instead: &'static str,
+}
 
-/// A fault, another of a later rule, and which of the two is named.
-const TWO_FAULTS: [(Instead, Instead, CaseFault); 9] = [
-    (("{\"f", "[{\"f"), ("flat", "raw"), NotJson),
-    (("flat", "raw"), ("image", "Image"), OutOfRange(Key::Format)),
-    (("1305a002", "1g"), ("input", "Input"), BadHex(Key::Image)),
-    (("\"\"", "\"0\""), ("bound", "Bound"), BadHex(Key::Input)),
-    (
-        (":8", ":0"),
-        ("patience", "Patience"),
-        OutOfRange(Key::Bound),
-    ),
-    (
-        (":0", ":101"),
-        ("provers", "Provers"),
-        OutOfRange(Key::Patience),
-    ),
-    (("[{}]", "{}"), (":0", ":101"), OutOfRange(Key::Patience)),
-    (("[{}]", "[5]"), (":0", ":101"), OutOfRange(Key::Patience)),
-    (
-        ("[{}]", "[{},5,{}]"),
-        (",{}]", ",{\"tamper\":0}]"),
-        BadProver(2),
-    ),
+/// Two faults, and which of the two is named: that of the earlier rule.
+#[derive(Clone, Copy)]
+struct TwoFaults {
+    one: Instead,
+    other: Instead,
+    named: CaseFault,
+}
+
+const TWO_FAULTS: [TwoFaults; 9] = [
+    TwoFaults {
+        one: Instead {
+            part: "{\"f",
+            instead: "[{\"f",
+        },
+        other: Instead {
+            part: "flat",
+            instead: "raw",
+        },
+        named: NotJson,
+    },
+    TwoFaults {
+        one: Instead {
+            part: "flat",
+            instead: "raw",
+        },
+        other: Instead {
+            part: "image",
+            instead: "Image",
+        },
+        named: OutOfRange(Key::Format),
+    },
+    TwoFaults {
+        one: Instead {
+            part: "1305a002",
+            instead: "1g",
+        },
+        other: Instead {
+            part: "input",
+            instead: "Input",
+        },
+        named: BadHex(Key::Image),
+    },
+    TwoFaults {
+        one: Instead {
+            part: "\"\"",
+            instead: "\"0\"",
+        },
+        other: Instead {
+            part: "bound",
+            instead: "Bound",
+        },
+        named: BadHex(Key::Input),
+    },
+    TwoFaults {
+        one: Instead {
+            part: ":8",
+            instead: ":0",
+        },
+        other: Instead {
+            part: "patience",
+            instead: "Patience",
+        },
+        named: OutOfRange(Key::Bound),
+    },
+    TwoFaults {
+        one: Instead {
+            part: ":0",
+            instead: ":101",
+        },
+        other: Instead {
+            part: "provers",
+            instead: "Provers",
+        },
+        named: OutOfRange(Key::Patience),
+    },
+    TwoFaults {
+        one: Instead {
+            part: "[{}]",
+            instead: "{}",
+        },
+        other: Instead {
+            part: ":0",
+            instead: ":101",
+        },
+        named: OutOfRange(Key::Patience),
+    },
+    TwoFaults {
+        one: Instead {
+            part: "[{}]",
+            instead: "[5]",
+        },
+        other: Instead {
+            part: ":0",
+            instead: ":101",
+        },
+        named: OutOfRange(Key::Patience),
+    },
+    TwoFaults {
+        one: Instead {
+            part: "[{}]",
+            instead: "[{},5,{}]",
+        },
+        other: Instead {
+            part: ",{}]",
+            instead: ",{\"tamper\":0}]",
+        },
+        named: BadProver(2),
+    },
 ];
 
 /// The case with two parts replaced.
 fn with_both(alloc: Global, one: Instead, other: Instead) -> Result<String, AllocError> {
-    let text = BASE.replace(alloc, one.0, one.1)?;
-    text.replace(alloc, other.0, other.1)
+    let text = BASE.replace(alloc, one.part, one.instead)?;
+    text.replace(alloc, other.part, other.instead)
 }
 
 #[test]
 fn of_two_faults_the_earlier_rule_names_the_fault(rt: HostRuntime) -> Result<(), Fail> {
-    for (one, other, want) in TWO_FAULTS {
+    for TwoFaults { one, other, named } in TWO_FAULTS {
         let text = with_both(rt.alloc(), one, other)?;
-        assert_eq!(rt; fault_of(rt.alloc(), text.as_str()), Some(want), "{text}");
+        assert_eq!(rt; fault_of(rt.alloc(), text.as_str()), Some(named), "{text}");
     }
     Ok(())
 }
 
 /// Versions, beside a patience in its range and a fan that is too large: a version that is taken leaves the fan's fault.
 const VERSIONS: [Row; 10] = [
-    ("\"version\":1", Some(OutOfRange(Key::Fan))),
-    ("\"version\":2", Some(OutOfRange(Key::Fan))),
-    ("\"version\":3", Some(OutOfRange(Key::Fan))),
-    ("\"version\":0", Some(OutOfRange(Key::Version))),
-    ("\"version\":4", Some(OutOfRange(Key::Version))),
-    (
-        "\"version\":18446744073709551615",
-        Some(OutOfRange(Key::Version)),
-    ),
-    (
-        "\"version\":18446744073709551616",
-        Some(WrongType(Key::Version)),
-    ),
-    ("\"version\":-1", Some(WrongType(Key::Version))),
-    ("\"version\":1.0", Some(WrongType(Key::Version))),
-    ("\"version\":\"2\"", Some(WrongType(Key::Version))),
+    Row {
+        instead: "\"version\":1",
+        fault: Some(OutOfRange(Key::Fan)),
+    },
+    Row {
+        instead: "\"version\":2",
+        fault: Some(OutOfRange(Key::Fan)),
+    },
+    Row {
+        instead: "\"version\":3",
+        fault: Some(OutOfRange(Key::Fan)),
+    },
+    Row {
+        instead: "\"version\":0",
+        fault: Some(OutOfRange(Key::Version)),
+    },
+    Row {
+        instead: "\"version\":4",
+        fault: Some(OutOfRange(Key::Version)),
+    },
+    Row {
+        instead: "\"version\":18446744073709551615",
+        fault: Some(OutOfRange(Key::Version)),
+    },
+    Row {
+        instead: "\"version\":18446744073709551616",
+        fault: Some(WrongType(Key::Version)),
+    },
+    Row {
+        instead: "\"version\":-1",
+        fault: Some(WrongType(Key::Version)),
+    },
+    Row {
+        instead: "\"version\":1.0",
+        fault: Some(WrongType(Key::Version)),
+    },
+    Row {
+        instead: "\"version\":\"2\"",
+        fault: Some(WrongType(Key::Version)),
+    },
 ];
 
 /// The version is tested after the patience and before the fan.
@@ -135,39 +296,69 @@ fn a_version_is_a_whole_number_from_1_to_3(rt: HostRuntime) -> Result<(), Fail> 
 
 /// Fans and stakes in place of the patience's key, before one prover that isn't known: keys that are taken leave its fault.
 const FANS: [Row; 7] = [
-    ("\"patience\":0,\"fan\":2", Some(BadProver(1))),
-    ("\"patience\":0,\"fan\":16", Some(BadProver(1))),
-    ("\"patience\":0,\"fan\":1", Some(OutOfRange(Key::Fan))),
-    ("\"patience\":0,\"fan\":17", Some(OutOfRange(Key::Fan))),
-    ("\"patience\":0,\"fan\":\"4\"", Some(WrongType(Key::Fan))),
-    ("\"patience\":0,\"fan\":-4", Some(WrongType(Key::Fan))),
-    ("\"patience\":0,\"fan\":null", Some(WrongType(Key::Fan))),
+    Row {
+        instead: "\"patience\":0,\"fan\":2",
+        fault: Some(BadProver(1)),
+    },
+    Row {
+        instead: "\"patience\":0,\"fan\":16",
+        fault: Some(BadProver(1)),
+    },
+    Row {
+        instead: "\"patience\":0,\"fan\":1",
+        fault: Some(OutOfRange(Key::Fan)),
+    },
+    Row {
+        instead: "\"patience\":0,\"fan\":17",
+        fault: Some(OutOfRange(Key::Fan)),
+    },
+    Row {
+        instead: "\"patience\":0,\"fan\":\"4\"",
+        fault: Some(WrongType(Key::Fan)),
+    },
+    Row {
+        instead: "\"patience\":0,\"fan\":-4",
+        fault: Some(WrongType(Key::Fan)),
+    },
+    Row {
+        instead: "\"patience\":0,\"fan\":null",
+        fault: Some(WrongType(Key::Fan)),
+    },
 ];
 
 const STAKES: [Row; 8] = [
-    ("\"patience\":0,\"stake\":0", Some(BadProver(1))),
-    ("\"patience\":0,\"stake\":1000000000", Some(BadProver(1))),
-    (
-        "\"patience\":0,\"stake\":1000000001",
-        Some(OutOfRange(Key::Stake)),
-    ),
-    ("\"patience\":0,\"stake\":-1", Some(WrongType(Key::Stake))),
-    (
-        "\"patience\":0,\"stake\":\"5\"",
-        Some(WrongType(Key::Stake)),
-    ),
-    (
-        "\"patience\":101,\"fan\":17",
-        Some(OutOfRange(Key::Patience)),
-    ),
-    (
-        "\"stake\":-1,\"patience\":0,\"fan\":17",
-        Some(OutOfRange(Key::Fan)),
-    ),
-    (
-        "\"patience\":0,\"stake\":-1,\"Provers\":[],\"fan\":2",
-        Some(WrongType(Key::Stake)),
-    ),
+    Row {
+        instead: "\"patience\":0,\"stake\":0",
+        fault: Some(BadProver(1)),
+    },
+    Row {
+        instead: "\"patience\":0,\"stake\":1000000000",
+        fault: Some(BadProver(1)),
+    },
+    Row {
+        instead: "\"patience\":0,\"stake\":1000000001",
+        fault: Some(OutOfRange(Key::Stake)),
+    },
+    Row {
+        instead: "\"patience\":0,\"stake\":-1",
+        fault: Some(WrongType(Key::Stake)),
+    },
+    Row {
+        instead: "\"patience\":0,\"stake\":\"5\"",
+        fault: Some(WrongType(Key::Stake)),
+    },
+    Row {
+        instead: "\"patience\":101,\"fan\":17",
+        fault: Some(OutOfRange(Key::Patience)),
+    },
+    Row {
+        instead: "\"stake\":-1,\"patience\":0,\"fan\":17",
+        fault: Some(OutOfRange(Key::Fan)),
+    },
+    Row {
+        instead: "\"patience\":0,\"stake\":-1,\"Provers\":[],\"fan\":2",
+        fault: Some(WrongType(Key::Stake)),
+    },
 ];
 
 /// Keys that may be missing are tested if they are there: the fan after the patience, then the stake, then the provers.
@@ -181,10 +372,22 @@ fn fan_and_stake_have_their_types_and_ranges(rt: HostRuntime) -> Result<(), Fail
 
 /// Keys that are taken, before a prover that is known.
 const TAKEN: [Row; 4] = [
-    ("\"patience\":0,\"fan\":2,\"version\":1", None),
-    ("\"patience\":0,\"fan\":16,\"version\":2", None),
-    ("\"patience\":0,\"stake\":0,\"version\":3", None),
-    ("\"patience\":0,\"stake\":1000000000", None),
+    Row {
+        instead: "\"patience\":0,\"fan\":2,\"version\":1",
+        fault: None,
+    },
+    Row {
+        instead: "\"patience\":0,\"fan\":16,\"version\":2",
+        fault: None,
+    },
+    Row {
+        instead: "\"patience\":0,\"stake\":0,\"version\":3",
+        fault: None,
+    },
+    Row {
+        instead: "\"patience\":0,\"stake\":1000000000",
+        fault: None,
+    },
 ];
 
 #[test]
@@ -193,10 +396,22 @@ fn the_least_and_the_largest_of_optional_keys_are_taken(rt: HostRuntime) -> Resu
 }
 
 const BOUNDS: [Row; 4] = [
-    (":16777217", None),
-    (":4294967295", None),
-    (":4294967296", Some(OutOfRange(Key::Bound))),
-    (":0", Some(OutOfRange(Key::Bound))),
+    Row {
+        instead: ":16777217",
+        fault: None,
+    },
+    Row {
+        instead: ":4294967295",
+        fault: None,
+    },
+    Row {
+        instead: ":4294967296",
+        fault: Some(OutOfRange(Key::Bound)),
+    },
+    Row {
+        instead: ":0",
+        fault: Some(OutOfRange(Key::Bound)),
+    },
 ];
 
 #[test]
@@ -206,11 +421,26 @@ fn a_bound_is_below_two_to_the_32nd(rt: HostRuntime) -> Result<(), Fail> {
 
 /// What is in place of the key and the value of an image of assembly.
 const ASSEMBLY: [Row; 5] = [
-    ("\"image\":\"1g\"", None),
-    ("\"image\":\"\"", None),
-    ("\"image\":5", Some(WrongType(Key::Image))),
-    ("\"image\":[]", Some(WrongType(Key::Image))),
-    ("\"Image\":\"\"", Some(Missing(Key::Image))),
+    Row {
+        instead: "\"image\":\"1g\"",
+        fault: None,
+    },
+    Row {
+        instead: "\"image\":\"\"",
+        fault: None,
+    },
+    Row {
+        instead: "\"image\":5",
+        fault: Some(WrongType(Key::Image)),
+    },
+    Row {
+        instead: "\"image\":[]",
+        fault: Some(WrongType(Key::Image)),
+    },
+    Row {
+        instead: "\"Image\":\"\"",
+        fault: Some(Missing(Key::Image)),
+    },
 ];
 
 /// The image of assembly is its text, which needn't be hexadecimal digits and may have escapes.
@@ -233,17 +463,26 @@ fn an_image_of_assembly_is_its_text(rt: HostRuntime) -> Result<(), Fail> {
 }
 
 const PROVERS: [Row; 5] = [
-    ("[[]]", Some(BadProver(1))),
-    ("[{},5]", Some(BadProver(2))),
-    ("[{},{},{\"tamper\":0}]", Some(BadProver(3))),
-    (
-        "[{},{\"manner\":{\"kind\":\"echo\",\"answers\":[]}},5]",
-        Some(BadProver(2)),
-    ),
-    (
-        "[{\"tamper\":{\"kind\":\"early\"},\"manner\":{}},{}]",
-        Some(BadProver(1)),
-    ),
+    Row {
+        instead: "[[]]",
+        fault: Some(BadProver(1)),
+    },
+    Row {
+        instead: "[{},5]",
+        fault: Some(BadProver(2)),
+    },
+    Row {
+        instead: "[{},{},{\"tamper\":0}]",
+        fault: Some(BadProver(3)),
+    },
+    Row {
+        instead: "[{},{\"manner\":{\"kind\":\"echo\",\"answers\":[]}},5]",
+        fault: Some(BadProver(2)),
+    },
+    Row {
+        instead: "[{\"tamper\":{\"kind\":\"early\"},\"manner\":{}},{}]",
+        fault: Some(BadProver(1)),
+    },
 ];
 
 #[test]
@@ -251,63 +490,93 @@ fn a_prover_that_is_not_known_is_named_by_its_number(rt: HostRuntime) -> Result<
     assert_faults(&rt, rt.alloc(), BASE, "[{}]", &PROVERS)
 }
 
-/// A part of the case; what takes its place: a start, a piece this many times, and an end; and the fault.
-type LongRow = (
-    &'static str,
-    &'static str,
-    &'static str,
-    usize,
-    &'static str,
-    Option<CaseFault>,
-);
+/// A part of the case, what takes its place, and the fault that the case has then; `None` if it is read.
+#[derive(Clone, Copy)]
+struct LongRow {
+    part: &'static str,
+    /// A start, a piece this many times, and an end.
+    start: &'static str,
+    piece: &'static str,
+    count: usize,
+    end: &'static str,
+    fault: Option<CaseFault>,
+}
 
 /// The digits are tested before the length, and the length before the next key.
 const LENGTHS: [LongRow; 7] = [
-    ("\"\"", "\"", "00", 1_048_576, "\"", None),
-    (
-        "\"\"",
-        "\"",
-        "00",
-        1_048_577,
-        "\"",
-        Some(OutOfRange(Key::Input)),
-    ),
-    (
-        "\"\"",
-        "\"",
-        "00",
-        1_048_577,
-        "0\"",
-        Some(BadHex(Key::Input)),
-    ),
-    (
-        "\"\",\"bound\"",
-        "\"",
-        "00",
-        1_048_577,
-        "\",\"Bound\"",
-        Some(OutOfRange(Key::Input)),
-    ),
-    ("[{}]", "[{}", ",{}", 15, "]", None),
-    (
-        "[{}]",
-        "[{}",
-        ",{}",
-        16,
-        "]",
-        Some(OutOfRange(Key::Provers)),
-    ),
-    ("[{}]", "[5", ",{}", 16, "]", Some(OutOfRange(Key::Provers))),
+    LongRow {
+        part: "\"\"",
+        start: "\"",
+        piece: "00",
+        count: 1_048_576,
+        end: "\"",
+        fault: None,
+    },
+    LongRow {
+        part: "\"\"",
+        start: "\"",
+        piece: "00",
+        count: 1_048_577,
+        end: "\"",
+        fault: Some(OutOfRange(Key::Input)),
+    },
+    LongRow {
+        part: "\"\"",
+        start: "\"",
+        piece: "00",
+        count: 1_048_577,
+        end: "0\"",
+        fault: Some(BadHex(Key::Input)),
+    },
+    LongRow {
+        part: "\"\",\"bound\"",
+        start: "\"",
+        piece: "00",
+        count: 1_048_577,
+        end: "\",\"Bound\"",
+        fault: Some(OutOfRange(Key::Input)),
+    },
+    LongRow {
+        part: "[{}]",
+        start: "[{}",
+        piece: ",{}",
+        count: 15,
+        end: "]",
+        fault: None,
+    },
+    LongRow {
+        part: "[{}]",
+        start: "[{}",
+        piece: ",{}",
+        count: 16,
+        end: "]",
+        fault: Some(OutOfRange(Key::Provers)),
+    },
+    LongRow {
+        part: "[{}]",
+        start: "[5",
+        piece: ",{}",
+        count: 16,
+        end: "]",
+        fault: Some(OutOfRange(Key::Provers)),
+    },
 ];
 
 #[test]
 fn lengths_are_taken_up_to_their_limit(rt: HostRuntime) -> Result<(), Fail> {
     let alloc = rt.alloc();
-    for (old, start, piece, count, end, want) in LENGTHS {
+    for LongRow {
+        part,
+        start,
+        piece,
+        count,
+        end,
+        fault,
+    } in LENGTHS {
         let pieces = piece.repeat(alloc, count)?;
         let new = format!(in alloc; "{start}{pieces}{end}")?;
-        let text = BASE.replace(alloc, old, new.as_str())?;
-        assert_eq!(rt; fault_of(alloc, text.as_str()), want, "{count} of {piece}");
+        let text = BASE.replace(alloc, part, new.as_str())?;
+        assert_eq!(rt; fault_of(alloc, text.as_str()), fault, "{count} of {piece}");
     }
     Ok(())
 }
@@ -374,32 +643,89 @@ fn a_case_is_read_whole(rt: HostRuntime) -> Result<(), Fail> {
     Ok(())
 }
 
-const FAULTS: [(CaseFault, Option<u32>, &str); 13] = [
-    (NotJson, Some(1), "the bytes are no JSON text"),
-    (NotObject, Some(2), "the case is no object"),
-    (Missing(Key::Format), Some(3), "format is missing"),
-    (WrongType(Key::Bound), Some(4), "bound has another type"),
-    (BadHex(Key::Image), Some(5), "image is no hexadecimal text"),
-    (BadHex(Key::Input), Some(5), "input is no hexadecimal text"),
-    (
-        OutOfRange(Key::Patience),
-        Some(6),
-        "patience is out of range",
-    ),
-    (OutOfRange(Key::Provers), Some(6), "provers is out of range"),
-    (WrongType(Key::Version), Some(4), "version has another type"),
-    (WrongType(Key::Fan), Some(4), "fan has another type"),
-    (OutOfRange(Key::Stake), Some(6), "stake is out of range"),
-    (BadProver(2), Some(7), "prover 2 is none that is known"),
-    (CaseFault::Memory, None, "out of memory"),
+/// A fault, the number of its rule, and its text.
+#[derive(Clone, Copy)]
+struct Said {
+    fault: CaseFault,
+    /// `None` for want of memory, which breaks no rule.
+    rule: Option<u32>,
+    text: &'static str,
+}
+
+const FAULTS: [Said; 13] = [
+    Said {
+        fault: NotJson,
+        rule: Some(1),
+        text: "the bytes are no JSON text",
+    },
+    Said {
+        fault: NotObject,
+        rule: Some(2),
+        text: "the case is no object",
+    },
+    Said {
+        fault: Missing(Key::Format),
+        rule: Some(3),
+        text: "format is missing",
+    },
+    Said {
+        fault: WrongType(Key::Bound),
+        rule: Some(4),
+        text: "bound has another type",
+    },
+    Said {
+        fault: BadHex(Key::Image),
+        rule: Some(5),
+        text: "image is no hexadecimal text",
+    },
+    Said {
+        fault: BadHex(Key::Input),
+        rule: Some(5),
+        text: "input is no hexadecimal text",
+    },
+    Said {
+        fault: OutOfRange(Key::Patience),
+        rule: Some(6),
+        text: "patience is out of range",
+    },
+    Said {
+        fault: OutOfRange(Key::Provers),
+        rule: Some(6),
+        text: "provers is out of range",
+    },
+    Said {
+        fault: WrongType(Key::Version),
+        rule: Some(4),
+        text: "version has another type",
+    },
+    Said {
+        fault: WrongType(Key::Fan),
+        rule: Some(4),
+        text: "fan has another type",
+    },
+    Said {
+        fault: OutOfRange(Key::Stake),
+        rule: Some(6),
+        text: "stake is out of range",
+    },
+    Said {
+        fault: BadProver(2),
+        rule: Some(7),
+        text: "prover 2 is none that is known",
+    },
+    Said {
+        fault: CaseFault::Memory,
+        rule: None,
+        text: "out of memory",
+    },
 ];
 
 #[test]
 fn a_fault_has_its_rule_and_its_text(rt: HostRuntime) -> Result<(), Fail> {
-    for (fault, rule, want) in FAULTS {
-        let text = format!(in rt.alloc(); "{fault}")?;
-        assert_eq!(rt; text.as_str(), want);
-        assert_eq!(rt; fault.rule(), rule, "{want}");
+    for Said { fault, rule, text } in FAULTS {
+        let printed = format!(in rt.alloc(); "{fault}")?;
+        assert_eq!(rt; printed.as_str(), text);
+        assert_eq!(rt; fault.rule(), rule, "{text}");
     }
     Ok(())
 }

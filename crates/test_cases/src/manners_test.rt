@@ -22,44 +22,111 @@ fn is_taken(alloc: Global, manner: &str) -> Result<bool, Fail> {
     }
 }
 
-/// The keys of a forger, and whether they are taken.
-const FORGES: [(&str, bool); 11] = [
-    ("\"step\":0,\"reg\":1,\"value\":0", true),
-    ("\"step\":4294967295,\"reg\":31,\"value\":4294967295", true),
-    ("\"step\":4294967296,\"reg\":1,\"value\":0", false),
-    ("\"step\":0,\"reg\":0,\"value\":0", false),
-    ("\"step\":0,\"reg\":32,\"value\":0", false),
-    ("\"step\":0,\"reg\":1,\"value\":4294967296", false),
-    ("\"step\":0,\"reg\":1,\"value\":-1", false),
-    ("\"step\":\"0\",\"reg\":1,\"value\":0", false),
-    ("\"reg\":1,\"value\":0", false),
-    ("\"step\":0,\"value\":0", false),
-    ("\"step\":0,\"reg\":1", false),
+/// Keys or a manner, as text, and whether they are taken.
+#[derive(Clone, Copy)]
+struct Row {
+    text: &'static str,
+    is_taken: bool,
+}
+
+/// The keys of a forger.
+const FORGES: [Row; 11] = [
+    Row {
+        text: "\"step\":0,\"reg\":1,\"value\":0",
+        is_taken: true,
+    },
+    Row {
+        text: "\"step\":4294967295,\"reg\":31,\"value\":4294967295",
+        is_taken: true,
+    },
+    Row {
+        text: "\"step\":4294967296,\"reg\":1,\"value\":0",
+        is_taken: false,
+    },
+    Row {
+        text: "\"step\":0,\"reg\":0,\"value\":0",
+        is_taken: false,
+    },
+    Row {
+        text: "\"step\":0,\"reg\":32,\"value\":0",
+        is_taken: false,
+    },
+    Row {
+        text: "\"step\":0,\"reg\":1,\"value\":4294967296",
+        is_taken: false,
+    },
+    Row {
+        text: "\"step\":0,\"reg\":1,\"value\":-1",
+        is_taken: false,
+    },
+    Row {
+        text: "\"step\":\"0\",\"reg\":1,\"value\":0",
+        is_taken: false,
+    },
+    Row {
+        text: "\"reg\":1,\"value\":0",
+        is_taken: false,
+    },
+    Row {
+        text: "\"step\":0,\"value\":0",
+        is_taken: false,
+    },
+    Row {
+        text: "\"step\":0,\"reg\":1",
+        is_taken: false,
+    },
 ];
 
 #[test]
 fn forge_has_a_step_a_register_and_a_value(rt: HostRuntime) -> Result<(), Fail> {
-    for (keys, want) in FORGES {
-        let manner = format!(in rt.alloc(); "{{\"kind\":\"forge\",{keys}}}")?;
-        assert_eq!(rt; is_taken(rt.alloc(), manner.as_str())?, want, "{keys}");
+    for Row {
+        text,
+        is_taken: want,
+    } in FORGES {
+        let manner = format!(in rt.alloc(); "{{\"kind\":\"forge\",{text}}}")?;
+        assert!(rt; is_taken(rt.alloc(), manner.as_str())? == want, "{text}");
     }
     Ok(())
 }
 
-const NOISES: [(&str, bool); 7] = [
-    ("{\"kind\":\"noise\",\"seed\":0}", true),
-    ("{\"kind\":\"noise\",\"seed\":4294967295}", true),
-    ("{\"kind\":\"noise\",\"seed\":4294967296}", false),
-    ("{\"kind\":\"noise\",\"seed\":1.5}", false),
-    ("{\"kind\":\"noise\",\"seed\":null}", false),
-    ("{\"kind\":\"noise\"}", false),
-    ("{\"kind\":\"Noise\",\"seed\":0}", false),
+const NOISES: [Row; 7] = [
+    Row {
+        text: "{\"kind\":\"noise\",\"seed\":0}",
+        is_taken: true,
+    },
+    Row {
+        text: "{\"kind\":\"noise\",\"seed\":4294967295}",
+        is_taken: true,
+    },
+    Row {
+        text: "{\"kind\":\"noise\",\"seed\":4294967296}",
+        is_taken: false,
+    },
+    Row {
+        text: "{\"kind\":\"noise\",\"seed\":1.5}",
+        is_taken: false,
+    },
+    Row {
+        text: "{\"kind\":\"noise\",\"seed\":null}",
+        is_taken: false,
+    },
+    Row {
+        text: "{\"kind\":\"noise\"}",
+        is_taken: false,
+    },
+    Row {
+        text: "{\"kind\":\"Noise\",\"seed\":0}",
+        is_taken: false,
+    },
 ];
 
 #[test]
 fn noise_has_a_seed(rt: HostRuntime) -> Result<(), Fail> {
-    for (manner, want) in NOISES {
-        assert_eq!(rt; is_taken(rt.alloc(), manner)?, want, "{manner}");
+    for Row {
+        text,
+        is_taken: want,
+    } in NOISES {
+        assert!(rt; is_taken(rt.alloc(), text)? == want, "{text}");
     }
     Ok(())
 }
@@ -74,68 +141,161 @@ fn tape_of(alloc: Global, question: &str, tag: &str, end: &str) -> Result<String
     Ok(tape)
 }
 
-/// The keys of the question, and whether they are taken.
-const QUESTIONS: [(&str, bool); 7] = [
-    ("\"dispute\":0,\"round\":0", true),
-    ("\"dispute\":4294967295,\"round\":4294967295", true),
-    ("\"dispute\":4294967296,\"round\":0", false),
-    ("\"dispute\":0,\"round\":4294967296", false),
-    ("\"dispute\":\"0\",\"round\":0", false),
-    ("\"round\":0", false),
-    ("\"dispute\":0", false),
+/// The keys of the question of a tape's answer.
+const QUESTIONS: [Row; 7] = [
+    Row {
+        text: "\"dispute\":0,\"round\":0",
+        is_taken: true,
+    },
+    Row {
+        text: "\"dispute\":4294967295,\"round\":4294967295",
+        is_taken: true,
+    },
+    Row {
+        text: "\"dispute\":4294967296,\"round\":0",
+        is_taken: false,
+    },
+    Row {
+        text: "\"dispute\":0,\"round\":4294967296",
+        is_taken: false,
+    },
+    Row {
+        text: "\"dispute\":\"0\",\"round\":0",
+        is_taken: false,
+    },
+    Row {
+        text: "\"round\":0",
+        is_taken: false,
+    },
+    Row {
+        text: "\"dispute\":0",
+        is_taken: false,
+    },
 ];
 
 /// What is before 31 bytes of zeros and behind them, and whether it is a wire form.
-const ANSWERS: [(&str, &str, bool); 10] = [
-    ("02", "00", true),
-    ("02", "aF", true),
-    ("0501", "00", true),
-    ("02", "", false),
-    ("02", "0000", false),
-    ("02", "0", false),
-    ("02", "0g", false),
-    ("0500", "00", false),
-    ("0502", "00", false),
-    ("07", "00", false),
+#[derive(Clone, Copy)]
+struct AnswerRow {
+    before: &'static str,
+    behind: &'static str,
+    is_taken: bool,
+}
+
+const ANSWERS: [AnswerRow; 10] = [
+    AnswerRow {
+        before: "02",
+        behind: "00",
+        is_taken: true,
+    },
+    AnswerRow {
+        before: "02",
+        behind: "aF",
+        is_taken: true,
+    },
+    AnswerRow {
+        before: "0501",
+        behind: "00",
+        is_taken: true,
+    },
+    AnswerRow {
+        before: "02",
+        behind: "",
+        is_taken: false,
+    },
+    AnswerRow {
+        before: "02",
+        behind: "0000",
+        is_taken: false,
+    },
+    AnswerRow {
+        before: "02",
+        behind: "0",
+        is_taken: false,
+    },
+    AnswerRow {
+        before: "02",
+        behind: "0g",
+        is_taken: false,
+    },
+    AnswerRow {
+        before: "0500",
+        behind: "00",
+        is_taken: false,
+    },
+    AnswerRow {
+        before: "0502",
+        behind: "00",
+        is_taken: false,
+    },
+    AnswerRow {
+        before: "07",
+        behind: "00",
+        is_taken: false,
+    },
 ];
 
 #[test]
 fn an_answer_of_a_tape_has_a_question_and_a_wire_form(rt: HostRuntime) -> Result<(), Fail> {
     let alloc = rt.alloc();
-    for (question, want) in QUESTIONS {
-        let tape = tape_of(alloc, question, "02", "00")?;
-        assert_eq!(rt; is_taken(alloc, tape.as_str())?, want, "{question}");
+    for Row {
+        text,
+        is_taken: want,
+    } in QUESTIONS {
+        let tape = tape_of(alloc, text, "02", "00")?;
+        assert!(rt; is_taken(alloc, tape.as_str())? == want, "{text}");
     }
-    for (tag, end, want) in ANSWERS {
-        let tape = tape_of(alloc, "\"dispute\":0,\"round\":0", tag, end)?;
-        assert_eq!(rt; is_taken(alloc, tape.as_str())?, want, "{tag} {end}");
+    for AnswerRow {
+        before,
+        behind,
+        is_taken: want,
+    } in ANSWERS {
+        let tape = tape_of(alloc, "\"dispute\":0,\"round\":0", before, behind)?;
+        assert!(rt;
+            is_taken(alloc, tape.as_str())? == want,
+            "{before} {behind}"
+        );
     }
     Ok(())
 }
 
-const TAPES: [(&str, bool); 7] = [
-    ("{\"kind\":\"tape\",\"answers\":[]}", true),
-    ("{\"kind\":\"tape\"}", false),
-    ("{\"kind\":\"tape\",\"answers\":{}}", false),
-    ("{\"kind\":\"tape\",\"answers\":[5]}", false),
-    (
-        "{\"kind\":\"tape\",\"answers\":[{\"dispute\":0,\"round\":0}]}",
-        false,
-    ),
-    (
-        "{\"kind\":\"tape\",\"answers\":[{\"dispute\":0,\"round\":0,\"answer\":\"07\"}]}",
-        false,
-    ),
-    (
-        "{\"kind\":\"tape\",\"answers\":[{\"dispute\":0,\"round\":0,\"answer\":\"\"}]}",
-        false,
-    ),
+const TAPES: [Row; 7] = [
+    Row {
+        text: "{\"kind\":\"tape\",\"answers\":[]}",
+        is_taken: true,
+    },
+    Row {
+        text: "{\"kind\":\"tape\"}",
+        is_taken: false,
+    },
+    Row {
+        text: "{\"kind\":\"tape\",\"answers\":{}}",
+        is_taken: false,
+    },
+    Row {
+        text: "{\"kind\":\"tape\",\"answers\":[5]}",
+        is_taken: false,
+    },
+    Row {
+        text: "{\"kind\":\"tape\",\"answers\":[{\"dispute\":0,\"round\":0}]}",
+        is_taken: false,
+    },
+    Row {
+        text: "{\"kind\":\"tape\",\"answers\":[{\"dispute\":0,\"round\":0,\"answer\":\"07\"}]}",
+        is_taken: false,
+    },
+    Row {
+        text: "{\"kind\":\"tape\",\"answers\":[{\"dispute\":0,\"round\":0,\"answer\":\"\"}]}",
+        is_taken: false,
+    },
 ];
 
 #[test]
 fn a_tape_is_an_array_of_objects(rt: HostRuntime) -> Result<(), Fail> {
-    for (manner, want) in TAPES {
-        assert_eq!(rt; is_taken(rt.alloc(), manner)?, want, "{manner}");
+    for Row {
+        text,
+        is_taken: want,
+    } in TAPES {
+        assert!(rt; is_taken(rt.alloc(), text)? == want, "{text}");
     }
     Ok(())
 }
@@ -154,8 +314,14 @@ fn a_tape_has_at_most_4096_answers(rt: HostRuntime) -> Result<(), Fail> {
     Ok(())
 }
 
-/// An answer of a tape in short: dispute, round, and the first byte of its first root, 255 if it has none.
-type Short = (u32, u32, u8);
+/// An answer of a tape in short.
+#[derive(Clone, Copy, Debug, PartialEq, Eq)]
+struct Short {
+    dispute: u32,
+    round: u32,
+    /// The first byte of its first root, 255 if it has none.
+    mark: u8,
+}
 
 /// The first byte of the first root that an answer gives.
 fn mark_of(answer: &Answer) -> u8 {
@@ -176,7 +342,11 @@ fn tapes_of(alloc: Global, case: &Case) -> Result<Vec<Short>, Memory> {
         if let Manner::Tape(tape) = &script.manner {
             for entry in tape.as_slice() {
                 let mark = mark_of(&entry.answer);
-                answers.push((entry.qid.dispute, entry.qid.round, mark))?;
+                answers.push(Short {
+                    dispute: entry.qid.dispute,
+                    round: entry.qid.round,
+                    mark,
+                })?;
             }
         }
     }
@@ -193,9 +363,24 @@ fn a_tape_holds_its_answers_in_their_order(rt: HostRuntime) -> Result<(), Fail> 
         "{{\"answer\":\"0502{others}\",\"round\":2,\"dispute\":4,\"x\":0}}"
     )?;
     let tape = format!(in alloc; "{{\"kind\":\"tape\",\"answers\":[{first},{second},{first}]}}")?;
-    let case = case_with(alloc, tape.as_str())?;
-    let answers = tapes_of(alloc, &case)?;
-    let want: [Short; 3] = [(3, 1, 9), (4, 2, 171), (3, 1, 9)];
+    let answers = tapes_of(alloc, &case_with(alloc, tape.as_str())?)?;
+    let want = [
+        Short {
+            dispute: 3,
+            round: 1,
+            mark: 9,
+        },
+        Short {
+            dispute: 4,
+            round: 2,
+            mark: 171,
+        },
+        Short {
+            dispute: 3,
+            round: 1,
+            mark: 9,
+        },
+    ];
     assert_eq!(rt; answers.as_slice(), want.as_slice());
     Ok(())
 }

@@ -72,51 +72,127 @@ fn one_case_or_one_to_eight_tasks_are_read(rt: HostRuntime) -> Result<(), Fail> 
     Ok(())
 }
 
-const WHOLE_FAULTS: [(&str, CaseFault); 10] = [
-    ("", CaseFault::NotJson),
-    ("{\"tasks\":[}", CaseFault::NotJson),
-    ("[]", CaseFault::NotObject),
-    ("{}", CaseFault::Missing(Key::Format)),
-    ("{\"Tasks\":[]}", CaseFault::Missing(Key::Format)),
-    ("{\"tasks\":\"\"}", TASKS_TYPE),
-    ("{\"tasks\":{}}", TASKS_TYPE),
-    ("{\"tasks\":null,\"format\":\"raw\"}", TASKS_TYPE),
-    ("{\"tasks\":[]}", TASKS_RANGE),
-    ("{\"tasks\":[5,5,5,5,5,5,5,5,5]}", TASKS_RANGE),
+/// A text, and its fault, which is of no task.
+#[derive(Clone, Copy)]
+struct WholeFault {
+    text: &'static str,
+    fault: CaseFault,
+}
+
+const WHOLE_FAULTS: [WholeFault; 10] = [
+    WholeFault {
+        text: "",
+        fault: CaseFault::NotJson,
+    },
+    WholeFault {
+        text: "{\"tasks\":[}",
+        fault: CaseFault::NotJson,
+    },
+    WholeFault {
+        text: "[]",
+        fault: CaseFault::NotObject,
+    },
+    WholeFault {
+        text: "{}",
+        fault: CaseFault::Missing(Key::Format),
+    },
+    WholeFault {
+        text: "{\"Tasks\":[]}",
+        fault: CaseFault::Missing(Key::Format),
+    },
+    WholeFault {
+        text: "{\"tasks\":\"\"}",
+        fault: TASKS_TYPE,
+    },
+    WholeFault {
+        text: "{\"tasks\":{}}",
+        fault: TASKS_TYPE,
+    },
+    WholeFault {
+        text: "{\"tasks\":null,\"format\":\"raw\"}",
+        fault: TASKS_TYPE,
+    },
+    WholeFault {
+        text: "{\"tasks\":[]}",
+        fault: TASKS_RANGE,
+    },
+    WholeFault {
+        text: "{\"tasks\":[5,5,5,5,5,5,5,5,5]}",
+        fault: TASKS_RANGE,
+    },
 ];
 
 /// The whole text is tested first, then `tasks`, whatever else is beside it.
 #[test]
 fn the_key_tasks_is_an_array_of_one_to_eight(rt: HostRuntime) {
-    for (text, want) in WHOLE_FAULTS {
+    for WholeFault { text, fault } in WHOLE_FAULTS {
         assert_eq!(rt;
             fault_of(rt.alloc(), text),
-            Some(TaskFault::Whole(want)),
+            Some(TaskFault::Whole(fault)),
             "{text}"
         );
     }
 }
 
-/// A part of the text of two tasks and what takes its place, the task that has a fault, and the fault.
-const TASK_FAULTS: [(&str, &str, u32, CaseFault); 8] = [
-    (":9", ":0", 2, CaseFault::OutOfRange(Key::Bound)),
-    (":8", ":0", 1, CaseFault::OutOfRange(Key::Bound)),
-    ("[{}]},", "[5]},5,", 1, CaseFault::BadProver(1)),
-    ("[{\"f", "[5,{\"f", 1, CaseFault::NotObject),
-    (",{\"f", ",[],{\"f", 2, CaseFault::NotObject),
-    ("[{\"f", "[{\"tasks\":[],\"f", 1, TASKS_RANGE),
-    (
-        ",{\"format\":\"flat",
-        ",{\"tasks\":0,\"format\":\"raw",
-        2,
-        TASKS_RANGE,
-    ),
-    (
-        "\"version\":2",
-        "\"version\":4",
-        2,
-        CaseFault::OutOfRange(Key::Version),
-    ),
+/// A part of the text of two tasks and what takes its place, the task that has a fault then, and the fault.
+#[derive(Clone, Copy)]
+struct FaultOfTask {
+    part: &'static str,
+    instead: &'static str,
+    /// Its number, from 1.
+    task: u32,
+    fault: CaseFault,
+}
+
+const TASK_FAULTS: [FaultOfTask; 8] = [
+    FaultOfTask {
+        part: ":9",
+        instead: ":0",
+        task: 2,
+        fault: CaseFault::OutOfRange(Key::Bound),
+    },
+    FaultOfTask {
+        part: ":8",
+        instead: ":0",
+        task: 1,
+        fault: CaseFault::OutOfRange(Key::Bound),
+    },
+    FaultOfTask {
+        part: "[{}]},",
+        instead: "[5]},5,",
+        task: 1,
+        fault: CaseFault::BadProver(1),
+    },
+    FaultOfTask {
+        part: "[{\"f",
+        instead: "[5,{\"f",
+        task: 1,
+        fault: CaseFault::NotObject,
+    },
+    FaultOfTask {
+        part: ",{\"f",
+        instead: ",[],{\"f",
+        task: 2,
+        fault: CaseFault::NotObject,
+    },
+    FaultOfTask {
+        part: "[{\"f",
+        instead: "[{\"tasks\":[],\"f",
+        task: 1,
+        fault: TASKS_RANGE,
+    },
+    FaultOfTask {
+        part: ",{\"format\":\"flat",
+        instead: ",{\"tasks\":0,\"format\":\"raw",
+        task: 2,
+        fault: TASKS_RANGE,
+    },
+    FaultOfTask {
+        part: "\"version\":2",
+        instead: "\"version\":4",
+        task: 2,
+        fault: CaseFault::OutOfRange(Key::Version),
+    },
 ];
 
 /// The first fault of the first task that has one is that of all, and `tasks` in a task comes before its format.
@@ -124,11 +200,16 @@ const TASK_FAULTS: [(&str, &str, u32, CaseFault); 8] = [
 fn the_first_task_with_a_fault_names_it(rt: HostRuntime) -> Result<(), Fail> {
     let alloc = rt.alloc();
     let two = tasks_text(alloc, 1)?;
-    for (old, new, number, want) in TASK_FAULTS {
-        let text = two.replace(alloc, old, new)?;
+    for FaultOfTask {
+        part,
+        instead,
+        task,
+        fault,
+    } in TASK_FAULTS {
+        let text = two.replace(alloc, part, instead)?;
         assert_eq!(rt;
             fault_of(alloc, text.as_str()),
-            Some(TaskFault::Task(number, want)),
+            Some(TaskFault::Task(task, fault)),
             "{text}"
         );
     }
