@@ -32,8 +32,12 @@ const BAD_SECOND: Told = Told::Fault(TextFault::BadLine(2));
 
 const SECOND_OUT_OF_RANGE: Told = Told::Fault(TextFault::OutOfRange(2));
 
-/// What follows a head, and what is read of the text.
-type Row = (&'static [u8], Told);
+/// What follows a head, or a part of it, and what is read of the text.
+#[derive(Clone, Copy)]
+struct Row {
+    lines: &'static [u8],
+    told: Told,
+}
 
 /// What is read of a text with a head, these lines, and this behind them.
 fn read_lines(alloc: Global, lines: &[u8], end: &[u8]) -> Result<Told, Memory> {
@@ -46,33 +50,58 @@ fn read_lines(alloc: Global, lines: &[u8], end: &[u8]) -> Result<Told, Memory> {
 
 /// Asserts for each row what is read if this follows it.
 fn assert_read(rt: &impl Abort, alloc: Global, rows: &[Row], end: &[u8]) -> Result<(), Fail> {
-    for (lines, want) in rows {
-        assert_eq!(rt; read_lines(alloc, lines, end)?, *want, "{lines:?}");
+    for Row { lines, told } in rows {
+        assert_eq!(rt; read_lines(alloc, lines, end)?, *told, "{lines:?}");
     }
     Ok(())
 }
 
 const CUT_OFF: [Row; 6] = [
-    (b"", CUT),
-    (b"move 0 0 p1 spent", CUT),
-    (b"move 0 0 p9 spent", CUT),
-    (b"nonsense", CUT),
-    (b"move 0 0 p1 spent\n", CUT),
-    (b"none left", CUT),
+    Row {
+        lines: b"",
+        told: CUT,
+    },
+    Row {
+        lines: b"move 0 0 p1 spent",
+        told: CUT,
+    },
+    Row {
+        lines: b"move 0 0 p9 spent",
+        told: CUT,
+    },
+    Row {
+        lines: b"nonsense",
+        told: CUT,
+    },
+    Row {
+        lines: b"move 0 0 p1 spent\n",
+        told: CUT,
+    },
+    Row {
+        lines: b"none left",
+        told: CUT,
+    },
 ];
 
 /// A line without its line feed is cut off, whatever its form.
 #[test]
 fn a_text_that_ends_before_its_verdict_is_cut_off(rt: HostRuntime) -> Result<(), Fail> {
     let alloc = rt.alloc();
-    assert_eq!(rt; read_pieces(alloc, &[])?, CUT);
-    assert_eq!(rt; read_pieces(alloc, &[NUMBERS.as_bytes(), CUT_START])?, CUT);
-    assert_eq!(rt; read_pieces(alloc, &[b"refereed provers 17"])?, CUT);
+    let read = [
+        read_pieces(alloc, &[])?,
+        read_pieces(alloc, &[NUMBERS.as_bytes(), CUT_START])?,
+        read_pieces(alloc, &[b"refereed provers 17"])?,
+    ];
+    assert_eq!(rt; read, [CUT; 3]);
     assert_read(&rt, alloc, &CUT_OFF, b"")
 }
 
 /// A part of the head's numbers, and what is in its place.
-type Change = (&'static str, &'static str);
+#[derive(Clone, Copy)]
+struct Change {
+    part: &'static str,
+    instead: &'static str,
+}
 
 /// Asserts of heads with each of these changes what is read before a verdict, and what before a line of no form.
 fn assert_heads(
@@ -82,26 +111,43 @@ fn assert_heads(
     want: Told,
     before_no_form: Told,
 ) -> Result<(), Fail> {
-    for (part, instead) in changes {
+    for Change { part, instead } in changes {
         let numbers = NUMBERS.replace(alloc, *part, *instead)?;
         let head = numbers.as_bytes();
-        assert_eq!(rt; read_pieces(alloc, &[head, START, END])?, want, "{instead}");
-        let next = read_pieces(alloc, &[head, START, b"nonsense\n"])?;
-        assert_eq!(rt; next, before_no_form, "{instead}");
+        let read = [
+            read_pieces(alloc, &[head, START, END])?,
+            read_pieces(alloc, &[head, START, b"nonsense\n"])?,
+        ];
+        assert_eq!(rt; read, [want, before_no_form], "{instead}");
     }
     Ok(())
 }
 
 const HEADS_IN_RANGE: [Change; 6] = [
-    ("provers 2 bound 8", "provers 1 bound 1"),
-    (
-        "provers 2 bound 8 patience 0",
-        "provers 16 bound 4294967295 patience 100",
-    ),
-    ("fan 2", "fan 16"),
-    ("version 1", "version 2"),
-    ("version 1", "version 3"),
-    ("sha256", "weak8"),
+    Change {
+        part: "provers 2 bound 8",
+        instead: "provers 1 bound 1",
+    },
+    Change {
+        part: "provers 2 bound 8 patience 0",
+        instead: "provers 16 bound 4294967295 patience 100",
+    },
+    Change {
+        part: "fan 2",
+        instead: "fan 16",
+    },
+    Change {
+        part: "version 1",
+        instead: "version 2",
+    },
+    Change {
+        part: "version 1",
+        instead: "version 3",
+    },
+    Change {
+        part: "sha256",
+        instead: "weak8",
+    },
 ];
 
 #[test]
@@ -110,17 +156,50 @@ fn heads_in_their_limits_are_read(rt: HostRuntime) -> Result<(), Fail> {
 }
 
 const HEADS_OUT_OF_RANGE: [Change; 11] = [
-    ("provers 2", "provers 0"),
-    ("provers 2", "provers 17"),
-    ("bound 8", "bound 0"),
-    ("bound 8", "bound 4294967296"),
-    ("bound 8", "bound 4294967304"),
-    ("bound 8", "bound 18446744073709551624"),
-    ("patience 0", "patience 101"),
-    ("version 1", "version 0"),
-    ("version 1", "version 4"),
-    ("fan 2", "fan 1"),
-    ("fan 2", "fan 17"),
+    Change {
+        part: "provers 2",
+        instead: "provers 0",
+    },
+    Change {
+        part: "provers 2",
+        instead: "provers 17",
+    },
+    Change {
+        part: "bound 8",
+        instead: "bound 0",
+    },
+    Change {
+        part: "bound 8",
+        instead: "bound 4294967296",
+    },
+    Change {
+        part: "bound 8",
+        instead: "bound 4294967304",
+    },
+    Change {
+        part: "bound 8",
+        instead: "bound 18446744073709551624",
+    },
+    Change {
+        part: "patience 0",
+        instead: "patience 101",
+    },
+    Change {
+        part: "version 1",
+        instead: "version 0",
+    },
+    Change {
+        part: "version 1",
+        instead: "version 4",
+    },
+    Change {
+        part: "fan 2",
+        instead: "fan 1",
+    },
+    Change {
+        part: "fan 2",
+        instead: "fan 17",
+    },
 ];
 
 /// The numbers of line 1 are tested before later lines.
@@ -136,22 +215,58 @@ fn a_number_of_a_head_out_of_its_limits_is_out_of_range(rt: HostRuntime) -> Resu
 }
 
 const BAD_HEADS: [Change; 13] = [
-    ("sha256", "WEAK8"),
-    ("sha256", "weak"),
-    ("sha256", "sha2567"),
-    (
-        "2 bound 8 patience 0 version 1 fan 2 digest s",
-        "17 bound 8 patience 0 version 1 fan 2 digest S",
-    ),
-    ("provers 2", "provers 02"),
-    ("provers 2", "provers +2"),
-    ("bound 8", "bound  8"),
-    ("2 bound", "2\tbound"),
-    ("patience 0", "patience 00"),
-    ("bound 8", "bound 8\0"),
-    ("bound 8", "bound"),
-    ("refereed", " refereed"),
-    ("refereed", "match"),
+    Change {
+        part: "sha256",
+        instead: "WEAK8",
+    },
+    Change {
+        part: "sha256",
+        instead: "weak",
+    },
+    Change {
+        part: "sha256",
+        instead: "sha2567",
+    },
+    Change {
+        part: "2 bound 8 patience 0 version 1 fan 2 digest s",
+        instead: "17 bound 8 patience 0 version 1 fan 2 digest S",
+    },
+    Change {
+        part: "provers 2",
+        instead: "provers 02",
+    },
+    Change {
+        part: "provers 2",
+        instead: "provers +2",
+    },
+    Change {
+        part: "bound 8",
+        instead: "bound  8",
+    },
+    Change {
+        part: "2 bound",
+        instead: "2\tbound",
+    },
+    Change {
+        part: "patience 0",
+        instead: "patience 00",
+    },
+    Change {
+        part: "bound 8",
+        instead: "bound 8\0",
+    },
+    Change {
+        part: "bound 8",
+        instead: "bound",
+    },
+    Change {
+        part: "refereed",
+        instead: " refereed",
+    },
+    Change {
+        part: "refereed",
+        instead: "match",
+    },
 ];
 
 /// The form of line 1 is tested before its numbers, and before later lines.
@@ -162,23 +277,47 @@ fn a_head_has_one_form(rt: HostRuntime) -> Result<(), Fail> {
 
 /// What follows 62 digits of a root.
 const ROOT_ENDS: [Row; 8] = [
-    (b"ff\n", NO_MOVES),
-    (b"fF\n", BAD_HEAD),
-    (b"fg\n", BAD_HEAD),
-    (b"f\n", BAD_HEAD),
-    (b"\n", BAD_HEAD),
-    (b"ff00\n", BAD_HEAD),
-    (b"ff \n", BAD_HEAD),
-    (b"ff\r\n", BAD_HEAD),
+    Row {
+        lines: b"ff\n",
+        told: NO_MOVES,
+    },
+    Row {
+        lines: b"fF\n",
+        told: BAD_HEAD,
+    },
+    Row {
+        lines: b"fg\n",
+        told: BAD_HEAD,
+    },
+    Row {
+        lines: b"f\n",
+        told: BAD_HEAD,
+    },
+    Row {
+        lines: b"\n",
+        told: BAD_HEAD,
+    },
+    Row {
+        lines: b"ff00\n",
+        told: BAD_HEAD,
+    },
+    Row {
+        lines: b"ff \n",
+        told: BAD_HEAD,
+    },
+    Row {
+        lines: b"ff\r\n",
+        told: BAD_HEAD,
+    },
 ];
 
 /// A root has 64 digits of lower case; the line feed follows it.
 #[test]
 fn a_start_root_has_64_digits_of_lower_case(rt: HostRuntime) -> Result<(), Fail> {
     let alloc = rt.alloc();
-    for (end, want) in ROOT_ENDS {
-        let pieces: [&[u8]; 4] = [NUMBERS.as_bytes(), CUT_START, end, END];
-        assert_eq!(rt; read_pieces(alloc, &pieces)?, want, "{end:?}");
+    for Row { lines, told } in ROOT_ENDS {
+        let pieces: [&[u8]; 4] = [NUMBERS.as_bytes(), CUT_START, lines, END];
+        assert_eq!(rt; read_pieces(alloc, &pieces)?, told, "{lines:?}");
     }
     let none: [&[u8]; 3] = [NUMBERS.as_bytes(), b"start \n", END];
     assert_eq!(rt; read_pieces(alloc, &none)?, BAD_HEAD);
@@ -186,28 +325,94 @@ fn a_start_root_has_64_digits_of_lower_case(rt: HostRuntime) -> Result<(), Fail>
 }
 
 const MOVES: [Row; 22] = [
-    (b"move 0 0 p1 spent\n", Told::Moves(1)),
-    (b"move 4294967295 4294967295 p2 spent\n", Told::Moves(1)),
-    (b"move 0 0 p0 spent\n", SECOND_OUT_OF_RANGE),
-    (b"move 0 0 p3 spent\n", SECOND_OUT_OF_RANGE),
-    (b"move 0 0 p4294967295 spent\n", SECOND_OUT_OF_RANGE),
-    (b"move 4294967296 0 p1 spent\n", BAD_SECOND),
-    (b"move 0 4294967296 p1 spent\n", BAD_SECOND),
-    (b"move 0 0 p4294967296 spent\n", BAD_SECOND),
-    (b"move 0 0 p3 spend\n", BAD_SECOND),
-    (b"move 0 0 p3 given 07\n", BAD_SECOND),
-    (b"move 0 0 p1 given \n", BAD_SECOND),
-    (b"move 0 0 p1 given\n", BAD_SECOND),
-    (b"move 0 0 p1 spent \n", BAD_SECOND),
-    (b"move 0 0 p1 spent\r\n", BAD_SECOND),
-    (b"move 00 0 p1 spent\n", BAD_SECOND),
-    (b"move 0 01 p1 spent\n", BAD_SECOND),
-    (b"move 0 0 p01 spent\n", BAD_SECOND),
-    (b"move 0 0 p+1 spent\n", BAD_SECOND),
-    (b"move 0  0 p1 spent\n", BAD_SECOND),
-    (b"move -1 0 p1 spent\n", BAD_SECOND),
-    (b"move 0 0 1 spent\n", BAD_SECOND),
-    (b"\n", BAD_SECOND),
+    Row {
+        lines: b"move 0 0 p1 spent\n",
+        told: Told::Moves(1),
+    },
+    Row {
+        lines: b"move 4294967295 4294967295 p2 spent\n",
+        told: Told::Moves(1),
+    },
+    Row {
+        lines: b"move 0 0 p0 spent\n",
+        told: SECOND_OUT_OF_RANGE,
+    },
+    Row {
+        lines: b"move 0 0 p3 spent\n",
+        told: SECOND_OUT_OF_RANGE,
+    },
+    Row {
+        lines: b"move 0 0 p4294967295 spent\n",
+        told: SECOND_OUT_OF_RANGE,
+    },
+    Row {
+        lines: b"move 4294967296 0 p1 spent\n",
+        told: BAD_SECOND,
+    },
+    Row {
+        lines: b"move 0 4294967296 p1 spent\n",
+        told: BAD_SECOND,
+    },
+    Row {
+        lines: b"move 0 0 p4294967296 spent\n",
+        told: BAD_SECOND,
+    },
+    Row {
+        lines: b"move 0 0 p3 spend\n",
+        told: BAD_SECOND,
+    },
+    Row {
+        lines: b"move 0 0 p3 given 07\n",
+        told: BAD_SECOND,
+    },
+    Row {
+        lines: b"move 0 0 p1 given \n",
+        told: BAD_SECOND,
+    },
+    Row {
+        lines: b"move 0 0 p1 given\n",
+        told: BAD_SECOND,
+    },
+    Row {
+        lines: b"move 0 0 p1 spent \n",
+        told: BAD_SECOND,
+    },
+    Row {
+        lines: b"move 0 0 p1 spent\r\n",
+        told: BAD_SECOND,
+    },
+    Row {
+        lines: b"move 00 0 p1 spent\n",
+        told: BAD_SECOND,
+    },
+    Row {
+        lines: b"move 0 01 p1 spent\n",
+        told: BAD_SECOND,
+    },
+    Row {
+        lines: b"move 0 0 p01 spent\n",
+        told: BAD_SECOND,
+    },
+    Row {
+        lines: b"move 0 0 p+1 spent\n",
+        told: BAD_SECOND,
+    },
+    Row {
+        lines: b"move 0  0 p1 spent\n",
+        told: BAD_SECOND,
+    },
+    Row {
+        lines: b"move -1 0 p1 spent\n",
+        told: BAD_SECOND,
+    },
+    Row {
+        lines: b"move 0 0 1 spent\n",
+        told: BAD_SECOND,
+    },
+    Row {
+        lines: b"\n",
+        told: BAD_SECOND,
+    },
 ];
 
 /// A later line: its form is tested before its prover's number.
@@ -217,21 +422,56 @@ fn a_move_has_one_form_and_is_of_a_prover(rt: HostRuntime) -> Result<(), Fail> {
 }
 
 /// What is before and behind the digits of a root, and what is read.
-const ANSWERS: [(&[u8], &[u8], Told); 7] = [
-    (b"given ", b"\n", Told::Moves(1)),
-    (b"faulty ", b"\n", Told::Moves(1)),
-    (b"given ", b"00\n", BAD_SECOND),
-    (b"given ", b"0\n", BAD_SECOND),
-    (b"given  ", b"\n", BAD_SECOND),
-    (b"given 01", b"\n", BAD_SECOND),
-    (b"given A", b"\n", BAD_SECOND),
+#[derive(Clone, Copy)]
+struct AnswerRow {
+    word: &'static [u8],
+    behind: &'static [u8],
+    told: Told,
+}
+
+const ANSWERS: [AnswerRow; 7] = [
+    AnswerRow {
+        word: b"given ",
+        behind: b"\n",
+        told: Told::Moves(1),
+    },
+    AnswerRow {
+        word: b"faulty ",
+        behind: b"\n",
+        told: Told::Moves(1),
+    },
+    AnswerRow {
+        word: b"given ",
+        behind: b"00\n",
+        told: BAD_SECOND,
+    },
+    AnswerRow {
+        word: b"given ",
+        behind: b"0\n",
+        told: BAD_SECOND,
+    },
+    AnswerRow {
+        word: b"given  ",
+        behind: b"\n",
+        told: BAD_SECOND,
+    },
+    AnswerRow {
+        word: b"given 01",
+        behind: b"\n",
+        told: BAD_SECOND,
+    },
+    AnswerRow {
+        word: b"given A",
+        behind: b"\n",
+        told: BAD_SECOND,
+    },
 ];
 
 /// An answer is the digits of its wire form, and no others.
 #[test]
 fn an_answer_is_its_wire_form(rt: HostRuntime) -> Result<(), Fail> {
     let alloc = rt.alloc();
-    for (word, behind, want) in ANSWERS {
+    for AnswerRow { word, behind, told } in ANSWERS {
         let pieces: [&[u8]; 7] = [
             NUMBERS.as_bytes(),
             START,
@@ -241,32 +481,44 @@ fn an_answer_is_its_wire_form(rt: HostRuntime) -> Result<(), Fail> {
             behind,
             END,
         ];
-        assert_eq!(rt; read_pieces(alloc, &pieces)?, want, "{word:?} {behind:?}");
+        assert_eq!(rt; read_pieces(alloc, &pieces)?, told, "{word:?} {behind:?}");
     }
     Ok(())
 }
 
 const TWO_FAULTS: [Row; 8] = [
-    (
-        b"move 0 0 p3 spent\nnonsense\nnone left\n",
-        SECOND_OUT_OF_RANGE,
-    ),
-    (b"nonsense\nmove 0 0 p3 spent\nnone left\n", BAD_SECOND),
-    (b"nonsense\nmove 0 0 p3", BAD_SECOND),
-    (b"move 0 0 p3 spent\nmove", SECOND_OUT_OF_RANGE),
-    (
-        b"move 0 0 p1 spent\nmove 0 0 p2 spent\nnone left\n",
-        Told::Moves(2),
-    ),
-    (
-        b"move 0 0 p1 spent\nmove 0 0 p3 spent\nnone left\n",
-        Told::Fault(TextFault::OutOfRange(3)),
-    ),
-    (
-        b"move 0 0 p1 spent\nmove 0 0 p2 spend\nnone left\n",
-        Told::Fault(TextFault::BadLine(3)),
-    ),
-    (b"move 0 0 p1 spent\nmove 0 0 p2 spent\nnone", CUT),
+    Row {
+        lines: b"move 0 0 p3 spent\nnonsense\nnone left\n",
+        told: SECOND_OUT_OF_RANGE,
+    },
+    Row {
+        lines: b"nonsense\nmove 0 0 p3 spent\nnone left\n",
+        told: BAD_SECOND,
+    },
+    Row {
+        lines: b"nonsense\nmove 0 0 p3",
+        told: BAD_SECOND,
+    },
+    Row {
+        lines: b"move 0 0 p3 spent\nmove",
+        told: SECOND_OUT_OF_RANGE,
+    },
+    Row {
+        lines: b"move 0 0 p1 spent\nmove 0 0 p2 spent\nnone left\n",
+        told: Told::Moves(2),
+    },
+    Row {
+        lines: b"move 0 0 p1 spent\nmove 0 0 p3 spent\nnone left\n",
+        told: Told::Fault(TextFault::OutOfRange(3)),
+    },
+    Row {
+        lines: b"move 0 0 p1 spent\nmove 0 0 p2 spend\nnone left\n",
+        told: Told::Fault(TextFault::BadLine(3)),
+    },
+    Row {
+        lines: b"move 0 0 p1 spent\nmove 0 0 p2 spent\nnone",
+        told: CUT,
+    },
 ];
 
 /// The first line with a fault counts, whatever the fault.
@@ -279,45 +531,120 @@ const ONE_TOO_MANY: Told = Told::Fault(TextFault::BadLine(3));
 
 /// What follows a verdict.
 const BEHIND: [Row; 5] = [
-    (b"none left\n", ONE_TOO_MANY),
-    (b"\n", ONE_TOO_MANY),
-    (b"nonsense\nmove", ONE_TOO_MANY),
-    (b"none left", CUT),
-    (b"\x00", CUT),
+    Row {
+        lines: b"none left\n",
+        told: ONE_TOO_MANY,
+    },
+    Row {
+        lines: b"\n",
+        told: ONE_TOO_MANY,
+    },
+    Row {
+        lines: b"nonsense\nmove",
+        told: ONE_TOO_MANY,
+    },
+    Row {
+        lines: b"none left",
+        told: CUT,
+    },
+    Row {
+        lines: b"\x00",
+        told: CUT,
+    },
 ];
 
 /// The verdict ends the text.
 #[test]
 fn nothing_follows_the_verdict(rt: HostRuntime) -> Result<(), Fail> {
     let alloc = rt.alloc();
-    for (behind, want) in BEHIND {
-        let pieces: [&[u8]; 4] = [NUMBERS.as_bytes(), START, END, behind];
-        assert_eq!(rt; read_pieces(alloc, &pieces)?, want, "{behind:?}");
+    for Row { lines, told } in BEHIND {
+        let pieces: [&[u8]; 4] = [NUMBERS.as_bytes(), START, END, lines];
+        assert_eq!(rt; read_pieces(alloc, &pieces)?, told, "{lines:?}");
     }
     Ok(())
 }
 
 const VERDICTS: [Row; 20] = [
-    (b"accept running output\n", NO_MOVES),
-    (b"accept exited 0 output 2a\n", NO_MOVES),
-    (b"accept exited 4294967295 output 00ff\n", NO_MOVES),
-    (b"accept trapped 8 output\n", NO_MOVES),
-    (b"collision 00 0001\n", NO_MOVES),
-    (b"accept running output \n", BAD_SECOND),
-    (b"accept running output 2\n", BAD_SECOND),
-    (b"accept running output 2A\n", BAD_SECOND),
-    (b"accept running output 2a \n", BAD_SECOND),
-    (b"accept running 0 output\n", BAD_SECOND),
-    (b"accept exited output\n", BAD_SECOND),
-    (b"accept exited 00 output\n", BAD_SECOND),
-    (b"accept exited 4294967296 output\n", BAD_SECOND),
-    (b"accept halted 0 output\n", BAD_SECOND),
-    (b"collision 00\n", BAD_SECOND),
-    (b"collision 00 \n", BAD_SECOND),
-    (b"collision  00\n", BAD_SECOND),
-    (b"collision 00 00 00\n", BAD_SECOND),
-    (b"none left \n", BAD_SECOND),
-    (b"none  left\n", BAD_SECOND),
+    Row {
+        lines: b"accept running output\n",
+        told: NO_MOVES,
+    },
+    Row {
+        lines: b"accept exited 0 output 2a\n",
+        told: NO_MOVES,
+    },
+    Row {
+        lines: b"accept exited 4294967295 output 00ff\n",
+        told: NO_MOVES,
+    },
+    Row {
+        lines: b"accept trapped 8 output\n",
+        told: NO_MOVES,
+    },
+    Row {
+        lines: b"collision 00 0001\n",
+        told: NO_MOVES,
+    },
+    Row {
+        lines: b"accept running output \n",
+        told: BAD_SECOND,
+    },
+    Row {
+        lines: b"accept running output 2\n",
+        told: BAD_SECOND,
+    },
+    Row {
+        lines: b"accept running output 2A\n",
+        told: BAD_SECOND,
+    },
+    Row {
+        lines: b"accept running output 2a \n",
+        told: BAD_SECOND,
+    },
+    Row {
+        lines: b"accept running 0 output\n",
+        told: BAD_SECOND,
+    },
+    Row {
+        lines: b"accept exited output\n",
+        told: BAD_SECOND,
+    },
+    Row {
+        lines: b"accept exited 00 output\n",
+        told: BAD_SECOND,
+    },
+    Row {
+        lines: b"accept exited 4294967296 output\n",
+        told: BAD_SECOND,
+    },
+    Row {
+        lines: b"accept halted 0 output\n",
+        told: BAD_SECOND,
+    },
+    Row {
+        lines: b"collision 00\n",
+        told: BAD_SECOND,
+    },
+    Row {
+        lines: b"collision 00 \n",
+        told: BAD_SECOND,
+    },
+    Row {
+        lines: b"collision  00\n",
+        told: BAD_SECOND,
+    },
+    Row {
+        lines: b"collision 00 00 00\n",
+        told: BAD_SECOND,
+    },
+    Row {
+        lines: b"none left \n",
+        told: BAD_SECOND,
+    },
+    Row {
+        lines: b"none  left\n",
+        told: BAD_SECOND,
+    },
 ];
 
 /// Which verdicts have their form.

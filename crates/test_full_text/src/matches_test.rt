@@ -42,6 +42,36 @@ fn liar_is_bisected() -> &'static [u8] {
         accept running output\n"
 }
 
+/// A prover moves on its open question, if it has one.
+fn move_prover<R: Threads + Sync>(
+    rt: &R,
+    alloc: Global,
+    game: &mut Match<ToyJudge>,
+    p: u32,
+    player: Player,
+) -> Result<(), Memory>
+    requires { IsSync R.row }
+{
+    if p == 0 || p > game.setup().provers() {
+        return Ok(());
+    }
+    let Some(question) = game.question(p) else {
+        return Ok(());
+    };
+    let mut seated = Seated { player, alloc };
+    let answer = seated.answer(rt, &question, game.passes(p))?;
+    game.post(p, question.qid, answer.map_or(Move::Pass, Move::Give));
+    Ok(())
+}
+
+/// The full text of a match; empty if it isn't over.
+fn text_of(alloc: Global, head: &Head, game: &Match<ToyJudge>) -> Result<Vec<u8>, Memory> {
+    match game.verdict() {
+        Some(verdict) => full(alloc, head, game.record(), &verdict),
+        None => Ok(Vec::new(alloc)),
+    }
+}
+
 /// The text of a match of these players over 8 steps without patience, with this fan; empty if it isn't over.
 fn full_of<R: Threads + Sync>(
     rt: &R,
@@ -59,19 +89,7 @@ fn full_of<R: Threads + Sync>(
     let mut game = Match::new(alloc, judge, players.len() as u32, 8, fan, 0, root(0))?;
     for _ in 0..64 {
         for (place, player) in players.iter().enumerate() {
-            let p = place as u32 + 1;
-            if p > game.setup().provers() {
-                return Ok(Vec::new(alloc));
-            }
-            let Some(question) = game.question(p) else {
-                continue;
-            };
-            let mut seated = Seated {
-                player: *player,
-                alloc,
-            };
-            let answer = seated.answer(rt, &question, game.passes(p))?;
-            game.post(p, question.qid, answer.map_or(Move::Pass, Move::Give));
+            move_prover(rt, alloc, &mut game, place as u32 + 1, *player)?;
         }
     }
     let head = Head {
@@ -83,10 +101,7 @@ fn full_of<R: Threads + Sync>(
         digest: DigestName::Sha256,
         start: root(0),
     };
-    match game.verdict() {
-        Some(verdict) => full(alloc, &head, game.record(), &verdict),
-        None => Ok(Vec::new(alloc)),
-    }
+    text_of(alloc, &head, &game)
 }
 
 /// Whether two texts have the same bytes.
@@ -94,8 +109,15 @@ fn are_alike(one: &[u8], other: &[u8]) -> bool {
     one == other
 }
 
-/// A move in short: dispute, round, prover, and the first byte of the answer's root, 255 if it is spent and 254 if it has none.
-type Short = (u32, u32, u32, u8);
+/// A move in short.
+#[derive(Clone, Copy, Debug, PartialEq, Eq)]
+struct Short {
+    dispute: u32,
+    round: u32,
+    prover: u32,
+    /// The first byte of the answer's root, 255 if it is spent and 254 if it has none.
+    mark: u8,
+}
 
 /// The first byte of the last of these roots, 254 if there is none.
 fn last_mark(roots: &[Digest32]) -> u8 {
@@ -121,7 +143,12 @@ fn in_short(alloc: Global, text: &FullText) -> Result<Vec<Short>, Memory> {
     let mut moves = Vec::new(alloc);
     for entry in text.moves.as_slice() {
         let mark = mark_of(&entry.settled);
-        moves.push((entry.qid.dispute, entry.qid.round, entry.prover, mark))?;
+        moves.push(Short {
+            dispute: entry.qid.dispute,
+            round: entry.qid.round,
+            prover: entry.prover,
+            mark,
+        })?;
     }
     Ok(moves)
 }
@@ -156,17 +183,67 @@ fn the_text_of_a_dispute_is_written_and_read_back(rt: HostRuntime) -> Result<(),
         Err(fault) => return Err(Fail::new(fault)),
     };
     let moves = in_short(alloc, &read)?;
-    let want: [Short; 10] = [
-        (0, 0, 1, 6),
-        (0, 0, 2, 108),
-        (1, 1, 1, 4),
-        (1, 1, 2, 104),
-        (1, 2, 1, 2),
-        (1, 2, 2, 102),
-        (1, 3, 1, 1),
-        (1, 3, 2, 1),
-        (1, 4, 1, 254),
-        (1, 4, 2, 254),
+    let want = [
+        Short {
+            dispute: 0,
+            round: 0,
+            prover: 1,
+            mark: 6,
+        },
+        Short {
+            dispute: 0,
+            round: 0,
+            prover: 2,
+            mark: 108,
+        },
+        Short {
+            dispute: 1,
+            round: 1,
+            prover: 1,
+            mark: 4,
+        },
+        Short {
+            dispute: 1,
+            round: 1,
+            prover: 2,
+            mark: 104,
+        },
+        Short {
+            dispute: 1,
+            round: 2,
+            prover: 1,
+            mark: 2,
+        },
+        Short {
+            dispute: 1,
+            round: 2,
+            prover: 2,
+            mark: 102,
+        },
+        Short {
+            dispute: 1,
+            round: 3,
+            prover: 1,
+            mark: 1,
+        },
+        Short {
+            dispute: 1,
+            round: 3,
+            prover: 2,
+            mark: 1,
+        },
+        Short {
+            dispute: 1,
+            round: 4,
+            prover: 1,
+            mark: 254,
+        },
+        Short {
+            dispute: 1,
+            round: 4,
+            prover: 2,
+            mark: 254,
+        },
     ];
     assert_eq!(rt; moves.as_slice(), want.as_slice());
     assert_eq!(rt; numbers_of(&read.head), (2, 8, 0, 1, 2));
@@ -201,15 +278,55 @@ fn roots_of_several_cuts_are_written_and_read_back(rt: HostRuntime) -> Result<()
         Err(fault) => return Err(Fail::new(fault)),
     };
     let moves = in_short(alloc, &read)?;
-    let want: [Short; 8] = [
-        (0, 0, 1, 6),
-        (0, 0, 2, 108),
-        (1, 1, 1, 6),
-        (1, 1, 2, 106),
-        (1, 2, 1, 1),
-        (1, 2, 2, 1),
-        (1, 3, 1, 254),
-        (1, 3, 2, 254),
+    let want = [
+        Short {
+            dispute: 0,
+            round: 0,
+            prover: 1,
+            mark: 6,
+        },
+        Short {
+            dispute: 0,
+            round: 0,
+            prover: 2,
+            mark: 108,
+        },
+        Short {
+            dispute: 1,
+            round: 1,
+            prover: 1,
+            mark: 6,
+        },
+        Short {
+            dispute: 1,
+            round: 1,
+            prover: 2,
+            mark: 106,
+        },
+        Short {
+            dispute: 1,
+            round: 2,
+            prover: 1,
+            mark: 1,
+        },
+        Short {
+            dispute: 1,
+            round: 2,
+            prover: 2,
+            mark: 1,
+        },
+        Short {
+            dispute: 1,
+            round: 3,
+            prover: 1,
+            mark: 254,
+        },
+        Short {
+            dispute: 1,
+            round: 3,
+            prover: 2,
+            mark: 254,
+        },
     ];
     assert_eq!(rt; moves.as_slice(), want.as_slice());
     assert_eq!(rt; numbers_of(&read.head), (2, 8, 0, 1, 4));
