@@ -1,6 +1,5 @@
 //! The full text of each match is confirmed, with its verdict.
 ghost use denote.Param.Send.{IsSync};
-ghost use Rattle.std.specs.Prelude.{length, ◌<◌, ◌≤◌};
 
 use crate::playing::full_of;
 use crate::telling::{Told, audit_of};
@@ -28,50 +27,95 @@ const LEAVES: Player = Player {
     ..LIAR
 };
 
-/// The finding of the audit of the full text of a match of these players.
+/// The finding of the audit of the full text of a match of these players; unread if there are none, or more than 16.
 fn told_of<R: Threads + Sync>(
     rt: &R,
     alloc: Global,
     players: &[Player],
     patience: u32,
 ) -> Result<Told, Memory>
-    requires sync { IsSync R.row }
-    requires some { 0 < length players.now }
-    requires few { length players.now ≤ 16 }
+    requires { IsSync R.row }
 {
+    if players.is_empty() || players.len() > 16 {
+        return Ok(Told::Unread);
+    }
     let text = full_of(rt, alloc, players, patience)?;
     audit_of(alloc, text.as_slice())
 }
 
-/// Texts of one to three provers.
+/// A match of one to three provers, and the finding of the audit of its text.
+#[derive(Clone, Copy)]
+struct Played {
+    /// Who plays; prover 1 is the first.
+    players: &'static [Player],
+    /// How often a prover may pass on a question.
+    patience: u32,
+    told: Told,
+}
+
+const MATCHES: [Played; 10] = [
+    Played {
+        players: &[HONEST],
+        patience: 0,
+        told: Told::Accepts(1),
+    },
+    Played {
+        players: &[SILENT],
+        patience: 0,
+        told: Told::NobodyLeft,
+    },
+    Played {
+        players: &[HONEST, HONEST],
+        patience: 0,
+        told: Told::Accepts(1),
+    },
+    Played {
+        players: &[LIAR, HONEST],
+        patience: 0,
+        told: Told::Accepts(2),
+    },
+    Played {
+        players: &[LEAVES, HONEST],
+        patience: 3,
+        told: Told::Accepts(2),
+    },
+    Played {
+        players: &[SILENT, SILENT],
+        patience: 1,
+        told: Told::NobodyLeft,
+    },
+    Played {
+        players: &[HONEST, FORGER],
+        patience: 0,
+        told: Told::Collides,
+    },
+    Played {
+        players: &[DOUBLE, HONEST],
+        patience: 0,
+        told: Told::Collides,
+    },
+    Played {
+        players: &[LIAR, LATE, SILENT],
+        patience: 2,
+        told: Told::Accepts(2),
+    },
+    Played {
+        players: &[LIAR, LATE, SILENT],
+        patience: 1,
+        told: Told::Accepts(1),
+    },
+];
+
 #[test]
 fn the_full_text_of_each_match_is_confirmed(rt: HostRuntime) -> Result<(), Fail> {
-    let alloc = rt.alloc();
-    assert_eq!(rt; told_of(&rt, alloc, &[HONEST], 0)?, Told::Accepts(1));
-    assert_eq!(rt; told_of(&rt, alloc, &[SILENT], 0)?, Told::NobodyLeft);
-    assert_eq!(rt;
-        told_of(&rt, alloc, &[HONEST, HONEST], 0)?,
-        Told::Accepts(1)
-    );
-    assert_eq!(rt; told_of(&rt, alloc, &[LIAR, HONEST], 0)?, Told::Accepts(2));
-    assert_eq!(rt;
-        told_of(&rt, alloc, &[LEAVES, HONEST], 3)?,
-        Told::Accepts(2)
-    );
-    assert_eq!(rt;
-        told_of(&rt, alloc, &[SILENT, SILENT], 1)?,
-        Told::NobodyLeft
-    );
-    assert_eq!(rt; told_of(&rt, alloc, &[HONEST, FORGER], 0)?, Told::Collides);
-    assert_eq!(rt; told_of(&rt, alloc, &[DOUBLE, HONEST], 0)?, Told::Collides);
-    assert_eq!(rt;
-        told_of(&rt, alloc, &[LIAR, LATE, SILENT], 2)?,
-        Told::Accepts(2)
-    );
-    assert_eq!(rt;
-        told_of(&rt, alloc, &[LIAR, LATE, SILENT], 1)?,
-        Told::Accepts(1)
-    );
+    for Played {
+        players,
+        patience,
+        told,
+    } in MATCHES {
+        let found = told_of(&rt, rt.alloc(), players, patience)?;
+        assert_eq!(rt; found, told, "{players:?}");
+    }
     Ok(())
 }
 

@@ -19,18 +19,31 @@ fn lines_in(text: &[u8]) -> usize {
     lines
 }
 
+/// In how many parts a round cuts its interval, and how many lines the text has.
+#[derive(Clone, Copy)]
+struct Parts {
+    fan: u32,
+    lines: usize,
+}
+
+const PARTS: [Parts; 3] = [
+    Parts { fan: 3, lines: 10 },
+    Parts { fan: 4, lines: 10 },
+    Parts { fan: 16, lines: 8 },
+];
+
 /// Two rounds of 3 or 4 parts find the step from 1 to 2 among 8, which the first narrows to 0 to 2, and one round of 16, which cuts 8 steps
 /// in 8 parts. A text has the head, two claims, two answers a round, two proofs and the verdict.
 #[test]
 fn texts_of_rounds_in_more_parts_are_confirmed(rt: HostRuntime) -> Result<(), Fail> {
     let alloc = rt.alloc();
-    for (fan, lines) in [(3, 10), (4, 10), (16, 8)] {
+    for Parts { fan, lines } in PARTS {
         assert!(rt; fan > 1 && fan <= 16);
         let text = full_in_parts(&rt, alloc, &[HONEST, LIAR], 0, fan)?;
-        assert_eq!(rt; lines_in(text.as_slice()), lines, "fan {fan}");
+        let told = audit_of(alloc, text.as_slice())?;
         assert_eq!(rt;
-            audit_of(alloc, text.as_slice())?,
-            Told::Accepts(1),
+            (lines_in(text.as_slice()), told),
+            (lines, Told::Accepts(1)),
             "fan {fan}"
         );
     }

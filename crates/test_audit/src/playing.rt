@@ -15,6 +15,36 @@ const BOUND: u64 = 8;
 /// More turns than any of these matches has.
 const TURNS: u32 = 64;
 
+/// A prover moves on its open question, if it has one.
+fn move_prover<R: Threads + Sync>(
+    rt: &R,
+    alloc: Global,
+    game: &mut Match<ToyJudge>,
+    p: u32,
+    player: Player,
+) -> Result<(), Memory>
+    requires { IsSync R.row }
+{
+    if p == 0 || p > game.setup().provers() {
+        return Ok(());
+    }
+    let Some(question) = game.question(p) else {
+        return Ok(());
+    };
+    let mut seated = Seated { player, alloc };
+    let answer = seated.answer(rt, &question, game.passes(p))?;
+    game.post(p, question.qid, answer.map_or(Move::Pass, Move::Give));
+    Ok(())
+}
+
+/// The full text of a match; empty if it isn't over.
+fn text_of(alloc: Global, head: &Head, game: &Match<ToyJudge>) -> Result<Vec<u8>, Memory> {
+    match game.verdict() {
+        Some(verdict) => full(alloc, head, game.record(), &verdict),
+        None => Ok(Vec::new(alloc)),
+    }
+}
+
 /// The full text of a match of these players, by bisection; empty if it isn't over.
 pub(crate) fn full_of<R: Threads + Sync>(
     rt: &R,
@@ -55,19 +85,7 @@ pub(crate) fn full_in_parts<R: Threads + Sync>(
     )?;
     for _ in 0..TURNS {
         for (place, player) in players.iter().enumerate() {
-            let p = place as u32 + 1;
-            if p > game.setup().provers() {
-                return Ok(Vec::new(alloc));
-            }
-            let Some(question) = game.question(p) else {
-                continue;
-            };
-            let mut seated = Seated {
-                player: *player,
-                alloc,
-            };
-            let answer = seated.answer(rt, &question, game.passes(p))?;
-            game.post(p, question.qid, answer.map_or(Move::Pass, Move::Give));
+            move_prover(rt, alloc, &mut game, place as u32 + 1, *player)?;
         }
     }
     let head = Head {
@@ -79,8 +97,5 @@ pub(crate) fn full_in_parts<R: Threads + Sync>(
         digest: DigestName::Sha256,
         start: root(0),
     };
-    match game.verdict() {
-        Some(verdict) => full(alloc, &head, game.record(), &verdict),
-        None => Ok(Vec::new(alloc)),
-    }
+    text_of(alloc, &head, &game)
 }

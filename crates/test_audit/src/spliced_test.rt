@@ -1,7 +1,8 @@
 //! Texts that are put together of other texts: of two disputes of one match, and of two matches.
 
+use crate::changed_lines_test::{Row, assert_told};
 use crate::pieces::Piece::{Lines, New};
-use crate::pieces::{Piece, joined};
+use crate::pieces::joined;
 use crate::playing::full_of;
 use crate::telling::{Told, audit_of};
 use audit::Cause;
@@ -16,39 +17,39 @@ const LATER_LIAR: Player = Player {
 };
 
 /// Three claims, the dispute of provers 1 and 2 in lines 5 to 12, that of 1 and 3 in lines 13 to 20, and the verdict in line 21.
+const DISPUTES: [Row; 6] = [
+    Row {
+        pieces: &[Lines(1, 21)],
+        told: Told::Accepts(1),
+    },
+    Row {
+        pieces: &[Lines(1, 4), Lines(13, 20), Lines(5, 12), Lines(21, 21)],
+        told: Told::Refused(5, Cause::NotAsked),
+    },
+    Row {
+        pieces: &[Lines(1, 12), Lines(5, 12), Lines(21, 21)],
+        told: Told::Refused(13, Cause::NotAsked),
+    },
+    Row {
+        pieces: &[Lines(1, 12), Lines(21, 21)],
+        told: Told::Refused(13, Cause::MovesMissing),
+    },
+    Row {
+        pieces: &[Lines(1, 20), New(b"move 3 1 p1 spent\n"), Lines(21, 21)],
+        told: Told::Refused(21, Cause::MovesAfterEnd),
+    },
+    // prover 3 has no turn in the first dispute
+    Row {
+        pieces: &[Lines(1, 4), New(b"move 1 1 p3 spent\n"), Lines(6, 21)],
+        told: Told::Refused(5, Cause::NotAsked),
+    },
+];
+
 #[test]
 fn disputes_stand_in_their_order_each_once(rt: HostRuntime) -> Result<(), Fail> {
     let alloc = rt.alloc();
     let text = full_of(&rt, alloc, &[HONEST, LIAR, LATER_LIAR], 0)?;
-    let rows: [(&[Piece], Told); 6] = [
-        (&[Lines(1, 21)], Told::Accepts(1)),
-        (
-            &[Lines(1, 4), Lines(13, 20), Lines(5, 12), Lines(21, 21)],
-            Told::Refused(5, Cause::NotAsked),
-        ),
-        (
-            &[Lines(1, 12), Lines(5, 12), Lines(21, 21)],
-            Told::Refused(13, Cause::NotAsked),
-        ),
-        (
-            &[Lines(1, 12), Lines(21, 21)],
-            Told::Refused(13, Cause::MovesMissing),
-        ),
-        (
-            &[Lines(1, 20), New(b"move 3 1 p1 spent\n"), Lines(21, 21)],
-            Told::Refused(21, Cause::MovesAfterEnd),
-        ),
-        // prover 3 has no turn in the first dispute
-        (
-            &[Lines(1, 4), New(b"move 1 1 p3 spent\n"), Lines(6, 21)],
-            Told::Refused(5, Cause::NotAsked),
-        ),
-    ];
-    for (pieces, want) in rows {
-        let changed = joined(alloc, text.as_slice(), pieces)?;
-        assert_eq!(rt; audit_of(alloc, changed.as_slice())?, want);
-    }
-    Ok(())
+    assert_told(&rt, alloc, text.as_slice(), &DISPUTES)
 }
 
 /// The claims of one match before the rounds of another: if nobody disputes these claims, the rounds come after the end. If the
