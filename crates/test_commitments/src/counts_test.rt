@@ -14,34 +14,81 @@ use std::test::Fail;
 use std::thread::Threads;
 use toy_machine::Tally;
 
-/// Bytes that are stored by their addresses, and how many digests the refresh then takes.
-type Stores = (&'static [(u32, u32)], u64);
+/// Bytes that are stored, and how many digests the refresh then takes.
+#[derive(Clone, Copy)]
+struct Stores {
+    /// The address of each, and the byte.
+    bytes: &'static [(u32, u32)],
+    digests: u64,
+}
 
 /// An empty tree takes 28 digests, one for each level. A page with one chunk takes one for it, 7 for the nodes over it in the page and
 /// 20 for the nodes above. A page of zeros takes none, and none above it, once no page below them holds a byte other than 0.
 const PAGES_OF_ZEROS: [Stores; 7] = [
-    (&[], 28),
-    (&[(0x1234_5678, 1)], 28),
-    (&[(0x1234_5678, 0)], 0),
-    (&[(0x1234_5678, 0)], 0),
-    (&[(0x1234_5678, 0x80)], 28),
+    Stores {
+        bytes: &[],
+        digests: 28,
+    },
+    Stores {
+        bytes: &[(0x1234_5678, 1)],
+        digests: 28,
+    },
+    Stores {
+        bytes: &[(0x1234_5678, 0)],
+        digests: 0,
+    },
+    Stores {
+        bytes: &[(0x1234_5678, 0)],
+        digests: 0,
+    },
+    Stores {
+        bytes: &[(0x1234_5678, 0x80)],
+        digests: 28,
+    },
     // the page beside it; and once that holds zeros again, the nodes above the two pages
-    (&[(0x1234_4000, 7)], 28),
-    (&[(0x1234_4000, 0)], 20),
+    Stores {
+        bytes: &[(0x1234_4000, 7)],
+        digests: 28,
+    },
+    Stores {
+        bytes: &[(0x1234_4000, 0)],
+        digests: 20,
+    },
 ];
 
 /// A refresh digests the chunks that differ from those that are kept, and each node above one of them once within a page: of a
 /// store to one chunk 28, of two stores that leave the chunk as it was none, of the first and the last chunk of a page 2 leaves, 12
 /// nodes below the page's root, this and the 20 above it.
 const CHUNKS: [Stores; 7] = [
-    (&[], 28),
-    (&[(0x7000, 1)], 28),
-    (&[(0x7000, 1)], 0),
-    (&[(0x7000, 2), (0x7000, 1)], 0),
-    (&[(0x7000, 3), (0x7001, 3)], 28),
-    (&[(0x7000, 4), (0x7fff, 4)], 35),
+    Stores {
+        bytes: &[],
+        digests: 28,
+    },
+    Stores {
+        bytes: &[(0x7000, 1)],
+        digests: 28,
+    },
+    Stores {
+        bytes: &[(0x7000, 1)],
+        digests: 0,
+    },
+    Stores {
+        bytes: &[(0x7000, 2), (0x7000, 1)],
+        digests: 0,
+    },
+    Stores {
+        bytes: &[(0x7000, 3), (0x7001, 3)],
+        digests: 28,
+    },
+    Stores {
+        bytes: &[(0x7000, 4), (0x7fff, 4)],
+        digests: 35,
+    },
     // two pages beside one another, each with the 20 nodes above it
-    (&[(0x7000, 5), (0x8000, 5)], 56),
+    Stores {
+        bytes: &[(0x7000, 5), (0x8000, 5)],
+        digests: 56,
+    },
 ];
 
 /// Stores bytes, and refreshes the tree.
@@ -57,7 +104,26 @@ fn store_all<D: Digester>(
     tree.refresh(mem)
 }
 
-/// The first row of stores that takes another number of digests, of a tree of an empty memory; its build counts for the first row.
+/// The first row of stores that takes another number of digests; all that are made so far count for the first row.
+fn first_other<D: Digester>(
+    tree: &mut MemTree<D>,
+    mem: &mut PlainMem,
+    made: &AtomicU64,
+    rows: &[Stores],
+) -> Result<Option<usize>, Memory> {
+    let mut before = 0;
+    for (place, row) in rows.iter().enumerate() {
+        store_all(tree, mem, row.bytes)?;
+        let after = made.load(Ordering::SeqCst);
+        if after.wrapping_sub(before) != row.digests {
+            return Ok(Some(place));
+        }
+        before = after;
+    }
+    Ok(None)
+}
+
+/// The same of a tree of an empty memory, whose build counts.
 fn first_other_count<R: Threads + Sync>(
     rt: &R,
     alloc: Global,
@@ -70,16 +136,7 @@ fn first_other_count<R: Threads + Sync>(
     };
     let mut mem = PlainMem::new(alloc);
     let mut tree = MemTree::build(rt, alloc, counted, &mem)?;
-    let mut before = 0;
-    for (row, (stores, want)) in rows.iter().enumerate() {
-        store_all(&mut tree, &mut mem, *stores)?;
-        let after = made.load(Ordering::SeqCst);
-        if after.wrapping_sub(before) != *want {
-            return Ok(Some(row));
-        }
-        before = after;
-    }
-    Ok(None)
+    first_other(&mut tree, &mut mem, &made, rows)
 }
 
 #[test]

@@ -105,6 +105,7 @@ const LINKS: [u64; 17] = [
 ///         print([f'0x{sha(text(n)).hex()[:16]}' for n in range(17)])
 /// ```
 const FIRST_EIGHT_BYTES: [[u64; 17]; 7] = [
+    // leaves
     [
         0xd37300dc2c6e038a,
         0x031c495bf815cbe8,
@@ -124,6 +125,7 @@ const FIRST_EIGHT_BYTES: [[u64; 17]; 7] = [
         0x842535c1329e2053,
         0x862dccd13cd8c959,
     ],
+    // nodes
     [
         0xa20bf9a7cc2dc8a0,
         0x4d027ebb9d6e55dd,
@@ -143,6 +145,7 @@ const FIRST_EIGHT_BYTES: [[u64; 17]; 7] = [
         0x2c415e592287d814,
         0xd221f28b3f022857,
     ],
+    // all registers
     [
         0xfe1f04c16b2db387,
         0x3fc64708dfd62d01,
@@ -162,6 +165,7 @@ const FIRST_EIGHT_BYTES: [[u64; 17]; 7] = [
         0xf67881b91f29692b,
         0xa15805e9545d21f9,
     ],
+    // control fields
     [
         0xc9aa25f6a0016190,
         0xd0219e522c4bb7ed,
@@ -181,6 +185,7 @@ const FIRST_EIGHT_BYTES: [[u64; 17]; 7] = [
         0x32038e95aaab83b2,
         0x329a7da97da2738d,
     ],
+    // states
     [
         0x0883a1c6eb92ebfc,
         0x243f842aaf725024,
@@ -200,6 +205,7 @@ const FIRST_EIGHT_BYTES: [[u64; 17]; 7] = [
         0x8dc22d9b4b4bad2d,
         0xd494c7824342465c,
     ],
+    // links, by their strings and by `link`
     LINKS,
     LINKS,
 ];

@@ -11,8 +11,16 @@ use std::test::Fail;
 use std::thread::Threads;
 use toy_machine::first_eight;
 
-/// A program, the version of its machine, its input, and the first eight bytes of the roots of its first states.
-type Run = (&'static [u8], u32, &'static [u8], &'static [u64]);
+/// A run, and the roots of its first states.
+#[derive(Clone, Copy)]
+struct Run {
+    image: &'static [u8],
+    /// The version of the machine.
+    version: u32,
+    input: &'static [u8],
+    /// The first eight bytes of each root.
+    roots: &'static [u64],
+}
 
 /// The roots of version 1, by an independent program in Python that carries out each program and hashes all of memory anew at each step.
 const PUTS_ROOTS: [u64; 9] = [
@@ -73,11 +81,36 @@ const EMPTY_ROOTS: [u64; 3] = [
 ];
 
 const IN_VERSION_1: [Run; 5] = [
-    (PUTS, 1, b"", &PUTS_ROOTS),
-    (DIVIDES, 1, b"", &DIVIDES_ROOTS),
-    (STORES, 1, b"", &STORES_ROOTS),
-    (LOOP, 1, b"", &LOOP_ROOTS),
-    (b"", 1, b"", &EMPTY_ROOTS),
+    Run {
+        image: PUTS,
+        version: 1,
+        input: b"",
+        roots: &PUTS_ROOTS,
+    },
+    Run {
+        image: DIVIDES,
+        version: 1,
+        input: b"",
+        roots: &DIVIDES_ROOTS,
+    },
+    Run {
+        image: STORES,
+        version: 1,
+        input: b"",
+        roots: &STORES_ROOTS,
+    },
+    Run {
+        image: LOOP,
+        version: 1,
+        input: b"",
+        roots: &LOOP_ROOTS,
+    },
+    Run {
+        image: b"",
+        version: 1,
+        input: b"",
+        roots: &EMPTY_ROOTS,
+    },
 ];
 
 /// The roots below are those of a program in Python: the machine and the roots of `checks/`, with the digest of the registers, from
@@ -100,12 +133,42 @@ const IN_VERSION_1: [Run; 5] = [
 ///
 /// Without a program: at the start and in its trap, and at the start with an input.
 const FRESH: [Run; 6] = [
-    (b"", 1, b"", &[0xef52_070d_4b25_c00e, 0xc1bc_d232_9ef4_3b49]),
-    (b"", 2, b"", &[0x860f_cae0_4be1_4d8b, 0xf8ff_3dc3_53a6_24ac]),
-    (b"", 3, b"", &[0xbd56_f83b_5fc8_2841, 0x56e0_6cf8_6f48_9e64]),
-    (b"", 1, b"A", &[0xd80c_3355_8d1c_021f]),
-    (b"", 2, b"A", &[0xb406_3684_c17d_e76d]),
-    (b"", 3, b"A", &[0xae3b_8572_debe_a75a]),
+    Run {
+        image: b"",
+        version: 1,
+        input: b"",
+        roots: &[0xef52_070d_4b25_c00e, 0xc1bc_d232_9ef4_3b49],
+    },
+    Run {
+        image: b"",
+        version: 2,
+        input: b"",
+        roots: &[0x860f_cae0_4be1_4d8b, 0xf8ff_3dc3_53a6_24ac],
+    },
+    Run {
+        image: b"",
+        version: 3,
+        input: b"",
+        roots: &[0xbd56_f83b_5fc8_2841, 0x56e0_6cf8_6f48_9e64],
+    },
+    Run {
+        image: b"",
+        version: 1,
+        input: b"A",
+        roots: &[0xd80c_3355_8d1c_021f],
+    },
+    Run {
+        image: b"",
+        version: 2,
+        input: b"A",
+        roots: &[0xb406_3684_c17d_e76d],
+    },
+    Run {
+        image: b"",
+        version: 3,
+        input: b"A",
+        roots: &[0xae3b_8572_debe_a75a],
+    },
 ];
 
 const STORES_2_ROOTS: [u64; 9] = [
@@ -181,13 +244,48 @@ const OVERWRITES_3_ROOTS: [u64; 6] = [
 ];
 
 const OF_PROGRAMS: [Run; 7] = [
-    (STORES, 2, b"", &STORES_2_ROOTS),
-    (STORES, 3, b"", &STORES_3_ROOTS),
-    (READS, 2, b"A", &READS_2_ROOTS),
-    (READS, 3, b"A", &READS_3_ROOTS),
-    (OVERWRITES, 1, b"", &OVERWRITES_1_ROOTS),
-    (OVERWRITES, 2, b"", &OVERWRITES_2_ROOTS),
-    (OVERWRITES, 3, b"", &OVERWRITES_3_ROOTS),
+    Run {
+        image: STORES,
+        version: 2,
+        input: b"",
+        roots: &STORES_2_ROOTS,
+    },
+    Run {
+        image: STORES,
+        version: 3,
+        input: b"",
+        roots: &STORES_3_ROOTS,
+    },
+    Run {
+        image: READS,
+        version: 2,
+        input: b"A",
+        roots: &READS_2_ROOTS,
+    },
+    Run {
+        image: READS,
+        version: 3,
+        input: b"A",
+        roots: &READS_3_ROOTS,
+    },
+    Run {
+        image: OVERWRITES,
+        version: 1,
+        input: b"",
+        roots: &OVERWRITES_1_ROOTS,
+    },
+    Run {
+        image: OVERWRITES,
+        version: 2,
+        input: b"",
+        roots: &OVERWRITES_2_ROOTS,
+    },
+    Run {
+        image: OVERWRITES,
+        version: 3,
+        input: b"",
+        roots: &OVERWRITES_3_ROOTS,
+    },
 ];
 
 /// The first state of a run whose root, kept or from scratch, is another one.
@@ -196,7 +294,12 @@ fn first_other_state<R: Threads + Sync>(
     alloc: Global,
     run: Run,
 ) -> Result<Option<usize>, Fail> {
-    let (image, version, input, roots) = run;
+    let Run {
+        image,
+        version,
+        input,
+        roots,
+    } = run;
     let mut kept = machine_after(rt, alloc, version, image, input, 0)?;
     for (state, want) in roots.iter().enumerate() {
         let root = kept.root();
@@ -285,17 +388,20 @@ fn inputs_climb(kept: &Committed<Sha256>, chunks: &[u32]) -> bool {
     true
 }
 
+/// Whether paths of a machine of version 3 climb: of memory, of the registers and of the input.
+fn all_climb(kept: &Committed<Sha256>) -> bool {
+    chunks_climb(kept, &[0, 0x800, 0x1000])
+        && registers_climb(kept, &[0, 6, 31])
+        && inputs_climb(kept, &[0, 1])
+}
+
 /// After the store of `STORES`: the chunks at 0, at the program, at the byte that was stored, and at the end of memory.
 #[test]
 fn paths_climb_to_the_roots_that_a_version_has(rt: HostRuntime) -> Result<(), Fail> {
     let first = machine_after(&rt, rt.alloc(), 1, STORES, b"", 3)?;
+    let first_climb = chunks_climb(&first, &[0, 0x800, 0x1000, 0x7ff_ffff]);
+    drop(first);
     let third = machine_after(&rt, rt.alloc(), 3, STORES, b"input", 3)?;
-    let climb = [
-        chunks_climb(&first, &[0, 0x800, 0x1000, 0x7ff_ffff]),
-        chunks_climb(&third, &[0, 0x800, 0x1000]),
-        registers_climb(&third, &[0, 6, 31]),
-        inputs_climb(&third, &[0, 1]),
-    ];
-    assert_eq!(rt; climb, [true; 4]);
+    assert!(rt; first_climb && all_climb(&third));
     Ok(())
 }

@@ -83,6 +83,22 @@ fn holds<R: Threads + Sync>(
     Ok(is_so(mem, tree, &built, act) && is_so(mem, &built, tree, act))
 }
 
+/// The first of these acts that doesn't hold.
+fn first_failed_of<R: Threads + Sync>(
+    rt: &R,
+    alloc: Global,
+    mem: &mut PlainMem,
+    tree: &mut MemTree<Sha256>,
+    acts: &[Act],
+) -> Result<Option<usize>, Memory> {
+    for (k, act) in acts.iter().enumerate() {
+        if !holds(rt, alloc, mem, tree, *act)? {
+            return Ok(Some(k));
+        }
+    }
+    Ok(None)
+}
+
 /// The first of these acts on an empty memory that doesn't hold.
 fn first_failed<R: Threads + Sync>(
     rt: &R,
@@ -91,12 +107,7 @@ fn first_failed<R: Threads + Sync>(
 ) -> Result<Option<usize>, Memory> {
     let mut mem = PlainMem::new(alloc);
     let mut tree = MemTree::build(rt, alloc, Sha256, &mem)?;
-    for (k, act) in acts.iter().enumerate() {
-        if !holds(rt, alloc, &mut mem, &mut tree, *act)? {
-            return Ok(Some(k));
-        }
-    }
-    Ok(None)
+    first_failed_of(rt, alloc, &mut mem, &mut tree, acts)
 }
 
 /// The root of a memory of zeros.
@@ -221,19 +232,29 @@ fn is_right_after<R: Threads + Sync>(
 }
 
 /// The first of 100 rounds of stores after which the tree isn't that of the memory.
-fn first_failed_round<R: Threads + Sync>(rt: &R, alloc: Global) -> Result<Option<u32>, Memory> {
-    let mut mem = PlainMem::new(alloc);
-    let mut tree = MemTree::build(rt, alloc, Sha256, &mem)?;
+fn first_failed_round_of<R: Threads + Sync>(
+    rt: &R,
+    alloc: Global,
+    mem: &mut PlainMem,
+    tree: &mut MemTree<Sha256>,
+) -> Result<Option<u32>, Memory> {
     let mut seed = 7;
     for round in 0..100u32 {
         seed = next(seed);
         let addr = address(seed);
-        stores(&mut mem, &mut tree, Act::Byte(addr, (seed >> 16) % 2))?;
-        if !is_right_after(rt, alloc, &mut mem, &mut tree, round, addr / 32)? {
+        stores(mem, tree, Act::Byte(addr, (seed >> 16) % 2))?;
+        if !is_right_after(rt, alloc, mem, tree, round, addr / 32)? {
             return Ok(Some(round));
         }
     }
     Ok(None)
+}
+
+/// The same of rounds on an empty memory.
+fn first_failed_round<R: Threads + Sync>(rt: &R, alloc: Global) -> Result<Option<u32>, Memory> {
+    let mut mem = PlainMem::new(alloc);
+    let mut tree = MemTree::build(rt, alloc, Sha256, &mem)?;
+    first_failed_round_of(rt, alloc, &mut mem, &mut tree)
 }
 
 #[test]
