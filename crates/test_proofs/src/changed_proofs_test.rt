@@ -177,14 +177,19 @@ fn with_changed_chunks(proof: &Proof, of_fetch: Change, of_operand: Change) -> P
 }
 
 /// How the fetched chunk and the data's are changed, and the result of the check.
-type Changes = (Change, Change, StepCheck);
+#[derive(Clone, Copy)]
+struct Changes {
+    of_fetch: Change,
+    of_operand: Change,
+    result: StepCheck,
+}
 
 /// The first row of changes with another result.
 fn first_other_change(plain: Plain, rows: &[Changes]) -> Option<usize> {
-    for (row, (of_fetch, of_operand, want)) in rows.iter().enumerate() {
-        let other = with_changed_chunks(&plain.proof, *of_fetch, *of_operand);
-        if ruled(&plain, &other) != *want {
-            return Some(row);
+    for (place, row) in rows.iter().enumerate() {
+        let other = with_changed_chunks(&plain.proof, row.of_fetch, row.of_operand);
+        if ruled(&plain, &other) != row.result {
+            return Some(place);
         }
     }
     None
@@ -192,20 +197,76 @@ fn first_other_change(plain: Plain, rows: &[Changes]) -> Option<usize> {
 
 /// Of a store, whose data is another chunk than the fetched one.
 const OF_A_STORE: [Changes; 14] = [
-    (Change::LeftOut, Change::Stays, WRONG_SHAPE),
-    (Change::Stays, Change::LeftOut, WRONG_SHAPE),
-    (Change::LeftOut, Change::LeftOut, WRONG_SHAPE),
-    (Change::Byte(0), Change::Stays, NOT_OPEN),
-    (Change::Byte(31), Change::Stays, NOT_OPEN),
-    (Change::Byte(31), Change::LeftOut, NOT_OPEN),
-    (Change::Sibling(0), Change::Stays, NOT_OPEN),
-    (Change::Sibling(26), Change::Stays, NOT_OPEN),
-    (Change::Stays, Change::Other, NOT_OPEN),
-    (Change::Other, Change::Stays, NOT_OPEN),
-    (Change::Stays, Change::Byte(3), NOT_OPEN),
-    (Change::Stays, Change::Byte(31), NOT_OPEN),
-    (Change::Stays, Change::Sibling(0), NOT_OPEN),
-    (Change::Stays, Change::Sibling(26), NOT_OPEN),
+    Changes {
+        of_fetch: Change::LeftOut,
+        of_operand: Change::Stays,
+        result: WRONG_SHAPE,
+    },
+    Changes {
+        of_fetch: Change::Stays,
+        of_operand: Change::LeftOut,
+        result: WRONG_SHAPE,
+    },
+    Changes {
+        of_fetch: Change::LeftOut,
+        of_operand: Change::LeftOut,
+        result: WRONG_SHAPE,
+    },
+    Changes {
+        of_fetch: Change::Byte(0),
+        of_operand: Change::Stays,
+        result: NOT_OPEN,
+    },
+    Changes {
+        of_fetch: Change::Byte(31),
+        of_operand: Change::Stays,
+        result: NOT_OPEN,
+    },
+    Changes {
+        of_fetch: Change::Byte(31),
+        of_operand: Change::LeftOut,
+        result: NOT_OPEN,
+    },
+    Changes {
+        of_fetch: Change::Sibling(0),
+        of_operand: Change::Stays,
+        result: NOT_OPEN,
+    },
+    Changes {
+        of_fetch: Change::Sibling(26),
+        of_operand: Change::Stays,
+        result: NOT_OPEN,
+    },
+    Changes {
+        of_fetch: Change::Stays,
+        of_operand: Change::Other,
+        result: NOT_OPEN,
+    },
+    Changes {
+        of_fetch: Change::Other,
+        of_operand: Change::Stays,
+        result: NOT_OPEN,
+    },
+    Changes {
+        of_fetch: Change::Stays,
+        of_operand: Change::Byte(3),
+        result: NOT_OPEN,
+    },
+    Changes {
+        of_fetch: Change::Stays,
+        of_operand: Change::Byte(31),
+        result: NOT_OPEN,
+    },
+    Changes {
+        of_fetch: Change::Stays,
+        of_operand: Change::Sibling(0),
+        result: NOT_OPEN,
+    },
+    Changes {
+        of_fetch: Change::Stays,
+        of_operand: Change::Sibling(26),
+        result: NOT_OPEN,
+    },
 ];
 
 #[test]
@@ -221,14 +282,46 @@ fn changed_chunks_are_refused(rt: HostRuntime) -> Result<(), Fail> {
 
 /// Of a step whose fetch and data are one chunk: it is opened twice, and each opening is ruled on by itself.
 const OF_ONE_CHUNK: [Changes; 8] = [
-    (Change::LeftOut, Change::Stays, WRONG_SHAPE),
-    (Change::Stays, Change::LeftOut, WRONG_SHAPE),
-    (Change::Byte(31), Change::Stays, NOT_OPEN),
-    (Change::Stays, Change::Byte(31), NOT_OPEN),
-    (Change::Byte(31), Change::Byte(31), NOT_OPEN),
-    (Change::Sibling(26), Change::Stays, NOT_OPEN),
-    (Change::Stays, Change::Sibling(0), NOT_OPEN),
-    (Change::Sibling(26), Change::Sibling(26), NOT_OPEN),
+    Changes {
+        of_fetch: Change::LeftOut,
+        of_operand: Change::Stays,
+        result: WRONG_SHAPE,
+    },
+    Changes {
+        of_fetch: Change::Stays,
+        of_operand: Change::LeftOut,
+        result: WRONG_SHAPE,
+    },
+    Changes {
+        of_fetch: Change::Byte(31),
+        of_operand: Change::Stays,
+        result: NOT_OPEN,
+    },
+    Changes {
+        of_fetch: Change::Stays,
+        of_operand: Change::Byte(31),
+        result: NOT_OPEN,
+    },
+    Changes {
+        of_fetch: Change::Byte(31),
+        of_operand: Change::Byte(31),
+        result: NOT_OPEN,
+    },
+    Changes {
+        of_fetch: Change::Sibling(26),
+        of_operand: Change::Stays,
+        result: NOT_OPEN,
+    },
+    Changes {
+        of_fetch: Change::Stays,
+        of_operand: Change::Sibling(0),
+        result: NOT_OPEN,
+    },
+    Changes {
+        of_fetch: Change::Sibling(26),
+        of_operand: Change::Sibling(26),
+        result: NOT_OPEN,
+    },
 ];
 
 /// Whether the plain proof of such a step leads to the next root, also with its two openings exchanged, and the changed ones have the
@@ -294,22 +387,49 @@ fn with_changed(proof: &StepProof, part: Part) -> Proof {
 }
 
 /// A changed part, and the result of the check.
-const PARTS: [(Part, StepCheck); 7] = [
-    (Part::Memory, NOT_OPEN),
-    (Part::Register, NOT_OPEN),
-    (Part::NextWord, NOT_OPEN),
-    (Part::NextByte, WRONG_SHAPE),
-    (Part::Status, WRONG_SHAPE),
-    (Part::OutputLength, NOT_OPEN),
-    (Part::Chain, NOT_OPEN),
+#[derive(Clone, Copy)]
+struct ChangedPart {
+    part: Part,
+    result: StepCheck,
+}
+
+const PARTS: [ChangedPart; 7] = [
+    ChangedPart {
+        part: Part::Memory,
+        result: NOT_OPEN,
+    },
+    ChangedPart {
+        part: Part::Register,
+        result: NOT_OPEN,
+    },
+    ChangedPart {
+        part: Part::NextWord,
+        result: NOT_OPEN,
+    },
+    ChangedPart {
+        part: Part::NextByte,
+        result: WRONG_SHAPE,
+    },
+    ChangedPart {
+        part: Part::Status,
+        result: WRONG_SHAPE,
+    },
+    ChangedPart {
+        part: Part::OutputLength,
+        result: NOT_OPEN,
+    },
+    ChangedPart {
+        part: Part::Chain,
+        result: NOT_OPEN,
+    },
 ];
 
 /// The first changed part with another result.
 fn first_other_part(plain: &Plain) -> Result<Option<Part>, Fail> {
     let proof = first_of(&plain.proof)?;
-    for (part, want) in PARTS {
-        if ruled(plain, &with_changed(&proof, part)) != want {
-            return Ok(Some(part));
+    for row in PARTS {
+        if ruled(plain, &with_changed(&proof, row.part)) != row.result {
+            return Ok(Some(row.part));
         }
     }
     Ok(None)
@@ -366,24 +486,57 @@ fn with_named(proof: &StepProof2, named: RegOpenings) -> Proof {
 }
 
 /// Which registers are opened in place of the first and the second, and the result of the check.
-const NAMED: [(&[Shown], StepCheck); 9] = [
-    (&[Shown::FirstValue, Shown::Second], NOT_OPEN),
-    (&[Shown::First, Shown::SecondValue], NOT_OPEN),
-    (&[Shown::FirstSibling(0), Shown::Second], NOT_OPEN),
-    (&[Shown::First, Shown::SecondSibling(4)], NOT_OPEN),
-    (&[Shown::Second, Shown::First], NOT_OPEN),
-    (&[Shown::First, Shown::First], NOT_OPEN),
-    (&[], WRONG_SHAPE),
-    (&[Shown::First], WRONG_SHAPE),
-    (&[Shown::First, Shown::Second, Shown::Second], WRONG_SHAPE),
+#[derive(Clone, Copy)]
+struct Named {
+    shown: &'static [Shown],
+    result: StepCheck,
+}
+
+const NAMED: [Named; 9] = [
+    Named {
+        shown: &[Shown::FirstValue, Shown::Second],
+        result: NOT_OPEN,
+    },
+    Named {
+        shown: &[Shown::First, Shown::SecondValue],
+        result: NOT_OPEN,
+    },
+    Named {
+        shown: &[Shown::FirstSibling(0), Shown::Second],
+        result: NOT_OPEN,
+    },
+    Named {
+        shown: &[Shown::First, Shown::SecondSibling(4)],
+        result: NOT_OPEN,
+    },
+    Named {
+        shown: &[Shown::Second, Shown::First],
+        result: NOT_OPEN,
+    },
+    Named {
+        shown: &[Shown::First, Shown::First],
+        result: NOT_OPEN,
+    },
+    Named {
+        shown: &[],
+        result: WRONG_SHAPE,
+    },
+    Named {
+        shown: &[Shown::First],
+        result: WRONG_SHAPE,
+    },
+    Named {
+        shown: &[Shown::First, Shown::Second, Shown::Second],
+        result: WRONG_SHAPE,
+    },
 ];
 
 /// The first row of opened registers with another result.
 fn first_other_named(plain: &Plain, proof: &StepProof2) -> Option<usize> {
-    for (row, (shown, want)) in NAMED.iter().enumerate() {
-        let named = changed_registers(proof.named.as_slice(), *shown);
-        if ruled(plain, &with_named(proof, named)) != *want {
-            return Some(row);
+    for (place, row) in NAMED.iter().enumerate() {
+        let named = changed_registers(proof.named.as_slice(), row.shown);
+        if ruled(plain, &with_named(proof, named)) != row.result {
+            return Some(place);
         }
     }
     None
@@ -422,20 +575,41 @@ fn with_input(proof: &StepProof3, input: Option<InOpening>) -> Proof {
 }
 
 /// How the chunk of the input is changed, and the result of the check.
-const INPUTS: [(Change, StepCheck); 5] = [
-    (Change::LeftOut, WRONG_SHAPE),
-    (Change::Byte(0), NOT_OPEN),
-    (Change::Byte(31), NOT_OPEN),
-    (Change::Sibling(0), NOT_OPEN),
-    (Change::Sibling(14), NOT_OPEN),
+#[derive(Clone, Copy)]
+struct ChangedInput {
+    change: Change,
+    result: StepCheck,
+}
+
+const INPUTS: [ChangedInput; 5] = [
+    ChangedInput {
+        change: Change::LeftOut,
+        result: WRONG_SHAPE,
+    },
+    ChangedInput {
+        change: Change::Byte(0),
+        result: NOT_OPEN,
+    },
+    ChangedInput {
+        change: Change::Byte(31),
+        result: NOT_OPEN,
+    },
+    ChangedInput {
+        change: Change::Sibling(0),
+        result: NOT_OPEN,
+    },
+    ChangedInput {
+        change: Change::Sibling(14),
+        result: NOT_OPEN,
+    },
 ];
 
 /// The first change of the input's chunk with another result.
 fn first_other_input(plain: &Plain, proof: &StepProof3) -> Option<usize> {
-    for (row, (change, want)) in INPUTS.iter().enumerate() {
-        let other = with_input(proof, changed_input(proof.input, *change));
-        if ruled(plain, &other) != *want {
-            return Some(row);
+    for (place, row) in INPUTS.iter().enumerate() {
+        let other = with_input(proof, changed_input(proof.input, row.change));
+        if ruled(plain, &other) != row.result {
+            return Some(place);
         }
     }
     None

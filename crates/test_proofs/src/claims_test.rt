@@ -100,23 +100,61 @@ fn the_claim_of_a_run_is_sound_and_has_the_root_of_its_state(rt: HostRuntime) ->
 
 const OTHER: Digest32 = Digest32([3; 32]);
 
-/// The length and the chain of a claim, its output, and the result of its check.
-const CHECKS: [(u64, Digest32, &[u8], ClaimCheck); 6] = [
-    (1, CHAIN_OF_ONE, b"\x2a", ClaimCheck::Sound),
-    (0, Digest32::ZERO, b"", ClaimCheck::Sound),
-    (1, OTHER, b"\x2a", ClaimCheck::WrongChain),
-    (1, CHAIN_OF_ONE, b"\x2b", ClaimCheck::WrongChain),
-    (2, CHAIN_OF_ONE, b"\x2a", ClaimCheck::WrongLength),
-    (2, OTHER, b"\x2a", ClaimCheck::WrongLength),
+/// What a claim says of its output, and the result of its check.
+#[derive(Clone, Copy)]
+struct Check {
+    out_len: u64,
+    chain: Digest32,
+    output: &'static [u8],
+    result: ClaimCheck,
+}
+
+const CHECKS: [Check; 6] = [
+    Check {
+        out_len: 1,
+        chain: CHAIN_OF_ONE,
+        output: b"\x2a",
+        result: ClaimCheck::Sound,
+    },
+    Check {
+        out_len: 0,
+        chain: Digest32::ZERO,
+        output: b"",
+        result: ClaimCheck::Sound,
+    },
+    Check {
+        out_len: 1,
+        chain: OTHER,
+        output: b"\x2a",
+        result: ClaimCheck::WrongChain,
+    },
+    Check {
+        out_len: 1,
+        chain: CHAIN_OF_ONE,
+        output: b"\x2b",
+        result: ClaimCheck::WrongChain,
+    },
+    Check {
+        out_len: 2,
+        chain: CHAIN_OF_ONE,
+        output: b"\x2a",
+        result: ClaimCheck::WrongLength,
+    },
+    Check {
+        out_len: 2,
+        chain: OTHER,
+        output: b"\x2a",
+        result: ClaimCheck::WrongLength,
+    },
 ];
 
 /// The first row that is checked otherwise.
 fn first_other_check(alloc: Global) -> Result<Option<usize>, Fail> {
     let parts = (Digest32([1; 32]), Digest32([2; 32]));
-    for (row, (out_len, chain, output, want)) in CHECKS.iter().enumerate() {
-        let claim = claim(alloc, parts, 4, *out_len, *chain, *output)?;
-        if check_claim(Sha256, &claim) != *want {
-            return Ok(Some(row));
+    for (place, row) in CHECKS.iter().enumerate() {
+        let claim = claim(alloc, parts, 4, row.out_len, row.chain, row.output)?;
+        if check_claim(Sha256, &claim) != row.result {
+            return Ok(Some(place));
         }
     }
     Ok(None)
@@ -130,13 +168,20 @@ fn a_claim_is_checked_length_first(rt: HostRuntime) -> Result<(), Fail> {
 
 const ONE_VALUE: OneValue<Sha256> = OneValue { of: Sha256 };
 
-/// A claim with this first digest, pc and output. It is sound by the digest function with one value, by which all claims have one root.
-type Near = (u8, u32, &'static [u8]);
+/// A claim in short. It is sound by the digest function with one value, by which all claims have one root.
+#[derive(Clone, Copy)]
+struct Near {
+    /// Each byte of its digest of memory.
+    mem: u8,
+    pc: u32,
+    output: &'static [u8],
+}
 
 fn near_claim(alloc: Global, near: Near) -> Result<Claim, Fail> {
-    let parts = (Digest32([near.0; 32]), Digest32([2; 32]));
+    let Near { mem, pc, output } = near;
+    let parts = (Digest32([mem; 32]), Digest32([2; 32]));
     let chain = ONE_VALUE.digest(&[]);
-    claim(alloc, parts, near.1, near.2.len() as u64, chain, near.2)
+    claim(alloc, parts, pc, output.len() as u64, chain, output)
 }
 
 /// The strings that collide.
@@ -202,47 +247,186 @@ fn is_pair(found: Option<(OpenText, OpenText)>, pair: Pair) -> bool {
 }
 
 /// Two claims, and the strings of theirs that collide by the digest function with one value.
-const OF_THREE_BYTES: [(Near, Near, Pair); 7] = [
-    (
-        (1, 4, b"\x01\x02\x03"),
-        (9, 8, b"\x07\x05\x06"),
-        Pair::State(1, 9),
-    ),
-    (
-        (9, 8, b"\x07\x05\x06"),
-        (1, 4, b"\x01\x02\x03"),
-        Pair::State(9, 1),
-    ),
-    (
-        (1, 4, b"\x01\x02\x03"),
-        (1, 8, b"\x07\x05\x06"),
-        Pair::Control(3, 4, 8),
-    ),
-    (
-        (1, 4, b"\x01\x02\x03"),
-        (1, 8, b"\x01\x02\x03"),
-        Pair::Control(3, 4, 8),
-    ),
-    (
-        (1, 4, b"\x01\x02\x03"),
-        (1, 4, b"\x01\x05\x06"),
-        Pair::Later(2, 5),
-    ),
-    (
-        (1, 4, b"\x01\x02\x03"),
-        (1, 4, b"\x07\x02\x06"),
-        Pair::First(1, 7),
-    ),
-    ((1, 4, b"\x01\x02\x03"), (1, 4, b"\x01\x02\x03"), Pair::None),
+#[derive(Clone, Copy)]
+struct TwoClaims {
+    x: Near,
+    y: Near,
+    pair: Pair,
+}
+
+const OF_THREE_BYTES: [TwoClaims; 7] = [
+    TwoClaims {
+        x: Near {
+            mem: 1,
+            pc: 4,
+            output: b"\x01\x02\x03",
+        },
+        y: Near {
+            mem: 9,
+            pc: 8,
+            output: b"\x07\x05\x06",
+        },
+        pair: Pair::State(1, 9),
+    },
+    TwoClaims {
+        x: Near {
+            mem: 9,
+            pc: 8,
+            output: b"\x07\x05\x06",
+        },
+        y: Near {
+            mem: 1,
+            pc: 4,
+            output: b"\x01\x02\x03",
+        },
+        pair: Pair::State(9, 1),
+    },
+    TwoClaims {
+        x: Near {
+            mem: 1,
+            pc: 4,
+            output: b"\x01\x02\x03",
+        },
+        y: Near {
+            mem: 1,
+            pc: 8,
+            output: b"\x07\x05\x06",
+        },
+        pair: Pair::Control(3, 4, 8),
+    },
+    TwoClaims {
+        x: Near {
+            mem: 1,
+            pc: 4,
+            output: b"\x01\x02\x03",
+        },
+        y: Near {
+            mem: 1,
+            pc: 8,
+            output: b"\x01\x02\x03",
+        },
+        pair: Pair::Control(3, 4, 8),
+    },
+    TwoClaims {
+        x: Near {
+            mem: 1,
+            pc: 4,
+            output: b"\x01\x02\x03",
+        },
+        y: Near {
+            mem: 1,
+            pc: 4,
+            output: b"\x01\x05\x06",
+        },
+        pair: Pair::Later(2, 5),
+    },
+    TwoClaims {
+        x: Near {
+            mem: 1,
+            pc: 4,
+            output: b"\x01\x02\x03",
+        },
+        y: Near {
+            mem: 1,
+            pc: 4,
+            output: b"\x07\x02\x06",
+        },
+        pair: Pair::First(1, 7),
+    },
+    TwoClaims {
+        x: Near {
+            mem: 1,
+            pc: 4,
+            output: b"\x01\x02\x03",
+        },
+        y: Near {
+            mem: 1,
+            pc: 4,
+            output: b"\x01\x02\x03",
+        },
+        pair: Pair::None,
+    },
 ];
 
-const OF_ONE_BYTE: [(Near, Near, Pair); 6] = [
-    ((1, 4, b"\x2a"), (1, 4, b"\x2a"), Pair::None),
-    ((1, 4, b"\x2a"), (3, 4, b"\x2a"), Pair::State(1, 3)),
-    ((1, 4, b"\x2a"), (3, 8, b"\x2b"), Pair::State(1, 3)),
-    ((1, 4, b"\x2a"), (1, 8, b"\x2a"), Pair::Control(1, 4, 8)),
-    ((1, 4, b"\x2a"), (1, 8, b"\x2b"), Pair::Control(1, 4, 8)),
-    ((1, 4, b"\x2a"), (1, 4, b"\x2b"), Pair::First(0x2a, 0x2b)),
+const OF_ONE_BYTE: [TwoClaims; 6] = [
+    TwoClaims {
+        x: Near {
+            mem: 1,
+            pc: 4,
+            output: b"\x2a",
+        },
+        y: Near {
+            mem: 1,
+            pc: 4,
+            output: b"\x2a",
+        },
+        pair: Pair::None,
+    },
+    TwoClaims {
+        x: Near {
+            mem: 1,
+            pc: 4,
+            output: b"\x2a",
+        },
+        y: Near {
+            mem: 3,
+            pc: 4,
+            output: b"\x2a",
+        },
+        pair: Pair::State(1, 3),
+    },
+    TwoClaims {
+        x: Near {
+            mem: 1,
+            pc: 4,
+            output: b"\x2a",
+        },
+        y: Near {
+            mem: 3,
+            pc: 8,
+            output: b"\x2b",
+        },
+        pair: Pair::State(1, 3),
+    },
+    TwoClaims {
+        x: Near {
+            mem: 1,
+            pc: 4,
+            output: b"\x2a",
+        },
+        y: Near {
+            mem: 1,
+            pc: 8,
+            output: b"\x2a",
+        },
+        pair: Pair::Control(1, 4, 8),
+    },
+    TwoClaims {
+        x: Near {
+            mem: 1,
+            pc: 4,
+            output: b"\x2a",
+        },
+        y: Near {
+            mem: 1,
+            pc: 8,
+            output: b"\x2b",
+        },
+        pair: Pair::Control(1, 4, 8),
+    },
+    TwoClaims {
+        x: Near {
+            mem: 1,
+            pc: 4,
+            output: b"\x2a",
+        },
+        y: Near {
+            mem: 1,
+            pc: 4,
+            output: b"\x2b",
+        },
+        pair: Pair::First(0x2a, 0x2b),
+    },
 ];
 
 /// Whether two claims collide in these strings by the digest function with one value, also for the judge, and by SHA-256, by which
@@ -255,10 +439,14 @@ fn collide(x: &Claim, y: &Claim, pair: Pair) -> bool {
 }
 
 /// The first row whose claims don't collide so.
-fn first_other_pair(alloc: Global, rows: &[(Near, Near, Pair)]) -> Result<Option<usize>, Fail> {
-    for (row, (x, y, pair)) in rows.iter().enumerate() {
-        if !collide(&near_claim(alloc, *x)?, &near_claim(alloc, *y)?, *pair) {
-            return Ok(Some(row));
+fn first_other_pair(alloc: Global, rows: &[TwoClaims]) -> Result<Option<usize>, Fail> {
+    for (place, row) in rows.iter().enumerate() {
+        if !collide(
+            &near_claim(alloc, row.x)?,
+            &near_claim(alloc, row.y)?,
+            row.pair,
+        ) {
+            return Ok(Some(place));
         }
     }
     Ok(None)

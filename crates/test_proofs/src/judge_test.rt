@@ -52,15 +52,54 @@ fn first_lost_step<R: Threads + Sync>(
 }
 
 /// A program, its input, and how many of its steps are judged.
-const PROGRAMS: [(&[u8], &[u8], u32); 8] = [
-    (PUTS, b"", 7),
-    (DIVIDES, b"", 12),
-    (JUMPS, b"", 2),
-    (STORES, b"", 9),
-    (READS, b"A", 14),
-    (ALL, b"", 50),
-    (EDGES, b"", 3),
-    (OVERWRITES, b"", 6),
+#[derive(Clone, Copy)]
+struct Program {
+    image: &'static [u8],
+    input: &'static [u8],
+    steps: u32,
+}
+
+const PROGRAMS: [Program; 8] = [
+    Program {
+        image: PUTS,
+        input: b"",
+        steps: 7,
+    },
+    Program {
+        image: DIVIDES,
+        input: b"",
+        steps: 12,
+    },
+    Program {
+        image: JUMPS,
+        input: b"",
+        steps: 2,
+    },
+    Program {
+        image: STORES,
+        input: b"",
+        steps: 9,
+    },
+    Program {
+        image: READS,
+        input: b"A",
+        steps: 14,
+    },
+    Program {
+        image: ALL,
+        input: b"",
+        steps: 50,
+    },
+    Program {
+        image: EDGES,
+        input: b"",
+        steps: 3,
+    },
+    Program {
+        image: OVERWRITES,
+        input: b"",
+        steps: 6,
+    },
 ];
 
 /// The first program with a step whose proof doesn't lead to the next root in a version, and the step.
@@ -69,8 +108,13 @@ fn first_lost_program<R: Threads + Sync>(
     alloc: Global,
     version: u32,
 ) -> Result<Option<(usize, u32)>, Fail> {
-    for (row, (image, input, steps)) in PROGRAMS.iter().enumerate() {
-        if let Some(step) = first_lost_step(rt, alloc, version, *image, *input, *steps)? {
+    for (row, program) in PROGRAMS.iter().enumerate() {
+        let Program {
+            image,
+            input,
+            steps,
+        } = *program;
+        if let Some(step) = first_lost_step(rt, alloc, version, image, input, steps)? {
             return Ok(Some((row, step)));
         }
     }

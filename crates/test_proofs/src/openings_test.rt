@@ -22,30 +22,52 @@ fn opens(chunk: &Option<Opening>, index: Option<u32>, mem: &Digest32) -> bool {
     }
 }
 
-/// The index of the fetched chunk that the proof of a step opens, and that of the data's; `None` for none.
-type Chunks = (Option<u32>, Option<u32>);
+/// The indexes of the chunks that the proof of a step opens; `None` for none.
+#[derive(Clone, Copy)]
+struct Chunks {
+    fetch: Option<u32>,
+    operand: Option<u32>,
+}
 
 /// The word is fetched from the chunk at 0x10000, from the next one, or not at all, as the state has stopped.
-const FETCHED: Chunks = (Some(0x800), None);
+const FETCHED: Chunks = Chunks {
+    fetch: Some(0x800),
+    operand: None,
+};
 
-const NEXT_FETCHED: Chunks = (Some(0x801), None);
+const NEXT_FETCHED: Chunks = Chunks {
+    fetch: Some(0x801),
+    operand: None,
+};
 
-const STOPPED: Chunks = (None, None);
+const STOPPED: Chunks = Chunks {
+    fetch: None,
+    operand: None,
+};
 
 /// Beside the fetched chunk the one at 0x20000 is opened.
-const DATA: Chunks = (Some(0x800), Some(0x1000));
+const DATA: Chunks = Chunks {
+    fetch: Some(0x800),
+    operand: Some(0x1000),
+};
 
-/// Programs, and the chunks of each of their steps, by hand from their listings.
-const CHUNKS: [(&[u8], &[Chunks]); 6] = [
-    (
-        PUTS,
-        &[
+/// A program, and the chunks of each of its steps, by hand from its listing.
+#[derive(Clone, Copy)]
+struct Program {
+    image: &'static [u8],
+    steps: &'static [Chunks],
+}
+
+const CHUNKS: [Program; 6] = [
+    Program {
+        image: PUTS,
+        steps: &[
             FETCHED, FETCHED, FETCHED, FETCHED, FETCHED, FETCHED, STOPPED,
         ],
-    ),
-    (
-        DIVIDES,
-        &[
+    },
+    Program {
+        image: DIVIDES,
+        steps: &[
             FETCHED,
             FETCHED,
             FETCHED,
@@ -59,39 +81,55 @@ const CHUNKS: [(&[u8], &[Chunks]); 6] = [
             NEXT_FETCHED,
             STOPPED,
         ],
-    ),
-    (JUMPS, &[FETCHED, STOPPED]),
-    (
-        STORES,
-        &[
+    },
+    Program {
+        image: JUMPS,
+        steps: &[FETCHED, STOPPED],
+    },
+    Program {
+        image: STORES,
+        steps: &[
             FETCHED, FETCHED, DATA, DATA, FETCHED, FETCHED, FETCHED, FETCHED, STOPPED,
         ],
-    ),
-    (
-        EDGES,
-        &[
-            (Some(0x800), Some(0x7ff_ffff)),
+    },
+    Program {
+        image: EDGES,
+        steps: &[
+            Chunks {
+                fetch: Some(0x800),
+                operand: Some(0x7ff_ffff),
+            },
             FETCHED,
-            (Some(0x800), Some(0x800)),
+            Chunks {
+                fetch: Some(0x800),
+                operand: Some(0x800),
+            },
         ],
-    ),
-    (
-        OVERWRITES,
-        &[
+    },
+    Program {
+        image: OVERWRITES,
+        steps: &[
             FETCHED,
             FETCHED,
-            (Some(0x800), Some(0x800)),
-            (Some(0x800), Some(0x800)),
+            Chunks {
+                fetch: Some(0x800),
+                operand: Some(0x800),
+            },
+            Chunks {
+                fetch: Some(0x800),
+                operand: Some(0x800),
+            },
             FETCHED,
             STOPPED,
         ],
-    ),
+    },
 ];
 
 /// Whether the plain proof of a machine opens these chunks.
 fn chunks_open(committed: &Committed<Sha256>, chunks: Chunks) -> bool {
     let facts = facts_of(&make_proof(committed));
-    opens(&facts.fetch, chunks.0, &facts.mem) && opens(&facts.operand, chunks.1, &facts.mem)
+    opens(&facts.fetch, chunks.fetch, &facts.mem)
+        && opens(&facts.operand, chunks.operand, &facts.mem)
 }
 
 /// The first step of a program in a version whose proof doesn't open the chunks of its row.
@@ -118,8 +156,8 @@ fn first_other_program<R: Threads + Sync>(
     alloc: Global,
     version: u32,
 ) -> Result<Option<(usize, usize)>, Fail> {
-    for (row, (image, rows)) in CHUNKS.iter().enumerate() {
-        if let Some(step) = first_other_chunks(rt, alloc, version, *image, *rows)? {
+    for (row, program) in CHUNKS.iter().enumerate() {
+        if let Some(step) = first_other_chunks(rt, alloc, version, program.image, program.steps)? {
             return Ok(Some((row, step)));
         }
     }
