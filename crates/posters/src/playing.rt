@@ -63,7 +63,11 @@ fn places_of<J: Judge + Drop, P: Provers + Drop>(
     tasks_are_numbered::<J, P>();
     let mut places = Vec::new(alloc);
     for i in 0..books.count() {
-        add_provers(&mut places, i + 1, books.book(i + 1).game().setup().provers())?;
+        add_provers(
+            &mut places,
+            i + 1,
+            books.book(i + 1).game().setup().provers(),
+        )?;
     }
     Ok(places)
 }
