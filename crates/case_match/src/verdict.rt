@@ -21,8 +21,8 @@ use tournament::{Record, Verdict};
 /// The match of a case whose run starts in this machine: what is settled in it, and how it ends. The machine has no
 /// output, and its chain is that of no output by the digester `d`; each option is at least 1, and none changes the answer.
 ///
-/// The referee makes the root of this state and decides about claims and proofs of single steps; it never runs the program. In
-/// version 3 the tree of the input is built once, for this root and for all provers.
+/// The root of this state is made once, from scratch. The referee gets that root and decides about claims and proofs of single steps; it
+/// never runs the program. In version 3 the tree of the input is built once, for this root and for all provers.
 pub fn verdict_of_case<R: Threads + Wait + Sync, D: Replays>(
     rt: &R,
     alloc: Global,
