@@ -40,10 +40,11 @@ dispute_from room stage number start x y =
       close = None;
     }
 
--- one of a match with these numbers
+-- those of the disputes of a match
 abbrev pub room_of : Setup → RoomOf
 room_of setup = record { bound = setup.bound; fan = setup.fan }
 
+-- a dispute of a match with these numbers, as it begins
 abbrev pub dispute_of : Setup → ℕ → ℕ → Claimed → Claimed → Bisection
 dispute_of setup stage number x y = dispute_from (room_of setup) stage number setup.start x y
 

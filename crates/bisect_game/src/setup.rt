@@ -5,7 +5,7 @@ ghost use Rattle.bisect_game.specs.Setup.{AreInRange};
 use rd_base::Digest32;
 use std::marker::Model;
 
-/// The numbers by which a match is played. Each is in its range.
+/// The numbers by which a match is played. Those that have a range are in it.
 ///
 /// Contracts see them as a record (`specs/Setup.antt`).
 #[derive(Clone, Copy, Debug)]

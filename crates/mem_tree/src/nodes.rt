@@ -38,7 +38,7 @@ fn page_width(level: u8) -> u32
     }
 }
 
-/// The pages that were touched since the last refresh, and whether that refresh ran out of memory.
+/// The pages that were touched since a refresh last succeeded, and whether one has run out of memory since.
 #[derive(Drop)]
 pub(crate) struct Touched<'a> {
     pub(crate) pages: &'a BTreeSet<u32>,

@@ -1,10 +1,12 @@
--- To believe: the fields of an instruction, by the form of its word (RISC-V Unprivileged ISA 20191213, 2.2).
+-- To believe: the fields of an instruction, by the form of its word (RISC-V Unprivileged ISA 20191213, 2.2 and 2.3). A shift by a number
+-- (2.4) has a form of its own here. `fence`, `ecall` and `ebreak` have none, though their words are of the form I (2.7, 2.8).
 use Rattle.rv_decode.specs.declared.fields.Fields.{Fields}
 use Rattle.rv_decode.specs.declared.fields.Fields.TheVariants as fields
 use Rattle.rv_decode.specs.declared.instr.Instr.{Instr}
 use Rattle.rv_decode.specs.declared.instr.Instr.TheVariants.{Lui, Auipc, Jal, Jalr, Beq, Bne, Blt, Bge, Bltu, Bgeu, Lb, Lh, Lw, Lbu, Lhu, Sb, Sh, Sw, Addi, Slti, Sltiu, Xori, Ori, Andi, Slli, Srli, Srai, Add, Sub, Sll, Slt, Sltu, Xor, Srl, Sra, Or, And, Mul, Mulh, Mulhsu, Mulhu, Div, Divu, Rem, Remu, Fence, Ecall, Ebreak}
 
--- an `ecall` has no fields, and a fence and an `ebreak` have no register and no number
+-- an `ecall` has no fields; the bits of a fence, which a machine of one thread ignores, and those of an `ebreak` name no register and no
+-- number
 unfoldable pub fields_of : Instr → Fields
 fields_of (Lui i) = fields.U i
 fields_of (Auipc i) = fields.U i

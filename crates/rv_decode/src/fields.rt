@@ -23,7 +23,7 @@ pub enum Fields {
     J(JType),
     /// An `ecall` has no fields: the environment decides what it reads and writes.
     Call,
-    /// A fence and an `ebreak` have no register and no number.
+    /// The bits of a fence, which a machine of one thread ignores, and those of an `ebreak` name no register and no number.
     Nothing,
 }
 

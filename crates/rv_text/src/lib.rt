@@ -12,7 +12,7 @@
 //! Read `specs/Lines.antt` first, from there `Rows`, `Operands`, `Fields`, `Numbers`, `Characters` and `Faults`, then `specs/Assembly.antt`;
 //! `specs/Spelling.antt` and `specs/Meaning.antt` say how an instruction is written, `specs/Listing.antt` how words are listed, and
 //! `specs/Labels.antt`, `Unknown`, `Later`, `Causes` and `LineFaults` belong to the laws. Of the code read `assembling` first.
-//! An `Err` that no comment names is out of memory.
+//! An `Err` of `Memory` or `AllocError` is out of memory.
 #![tactic(auto)]
 
 mod assembling;

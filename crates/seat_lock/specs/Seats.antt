@@ -22,7 +22,7 @@ pub record Known (H : Type 0) : Type 0 where
   -- the places in the log of the entries that it added, and then of those that seats joined into it added
   pub receipts : List ℕ
 
--- a lock, or a board over one, was made with its first seat, and this holds of the two
+-- if a lock, or a board over one, was made with its first seat, this holds of the two
 abbrev pub IfMade : {A B E : Type 0} → Result (A × B) E → (A → B → Type 0) → Type 0
 IfMade made fact = IfOk made (λ both. fact both.0 both.1)
 

@@ -32,11 +32,11 @@ const LOOKS: u32 = 64;
 /// A waiter with more turns than this ahead of its own sleeps.
 const MOST_AWAKE: u64 = 2;
 
-/// For how long a waiter sleeps for each turn ahead of its own, in microseconds: about as long as a turn takes.
+/// For how long a waiter sleeps for each turn ahead of its own, in microseconds.
 const SLEEP_FOR_EACH_TURN: u64 = 10;
 
 /// The longest that a waiter sleeps at a time, in microseconds, however many turns are ahead of its own. Turns go by ticket, so one that
-/// sleeps past its own turn holds up all behind it, for no longer than this.
+/// sleeps past its own turn holds up all behind it, for about this long at most.
 const LONGEST_SLEEP: u64 = 1_000;
 
 type LockTable<T> = Table<Option<T>, View<<T as Logged>::Head>, Snapshot<T>, LockRule, Global>;

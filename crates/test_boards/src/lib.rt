@@ -3,7 +3,7 @@
 //!
 //! No layer of the product depends on this crate. Read `disputes_test` and `books_test` first, then `boards_test` and `posters_test`, each
 //! for one layer; those of many tasks are in `task_boards_test` and `task_posters_test`, whose tasks are in `casts`. `seat_lock_test` and
-//! `round_robin_test` have the tests of the lock and of many items served by a few workers. `ledger_test` and `balances_test` are of
+//! `round_robin_test` have the tests of the lock and of many items served by a few servers. `ledger_test` and `balances_test` are of
 //! deposits: `telling` is how events are applied to a ledger, and `playing` how a match is played.
 #![tactic(auto)]
 

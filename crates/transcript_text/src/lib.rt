@@ -9,7 +9,7 @@
 //! of a run is `answer_line_text`, that of a large workload `summary_text`, that of a root `root_line`. The names of digests are a
 //! table (`DigestName::ALL`), the limits of a head's numbers are data (`limits`). Read `text`, `specs/Lines.antt`,
 //! `specs/Report.antt` and `specs/FullLines.antt` first, then `reporting` and `refereed`; for the reader
-//! `specs/reader/ReadText.antt`, then `reader/reading`. An `Err` that no comment names is out of memory.
+//! `specs/reader/ReadText.antt`, then `reader/reading`. An `Err` of `Memory` or `AllocError` is out of memory.
 #![tactic(auto)]
 
 mod answer;
