@@ -1,24 +1,27 @@
 -- Tasks: their gravest answer, their texts, and the states in which their runs start.
-use Rattle.std.proofs.Common.{◌≡◌, ℕ, zero, suc, ◌+◌, ◌-◌, ◌<◌, ◌≤◌, List, [], ◌∷◌, ◌++◌, map, length, slice_get, take, drop, Bool, Some, Result, Ok, Err, refl, sym, ap, ap₂, subst, ◌∙◌, arith, append_assoc}
+use Rattle.std.proofs.Common.{◌≡◌, ℕ, zero, suc, ◌+◌, ◌-◌, ◌<◌, ◌≤◌, List, [], ◌∷◌, ◌++◌, All, map, length, get_or, length-append, slice_get, take, drop, Bool, Option, Some, Result, Ok, Err, refl, sym, ap, ap₂, subst, ◌∙◌, arith, append_assoc}
 use Rattle.std.specs.Prelude.{slice_index_or}
 use Rattle.std.proofs.Math.Seq.{take-length}
 use Rattle.std.proofs.lemmas.List.{append-nil}
-use Rattle.std.proofs.lemmas.List.Elements.{All-nil, All-cons}
+use Rattle.std.proofs.lemmas.List.Elements.{All-nil, All-cons, All-weaker}
+use Rattle.std.specs.Option.{option_to_list}
 use Rattle.std.proofs.lemmas.Option.{same_Some, none-some}
 use Rattle.rd_base.specs.Results.{◌>>=◌}
 use Rattle.bisect_game.specs.Rules.{ArePlayable}
 use Rattle.rv_step.specs.declared.machine.Machine.{Machine}
 use Rattle.rv_step.specs.State.{State, state_of, IsChained}
+use Rattle.tournament.specs.Bracket.{Record}
+use Rattle.deposits.specs.Balances.{IsSettledUp}
 use Rattle.case_reader.specs.declared.case.Case.{Case as CaseOf}
 use Rattle.case_reader.specs.Case.{CaseData, data_of}
 use Rattle.case_match.specs.TruthfulInCase.{IsInRange}
 use Rattle.case_match.specs.declared.loaded.LoadedCase.{LoadedCase}
 use Rattle.case_match.specs.declared.referee.Ended.{Ended}
-use Rattle.case_match.specs.Match.{rules_of_case, says_of_case, RecordsOfCasesAreSettledUp}
+use Rattle.case_match.specs.Match.{rules_of_case, says_of_case, record_of_case, RecordsOfCasesAreSettledUp}
 use Rattle.case_match.specs.Openings.{ended_of}
 use Rattle.delegate.specs.Answered.{graver}
 use Rattle.delegate.specs.Decided.{digest_of, Deciding, decided, told, task_texts, gravest, together, each_told, each_decided, StandsUnder}
-use Rattle.delegate.specs.Standing.{responses, CanBePaid, AreAllInRange, AreAllPlayed, AreAllShown, EndsAreShown, IsPlayed, AreStarted, AddsStarts}
+use Rattle.delegate.specs.Standing.{IsFreshStart, responses, CanBePaid, AreAllInRange, AreAllPlayed, AreAllShown, EndsAreShown, IsPlayed, AreStarted, AddsStarts}
 use Rattle.delegate.specs.Loading.{start_in, starts_in}
 use Rattle.delegate.specs.declared.response.Subject.{Subject}
 use Rattle.delegate.specs.declared.response.Subject.TheVariants.{Task}
@@ -80,6 +83,30 @@ pub all-settled : RecordsOfCasesAreSettledUp → (digest : List ℕ → List ℕ
 all-settled law digest ls cs own_ends ends cases_are own_are ends_are =
     subst (λ (ds : List CaseData). CanBePaid ds ends) cases_are
     (subst (CanBePaid (map (λ (l : LoadedCase). data_of l.case.now) ls)) (sym (ends_are ∙ own_are)) (settled law digest ls))
+
+-- the list of one, and what comes of it
+
+pub one-loaded : {A : Type 0} (old now : List A) (x : A) → old ≡ [] → now ≡ old ++ x ∷ [] → now ≡ x ∷ []
+one-loaded old now x none pushed = pushed ∙ ap (λ l. l ++ x ∷ []) none
+
+pub only-last : {A : Type 0} (xs rest : List A) (o : Option A) (x y : A) → xs ≡ x ∷ [] → xs ≡ rest ++ option_to_list o → o ≡ Some y → y ≡ x
+only-last {A} xs rest o x y one parts is = by rest (sym one ∙ (parts ∙ ap (λ (p : Option A). rest ++ option_to_list p) is))
+  where
+    by : (zs : List A) → x ∷ [] ≡ zs ++ y ∷ [] → y ≡ x
+    by [] e = sym (ap (λ (l : List A). get_or l 0 x) e)
+    by (z ∷ zs) e = absurd (omega (arith, ap length e, length-append zs (y ∷ [])))
+
+pub record-settled : RecordsOfCasesAreSettledUp → (digest : List ℕ → List ℕ) (c : CaseOf) (start : State) (r : Record) → r ≡ record_of_case digest (data_of c) start → IsSettledUp (length c.provers) r
+record-settled law digest c start r is =
+    subst (IsSettledUp (length c.provers)) (sym is) (law (rules_of_case digest (data_of c) start) (says_of_case digest (data_of c) start) (playable digest c start))
+
+-- machines that are fresh
+
+pub all-silent : (ms : List Machine) → All IsFreshStart ms → All (λ (m : Machine). m.output.items ≡ []) ms
+all-silent ms fresh = All-weaker IsFreshStart (λ (m : Machine). m.output.items ≡ []) (λ m is. (is (λ bytes. bytes)).silent) ms fresh
+
+pub all-chained : (digest : List ℕ → List ℕ) (ms : List Machine) → All IsFreshStart ms → All (IsChained digest) ms
+all-chained digest ms fresh = All-weaker IsFreshStart (IsChained digest) (λ m is. (is digest).chained) ms fresh
 
 -- the text of a task stands under its line
 
@@ -185,19 +212,18 @@ decided-stands m cs starts t c start loads at from = record {
 pub none-started : (number : ℕ) (before : List Machine) → AreStarted number [] before before
 unfolding starts_in
 none-started number before =
-    record { added = []; are = sym (append-nil before); starts = refl; count = refl; chained = λ digest. All-nil (IsChained digest); silent = All-nil (λ (m : Machine). m.output.items ≡ []); in_range = tt }
+    record { added = []; are = sym (append-nil before); starts = refl; count = refl; fresh = All-nil IsFreshStart; in_range = tt }
 
 pub more-started : (number : ℕ) (c : CaseData) (cs : List CaseData) (start : Machine) (before middle now : List Machine) → start_in (Task number) c ≡ Ok (state_of start)
-    → ((digest : List ℕ → List ℕ) → IsChained digest start) → start.output.items ≡ [] → IsInRange c (state_of start) → middle ≡ before ++ start ∷ []
+    → IsFreshStart start → IsInRange c (state_of start) → middle ≡ before ++ start ∷ []
     → AreStarted (number + 1) cs middle now → AreStarted number (c ∷ cs) before now
 unfolding starts_in
-more-started number c cs start before middle now loads chained silent range pushed later = record {
+more-started number c cs start before middle now loads fresh range pushed later = record {
   added = start ∷ later.added;
   are = later.are ∙ (ap (λ (l : List Machine). l ++ later.added) pushed ∙ append_assoc before (start ∷ []) later.added);
   starts = goes_on _ _ _ loads ∙ goes_on _ _ _ later.starts;
   count = ap suc later.count;
-  chained = λ digest. All-cons (IsChained digest) start later.added (chained digest) (later.chained digest);
-  silent = All-cons (λ (m : Machine). m.output.items ≡ []) start later.added silent later.silent;
+  fresh = All-cons IsFreshStart start later.added fresh later.fresh;
   in_range = (range, later.in_range);
 }
 
@@ -229,11 +255,11 @@ pub adds-none : (number : ℕ) (cases : List CaseOf) (before : List Machine) →
 adds-none number cases before short = subst (λ (l : List CaseOf). AreStarted number (map data_of l) before before) (sym (short-none cases short)) (none-started number before)
 
 pub adds-more : (number : ℕ) (cs : List CaseData) (c : CaseData) (later : List CaseData) (start : Machine) (before middle now : List Machine) (r : Result (Unit {0}) Stop) → cs ≡ c ∷ later
-    → start_in (Task number) c ≡ Ok (state_of start) → ((digest : List ℕ → List ℕ) → IsChained digest start) → start.output.items ≡ [] → IsInRange c (state_of start) → middle ≡ before ++ start ∷ []
+    → start_in (Task number) c ≡ Ok (state_of start) → IsFreshStart start → IsInRange c (state_of start) → middle ≡ before ++ start ∷ []
     → AddsStarts (number + 1) later middle now r → AddsStarts number cs before now r
-adds-more number cs c later start before middle now (Ok done) are loads chained silent range pushed rest =
-    subst (λ (l : List CaseData). AreStarted number l before now) (sym are) (more-started number c later start before middle now loads chained silent range pushed rest)
-adds-more number cs c later start before middle now (Err stop) are loads chained silent range pushed rest = λ response is.
+adds-more number cs c later start before middle now (Ok done) are loads fresh range pushed rest =
+    subst (λ (l : List CaseData). AreStarted number l before now) (sym are) (more-started number c later start before middle now loads fresh range pushed rest)
+adds-more number cs c later start before middle now (Err stop) are loads fresh range pushed rest = λ response is.
     subst (λ (l : List CaseData). starts_in number l ≡ Err response) (sym are) (later-refused number c later (state_of start) response loads (rest response is))
 
 pub adds-first-refused : (number : ℕ) (cs : List CaseData) (c : CaseData) (later : List CaseData) (response : Response) → cs ≡ c ∷ later → start_in (Task number) c ≡ Err response

@@ -2,7 +2,7 @@
 use Rattle.std.specs.Prelude.{◌≡◌, ℕ, List, [], ◌∷◌, ◌++◌, map, length, Some, Result, Ok, Err}
 use Rattle.std.specs.List.{All}
 use Rattle.std.specs.Option.{option_and_then}
-use Rattle.rv_step.specs.State.{State, state_of, IsChained}
+use Rattle.rv_step.specs.State.{State, state_of}
 use Rattle.rv_step.specs.declared.machine.Machine.{Machine}
 use Rattle.case_reader.specs.Case.{CaseData}
 use Rattle.case_reader.specs.Tasks.{TasksData, One, Many}
@@ -11,6 +11,7 @@ use Rattle.command_line.specs.declared.request.Command.{Command}
 use Rattle.case_match.specs.TruthfulInCase.{IsInRange}
 use Rattle.delegate.specs.Loading.{start_in, starts_in}
 use Rattle.case_match.specs.Match.{record_of_case, verdict_of_record}
+use Rattle.case_match.specs.Openings.{IsFresh}
 use Rattle.transcript_text.specs.MoveLists.{moves_of}
 use Rattle.transcript_text.specs.FullLines.{AreWritten}
 use Rattle.delegate.specs.Decided.{digest_of, full, Deciding, tasks_for, response_of}
@@ -29,6 +30,10 @@ use Rattle.delegate.specs.Headline.{AreByteStrings}
 abbrev pub Stands : {X Y : Type 0} → (X → Y) → Result X Stop → Result Y Response → Type 0
 Stands view (Ok x) defined = defined ≡ Ok (view x)
 Stands view (Err stop) defined = (response : Response) → stop ≡ Refused response → defined ≡ Err response
+
+-- a machine without output, whose chain is that of no output by every digest function
+abbrev pub IsFreshStart : Machine → Type 0
+IsFreshStart start = (digest : List ℕ → List ℕ) → IsFresh digest start
 
 -- each of these cases, whose runs start in these states, is in range
 abbrev pub AreAllInRange : List CaseData → List State → Type 0
@@ -72,8 +77,7 @@ pub record AreStarted (number : ℕ) (cs : List CaseData) (before now : List Mac
   pub are : now ≡ before ++ added
   pub starts : starts_in number cs ≡ Ok (map state_of added)
   pub count : length added ≡ length cs
-  pub chained : (digest : List ℕ → List ℕ) → All (IsChained digest) added
-  pub silent : All (λ (start : Machine). start.output.items ≡ []) added
+  pub fresh : All IsFreshStart added
   pub in_range : AreAllInRange cs (map state_of added)
 
 -- they are added, or the refusal is that of the definition, unless memory ran out

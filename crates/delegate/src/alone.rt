@@ -32,7 +32,7 @@ fn outcomes_alone_are_of_the_command()
     plain_words();
 }
 
-/// The response of a command that needs no runtime to these bytes. An `Err` is out of memory.
+/// The response of a command that needs no runtime to these bytes.
 fn respond_alone(alloc: Global, command: Alone, bytes: &[u8]) -> Result<Response, Memory>
     ensures { IfOk result (IsOutcomeOf command bytes.now) }
 {

@@ -21,7 +21,7 @@ pub enum AsmImageFault {
     Memory,
 }
 
-/// The bytes of words, four each, the least first. An `Err` is out of memory.
+/// The bytes of words, four each, the least first.
 fn bytes_of(alloc: Global, words: &[u32]) -> Result<Vec<u8>, Memory>
     ensures { IfOk result (λ bytes. bytes.items ≡ bytes_of_words words.now) }
 {

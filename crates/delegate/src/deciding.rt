@@ -1,7 +1,8 @@
 //! A match that is decided, and its text.
-ghost use Rattle.std.specs.Prelude.{◌≡◌, ◌+◌, ◌<◌, ◌≤◌, ◌++◌, [], map, length, IfOk, OnOk};
+ghost use Rattle.std.specs.Prelude.{◌≡◌, ◌+◌, ◌<◌, ◌≤◌, ◌++◌, map, length, IfOk, OnOk};
 ghost use Rattle.std.specs.List.{All};
-ghost use Rattle.rv_step.specs.State.{state_of, IsChained};
+ghost use Rattle.sha2.specs.Sha256.{sha256};
+ghost use Rattle.rv_step.specs.State.{state_of};
 ghost use Rattle.case_reader.specs.Case.{data_of};
 ghost use Rattle.command_line.specs.Words.{AreAtLeastOne};
 ghost use Rattle.deposits.specs.Balances.{IsSettledUp};
@@ -9,22 +10,22 @@ ghost use Rattle.transcript_text.specs.Report.{report_text};
 ghost use Rattle.transcript_text.specs.MoveLists.{moves_of};
 ghost use Rattle.transcript_text.specs.FullLines.{AreWritten};
 ghost use Rattle.case_match.specs.Match.{record_of_case, verdict_of_record};
-ghost use Rattle.delegate.specs.Decided.{written_as, summary, balances_in, match_text, response_of, told, head_of, answered_by, task_line, task_texts, gravest, together, each_told};
+ghost use Rattle.case_match.specs.Openings.{IsFresh, ended_of};
+ghost use Rattle.delegate.specs.Decided.{digest_of, written_as, balances_in, match_text, response_of, decided, head_of, answered_by, task_line, task_texts, gravest, together, each_decided};
 ghost use Rattle.delegate.specs.InShort.{AreBytes};
 ghost use Rattle.delegate.specs.Headline.{AreByteStrings};
-ghost use Rattle.delegate.specs.Standing.{IsShown, EndsAreShown, AreAllShown, CanBePaid, responses};
+ghost use Rattle.delegate.specs.Standing.{IsFreshStart, IsShown, EndsAreShown, AreAllShown, CanBePaid, responses};
 ghost use Rattle.delegate.specs.commands.Judge.{judging};
+ghost use Rattle.delegate.specs.commands.Big.{summing_up};
 
 use crate::response::{Answered, Response};
-use case_match::{
-    Ended, LoadedCase, ended_one, ended_tasks, loaded_cases, records_of_cases_are_settled_up,
-};
+use case_match::{Ended, LoadedCase, ended_tasks, loaded_cases, records_of_cases_are_settled_up};
 use case_reader::Case;
 use command_line::{MatchText, Options};
 use deposits::balances;
+use digest_core::{Sha256, Weak8};
 use rd_base::{Bytes, Digest32, Memory};
 use rv_step::Machine;
-use segment_replay::Replays;
 use std::alloc::Global;
 use std::sync::Wait;
 use std::thread::Threads;
@@ -138,7 +139,7 @@ fn text_in(alloc: Global, asked: Asked, case: &Case, end: &Ended) -> Result<Vec<
     )
 }
 
-/// The response to a case whose match has ended so. An `Err` is out of memory.
+/// The response to a case whose match has ended so.
 #[tactic(auto, using(crate::proofs::HeadlineLemmas::answered_as))]
 fn response_of(alloc: Global, asked: Asked, case: &Case, end: &Ended) -> Result<Response, Memory>
     requires { IsSettledUp (length case.now.provers) end.now.match_record }
@@ -152,27 +153,64 @@ fn response_of(alloc: Global, asked: Asked, case: &Case, end: &Ended) -> Result<
     })
 }
 
-/// Plays the match of a case by the digester `d`, which has the name that is asked for, and writes its text. The machine and the options are
-/// as for `ended_one`. An `Err` is out of memory.
-pub fn judge<R: Threads + Wait + Sync, D: Replays>(
+/// The results of the matches of 1 to 8 loaded cases, in their order, played by the digester of a name. Each machine has no output, and its
+/// chain is that of no output by this digester; each option is at least 1, and none changes the answer.
+fn ended_by<R: Threads + Wait + Sync>(
     rt: &R,
     alloc: Global,
-    d: D,
+    name: DigestName,
+    loads: Vec<LoadedCase>,
+    options: Options,
+) -> Result<Vec<Ended>, Memory>
+    requires some { 0 < length loads.items }
+    requires few { length loads.items ≤ 8 }
+    requires fresh { All (λ l. IsFresh (digest_of name) l.start) loads.items }
+    requires options { AreAtLeastOne options }
+    ensures { IfOk result (λ ends. ends.items ≡ map (ended_of (digest_of name)) loads.entry.items) }
+{
+    match name {
+        DigestName::Sha256 => ended_tasks(rt, alloc, Sha256, loads, options),
+        DigestName::Weak8 => ended_tasks(rt, alloc, Weak8, loads, options),
+    }
+}
+
+/// The result of the match of one loaded case, as of one task, played by the digester of a name. The record may be paid. The machine and
+/// the options are as for `ended_by`.
+fn ended_one_by<R: Threads + Wait + Sync>(
+    rt: &R,
+    alloc: Global,
+    name: DigestName,
+    loaded: LoadedCase,
+    options: Options,
+) -> Result<Ended, Memory>
+    requires fresh { IsFresh (digest_of name) loaded.start }
+    requires options { AreAtLeastOne options }
+    ensures ended { IfOk result (λ end. end ≡ ended_of (digest_of name) loaded.entry) }
+    ensures settled_up { IfOk result (λ end. IsSettledUp (length loaded.entry.case.now.provers) end.match_record) }
+{
+    records_of_cases_are_settled_up();
+    let mut loads = Vec::with_capacity(alloc, 1)?;
+    loads.push(loaded)?;
+    let mut ends = ended_by(rt, alloc, name, loads, options)?;
+    Ok(ends.pop().unwrap())
+}
+
+/// Plays the match of a case by the digester that is asked for, and writes its text. The machine is fresh, and each option is at least 1.
+pub fn judge<R: Threads + Wait + Sync>(
+    rt: &R,
+    alloc: Global,
     asked: Asked,
     options: Options,
     case: &Case,
     start: Machine,
 ) -> Result<Response, Memory>
-where
-    D: Send + Sync,
-    requires chained { IsChained D.digest_of start }
-    requires silent { start.output.items ≡ [] }
+    requires fresh { IsFreshStart start }
     requires options { AreAtLeastOne options }
-    ensures told { IfOk result (λ response. response ≡ told D.digest_of (judging asked.text asked.name) (data_of case.now) (state_of start)) }
-    ensures strings { IfOk result (λ response. AreByteStrings (verdict_of_record D.digest_of (data_of case.now) (state_of start) (record_of_case D.digest_of (data_of case.now) (state_of start)))) }
-    ensures written { IfOk result (λ response. asked.text ≡ MatchText.Full → AreWritten (moves_of (record_of_case D.digest_of (data_of case.now) (state_of start)))) }
+    ensures decided { IfOk result (λ response. response ≡ decided (judging asked.text asked.name) (data_of case.now) (state_of start)) }
+    ensures strings { IfOk result (λ response. AreByteStrings (verdict_of_record (digest_of asked.name) (data_of case.now) (state_of start) (record_of_case (digest_of asked.name) (data_of case.now) (state_of start)))) }
+    ensures written { IfOk result (λ response. asked.text ≡ MatchText.Full → AreWritten (moves_of (record_of_case (digest_of asked.name) (data_of case.now) (state_of start)))) }
 {
-    let end = ended_one(rt, alloc, d, LoadedCase { case, start }, options)?;
+    let end = ended_one_by(rt, alloc, asked.name, LoadedCase { case, start }, options)?;
     strings_are_bytes(&end.verdict);
     response_of(alloc, asked, case, &end)
 }
@@ -226,31 +264,27 @@ fn add_text(
     Ok(())
 }
 
-/// Plays the matches of the cases of tasks by the digester `d`, which has the name that is asked for, and writes the text of each under
-/// its line. The machines and the options are as for `verdict_of_tasks`. An `Err` is out of memory.
-pub fn judge_tasks<R: Threads + Wait + Sync, D: Replays>(
+/// Plays the matches of the cases of tasks by the digester that is asked for, and writes the text of each under its line. There is a machine
+/// for each case, and each is fresh; each option is at least 1.
+pub fn judge_tasks<R: Threads + Wait + Sync>(
     rt: &R,
     alloc: Global,
-    d: D,
     asked: Asked,
     options: Options,
     cases: &[Case],
     starts: Vec<Machine>,
 ) -> Result<Response, Memory>
-where
-    D: Send + Sync,
     requires some { 0 < length cases.now }
     requires few { length cases.now ≤ 8 }
     requires count { length starts.items ≡ length cases.now }
-    requires chained { All (IsChained D.digest_of) starts.items }
-    requires silent { All (λ start. start.output.items ≡ []) starts.items }
+    requires fresh { All IsFreshStart starts.items }
     requires options { AreAtLeastOne options }
-    ensures told { IfOk result (λ response. response ≡ together (each_told D.digest_of (judging asked.text asked.name) (map data_of cases.now) (map state_of starts.items))) }
-    ensures shown { IfOk result (λ response. AreAllShown D.digest_of (judging asked.text asked.name) (map data_of cases.now) (map state_of starts.items)) }
+    ensures decided { IfOk result (λ response. response ≡ together (each_decided (judging asked.text asked.name) (map data_of cases.now) (map state_of starts.items))) }
+    ensures shown { IfOk result (λ response. AreAllShown (digest_of asked.name) (judging asked.text asked.name) (map data_of cases.now) (map state_of starts.items)) }
 {
     records_of_cases_are_settled_up();
     let loads = loaded_cases(alloc, cases, starts)?;
-    let ends = ended_tasks(rt, alloc, d, loads, options)?;
+    let ends = ended_by(rt, alloc, asked.name, loads, options)?;
     let mut bytes = Vec::new(alloc);
     let answered = add_texts(&mut bytes, alloc, asked, 1, cases, ends.as_slice())?;
     Ok(Response {
@@ -259,26 +293,22 @@ where
     })
 }
 
-/// Plays the match of the large workload of a seed by the digester `d`, which has this name, and sums it up. The machine and the
-/// options are as for `ended_one`. An `Err` is out of memory.
-pub fn summary<R: Threads + Wait + Sync, D: Replays>(
+/// Plays the match of the large workload of a seed, and sums it up. The machine is fresh, and each option is at least 1.
+pub fn summary<R: Threads + Wait + Sync>(
     rt: &R,
     alloc: Global,
-    d: D,
     seed: u32,
     options: Options,
     case: &Case,
     start: Machine,
 ) -> Result<Response, Memory>
-where
-    D: Send + Sync,
-    requires chained { IsChained D.digest_of start }
-    requires silent { start.output.items ≡ [] }
+    requires fresh { IsFreshStart start }
     requires options { AreAtLeastOne options }
-    ensures strings { IfOk result (λ response. AreByteStrings (verdict_of_record D.digest_of (data_of case.now) (state_of start) (record_of_case D.digest_of (data_of case.now) (state_of start)))) }
-    ensures told { IfOk result (λ response. (name : DigestName) → response ≡ told D.digest_of (record { digest = name; written = summary seed }) (data_of case.now) (state_of start)) }
+    ensures decided { IfOk result (λ response. response ≡ decided (summing_up seed) (data_of case.now) (state_of start)) }
+    ensures strings { IfOk result (λ response. AreByteStrings (verdict_of_record sha256 (data_of case.now) (state_of start) (record_of_case sha256 (data_of case.now) (state_of start)))) }
 {
-    let end = ended_one(rt, alloc, d, LoadedCase { case, start }, options)?;
+    let loaded = LoadedCase { case, start };
+    let end = ended_one_by(rt, alloc, DigestName::Sha256, loaded, options)?;
     strings_are_bytes(&end.verdict);
     let text = transcript_text::summary(alloc, seed, &end.match_record, &end.verdict)?;
     Ok(Response {

@@ -9,7 +9,7 @@ use case_reader::{CaseFault, TaskFault};
 use image_reader::ImageFault;
 use std::alloc::{AllocError, Global};
 
-/// The response to arguments that name no command. An `Err` is out of memory.
+/// The response to arguments that name no command.
 pub fn usage(alloc: Global) -> Result<Response, AllocError>
     ensures { IfOk result (λ response. response ≡ usage) }
 {
@@ -17,7 +17,7 @@ pub fn usage(alloc: Global) -> Result<Response, AllocError>
     Ok(text_response(Answered::Usage, text))
 }
 
-/// The response to more bytes than are read. An `Err` is out of memory.
+/// The response to more bytes than are read.
 pub fn too_long(alloc: Global) -> Result<Response, AllocError>
     ensures { IfOk result (λ response. response ≡ too_long) }
 {
@@ -25,7 +25,7 @@ pub fn too_long(alloc: Global) -> Result<Response, AllocError>
     Ok(text_response(Answered::TooLong, text))
 }
 
-/// The response to a fault of a case, of this subject. Its text is empty if the fault is `Memory`. An `Err` is out of memory.
+/// The response to a fault of a case, of this subject. Its text is empty if the fault is `Memory`.
 pub fn case_refusal(
     alloc: Global,
     subject: Subject,
@@ -37,7 +37,7 @@ pub fn case_refusal(
     Ok(text_response(Answered::Case, text))
 }
 
-/// The text about a rule of a case that is broken; it is empty if the fault is `Memory`. An `Err` is out of memory.
+/// The text about a rule of a case that is broken; it is empty if the fault is `Memory`.
 fn case_fault_text(alloc: Global, subject: Subject, fault: CaseFault) -> Result<String, AllocError>
     ensures { IfOk result (λ text. string_bytes text ≡ case_fault_text subject fault) }
 {
@@ -53,7 +53,7 @@ fn case_fault_text(alloc: Global, subject: Subject, fault: CaseFault) -> Result<
     }
 }
 
-/// The response to a fault of one case or of tasks. Its text is empty if the fault is `Memory`. An `Err` is out of memory.
+/// The response to a fault of one case or of tasks. Its text is empty if the fault is `Memory`.
 pub fn task_refusal(alloc: Global, fault: TaskFault) -> Result<Response, AllocError>
     ensures { IfOk result (λ response. response ≡ task_refusal fault) }
 {
@@ -64,7 +64,7 @@ pub fn task_refusal(alloc: Global, fault: TaskFault) -> Result<Response, AllocEr
     }
 }
 
-/// The response to a fault of an image, of this subject. Its text is empty if the fault is `Memory`. An `Err` is out of memory.
+/// The response to a fault of an image, of this subject. Its text is empty if the fault is `Memory`.
 pub fn image_refusal(
     alloc: Global,
     subject: Subject,
@@ -76,7 +76,7 @@ pub fn image_refusal(
     Ok(text_response(Answered::Image, text))
 }
 
-/// The text about a rule of images that is broken; it is empty if the fault is `Memory`. An `Err` is out of memory.
+/// The text about a rule of images that is broken; it is empty if the fault is `Memory`.
 fn rule_text(alloc: Global, subject: Subject, fault: ImageFault) -> Result<String, AllocError>
     ensures { IfOk result (λ text. string_bytes text ≡ rule_text subject (rule_of fault)) }
 {
@@ -86,8 +86,7 @@ fn rule_text(alloc: Global, subject: Subject, fault: ImageFault) -> Result<Strin
     }
 }
 
-/// The response to what is wrong with an assembly text, of this subject. Its text is empty if the fault is `Memory`. An `Err` is out of
-/// memory.
+/// The response to what is wrong with an assembly text, of this subject. Its text is empty if the fault is `Memory`.
 pub fn asm_refusal(
     alloc: Global,
     subject: Subject,

@@ -1,14 +1,14 @@
 //! How every command on a case reads it and loads its image, and how tasks are read and loaded. An `Err` is a refusal, with the response to
 //! it, or out of memory.
-ghost use Rattle.std.specs.Prelude.{◌≡◌, ◌+◌, ◌≤◌, ℕ, List, [], map, length, IfOk};
+ghost use Rattle.std.specs.Prelude.{◌≡◌, ◌+◌, ◌≤◌, map, length, IfOk};
 ghost use Rattle.std.specs.List.{All};
-ghost use Rattle.rv_step.specs.State.{state_of, IsChained};
+ghost use Rattle.rv_step.specs.State.{state_of};
 ghost use Rattle.case_reader.specs.Case.{data_of};
 ghost use Rattle.case_reader.specs.Tasks.{tasks_data, AreFew};
 ghost use Rattle.image_reader.specs.Image.{loaded_of};
 ghost use Rattle.case_match.specs.TruthfulInCase.{IsInRange};
 ghost use Rattle.delegate.specs.Loading.{case_in, tasks_in, image_by, image_in, start_in, starts_in};
-ghost use Rattle.delegate.specs.Standing.{Stands, AreAllInRange, AddsStarts};
+ghost use Rattle.delegate.specs.Standing.{Stands, IsFreshStart, AreAllInRange, AddsStarts};
 
 use crate::asm_image::{AsmImageFault, load_asm};
 use crate::faults;
@@ -86,13 +86,12 @@ fn image_in(alloc: Global, subject: Subject, case: &Case) -> Result<Loaded, Stop
     }
 }
 
-/// The machine in which the run of the case starts, of the case's version. It has no output, and its chain is that of no output by every
-/// digester. A refusal names this subject.
+/// The machine in which the run of the case starts, of the case's version. It is fresh: it has no output, and its chain is that of no output
+/// by every digester. A refusal names this subject.
 #[tactic(auto, unfolding(crate::specs::Loading::start_in))]
 pub fn start_in(alloc: Global, subject: Subject, case: &Case) -> Result<Machine, Stop>
     ensures stands { Stands state_of result (start_in subject (data_of case.now)) }
-    ensures chained { IfOk result (λ start. (digest : List ℕ → List ℕ) → IsChained digest start) }
-    ensures silent { IfOk result (λ start. start.output.items ≡ []) }
+    ensures fresh { IfOk result IsFreshStart }
     ensures in_range { IfOk result (λ start. IsInRange (data_of case.now) (state_of start)) }
 {
     let loaded = image_in(alloc, subject, case)?;
@@ -108,8 +107,7 @@ pub fn starts_in(alloc: Global, cases: &[Case]) -> Result<Vec<Machine>, Stop>
     requires { length cases.now ≤ 8 }
     ensures stands { Stands (λ starts. map state_of starts.items) result (starts_in 1 (map data_of cases.now)) }
     ensures count { IfOk result (λ starts. length starts.items ≡ length cases.now) }
-    ensures chained { IfOk result (λ starts. (digest : List ℕ → List ℕ) → All (IsChained digest) starts.items) }
-    ensures silent { IfOk result (λ starts. All (λ start. start.output.items ≡ []) starts.items) }
+    ensures fresh { IfOk result (λ starts. All IsFreshStart starts.items) }
     ensures in_range { IfOk result (λ starts. AreAllInRange (map data_of cases.now) (map state_of starts.items)) }
 {
     let mut starts = Vec::with_capacity(alloc, cases.len())?;

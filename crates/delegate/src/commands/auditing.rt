@@ -16,7 +16,7 @@ use std::fmt::Write;
 use step_referee::MachineJudge;
 use transcript_text::{DigestName, FullText, Stated, TextFault, read_full};
 
-/// The response to a fault of a text. Its text is empty if the fault is `Memory`. An `Err` is out of memory.
+/// The response to a fault of a text. Its text is empty if the fault is `Memory`.
 fn text_refusal(alloc: Global, fault: TextFault) -> Result<Response, AllocError>
     ensures { IfOk result (λ response. response ≡ text_refusal fault) }
 {

@@ -38,7 +38,7 @@ fn word_at(bytes: &[u8], place: usize) -> u32
     ])
 }
 
-/// The words of bytes, four bytes each; the last one is filled with zeros. An `Err` is out of memory.
+/// The words of bytes, four bytes each; the last one is filled with zeros.
 fn words_of(alloc: Global, bytes: &[u8]) -> Result<Vec<u32>, Memory>
     ensures { IfOk result (λ words. words.items ≡ words_of bytes.now) }
 {

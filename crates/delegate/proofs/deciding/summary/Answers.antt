@@ -1,4 +1,5 @@
+use Rattle.sha2.specs.Sha256.{sha256}
 use Rattle.delegate.proofs.deciding.summary.Goals as goal
 
-pub ended_one-requires-clause-fresh : goal.ended_one-requires-clause-fresh
-ended_one-requires-clause-fresh g c κs within = record { chained = c.requires.chained; silent = c.requires.silent }
+pub ended_one_by-requires-clause-fresh : goal.ended_one_by-requires-clause-fresh
+ended_one_by-requires-clause-fresh g c κs within = c.requires.fresh sha256

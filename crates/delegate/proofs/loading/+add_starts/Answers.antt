@@ -10,7 +10,7 @@ pub returns-in_ok-push-in-Ok : goal.returns-in_ok-push-in-Ok
 returns-in_ok-push-in-Ok t c =
     let cases = first-rest c.args.cases.now c.case-item.result c.in-len1-up.len_at_least c.case-item.is in
     adds-more c.args.number _ (data_of c.case-item.result) _ c.in-Ok.start c.args.starts.now.items c.push.new.self.items c.add_starts.new.starts.items c.add_starts.result (ap (map data_of) cases)
-    c.in-Ok.ensures.stands c.in-Ok.ensures.chained c.in-Ok.ensures.silent c.in-Ok.ensures.in_range c.in_ok-push-in-Ok.ensures.items c.add_starts.ensures
+    c.in-Ok.ensures.stands c.in-Ok.ensures.fresh c.in-Ok.ensures.in_range c.in_ok-push-in-Ok.ensures.items c.add_starts.ensures
 
 pub returns-in-Err : goal.returns-in-Err
 returns-in-Err t c = λ response is.
