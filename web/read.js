@@ -1,6 +1,6 @@
 // Reads a full text as a match: its claims, disputes, rounds and proofs, and the lines of its report.
 //
-// Only a text that the audit has confirmed is read (docs/TEXTS.md, docs/GAME.md), so that no form is tested here. Whether a proof of a step is proved
+// Only a text that the audit has confirmed is read (docs/PROGRAM.md, docs/GAME.md), so that no form is tested here. Whether a proof of a step is proved
 // isn't decided here either: `textOfOneProof` makes the full text of a small match that comes to an accepted claim if and only if it is, and the caller
 // has that audited. Numbers are below 2^53, and bytes are kept as the hexadecimal digits of the text.
 "use strict";
