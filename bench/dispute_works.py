@@ -11,6 +11,7 @@ PROVERS = 16
 LATE_BOUND, PASSES = 2**10, 100
 POSTERS, WORKERS = [1, 2, 4, 16], [1, 4]
 TASKS, TASKS_BOUND = 8, 2**20
+LONG_TASKS, LONG_BOUND = 2, 2**24
 TASKS_POSTERS = [1, 4, 16]
 BIG_POSTERS = [1, 2, 4, 8]
 BIG_LINE = b"big 0 provers 8 disputes 7 rounds 112 accept exited 0 output f504\n"
@@ -115,15 +116,26 @@ def late_provers(program, folder):
     return shared(f"16 provers, late {PASSES}", [program, "judge"], source, folder, (lines, RUNNING), POSTERS, WORKERS[:1])
 
 
+def tasks_of(count, bound):
+    """So many cases of two provers each, and how many lines the report of each has."""
+    return [case(bound, [{}, liar(bound // count * number + 9, number)]) for number in range(count)], 1 + 2 + 1 + rounds(bound) + 2 + 1
+
+
 def many_tasks(program, folder):
     """Tasks of two provers each on one board, beside one of them alone."""
-    bound = TASKS_BOUND
-    tasks = [case(bound, [{}, liar(bound // TASKS * number + 9, number)]) for number in range(TASKS)]
-    lines = 1 + 2 + 1 + rounds(bound) + 2 + 1
+    tasks, lines = tasks_of(TASKS, TASKS_BOUND)
     alone = written(folder, "task.json", tasks[0])
     yield from shared("one task alone", [program, "judge"], alone, folder, (lines, RUNNING), TASKS_POSTERS[:1], WORKERS[:1])
     source = written(folder, "tasks.json", {"tasks": tasks})
     yield from shared(f"{TASKS} tasks", [program, "judge"], source, folder, (TASKS * (1 + lines), RUNNING), TASKS_POSTERS, WORKERS[:1])
+
+
+def long_tasks(program, folder):
+    """Two tasks so long that posters without a prover wait, while others record a run, for many times what a sleep takes."""
+    tasks, lines = tasks_of(LONG_TASKS, LONG_BOUND)
+    source = written(folder, "long_tasks.json", {"tasks": tasks})
+    name = f"{LONG_TASKS} tasks, 2^{rounds(LONG_BOUND)}"
+    return shared(name, [program, "judge"], source, folder, (LONG_TASKS * (1 + lines), RUNNING), TASKS_POSTERS, WORKERS[:1])
 
 
 def large_workload(program, folder):
@@ -134,5 +146,5 @@ def large_workload(program, folder):
 
 def dispute_lines(program, folder):
     """The lines about matches."""
-    for lines in two_provers, many_provers, late_provers, many_tasks, large_workload:
+    for lines in two_provers, many_provers, late_provers, many_tasks, long_tasks, large_workload:
         yield from lines(program, folder)
