@@ -2,6 +2,7 @@
 ghost use Rattle.std.specs.Prelude.{◌<◌, ◌^◌};
 
 use crate::dispute_play::{Ended, how, played};
+use crate::players::{FALLS_SILENT, FORGER, LIAR_FALLS_SILENT};
 use bisect_game::{Dispute, Settled};
 use rd_base::{Answer, Memory};
 use std::alloc::Global;
@@ -26,71 +27,70 @@ fn asked(alloc: Global, dispute: &Dispute) -> Result<Vec<(u64, bool)>, Memory> {
     Ok(asked)
 }
 
-/// How a dispute ends, the number that it has then, and what was asked in it.
-fn end_of(
-    alloc: Global,
+/// A dispute: at which steps roots are asked and whether they are the same, and how it ends.
+#[derive(Clone, Copy)]
+struct Row {
     bound: u64,
     sides: (Player, Player),
-    order: u64,
-) -> Result<(Ended, u32, Vec<(u64, bool)>), Memory>
-    requires some { 0 < bound }
-    requires short { bound < 2 ^ 32 }
-{
-    let dispute = played(alloc, bound, 2, sides, order)?;
-    let asked = asked(alloc, &dispute)?;
-    Ok((how(&dispute), dispute.number(), asked))
+    asked: &'static [(u64, bool)],
+    ends: Ended,
 }
+
+/// Whether a dispute is played so in this order.
+fn is_played_so(alloc: Global, row: Row, order: u64) -> Result<bool, Memory>
+    requires some { 0 < row.bound }
+    requires short { row.bound < 2 ^ 32 }
+{
+    let dispute = played(alloc, row.bound, 2, row.sides, order)?;
+    let asked = asked(alloc, &dispute)?;
+    Ok(asked.as_slice() == row.asked && how(&dispute) == row.ends && dispute.number() == 7)
+}
+
+const EARLY_LIAR: Player = Player { from: 1, ..LIAR };
+
+const LATE_LIAR: Player = Player { from: 7, ..LIAR };
+
+const DISPUTES: [Row; 5] = [
+    Row {
+        bound: 8,
+        sides: (HONEST, LIAR),
+        asked: &[(4, false), (2, false), (1, true)],
+        ends: Ended::Out(false, true),
+    },
+    Row {
+        bound: 1,
+        sides: (HONEST, EARLY_LIAR),
+        asked: &[],
+        ends: Ended::Out(false, true),
+    },
+    Row {
+        bound: 7,
+        sides: (HONEST, LATE_LIAR),
+        asked: &[(3, true), (5, true), (6, true)],
+        ends: Ended::Out(false, true),
+    },
+    Row {
+        bound: 8,
+        sides: (FALLS_SILENT, LIAR_FALLS_SILENT),
+        asked: &[(4, false)],
+        ends: Ended::Out(true, true),
+    },
+    Row {
+        bound: 1,
+        sides: (HONEST, FORGER),
+        asked: &[],
+        ends: Ended::Collided,
+    },
+];
 
 /// The steps at which roots were asked and whether they were the same, by hand: `mid = lo + (hi - lo) / 2`; equal roots move
 /// `lo`, different ones move `hi`.
 #[test]
 fn disputes_are_played_round_by_round_in_either_order(rt: HostRuntime) -> Result<(), Fail> {
-    let late_liar = Player { from: 7, ..LIAR };
-    let early_liar = Player { from: 1, ..LIAR };
-    let silent = Player {
-        silent_from: 2,
-        ..HONEST
-    };
-    let silent_liar = Player {
-        silent_from: 2,
-        ..LIAR
-    };
-    let forger = Player {
-        from: 1,
-        shift: 20,
-        proof_mark: 21,
-        ..HONEST
-    };
-    let liar_is_bisected: [(u64, bool); 3] = [(4, false), (2, false), (1, true)];
-    let stopped_state: [(u64, bool); 3] = [(3, true), (5, true), (6, true)];
-    let silent_in_a_dispute: [(u64, bool); 1] = [(4, false)];
-    let rows: [(u64, (Player, Player), &[(u64, bool)], Ended); 5] = [
-        (
-            8,
-            (HONEST, LIAR),
-            &liar_is_bisected,
-            Ended::Out(false, true),
-        ),
-        (1, (HONEST, early_liar), &[], Ended::Out(false, true)),
-        (
-            7,
-            (HONEST, late_liar),
-            &stopped_state,
-            Ended::Out(false, true),
-        ),
-        (
-            8,
-            (silent, silent_liar),
-            &silent_in_a_dispute,
-            Ended::Out(true, true),
-        ),
-        (1, (HONEST, forger), &[], Ended::Collided),
-    ];
-    for (bound, sides, rounds, wanted) in rows {
-        assert!(rt; bound == 8 || bound == 7 || bound == 1);
+    for (place, row) in DISPUTES.iter().enumerate() {
+        assert!(rt; row.bound >= 1 && row.bound <= 8);
         for order in [0, u64::MAX] {
-            let (end, number, asked) = end_of(rt.alloc(), bound, sides, order)?;
-            assert_eq!(rt; (end, number, asked.as_slice()), (wanted, 7, rounds));
+            assert!(rt; is_played_so(rt.alloc(), *row, order)?, "row {place}");
         }
     }
     Ok(())

@@ -4,7 +4,7 @@
 //! No layer of the product depends on this crate. Read `disputes_test` and `books_test` first, then `boards_test` and `posters_test`, each
 //! for one layer; those of many tasks are in `task_boards_test` and `task_posters_test`, whose tasks are in `casts`. `seat_lock_test` and
 //! `round_robin_test` have the tests of the lock and of many items served by a few servers. `ledger_test` and `balances_test` are of
-//! deposits: `telling` is how events are applied to a ledger, and `playing` how a match is played.
+//! deposits: `telling` is how events are applied to a ledger, and `playing` how a match is played. `players` has what two of them share.
 #![tactic(auto)]
 
 #[cfg(test)]
@@ -25,6 +25,8 @@ mod in_short;
 mod ledger_test;
 #[cfg(test)]
 mod parts_test;
+#[cfg(test)]
+mod players;
 #[cfg(test)]
 mod playing;
 #[cfg(test)]

@@ -13,6 +13,7 @@ use toy_game::{HONEST, LIAR, Player, ToyJudge, given, number_at, root};
 /// Cuts by hand: `lo + floor(j * (hi - lo) / parts)`.
 #[test]
 fn cuts_by_hand(rt: HostRuntime) -> Result<(), Fail> {
+    // the ends of the interval, its parts, the number of the cut, and the step
     for (lo, hi, parts, j, wanted) in [
         (0, 8, 2, 0, 0),
         (0, 7, 2, 1, 3),
@@ -34,55 +35,114 @@ fn cuts_by_hand(rt: HostRuntime) -> Result<(), Fail> {
     Ok(())
 }
 
-/// The intervals of the past rounds, if the second side lies from a step on, and the step of the proof round.
-fn intervals(
-    alloc: Global,
+/// A dispute between a truthful player and one that lies from a step on: the intervals of its past rounds, and the step of its proof
+/// round.
+#[derive(Clone, Copy)]
+struct Row {
     bound: u64,
     fan: u32,
-    from: u64,
-) -> Result<(Vec<(u64, u64)>, u64, Ended), Memory>
-    requires some { 0 < bound }
-    requires short { bound < 2 ^ 32 }
-    requires parted { 1 < fan }
-    requires few_parts { fan ≤ 16 }
-{
-    let dispute = played(alloc, bound, fan, (HONEST, Player { from, ..LIAR }), 0)?;
+    lies_from: u64,
+    intervals: &'static [(u64, u64)],
+    step: u64,
+}
+
+const ROWS: [Row; 7] = [
+    Row {
+        bound: 8,
+        fan: 4,
+        lies_from: 2,
+        intervals: &[(0, 8), (0, 2)],
+        step: 1,
+    },
+    Row {
+        bound: 7,
+        fan: 3,
+        lies_from: 7,
+        intervals: &[(0, 7), (4, 7)],
+        step: 6,
+    },
+    Row {
+        bound: 8,
+        fan: 4,
+        lies_from: 1,
+        intervals: &[(0, 8), (0, 2)],
+        step: 0,
+    },
+    Row {
+        bound: 17,
+        fan: 16,
+        lies_from: 9,
+        intervals: &[(0, 17)],
+        step: 8,
+    },
+    Row {
+        bound: 16,
+        fan: 3,
+        lies_from: 16,
+        intervals: &[(0, 16), (10, 16), (14, 16)],
+        step: 15,
+    },
+    Row {
+        bound: 1,
+        fan: 16,
+        lies_from: 1,
+        intervals: &[],
+        step: 0,
+    },
+    Row {
+        bound: 4_294_967_295,
+        fan: 16,
+        lies_from: 2,
+        intervals: &[
+            (0, 4_294_967_295),
+            (0, 268_435_455),
+            (0, 16_777_215),
+            (0, 1_048_575),
+            (0, 65_535),
+            (0, 4_095),
+            (0, 255),
+            (0, 15),
+        ],
+        step: 1,
+    },
+];
+
+/// The intervals of the past rounds of a dispute.
+fn intervals_of(alloc: Global, dispute: &Dispute) -> Result<Vec<(u64, u64)>, Memory> {
     let mut intervals = Vec::new(alloc);
     for round in dispute.rounds() {
         intervals.push((round.lo, round.hi))?;
     }
-    Ok((intervals, dispute.interval().lo, how(&dispute)))
+    Ok(intervals)
+}
+
+/// Whether the dispute of a row, whose numbers are in range, is played so, with the liar out.
+fn is_played_so(alloc: Global, row: Row) -> Result<bool, Memory>
+    requires some { 0 < row.bound }
+    requires short { row.bound < 2 ^ 32 }
+    requires parted { 1 < row.fan }
+    requires few_parts { row.fan ≤ 16 }
+{
+    let liar = Player {
+        from: row.lies_from,
+        ..LIAR
+    };
+    let dispute = played(alloc, row.bound, row.fan, (HONEST, liar), 0)?;
+    let intervals = intervals_of(alloc, &dispute)?;
+    Ok(
+        intervals.as_slice() == row.intervals
+            && dispute.interval().lo == row.step
+            && how(&dispute) == Ended::Out(false, true),
+    )
 }
 
 /// Rounds of several parts, by hand: of an interval of fewer steps than the fan each step is a part.
 #[test]
 fn rounds_of_parts_by_hand(rt: HostRuntime) -> Result<(), Fail> {
-    let longest: [(u64, u64); 8] = [
-        (0, 4_294_967_295),
-        (0, 268_435_455),
-        (0, 16_777_215),
-        (0, 1_048_575),
-        (0, 65_535),
-        (0, 4_095),
-        (0, 255),
-        (0, 15),
-    ];
-    let rows: [(u64, u32, u64, &[(u64, u64)], u64); 7] = [
-        (8, 4, 2, &[(0, 8), (0, 2)], 1),
-        (7, 3, 7, &[(0, 7), (4, 7)], 6),
-        (8, 4, 1, &[(0, 8), (0, 2)], 0),
-        (17, 16, 9, &[(0, 17)], 8),
-        (16, 3, 16, &[(0, 16), (10, 16), (14, 16)], 15),
-        (1, 16, 1, &[], 0),
-        (4_294_967_295, 16, 2, &longest, 1),
-    ];
-    for (bound, fan, from, wanted, step) in rows {
-        assert!(rt; bound >= 1 && bound <= 4_294_967_295 && fan >= 2 && fan <= 16);
-        let (rounds, last, end) = intervals(rt.alloc(), bound, fan, from)?;
-        assert_eq!(rt;
-            (rounds.as_slice(), last, end),
-            (wanted, step, Ended::Out(false, true))
-        );
+    for row in ROWS {
+        assert!(rt; row.bound >= 1 && row.bound <= 4_294_967_295);
+        assert!(rt; row.fan >= 2 && row.fan <= 16);
+        assert!(rt; is_played_so(rt.alloc(), row)?, "{} {}", row.bound, row.fan);
     }
     Ok(())
 }

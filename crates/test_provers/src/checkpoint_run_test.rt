@@ -255,6 +255,7 @@ fn named_from(alloc: Global, tamper: Tamper, step: u32) -> Result<[Option<u32>; 
 fn next_names_the_page_of_the_store_and_that_of_the_flipped_byte(
     rt: HostRuntime,
 ) -> Result<(), Fail> {
+    // how the run is tampered with, the step, and the pages of the store and of the flipped byte
     let rows: [(Tamper, u32, [Option<u32>; 2]); 9] = [
         (Tamper::Untouched, 2, [None, None]),
         (Tamper::Untouched, 3, [Some(0x20), None]),

@@ -301,35 +301,81 @@ fn digests_between<R: Threads + Sync>(
 }
 
 /// Whether the root of a step of STAYS, whose memory never changes, takes as many digests after that of another one as after its own.
-fn moves_the_tree<R: Threads + Sync>(
-    rt: &R,
-    alloc: Global,
+fn moves_the_tree<R: Threads + Sync>(rt: &R, alloc: Global, row: Moved) -> Result<bool, Memory> {
+    let Moved {
+        pages,
+        every,
+        steps: [first, second],
+    } = row;
+    let run = run_staying(alloc, pages, every)?;
+    Ok(digests_between(rt, alloc, &run, first, second)? == 0)
+}
+
+/// How many pages are in use, the spacing of the checkpoints, and two steps, one asked after the other.
+#[derive(Clone, Copy, Debug)]
+struct Moved {
     pages: u32,
     every: u32,
     steps: [u64; 2],
-) -> Result<bool, Memory> {
-    let run = run_staying(alloc, pages, every)?;
-    Ok(digests_between(rt, alloc, &run, steps[0], steps[1])? == 0)
 }
+
+/// The second step is near, or no checkpoint lies between.
+const NEAR: [Moved; 3] = [
+    Moved {
+        pages: 1,
+        every: 1024,
+        steps: [0, 16_384],
+    },
+    Moved {
+        pages: 17,
+        every: 1024,
+        steps: [0, 17_408],
+    },
+    Moved {
+        pages: 1,
+        every: 19_000,
+        steps: [0, 18_999],
+    },
+];
+
+const FAR_AHEAD: [Moved; 2] = [
+    Moved {
+        pages: 1,
+        every: 1024,
+        steps: [0, 16_385],
+    },
+    Moved {
+        pages: 17,
+        every: 1024,
+        steps: [0, 20_000],
+    },
+];
+
+/// It lies before the same checkpoint, at it, and before another one.
+const BEHIND: [Moved; 3] = [
+    Moved {
+        pages: 1,
+        every: 1024,
+        steps: [5, 4],
+    },
+    Moved {
+        pages: 17,
+        every: 1024,
+        steps: [1024, 0],
+    },
+    Moved {
+        pages: 18,
+        every: 100,
+        steps: [20_000, 1],
+    },
+];
 
 #[test]
 fn a_tree_goes_to_every_step_without_digests_of_what_stays(rt: HostRuntime) -> Result<(), Fail> {
-    // how many pages are in use, the spacing of the checkpoints, and the steps
-    let rows: [(u32, u32, [u64; 2]); 8] = [
-        // the step is near, or no checkpoint lies between
-        (1, 1024, [0, 16_384]),
-        (17, 1024, [0, 17_408]),
-        (1, 19_000, [0, 18_999]),
-        // it is far ahead
-        (1, 1024, [0, 16_385]),
-        (17, 1024, [0, 20_000]),
-        // it lies behind, before the same checkpoint and at it, and before another one
-        (1, 1024, [5, 4]),
-        (17, 1024, [1024, 0]),
-        (18, 100, [20_000, 1]),
-    ];
-    for (pages, every, steps) in rows {
-        assert!(rt; moves_the_tree(&rt, rt.alloc(), pages, every, steps)?);
+    for rows in [&NEAR[..], &FAR_AHEAD[..], &BEHIND[..]] {
+        for row in rows {
+            assert!(rt; moves_the_tree(&rt, rt.alloc(), *row)?, "{row:?}");
+        }
     }
     Ok(())
 }

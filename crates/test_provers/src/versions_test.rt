@@ -273,25 +273,50 @@ fn digests_between<R: Threads + Sync>(
     Ok(both.wrapping_sub(first))
 }
 
-/// A version, two steps, and the digests: the register changes in step 0, and not in step 1, and in step 5 the state is that of step 1 again.
-const CHANGED_OR_KEPT: [(u32, [u64; 2], u64); 9] = [
-    (1, [0, 1], 3),
-    (1, [1, 2], 3),
-    (1, [1, 5], 3),
-    (2, [0, 1], 8),
-    (2, [1, 2], 2),
-    (2, [1, 5], 2),
-    (3, [0, 1], 9),
-    (3, [1, 2], 3),
-    (3, [1, 5], 3),
+/// The digests that the roots take in a version of the commitments: after a step in which the register changes, after one in which it
+/// stays, and at step 5, whose state is that of step 1 again.
+#[derive(Clone, Copy)]
+struct OneRegister {
+    version: u32,
+    changed: u64,
+    kept: u64,
+    as_before: u64,
+}
+
+const ONE_REGISTER: [OneRegister; 3] = [
+    OneRegister {
+        version: 1,
+        changed: 3,
+        kept: 3,
+        as_before: 3,
+    },
+    OneRegister {
+        version: 2,
+        changed: 8,
+        kept: 2,
+        as_before: 2,
+    },
+    OneRegister {
+        version: 3,
+        changed: 9,
+        kept: 3,
+        as_before: 3,
+    },
 ];
 
 /// Each root takes the digests of the control and the state string, and in version 3 that of the storage string. A changed register
 /// takes the digest of all of them in version 1, and else its leaf and the five nodes above it.
 #[test]
 fn a_root_after_one_changed_register_takes_its_path(rt: HostRuntime) -> Result<(), Fail> {
-    for (version, steps, digests) in CHANGED_OR_KEPT {
-        assert_eq!(rt; digests_between(&rt, rt.alloc(), version, steps)?, digests);
+    for row in ONE_REGISTER {
+        for (steps, digests) in [
+            ([0, 1], row.changed),
+            ([1, 2], row.kept),
+            ([1, 5], row.as_before),
+        ] {
+            let made = digests_between(&rt, rt.alloc(), row.version, steps)?;
+            assert_eq!(rt; made, digests, "version {}, {steps:?}", row.version);
+        }
     }
     Ok(())
 }
