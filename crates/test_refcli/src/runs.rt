@@ -18,6 +18,14 @@ fn case_of_image(alloc: Global, length: u32) -> Result<Vec<u8>, AllocError> {
     case_of(alloc, flat(image.as_str(), 16_777_216), "{}")
 }
 
+/// A case whose assembly text has this many instructions, each a call that traps.
+fn case_of_calls(alloc: Global, count: u32) -> Result<Vec<u8>, AllocError> {
+    let text = repeated(alloc, "ecall\\n", count)?;
+    let mut parts = flat(text.as_str(), 8);
+    parts.format = "asm";
+    case_of(alloc, parts, "{}")
+}
+
 /// A case with this many bytes of input.
 fn case_of_input(alloc: Global, length: u32) -> Result<Vec<u8>, AllocError> {
     let input = repeated(alloc, "07", length)?;
@@ -49,6 +57,10 @@ pub fn add_sizes<R: Threads + Wait + Sync>(
     add_line(rt, alloc, lines, "an image of 4194304 bytes", run, case)?;
     let case = case_of_image(alloc, 4_194_305);
     add_line(rt, alloc, lines, "an image of 4194305 bytes", run, case)?;
+    let case = case_of_calls(alloc, 1_048_576);
+    add_line(rt, alloc, lines, "1048576 words of assembly", run, case)?;
+    let case = case_of_calls(alloc, 1_048_577);
+    add_line(rt, alloc, lines, "1048577 words of assembly", run, case)?;
     let case = case_of_input(alloc, 1_048_576);
     add_line(rt, alloc, lines, "an input of 1048576 bytes", run, case)?;
     let case = case_of_input(alloc, 1_048_577);
