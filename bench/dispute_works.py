@@ -131,7 +131,7 @@ def many_tasks(program, folder):
 
 
 def long_tasks(program, folder):
-    """Two tasks so long that posters without a prover wait, while others record a run, for many times what a sleep takes."""
+    """Two tasks so long that a poster whose prover has answered waits for the other's many times what a sleep takes."""
     tasks, lines = tasks_of(LONG_TASKS, LONG_BOUND)
     source = written(folder, "long_tasks.json", {"tasks": tasks})
     name = f"{LONG_TASKS} tasks, 2^{rounds(LONG_BOUND)}"
