@@ -302,15 +302,19 @@ eqb-same n = grind (arith, nat_tests)
 not-eqb : (m n : ℕ) → m ≢ n → (m == n) ≡ false
 not-eqb m n ne = elim (cases_Bool (m == n)) [ inl e ↦ absurd (ne (grind (arith, nat_tests))) | inr e ↦ e ]
 
+-- the round of an open question is at least 1
+not-first-0 : (n : ℕ) → (n + 1 == 0) ≡ false
+not-first-0 n = grind (arith, nat_tests)
+
 -- what a dispute holds of a side in a round
 held-at : (by : Side) (d e : Bisection) (s : Settled) → d.first ≢ d.second → HoldsOn d e → settled_after_rounds by e.past (own_open by e) (length d.past) ≡ Some s → held e (prover_of by d) (question_of d) ≡ Some s
 held-at First d e s apart h is =
     let n : length d.past + 1 - 1 ≡ length d.past = omega arith in
-    rw (h.number, eqb-same d.number, h.first, eqb-same d.first, n) is
+    rw (h.number, eqb-same d.number, not-first-0 (length d.past), h.first, eqb-same d.first, n) is
 held-at Second d e s apart h is =
     let n : length d.past + 1 - 1 ≡ length d.past = omega arith in
     let far : (d.first == d.second) ≡ false = not-eqb d.first d.second apart in
-    rw (h.number, eqb-same d.number, h.first, far, h.second, eqb-same d.second, n) is
+    rw (h.number, eqb-same d.number, not-first-0 (length d.past), h.first, far, h.second, eqb-same d.second, n) is
 
 played-on : (rules : Rules) (f : Answers) (xs : List (Side × Settled)) (d : Bisection) → 0 < rules.setup.bound → IsGoing rules d → EachIsAsked rules.ruling xs d →
     ((p : ℕ) (q : Question) (s : Settled) → held (settled_one_by_one rules.ruling xs d) p q ≡ Some s → f p q ≡ Some s) →
@@ -328,8 +332,10 @@ played-on rules f (x ∷ xs) d long g asked below =
 own-held : (d : Bisection) → d.first ≢ d.second → (held d d.first (question_of d) ≡ d.by_first) × (held d d.second (question_of d) ≡ d.by_second)
 own-held d apart =
     let n : length d.past + 1 - 1 ≡ length d.past = omega arith in
-    let far : (d.first == d.second) ≡ false = not-eqb d.first d.second apart in
-    (rw (eqb-same d.number, eqb-same d.first, n) (settled_is_held.last First d.past d.by_first), rw (eqb-same d.number, far, eqb-same d.second, n) (settled_is_held.last Second d.past d.by_second))
+    let far : (d.first == d.second) ≡ false = not-eqb d.first d.second apart in (
+      rw (eqb-same d.number, not-first-0 (length d.past), eqb-same d.first, n) (settled_is_held.last First d.past d.by_first),
+      rw (eqb-same d.number, not-first-0 (length d.past), far, eqb-same d.second, n) (settled_is_held.last Second d.past d.by_second),
+    )
 
 pub disputes_are_played : DisputesArePlayed
 disputes_are_played rules stage number x y xs playable apart asked =

@@ -1,7 +1,7 @@
 -- To believe: the answers that a dispute holds. Whatever is settled in whatever order, each answer while its side has an open question,
 -- a dispute is what is played over them.
 use Rattle.std.specs.Prelude.{◌≡◌, ◌≢◌, ℕ, zero, suc, ◌-◌, ◌==◌, true, List, [], ◌∷◌, Option, Some, None, if◌then◌else◌}
-use Rattle.bisect_game.specs.declared.claimed.Claimed.{Claimed}
+use Rattle.bisect_game.specs.declared.settled.Claimed.{Claimed}
 use Rattle.bisect_game.specs.declared.settled.Round.{Round}
 use Rattle.bisect_game.specs.declared.settled.Settled.{Settled}
 use Rattle.bisect_game.specs.declared.settled.Side.{Side}
@@ -22,7 +22,8 @@ settled_after_rounds side (r ∷ past) last (suc k) = settled_after_rounds side 
 -- what is settled of a prover in a round of a dispute, of which the first is round 1
 abbrev pub settled_in_round : ℕ → ℕ → Bisection → Option Settled
 settled_in_round p round d =
-    if d.first == p then settled_after_rounds First d.past d.by_first (round - 1)
+    if round == 0 then None
+    else if d.first == p then settled_after_rounds First d.past d.by_first (round - 1)
     else if d.second == p then settled_after_rounds Second d.past d.by_second (round - 1)
     else None
 

@@ -10,7 +10,6 @@
 #![tactic(auto)]
 
 mod answerer;
-mod claimed;
 mod dispute;
 mod judge;
 mod laws;
@@ -21,7 +20,6 @@ mod setup;
 mod steps;
 
 pub use answerer::{Answerer, Provers};
-pub use claimed::Claimed;
 pub use dispute::{Dispute, Room};
 pub use judge::Judge;
 pub use laws::{
@@ -31,6 +29,6 @@ pub use laws::{
 };
 pub use question::{Kind, Question};
 pub use rounds::{cut, kept_part, parts_of, roots_in};
-pub use settled::{Close, Interval, Round, Settled, Side};
+pub use settled::{Claimed, Close, Interval, Round, Settled, Side};
 pub use setup::Setup;
 pub use steps::steps_asked;

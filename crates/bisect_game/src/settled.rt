@@ -3,6 +3,15 @@ ghost use Rattle.std.specs.Prelude.{◌≡◌};
 
 use rd_base::{Answer, Digest32, OpenText};
 
+/// A prover and the root that it claims at the bound.
+#[derive(Clone, Copy, Debug)]
+pub struct Claimed {
+    /// The number of the prover, from 1.
+    pub prover: u32,
+    /// The root of its claim.
+    pub root: Digest32,
+}
+
 /// The interval of a dispute: two steps, the root on which both sides agree at the lower one, and each side's root at the
 /// upper one. In a dispute they lie within the bound, `lo < hi`, and the two roots at `hi` differ.
 #[derive(Clone, Copy, Debug)]

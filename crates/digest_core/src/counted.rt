@@ -6,7 +6,8 @@ use rd_base::{Digest32, OpenText, Steps};
 use std::sync::ledger::Ledger;
 
 /// A digest function that can't be called without a counter, which each digest counts up by 1. A function that gets a `Counted` and
-/// no `Digester` has counted, by its type, every digest that its result depends on. Each `Digester` is one.
+/// no `Digester` makes no digest, by its type, without a counter; that this is the caller's counter, its clauses say. Each `Digester` is
+/// one.
 pub trait Counted: Copy {
     /// The digest of a list of bytes.
     ghost digest_of: { List ℕ → List ℕ };

@@ -39,9 +39,9 @@ impl<'g, G: Gate> TaskGate for OneGate<'g, G> {
 /// prover, which answers as that prover; answers are made while other posters post.
 ///
 /// A poster ends when the match is over. It ends early when its answerer finds no memory, after 10,000,000 turns in a row in which none of
-/// its provers had anything to do, after a second without a post if some poster hasn't begun, and when another ended early; what is left
-/// undone is played alone then. One with nothing to do sleeps until another has posted, for a tenth of a second at most. In the book that
-/// is returned the match is over, whatever the threads did, and its journal begins with the one that the book had.
+/// its provers had anything to do, after a second without a post other than a pass if some poster hasn't begun, and when another ended
+/// early; what is left undone is played alone then. One with nothing to do sleeps until another has posted, for a tenth of a second at
+/// most. In the book that is returned the match is over, whatever the threads did, and its journal begins with the one that the book had.
 pub fn play<
     J: Judge + Drop + Send,
     P: Provers + Drop + Send,

@@ -26,7 +26,7 @@ use tournament::{Reply, move_of};
 /// a sleep and shortens the seven after it, and the matches of eight tasks have room for at most 812,848.
 const MOST_IDLE_TURNS: u32 = 10_000_000;
 
-/// As long as some poster hasn't begun, a poster ends early after this many idle turns in a row without a post, whose sleeps add up to 0.927
+/// As long as some poster hasn't begun, a poster ends early after this many idle turns in a row without news, whose sleeps add up to 0.927
 /// seconds. If a thread can't be made, the poster that hasn't begun may come after this one in the same thread.
 const MOST_QUIET_TURNS_BEFORE_ALL_BEGIN: u32 = 15;
 
@@ -84,7 +84,7 @@ fn place_at(places: &Vec<Place>, number: u32) -> Option<Place>
     }
 }
 
-/// How long a poster sleeps after an idle turn, in milliseconds, if this many idle turns in a row before it were without a post.
+/// How long a poster sleeps after an idle turn, in milliseconds, if this many idle turns in a row before it were without news.
 fn sleep_after(quiet: u32) -> u64 {
     if quiet < 7 { 1 << quiet } else { LONGEST_SLEEP }
 }

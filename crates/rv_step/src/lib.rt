@@ -30,7 +30,6 @@ mod laws;
 mod machine;
 mod naming;
 mod parts;
-mod running;
 mod stepping;
 mod touching;
 mod valid;
@@ -50,6 +49,5 @@ pub use laws::{
 pub use machine::{INPUT_BASE, Machine, OFFERING_VERSION};
 pub use naming::{Names, named_by};
 pub use parts::{finish, need};
-pub use running::advance;
-pub use stepping::step;
+pub use stepping::{advance, step};
 pub use touching::touches;

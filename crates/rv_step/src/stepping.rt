@@ -1,9 +1,9 @@
-//! One step.
-ghost use Rattle.std.specs.Prelude.{◌≡◌, ◌%◌, ◌⊎◌, ◌<◌, ◌^◌, IfOk, IfSome, OnOk, OnErr};
+//! One step, and many.
+ghost use Rattle.std.specs.Prelude.{◌≡◌, ◌%◌, ◌⊎◌, ℕ, ◌<◌, ◌^◌, IfOk, IfSome, OnOk, OnErr};
 ghost use Rattle.mem_plain.specs.Contents.{number_at};
 ghost use Rattle.rv_step.specs.Offer.{byte_or_ones};
 ghost use Rattle.rv_step.specs.State.{state_of, IsChained};
-ghost use Rattle.rv_step.specs.Step.{step as step_of, after_word, effect_at};
+ghost use Rattle.rv_step.specs.Step.{step as step_of, after_word, effect_at, state_at};
 ghost use Rattle.rv_step.specs.Parts.{after_finish, finished, IsAligned};
 ghost use Rattle.rv_step.specs.NumberRead.{read_for};
 ghost use Rattle.rv_step.specs.Touched.{stored_page, touched};
@@ -152,4 +152,22 @@ pub fn step<D: Digester>(machine: &mut Machine, d: &D) -> Result<Option<u32>, Me
             Ok(None)
         }
     }
+}
+
+/// This many steps, which keep the chain by the digester `d`. A machine that has stopped stays as it is. An `Err` is out
+/// of memory in one of the steps: fewer were made, and the machine is before that one, for which memory has to be taken.
+pub fn advance<D: Digester>(machine: &mut Machine, d: &D, steps: u64) -> Result<(), Memory>
+    requires { IsChained D.digest_of machine.old }
+    ensures ok { OnOk result (state_of machine.new ≡ state_at (state_of machine.old) steps) }
+    ensures err { OnErr result ((n : ℕ) × (n < steps) × (state_of machine.new ≡ state_at (state_of machine.old) n)) }
+    ensures needs { OnErr result (StepNeedsMemory (state_of machine.new)) }
+    ensures chained { IsChained D.digest_of machine.new }
+{
+    'steps: for _i in 0..steps {
+        if !machine.ctl.status.is_running() {
+            return Ok(());
+        }
+        step(machine, d)?;
+    }
+    Ok(())
 }

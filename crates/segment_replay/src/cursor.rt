@@ -1,4 +1,5 @@
-//! A worker's cursor: a machine of a run, moved from step to step with the tree of its memory.
+//! A run that is replayed, and a worker's cursor: a machine of it, moved from step to step with the tree of its memory.
+ghost use Rattle.std.proofs.Props.{props};
 ghost use Rattle.std.specs.Prelude.{◌≡◌, ◌≢◌, replicate, ℕ, ◌+◌, ◌<◌, ◌≤◌, ◌∷◌, [], true, false, IfOk, OnOk, IfSome, min};
 ghost use Rattle.mem_plain.specs.Contents.{Contents};
 ghost use Rattle.mem_tree.specs.Tree.{IsTreeOf, is_among};
@@ -7,7 +8,6 @@ ghost use Rattle.checkpoint_run.specs.Recorded.{AreChained, state_of_step, still
 ghost use Rattle.segment_replay.specs.Roots.{IsInputRoot, root_at};
 ghost use Rattle.segment_replay.specs.Cursor.{IsMachineOf, IsBehind, IsFresh, HasTouched};
 
-use crate::replay::Replay;
 use checkpoint_run::{
     Run, advance, machine_at, pages_of_two_places, tampered_runs, tampered_runs_keep_the_input,
 };
@@ -28,6 +28,17 @@ const STEPS_WORTH_A_CHECKPOINT: u64 = 16_384;
 /// pages are in use. A machine that is put together from a checkpoint copies each page in use, and its tree compares the page's 128
 /// chunks with those that it keeps. What has changed is digested either way.
 const STEPS_WORTH_A_PAGE: u64 = 1_024;
+
+/// A run that is replayed: the digester by which its checkpoints are chained, the run, and the root of its input, which counts in
+/// version 3 alone.
+#[derive(Drop)]
+pub struct Replay<'r, D: Digester> {
+    pub d: D,
+    pub run: &'r Run,
+    pub input: Digest32,
+    ghost chained: { AreChained D.digest_of run.now } by { Prim.hlevel props },
+    ghost of_input: { IsInputRoot D.digest_of run.now input.0 },
+}
 
 /// A machine of a run, at which step it is, and the tree of its memory.
 #[derive(Drop)]

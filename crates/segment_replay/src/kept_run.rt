@@ -5,8 +5,7 @@ ghost use Rattle.state_commit.specs.Committing.{HasInput};
 ghost use Rattle.checkpoint_run.specs.Recorded.{AreChained, state_of_step};
 ghost use Rattle.segment_replay.specs.Roots.{root_at, digests};
 
-use crate::cursor::machine_of_step;
-use crate::replay::Replay;
+use crate::cursor::{Replay, machine_of_step};
 use crate::replaying::{Worker, roots_by};
 use checkpoint_run::{Run, tampered_runs_keep_the_input};
 use digest_core::{Digester, Sha256, Weak8};

@@ -19,7 +19,6 @@
 
 mod cursor;
 mod kept_run;
-mod replay;
 mod replaying;
 
 pub use cursor::run_input_root;

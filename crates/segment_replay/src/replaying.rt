@@ -6,8 +6,7 @@ ghost use Rattle.segment_replay.specs.Roots.{IsInputRoot, root_at, digests};
 ghost use Rattle.segment_replay.specs.Cursor.{IsKept};
 ghost use Rattle.segment_replay.specs.Pieces.{ArePieces};
 
-use crate::cursor::{Cursor, Rooted, machine_of_step, root_of_step, run_input_root};
-use crate::replay::Replay;
+use crate::cursor::{Cursor, Replay, Rooted, machine_of_step, root_of_step, run_input_root};
 use checkpoint_run::Run;
 use digest_core::Digester;
 use rd_base::{Digest32, Memory, Regs};

@@ -120,17 +120,18 @@ module _ (laws : BisectionLaws) where
 
   -- so a record has the answers that an earlier one had
 
-  side-held : (d e : Bisection) (x y : Bool) (k : ℕ) (s : Settled) → HoldsOn d e →
-      (if x then settled_after_rounds First d.past d.by_first k else if y then settled_after_rounds Second d.past d.by_second k else None) ≡ Some s →
-      (if x then settled_after_rounds First e.past e.by_first k else if y then settled_after_rounds Second e.past e.by_second k else None) ≡ Some s
-  side-held d e true y k s h is = h.keeps First k s is
-  side-held d e false true k s h is = h.keeps Second k s is
-  side-held d e false false k s h is = absurd (cc)
+  side-held : (d e : Bisection) (z x y : Bool) (k : ℕ) (s : Settled) → HoldsOn d e →
+      (if z then None else if x then settled_after_rounds First d.past d.by_first k else if y then settled_after_rounds Second d.past d.by_second k else None) ≡ Some s →
+      (if z then None else if x then settled_after_rounds First e.past e.by_first k else if y then settled_after_rounds Second e.past e.by_second k else None) ≡ Some s
+  side-held d e true x y k s h is = absurd (cc)
+  side-held d e false true y k s h is = h.keeps First k s is
+  side-held d e false false true k s h is = h.keeps Second k s is
+  side-held d e false false false k s h is = absurd (cc)
 
   number-held : (p : ℕ) (qid : Qid) (d e : Bisection) (ds es : List Bisection) (b : Bool) (s : Settled) → HoldsOn d e →
       (if b then settled_in_round p qid.round d else settled_among p qid ds) ≡ Some s → (settled_among p qid ds ≡ Some s → settled_among p qid es ≡ Some s) →
       (if b then settled_in_round p qid.round e else settled_among p qid es) ≡ Some s
-  number-held p qid d e ds es true s h is rest = rw (h.first, h.second) (side-held d e (d.first == p) (d.second == p) (qid.round - 1) s h is)
+  number-held p qid d e ds es true s h is rest = rw (h.first, h.second) (side-held d e (qid.round == 0) (d.first == p) (d.second == p) (qid.round - 1) s h is)
   number-held p qid d e ds es false s h is rest = rest is
 
   among-held : (p : ℕ) (qid : Qid) (ds es : List Bisection) (s : Settled) → AllHold ds es → settled_among p qid ds ≡ Some s → settled_among p qid es ≡ Some s
@@ -153,6 +154,10 @@ module _ (laws : BisectionLaws) where
   eqb-same : (n : ℕ) → (n == n) ≡ true
   eqb-same n = grind (arith, nat_tests)
 
+  -- the round of an open question is at least 1
+  not-first-0 : (n : ℕ) → (n + 1 == 0) ≡ false
+  not-first-0 n = grind (arith, nat_tests)
+
   claim-set : (ss : List (Option Settled)) (k : ℕ) (s : Settled) → claim_missing (slice_get ss k) ≡ true → claim_at (slice_get (slice_set ss k (Some s)) k) ≡ Some s
   claim-set [] k s e = absurd (cc)
   claim-set (o ∷ ss) zero s e = refl
@@ -168,14 +173,14 @@ module _ (laws : BisectionLaws) where
   first-found ruling p s d ds mine none =
       let h : HoldsOn d (settle_first ruling s d) = laws.held.stays ruling First s d none in
       let n : length d.past + 1 - 1 ≡ length d.past = omega arith in
-      rw (h.number, eqb-same d.number, h.first, mine, n) (laws.held.holds ruling First s d)
+      rw (h.number, eqb-same d.number, not-first-0 (length d.past), h.first, mine, n) (laws.held.holds ruling First s d)
 
   second-found : (ruling : Ruling) (p : ℕ) (s : Settled) (d : Bisection) (ds : List Bisection) → (d.first == p) ≡ false → (d.second == p) ≡ true → d.by_second ≡ None →
       settled_among p (question_of d).qid (settle_second ruling s d ∷ ds) ≡ Some s
   second-found ruling p s d ds other mine none =
       let h : HoldsOn d (settle_second ruling s d) = laws.held.stays ruling Second s d none in
       let n : length d.past + 1 - 1 ≡ length d.past = omega arith in
-      rw (h.number, eqb-same d.number, h.first, other, h.second, mine, n) (laws.held.holds ruling Second s d)
+      rw (h.number, eqb-same d.number, not-first-0 (length d.past), h.first, other, h.second, mine, n) (laws.held.holds ruling Second s d)
 
   found-choice : (rules : Rules) (p n : ℕ) (s : Settled) (q : Question) (d : Bisection) (ds : List Bisection) (x y : Bool) → asks_first p d ≡ x → asks_second p d ≡ y → d.number ≡ n → d.first ≢ d.second →
       (if x || y then Some (question_of d) else question_in p ds) ≡ Some q → (question_in p ds ≡ Some q → IsFound p (n + 1) q s (settled_in rules p s ds)) →
@@ -240,8 +245,10 @@ module _ (laws : BisectionLaws) where
   own-here : (d : Bisection) (ds : List Bisection) → d.first ≢ d.second → (among (d ∷ ds) d.first (question_of d) ≡ d.by_first) × (among (d ∷ ds) d.second (question_of d) ≡ d.by_second)
   own-here d ds apart =
       let n : length d.past + 1 - 1 ≡ length d.past = omega arith in
-      let far : (d.first == d.second) ≡ false = not-eqb d.first d.second apart in
-      (rw (eqb-same d.number, eqb-same d.first, n) (laws.held.last First d.past d.by_first), rw (eqb-same d.number, far, eqb-same d.second, n) (laws.held.last Second d.past d.by_second))
+      let far : (d.first == d.second) ≡ false = not-eqb d.first d.second apart in (
+        rw (eqb-same d.number, not-first-0 (length d.past), eqb-same d.first, n) (laws.held.last First d.past d.by_first),
+        rw (eqb-same d.number, not-first-0 (length d.past), far, eqb-same d.second, n) (laws.held.last Second d.past d.by_second),
+      )
 
   own-skip : (n m : ℕ) (d : Bisection) (ds es : List Bisection) → d.number ≡ n → n < m → Numbered m es → AllOwn (among ds) es → AllOwn (among (d ∷ ds)) es
   own-skip n m d ds [] is lt num own = tt
