@@ -10,7 +10,7 @@ use Rattle.bisect_game.specs.declared.settled.Settled.TheVariants.{Given, Faulty
 use Rattle.bisect_game.specs.Says.{Says}
 use Rattle.bisect_game.specs.Ruling.{Ruling}
 use Rattle.bisect_game.specs.Rules.{Rules, ArePlayable, is_fit, judged}
-use Rattle.tournament.specs.declared.verdict.Verdict.{Verdict}
+use Rattle.tournament.specs.declared.reading.Verdict.{Verdict}
 use Rattle.tournament.specs.Bracket.{Record, open_question, settle, nothing_settled, is_complete, verdict_of, bracket}
 use Rattle.tournament.specs.Moves.{MatchState, begun, passes_of, settled_by, moved}
 use Rattle.tournament.specs.Journals.{turn, turn_on, turns, Legal, said, settled_after, answers_of, RecordOfCase}

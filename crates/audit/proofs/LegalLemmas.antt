@@ -6,7 +6,7 @@ use Rattle.bisect_game.specs.declared.question.Question.{Question}
 use Rattle.bisect_game.specs.declared.settled.Settled.{Settled}
 use Rattle.bisect_game.specs.declared.settled.Settled.TheVariants.{Given, Faulty, Spent}
 use Rattle.bisect_game.specs.Rules.{Rules, is_fit, judged}
-use Rattle.tournament.specs.declared.verdict.Verdict.{Verdict}
+use Rattle.tournament.specs.declared.reading.Verdict.{Verdict}
 use Rattle.tournament.specs.Bracket.{Record, open_question, settle, is_complete, verdict_of}
 use Rattle.tournament.specs.Moves.{MatchState}
 use Rattle.rd_base.specs.Questions.{same_qid}

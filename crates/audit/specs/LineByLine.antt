@@ -9,7 +9,7 @@ use Rattle.bisect_game.specs.declared.settled.Settled.TheVariants.{Given, Faulty
 use Rattle.bisect_game.specs.Ruling.{Ruling}
 use Rattle.bisect_game.specs.Rules.{Rules, is_fit}
 use Rattle.bisect_game.specs.Setup.{Setup}
-use Rattle.tournament.specs.declared.verdict.Verdict.{Verdict}
+use Rattle.tournament.specs.declared.reading.Verdict.{Verdict}
 use Rattle.tournament.specs.Bracket.{Record, nothing_settled, is_complete, settle, verdict_of}
 use Rattle.rd_base.specs.Questions.{same_qid}
 use Rattle.bisect_game.specs.Rules.{rules_of}

@@ -7,7 +7,7 @@ use Rattle.bisect_game.specs.declared.settled.Settled.TheVariants.{Given, Faulty
 use Rattle.bisect_game.specs.Says.{Says}
 use Rattle.bisect_game.specs.Ruling.{Ruling}
 use Rattle.bisect_game.specs.Rules.{Rules, ArePlayable}
-use Rattle.tournament.specs.declared.verdict.Verdict.{Verdict}
+use Rattle.tournament.specs.declared.reading.Verdict.{Verdict}
 use Rattle.tournament.specs.Bracket.{Record, is_complete, verdict_of, bracket}
 use Rattle.tournament.specs.Journals.{answers_of}
 use Rattle.rd_base.specs.Questions.{same_qid}

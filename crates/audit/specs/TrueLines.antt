@@ -6,7 +6,7 @@ use Rattle.bisect_game.specs.declared.settled.Settled.TheVariants.{Given}
 use Rattle.bisect_game.specs.Ruling.{Ruling, IsFair}
 use Rattle.bisect_game.specs.Rules.{Rules, ArePlayable}
 use Rattle.bisect_game.specs.Truth.{Truth, IsRun, IsTrueSettled}
-use Rattle.tournament.specs.declared.verdict.Verdict.{Verdict}
+use Rattle.tournament.specs.declared.reading.Verdict.{Verdict}
 use Rattle.tournament.specs.Asked.{asked}
 use Rattle.tournament.specs.Theorem.{IsCollisionIn}
 use Rattle.transcript_text.specs.declared.text.TextMove.{TextMove}

@@ -6,7 +6,7 @@ use Rattle.std.proofs.lemmas.List.{length-append, length-map, length-drop, take_
 use Rattle.rd_base.specs.declared.answer.Answer.{Answer}
 use Rattle.bisect_game.specs.declared.question.Question.{Question}
 use Rattle.bisect_game.specs.Says.{Says, AnswerAs}
-use Rattle.board_book.specs.declared.opening.Opening.{Opening}
+use Rattle.board_book.specs.declared.book.Opening.{Opening}
 use Rattle.board_book.specs.Tasks.{sayings_from, sayings}
 
 abbrev Saying : Type 0

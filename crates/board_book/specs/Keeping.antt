@@ -5,7 +5,7 @@ use Rattle.bisect_game.specs.Ruling.{Ruling}
 use Rattle.tournament.specs.Moves.{begun, MatchState}
 use Rattle.tournament.specs.Length.{IsMost, most_entries}
 use Rattle.board_book.specs.declared.entry.Entry.{Entry}
-use Rattle.board_book.specs.declared.opening.Opening.{Opening}
+use Rattle.board_book.specs.declared.book.Opening.{Opening}
 use Rattle.board_book.specs.Entries.{IsJournal, state_after}
 use Rattle.board_book.specs.Tasks.{BookOf, openings, tasks_of, numbered, games_of, IsTaskJournal, entries_of, Task, task_of, of_task, sayings_from}
 use Rattle.bisect_game.specs.Rules.{Rules, ArePlayable, rules_of}

@@ -11,7 +11,7 @@ use Rattle.tournament.specs.Moves.{MatchState, begun}
 use Rattle.tournament.specs.Journals.{turn_on}
 use Rattle.tournament.specs.Posting.{posted, reply_to}
 use Rattle.board_book.specs.declared.entry.Entry.{Entry}
-use Rattle.board_book.specs.declared.opening.Opening.{Opening}
+use Rattle.board_book.specs.declared.book.Opening.{Opening}
 use Rattle.board_book.specs.Entries.{IsEntry, is_stale, noted}
 use Rattle.rd_base.specs.declared.answer.Answer.{Answer}
 use Rattle.rd_base.specs.declared.answer.Qid.{Qid}

@@ -47,6 +47,17 @@ struct Asked {
     passes: u32,
 }
 
+/// What a book is opened with. No call of a book changes it. Contracts see it of every book, and of every seat of a board.
+#[derive(Clone, Copy)]
+pub struct Opening<N, M> {
+    /// The names of the judge.
+    pub judge: N,
+    /// The names of the provers.
+    pub provers: M,
+    /// The numbers of the match.
+    pub setup: Setup,
+}
+
 /// A match with its journal and its provers.
 ///
 /// Contracts see its opening, its journal, and the state of the match. No call changes the opening.

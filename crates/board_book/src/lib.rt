@@ -11,21 +11,19 @@
 //! is answered and its record (`tasks_are_alone`). Every legal journal after which a match is over ends in the record and the verdict of
 //! its case (`journals_have_the_record_of_the_case`). The memory of all tasks is taken at the opening.
 //!
-//! Read `opening` and `entry` first, then `book`, `specs/Tasks.antt`, `specs/Alone.antt` and `books`.
+//! Read `entry` first, then `book`, `specs/Tasks.antt`, `specs/Alone.antt` and `books`.
 #![tactic(auto)]
 
 mod book;
 mod books;
 mod entry;
 mod laws;
-mod opening;
 mod room;
 
-pub use book::Book;
+pub use book::{Book, Opening};
 pub use books::Books;
 pub use entry::{Ask, Entry};
 pub use laws::{
     answerers_say_in_order, entries_are_told_apart, journals_have_the_record_of_the_case,
     tasks_are_alone, tasks_are_numbered,
 };
-pub use opening::Opening;

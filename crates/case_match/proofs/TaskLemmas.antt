@@ -11,18 +11,18 @@ use Rattle.bisect_game.specs.Says.{Says, AnswerAs}
 use Rattle.bisect_game.specs.Rules.{ArePlayable}
 use Rattle.rv_step.specs.declared.machine.Machine.{Machine}
 use Rattle.rv_step.specs.State.{State, state_of, IsChained}
-use Rattle.tournament.specs.declared.verdict.Verdict.{Verdict}
+use Rattle.tournament.specs.declared.reading.Verdict.{Verdict}
 use Rattle.tournament.specs.Bracket.{Record}
 use Rattle.step_referee.specs.declared.judge.MachineNames.{MachineNames}
 use Rattle.step_referee.specs.MachineRuling.{machine_ruling}
-use Rattle.board_book.specs.declared.opening.Opening.{Opening}
+use Rattle.board_book.specs.declared.book.Opening.{Opening}
 use Rattle.board_book.specs.Tasks.{BookOf, openings, sayings_from, sayings}
 use Rattle.board_book.specs.Keeping.{SayInOrder}
 use Rattle.deposits.specs.Balances.{IsSettledUp}
 use Rattle.prover_run.specs.CaseScripts.{CaseScripts, case_says}
 use Rattle.case_reader.specs.declared.case.Case.{Case}
 use Rattle.case_reader.specs.Case.{CaseData, data_of}
-use Rattle.case_match.specs.declared.loaded.LoadedCase.{LoadedCase}
+use Rattle.case_match.specs.declared.opening.LoadedCase.{LoadedCase}
 use Rattle.case_match.specs.declared.referee.Ended.{Ended}
 use Rattle.case_match.specs.Match.{start_root, rules_of_case, says_of_case, ending_of_case, endings_of_cases, AreSettledUp, RecordsOfCasesAreSettledUp}
 use Rattle.case_match.specs.Openings.{IsFresh, ended_alone, ended_of, opening_of_case, opening_of}

@@ -9,7 +9,7 @@ use Rattle.rv_step.specs.State.{State}
 use Rattle.rv_step.specs.Step.{state_at}
 use Rattle.state_commit.specs.StateRoot.{root_in}
 use Rattle.bisect_game.specs.Setup.{Setup}
-use Rattle.tournament.specs.declared.verdict.Verdict.{Verdict}
+use Rattle.tournament.specs.declared.reading.Verdict.{Verdict}
 use Rattle.tournament.specs.Bracket.{Record, bracket, verdict_of}
 use Rattle.tournament.specs.Journals.{answers_of}
 use Rattle.bisect_game.specs.Rules.{rules_of}

@@ -1,5 +1,5 @@
 -- To believe: how the matches of loaded cases end. What a match is opened with, and, by that alone, its numbers, its record and its verdict.
-use Rattle.board_book.specs.declared.opening.Opening.{Opening}
+use Rattle.board_book.specs.declared.book.Opening.{Opening}
 use Rattle.std.specs.Prelude.{◌≡◌, ℕ, List, []}
 use Rattle.bisect_game.specs.Ruling.{Ruling}
 use Rattle.bisect_game.specs.Says.{Says}
@@ -11,7 +11,7 @@ use Rattle.tournament.specs.Journals.{answers_of}
 use Rattle.step_referee.specs.declared.judge.MachineNames.{MachineNames}
 use Rattle.prover_run.specs.CaseScripts.{CaseScripts}
 use Rattle.case_reader.specs.Case.{CaseData, data_of}
-use Rattle.case_match.specs.declared.loaded.LoadedCase.{LoadedCase}
+use Rattle.case_match.specs.declared.opening.LoadedCase.{LoadedCase}
 use Rattle.case_match.specs.declared.referee.Ended.{Ended}
 use Rattle.case_match.specs.Match.{setup_of, record_of_case, verdict_of_record}
 

@@ -13,11 +13,9 @@
 #![tactic(auto)]
 
 mod laws;
-mod loaded;
 mod opening;
 mod playing;
 mod referee;
-mod tasks;
 mod verdict;
 
 pub use laws::{
@@ -25,8 +23,7 @@ pub use laws::{
     tampers_of_cases_are_refuted, truthful_provers_of_cases_are_safe,
     untouched_provers_are_truthful, who_lives_in_a_case_wins_all,
 };
-pub use loaded::LoadedCase;
+pub use opening::{LoadedCase, loaded_cases};
 pub use playing::{ended_one, ended_tasks};
 pub use referee::Ended;
-pub use tasks::{loaded_cases, verdict_of_tasks};
-pub use verdict::verdict_of_case;
+pub use verdict::{verdict_of_case, verdict_of_tasks};

@@ -1,15 +1,14 @@
-//! The matches of cases, opened: their books, and an answerer for each of their provers.
-ghost use Rattle.std.specs.Prelude.{◌≡◌, [], map, length, IfOk};
+//! Loaded cases, and their matches, opened: their books, and an answerer for each of their provers.
+ghost use Rattle.std.specs.Prelude.{◌≡◌, ℕ, List, [], map, length, IfOk};
 ghost use Rattle.std.specs.List.{All};
 ghost use Rattle.bisect_game.specs.Says.{AnswerAs};
-ghost use Rattle.rv_step.specs.State.{state_of};
+ghost use Rattle.rv_step.specs.State.{state_of, IsChained};
 ghost use Rattle.board_book.specs.Tasks.{openings, sayings};
 ghost use Rattle.prover_run.specs.CaseScripts.{case_says};
 ghost use Rattle.case_reader.specs.Case.{data_of};
 ghost use Rattle.command_line.specs.Words.{AreAtLeastOne};
 ghost use Rattle.case_match.specs.Openings.{IsFresh, opening_of_case, opening_of};
 
-use crate::loaded::LoadedCase;
 use bisect_game::{Answerer, Provers};
 use board_book::{Book, answerers_say_in_order};
 use case_reader::Case;
@@ -22,6 +21,37 @@ use segment_replay::Replays;
 use state_commit::{SharedInput, state_root_with};
 use std::alloc::Global;
 use step_referee::MachineJudge;
+
+/// A case that is loaded: the case, and the machine in which its run starts.
+#[derive(Drop)]
+pub struct LoadedCase<'a> {
+    pub case: &'a Case,
+    pub start: Machine,
+}
+
+/// Cases with the machines in which their runs start, one for each. No machine has any output.
+pub fn loaded_cases<'a>(
+    alloc: Global,
+    cases: &'a [Case],
+    starts: Vec<Machine>,
+) -> Result<Vec<LoadedCase<'a>>, Memory>
+    requires count { length starts.items ≡ length cases.now }
+    requires silent { All (λ start. start.output.items ≡ []) starts.items }
+    ensures cases { IfOk result (λ loads. map (λ l. data_of l.case.now) loads.items ≡ map data_of cases.now) }
+    ensures starts { IfOk result (λ loads. map (λ l. l.start) loads.items ≡ starts.items) }
+    ensures fresh { IfOk result (λ loads. (digest : List ℕ → List ℕ) → All (IsChained digest) starts.items → All (λ l. IsFresh digest l.start) loads.items) }
+{
+    let mut loads = Vec::with_capacity(alloc, starts.len())?;
+    let mut at = 0;
+    'starts: for start in starts {
+        loads.push(LoadedCase {
+            case: &cases[at],
+            start,
+        })?;
+        at += 1;
+    }
+    Ok(loads)
+}
 
 /// Opens the match of a case whose run starts in this machine: its book, and an answerer for each of its provers, which answers as its
 /// script says. In version 3 the tree of the input is built once, for the root and for all provers.

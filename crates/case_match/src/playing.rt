@@ -6,8 +6,7 @@ ghost use Rattle.deposits.specs.Balances.{IsSettledUp};
 ghost use Rattle.case_match.specs.Openings.{IsFresh, ended_of};
 
 use crate::laws::records_of_cases_are_settled_up;
-use crate::loaded::LoadedCase;
-use crate::opening::open_matches;
+use crate::opening::{LoadedCase, open_matches};
 use crate::referee::{Ended, decide};
 use command_line::Options;
 use rd_base::Memory;

@@ -1,13 +1,16 @@
-//! The match of one case, as a call of its own over the path of loaded cases.
-ghost use Rattle.std.specs.Prelude.{◌≡◌, [], length, IfOk};
+//! The matches of one case and of many tasks, as calls of their own over the path of loaded cases.
+ghost use Rattle.std.specs.Prelude.{◌≡◌, ◌<◌, ◌≤◌, [], map, length, IfOk};
+ghost use Rattle.std.specs.List.{All};
 ghost use Rattle.rv_step.specs.State.{state_of, IsChained};
 ghost use Rattle.case_reader.specs.Case.{data_of};
 ghost use Rattle.command_line.specs.Words.{AreAtLeastOne};
 ghost use Rattle.deposits.specs.Balances.{IsSettledUp};
-ghost use Rattle.case_match.specs.Match.{record_of_case, verdict_of_record};
+ghost use Rattle.case_match.specs.Match.{record_of_case, verdict_of_record, endings_of_cases, AreSettledUp};
 
-use crate::loaded::LoadedCase;
-use crate::playing::ended_one;
+use crate::laws::records_of_cases_are_settled_up;
+use crate::opening::{LoadedCase, loaded_cases};
+use crate::playing::{ended_one, ended_tasks};
+use crate::referee::Ended;
 use case_reader::Case;
 use command_line::Options;
 use rd_base::Memory;
@@ -42,4 +45,48 @@ where
 {
     let end = ended_one(rt, alloc, d, LoadedCase { case, start }, options)?;
     Ok((end.match_record, end.verdict))
+}
+
+/// The record and the verdict of each match, in their order.
+fn endings(alloc: Global, ends: Vec<Ended>) -> Result<Vec<(Record, Verdict)>, Memory>
+    ensures { IfOk result (λ endings. endings.items ≡ map (λ end. (end.match_record, end.verdict)) ends.items) }
+{
+    let mut endings = Vec::with_capacity(alloc, ends.len())?;
+    'ends: for end in ends {
+        let Ended {
+            setup: _,
+            match_record,
+            verdict,
+        } = end;
+        endings.push((match_record, verdict))?;
+    }
+    Ok(endings)
+}
+
+/// The matches of the cases of 1 to 8 tasks, whose runs start in these machines, one for each: what is settled in each, and how it
+/// ends. Posters go over the provers of all tasks. Each task ends as its case ends alone, whatever the others' provers do. The machines
+/// and the options are as for `verdict_of_case`.
+pub fn verdict_of_tasks<R: Threads + Wait + Sync, D: Replays>(
+    rt: &R,
+    alloc: Global,
+    d: D,
+    cases: &[Case],
+    starts: Vec<Machine>,
+    options: Options,
+) -> Result<Vec<(Record, Verdict)>, Memory>
+where
+    D: Send + Sync,
+    requires some { 0 < length cases.now }
+    requires few { length cases.now ≤ 8 }
+    requires count { length starts.items ≡ length cases.now }
+    requires chained { All (IsChained D.digest_of) starts.items }
+    requires silent { All (λ start. start.output.items ≡ []) starts.items }
+    requires options { AreAtLeastOne options }
+    ensures as_alone { IfOk result (λ ends. ends.items ≡ endings_of_cases D.digest_of (map data_of cases.now) (map state_of starts.items)) }
+    ensures settled_up { IfOk result (λ ends. AreSettledUp (map data_of cases.now) ends.items) }
+{
+    records_of_cases_are_settled_up();
+    let loads = loaded_cases(alloc, cases, starts)?;
+    let ends = ended_tasks(rt, alloc, d, loads, options)?;
+    endings(alloc, ends)
 }

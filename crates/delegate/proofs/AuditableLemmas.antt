@@ -9,7 +9,7 @@ use Rattle.rv_step.specs.Loaded.{started}
 use Rattle.image_reader.specs.Image.{Image}
 use Rattle.case_reader.specs.Case.{CaseData}
 use Rattle.case_reader.specs.Tasks.{One, CasesAreTasks}
-use Rattle.tournament.specs.declared.verdict.Verdict.{Verdict}
+use Rattle.tournament.specs.declared.reading.Verdict.{Verdict}
 use Rattle.tournament.specs.Bracket.{Record, bracket, verdict_of}
 use Rattle.tournament.specs.Journals.{answers_of}
 use Rattle.bisect_game.specs.Rules.{Rules, rules_of}

@@ -7,8 +7,8 @@ use Rattle.bisect_game.specs.declared.settled.Settled.TheVariants as settled
 use Rattle.bisect_game.specs.Rules.{Rules}
 use Rattle.bisect_game.specs.Bisection.{Bisection}
 use Rattle.bisect_game.specs.Truth.{Truth}
-use Rattle.tournament.specs.declared.verdict.Verdict.{Verdict}
-use Rattle.tournament.specs.declared.verdict.Verdict.TheVariants.{Accept, NoneLeft, Collision}
+use Rattle.tournament.specs.declared.reading.Verdict.{Verdict}
+use Rattle.tournament.specs.declared.reading.Verdict.TheVariants.{Accept, NoneLeft, Collision}
 use Rattle.tournament.specs.Bracket.{Record, live_from, lowest, or_lowest, is_out_in, claim_in, also, verdict_of}
 use Rattle.tournament.specs.Theorem.{HasTrueClaim, IsRightVerdict}
 use Rattle.deposits.specs.declared.amounts.Balances.{Balances}

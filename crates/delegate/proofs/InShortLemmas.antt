@@ -15,7 +15,7 @@ use Rattle.transcript_text.specs.declared.text.Head.{Head}
 use Rattle.transcript_text.specs.declared.text.TextMove.{TextMove}
 use Rattle.transcript_text.specs.MoveLists.{moves_of}
 use Rattle.tournament.specs.Bracket.{Record}
-use Rattle.tournament.specs.declared.verdict.Verdict.TheVariants as verdict
+use Rattle.tournament.specs.declared.reading.Verdict.TheVariants as verdict
 use Rattle.deposits.specs.declared.amounts.Balances.{Balances}
 use Rattle.transcript_text.specs.Words.{word_text}
 use Rattle.transcript_text.specs.Lines.{Said, Line, claim_line, out_line, stage_line, dispute_line, compared_line, round_line, kept_line, parts_line, step_line, balance_line, pool_line, accept_line, none_left_line, collision_line, lines_of_record, lines_of_balances}

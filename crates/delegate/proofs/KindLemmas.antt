@@ -1,8 +1,8 @@
 -- What every outcome is: an answer of the command that the arguments name.
 use Rattle.std.proofs.Common.{◌≡◌, ℕ, List, Option, Some, None, Bool, true, false, codes, refl, sym, ap, subst, ◌∙◌, ◌↔◌}
 use Rattle.std.proofs.lemmas.Bool.{false≢true}
-use Rattle.tournament.specs.declared.verdict.Verdict.{Verdict}
-use Rattle.tournament.specs.declared.verdict.Verdict.TheVariants.{Accept, NoneLeft, Collision as Collided}
+use Rattle.tournament.specs.declared.reading.Verdict.{Verdict}
+use Rattle.tournament.specs.declared.reading.Verdict.TheVariants.{Accept, NoneLeft, Collision as Collided}
 use Rattle.case_reader.specs.declared.fault.TaskFault.{TaskFault}
 use Rattle.case_reader.specs.declared.fault.TaskFault.TheVariants as faults
 use Rattle.transcript_text.specs.declared.text.Stated.{Stated}

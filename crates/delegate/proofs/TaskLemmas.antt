@@ -15,7 +15,7 @@ use Rattle.deposits.specs.Balances.{IsSettledUp}
 use Rattle.case_reader.specs.declared.case.Case.{Case as CaseOf}
 use Rattle.case_reader.specs.Case.{CaseData, data_of}
 use Rattle.case_match.specs.TruthfulInCase.{IsInRange}
-use Rattle.case_match.specs.declared.loaded.LoadedCase.{LoadedCase}
+use Rattle.case_match.specs.declared.opening.LoadedCase.{LoadedCase}
 use Rattle.case_match.specs.declared.referee.Ended.{Ended}
 use Rattle.case_match.specs.Match.{rules_of_case, says_of_case, record_of_case, RecordsOfCasesAreSettledUp}
 use Rattle.case_match.specs.Openings.{ended_of}

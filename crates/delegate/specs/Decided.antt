@@ -4,8 +4,8 @@ use Rattle.std.specs.Prelude.{ℕ, List, ◌++◌, length, codes, Option, Some, 
 use Rattle.rd_base.specs.Results.{◌>>=◌}
 use Rattle.rd_base.specs.declared.digest.Digest32.{Digest32}
 use Rattle.rv_step.specs.State.{State}
-use Rattle.tournament.specs.declared.verdict.Verdict.{Verdict}
-use Rattle.tournament.specs.declared.verdict.Verdict.TheVariants.{Accept, NoneLeft, Collision}
+use Rattle.tournament.specs.declared.reading.Verdict.{Verdict}
+use Rattle.tournament.specs.declared.reading.Verdict.TheVariants.{Accept, NoneLeft, Collision}
 use Rattle.tournament.specs.Bracket.{Record}
 use Rattle.deposits.specs.declared.amounts.Balances.{Balances}
 use Rattle.deposits.specs.Balances.{balances_of}

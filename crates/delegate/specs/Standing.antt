@@ -22,7 +22,7 @@ use Rattle.delegate.specs.declared.response.Stop.{Stop}
 use Rattle.delegate.specs.declared.response.Stop.TheVariants.{Refused}
 use Rattle.deposits.specs.Balances.{IsSettledUp}
 use Rattle.case_match.specs.declared.referee.Ended.{Ended}
-use Rattle.tournament.specs.declared.verdict.Verdict.{Verdict}
+use Rattle.tournament.specs.declared.reading.Verdict.{Verdict}
 use Rattle.tournament.specs.Bracket.{Record}
 use Rattle.delegate.specs.Headline.{AreByteStrings}
 

@@ -3,7 +3,7 @@ ghost use Rattle.std.specs.Prelude.{◌≡◌, ◌+◌, ◌^◌, ◌<◌, ◌≤
 ghost use Rattle.std.specs.List.{All};
 ghost use Rattle.seat_lock.specs.History.{log_of, Begins, NoneTwice};
 ghost use Rattle.seat_lock.specs.Seats.{IfMade, first_seat, after_split, split_off, after_join};
-ghost use Rattle.board_book.specs.declared.opening.Opening.{Opening};
+ghost use Rattle.board_book.specs.declared.book.Opening.{Opening};
 ghost use Rattle.tournament.specs.Posting.{answer_of};
 ghost use Rattle.bisect_game.specs.Rules.{rules_of};
 ghost use Rattle.board_book.specs.Tasks.{task_of, of_task};
@@ -43,7 +43,7 @@ pub struct Seat<J: Judge + Drop, P: Provers + Drop> {
 }
 
 impl<J: Judge + Drop, P: Provers + Drop> Model for Seat<J, P> {
-    ghost use Rattle.board_book.specs.declared.opening.Opening.{Opening};
+    ghost use Rattle.board_book.specs.declared.book.Opening.{Opening};
     ghost use Rattle.seat_lock.specs.Seats.{Known};
     ghost use Rattle.dispute_board.specs.OneTask.{of_one, HasOneTask};
 

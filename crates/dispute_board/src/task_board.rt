@@ -3,7 +3,7 @@ ghost use Rattle.std.specs.Prelude.{◌≡◌, ◌+◌, ◌^◌, ◌<◌, length
 ghost use Rattle.std.specs.List.{All};
 ghost use Rattle.seat_lock.specs.History.{log_of, Begins, NoneTwice};
 ghost use Rattle.seat_lock.specs.Seats.{IfMade, first_seat, after_split, split_off, after_join};
-ghost use Rattle.board_book.specs.declared.opening.Opening.{Opening};
+ghost use Rattle.board_book.specs.declared.book.Opening.{Opening};
 ghost use Rattle.tournament.specs.Posting.{answer_of};
 ghost use Rattle.board_book.specs.Tasks.{openings, tasks_of};
 ghost use Rattle.dispute_board.specs.OneHistory.{log_of_journal, MayPostFor, IsThere, AsksOnBoard, PostsOnBoard};

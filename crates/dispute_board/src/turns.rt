@@ -21,7 +21,7 @@ pub struct Openings<N, M> {
 
 impl<N, M> Model for Openings<N, M> {
     ghost use Rattle.std.specs.Prelude.{List, []};
-    ghost use Rattle.board_book.specs.declared.opening.Opening.{Opening};
+    ghost use Rattle.board_book.specs.declared.book.Opening.{Opening};
 
     ghost Value = { List (Opening N M) };
 

@@ -7,7 +7,7 @@ use Rattle.state_commit.specs.StateRoot.{root_in}
 use Rattle.step_referee.specs.MachineRuling.{machine_ruling}
 use Rattle.step_referee.specs.MachineTruth.{machine_truth}
 use Rattle.bisect_game.specs.Rules.{Rules}
-use Rattle.tournament.specs.declared.verdict.Verdict.{Verdict}
+use Rattle.tournament.specs.declared.reading.Verdict.{Verdict}
 use Rattle.tournament.specs.Theorem.{IsCollisionIn}
 use Rattle.transcript_text.specs.declared.text.Head.{Head}
 use Rattle.transcript_text.specs.declared.text.Stated.{Stated}

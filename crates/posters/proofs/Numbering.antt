@@ -9,7 +9,7 @@ use Rattle.rd_base.specs.declared.answer.Answer.{Answer}
 use Rattle.bisect_game.specs.declared.question.Question.{Question}
 use Rattle.bisect_game.specs.Ruling.{Ruling}
 use Rattle.bisect_game.specs.Says.{Says, AnswerAs}
-use Rattle.board_book.specs.declared.opening.Opening.{Opening}
+use Rattle.board_book.specs.declared.book.Opening.{Opening}
 use Rattle.board_book.specs.declared.entry.Entry.{Entry}
 use Rattle.board_book.specs.Tasks.{Task, task_of, BookOf, openings, tasks_of, numbered, entries_of, of_task, sayings_from, sayings}
 use Rattle.board_book.specs.Keeping.{AreNumbered, AreToldApart, SayInOrder}

@@ -5,13 +5,13 @@
 //! item at each place is afterwards as before. No clause states that a server serves anything, that a second thread ran, or that the
 //! servers come to an end. The code shows that each item itself is at its place again, and that no thread is started if there is one
 //! server. Nothing here knows what is served, or where.
-ghost use Rattle.std.specs.Prelude.{◌≡◌, ℕ, ◌+◌, ◌%◌, ◌^◌, ◌<◌, ◌≤◌, All, length, map, take, drop};
+ghost use Rattle.std.specs.Prelude.{◌≡◌, ℕ, ◌+◌, ◌%◌, ◌^◌, ◌<◌, ◌≤◌, All, [], length, slice_index, map, take, drop};
 ghost use Rattle.std.specs.List.{range_with_len};
 ghost use Rattle.std.specs.Thread.{IsSync};
 ghost use Rattle.posters.specs.Classes.{HaveClasses};
-ghost use Rattle.posters.specs.ByClass.{Suits};
+ghost use Rattle.posters.specs.Swaps.{swapped, swapped_back};
+ghost use Rattle.posters.specs.ByClass.{IsByClass, Suits};
 
-use crate::order::{Order, arrange, count_below, restore};
 use std::alloc::{AllocError, Global};
 use std::sync::Wait;
 use std::thread::{Threads, join_mut};
@@ -53,6 +53,64 @@ pub trait ClassServer<Board, Item> {
         requires class { All (λ n. n % classes ≡ class_of (stays self.old)) numbers.now }
         ensures server { stays self.new ≡ stays self.old }
         ensures items { map meaning items.new ≡ map meaning items.old };
+}
+
+/// The numbers of items, in the order of their classes.
+#[derive(Drop)]
+struct Order {
+    /// How many classes there are. The class of a number is what it leaves when divided by this.
+    classes: u32,
+    numbers: Vec<u32>,
+}
+
+/// Puts numbers and items into the order of the classes. Swap m changed the places m and `swaps[m]`.
+fn arrange<A>(classes: u32, numbers: &mut Vec<u32>, items: &mut [A], swaps: &mut Vec<usize>)
+    requires some { 0 < classes }
+    requires long { length numbers.old.items ≡ length items.old }
+    requires room { (swaps.old.items ≡ []) × (length items.old ≤ swaps.old.cap) }
+    ensures few { length swaps.new.items ≤ length items.old }
+    ensures places { All (λ j. j < length items.old) swaps.new.items }
+    ensures numbers { numbers.new.items ≡ swapped 0 swaps.new.items numbers.old.items }
+    ensures items { items.new ≡ swapped 0 swaps.new.items items.old }
+    ensures by_class { IsByClass classes numbers.new.items }
+{
+    for class in 0..classes {
+        let mut i = swaps.len();
+        while i < items.len() {
+            if numbers[i] % classes == class {
+                let place = swaps.len();
+                numbers.swap(place, i);
+                items.swap(place, i);
+                swaps.push_reserved(i);
+            }
+            i += 1;
+        }
+    }
+}
+
+/// Takes the swaps back, the last first.
+fn restore<A>(mut swaps: Vec<usize>, items: &mut [A])
+    requires few { length swaps.items ≤ length items.old }
+    requires places { All (λ j. j < length items.old) swaps.items }
+    ensures { items.new ≡ swapped_back 0 swaps.items items.old }
+{
+    while let Some(j) = swaps.pop() {
+        items.swap(swaps.len(), j);
+    }
+}
+
+/// How many of the first numbers are of a class below this one.
+fn count_below(classes: u32, class: u32, numbers: &[u32]) -> usize
+    requires some { 0 < classes }
+    ensures within { result ≤ length numbers.now }
+    ensures below { (j : ℕ) → j < result → slice_index numbers.now j % classes < class }
+    ensures at { result < length numbers.now → class ≤ slice_index numbers.now result % classes }
+{
+    let mut i = 0;
+    while i < numbers.len() && numbers[i] % classes < class {
+        i += 1;
+    }
+    i
 }
 
 /// The one server that there is serves all these items.

@@ -6,7 +6,7 @@
 //! speed alone, so that a lost wake costs time.
 ghost use Rattle.std.specs.Prelude.{◌≡◌, List, map, slice_get};
 ghost use Rattle.std.specs.Thread.{IsSync};
-ghost use Rattle.board_book.specs.declared.opening.Opening.{Opening};
+ghost use Rattle.board_book.specs.declared.book.Opening.{Opening};
 ghost use Rattle.posters.specs.Serving.{kept_of, IsSeatOf, IsProver, MayServe};
 
 use crate::playing::{Place, TaskGate};
@@ -263,7 +263,7 @@ impl<'g, J: Judge + Drop, P: Provers + Drop, A: Answerer, G: TaskGate> ClassServ
     ghost use Rattle.std.specs.Prelude.{◌≡◌, ℕ, Option, List};
     ghost use Rattle.rd_base.specs.declared.answer.Answer.{Answer};
     ghost use Rattle.bisect_game.specs.declared.question.Question.{Question};
-    ghost use Rattle.board_book.specs.declared.opening.Opening.{Opening};
+    ghost use Rattle.board_book.specs.declared.book.Opening.{Opening};
     ghost use Rattle.seat_lock.specs.Seats.{Known};
     ghost use Rattle.posters.specs.Serving.{places_from, kept_of, IsSeatOf, said_by};
 

@@ -6,7 +6,7 @@ ghost use Rattle.segment_replay.specs.Roots.{root_at, digests};
 ghost use Rattle.prover_run.specs.Plain as plain;
 ghost use Rattle.prover_run.specs.Prover.{Prover, IsRunOf, AreKept, run_of, root_of};
 
-use crate::plan::Plan;
+use crate::start::Plan;
 use bisect_game::{Kind, steps_asked};
 use open_proof::{make_claim, make_proof};
 use rd_base::{Answer, Boxed, Digest32, Memory, RootList};

@@ -15,13 +15,11 @@
 
 mod answering;
 mod laws;
-mod plan;
 mod prover;
 mod provers;
 mod start;
 
 pub use laws::{harmless_manners, outputs_grow_slowly, provers_are_steady, untouched_provers};
-pub use plan::Plan;
 pub use prover::RunAnswerer;
 pub use provers::{CaseNames, CaseProvers, answerers_of, answerers_with_input};
-pub use start::Start;
+pub use start::{Plan, Start};

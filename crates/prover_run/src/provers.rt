@@ -5,9 +5,8 @@ ghost use Rattle.state_commit.specs.Committing.{HasInput};
 ghost use Rattle.bisect_game.specs.Says.{AnswerAs};
 ghost use Rattle.prover_run.specs.CaseScripts.{script_says, case_says};
 
-use crate::plan::Plan;
 use crate::prover::RunAnswerer;
-use crate::start::Start;
+use crate::start::{Plan, Start};
 use bisect_game::{Answerer, Provers, Question};
 use digest_core::Digester;
 use prover_script::{Scripted, waits};

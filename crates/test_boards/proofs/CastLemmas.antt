@@ -7,7 +7,7 @@ use Rattle.rd_base.specs.declared.answer.Answer.{Answer}
 use Rattle.bisect_game.specs.declared.question.Question.{Question}
 use Rattle.bisect_game.specs.Says.{Says}
 use Rattle.bisect_game.specs.Setup.{Setup}
-use Rattle.board_book.specs.declared.opening.Opening.{Opening}
+use Rattle.board_book.specs.declared.book.Opening.{Opening}
 use Rattle.board_book.specs.Tasks.{BookOf, openings, sayings, sayings_from}
 use Rattle.toy_game.specs.declared.cast.Cast.{Cast}
 use Rattle.toy_game.specs.declared.player.Player.{Player}

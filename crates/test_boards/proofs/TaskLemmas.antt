@@ -7,7 +7,7 @@ use Rattle.bisect_game.specs.Setup.{Setup}
 use Rattle.seat_lock.specs.History.{LogEntry}
 use Rattle.seat_lock.specs.Seats.{LockId, Known, first_seat}
 use Rattle.seat_lock.specs.Turned.{SameSeat}
-use Rattle.board_book.specs.declared.opening.Opening.{Opening}
+use Rattle.board_book.specs.declared.book.Opening.{Opening}
 use Rattle.board_book.specs.declared.entry.Ask.{Ask}
 use Rattle.board_book.specs.declared.entry.Ask.TheVariants as variant
 use Rattle.board_book.specs.Tasks.{Task, task_of, BookOf, openings, tasks_of, numbered}

@@ -3,7 +3,7 @@ use Rattle.std.specs.Prelude.{ℕ, ◌<◌, ◌≤◌, ◌==◌, if◌then◌els
 use Rattle.bisect_game.specs.Setup.{Setup}
 use Rattle.tournament.specs.Moves.{begun}
 use Rattle.bisect_game.specs.Rules.{rules_of}
-use Rattle.board_book.specs.declared.opening.Opening.{Opening}
+use Rattle.board_book.specs.declared.book.Opening.{Opening}
 use Rattle.board_book.specs.Tasks.{BookOf}
 use Rattle.toy_game.specs.declared.cast.Cast.{Cast}
 use Rattle.toy_game.specs.Toy.{root, toy_ruling}

@@ -1,5 +1,5 @@
 -- To believe for the tests alone: a seat at a board where players of the toy game play two tasks.
-use Rattle.board_book.specs.declared.opening.Opening.{Opening}
+use Rattle.board_book.specs.declared.book.Opening.{Opening}
 use Rattle.std.specs.Prelude.{◌≡◌, ℕ, List, [], ◌∷◌, Some}
 use Rattle.seat_lock.specs.Seats.{LockId, Known}
 use Rattle.bisect_game.specs.Setup.{Setup}

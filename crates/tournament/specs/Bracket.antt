@@ -17,8 +17,8 @@ use Rattle.bisect_game.specs.Ruling.{Ruling, same_digest}
 use Rattle.bisect_game.specs.Rules.{Rules, claim_question}
 use Rattle.bisect_game.specs.Bisection.{Bisection, question_of, is_closed, asks, settle_first, settle_second}
 use Rattle.bisect_game.specs.Disputes.{Answers, played, dispute_of}
-use Rattle.tournament.specs.declared.verdict.Verdict.{Verdict}
-use Rattle.tournament.specs.declared.verdict.Verdict.TheVariants.{Accept, NoneLeft, Collision}
+use Rattle.tournament.specs.declared.reading.Verdict.{Verdict}
+use Rattle.tournament.specs.declared.reading.Verdict.TheVariants.{Accept, NoneLeft, Collision}
 
 -- what is settled in a match: what each prover's claim is settled as, by number, and the disputes by number
 pub record Record : Type 0 where

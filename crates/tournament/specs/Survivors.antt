@@ -6,7 +6,7 @@ use Rattle.bisect_game.specs.Bisection.{Bisection}
 use Rattle.bisect_game.specs.Ruling.{Ruling, IsFair}
 use Rattle.bisect_game.specs.Rules.{Rules, ArePlayable}
 use Rattle.bisect_game.specs.Truth.{Truth}
-use Rattle.tournament.specs.declared.verdict.Verdict.TheVariants.{Accept}
+use Rattle.tournament.specs.declared.reading.Verdict.TheVariants.{Accept}
 use Rattle.tournament.specs.Bracket.{Record, live, is_complete, verdict_of}
 use Rattle.tournament.specs.Collisions.{HasGiven}
 use Rattle.tournament.specs.Posting.{Post, record_after}

@@ -12,8 +12,8 @@ use Rattle.bisect_game.specs.Rules.{Rules, ArePlayable}
 use Rattle.bisect_game.specs.Bisection.{Bisection, rounds_of, proof_rounds_of}
 use Rattle.bisect_game.specs.Closing.{is_proved}
 use Rattle.bisect_game.specs.Truth.{Truth, IsRun, IsTruthful, IsRight, IsProved, own_open, own_root}
-use Rattle.tournament.specs.declared.verdict.Verdict.{Verdict}
-use Rattle.tournament.specs.declared.verdict.Verdict.TheVariants.{Accept, NoneLeft, Collision}
+use Rattle.tournament.specs.declared.reading.Verdict.{Verdict}
+use Rattle.tournament.specs.declared.reading.Verdict.TheVariants.{Accept, NoneLeft, Collision}
 use Rattle.tournament.specs.Bracket.{Record, live, is_out_in, is_complete, verdict_of}
 use Rattle.tournament.specs.Posting.{Post, record_after}
 

@@ -12,17 +12,16 @@ ghost use Rattle.tournament.specs.Rulings.{rulings_of};
 ghost use Rattle.tournament.specs.Theorem.{AreTrue, Stays, IsRightVerdict, AllShort};
 ghost use Rattle.tournament.specs.FewPosts.{AsksSomebody};
 ghost use Rattle.tournament.specs.Survivors.{HaveOneClaim};
-ghost use Rattle.tournament.specs.declared.verdict.Verdict.TheVariants.{Accept};
+ghost use Rattle.tournament.specs.declared.reading.Verdict.TheVariants.{Accept};
 
 use crate::laws::{
     a_match_has_few_disputes_and_rounds, matches_are_never_stuck, nobody_asked_means_over,
     survivors_agree, the_verdict_is_right, truthful_provers_stay,
 };
 use crate::posting::{Move, Reply, judged, reply_by};
-use crate::reading::{all_closed, all_there, question_in};
+use crate::reading::{Verdict, all_closed, all_there, question_in};
 use crate::record::Record;
 use crate::sheet::Sheet;
-use crate::verdict::Verdict;
 use bisect_game::{Claimed, Judge, Question, Settled, Setup};
 use rd_base::{Digest32, Memory, Qid, same_qid};
 use std::alloc::Global;

@@ -1,11 +1,21 @@
-//! What is read off claims and disputes.
+//! What is read off claims and disputes, and how a match ends by them.
 ghost use Rattle.std.specs.Prelude.{◌≡◌, ◌+◌, ◌<◌, ◌≤◌, ◌^◌, ◌++◌, [], ℕ, length, vec_len, vec_capacity};
 ghost use Rattle.tournament.specs.Bracket.{put_out, is_out_by, collided, all_there, all_out, is_out_in, live_from, collision_with, claims_collision, disputes_collision, question_in, all_closed, lowest, last_stage};
 ghost use Rattle.tournament.specs.Keeping.{asks_of, asked_from, sides};
 
-use crate::verdict::Verdict;
 use bisect_game::{Claimed, Close, Dispute, Judge, Question, Settled, Side};
 use rd_base::{Answer, Claim, OpenText};
+
+/// How a match ended.
+#[derive(Debug, Drop)]
+pub enum Verdict {
+    /// The claim of the prover with this number is accepted.
+    Accept(u32),
+    /// Nobody is left.
+    NoneLeft,
+    /// Two different strings of one digest, each opened by an answer of the record.
+    Collision(OpenText, OpenText),
+}
 
 /// Whether a dispute has eliminated a side.
 fn has_put_out(dispute: &Dispute) -> bool

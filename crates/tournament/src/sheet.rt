@@ -6,10 +6,10 @@ ghost use Rattle.bisect_game.specs.Disputes.{dispute_of};
 ghost use Rattle.bisect_game.specs.Rules.{rules_of};
 
 use crate::reading::{
-    all_out, all_there, claims_collision, disputes_collision, fill_live, last_stage, lowest,
+    Verdict, all_out, all_there, claims_collision, disputes_collision, fill_live, last_stage,
+    lowest,
 };
 use crate::record::Record;
-use crate::verdict::Verdict;
 use bisect_game::{Claimed, Dispute, Judge, Room, Settled, Setup};
 use rd_base::{Digest32, Memory, same_digest};
 use std::alloc::Global;

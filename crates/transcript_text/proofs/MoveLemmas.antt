@@ -1,7 +1,7 @@
 -- Lists of moves, written one after another.
 use Rattle.std.proofs.Common.{◌≡◌, ℕ, ◌+◌, ◌<◌, List, [], ◌∷◌, ◌++◌, length, drop, get_or, Some, refl, sym, ◌∙◌, ap, append_assoc}
 use Rattle.std.specs.Prelude.{codes}
-use Rattle.tournament.specs.declared.verdict.Verdict.{Verdict}
+use Rattle.tournament.specs.declared.reading.Verdict.{Verdict}
 use Rattle.tournament.specs.Bracket.{Record}
 use Rattle.bisect_game.specs.Bisection.{Bisection}
 use Rattle.transcript_text.specs.declared.text.Head.{Head}

@@ -12,7 +12,7 @@ use Rattle.bisect_game.specs.Ruling.{same_digest}
 use Rattle.bisect_game.specs.Closing.{is_step}
 use Rattle.bisect_game.specs.Bisection.{Bisection, middle, roots_in, kept_part}
 use Rattle.bisect_game.specs.Truth.{is_put_out}
-use Rattle.tournament.specs.declared.verdict.Verdict.{Verdict}
+use Rattle.tournament.specs.declared.reading.Verdict.{Verdict}
 use Rattle.tournament.specs.Bracket.{Record}
 use Rattle.deposits.specs.declared.amounts.Balances.{Balances}
 use Rattle.transcript_text.specs.declared.text.Stated.{Stated}

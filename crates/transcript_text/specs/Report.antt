@@ -5,7 +5,7 @@ use Rattle.hex.specs.Hex.{encode_lower}
 use Rattle.rd_base.specs.Status.{status_text}
 use Rattle.rd_base.specs.declared.status.Status.{Status}
 use Rattle.deposits.specs.declared.amounts.Balances.{Balances}
-use Rattle.tournament.specs.declared.verdict.Verdict.{Verdict}
+use Rattle.tournament.specs.declared.reading.Verdict.{Verdict}
 use Rattle.tournament.specs.Bracket.{Record}
 use Rattle.transcript_text.specs.Words.{word_text}
 use Rattle.transcript_text.specs.Lines.{Said, Parted, Line, claim_line, out_line, stage_line, dispute_line, compared_line, round_line, kept_line, parts_line, step_line, balance_line, pool_line, accept_line, none_left_line, collision_line, lines_of_record, lines_of_balances, line_of_verdict}

@@ -3,8 +3,8 @@ use Rattle.std.specs.Prelude.{◌≡◌, ℕ, zero, suc, List, Option, Some, Non
 use Rattle.rd_base.specs.declared.claim.Claim.{Claim}
 use Rattle.bisect_game.specs.declared.settled.Settled.{Settled}
 use Rattle.bisect_game.specs.Rules.{Rules}
-use Rattle.tournament.specs.declared.verdict.Verdict.{Verdict}
-use Rattle.tournament.specs.declared.verdict.Verdict.TheVariants as verdict
+use Rattle.tournament.specs.declared.reading.Verdict.{Verdict}
+use Rattle.tournament.specs.declared.reading.Verdict.TheVariants as verdict
 use Rattle.tournament.specs.Bracket.{Record, claim_in, verdict_of}
 use Rattle.transcript_text.specs.declared.text.Stated.{Stated}
 use Rattle.transcript_text.specs.declared.text.Stated.TheVariants.{Accept, NoneLeft, Collision}

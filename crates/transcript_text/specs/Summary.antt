@@ -1,7 +1,7 @@
 -- To believe. The line that sums up the match of a large workload. Numbers are decimal.
 use Rattle.std.specs.Prelude.{ℕ, ◌+◌, List, [], ◌∷◌, ◌++◌, length, codes, decimal}
 use Rattle.bisect_game.specs.Bisection.{Bisection, rounds_of}
-use Rattle.tournament.specs.declared.verdict.Verdict.{Verdict}
+use Rattle.tournament.specs.declared.reading.Verdict.{Verdict}
 use Rattle.tournament.specs.Bracket.{Record}
 use Rattle.transcript_text.specs.Lines.{line_of_verdict}
 use Rattle.transcript_text.specs.Report.{text_if_there}

@@ -17,7 +17,7 @@ use Rattle.bisect_game.specs.Rules.{rules_of}
 use Rattle.tournament.specs.Rulings.{rulings_of, RulingsAreFew}
 use Rattle.tournament.specs.FewPosts.{AsksSomebody, NeverStuck}
 use Rattle.tournament.specs.Survivors.{HaveOneClaim, SurvivorsAgree}
-use Rattle.tournament.specs.declared.verdict.Verdict.TheVariants.{Accept}
+use Rattle.tournament.specs.declared.reading.Verdict.TheVariants.{Accept}
 use Rattle.tournament.specs.Theorem.{AreTrue, Stays, TruthfulStay, IsRightVerdict, VerdictIsRight, FewDisputes, AllShort, FewRounds}
 
 -- a move on the open question is a post

@@ -5,7 +5,7 @@ use Rattle.rd_base.specs.declared.claim.Claim.{Claim}
 use Rattle.std.specs.Option.{option_or}
 use Rattle.bisect_game.specs.Rules.{Rules}
 use Rattle.bisect_game.specs.Ruling.{IsFair}
-use Rattle.tournament.specs.declared.verdict.Verdict.TheVariants.{Accept}
+use Rattle.tournament.specs.declared.reading.Verdict.TheVariants.{Accept}
 use Rattle.tournament.specs.Bracket.{Record, live_from, live, collision_with, claims_collision, pairs_of, all_there, all_out, all_closed, is_stage_due, stage_opened, nothing_settled, disputes_collision, lowest, or_lowest}
 use Rattle.tournament.specs.Posting.{Post, record_after}
 use Rattle.tournament.specs.Theorem.{lives}

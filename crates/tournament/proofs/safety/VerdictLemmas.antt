@@ -10,7 +10,7 @@ use Rattle.bisect_game.specs.declared.settled.Settled.{Settled}
 use Rattle.bisect_game.specs.declared.settled.Settled.TheVariants.{Given}
 use Rattle.bisect_game.specs.declared.settled.Close.{Close}
 use Rattle.bisect_game.specs.declared.settled.Close.TheVariants.{Out, Collision}
-use Rattle.tournament.specs.declared.verdict.Verdict.TheVariants.{Collision}
+use Rattle.tournament.specs.declared.reading.Verdict.TheVariants.{Collision}
 use Rattle.bisect_game.specs.Bisection.{Bisection, is_closed, settle_first, settle_second, closed_or, went_on, decided, advanced}
 use Rattle.bisect_game.specs.Closing.{both_proved, closed_by, close_of, is_out, is_proved, is_root, is_step}
 use Rattle.bisect_game.specs.Rules.{Rules, ArePlayable}

@@ -16,8 +16,8 @@ use Rattle.bisect_game.specs.Rules.{Rules, ArePlayable}
 use Rattle.bisect_game.specs.Closing.{is_step}
 use Rattle.bisect_game.specs.Bisection.{Bisection, rounds_of}
 use Rattle.proof_wire.specs.Wire.{status as status_form, wire_form}
-use Rattle.tournament.specs.declared.verdict.Verdict.{Verdict}
-use Rattle.tournament.specs.declared.verdict.Verdict.TheVariants as verdict
+use Rattle.tournament.specs.declared.reading.Verdict.{Verdict}
+use Rattle.tournament.specs.declared.reading.Verdict.TheVariants as verdict
 use Rattle.tournament.specs.Bracket.{Record, claim_in, verdict_of}
 use Rattle.tournament.specs.Posting.{Post, record_after}
 use Rattle.tournament.specs.Theorem.{FewDisputes, FewRounds, AllShort, IsShort}

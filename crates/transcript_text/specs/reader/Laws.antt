@@ -1,8 +1,8 @@
 -- Derived: reading is the inverse of writing. The laws of these names show it.
 use Rattle.std.specs.Prelude.{◌≡◌, ◌↔◌, ℕ, List, Some, Ok}
 use Rattle.bisect_game.specs.Rules.{Rules, ArePlayable}
-use Rattle.tournament.specs.declared.verdict.Verdict.{Verdict}
-use Rattle.tournament.specs.declared.verdict.Verdict.TheVariants as verdict
+use Rattle.tournament.specs.declared.reading.Verdict.{Verdict}
+use Rattle.tournament.specs.declared.reading.Verdict.TheVariants as verdict
 use Rattle.tournament.specs.Bracket.{Record, verdict_of}
 use Rattle.tournament.specs.Posting.{Post, record_after}
 use Rattle.transcript_text.specs.declared.text.Head.{Head}

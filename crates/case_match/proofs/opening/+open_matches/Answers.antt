@@ -1,7 +1,7 @@
 use Rattle.std.proofs.Common.{rules, All, map, [], ◌∷◌, ◌∙◌, sym, ap, subst}
 use Rattle.rv_step.specs.State.{state_of}
 use Rattle.case_reader.specs.Case.{data_of}
-use Rattle.case_match.specs.declared.loaded.LoadedCase.{LoadedCase}
+use Rattle.case_match.specs.declared.opening.LoadedCase.{LoadedCase}
 use Rattle.case_match.specs.Openings.{IsFresh, opening_of}
 use Rattle.case_match.proofs.TaskLemmas.{all_first, last-all, one-more-empty, one-more-opened, one-more-said, said-by-book}
 use Rattle.case_match.proofs.opening.+open_matches.Goals as goal

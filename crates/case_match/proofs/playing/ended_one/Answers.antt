@@ -1,7 +1,7 @@
 use Rattle.std.proofs.Common.{All, map, length, [], ◌∙◌, sym, ap, subst, arith}
 use Rattle.std.proofs.lemmas.List.Elements.{All-nil, All-cons}
 use Rattle.rv_step.specs.State.{state_of}
-use Rattle.case_match.specs.declared.loaded.LoadedCase.{LoadedCase}
+use Rattle.case_match.specs.declared.opening.LoadedCase.{LoadedCase}
 use Rattle.case_match.specs.declared.referee.Ended.{Ended}
 use Rattle.case_match.specs.Openings.{IsFresh, ended_of}
 use Rattle.case_match.proofs.TaskLemmas.{one-loaded, only-last, record-settled}

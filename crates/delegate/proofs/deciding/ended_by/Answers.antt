@@ -1,6 +1,6 @@
 use Rattle.std.proofs.Common.{◌∙◌, All, map, ap, sym, subst}
 use Rattle.std.proofs.lemmas.Result.{IfOk-weaker}
-use Rattle.case_match.specs.declared.loaded.LoadedCase.{LoadedCase}
+use Rattle.case_match.specs.declared.opening.LoadedCase.{LoadedCase}
 use Rattle.case_match.specs.Openings.{IsFresh, ended_of}
 use Rattle.delegate.specs.Decided.{digest_of}
 use Rattle.delegate.proofs.deciding.ended_by.Goals as goal

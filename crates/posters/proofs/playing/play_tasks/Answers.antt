@@ -1,6 +1,6 @@
 use Rattle.std.proofs.Common.{rules, ◌≡◌, ℕ, ◌+◌, ◌<◌, ◌≤◌, arith, List, ◌++◌, append_assoc, length, map, get_or, refl, sym, ap, ◌∙◌, subst}
 use Rattle.seat_lock.specs.History.{log_of, Begins}
-use Rattle.board_book.specs.declared.opening.Opening.{Opening}
+use Rattle.board_book.specs.declared.book.Opening.{Opening}
 use Rattle.board_book.specs.Tasks.{openings, sayings}
 use Rattle.dispute_board.specs.OneHistory.{log_of_journal}
 use Rattle.posters.specs.declared.serving.Poster.{Poster}

@@ -1,4 +1,4 @@
-use Rattle.board_book.specs.declared.opening.Opening.{Opening}
+use Rattle.board_book.specs.declared.book.Opening.{Opening}
 use Rattle.std.proofs.Common.{◌≡◌, ℕ, None, sym, ap, ◌∙◌}
 use Rattle.bisect_game.specs.Setup.{Setup}
 use Rattle.bisect_game.specs.Rules.{rules_of}

@@ -1,6 +1,6 @@
 use Rattle.std.proofs.Common.{◌≡◌, ℕ, List, Some, sym, ◌∙◌, subst}
 use Rattle.tournament.specs.Posting.{answer_of}
-use Rattle.board_book.specs.declared.opening.Opening.{Opening}
+use Rattle.board_book.specs.declared.book.Opening.{Opening}
 use Rattle.board_book.specs.Tasks.{tasks_of}
 use Rattle.dispute_board.specs.OneHistory.{MayPostFor, IsThere}
 use Rattle.posters.proofs.Numbering.{is_there}

@@ -1,6 +1,6 @@
 use Rattle.std.proofs.Common.{◌≡◌, ◌++◌, map}
 use Rattle.case_match.specs.declared.referee.Ended.{Ended}
-use Rattle.case_match.proofs.tasks.endings.Given as goal
+use Rattle.case_match.proofs.verdict.endings.Given as goal
 
 abbrev pub invariant-ends : goal.invariant-ends
 invariant-ends l = record {

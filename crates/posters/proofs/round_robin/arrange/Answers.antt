@@ -4,8 +4,8 @@ use Rattle.posters.specs.Swaps.{swapped}
 use Rattle.posters.specs.Arranging.{IsArranging}
 use Rattle.posters.proofs.Swaps.{swapped-append, All-snoc}
 use Rattle.posters.proofs.ByClass.{arranging-swap, arranging-pass-as, number_here, class_here}
-use Rattle.posters.proofs.order.arrange.Goals.{then-index-classes, else-index-classes}
-use Rattle.posters.proofs.order.arrange.Goals as goal
+use Rattle.posters.proofs.round_robin.arrange.Goals.{then-index-classes, else-index-classes}
+use Rattle.posters.proofs.round_robin.arrange.Goals as goal
 
 pub loop-i-preserved : goal.loop-i-preserved
 loop-i-preserved g c = let v = c.loop-i.invariant in let test = c.loop-i-test.true in elim c.if-index-classes.branch [

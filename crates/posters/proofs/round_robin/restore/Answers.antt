@@ -1,7 +1,7 @@
 use Rattle.std.proofs.Common.{rules, ◌≡◌, ◌+◌, ◌<◌, All, [], ◌∷◌, ◌++◌, length, sym, ap, ◌∙◌, subst, arith, length-append}
 use Rattle.posters.specs.Swaps.{swapped_back}
 use Rattle.posters.proofs.Swaps.{swapped_back-append, All-unsnoc}
-use Rattle.posters.proofs.order.restore.Goals as goal
+use Rattle.posters.proofs.round_robin.restore.Goals as goal
 
 pub loop-j-preserved : goal.loop-j-preserved
 loop-j-preserved g c =

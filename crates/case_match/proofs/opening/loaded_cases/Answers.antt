@@ -1,9 +1,9 @@
 use Rattle.std.proofs.Common.{rules, ◌≡◌, map, length-append, [], ◌∷◌, ◌++◌, ◌∙◌, sym, ap, arith, append_assoc}
 use Rattle.std.proofs.lemmas.Grind.{common_steps}
 use Rattle.std.proofs.lemmas.List.{map-append}
-use Rattle.case_match.specs.declared.loaded.LoadedCase.{LoadedCase}
+use Rattle.case_match.specs.declared.opening.LoadedCase.{LoadedCase}
 use Rattle.case_match.proofs.TaskLemmas.{one-more-loaded, all-fresh}
-use Rattle.case_match.proofs.tasks.loaded_cases.Goals as goal
+use Rattle.case_match.proofs.opening.loaded_cases.Goals as goal
 
 pub starts-preserved : goal.starts-preserved
 starts-preserved c =

@@ -1,7 +1,7 @@
 use Rattle.std.proofs.Common.{◌≡◌, ◌+◌, ◌++◌, map, length, take}
 use Rattle.case_reader.specs.Case.{data_of}
-use Rattle.case_match.specs.declared.loaded.LoadedCase.{LoadedCase}
-use Rattle.case_match.proofs.tasks.loaded_cases.Given as goal
+use Rattle.case_match.specs.declared.opening.LoadedCase.{LoadedCase}
+use Rattle.case_match.proofs.opening.loaded_cases.Given as goal
 
 abbrev pub invariant-starts : goal.invariant-starts
 invariant-starts l = record {

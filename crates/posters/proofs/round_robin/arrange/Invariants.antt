@@ -1,7 +1,7 @@
 use Rattle.std.proofs.Common.{length, ◌-◌, ◌≡◌, ◌≤◌, ◌<◌, All}
 use Rattle.posters.specs.Swaps.{swapped}
 use Rattle.posters.specs.Arranging.{IsArranging}
-use Rattle.posters.proofs.order.arrange.Given as goal
+use Rattle.posters.proofs.round_robin.arrange.Given as goal
 
 abbrev pub invariant-loop-i : goal.invariant-loop-i
 invariant-loop-i g l = (length l.swaps.items ≤ l.i) × (length l.swaps.items ≤ length l.items) × (length l.numbers.items ≡ length l.items) × (length l.items ≡ length l.fn.items) × (l.swaps.cap ≡ l.fn.swaps.cap)

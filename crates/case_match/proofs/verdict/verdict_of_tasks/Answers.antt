@@ -1,11 +1,11 @@
 use Rattle.std.proofs.Common.{map, length, ◌∙◌, sym, ap, arith}
 use Rattle.std.proofs.lemmas.List.{length-map}
 use Rattle.std.proofs.lemmas.Result.{IfOk-weaker}
-use Rattle.case_match.specs.declared.loaded.LoadedCase.{LoadedCase}
+use Rattle.case_match.specs.declared.opening.LoadedCase.{LoadedCase}
 use Rattle.case_match.specs.declared.referee.Ended.{Ended}
 use Rattle.case_reader.specs.Case.{data_of}
 use Rattle.case_match.proofs.TaskLemmas.{as-alone, all-settled-up}
-use Rattle.case_match.proofs.tasks.verdict_of_tasks.Goals as goal
+use Rattle.case_match.proofs.verdict.verdict_of_tasks.Goals as goal
 
 pub ended_tasks-requires-clause-some : goal.ended_tasks-requires-clause-some
 ended_tasks-requires-clause-some g c κs within =

@@ -1,5 +1,5 @@
 use Rattle.std.proofs.Common.{ℕ, length, ◌-◌, ◌≤◌, ◌<◌, ◌%◌, slice_index}
-use Rattle.posters.proofs.order.count_below.Given as goal
+use Rattle.posters.proofs.round_robin.count_below.Given as goal
 
 abbrev pub invariant-loop-i : goal.invariant-loop-i
 invariant-loop-i l = (l.i ≤ length l.numbers) × ((j : ℕ) → j < l.i → slice_index l.numbers j % l.fn.classes < l.fn.class)
