@@ -1,4 +1,4 @@
-//! Loaded cases, and their matches, opened: their books, and an answerer for each of their provers.
+//! Loaded cases, and their matches, opened.
 ghost use Rattle.std.specs.Prelude.{◌≡◌, ℕ, List, [], map, length, IfOk};
 ghost use Rattle.std.specs.List.{All};
 ghost use Rattle.bisect_game.specs.Says.{AnswerAs};
@@ -53,27 +53,35 @@ pub fn loaded_cases<'a>(
     Ok(loads)
 }
 
-/// Opens the match of a case whose run starts in this machine: its book, and an answerer for each of its provers, which answers as its
-/// script says. In version 3 the tree of the input is built once, for the root and for all provers.
+/// The match of a case, opened: its book, and an answerer for each of its provers.
+#[derive(Drop)]
+struct OpenedMatch<D: Replays> {
+    book: Book<MachineJudge<D>, CaseProvers<D>>,
+    answerers: Vec<Scripted<RunAnswerer<D>, D>>,
+}
+
+/// The matches of cases, opened: their books, and the answerers of all their provers.
+#[derive(Drop)]
+pub struct OpenedMatches<D: Replays> {
+    pub books: Vec<Book<MachineJudge<D>, CaseProvers<D>>>,
+    pub answerers: Vec<Scripted<RunAnswerer<D>, D>>,
+}
+
+/// Opens the match of a case whose run starts in this machine. Each answerer answers as its prover's script says. In version 3 the tree of
+/// the input is built once, for the root and for all provers.
 fn open_match<D: Replays>(
     alloc: Global,
     d: D,
     case: &Case,
     start: Machine,
     options: Options,
-) -> Result<
-    (
-        Book<MachineJudge<D>, CaseProvers<D>>,
-        Vec<Scripted<RunAnswerer<D>, D>>,
-    ),
-    Memory,
->
+) -> Result<OpenedMatch<D>, Memory>
     requires fresh { IsFresh D.digest_of start }
     requires options { AreAtLeastOne options }
-    ensures opening { IfOk result (λ opened. opened.0.opening ≡ opening_of_case D.digest_of (data_of case.now) (state_of start)) }
-    ensures empty { IfOk result (λ opened. opened.0.journal ≡ []) }
-    ensures count { IfOk result (λ opened. length opened.1.items ≡ length case.now.provers) }
-    ensures says { IfOk result (λ opened. AnswerAs ⟦<Scripted<RunAnswerer<D>, D> as Answerer>⟧.answers (case_says D.digest_of (state_of start) case.now.bound case.now.provers) 1 opened.1.items) }
+    ensures opening { IfOk result (λ opened. opened.book.opening ≡ opening_of_case D.digest_of (data_of case.now) (state_of start)) }
+    ensures empty { IfOk result (λ opened. opened.book.journal ≡ []) }
+    ensures count { IfOk result (λ opened. length opened.answerers.items ≡ length case.now.provers) }
+    ensures says { IfOk result (λ opened. AnswerAs ⟦<Scripted<RunAnswerer<D>, D> as Answerer>⟧.answers (case_says D.digest_of (state_of start) case.now.bound case.now.provers) 1 opened.answerers.items) }
 {
     let input = SharedInput::of(alloc, d, &start)?;
     let root = state_root_with(d, &start, &input);
@@ -95,35 +103,38 @@ fn open_match<D: Replays>(
         case.patience,
         root,
     )?;
-    Ok((book, answerers))
+    Ok(OpenedMatch { book, answerers })
 }
 
-/// Opens the matches of loaded cases, in their order: their books, and the answerers of all their provers.
+/// Opens the matches of loaded cases, in their order.
 pub fn open_matches<D: Replays>(
     alloc: Global,
     d: D,
     mut loads: Vec<LoadedCase>,
     options: Options,
-) -> Result<
-    (
-        Vec<Book<MachineJudge<D>, CaseProvers<D>>>,
-        Vec<Scripted<RunAnswerer<D>, D>>,
-    ),
-    Memory,
->
+) -> Result<OpenedMatches<D>, Memory>
     requires fresh { All (λ l. IsFresh D.digest_of l.start) loads.items }
     requires options { AreAtLeastOne options }
-    ensures openings { IfOk result (λ opened. openings opened.0.items ≡ map (opening_of D.digest_of) loads.entry.items) }
-    ensures empty { IfOk result (λ opened. All (λ b. b.journal ≡ []) opened.0.items) }
-    ensures says { IfOk result (λ opened. map ⟦<Scripted<RunAnswerer<D>, D> as Answerer>⟧.answers opened.1.items ≡ sayings ⟦<CaseProvers<D> as Provers>⟧.says (openings opened.0.items)) }
+    ensures openings { IfOk result (λ opened. openings opened.books.items ≡ map (opening_of D.digest_of) loads.entry.items) }
+    ensures empty { IfOk result (λ opened. All (λ b. b.journal ≡ []) opened.books.items) }
+    ensures says { IfOk result (λ opened. map ⟦<Scripted<RunAnswerer<D>, D> as Answerer>⟧.answers opened.answerers.items ≡ sayings ⟦<CaseProvers<D> as Provers>⟧.says (openings opened.books.items)) }
 {
     let Some(last) = loads.pop() else {
-        return Ok((Vec::new(alloc), Vec::new(alloc)));
+        return Ok(OpenedMatches {
+            books: Vec::new(alloc),
+            answerers: Vec::new(alloc),
+        });
     };
     answerers_say_in_order::<Scripted<RunAnswerer<D>, D>>();
-    let (mut books, mut answerers) = open_matches(alloc, d, loads, options)?;
-    let (book, mut own) = open_match(alloc, d, last.case, last.start, options)?;
+    let OpenedMatches {
+        mut books,
+        mut answerers,
+    } = open_matches(alloc, d, loads, options)?;
+    let OpenedMatch {
+        book,
+        answerers: mut own,
+    } = open_match(alloc, d, last.case, last.start, options)?;
     books.push(book)?;
     answerers.append(&mut own)?;
-    Ok((books, answerers))
+    Ok(OpenedMatches { books, answerers })
 }

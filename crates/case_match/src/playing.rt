@@ -6,7 +6,7 @@ ghost use Rattle.deposits.specs.Balances.{IsSettledUp};
 ghost use Rattle.case_match.specs.Openings.{IsFresh, ended_of};
 
 use crate::laws::records_of_cases_are_settled_up;
-use crate::opening::{LoadedCase, open_matches};
+use crate::opening::{LoadedCase, OpenedMatches, open_matches};
 use crate::referee::{Ended, decide};
 use command_line::Options;
 use rd_base::Memory;
@@ -33,7 +33,10 @@ where
     requires options { AreAtLeastOne options }
     ensures { IfOk result (λ ends. ends.items ≡ map (ended_of D.digest_of) loads.entry.items) }
 {
-    let (books, mut answerers) = open_matches(alloc, d, loads, options)?;
+    let OpenedMatches {
+        books,
+        mut answerers,
+    } = open_matches(alloc, d, loads, options)?;
     decide(rt, alloc, books, answerers.as_mut_slice(), options.posters)
 }
 

@@ -19,18 +19,18 @@ open_match-requires-clause-fresh g t c =
 
 pub returns-clause-openings : goal.returns-clause-openings
 returns-clause-openings g t c =
-    one-more-opened (opening_of g.D.Digester.digest_of) c.in_ok-books.books.items c.push.new.self.items c.in_ok-book.book c.pop.new.self.items c.in-Some.last c.in_ok-push.ensures.items
+    one-more-opened (opening_of g.D.Digester.digest_of) c.in_ok-books.field-0.books.items c.push.new.self.items c.in_ok-book.field-0.book c.pop.new.self.items c.in-Some.last c.in_ok-push.ensures.items
     c.in_ok-book.ensures.opening c.in_ok-books.ensures.openings
     ∙ ap (map (opening_of g.D.Digester.digest_of)) (sym c.in-Some.ensures.items)
 
 pub returns-clause-empty : goal.returns-clause-empty
 returns-clause-empty g t c =
-    one-more-empty c.in_ok-books.books.items c.push.new.self.items c.in_ok-book.book c.in_ok-push.ensures.items c.in_ok-book.ensures.empty c.in_ok-books.ensures.empty
+    one-more-empty c.in_ok-books.field-0.books.items c.push.new.self.items c.in_ok-book.field-0.book c.in_ok-push.ensures.items c.in_ok-book.ensures.empty c.in_ok-books.ensures.empty
 
 pub returns-clause-says : goal.returns-clause-says
 returns-clause-says g t c =
-    one-more-said _ _ c.in_ok-books.answerers.items c.in_ok-book.own.items c.append.new.self.items c.in_ok-books.books.items c.push.new.self.items c.in_ok-book.book c.in_ok-append.ensures.items
+    one-more-said _ _ c.in_ok-books.field-0.answerers.items c.in_ok-book.field-0.answerers.items c.append.new.self.items c.in_ok-books.field-0.books.items c.push.new.self.items c.in_ok-book.field-0.book c.in_ok-append.ensures.items
     c.in_ok-push.ensures.items
-    (said-by-book _ c.answerers_say_in_order.ensures g.D.Digester.digest_of (data_of c.in-Some.last.case.now) (state_of c.in-Some.last.start) c.in_ok-book.book.opening c.in_ok-book.own.items
+    (said-by-book _ c.answerers_say_in_order.ensures g.D.Digester.digest_of (data_of c.in-Some.last.case.now) (state_of c.in-Some.last.start) c.in_ok-book.field-0.book.opening c.in_ok-book.field-0.answerers.items
     c.in_ok-book.ensures.opening c.in_ok-book.ensures.count c.in_ok-book.ensures.says)
     c.in_ok-books.ensures.says

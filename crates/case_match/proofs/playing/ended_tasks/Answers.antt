@@ -5,11 +5,11 @@ use Rattle.case_match.proofs.playing.ended_tasks.Goals as goal
 
 pub decide-requires-clause-some : goal.decide-requires-clause-some
 decide-requires-clause-some g c κs within =
-    let many = as-many-books g.D.Digester.digest_of c.args.loads.items c.in_ok-books.books.items c.in_ok-books.ensures.openings in omega (arith, many, c.requires.some)
+    let many = as-many-books g.D.Digester.digest_of c.args.loads.items c.in_ok-books.field-0.books.items c.in_ok-books.ensures.openings in omega (arith, many, c.requires.some)
 
 pub decide-requires-clause-few : goal.decide-requires-clause-few
 decide-requires-clause-few g c κs within =
-    let many = as-many-books g.D.Digester.digest_of c.args.loads.items c.in_ok-books.books.items c.in_ok-books.ensures.openings in omega (arith, many, c.requires.few)
+    let many = as-many-books g.D.Digester.digest_of c.args.loads.items c.in_ok-books.field-0.books.items c.in_ok-books.ensures.openings in omega (arith, many, c.requires.few)
 
 pub decide-requires-clause-says : goal.decide-requires-clause-says
 decide-requires-clause-says g c κs within =
