@@ -17,14 +17,14 @@ use Rattle.tournament.specs.Journals.{turn, turn_on, turns, IsAskedOf, Legal, an
 use Rattle.tournament.specs.Length.{IsMost, most_entries, SpareIsEnough}
 use Rattle.bisect_game.specs.Setup.{Setup}
 use Rattle.rd_base.specs.Questions.{same_qid}
-use Rattle.tournament.specs.Posting.{posted, posted_on, reply_by, reply_on, reply_to}
+use Rattle.tournament.specs.Posting.{posted, posted_on, reply_by, reply_on, reply_to, is_stale}
 use Rattle.bisect_game.specs.Rules.{rules_of}
 use Rattle.tournament.specs.Asked.{asked, AskedByTheCase}
 use Rattle.tournament.specs.Truthful.{IsTruthfulProver, IsSafe, TruthfulProversAreSafe}
 use Rattle.bisect_game.specs.Truth.{Truth, IsRun}
 use Rattle.bisect_game.specs.Ruling.{Ruling, IsFair}
 use Rattle.board_book.specs.declared.entry.Entry.{Entry}
-use Rattle.board_book.specs.Entries.{IsEntry, IsJournal, who, state_after, is_stale}
+use Rattle.board_book.specs.Entries.{IsEntry, IsJournal, who, state_after}
 use Rattle.board_book.specs.Keeping.{IsBook}
 
 is-eqb : (m n : ℕ) → (m == n) ≡ true → m ≡ n

@@ -14,10 +14,11 @@ use Rattle.bisect_game.specs.Setup.{Setup}
 use Rattle.tournament.specs.Moves.{MatchState, begun}
 use Rattle.tournament.specs.Journals.{turns}
 use Rattle.tournament.specs.Length.{IsMost, most_entries}
+use Rattle.tournament.specs.Posting.{is_stale}
 use Rattle.bisect_game.specs.Rules.{rules_of}
 use Rattle.board_book.specs.declared.book.Opening.{Opening}
 use Rattle.board_book.specs.declared.entry.Entry.{Entry}
-use Rattle.board_book.specs.Entries.{IsJournal, who, is_stale, noted}
+use Rattle.board_book.specs.Entries.{IsJournal, who, noted}
 use Rattle.board_book.specs.Tasks.{Task, task_of, numbered, Games, begun_game, games_of, IsTaskJournal, games_after, entries_of, BookOf, of_task, tasks_of, openings, noted_for}
 use Rattle.board_book.specs.Alone.{played}
 use Rattle.board_book.specs.Keeping.{all_entries, HasRoom, AreKept, Grows, AreNumbered}

@@ -1,15 +1,13 @@
 -- To believe: a journal, and what a prover is asked. Each entry is a move of its prover on its open question, as that prover says, with
 -- the reply to it.
-use Rattle.std.specs.Prelude.{◌≡◌, ℕ, ◌<◌, Bool, true, false, List, [], ◌∷◌, ◌++◌, Some, is_none, if◌then◌else◌, Option, None}
+use Rattle.std.specs.Prelude.{◌≡◌, ℕ, ◌<◌, Bool, false, List, [], ◌∷◌, ◌++◌, Some, is_none, if◌then◌else◌, Option, None}
 use Rattle.bisect_game.specs.declared.question.Question.{Question}
 use Rattle.bisect_game.specs.Says.{Says}
 use Rattle.bisect_game.specs.Rules.{Rules}
-use Rattle.tournament.specs.declared.posting.Reply.{Reply}
-use Rattle.tournament.specs.declared.posting.Reply.TheVariants.{Stale}
 use Rattle.tournament.specs.Bracket.{open_question, is_complete}
 use Rattle.tournament.specs.Moves.{MatchState, begun, passes_of, settled_by}
 use Rattle.tournament.specs.Journals.{turn_on, turns}
-use Rattle.tournament.specs.Posting.{reply_by}
+use Rattle.tournament.specs.Posting.{reply_by, is_stale}
 use Rattle.board_book.specs.declared.entry.Entry.{Entry}
 use Rattle.board_book.specs.declared.entry.Ask.{Ask}
 use Rattle.board_book.specs.declared.entry.Ask.TheVariants as ask
@@ -37,10 +35,6 @@ who (e ∷ es) = e.p ∷ who es
 -- the state after a journal: the moves of its provers, one after another
 abbrev pub state_after : Rules → Says → List Entry → MatchState
 state_after rules says es = turns rules says (who es) (begun rules)
-
-abbrev pub is_stale : Reply → Bool
-is_stale (Stale q) = true
-is_stale _ = false
 
 -- the journal with this entry, unless it is stale
 abbrev pub noted : List Entry → Entry → List Entry

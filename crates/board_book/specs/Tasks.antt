@@ -9,10 +9,10 @@ use Rattle.tournament.specs.Bracket.{open_question}
 use Rattle.tournament.specs.Match.{MatchOf}
 use Rattle.tournament.specs.Moves.{MatchState, begun}
 use Rattle.tournament.specs.Journals.{turn_on}
-use Rattle.tournament.specs.Posting.{posted, reply_to}
+use Rattle.tournament.specs.Posting.{posted, reply_to, is_stale}
 use Rattle.board_book.specs.declared.entry.Entry.{Entry}
 use Rattle.board_book.specs.declared.book.Opening.{Opening}
-use Rattle.board_book.specs.Entries.{IsEntry, is_stale, noted}
+use Rattle.board_book.specs.Entries.{IsEntry, noted}
 use Rattle.rd_base.specs.declared.answer.Answer.{Answer}
 use Rattle.rd_base.specs.declared.answer.Qid.{Qid}
 use Rattle.bisect_game.specs.declared.question.Question.{Question}

@@ -16,7 +16,7 @@ ghost use Rattle.tournament.specs.Truthful.{IsTruthfulProver, IsSafe};
 ghost use Rattle.tournament.specs.Length.{IsMost, most_entries};
 ghost use Rattle.board_book.specs.declared.entry.Entry.{Entry};
 ghost use Rattle.board_book.specs.Tasks.{match_of};
-ghost use Rattle.board_book.specs.Entries.{IsJournal, state_after, noted, is_stale, ask_on, waits_on};
+ghost use Rattle.board_book.specs.Entries.{IsJournal, state_after, noted, ask_on, waits_on};
 
 use crate::entry::{Ask, Entry};
 use crate::room::most_entries;
@@ -26,16 +26,9 @@ use std::alloc::Global;
 use std::marker::Model;
 use std::thread::Threads;
 use tournament::{
-    Match, Move, Record, Reply, Verdict, a_number_names_one_question, is_pass, move_of,
+    Match, Move, Record, Reply, Verdict, a_number_names_one_question, is_pass, is_stale, move_of,
     one_record_of_a_case, spare_is_enough, truthful_provers_are_safe,
 };
-
-/// Whether a reply is `Stale`, so that nothing changed.
-fn is_stale(reply: Reply) -> bool
-    ensures { result ≡ is_stale reply }
-{
-    matches!(reply, Reply::Stale(_))
-}
 
 /// A prover with an open question.
 #[derive(Clone, Copy)]

@@ -18,11 +18,11 @@ use Rattle.tournament.specs.Bracket.{open_question, is_complete, bracket}
 use Rattle.tournament.specs.Journals.{answers_of}
 use Rattle.tournament.specs.Moves.{MatchState, passes_of, settled_by}
 use Rattle.rd_base.specs.Questions.{same_qid}
-use Rattle.tournament.specs.Posting.{reply_by, reply_on, reply_to}
+use Rattle.tournament.specs.Posting.{reply_by, reply_on, reply_to, is_stale}
 use Rattle.board_book.specs.declared.entry.Entry.{Entry}
 use Rattle.board_book.specs.declared.entry.Ask.{Ask}
 use Rattle.board_book.specs.declared.entry.Ask.TheVariants as ask
-use Rattle.board_book.specs.Entries.{is_stale, ask_on}
+use Rattle.board_book.specs.Entries.{ask_on}
 use Rattle.board_book.specs.Tasks.{Task, games_of, IsTaskJournal, noted_for}
 use Rattle.seat_lock.specs.History.{Turn, Begins, log_of, with_receipt}
 use Rattle.seat_lock.specs.Seats.{Known}

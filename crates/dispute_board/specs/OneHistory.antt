@@ -10,7 +10,7 @@ use Rattle.tournament.specs.Moves.{MatchState, passes_of}
 use Rattle.board_book.specs.declared.entry.Entry.{Entry}
 use Rattle.board_book.specs.declared.entry.Ask.{Ask}
 use Rattle.board_book.specs.declared.entry.Ask.TheVariants as variant
-use Rattle.board_book.specs.Entries.{state_after, is_stale, ask_on}
+use Rattle.board_book.specs.Entries.{state_after, ask_on}
 use Rattle.board_book.specs.Tasks.{Task, numbered, games_of, IsTaskJournal, entries_of}
 use Rattle.seat_lock.specs.History.{log_of, Begins, NoneTwice, with_receipt, Turn}
 use Rattle.seat_lock.specs.Seats.{Known}
@@ -23,7 +23,7 @@ use Rattle.tournament.specs.declared.posting.Reply.TheVariants as reply
 use Rattle.tournament.specs.Bracket.{open_question, bracket}
 use Rattle.tournament.specs.Journals.{answers_of}
 use Rattle.tournament.specs.Asked.{asked}
-use Rattle.tournament.specs.Posting.{reply_to}
+use Rattle.tournament.specs.Posting.{reply_to, is_stale}
 
 -- THE JOURNAL AS THE LOG OF A LOCK. An entry is written as plain numbers, each entry as other ones
 

@@ -5,21 +5,13 @@ use Rattle.rd_base.specs.declared.answer.Answer.{Answer}
 use Rattle.bisect_game.specs.declared.question.Question.{Question}
 use Rattle.bisect_game.specs.Rules.{Rules, ArePlayable}
 use Rattle.bisect_game.specs.Bisection.{Bisection}
-use Rattle.tournament.specs.declared.posting.Reply.{Reply}
-use Rattle.tournament.specs.declared.posting.Reply.TheVariants as reply
 use Rattle.tournament.specs.Bracket.{Record, last_stage, open_question, is_complete}
 use Rattle.tournament.specs.Length.{IsMost, most_entries}
 use Rattle.tournament.specs.Moves.{MatchState, begun}
 use Rattle.tournament.specs.OpenDisputes.{one_if, is_side}
-use Rattle.tournament.specs.Posting.{Post, posted, reply_to, record_after}
+use Rattle.tournament.specs.Posting.{Post, posted, reply_to, is_stale, record_after}
 
 -- POSTS: one that isn't stale has an effect
-
-abbrev pub is_stale : Reply → Bool
-is_stale (reply.Stale o) = true
-is_stale reply.Taken = false
-is_stale reply.Faulty = false
-is_stale reply.Spent = false
 
 -- how many of these posts, from this state on, aren't stale
 abbrev pub effective_posts : Rules → List Post → MatchState → ℕ

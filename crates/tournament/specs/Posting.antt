@@ -1,5 +1,5 @@
 -- To believe: a post. The tests in their order, the state after it, and the reply to it; and lists of posts.
-use Rattle.std.specs.Prelude.{◌≡◌, ◌↔◌, ℕ, ◌<◌, ◌≤◌, true, List, [], ◌∷◌, Option, Some, None, is_some, if◌then◌else◌}
+use Rattle.std.specs.Prelude.{◌≡◌, ◌↔◌, ℕ, ◌<◌, ◌≤◌, Bool, true, false, List, [], ◌∷◌, Option, Some, None, is_some, if◌then◌else◌}
 use Rattle.rd_base.specs.declared.answer.Answer.{Answer}
 use Rattle.rd_base.specs.declared.answer.Qid.{Qid}
 use Rattle.rd_base.specs.Questions.{same_qid}
@@ -40,6 +40,11 @@ reply_on rules st p qid m (Some q) = if same_qid q.qid qid then reply_by (settle
 -- faulty at an answer that does not fit; else taken
 abbrev pub reply_to : Rules → MatchState → ℕ → Qid → Option Answer → Reply
 reply_to rules st p qid m = reply_on rules st p qid m (open_question rules st.record_ p)
+
+-- nothing changed
+abbrev pub is_stale : Reply → Bool
+is_stale (reply.Stale o) = true
+is_stale _ = false
 
 -- the passes on the open question; none without one
 abbrev pub passes_on : Rules → MatchState → ℕ → ℕ

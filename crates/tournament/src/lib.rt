@@ -27,6 +27,6 @@ pub use laws::{
     true_moves_are_true_answers, truthful_provers_are_safe, truthful_provers_stay,
 };
 pub use playing::Match;
-pub use posting::{Move, Reply, is_pass, move_of};
+pub use posting::{Move, Reply, is_pass, is_stale, move_of};
 pub use reading::Verdict;
 pub use record::Record;

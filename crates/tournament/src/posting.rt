@@ -1,7 +1,7 @@
 //! Moves, replies, and how an answer is judged.
 ghost use Rattle.std.specs.Prelude.{◌≡◌, Some, is_none};
 ghost use Rattle.bisect_game.specs.Rules.{is_fit, judged};
-ghost use Rattle.tournament.specs.Posting.{answer_of, reply_by};
+ghost use Rattle.tournament.specs.Posting.{answer_of, reply_by, is_stale};
 
 use bisect_game::{Judge, Kind, Settled};
 use rd_base::{Answer, Qid};
@@ -44,6 +44,13 @@ pub enum Reply {
     Spent,
     /// The question isn't the prover's open one, which this names if there is one. Nothing changed, and the move is dropped.
     Stale(Option<Qid>),
+}
+
+/// Whether a reply is `Stale`, so that nothing changed.
+pub fn is_stale(reply: Reply) -> bool
+    ensures { result ≡ is_stale reply }
+{
+    matches!(reply, Reply::Stale(_))
 }
 
 /// Whether an answer is of the kind that was asked, with a root for each cut, and a claim sound.

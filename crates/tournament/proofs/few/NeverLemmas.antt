@@ -11,8 +11,8 @@ use Rattle.bisect_game.specs.Rules.{Rules}
 use Rattle.tournament.specs.Bracket.{Record, open_question, is_complete}
 use Rattle.tournament.specs.Moves.{MatchState, begun, passes_of, settled_by}
 use Rattle.tournament.specs.OpenDisputes.{one_if}
-use Rattle.tournament.specs.Posting.{Post, posted, reply_by, reply_to, after_posts, record_after, NobodyAskedIsOver}
-use Rattle.tournament.specs.FewPosts.{is_stale, effective_posts, AsksSomebody, NeverStuck, OpenIsNotStale, FewPosts, FullIsOver}
+use Rattle.tournament.specs.Posting.{Post, posted, reply_by, reply_to, after_posts, record_after, NobodyAskedIsOver, is_stale}
+use Rattle.tournament.specs.FewPosts.{effective_posts, AsksSomebody, NeverStuck, OpenIsNotStale, FewPosts, FullIsOver}
 
 same-number : (n : ℕ) → (n == n) ≡ true
 same-number n = grind (arith, nat_tests)

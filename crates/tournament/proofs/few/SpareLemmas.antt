@@ -8,8 +8,8 @@ use Rattle.tournament.specs.Journals.{turn_on, turns, Legal, LegalListsArePosts}
 use Rattle.tournament.specs.Length.{SpareIsEnough}
 use Rattle.tournament.specs.Moves.{MatchState, begun, passes_of, settled_by, moved}
 use Rattle.tournament.specs.OpenDisputes.{one_if}
-use Rattle.tournament.specs.Posting.{Post, posted, posted_on, reply_to, after_posts}
-use Rattle.tournament.specs.FewPosts.{is_stale, effective_posts, FewPosts}
+use Rattle.tournament.specs.Posting.{Post, posted, posted_on, reply_to, after_posts, is_stale}
+use Rattle.tournament.specs.FewPosts.{effective_posts, FewPosts}
 use Rattle.tournament.proofs.few.NeverLemmas.{same-qid, open-is-not-stale}
 
 -- as many posts that aren't stale, from this state on, and they come to the same state

@@ -16,8 +16,8 @@ use Rattle.tournament.specs.Bracket.{Record, asks_first, asks_second, question_i
 use Rattle.tournament.specs.Moves.{MatchState, begun, passes_of, settled_by, moved}
 use Rattle.tournament.specs.Numbers.{IsProver, AreNumbered, IsOfProvers, RecordsAreOfProvers}
 use Rattle.tournament.specs.declared.posting.Reply.TheVariants as reply
-use Rattle.tournament.specs.Posting.{Post, posted, posted_on, reply_on, reply_by, after_posts, record_after}
-use Rattle.tournament.specs.FewPosts.{is_stale, effective_posts_of}
+use Rattle.tournament.specs.Posting.{Post, posted, posted_on, reply_on, reply_by, after_posts, record_after, is_stale}
+use Rattle.tournament.specs.FewPosts.{effective_posts_of}
 use Rattle.tournament.proofs.OnceLemmas.{opens, is-eqb}
 use Rattle.tournament.proofs.few.NeverLemmas.{reply-not-stale}
 use Rattle.tournament.proofs.few.QuestionLemmas.{settled_of, asked_of, settled-asked, room, IsLaterRecord, later, own}

@@ -14,9 +14,9 @@ use Rattle.tournament.specs.Bracket.{Record, open_question}
 use Rattle.tournament.specs.Length.{IsMost}
 use Rattle.tournament.specs.Moves.{MatchState, begun}
 use Rattle.tournament.specs.Numbers.{RecordsAreOfProvers}
-use Rattle.tournament.specs.Posting.{Post, posted, reply_on, record_after}
+use Rattle.tournament.specs.Posting.{Post, posted, reply_on, record_after, is_stale}
 use Rattle.tournament.specs.Theorem.{FewDisputes, FewRounds, AllShort}
-use Rattle.tournament.specs.FewPosts.{is_stale, effective_posts, effective_posts_of, questions_among, questions_of, disputes_among, FewQuestions, QuestionsCost, PostsByQuestions, FewPostsOfEach, FewPosts}
+use Rattle.tournament.specs.FewPosts.{effective_posts, effective_posts_of, questions_among, questions_of, disputes_among, FewQuestions, QuestionsCost, PostsByQuestions, FewPostsOfEach, FewPosts}
 use Rattle.tournament.proofs.OnceLemmas.{is-eqb, not-eqb}
 use Rattle.tournament.proofs.few.QuestionLemmas.{only, one-most, asked_of_in, asked_of}
 use Rattle.tournament.proofs.few.SpentLemmas.{IsAfterPosts, one-post-more, is-prover, few-by-questions}
