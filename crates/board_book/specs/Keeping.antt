@@ -1,7 +1,8 @@
 -- Derived: one book and many as they are kept, what a move, or the end of a match, does to one of them, and the element with a number.
-use Rattle.std.specs.Prelude.{◌≡◌, ℕ, ◌+◌, ◌<◌, ◌≤◌, List, [], ◌∷◌, ◌++◌, length, drop, Some, ◌^◌, map, Option}
+use Rattle.std.specs.Prelude.{◌≡◌, ℕ, ◌+◌, ◌-◌, ◌<◌, ◌≤◌, true, List, [], ◌∷◌, ◌++◌, length, drop, set, Some, ◌^◌, map, Option, Result, IfOk}
 use Rattle.bisect_game.specs.Says.{Says, AnswerAs}
 use Rattle.bisect_game.specs.Ruling.{Ruling}
+use Rattle.tournament.specs.Bracket.{is_complete}
 use Rattle.tournament.specs.Moves.{begun, MatchState}
 use Rattle.tournament.specs.Length.{IsMost, most_entries}
 use Rattle.board_book.specs.declared.entry.Entry.{Entry}
@@ -48,6 +49,15 @@ module _ {N M : Type 0} where
     pub journal : after.journal ≡ before.journal ++ drop (length before.journal) after.journal
     pub legal : IsJournal (rules_of (ruling after.opening.judge) after.opening.setup) (says after.opening.provers) after.journal (begun (rules_of (ruling after.opening.judge) after.opening.setup))
     pub few : (k : ℕ) × IsMost after.opening.setup.fan after.opening.setup.bound k × (length after.journal ≤ most_entries after.opening.setup k)
+
+  -- the book of task t is played on, and its match is over if the result is `Ok`; the others are as they were
+  pub record PlaysOn {A E : Type 0} (t : ℕ) (result : Result A E) (before after : List (BookOf N M)) : Type 0 where
+    pub found : BookOf N M
+    pub left : BookOf N M
+    pub there : numbered before t ≡ Some found
+    pub opening : left.opening ≡ found.opening
+    pub others : after ≡ set before (t - 1) left
+    pub complete : IfOk result (λ _. is_complete left.game.record_ ≡ true)
 
 -- an opening has the number of its book, and a task the number of its opening, from 1 to their count
 pub record AreNumbered {N M : Type 0} (ruling : N → Ruling) (says : M → Says) : Type 0 where

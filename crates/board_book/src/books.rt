@@ -1,6 +1,6 @@
 //! The books of many tasks.
 ghost use denote.Param.Send.{IsSync};
-ghost use Rattle.std.specs.Prelude.{◌≡◌, ℕ, ◌+◌, ◌-◌, ◌<◌, ◌≤◌, ◌++◌, [], ◌∷◌, true, set, take, drop, map, List, Some, IfOk, length};
+ghost use Rattle.std.specs.Prelude.{◌≡◌, ℕ, ◌+◌, ◌-◌, ◌<◌, ◌≤◌, ◌++◌, [], ◌∷◌, true, take, drop, map, List, Some, IfOk, length};
 ghost use Rattle.std.specs.List.{All};
 ghost use Rattle.bisect_game.specs.declared.question.Question.{Question};
 ghost use Rattle.bisect_game.specs.Says.{AnswerAs};
@@ -12,7 +12,7 @@ ghost use Rattle.bisect_game.specs.Rules.{rules_of};
 ghost use Rattle.board_book.specs.declared.entry.Entry.{Entry};
 ghost use Rattle.board_book.specs.Entries.{ask_on};
 ghost use Rattle.board_book.specs.Tasks.{numbered, games_of, IsTaskJournal, entries_of, BookOf, of_task, openings, tasks_of, sayings, PostedTo};
-ghost use Rattle.board_book.specs.Keeping.{HasRoom};
+ghost use Rattle.board_book.specs.Keeping.{HasRoom, PlaysOn};
 
 use crate::book::Book;
 use crate::entry::{Ask, Entry};
@@ -194,7 +194,7 @@ impl<J: Judge + Drop, P: Provers + Drop> Books<J, P> {
         requires count { (b : BookOf J.Names P.Names) → numbered self.old.books t ≡ Some b → length answerers.old ≡ b.opening.setup.provers }
         requires says { (b : BookOf J.Names P.Names) → numbered self.old.books t ≡ Some b → AnswerAs A.answers (P.says b.opening.provers) 1 answerers.old }
         ensures keeps { (b : BookOf J.Names P.Names) → numbered self.old.books t ≡ Some b → AnswerAs A.answers (P.says b.opening.provers) 1 answerers.new }
-        ensures books { (b : BookOf J.Names P.Names) × (numbered self.old.books t ≡ Some b) × ((c : BookOf J.Names P.Names) × (c.opening ≡ b.opening) × (self.new.books ≡ set self.old.books (t - 1) c) × IfOk result (λ _. is_complete c.game.record_ ≡ true)) }
+        ensures books { PlaysOn t result self.old.books self.new.books }
         ensures prefix { (xs : List (ℕ × Entry)) × (self.new.journal ≡ self.old.journal ++ xs) }
     {
         let book = &mut self.books[t as usize - 1];
@@ -221,7 +221,7 @@ impl<J: Judge + Drop, P: Provers + Drop> Books<J, P> {
         requires from { from ≡ length (sayings P.says (take (t - 1) (openings self.old.books))) }
         ensures next { IfOk result (λ next. next ≡ length (sayings P.says (take t (openings self.old.books)))) }
         ensures keeps { map A.answers answerers.new ≡ map A.answers answerers.old }
-        ensures books { (b : BookOf J.Names P.Names) × (numbered self.old.books t ≡ Some b) × ((c : BookOf J.Names P.Names) × (c.opening ≡ b.opening) × (self.new.books ≡ set self.old.books (t - 1) c) × IfOk result (λ _. is_complete c.game.record_ ≡ true)) }
+        ensures books { PlaysOn t result self.old.books self.new.books }
         ensures prefix { (xs : List (ℕ × Entry)) × (self.new.journal ≡ self.old.journal ++ xs) }
     {
         let provers = self.book(t).game().setup().provers() as usize;

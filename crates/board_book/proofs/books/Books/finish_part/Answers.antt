@@ -33,7 +33,8 @@ returns-in_err-finish_task-clause-keeps g c =
     (c.finish_task.ensures.keeps c.book.result.now c.book.ensures)
 
 pub returns-in_err-finish_task-clause-books : goal.returns-in_err-finish_task-clause-books
-returns-in_err-finish_task-clause-books g c = let b = c.finish_task.ensures.books in (b.0, b.1, (b.2.0, b.2.1, b.2.2, search Rattle.std.proofs.Common.rules))
+returns-in_err-finish_task-clause-books g c =
+    let b = c.finish_task.ensures.books in record { found = b.found; left = b.left; there = b.there; opening = b.opening; others = b.others; complete = search Rattle.std.proofs.Common.rules }
 
 pub returns-clause-next : goal.returns-clause-next
 returns-clause-next g c =
