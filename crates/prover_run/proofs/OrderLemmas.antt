@@ -1,5 +1,5 @@
 -- Answerers that were made script by script answer in their order.
-use Rattle.std.proofs.Common.{◌≡◌, ℕ, suc, ◌+◌, ◌-◌, List, [], ◌∷◌, ◌++◌, length, map, Option, Some, refl, subst, sym, arith, ap, ◌∙◌, length-append, Result, Ok, Err, IfOk, OnOk}
+use Rattle.std.proofs.Common.{◌≡◌, ℕ, suc, ◌+◌, ◌-◌, List, [], ◌∷◌, ◌++◌, length, map, Option, Some, refl, subst, sym, arith, ap, ◌∙◌, length-append, Result, Ok, Err, OnOk}
 use Rattle.std.specs.Prelude.{slice_get, slice_index_or, take, drop, ◌≤◌}
 use Rattle.std.proofs.Math.Seq.{take-length}
 use Rattle.rd_base.specs.declared.answer.Answer.{Answer}
@@ -67,12 +67,6 @@ put_one f g old pushed all a (x ∷ xs) s some is same put rest =
     ∙ (ap (λ (ys : List _). map f pushed ++ map g ys) (take-length xs)
     ∙ (ap (λ (ys : List _). map f ys ++ map g xs) put
     ∙ behind_both f old a (g x) (map g xs) (same ∙ ap g is))))
-
--- answerers of runs that start in the same state say the same
-pub from_same_start : {A V E : Type 0} (r : Result V E) (items : V → List A) (answers : A → Question → ℕ → Option Answer) (digest : List ℕ → List ℕ) (first start : State) (bound : ℕ) (scripts : List Script)
-    → first ≡ start → IfOk r (λ v. AnswerAs answers (case_says digest first bound scripts) 1 (items v)) → IfOk r (λ v. AnswerAs answers (case_says digest start bound scripts) 1 (items v))
-from_same_start r items answers digest first start bound scripts same say =
-    subst (λ (s : State). IfOk r (λ v. AnswerAs answers (case_says digest s bound scripts) 1 (items v))) same say
 
 -- what follows of what holds of an answer
 pub on_made : {A E : Type 0} (P Q : Type 0) → (P → Q) → (r : Result A E) → OnOk r P → OnOk r Q

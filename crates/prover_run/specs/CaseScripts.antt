@@ -1,14 +1,9 @@
 -- To believe: what the provers of a case say, each by its script.
-use Rattle.std.specs.Prelude.{ℕ, ◌-◌, List, [], Option, Some, None, slice_get, refl}
-use Rattle.std.specs.Coded.{Coded, code_by, coded×, coded_ℕ, coded_list}
+use Rattle.std.specs.Prelude.{ℕ, ◌-◌, List, Option, Some, None, slice_get}
 use Rattle.rd_base.specs.declared.answer.Answer.{Answer}
 use Rattle.rd_base.specs.declared.script.Script.{Script}
-use Rattle.rd_base.specs.contracts.script.Script as scripts
-use Rattle.rd_base.specs.declared.status.Status.TheVariants.{Running}
-use Rattle.mem_plain.specs.Contents.{no_bytes}
 use Rattle.rv_step.specs.State.{State}
 use Rattle.checkpoint_run.specs.TamperedRun.{run_at}
-use Rattle.rv_step.specs.StateCode.{state_code}
 use Rattle.bisect_game.specs.Says.{Says}
 use Rattle.bisect_game.specs.declared.question.Question.{Question}
 use Rattle.prover_script.specs.Manners.{says}
@@ -32,16 +27,3 @@ pub record CaseScripts : Type 0 where
   pub start : State
   pub bound : ℕ
   pub scripts : List Script
-
--- a case of nobody, from nothing
-abbrev pub no_case : CaseScripts
-no_case = record { start = record { regs = []; pc = 0; memory = no_bytes; status = Running; output = []; version = 1; input = [] }; bound = 0; scripts = [] }
-
--- it is data, as the tuple of its parts
-abbrev pub case_scripts_code : Coded CaseScripts
-case_scripts_code =
-    code_by (State × (ℕ × List Script))
-    (coded× state_code (coded× coded_ℕ (coded_list scripts.the_row.coded)))
-    (λ c. (c.start, (c.bound, c.scripts)))
-    (λ t. record { start = t.0; bound = t.1.0; scripts = t.1.1 })
-    (λ _. refl)

@@ -3,9 +3,9 @@
 //! The layers above may rely on this: a `RunAnswerer` gives the plain answers of its run (`specs/Plain.antt`), the
 //! machine's own with what a tamper does to it, in the version of the commitment that the machine has, and no call changes
 //! what it answers, not even one that runs out of memory; `CaseProvers` tells what each prover of a case says, by its
-//! script (`specs/CaseScripts.antt`), and where it waits; `answerers_of` makes the answerers that say so. In version 3 they share one
-//! tree of the input, which `answerers_with_input` gets in its `Start`. What an untouched
-//! script says in the words of the sequential run is in `laws`, and that each prover stays with its answer.
+//! script (`specs/CaseScripts.antt`), and where it waits; `answerers_with_input` makes the answerers that say so. In version 3 they share
+//! one tree of the input, which it gets in its `Start`. What an untouched script says in the words of the sequential run is in `laws`, and
+//! that each prover stays with its answer.
 //!
 //! A root is made from the root that was made last, as the run is kept with a cursor for each worker (`KeptRun`). If several roots are
 //! asked at once, as in rounds of more than two parts, the workers share them. A run is recorded once, and each root is made once. This
@@ -21,5 +21,5 @@ mod start;
 
 pub use laws::{harmless_manners, outputs_grow_slowly, provers_are_steady, untouched_provers};
 pub use prover::RunAnswerer;
-pub use provers::{CaseNames, CaseProvers, answerers_of, answerers_with_input};
+pub use provers::{CaseNames, CaseProvers, answerers_with_input};
 pub use start::{Plan, Start};

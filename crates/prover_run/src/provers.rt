@@ -1,7 +1,6 @@
 //! The provers of a case: what each says and where it waits, for those that post, and the answerers that say so.
-ghost use Rattle.std.specs.Prelude.{◌≡◌, ◌<◌, ◌^◌, IfOk, length, ◌++◌, [], OnOk, map};
-ghost use Rattle.rv_step.specs.State.{state_of, IsChained};
-ghost use Rattle.state_commit.specs.Committing.{HasInput};
+ghost use Rattle.std.specs.Prelude.{◌≡◌, ◌<◌, ◌^◌, IfOk, length, ◌++◌, OnOk, map};
+ghost use Rattle.rv_step.specs.State.{state_of};
 ghost use Rattle.bisect_game.specs.Says.{AnswerAs};
 ghost use Rattle.prover_run.specs.CaseScripts.{script_says, case_says};
 
@@ -13,7 +12,6 @@ use prover_script::{Scripted, waits};
 use rd_base::{Memory, Script};
 use rv_step::Machine;
 use segment_replay::Replays;
-use state_commit::SharedInput;
 use std::alloc::Global;
 use std::marker::Model;
 
@@ -26,7 +24,8 @@ pub struct CaseNames {
 
 impl Model for CaseNames {
     ghost use Rattle.std.specs.Prelude.{◌≡◌};
-    ghost use Rattle.prover_run.specs.CaseScripts.{CaseScripts, case_scripts_code, no_case};
+    ghost use Rattle.prover_run.specs.CaseScripts.{CaseScripts};
+    ghost use Rattle.prover_run.specs.Codes.{case_scripts_code, no_case};
 
     ghost Value = { CaseScripts };
 
@@ -53,7 +52,8 @@ pub struct CaseProvers<D: Digester> {
 
 impl<D: Digester> Model for CaseProvers<D> {
     ghost use Rattle.std.specs.Prelude.{◌<◌, ◌^◌, vec_len};
-    ghost use Rattle.prover_run.specs.CaseScripts.{CaseScripts, case_scripts_code};
+    ghost use Rattle.prover_run.specs.CaseScripts.{CaseScripts};
+    ghost use Rattle.prover_run.specs.Codes.{case_scripts_code};
     ghost use Rattle.rv_step.specs.State.{state_of};
 
     ghost Value = { CaseScripts };
@@ -173,23 +173,4 @@ pub fn answerers_with_input<D: Replays>(
     let mut answerers = Vec::new(alloc);
     put_answerers(alloc, d, scripts, start, plan, &mut answerers)?;
     Ok(answerers)
-}
-
-/// `answerers_with_input` for runs that start in this machine, which has no output, and whose chain is that of no output by the
-/// digester `d`. It builds the tree of the machine's input itself, once for all of them; only version 3 has one.
-pub fn answerers_of<D: Replays>(
-    alloc: Global,
-    d: D,
-    scripts: &[Script],
-    machine: &Machine,
-    plan: Plan,
-) -> Result<Vec<Scripted<RunAnswerer<D>, D>>, Memory>
-    requires chained { IsChained D.digest_of machine.now }
-    requires silent { machine.now.output.items ≡ [] }
-    ensures count { IfOk result (λ v. length v.items ≡ length scripts.now) }
-    ensures answers { IfOk result (λ v. AnswerAs ⟦<Scripted<RunAnswerer<D>, D> as Answerer>⟧.answers (case_says D.digest_of (state_of machine.now) plan.bound scripts.now) 1 v.items) }
-{
-    let input = SharedInput::of(alloc, d, machine)?;
-    let start = Start::new(machine, &input);
-    answerers_with_input(alloc, d, scripts, &start, plan)
 }

@@ -7,9 +7,10 @@ use crate::manners::{Named, OnTape, manner_of};
 use crate::programs::{EIGHT_STEPS, machine_in};
 use bisect_game::{Kind, Provers, Question};
 use digest_core::Sha256;
-use prover_run::{CaseProvers, Plan, RunAnswerer, answerers_of};
+use prover_run::{CaseProvers, Plan, RunAnswerer, Start, answerers_with_input};
 use prover_script::Scripted;
 use rd_base::{Memory, Script, Tamper};
+use state_commit::SharedInput;
 use std::alloc::Global;
 use std::test::Fail;
 use std::thread::Threads;
@@ -57,7 +58,9 @@ fn playing(alloc: Global, provers: &[(Tamper, Named)]) -> Result<Playing, Memory
         every: 1024,
         workers: 1,
     };
-    let answerers = answerers_of(alloc, Sha256, scripts, &machine, plan)?;
+    let input = SharedInput::of(alloc, Sha256, &machine)?;
+    let start = Start::new(&machine, &input);
+    let answerers = answerers_with_input(alloc, Sha256, scripts, &start, plan)?;
     let provers = CaseProvers::new(alloc, Sha256, scripts, machine, 8)?;
     Ok((provers, answerers))
 }

@@ -8,11 +8,11 @@ use crate::manners::{Named, manner_of};
 use crate::programs::machine_in;
 use bisect_game::{Answerer, Kind};
 use digest_core::{Digester, Sha256};
-use prover_run::{Plan, RunAnswerer, answerers_of};
+use prover_run::{Plan, RunAnswerer, Start, answerers_with_input};
 use rd_base::{Digest32, Manner, Memory, Script, Tamper};
 use rv_step::Machine;
 use segment_replay::{KeptRun, Replays};
-use state_commit::Committed;
+use state_commit::{Committed, SharedInput};
 use std::alloc::Global;
 use std::sync::atomic::{AtomicU64, Ordering};
 use std::test::Fail;
@@ -251,7 +251,9 @@ fn digests_of_provers<R: Threads + Sync>(
         every: 4,
         workers: workers.max(1),
     };
-    let mut answerers = answerers_of(alloc, d, scripts, machine, plan)?;
+    let input = SharedInput::of(alloc, d, machine)?;
+    let start = Start::new(machine, &input);
+    let mut answerers = answerers_with_input(alloc, d, scripts, &start, plan)?;
     let before = made.load(Ordering::SeqCst);
     for answerer in answerers.iter_mut() {
         ask_all(rt, answerer, kinds)?;
