@@ -31,11 +31,7 @@ use std::marker::Model;
 fn no_passes(alloc: Global, many: usize) -> Result<Vec<u32>, Memory>
     ensures { IfOk result (λ v. v.items ≡ replicate many 0) }
 {
-    let mut passed = Vec::with_capacity(alloc, many)?;
-    for _ in 0..many {
-        passed.push(0)?;
-    }
-    Ok(passed)
+    Ok(vec![in alloc; 0; many]?)
 }
 
 /// A match before a judge. Once it was made, no call of it takes memory.

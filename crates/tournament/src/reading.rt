@@ -21,10 +21,7 @@ pub enum Verdict {
 fn has_put_out(dispute: &Dispute) -> bool
     ensures { result ≡ put_out dispute.now.close }
 {
-    match dispute.closed() {
-        Some(Close::Out { .. }) => true,
-        _ => false,
-    }
+    matches!(dispute.closed(), Some(Close::Out { .. }))
 }
 
 /// Whether a dispute has eliminated the prover.
