@@ -34,10 +34,10 @@ pub use laws::{
 pub use limits::Limit;
 pub use reader::{
     TextFault, a_full_text_is_read_back, no_fault_of_a_text_is_out_of_memory, read_full,
-    reading_is_the_inverse_of_writing,
+    reading_is_the_inverse_of_writing, stated_verdicts_are_one_line,
 };
 pub use refereed::full;
-pub use reporting::{head_line, report, verdict_line};
+pub use reporting::{head_line, report, stated_line, verdict_line};
 pub use roots::{add_root_line, root_line};
 pub use summing::summary;
 pub use text::{DigestName, FullText, Head, Stated, TextMove, settled_at};

@@ -12,6 +12,6 @@ mod stating;
 pub use fault::TextFault;
 pub use laws::{
     a_full_text_is_read_back, no_fault_of_a_text_is_out_of_memory,
-    reading_is_the_inverse_of_writing,
+    reading_is_the_inverse_of_writing, stated_verdicts_are_one_line,
 };
 pub use reading::read_full;

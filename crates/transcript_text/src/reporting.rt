@@ -1,16 +1,16 @@
 //! The report of a match.
 ghost use Rattle.std.specs.Prelude.{◌≡◌, ◌++◌, string_bytes, IfOk, OnOk, Some, option_copied};
 ghost use Rattle.transcript_text.specs.StatedVerdict.{settled_at};
-ghost use Rattle.transcript_text.specs.Lines.{line_of_accepted, line_of_verdict, collision_line, lines_of_record, balance_line, pool_line, lines_of_provers, lines_of_balances};
+ghost use Rattle.transcript_text.specs.Lines.{accept_line, none_left_line, collision_line, line_of_stated, line_of_accepted, line_of_verdict, lines_of_record, balance_line, pool_line, lines_of_provers, lines_of_balances};
 ghost use Rattle.transcript_text.specs.Report.{played_text, patience_text, committed_text, numbers_text, head_line, line_text, text_if_there, lines_text, report_text};
 
 use crate::answer::add_answer;
 use crate::claims::add_claims;
 use crate::disputes::add_disputes;
-use crate::text::{Head, settled_at};
+use crate::text::{Head, Stated, settled_at};
 use bisect_game::Settled;
 use deposits::Balances;
-use rd_base::{Answer, Memory};
+use rd_base::{Answer, Memory, Status};
 use std::alloc::{AllocError, Global};
 use std::fmt::Write;
 use tournament::{Record, Verdict};
@@ -68,23 +68,25 @@ pub fn head_line(alloc: Global, head: &Head) -> Result<String, AllocError>
     Ok(text)
 }
 
-/// Adds the line of a claim that is accepted.
-fn add_accepted(
+/// Adds the line of an accepted status and output.
+fn add_accept(
     text: &mut String,
     alloc: Global,
-    claims: &[Option<Settled>],
-    number: u32,
+    status: Status,
+    output: &[u8],
 ) -> Result<(), AllocError>
-    ensures { OnOk result (string_bytes text.new ≡ string_bytes text.old ++ text_if_there (line_of_accepted (settled_at claims.now number))) }
+    ensures { OnOk result (string_bytes text.new ≡ string_bytes text.old ++ line_text (accept_line status output.now)) }
 {
-    match settled_at(claims, number) {
-        Some(Some(Settled::Given(Answer::Claim(claim)))) => {
-            text.push_str("accept ")?;
-            add_answer(text, alloc, claim.ctl.status, claim.output.as_slice())?;
-            text.push_str("\n")
-        }
-        _ => Ok(()),
-    }
+    text.push_str("accept ")?;
+    add_answer(text, alloc, status, output)?;
+    text.push_str("\n")
+}
+
+/// Adds the line of a match in which nobody is left.
+fn add_none_left(text: &mut String) -> Result<(), AllocError>
+    ensures { OnOk result (string_bytes text.new ≡ string_bytes text.old ++ line_text none_left_line) }
+{
+    text.push_str("none left\n")
 }
 
 /// Adds the line of two strings of one digest.
@@ -101,6 +103,40 @@ fn add_collision(
     write!(text, "collision {first} {second}\n")
 }
 
+/// The line of a stated verdict.
+pub fn stated_line(alloc: Global, stated: &Stated) -> Result<String, AllocError>
+    ensures { IfOk result (λ text. string_bytes text ≡ line_text (line_of_stated stated.now)) }
+{
+    let mut text = String::new(alloc);
+    match stated {
+        Stated::Accept(status, output) => {
+            add_accept(&mut text, alloc, *status, output.as_slice())?;
+        }
+        Stated::NoneLeft => add_none_left(&mut text)?,
+        Stated::Collision(x, y) => {
+            add_collision(&mut text, alloc, x.as_slice(), y.as_slice())?;
+        }
+    }
+    Ok(text)
+}
+
+/// Adds the line of a claim that is accepted.
+fn add_accepted(
+    text: &mut String,
+    alloc: Global,
+    claims: &[Option<Settled>],
+    number: u32,
+) -> Result<(), AllocError>
+    ensures { OnOk result (string_bytes text.new ≡ string_bytes text.old ++ text_if_there (line_of_accepted (settled_at claims.now number))) }
+{
+    match settled_at(claims, number) {
+        Some(Some(Settled::Given(Answer::Claim(claim)))) => {
+            add_accept(text, alloc, claim.ctl.status, claim.output.as_slice())
+        }
+        _ => Ok(()),
+    }
+}
+
 /// Adds the line of a verdict, by what each prover's claim was settled as; an accepted claim that wasn't given has none.
 pub(crate) fn add_verdict(
     text: &mut String,
@@ -112,7 +148,7 @@ pub(crate) fn add_verdict(
 {
     match verdict {
         Verdict::Accept(number) => add_accepted(text, alloc, claims, *number),
-        Verdict::NoneLeft => text.push_str("none left\n"),
+        Verdict::NoneLeft => add_none_left(text),
         Verdict::Collision(x, y) => add_collision(text, alloc, x.as_slice(), y.as_slice()),
     }
 }

@@ -31,7 +31,8 @@ use Rattle.transcript_text.specs.reader.ReadText.{is_prover, are_in_limits, head
 use Rattle.transcript_text.specs.Limits.{is_within, provers_limit, bound_limit, patience_limit, version_limit, fan_limit}
 use Rattle.transcript_text.specs.declared.limits.Limit.{Limit}
 use Rattle.transcript_text.specs.reader.InLimits.{AreBytes, IsWithin, IsHeadInLimits, IsMoveInLimits, AreMovesInLimits, IsStatusInLimits, IsString, IsStatedInLimits, IsInLimits}
-use Rattle.transcript_text.proofs.read_back.FieldLemmas.{number-back, small-back, hex-back, some-hex-back, Without, without-both, cut-back, line-back, decimal-without, encoded-without}
+use Rattle.transcript_text.specs.reader.Laws.{stated_text, IsOfBytes, StatedVerdictsAreOneLine}
+use Rattle.transcript_text.proofs.read_back.FieldLemmas.{number-back, small-back, hex-back, some-hex-back, Without, without-none, without-both, cut-back, line-back, decimal-without, encoded-without}
 
 -- literals
 
@@ -121,13 +122,7 @@ without-move wire m provers top i =
 
 -- the verdict
 
-unfoldable pub stated_text : Stated → List ℕ
-stated_text (stated.Accept status output) = codes "accept " ++ status_and_output status output
-stated_text stated.NoneLeft = codes "none left"
-stated_text (stated.Collision x y) = codes "collision " ++ (encode_lower x ++ (codes " " ++ encode_lower y))
-
 pub stated-line : (s : Stated) → line_text (line_of_stated s) ≡ stated_text s ++ codes "\n"
-unfolding stated_text
 stated-line (stated.Accept status output) = refl
 stated-line stated.NoneLeft = refl
 stated-line (stated.Collision x y) = ap (λ (xs : List ℕ). codes "collision " ++ xs) (sym (append_assoc (encode_lower x) (codes " " ++ encode_lower y) (codes "\n")))
@@ -161,7 +156,7 @@ collided-back x y i j =
     rw (cut-back 32 (encode_lower x) (encode_lower y) (encoded-without 32 x (omega arith) i.2), string-back x i, string-back y j) refl
 
 entry-of-verdict : (s : Stated) → IsStatedInLimits s → entry_in (stated_text s) ≡ Ok (Verdict s)
-unfolding entry_in verdict_in stated_text
+unfolding entry_in verdict_in
 entry-of-verdict (stated.Accept status output) i = rw (accepted-back status output i.0 i.1) refl
 entry-of-verdict stated.NoneLeft i = refl
 entry-of-verdict (stated.Collision x y) i = rw (collided-back x y i.0 i.1) refl
@@ -175,8 +170,7 @@ without-output : (output : List ℕ) → AreBytes output → Without 10 (output_
 without-output [] bytes = tt
 without-output (b ∷ bs) bytes = without-both 10 (codes " ") (encode_lower (b ∷ bs)) (without-literal 10 (codes " ") refl) (encoded-without 10 (b ∷ bs) (omega arith) bytes)
 
-without-stated : (s : Stated) → IsStatedInLimits s → Without 10 (stated_text s)
-unfolding stated_text
+without-stated : (s : Stated) → IsOfBytes s → Without 10 (stated_text s)
 without-stated (stated.Accept status output) i =
     without-both 10 (codes "accept ") (status_and_output status output) (without-literal 10 (codes "accept ") refl)
     (without-both 10 (status_text status ++ codes " output") (output_text output)
@@ -184,7 +178,15 @@ without-stated (stated.Accept status output) i =
 without-stated stated.NoneLeft i = without-literal 10 (codes "none left") refl
 without-stated (stated.Collision x y) i =
     without-both 10 (codes "collision ") (encode_lower x ++ (codes " " ++ encode_lower y)) (without-literal 10 (codes "collision ") refl)
-    (without-both 10 (encode_lower x) (codes " " ++ encode_lower y) (encoded-without 10 x (omega arith) i.0.2) (without-both 10 (codes " ") (encode_lower y) (without-literal 10 (codes " ") refl) (encoded-without 10 y (omega arith) i.1.2)))
+    (without-both 10 (encode_lower x) (codes " " ++ encode_lower y) (encoded-without 10 x (omega arith) i.0) (without-both 10 (codes " ") (encode_lower y) (without-literal 10 (codes " ") refl) (encoded-without 10 y (omega arith) i.1)))
+
+pub limits-are-of-bytes : (s : Stated) → IsStatedInLimits s → IsOfBytes s
+limits-are-of-bytes (stated.Accept status output) i = i
+limits-are-of-bytes stated.NoneLeft i = tt
+limits-are-of-bytes (stated.Collision x y) i = (i.0.2, i.1.2)
+
+pub stated-is-one-line : StatedVerdictsAreOneLine
+stated-is-one-line s i = record { ended = stated-line s; lone = without-none 10 (stated_text s) (without-stated s i) }
 
 -- later lines
 
@@ -202,7 +204,7 @@ is-prover provers n a b = grind (arith, nat_tests)
 later-back : WireReads → (provers n : ℕ) (done ms : List TextMove) (s : Stated) → provers ≤ 16 → AreMovesInLimits provers ms → IsStatedInLimits s →
     later provers n done (lines_of (moves_text ms ++ (stated_text s ++ codes "\n"))) ≡ Ok (done ++ ms, s)
 later-back wire provers n done [] s top i j =
-    rw (line-back (stated_text s) [] (without-stated s j))
+    rw (line-back (stated_text s) [] (without-stated s (limits-are-of-bytes s j)))
     (later-end provers n done s (stated_text s) (entry-of-verdict s j) ∙ ap (λ (xs : List TextMove). Ok (xs, s)) (sym (append-nil done)))
 later-back wire provers n done (m ∷ ms) s top i j =
     let cut : lines_of (moves_text (m ∷ ms) ++ (stated_text s ++ codes "\n")) ≡ line (move_text m) (lines_of (moves_text ms ++ (stated_text s ++ codes "\n"))) =

@@ -1,6 +1,6 @@
 -- What is written of a field is read back.
-use Rattle.std.proofs.Common.{◌≡◌, ◌≢◌, ℕ, zero, suc, ◌+◌, ◌-◌, ◌/◌, ◌%◌, ◌^◌, ◌<◌, ◌≤◌, nat_lt, true, false, ◌==◌, List, [], ◌∷◌, ◌++◌, length, slice_index, Some, Ok, refl, ◌∙◌, ap, arith, append_assoc}
-use Rattle.std.specs.Prelude.{decimal}
+use Rattle.std.proofs.Common.{◌≡◌, ◌≢◌, ℕ, zero, suc, ◌+◌, ◌-◌, ◌/◌, ◌%◌, ◌^◌, ◌<◌, ◌≤◌, nat_lt, true, false, ◌==◌, List, [], ◌∷◌, ◌++◌, length, slice_index, Contains, Some, Ok, refl, ◌∙◌, ap, arith, append_assoc}
+use Rattle.std.specs.Prelude.{decimal, slice_index_or}
 use Rattle.std.proofs.lemmas.Bool.Decides.{nat_tests}
 use Rattle.std.proofs.lemmas.Fmt.{decimal_by_steps}
 use Rattle.std.proofs.lemmas.Bool.{and_parts}
@@ -113,6 +113,14 @@ some-hex-back xs some bytes =
 abbrev pub Without : ℕ → List ℕ → Type 0
 Without c [] = Unit {0}
 Without c (b ∷ bs) = ((b == c) ≡ false) × Without c bs
+
+not-at : (c b : ℕ) (bs : List ℕ) → (b == c) ≡ false → ¬ Contains bs c → (k : ℕ) → k < suc (length bs) → slice_index_or (b ∷ bs) k c ≡ c → ⊥
+not-at c b bs other rest zero within e = grind (arith, nat_tests)
+not-at c b bs other rest (suc k) within e = rest (k, omega (arith, within), e)
+
+pub without-none : (c : ℕ) (xs : List ℕ) → Without c xs → ¬ Contains xs c
+without-none c [] w = λ has. omega (arith, has.1)
+without-none c (b ∷ bs) w = λ has. not-at c b bs w.0 (without-none c bs w.1) has.0 has.1 has.2
 
 pub without-both : (c : ℕ) (xs ys : List ℕ) → Without c xs → Without c ys → Without c (xs ++ ys)
 without-both c [] ys a b = b

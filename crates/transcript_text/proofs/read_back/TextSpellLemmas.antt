@@ -27,11 +27,12 @@ use Rattle.transcript_text.specs.reader.TextLines.{Lines, tail, line, lines_of, 
 use Rattle.transcript_text.specs.reader.Fields.{after, skip, number_at, number_after, hex_of, some_hex_of, digest_of, name_or, name_among, name_at}
 use Rattle.transcript_text.specs.reader.Entries.{head_in, move_in, status_at, output_in, accepted_in, string_in, collided_in, collided_or_none, accepted_or_not, verdict_in, move_or_verdict, entry_in}
 use Rattle.transcript_text.specs.reader.ReadText.{is_prover, are_in_limits, head_of, head_with, ended, line_read, later, rest_with, text_in, read_text}
+use Rattle.transcript_text.specs.reader.Laws.{stated_text}
 use Rattle.transcript_text.specs.Limits.{is_within, provers_limit, bound_limit, patience_limit, version_limit, fan_limit}
 use Rattle.transcript_text.specs.declared.limits.Limit.{Limit}
 use Rattle.transcript_text.proofs.read_back.SpellLemmas.{bind-ok, okay, ok-same, after-is, skip-is, number-is, some-hex-is, digest-is, joined, joined-lines, cut-is, WireSpells}
 use Rattle.transcript_text.proofs.read_back.EntrySpellLemmas.{move-spelled, move-is, status-is}
-use Rattle.transcript_text.proofs.read_back.BackLemmas.{stated_text, stated-line, head-spelled, head-nested}
+use Rattle.transcript_text.proofs.read_back.BackLemmas.{stated-line, head-spelled, head-nested}
 
 -- the verdict
 
@@ -54,7 +55,7 @@ output-is [] output e = ap output_text (ok-same [] output e)
 output-is (b ∷ bytes) output e = let q = bind-ok (skip (codes " ") (b ∷ bytes)) some_hex_of output e in output-by b bytes q.0 output q.1 q.2
 
 accepted-is : (bytes : List ℕ) (s : Stated) → accepted_in bytes ≡ Ok s → (codes "accept " ++ bytes) ≡ stated_text s
-unfolding accepted_in stated_text
+unfolding accepted_in
 accepted-is bytes s e =
     let b1 = bind-ok (status_at bytes) _ s e in
     let b2 = bind-ok (skip (codes " output") (b1.0).1) _ s b1.2 in
@@ -80,7 +81,7 @@ cut-by (Some y) x e = ap Some (ok-same y x e)
 cut-by None x e = absurd (cc)
 
 collided-is : (bytes : List ℕ) (s : Stated) → collided_in bytes ≡ Ok s → (codes "collision " ++ bytes) ≡ stated_text s
-unfolding collided_in stated_text
+unfolding collided_in
 collided-is bytes s e =
     let b1 = bind-ok (ok_or (cut_at 32 bytes) NoForm) _ s e in
     let b2 = bind-ok (string_in (b1.0).0) _ s b1.2 in
@@ -93,7 +94,6 @@ collided-is bytes s e =
     ∙ ap stated_text same
 
 left-by : (bytes : List ℕ) (s : Stated) (c : Bool) → bytes_eq bytes (codes "none left") ≡ c → (if c then okay {E = LineFault} stated.NoneLeft else Err NoForm) ≡ Ok s → bytes ≡ stated_text s
-unfolding stated_text
 left-by bytes s true is e = (bytes_eq-Decides bytes (codes "none left")).0 is ∙ ap stated_text (ok-same stated.NoneLeft s e)
 left-by bytes s false is e = absurd (cc)
 

@@ -1,5 +1,6 @@
 -- Derived: reading is the inverse of writing. The laws of these names show it.
-use Rattle.std.specs.Prelude.{◌≡◌, ◌↔◌, ℕ, List, Some, Ok}
+use Rattle.std.specs.Prelude.{◌≡◌, ◌↔◌, ℕ, List, ◌++◌, Contains, Some, Ok, codes}
+use Rattle.hex.specs.Hex.{encode_lower}
 use Rattle.bisect_game.specs.Rules.{Rules, ArePlayable}
 use Rattle.tournament.specs.declared.reading.Verdict.{Verdict}
 use Rattle.tournament.specs.declared.reading.Verdict.TheVariants as verdict
@@ -7,12 +8,15 @@ use Rattle.tournament.specs.Bracket.{Record, verdict_of}
 use Rattle.tournament.specs.Posting.{Post, record_after}
 use Rattle.transcript_text.specs.declared.text.Head.{Head}
 use Rattle.transcript_text.specs.declared.text.Stated.{Stated}
+use Rattle.transcript_text.specs.declared.text.Stated.TheVariants.{Accept, NoneLeft, Collision}
 use Rattle.transcript_text.specs.declared.text.FullText.{FullText}
 use Rattle.transcript_text.specs.MoveLists.{moves_of}
 use Rattle.transcript_text.specs.StatedVerdict.{stated_of}
+use Rattle.transcript_text.specs.Lines.{line_of_stated}
+use Rattle.transcript_text.specs.Report.{answer_text, line_text}
 use Rattle.transcript_text.specs.FullLines.{full_text, text_of, AreWritten}
 use Rattle.transcript_text.specs.Laws.{parts_of}
-use Rattle.transcript_text.specs.reader.InLimits.{IsString, IsHeadInLimits, IsInLimits}
+use Rattle.transcript_text.specs.reader.InLimits.{AreBytes, IsHeadInLimits, IsStatusInLimits, IsString, IsInLimits}
 use Rattle.transcript_text.specs.reader.ReadText.{read_text}
 
 -- bytes are read as a text if and only if it is within the limits and they are its bytes
@@ -22,6 +26,29 @@ ReadsExactly = (bytes : List ℕ) (x : FullText) → (read_text bytes ≡ Ok x) 
 -- so two texts that read alike are equal
 abbrev pub AlikeIsEqual : Type 0
 AlikeIsEqual = (one other : List ℕ) (x : FullText) → read_text one ≡ Ok x → read_text other ≡ Ok x → one ≡ other
+
+-- ONE LINE: what is stated of a verdict, and no line feed but the one behind it
+
+abbrev pub stated_text : Stated → List ℕ
+stated_text (Accept status output) = codes "accept " ++ answer_text status output
+stated_text NoneLeft = codes "none left"
+stated_text (Collision x y) = codes "collision " ++ (encode_lower x ++ (codes " " ++ encode_lower y))
+
+pub record IsOneLine (s : Stated) : Type 0 where
+  pub ended : line_text (line_of_stated s) ≡ stated_text s ++ codes "\n"
+  pub lone : ¬ Contains (stated_text s) 10
+
+-- the status has a number of 32 bits, and outputs and strings are bytes
+abbrev pub IsOfBytes : Stated → Type 0
+IsOfBytes (Accept status output) = IsStatusInLimits status × AreBytes output
+IsOfBytes NoneLeft = Unit {0}
+IsOfBytes (Collision x y) = AreBytes x × AreBytes y
+
+abbrev pub StatedVerdictsAreOneLine : Type 0
+StatedVerdictsAreOneLine = (s : Stated) → IsOfBytes s → IsOneLine s
+
+abbrev pub ReadVerdictsAreOneLine : Type 0
+ReadVerdictsAreOneLine = (bytes : List ℕ) (x : FullText) → read_text bytes ≡ Ok x → IsOneLine x.stated
 
 -- the full text of a record and a verdict is read as their parts, if these are within the limits
 abbrev pub ReadsRecordsBack : Type 0

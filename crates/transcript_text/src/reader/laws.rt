@@ -1,6 +1,6 @@
 //! Laws of reading, each the contract of a function that does nothing.
 ghost use Rattle.std.specs.Prelude.{◌≡◌, ℕ, List, Err};
-ghost use Rattle.transcript_text.specs.reader.Laws.{ReadsExactly, AlikeIsEqual, ReadsRecordsBack, MatchesAreReadBack};
+ghost use Rattle.transcript_text.specs.reader.Laws.{ReadsExactly, AlikeIsEqual, StatedVerdictsAreOneLine, ReadVerdictsAreOneLine, ReadsRecordsBack, MatchesAreReadBack};
 ghost use Rattle.transcript_text.specs.reader.ReadText.{read_text};
 
 use crate::laws::{a_full_text_is_that_of_its_parts, a_verdict_is_stated};
@@ -16,6 +16,15 @@ pub fn reading_is_the_inverse_of_writing()
 {
     reading_is_spelling();
     spelled_in_bytes();
+}
+
+/// The line of a stated verdict ends with its only line feed, if its parts are bytes and numbers of 32 bits (`stated`). So does
+/// that of each text that was read (`read`).
+pub fn stated_verdicts_are_one_line()
+    ensures stated { StatedVerdictsAreOneLine }
+    ensures read { ReadVerdictsAreOneLine }
+{
+    reading_is_the_inverse_of_writing();
 }
 
 /// The full text of a record and a verdict is read as their parts, if these are within the limits (`records`). Those of a
