@@ -2,8 +2,8 @@
 use Rattle.std.proofs.Common.{◌≡◌, true, refl, subst, sym, ◌∙◌}
 use Rattle.delegate.specs.Alone.{command_of}
 use Rattle.delegate.specs.Answered.{is_answer_of, status_number}
-use Rattle.delegate.specs.declared.alone.Alone.{Alone}
-use Rattle.delegate.specs.declared.alone.Alone.TheVariants.{Run, Audit, Listing}
+use Rattle.delegate.specs.declared.commands.Alone.{Alone}
+use Rattle.delegate.specs.declared.commands.Alone.TheVariants.{Run, Audit, Listing}
 use Rattle.delegate.specs.declared.response.Answered.{Answered}
 use Rattle.delegate.specs.declared.response.Answered.TheVariants.{Done, Usage, Case, Image, ReadFault, WriteFault, AuditRefused, Memory, NoneLeft, Collision, TooLong}
 

@@ -2,7 +2,7 @@
 use Rattle.std.specs.Prelude.{◌≡◌, ℕ, List, ◌++◌, length, take, drop}
 use Rattle.delegate.specs.Alone.{IsOutcomeOf}
 use Rattle.delegate.specs.Answered.{status_number}
-use Rattle.delegate.specs.declared.alone.Alone.{Alone}
+use Rattle.delegate.specs.declared.commands.Alone.{Alone}
 use Rattle.delegate.specs.declared.response.Response.{Response}
 use Rattle.coshalit_c.specs.declared.texts.CoshalitAnswer.{CoshalitAnswer}
 

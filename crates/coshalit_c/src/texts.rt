@@ -1,6 +1,6 @@
 //! The commands that need no runtime, on a caller's bytes.
 ghost use Rattle.std.specs.Prelude.{◌≡◌, ◌≢◌};
-ghost use Rattle.delegate.specs.declared.alone.Alone.TheVariants as alone;
+ghost use Rattle.delegate.specs.declared.commands.Alone.TheVariants as alone;
 ghost use Rattle.coshalit_c.specs.Texts.{IsWrittenTo, IsOutcome, IsUntouched};
 
 use delegate::{Alone, Answered, Response, answer_alone};

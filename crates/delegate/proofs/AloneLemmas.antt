@@ -8,8 +8,8 @@ use Rattle.delegate.specs.Answered.{is_answer_of, is_answer_to}
 use Rattle.delegate.specs.Loading.{within_limit}
 use Rattle.delegate.specs.Outcome.{bytes_for, carried_out, either_way, outcome}
 use Rattle.delegate.specs.Refusal.{too_long}
-use Rattle.delegate.specs.declared.alone.Alone.{Alone}
-use Rattle.delegate.specs.declared.alone.Alone.TheVariants.{Run, Audit, Listing}
+use Rattle.delegate.specs.declared.commands.Alone.{Alone}
+use Rattle.delegate.specs.declared.commands.Alone.TheVariants.{Run, Audit, Listing}
 use Rattle.delegate.specs.declared.response.Response.{Response}
 use Rattle.delegate.proofs.KindLemmas.{outcome-own}
 use Rattle.delegate.proofs.OutcomeLemmas.{no_bytes, both_steps, outcome-of, over_limit, under_limit}

@@ -7,7 +7,7 @@ use Rattle.image_reader.specs.declared.fault.ImageFault.TheVariants.{ImageTooLar
 use Rattle.case_reader.specs.declared.case.Format.TheVariants.{Asm}
 use Rattle.rv_text.specs.Assembly.{assembled}
 use Rattle.delegate.specs.AsmImage.{words_at, asm_at}
-use Rattle.delegate.specs.declared.asm_image.AsmImageFault.TheVariants as asm
+use Rattle.delegate.specs.declared.loading.AsmImageFault.TheVariants as asm
 use Rattle.delegate.specs.Refusal.{asm_refusal, or_refusal}
 use Rattle.delegate.specs.Loading.{image_by}
 use Rattle.delegate.specs.declared.response.Subject.TheVariants.{Whole}

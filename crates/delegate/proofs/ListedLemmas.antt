@@ -16,7 +16,7 @@ use Rattle.rv_text.specs.Listing.{listing}
 use Rattle.rv_text.specs.Assembly.{assembled}
 use Rattle.delegate.specs.AsmImage.{bytes_of, asm_at}
 use Rattle.delegate.specs.commands.List.{word_at, words_of}
-use Rattle.delegate.specs.declared.asm_image.AsmImageFault.TheVariants as fault
+use Rattle.delegate.specs.declared.loading.AsmImageFault.TheVariants as fault
 
 abbrev pub AreBytes : List ℕ → Type 0
 AreBytes file = (k : ℕ) → slice_index file k < 256

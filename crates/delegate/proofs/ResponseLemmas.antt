@@ -18,8 +18,8 @@ use Rattle.image_reader.specs.declared.fault.ImageFault.{ImageFault}
 use Rattle.rv_text.specs.declared.fault.AsmFault.{AsmFault}
 use Rattle.rv_text.specs.Assembly.{assembled}
 use Rattle.delegate.specs.AsmImage.{asm_at}
-use Rattle.delegate.specs.declared.asm_image.AsmImageFault.{AsmImageFault}
-use Rattle.delegate.specs.declared.asm_image.AsmImageFault.TheVariants as asm
+use Rattle.delegate.specs.declared.loading.AsmImageFault.{AsmImageFault}
+use Rattle.delegate.specs.declared.loading.AsmImageFault.TheVariants as asm
 use Rattle.transcript_text.specs.declared.text.DigestName.{DigestName}
 use Rattle.transcript_text.specs.declared.text.DigestName.TheVariants.{Sha256}
 use Rattle.transcript_text.specs.declared.text.FullText.{FullText}

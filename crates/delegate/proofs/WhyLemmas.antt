@@ -14,8 +14,8 @@ use Rattle.image_reader.specs.declared.fault.ImageFault.TheVariants as images
 use Rattle.rv_text.specs.declared.fault.AsmFault.{AsmFault}
 use Rattle.rv_text.specs.Assembly.{assembled}
 use Rattle.delegate.specs.AsmImage.{bytes_of, words_at, asm_at}
-use Rattle.delegate.specs.declared.asm_image.AsmImageFault.{AsmImageFault}
-use Rattle.delegate.specs.declared.asm_image.AsmImageFault.TheVariants as asm
+use Rattle.delegate.specs.declared.loading.AsmImageFault.{AsmImageFault}
+use Rattle.delegate.specs.declared.loading.AsmImageFault.TheVariants as asm
 use Rattle.tournament.specs.declared.reading.Verdict.{Verdict}
 use Rattle.tournament.specs.declared.reading.Verdict.TheVariants.{Accept, NoneLeft, Collision}
 use Rattle.transcript_text.specs.declared.text.Stated.{Stated}

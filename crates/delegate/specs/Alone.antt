@@ -4,8 +4,8 @@ use Rattle.command_line.specs.Words.{chosen}
 use Rattle.command_line.specs.declared.request.Command.{Command}
 use Rattle.command_line.specs.declared.request.Command.TheVariants.{Run, Audit, Listing}
 use Rattle.delegate.specs.Outcome.{outcome}
-use Rattle.delegate.specs.declared.alone.Alone.{Alone}
-use Rattle.delegate.specs.declared.alone.Alone.TheVariants as alone
+use Rattle.delegate.specs.declared.commands.Alone.{Alone}
+use Rattle.delegate.specs.declared.commands.Alone.TheVariants as alone
 use Rattle.delegate.specs.declared.response.Response.{Response}
 
 -- the command of the program

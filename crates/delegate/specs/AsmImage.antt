@@ -6,8 +6,8 @@ use Rattle.rd_base.specs.Results.{◌>>=◌, map_fault}
 use Rattle.image_reader.specs.Image.{Image, flat_at}
 use Rattle.image_reader.specs.declared.fault.ImageFault.TheVariants.{ImageTooLarge}
 use Rattle.rv_text.specs.Assembly.{assembled}
-use Rattle.delegate.specs.declared.asm_image.AsmImageFault.{AsmImageFault}
-use Rattle.delegate.specs.declared.asm_image.AsmImageFault.TheVariants as fault
+use Rattle.delegate.specs.declared.loading.AsmImageFault.{AsmImageFault}
+use Rattle.delegate.specs.declared.loading.AsmImageFault.TheVariants as fault
 
 -- the bytes of words, in their order
 abbrev pub bytes_of : List ℕ → List ℕ

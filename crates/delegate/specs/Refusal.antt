@@ -10,8 +10,8 @@ use Rattle.case_reader.specs.declared.fault.TaskFault.TheVariants as tasks
 use Rattle.image_reader.specs.Fault.{rule_of}
 use Rattle.image_reader.specs.declared.fault.ImageFault.{ImageFault}
 use Rattle.rv_text.specs.Faults.{number_of}
-use Rattle.delegate.specs.declared.asm_image.AsmImageFault.{AsmImageFault}
-use Rattle.delegate.specs.declared.asm_image.AsmImageFault.TheVariants as asm
+use Rattle.delegate.specs.declared.loading.AsmImageFault.{AsmImageFault}
+use Rattle.delegate.specs.declared.loading.AsmImageFault.TheVariants as asm
 use Rattle.delegate.specs.declared.response.Subject.{Subject}
 use Rattle.delegate.specs.declared.response.Subject.TheVariants.{Whole, Task}
 use Rattle.delegate.specs.declared.response.Response.{Response}

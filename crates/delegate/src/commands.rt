@@ -1,8 +1,11 @@
-//! The commands, each in a module of its own, and which one is carried out. An `Err` is a refusal, with the response to it, or out of
-//! memory.
-ghost use Rattle.std.specs.Prelude.{IfOk};
+//! The commands, each in a module of its own or beside one like it, and which one is carried out; and those that need no runtime, for callers
+//! that have bytes in memory. An `Err` is a refusal, with the response to it, or out of memory.
+ghost use Rattle.std.specs.Prelude.{◌≡◌, ℕ, List, IfOk, true};
 ghost use Rattle.command_line.specs.Words.{AreAtLeastOne};
-ghost use Rattle.delegate.specs.Alone.{command_of};
+ghost use Rattle.delegate.specs.declared.commands.Alone as commands;
+ghost use Rattle.delegate.specs.declared.response.Response as responses;
+ghost use Rattle.delegate.specs.Alone.{command_of, IsOutcomeOf};
+ghost use Rattle.delegate.specs.Answered.{is_answer_of};
 ghost use Rattle.delegate.specs.Outcome.{carried_out};
 ghost use Rattle.delegate.specs.Standing.{Stands, DecidesInRange};
 
@@ -10,15 +13,27 @@ mod auditing;
 mod big;
 mod judge;
 mod list;
-mod roots;
 mod run;
 
-use crate::alone::Alone;
+use crate::faults;
+use crate::program::MAX_CASE_BYTES;
 use crate::response::{Response, Stop};
-use command_line::{Command, Request};
+use command_line::{Command, Request, plain_words};
+use rd_base::Memory;
 use std::alloc::Global;
 use std::sync::Wait;
 use std::thread::Threads;
+
+/// A command that starts no thread and waits for nothing, so that it needs no runtime.
+#[derive(Clone, Copy, Debug, PartialEq, Eq)]
+pub enum Alone {
+    /// To run a case's program, and to write what its run answers.
+    Run,
+    /// To audit a full text, and to write what is found.
+    Audit,
+    /// To write the listing of a case's image.
+    Listing,
+}
 
 /// Carries out a command on the bytes that were read for it. `run`, `roots`, `audit` and `list` wait for nobody.
 pub fn carry_out<R: Threads + Wait + Sync>(
@@ -34,7 +49,7 @@ pub fn carry_out<R: Threads + Wait + Sync>(
     match request.command {
         Command::Judge(text, name) => judge::judge(rt, alloc, text, name, request.options, bytes),
         Command::Run => carry_out_alone(alloc, Alone::Run, bytes),
-        Command::Roots => roots::roots(rt, alloc, bytes),
+        Command::Roots => run::roots(rt, alloc, bytes),
         Command::Audit => carry_out_alone(alloc, Alone::Audit, bytes),
         Command::Listing => carry_out_alone(alloc, Alone::Listing, bytes),
         Command::Big(seed) => big::big(rt, alloc, seed, request.options),
@@ -42,7 +57,7 @@ pub fn carry_out<R: Threads + Wait + Sync>(
 }
 
 /// Carries out a command that needs no runtime on the bytes that were read for it.
-pub fn carry_out_alone(alloc: Global, command: Alone, bytes: Vec<u8>) -> Result<Response, Stop>
+fn carry_out_alone(alloc: Global, command: Alone, bytes: Vec<u8>) -> Result<Response, Stop>
     ensures { Stands (λ response. response) result (carried_out (command_of command) bytes.items) }
 {
     match command {
@@ -50,4 +65,39 @@ pub fn carry_out_alone(alloc: Global, command: Alone, bytes: Vec<u8>) -> Result<
         Alone::Audit => auditing::check(alloc, bytes),
         Alone::Listing => list::list(alloc, bytes),
     }
+}
+
+/// The outcome of all arguments that name a command has an answer of that command, since there are such arguments.
+fn outcomes_alone_are_of_the_command()
+    ensures { (command : commands.Alone) (bytes : List ℕ) (response : responses.Response) → IsOutcomeOf command bytes response →
+        is_answer_of (command_of command) response.answered ≡ true }
+{
+    plain_words();
+}
+
+/// The response of a command that needs no runtime to these bytes.
+fn respond_alone(alloc: Global, command: Alone, bytes: &[u8]) -> Result<Response, Memory>
+    ensures { IfOk result (IsOutcomeOf command bytes.now) }
+{
+    if bytes.len() > MAX_CASE_BYTES {
+        return Ok(faults::too_long(alloc)?);
+    }
+    let given = Vec::from_slice(alloc, bytes)?;
+    match carry_out_alone(alloc, command, given) {
+        Ok(response) => Ok(response),
+        Err(Stop::Refused(response)) => Ok(response),
+        Err(Stop::Memory) => Err(Memory),
+    }
+}
+
+/// What a command that needs no runtime answers on these bytes: the answer and the text of the program, given these bytes and arguments
+/// that name the command, whatever else they say. More than 16,777,216 bytes are refused, as the program does (`TooLong`).
+///
+/// An `Err` is out of memory, which no answer is (`own`).
+pub fn answer_alone(alloc: Global, command: Alone, bytes: &[u8]) -> Result<Response, Memory>
+    ensures outcome { IfOk result (IsOutcomeOf command bytes.now) }
+    ensures own { IfOk result (λ response. is_answer_of (command_of command) response.answered ≡ true) }
+{
+    outcomes_alone_are_of_the_command();
+    respond_alone(alloc, command, bytes)
 }

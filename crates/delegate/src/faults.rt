@@ -3,7 +3,7 @@ ghost use Rattle.std.specs.Prelude.{◌≡◌, IfOk, string_bytes};
 ghost use Rattle.image_reader.specs.Fault.{rule_of};
 ghost use Rattle.delegate.specs.Refusal.{usage, too_long, case_fault_text, case_refusal, task_refusal, image_refusal, asm_refusal, rule_text};
 
-use crate::asm_image::AsmImageFault;
+use crate::loading::AsmImageFault;
 use crate::response::{Answered, Response, Subject, text_response};
 use case_reader::{CaseFault, TaskFault};
 use image_reader::ImageFault;

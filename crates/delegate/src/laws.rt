@@ -4,7 +4,7 @@ ghost use Rattle.rd_base.specs.Results.{map_fault};
 ghost use Rattle.image_reader.specs.Image.{flat_at};
 ghost use Rattle.rv_text.specs.Listing.{listing};
 ghost use Rattle.delegate.specs.AsmImage.{asm_at};
-ghost use Rattle.delegate.specs.declared.asm_image.AsmImageFault.TheVariants as fault;
+ghost use Rattle.delegate.specs.declared.loading.AsmImageFault.TheVariants as fault;
 ghost use Rattle.delegate.specs.commands.List.{words_of};
 ghost use Rattle.delegate.specs.Answering.{EachCommandHasItsAnswers, EachRefusalSaysWhy};
 ghost use Rattle.delegate.specs.Confirmed.{ConfirmedTextsAreRight};

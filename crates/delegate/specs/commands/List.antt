@@ -9,7 +9,7 @@ use Rattle.case_reader.specs.declared.fault.Key.TheVariants as key
 use Rattle.case_reader.specs.declared.fault.CaseFault.TheVariants.{OutOfRange}
 use Rattle.rv_text.specs.Assembly.{assembled}
 use Rattle.rv_text.specs.Listing.{listing}
-use Rattle.delegate.specs.declared.asm_image.AsmImageFault.TheVariants as asm
+use Rattle.delegate.specs.declared.loading.AsmImageFault.TheVariants as asm
 use Rattle.delegate.specs.Loading.{case_in, image_by}
 use Rattle.delegate.specs.Refusal.{case_refusal, asm_refusal, or_refusal}
 use Rattle.delegate.specs.declared.response.Subject.TheVariants.{Whole}

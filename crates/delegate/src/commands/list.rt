@@ -6,9 +6,8 @@ ghost use Rattle.delegate.specs.Refusal.{asm_refusal, or_refusal};
 ghost use Rattle.delegate.specs.commands.List.{word_at, words_of, format_refusal, words_by, listed};
 ghost use Rattle.delegate.specs.Standing.{Stands};
 
-use crate::asm_image::AsmImageFault;
 use crate::faults;
-use crate::loading::{asm_image, case_in, flat_image};
+use crate::loading::{AsmImageFault, asm_image, case_in, flat_image};
 use crate::response::{Answered, Response, Stop, Subject};
 use case_reader::{Case, CaseFault, Format, Key};
 use rd_base::{Bytes, Memory};

@@ -1,5 +1,5 @@
 use Rattle.std.proofs.Common.{length}
-use Rattle.delegate.proofs.deciding.+add_texts.Given as goal
+use Rattle.delegate.proofs.commands.judge.+add_texts.Given as goal
 
 abbrev pub decreases-add_texts : goal.decreases-add_texts
 decreases-add_texts l = length l.cases.now

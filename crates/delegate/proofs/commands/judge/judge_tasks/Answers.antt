@@ -5,7 +5,7 @@ use Rattle.case_match.specs.declared.opening.LoadedCase.{LoadedCase}
 use Rattle.delegate.specs.commands.Judge.{judging}
 use Rattle.delegate.specs.Decided.{digest_of}
 use Rattle.delegate.proofs.TaskLemmas.{all-chained, all-silent, all-settled, all-shown, told-together}
-use Rattle.delegate.proofs.deciding.judge_tasks.Goals as goal
+use Rattle.delegate.proofs.commands.judge.judge_tasks.Goals as goal
 
 pub loaded_cases-requires-clause-silent : goal.loaded_cases-requires-clause-silent
 loaded_cases-requires-clause-silent g c = all-silent c.args.starts.items c.requires.fresh

@@ -6,7 +6,7 @@ use Rattle.case_match.specs.declared.referee.Ended.{Ended}
 use Rattle.case_match.specs.Openings.{IsFresh, ended_of}
 use Rattle.delegate.specs.Decided.{digest_of}
 use Rattle.delegate.proofs.TaskLemmas.{one-loaded, only-last, record-settled}
-use Rattle.delegate.proofs.deciding.ended_one_by.Goals as goal
+use Rattle.delegate.proofs.commands.judge.ended_one_by.Goals as goal
 
 pub ended_by-requires-clause-some : goal.ended_by-requires-clause-some
 ended_by-requires-clause-some g c κs within = omega (arith, ap length (one-loaded c.in_ok-loads.loads.items c.push.new.self.items _ c.in_ok-loads.ensures.items c.in_ok-push.ensures.items))

@@ -1,5 +1,5 @@
 use Rattle.delegate.specs.Decided.{digest_of}
-use Rattle.delegate.proofs.deciding.judge.Goals as goal
+use Rattle.delegate.proofs.commands.judge.judge_case.Goals as goal
 
 pub ended_one_by-requires-clause-fresh : goal.ended_one_by-requires-clause-fresh
 ended_one_by-requires-clause-fresh g c κs within = c.requires.fresh (digest_of c.args.asked.name)

@@ -2,7 +2,7 @@ use Rattle.std.proofs.Common.{◌≡◌, string_bytes}
 use Rattle.rv_step.specs.Step.{state_at}
 use Rattle.segment_replay.specs.Roots.{own_root}
 use Rattle.transcript_text.specs.Roots.{root_lines}
-use Rattle.delegate.proofs.commands.roots.add_roots.Given as goal
+use Rattle.delegate.proofs.commands.run.add_roots.Given as goal
 
 -- the lines of the roots of the states so far, and the state that the next step starts from
 abbrev pub invariant-states : goal.invariant-states

@@ -1,5 +1,5 @@
 use Rattle.std.proofs.lemmas.Result.{IfOk-weaker}
-use Rattle.delegate.proofs.alone.answer_alone.Goals as goal
+use Rattle.delegate.proofs.commands.answer_alone.Goals as goal
 
 pub returns-clause-own : goal.returns-clause-own
 returns-clause-own c =

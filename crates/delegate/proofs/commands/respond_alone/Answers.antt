@@ -1,6 +1,6 @@
 use Rattle.std.proofs.Common.{Ok, Err, arith}
 use Rattle.delegate.proofs.AloneLemmas.{too_long-alone, carried-alone}
-use Rattle.delegate.proofs.alone.respond_alone.Goals as goal
+use Rattle.delegate.proofs.commands.respond_alone.Goals as goal
 
 pub returns-then-bytes-gt-MAX_CASE_BYTES : goal.returns-then-bytes-gt-MAX_CASE_BYTES
 returns-then-bytes-gt-MAX_CASE_BYTES c =

@@ -3,7 +3,7 @@ use Rattle.std.proofs.lemmas.Result.{IfOk-weaker}
 use Rattle.case_match.specs.declared.opening.LoadedCase.{LoadedCase}
 use Rattle.case_match.specs.Openings.{IsFresh, ended_of}
 use Rattle.delegate.specs.Decided.{digest_of}
-use Rattle.delegate.proofs.deciding.ended_by.Goals as goal
+use Rattle.delegate.proofs.commands.judge.ended_by.Goals as goal
 
 pub ended_tasks-requires-clause-fresh : goal.ended_tasks-requires-clause-fresh
 ended_tasks-requires-clause-fresh g c κs within =

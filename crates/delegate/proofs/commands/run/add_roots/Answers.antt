@@ -2,7 +2,7 @@ use Rattle.std.proofs.Common.{◌≡◌, ℕ, ◌++◌, sym, ap, ◌∙◌, add-
 use Rattle.rv_step.specs.Step.{step, state_at}
 use Rattle.segment_replay.specs.Roots.{own_root}
 use Rattle.transcript_text.specs.Roots.{root_line, root_lines}
-use Rattle.delegate.proofs.commands.roots.add_roots.Goals as goal
+use Rattle.delegate.proofs.commands.run.add_roots.Goals as goal
 
 pub states-preserved : goal.states-preserved
 states-preserved g c =

@@ -1,6 +1,6 @@
 use Rattle.std.proofs.Common.{◌≡◌, take}
 use Rattle.delegate.specs.AsmImage.{bytes_of}
-use Rattle.delegate.proofs.asm_image.bytes_of.Given as goal
+use Rattle.delegate.proofs.loading.bytes_of.Given as goal
 
 -- the bytes of the first words
 abbrev pub invariant-words : goal.invariant-words
