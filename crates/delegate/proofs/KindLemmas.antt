@@ -42,7 +42,6 @@ case-kind is done unread unloaded long = record {
   flat = λ subject file fault e. unloaded;
   elf = λ subject file fault e. unloaded;
   text = λ subject text fault e. unloaded;
-  line = λ fault. unloaded;
   done = λ text. done;
 }
 

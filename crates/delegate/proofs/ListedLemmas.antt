@@ -14,7 +14,7 @@ use Rattle.image_reader.specs.declared.fault.ImageFault.{ImageFault}
 use Rattle.image_reader.specs.declared.fault.ImageFault.TheVariants.{ImageTooLarge}
 use Rattle.rv_text.specs.Listing.{listing}
 use Rattle.rv_text.specs.Assembly.{assembled}
-use Rattle.delegate.specs.AsmImage.{bytes_of, asm_at}
+use Rattle.delegate.specs.AsmImage.{bytes_of, asm_words, asm_at}
 use Rattle.delegate.specs.commands.List.{word_at, words_of}
 use Rattle.delegate.specs.declared.loading.AsmImageFault.TheVariants as fault
 
@@ -134,7 +134,7 @@ flat-same alike nothing over file bytes =
     (λ small. memory-same alike nothing over 0x10000 (bytes_of (words_of file)) file (small-length _ small) (small-length _ (sym large ∙ small)) (bytes-same file bytes))
 
 pub listed-alike : ReadBack → Alike → Nothing → Laid → (file : List ℕ) → AreBytes file → length (listing (words_of file)) ≤ 16777216 → asm_at (listing (words_of file)) ≡ map_fault fault.Image (flat_at file)
-unfolding asm_at
+unfolding asm_at asm_words
 listed-alike back alike nothing over file bytes short =
     rw (le-ltb 16777216 (length (listing (words_of file))) short, back (words_of file) (words-small file bytes 0 (div_ceil (length file) 4)))
     (ap (map_fault fault.Image) (flat-same alike nothing over file bytes))

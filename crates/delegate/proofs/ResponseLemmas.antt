@@ -1,6 +1,6 @@
 -- What holds of each response that a command can come to holds of every outcome.
-use Rattle.std.proofs.Common.{◌≡◌, ℕ, ◌+◌, List, [], ◌∷◌, length, Result, Ok, Err, Bool, true, false, cond, nat_lt, refl}
-use Rattle.rd_base.specs.Results.{◌>>=◌, map_fault}
+use Rattle.std.proofs.Common.{◌≡◌, ℕ, ◌+◌, List, [], ◌∷◌, length, Result, Ok, Err, Bool, true, false, cond, nat_lt, refl, ap}
+use Rattle.rd_base.specs.Results.{◌>>=◌}
 use Rattle.rv_step.specs.State.{State}
 use Rattle.rv_step.specs.Loaded.{started}
 use Rattle.case_reader.specs.Case.{CaseData, case_at}
@@ -15,11 +15,8 @@ use Rattle.case_reader.specs.declared.case.Format.TheVariants.{Flat, Elf, Asm}
 use Rattle.image_reader.specs.Image.{Image, flat_at}
 use Rattle.image_reader.specs.Elf.{elf_at}
 use Rattle.image_reader.specs.declared.fault.ImageFault.{ImageFault}
-use Rattle.rv_text.specs.declared.fault.AsmFault.{AsmFault}
-use Rattle.rv_text.specs.Assembly.{assembled}
-use Rattle.delegate.specs.AsmImage.{asm_at}
+use Rattle.delegate.specs.AsmImage.{words_at, asm_words, asm_at}
 use Rattle.delegate.specs.declared.loading.AsmImageFault.{AsmImageFault}
-use Rattle.delegate.specs.declared.loading.AsmImageFault.TheVariants as asm
 use Rattle.transcript_text.specs.declared.text.DigestName.{DigestName}
 use Rattle.transcript_text.specs.declared.text.DigestName.TheVariants.{Sha256}
 use Rattle.transcript_text.specs.declared.text.FullText.{FullText}
@@ -59,7 +56,6 @@ pub record OfCases (P : Response → Type 0) : Type 0 where
   pub flat : (subject : Subject) (file : List ℕ) (fault : ImageFault) → flat_at file ≡ Err fault → P (image_refusal subject fault)
   pub elf : (subject : Subject) (file : List ℕ) (fault : ImageFault) → elf_at file ≡ Err fault → P (image_refusal subject fault)
   pub text : (subject : Subject) (text : List ℕ) (fault : AsmImageFault) → asm_at text ≡ Err fault → P (asm_refusal subject fault)
-  pub line : (fault : AsmFault) → P (asm_refusal Whole (asm.Text fault))
   pub done : (text : List ℕ) → P (record { answered = Done; text = text })
 
 -- P of a match that is decided
@@ -143,15 +139,29 @@ starts-fit P of t (c ∷ cs) =
     fit-both P (start_in (Task t) c) (λ start. starts_in (t + 1) cs >>= (λ starts. Ok (start ∷ starts))) (start-fit P of (Task t) c)
     (λ start. fit-both P (starts_in (t + 1) cs) (λ starts. Ok (start ∷ starts)) (starts-fit P of (t + 1) cs) (λ starts. ok-fit P (start ∷ starts)))
 
+-- a text whose words aren't loaded has no image, for the same fault
+
+asm-stops : (text : List ℕ) (fault : AsmImageFault) → asm_words text ≡ Err fault → asm_at text ≡ Err fault
+unfolding asm_at
+asm-stops text fault is = ap (λ r. r >>= words_at) is
+
+asm-goes_on : (text words : List ℕ) → asm_words text ≡ Ok words → asm_at text ≡ words_at words
+unfolding asm_at
+asm-goes_on text words is = ap (λ r. r >>= words_at) is
+
 words-fit : (P : Response → Type 0) → OfCases P → (format : Format) (file : List ℕ) → IsFit P (words_by format file)
 words-fit P of Flat file = fit-both P (image_by Whole Flat file) (λ image. Ok (words_of file)) (image-fit P of Whole Flat file) (λ image. ok-fit P (words_of file))
 words-fit P of Elf file = of.ranged key.Format
-words-fit P of Asm text =
-    fit-both P (image_by Whole Asm text) (λ image. or_refusal (asm_refusal Whole) (map_fault asm.Text (assembled text))) (image-fit P of Whole Asm text) (λ image. by (assembled text))
+words-fit P of Asm text = by (asm_words text) (asm-stops text) (asm-goes_on text)
   where
-    by : (r : Result (List ℕ) AsmFault) → IsFit P (or_refusal (asm_refusal Whole) (map_fault asm.Text r))
-    by (Ok words) = tt
-    by (Err fault) = of.line fault
+    tested : (words : List ℕ) (r : Result Image AsmImageFault) → asm_at text ≡ r → IsFit P (or_refusal (asm_refusal Whole) (r >>= (λ image. Ok words)))
+    tested words (Ok image) is = tt
+    tested words (Err fault) is = of.text Whole text fault is
+
+    by : (r : Result (List ℕ) AsmImageFault) → ((fault : AsmImageFault) → r ≡ Err fault → asm_at text ≡ Err fault) → ((words : List ℕ) → r ≡ Ok words → asm_at text ≡ words_at words)
+        → IsFit P (or_refusal (asm_refusal Whole) (r >>= (λ words. words_at words >>= (λ image. Ok words))))
+    by (Ok words) stops goes = tested words (words_at words) (goes words refl)
+    by (Err fault) stops goes = of.text Whole text fault (stops fault refl)
 
 -- the commands
 

@@ -13,7 +13,7 @@ use Rattle.image_reader.specs.declared.fault.ImageFault.{ImageFault}
 use Rattle.image_reader.specs.declared.fault.ImageFault.TheVariants as images
 use Rattle.rv_text.specs.declared.fault.AsmFault.{AsmFault}
 use Rattle.rv_text.specs.Assembly.{assembled}
-use Rattle.delegate.specs.AsmImage.{bytes_of, words_at, asm_at}
+use Rattle.delegate.specs.AsmImage.{bytes_of, words_at, asm_words, asm_at}
 use Rattle.delegate.specs.declared.loading.AsmImageFault.{AsmImageFault}
 use Rattle.delegate.specs.declared.loading.AsmImageFault.TheVariants as asm
 use Rattle.tournament.specs.declared.reading.Verdict.{Verdict}
@@ -145,14 +145,14 @@ words-why subject words = by (flat_at (bytes_of words)) (flat-free (bytes_of wor
     by (Err fault) free = rule-why subject fault (λ e. free (ap Err e))
 
 text-why : (subject : Subject) (text : List ℕ) → AsmWhy subject (asm_at text)
-unfolding asm_at
+unfolding asm_at asm_words
 text-why subject text = by (nat_lt 16777216 (length text))
   where
     of-words : (r : Result (List ℕ) AsmFault) → AsmWhy subject (map_fault asm.Text r >>= words_at)
     of-words (Ok words) = words-why subject words
     of-words (Err fault) = λ e. cc e
 
-    by : (many : Bool) → AsmWhy subject (cond many (Err (asm.Image images.ImageTooLarge)) (map_fault asm.Text (assembled text) >>= words_at))
+    by : (many : Bool) → AsmWhy subject (cond many (Err (asm.Image images.ImageTooLarge)) (map_fault asm.Text (assembled text)) >>= words_at)
     by true = λ e. cc e
     by false = of-words (assembled text)
 
@@ -166,7 +166,6 @@ of-cases law = record {
   flat = λ subject file fault is refused. rule-why subject fault (λ e. flat-free file (is ∙ ap Err e));
   elf = λ subject file fault is refused. rule-why subject fault (λ e. elf-free file (is ∙ ap Err e));
   text = λ subject text fault is refused. subst (AsmWhy subject) is (text-why subject text);
-  line = λ fault refused e. cc e;
   done = λ text refused. absurd (cc refused);
 }
 

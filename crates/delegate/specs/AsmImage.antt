@@ -17,8 +17,10 @@ bytes_of words = flat_map (to_le_bytes w32) words
 abbrev pub words_at : List ℕ → Result Image AsmImageFault
 words_at words = map_fault fault.Image (flat_at (bytes_of words))
 
--- the image of a text. A text of more bytes than are assembled is an image that is too large
+-- the words of a text. A text of more bytes than are assembled is an image that is too large
+unfoldable pub asm_words : List ℕ → Result (List ℕ) AsmImageFault
+asm_words text = if nat_lt 16777216 (length text) then Err (fault.Image ImageTooLarge) else map_fault fault.Text (assembled text)
+
+-- the image of a text
 unfoldable pub asm_at : List ℕ → Result Image AsmImageFault
-asm_at text =
-    if nat_lt 16777216 (length text) then Err (fault.Image ImageTooLarge)
-    else (map_fault fault.Text (assembled text) >>= words_at)
+asm_at text = asm_words text >>= words_at

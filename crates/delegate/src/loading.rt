@@ -1,15 +1,14 @@
 //! How every command on a case reads it and loads its image, and how tasks are read and loaded. An image that is given as assembly text is
 //! the flat one of the words that the text is assembled to. An `Err` is a refusal, with the response to it, or out of memory.
-ghost use Rattle.std.specs.Prelude.{◌≡◌, ◌+◌, ◌≤◌, map, length, IfOk};
+ghost use Rattle.std.specs.Prelude.{◌≡◌, ◌+◌, ◌≤◌, Ok, map, length, IfOk};
 ghost use Rattle.std.specs.List.{All};
-ghost use Rattle.rd_base.specs.Results.{Gives, map_fault};
+ghost use Rattle.rd_base.specs.Results.{◌>>=◌ as and_then, Gives};
 ghost use Rattle.rv_step.specs.State.{state_of};
 ghost use Rattle.case_reader.specs.Case.{data_of};
 ghost use Rattle.case_reader.specs.Tasks.{tasks_data, AreFew};
 ghost use Rattle.image_reader.specs.Image.{loaded_of};
-ghost use Rattle.rv_text.specs.Assembly.{assembled};
 ghost use Rattle.case_match.specs.TruthfulInCase.{IsInRange};
-ghost use Rattle.delegate.specs.AsmImage.{bytes_of as bytes_of_words, words_at, asm_at};
+ghost use Rattle.delegate.specs.AsmImage.{bytes_of as bytes_of_words, words_at, asm_words, asm_at};
 ghost use Rattle.delegate.specs.Loading.{case_in, tasks_in, image_by, image_in, start_in, starts_in};
 ghost use Rattle.delegate.specs.Standing.{Stands, IsFreshStart, AreAllInRange, AddsStarts};
 
@@ -89,11 +88,14 @@ fn bytes_of(alloc: Global, words: &[u32]) -> Result<Vec<u8>, Memory>
     Ok(bytes)
 }
 
-/// The words of a text.
-fn words_of(alloc: Global, text: &[u8]) -> Result<Vec<u32>, AsmImageFault>
-    requires { length text.now ≤ 16777216 }
-    ensures { Gives AsmImageFault.Memory (λ words. words.items) result (map_fault AsmImageFault.Text (assembled text.now)) }
+/// The words of a text. One of more bytes than are assembled is an image that is too large.
+#[tactic(auto, unfolding(crate::specs::AsmImage::asm_words))]
+fn asm_words(alloc: Global, text: &[u8]) -> Result<Vec<u32>, AsmImageFault>
+    ensures { Gives AsmImageFault.Memory (λ words. words.items) result (asm_words text.now) }
 {
+    if text.len() > MAX_ASSEMBLY_BYTES {
+        return Err(AsmImageFault::Image(ImageFault::ImageTooLarge));
+    }
     match assemble(alloc, text) {
         Ok(words) => Ok(words),
         Err(AsmError::Fault(fault)) => Err(AsmImageFault::Text(fault)),
@@ -124,15 +126,21 @@ fn load_words(alloc: Global, words: &[u32]) -> Result<Loaded, AsmImageFault>
 fn load_asm(alloc: Global, text: &[u8]) -> Result<Loaded, AsmImageFault>
     ensures { Gives AsmImageFault.Memory loaded_of result (asm_at text.now) }
 {
-    if text.len() > MAX_ASSEMBLY_BYTES {
-        return Err(AsmImageFault::Image(ImageFault::ImageTooLarge));
-    }
-    let words = words_of(alloc, text)?;
+    let words = asm_words(alloc, text)?;
     load_words(alloc, words.as_slice())
 }
 
+/// The words of an assembly text whose image is loaded without a fault, or the fault.
+pub fn loadable_words(alloc: Global, text: &[u8]) -> Result<Vec<u32>, AsmImageFault>
+    ensures { Gives AsmImageFault.Memory (λ words. words.items) result (and_then (asm_words text.now) (λ words. and_then (words_at words) (λ image. Ok words))) }
+{
+    let words = asm_words(alloc, text)?;
+    load_words(alloc, words.as_slice())?;
+    Ok(words)
+}
+
 /// The image of an assembly text.
-pub fn asm_image(alloc: Global, subject: Subject, text: &[u8]) -> Result<Loaded, Stop>
+fn asm_image(alloc: Global, subject: Subject, text: &[u8]) -> Result<Loaded, Stop>
     ensures { Stands loaded_of result (image_by subject Format.Asm text.now) }
 {
     match load_asm(alloc, text) {

@@ -2,14 +2,13 @@
 use Rattle.std.specs.Prelude.{ℕ, ◌+◌, ◌*◌, List, [], ◌∷◌, length, map, slice_index, Result, Ok, Err}
 use Rattle.std.specs.List.{range_with_len}
 use Rattle.std.specs.Int.{w32, from_le_bytes, div_ceil}
-use Rattle.rd_base.specs.Results.{◌>>=◌, map_fault}
+use Rattle.rd_base.specs.Results.{◌>>=◌}
 use Rattle.case_reader.specs.declared.case.Format.{Format}
 use Rattle.case_reader.specs.declared.case.Format.TheVariants.{Flat, Elf, Asm}
 use Rattle.case_reader.specs.declared.fault.Key.TheVariants as key
 use Rattle.case_reader.specs.declared.fault.CaseFault.TheVariants.{OutOfRange}
-use Rattle.rv_text.specs.Assembly.{assembled}
 use Rattle.rv_text.specs.Listing.{listing}
-use Rattle.delegate.specs.declared.loading.AsmImageFault.TheVariants as asm
+use Rattle.delegate.specs.AsmImage.{words_at, asm_words}
 use Rattle.delegate.specs.Loading.{case_in, image_by}
 use Rattle.delegate.specs.Refusal.{case_refusal, asm_refusal, or_refusal}
 use Rattle.delegate.specs.declared.response.Subject.TheVariants.{Whole}
@@ -33,9 +32,7 @@ abbrev pub words_by : Format → List ℕ → Result (List ℕ) Response
 words_by Flat file = do
   image ← image_by Whole Flat file
   Ok (words_of file)
-words_by Asm text = do
-  image ← image_by Whole Asm text
-  or_refusal (asm_refusal Whole) (map_fault asm.Text (assembled text))
+words_by Asm text = or_refusal (asm_refusal Whole) (asm_words text >>= (λ words. words_at words >>= (λ image. Ok words)))
 words_by Elf file = Err format_refusal
 
 unfoldable pub listed : List ℕ → Result Response Response

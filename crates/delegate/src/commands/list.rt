@@ -1,17 +1,13 @@
 //! `list`: to write the listing of a case's image.
-ghost use Rattle.std.specs.Prelude.{◌≡◌, ◌≤◌, ◌<◌, length, slice_index, IfOk};
-ghost use Rattle.rd_base.specs.Results.{map_fault};
-ghost use Rattle.rv_text.specs.Assembly.{assembled};
-ghost use Rattle.delegate.specs.Refusal.{asm_refusal, or_refusal};
+ghost use Rattle.std.specs.Prelude.{◌≡◌, ◌<◌, length, slice_index, IfOk};
 ghost use Rattle.delegate.specs.commands.List.{word_at, words_of, format_refusal, words_by, listed};
 ghost use Rattle.delegate.specs.Standing.{Stands};
 
 use crate::faults;
-use crate::loading::{AsmImageFault, asm_image, case_in, flat_image};
+use crate::loading::{AsmImageFault, case_in, flat_image, loadable_words};
 use crate::response::{Answered, Response, Stop, Subject};
 use case_reader::{Case, CaseFault, Format, Key};
 use rd_base::{Bytes, Memory};
-use rv_text::{AsmError, assemble};
 use std::alloc::{AllocError, Global};
 
 /// The byte at a place, and 0 behind the end.
@@ -48,21 +44,6 @@ fn words_of(alloc: Global, bytes: &[u8]) -> Result<Vec<u32>, Memory>
     Ok(words)
 }
 
-/// The words that an assembly text is assembled to.
-fn assembled(alloc: Global, text: &[u8]) -> Result<Vec<u32>, Stop>
-    requires { length text.now ≤ 16777216 }
-    ensures { Stands (λ words. words.items) result (or_refusal (asm_refusal Subject.Whole) (map_fault AsmImageFault.Text (assembled text.now))) }
-{
-    match assemble(alloc, text) {
-        Ok(words) => Ok(words),
-        Err(AsmError::Memory) => Err(Stop::Memory),
-        Err(AsmError::Fault(fault)) => {
-            let fault = AsmImageFault::Text(fault);
-            Err(Stop::Refused(faults::asm_refusal(alloc, Subject::Whole, fault)?))
-        }
-    }
-}
-
 /// The words of a flat file, which breaks no rule of images.
 fn flat_words(alloc: Global, file: &[u8]) -> Result<Vec<u32>, Stop>
     ensures { Stands (λ words. words.items) result (words_by Format.Flat file.now) }
@@ -75,8 +56,11 @@ fn flat_words(alloc: Global, file: &[u8]) -> Result<Vec<u32>, Stop>
 fn asm_words(alloc: Global, text: &[u8]) -> Result<Vec<u32>, Stop>
     ensures { Stands (λ words. words.items) result (words_by Format.Asm text.now) }
 {
-    asm_image(alloc, Subject::Whole, text)?;
-    assembled(alloc, text)
+    match loadable_words(alloc, text) {
+        Ok(words) => Ok(words),
+        Err(AsmImageFault::Memory) => Err(Stop::Memory),
+        Err(fault) => Err(Stop::Refused(faults::asm_refusal(alloc, Subject::Whole, fault)?)),
+    }
 }
 
 /// The response to a format that has no listing.
