@@ -14,12 +14,10 @@ use Rattle.image_reader.specs.declared.fault.ImageFault.{ImageFault}
 use Rattle.image_reader.specs.declared.fault.ImageFault.TheVariants.{ImageTooLarge}
 use Rattle.rv_text.specs.Listing.{listing}
 use Rattle.rv_text.specs.Assembly.{assembled}
+use Rattle.transcript_text.specs.reader.InLimits.{AreBytes}
 use Rattle.delegate.specs.AsmImage.{bytes_of, asm_words, asm_at}
 use Rattle.delegate.specs.commands.List.{word_at, words_of}
 use Rattle.delegate.specs.declared.loading.AsmImageFault.TheVariants as fault
-
-abbrev pub AreBytes : List ℕ → Type 0
-AreBytes file = (k : ℕ) → slice_index file k < 256
 
 -- the four bytes of a word of a file
 abbrev quad : List ℕ → ℕ → List ℕ

@@ -16,11 +16,11 @@ use Rattle.transcript_text.specs.declared.text.DigestName.{DigestName}
 use Rattle.transcript_text.specs.MoveLists.{moves_of}
 use Rattle.transcript_text.specs.Lines.{accept_line, collision_line, lines_of_record, are_against}
 use Rattle.transcript_text.specs.Report.{line_text}
+use Rattle.transcript_text.specs.reader.InLimits.{AreBytes}
 use Rattle.command_line.specs.Words.{chosen}
 use Rattle.case_match.specs.Match.{start_root, rules_of_case, record_of_case, verdict_of_record, truth_of_case, final_state}
 use Rattle.case_match.specs.TruthfulInCase.{IsTruthfulInCase, IsInRange}
 use Rattle.delegate.specs.Decided.{digest_of, Deciding, case_for, tasks_for, answered_for, head_of, balances_in, before_verdict, decided, together, each_decided, StandsUnder}
-use Rattle.delegate.specs.InShort.{AreBytes}
 use Rattle.delegate.specs.Loading.{start_in, starts_in}
 use Rattle.delegate.specs.Outcome.{decides}
 use Rattle.delegate.specs.declared.response.Subject.TheVariants.{Whole}

@@ -2,7 +2,7 @@
 -- computes, or shows two different strings of one digest; of tasks, the part of each that has such a prover. What is named is how
 -- arguments, a case and its image are read, the machine, and two lines of text: of the provers only that one of them is `{}`, and nothing
 -- of how a match is played, committed or judged.
-use Rattle.std.specs.Prelude.{◌≡◌, ◌≢◌, ◌<◌, ◌≤◌, slice_index, slice_get, ◌⊎◌, ℕ, ◌-◌, List, Contains, All, length, codes, ◌++◌, Option, option_map, Some, Ok}
+use Rattle.std.specs.Prelude.{◌≡◌, ◌≢◌, ◌<◌, ◌≤◌, slice_get, ◌⊎◌, ℕ, ◌-◌, List, Contains, All, length, codes, ◌++◌, Option, option_map, Some, Ok}
 use Rattle.std.specs.Io.KnownBytes.{Appends}
 use Rattle.hex.specs.Hex.{encode_lower}
 use Rattle.rd_base.specs.declared.script.Script.{Script}
@@ -22,6 +22,7 @@ use Rattle.delegate.specs.AsmImage.{asm_at}
 use Rattle.transcript_text.specs.declared.text.DigestName.{DigestName}
 use Rattle.transcript_text.specs.declared.text.DigestName.TheVariants.{Sha256}
 use Rattle.transcript_text.specs.Report.{answer_text}
+use Rattle.transcript_text.specs.reader.InLimits.{AreBytes}
 use Rattle.workload.specs.Workload.{input_of}
 use Rattle.workload.specs.Program.{program}
 use Rattle.command_line.specs.Words.{chosen}
@@ -71,10 +72,6 @@ accepting final = codes "accept " ++ answer_text final.status final.output
 
 abbrev pub colliding : List ℕ → List ℕ → List ℕ
 colliding x y = codes "collision " ++ (encode_lower x ++ (codes " " ++ encode_lower y))
-
--- each number is a byte
-abbrev pub AreBytes : List ℕ → Type 0
-AreBytes xs = (k : ℕ) → slice_index xs k < 256
 
 -- two different strings of bytes with one digest
 pub record AreOfOneDigest (name : DigestName) (x y : List ℕ) : Type 0 where
