@@ -37,11 +37,11 @@ use Rattle.command_line.specs.declared.request.MatchText.TheVariants.{Report, Fu
 use Rattle.command_line.specs.declared.request.Command.TheVariants.{Audit as AuditOf}
 use Rattle.case_match.specs.Match.{start_root, rules_of_case, setup_of, says_of_case, record_of_case, verdict_of_record}
 use Rattle.case_match.specs.TruthfulInCase.{IsInRange}
-use Rattle.delegate.specs.Decided.{digest_of, written_as, head_of, balances_in, before_verdict, decided}
+use Rattle.delegate.specs.Decided.{digest_of, written_as, match_head, balances_in, before_verdict, response_to_case}
 use Rattle.delegate.specs.Loading.{image_in, start_in}
 use Rattle.delegate.specs.Refusal.{or_refusal}
 use Rattle.delegate.specs.commands.Judge.{judging}
-use Rattle.delegate.specs.commands.Audit.{text_refusal, judge_of, found, checked}
+use Rattle.delegate.specs.commands.Audit.{text_refusal, ruling_of_text, response_to_finding, audit_response}
 use Rattle.delegate.specs.Auditable.{IsConfirmedByItsLine, IsAuditable, AreAuditable, WrittenTextsAreConfirmed, JudgesEndAlike}
 use Rattle.delegate.specs.InShort.{HasLastLine}
 use Rattle.delegate.specs.Outcome.{outcome}
@@ -67,7 +67,7 @@ byte-digest Sha256 bytes = byte-sha256 bytes
 byte-digest Weak8 bytes = byte-weak8 bytes
 
 -- the head of a case in range is within the limits
-head-in-limits : (name : DigestName) (c : CaseData) (start : State) → IsInRange c start → start.version ≡ c.version → IsHeadInLimits (head_of name c (start_root (digest_of name) start))
+head-in-limits : (name : DigestName) (c : CaseData) (start : State) → IsInRange c start → start.version ≡ c.version → IsHeadInLimits (match_head name c (start_root (digest_of name) start))
 head-in-limits name c start range same = record {
   provers = (omega (arith, range.some), range.few);
   bound = (omega (arith, range.steps), range.short);
@@ -88,30 +88,30 @@ record-at name c start version = bracket (rules-at name c start version) (answer
 
 abbrev text-at : (name : DigestName) (c : CaseData) (start : State) → ℕ → List ℕ
 text-at name c start version =
-    full_text (head_of name c (start_root (digest_of name) start)) (record-at name c start version) (verdict_of (rules-at name c start version) (record-at name c start version))
+    full_text (match_head name c (start_root (digest_of name) start)) (record-at name c start version) (verdict_of (rules-at name c start version) (record-at name c start version))
 
 -- `audit` of bytes that are read and confirmed
 
-checked-is : (bytes : List ℕ) (t : FullText) (v : Verdict) → read_text bytes ≡ Ok t → audited (judge_of t) t ≡ Confirmed v
-    → checked bytes ≡ Ok (record { answered = Done; text = codes "confirmed " ++ line_text (line_of_stated t.stated) })
-unfolding checked
-checked-is bytes t v read confirmed = goes_on _ _ _ (ap (or_refusal text_refusal) read) ∙ ap (λ (finding : Audit). Ok (found t.stated finding)) confirmed
+checked-is : (bytes : List ℕ) (t : FullText) (v : Verdict) → read_text bytes ≡ Ok t → audited (ruling_of_text t) t ≡ Confirmed v
+    → audit_response bytes ≡ Ok (record { answered = Done; text = codes "confirmed " ++ line_text (line_of_stated t.stated) })
+unfolding audit_response
+checked-is bytes t v read confirmed = goes_on _ _ _ (ap (or_refusal text_refusal) read) ∙ ap (λ (finding : Audit). Ok (response_to_finding t.stated finding)) confirmed
 
 audit-is : (auditing : List (List ℕ)) (bytes : List ℕ) (t : FullText) (v : Verdict) → chosen auditing ≡ Some AuditOf → length bytes ≤ 16777216 → read_text bytes ≡ Ok t
-    → audited (judge_of t) t ≡ Confirmed v → outcome auditing bytes ≡ record { answered = Done; text = codes "confirmed " ++ line_text (line_of_stated t.stated) }
+    → audited (ruling_of_text t) t ≡ Confirmed v → outcome auditing bytes ≡ record { answered = Done; text = codes "confirmed " ++ line_text (line_of_stated t.stated) }
 audit-is auditing bytes t v is short read confirmed =
     outcome-of auditing bytes _ (of_command auditing bytes AuditOf is ∙ (goes_on _ _ _ (under_limit bytes short) ∙ checked-is bytes t v read confirmed))
 
 -- the line of what is stated is the last line
 stated-last : (asked : MatchText) (name : DigestName) (c : CaseData) (start : State) (t : Stated) (line : List ℕ)
     → stated_of (record_of_case (digest_of name) c start).claims (verdict_of_record (digest_of name) c start (record_of_case (digest_of name) c start)) ≡ Some t
-    → line_text (line_of_stated t) ≡ line ++ codes "\n" → HasLastLine line (decided (judging asked name) c start).text
+    → line_text (line_of_stated t) ≡ line ++ codes "\n" → HasLastLine line (response_to_case (judging asked name) c start).text
 stated-last asked name c start t line is ends =
     let digest = digest_of name in
     let r = record_of_case digest c start in
-    let head = head_of name c (start_root digest start) in
+    let head = match_head name c (start_root digest start) in
     let v = verdict_of_record digest c start r in
-    last-of asked head r (balances_in c r) line (decided (judging asked name) c start).text
+    last-of asked head r (balances_in c r) line (response_to_case (judging asked name) c start).text
     (text-before (written_as asked) head r (balances_in c r) v
     ∙ (ap (λ s. before_verdict (written_as asked) head r (balances_in c r) (text_if_there (line_if_stated s))) is
     ∙ ap (before_verdict (written_as asked) head r (balances_in c r)) ends))
@@ -129,17 +129,17 @@ one-last-line stated name c start =
       of_full = stated-last Full name c start said.0 line.before said.1 line.is;
     }
 
-judge-is : (t : FullText) (head : Head) → t.head ≡ head → judge_of t ≡ machine_ruling (digest_of head.digest) head.version
+judge-is : (t : FullText) (head : Head) → t.head ≡ head → ruling_of_text t ≡ machine_ruling (digest_of head.digest) head.version
 judge-is t head is = ap (λ (h : Head). machine_ruling (digest_of h.digest) h.version) is
 
 pub texts-confirmed : ((name : DigestName) → MachineCasesAreConfirmed (digest_of name)) → WrittenTextsAreConfirmed
 texts-confirmed law name c start auditing range same written short is =
     let digest = digest_of name in
-    let head = head_of name c (start_root digest start) in
+    let head = match_head name c (start_root digest start) in
     let r = record_of_case digest c start in
     let b : IsReadAndConfirmed (machine_ruling digest c.version) head (record-at name c start c.version) =
     law name (says_of_case digest c start) head (head-in-limits name c start range same) (subst (λ (v : ℕ). AreWritten (moves_of (record-at name c start v))) same written) in
-    let read : read_text (decided (judging Full name) c start).text ≡ Ok b.text = ap (λ (v : ℕ). read_text (text-at name c start v)) same ∙ b.read in
+    let read : read_text (response_to_case (judging Full name) c start).text ≡ Ok b.text = ap (λ (v : ℕ). read_text (text-at name c start v)) same ∙ b.read in
     let confirmed = ap (λ judge. audited judge b.text) (judge-is b.text head b.head_is) ∙ b.confirmed in
     let stated : stated_of r.claims (verdict_of_record digest c start r) ≡ Some b.text.stated =
     ap (λ (v : ℕ). stated_of (record-at name c start v).claims (verdict_of (rules-at name c start v) (record-at name c start v))) same ∙ b.stated_is in
@@ -147,7 +147,7 @@ texts-confirmed law name c start auditing range same written short is =
     record {
       line = line.before;
       last = stated-last Full name c start b.text.stated line.before stated line.is;
-      confirmed = audit-is auditing (decided (judging Full name) c start).text b.text _ is short read confirmed
+      confirmed = audit-is auditing (response_to_case (judging Full name) c start).text b.text _ is short read confirmed
           ∙ ap (λ (l : List ℕ). record { answered = Done; text = codes "confirmed " ++ l }) line.is;
     }
 
@@ -164,7 +164,7 @@ pub outcome-auditable : CasesAreTasks → WrittenTextsAreConfirmed → (words : 
 outcome-auditable law confirmed words bytes in_range name c start auditing is short asked =
     let m = judging Full name in
     let played : IsPlayed m c start = in_range m is.asked (One c) (one-case law m.written bytes c is.reads) start is.loads in
-    let same : outcome words bytes ≡ decided m c start = outcome-case law words bytes m c start is in
+    let same : outcome words bytes ≡ response_to_case m c start = outcome-case law words bytes m c start is in
     subst (λ (r : Response). IsConfirmedByItsLine auditing r.text) (sym same)
     (confirmed name c start auditing played.range (start-version Whole c start is.loads) (played.written refl) (subst (λ (r : Response). length r.text ≤ 16777216) same short) asked)
 
@@ -183,7 +183,7 @@ outcome-task-auditable confirmed words bytes in_range name cs starts t auditing 
     let own = start-at 1 cs starts (t - 1) c is.loads at.1 in
     let played : IsPlayed m c own.start = task-played words bytes in_range m cs starts t c own.start is at.1 own.there in
     record {
-      part = decided m c own.start;
+      part = response_to_case m c own.start;
       stands = task-stands words bytes m cs starts t c own.start is at.1 own.there;
       confirmed = λ short. confirmed name c own.start auditing played.range (start-version own.subject c own.start own.loads) (played.written refl) short asked;
     }

@@ -21,7 +21,7 @@ use Rattle.command_line.specs.declared.request.Command.TheVariants.{Big}
 use Rattle.case_match.specs.Match.{start_root, record_of_case}
 use Rattle.case_match.specs.HonestScripts.{UntouchedProversAreTruthful}
 use Rattle.delegate.specs.Answered.{status_number}
-use Rattle.delegate.specs.Decided.{digest_of, summary, before_verdict, head_of, balances_in, decided, case_for}
+use Rattle.delegate.specs.Decided.{digest_of, summary, before_verdict, match_head, balances_in, response_to_case, case_for}
 use Rattle.delegate.specs.Loading.{start_in}
 use Rattle.delegate.specs.commands.Big.{summing_up}
 use Rattle.delegate.specs.Headline.{HeadlineOfCases, AcceptsTheRun, ShowsCollision, IsCase}
@@ -91,22 +91,22 @@ big_in_short headline untouched seed range bytes =
     let p = honest-truthful (digest_of Sha256) (untouched (digest_of Sha256)) c start range (honest-plays seed) in
     (refl, by (headline (summing_up seed) c start p.0 range bytes p.1).ends)
   where
-    by : AcceptsTheRun (summing_up seed) (decided (summing_up seed) (big_data seed) (big_start seed)) (big_data seed) (big_start seed)
-        ⊎ ShowsCollision (summing_up seed) (decided (summing_up seed) (big_data seed) (big_start seed)) (big_data seed) (big_start seed)
-        → EndsWith (accepting (state_at (big_start seed) big_bound)) (decided (summing_up seed) (big_data seed) (big_start seed)).text
-        ⊎ EndsWithTwoStrings Sha256 (decided (summing_up seed) (big_data seed) (big_start seed)).text
+    by : AcceptsTheRun (summing_up seed) (response_to_case (summing_up seed) (big_data seed) (big_start seed)) (big_data seed) (big_start seed)
+        ⊎ ShowsCollision (summing_up seed) (response_to_case (summing_up seed) (big_data seed) (big_start seed)) (big_data seed) (big_start seed)
+        → EndsWith (accepting (state_at (big_start seed) big_bound)) (response_to_case (summing_up seed) (big_data seed) (big_start seed)).text
+        ⊎ EndsWithTwoStrings Sha256 (response_to_case (summing_up seed) (big_data seed) (big_start seed)).text
     by (inl accepts) = inl (
         let settled = record_of_case (digest_of Sha256) (big_data seed) (big_start seed) in
-        let head = head_of Sha256 (big_data seed) (start_root (digest_of Sha256) (big_start seed)) in
-        subst (λ bound. EndsWith (accepting (state_at (big_start seed) bound)) (decided (summing_up seed) (big_data seed) (big_start seed)).text) (bound-is seed)
-        (ends-summary seed head settled (balances_in (big_data seed) settled) (accepting (state_at (big_start seed) (big_data seed).bound)) (decided (summing_up seed) (big_data seed) (big_start seed)).text accepts.text))
+        let head = match_head Sha256 (big_data seed) (start_root (digest_of Sha256) (big_start seed)) in
+        subst (λ bound. EndsWith (accepting (state_at (big_start seed) bound)) (response_to_case (summing_up seed) (big_data seed) (big_start seed)).text) (bound-is seed)
+        (ends-summary seed head settled (balances_in (big_data seed) settled) (accepting (state_at (big_start seed) (big_data seed).bound)) (response_to_case (summing_up seed) (big_data seed) (big_start seed)).text accepts.text))
     by (inr shows) = inr (
         let settled = record_of_case (digest_of Sha256) (big_data seed) (big_start seed) in
-        let head = head_of Sha256 (big_data seed) (start_root (digest_of Sha256) (big_start seed)) in record {
+        let head = match_head Sha256 (big_data seed) (start_root (digest_of Sha256) (big_start seed)) in record {
           x = shows.pair.0;
           y = shows.pair.1;
           strings = record { first = shows.of_bytes.0; second = shows.of_bytes.1; differ = shows.collision.collision.differ; one_digest = shows.collision.collision.one_digest };
-          last = ends-summary seed head settled (balances_in (big_data seed) settled) (colliding shows.pair.0 shows.pair.1) (decided (summing_up seed) (big_data seed) (big_start seed)).text
+          last = ends-summary seed head settled (balances_in (big_data seed) settled) (colliding shows.pair.0 shows.pair.1) (response_to_case (summing_up seed) (big_data seed) (big_start seed)).text
               (shows.text ∙ ap (before_verdict (summary seed) head settled (balances_in (big_data seed) settled)) (colliding-line shows.pair.0 shows.pair.1));
         })
 

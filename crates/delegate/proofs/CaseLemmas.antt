@@ -16,9 +16,9 @@ use Rattle.command_line.specs.declared.request.Command.TheVariants.{Judge, Run, 
 use Rattle.case_match.specs.TruthfulInCase.{IsInRange}
 use Rattle.delegate.specs.Refusal.{too_long, case_refusal, task_refusal, or_refusal}
 use Rattle.delegate.specs.Loading.{within_limit, case_in, tasks_in, start_in, starts_in}
-use Rattle.delegate.specs.Decided.{digest_of, Written, report, full, summary, Deciding, written_as, case_for, tasks_of, tasks_for, decided, together, each_decided, StandsUnder}
-use Rattle.delegate.specs.commands.Judge.{judging, judged_of, judged}
-use Rattle.delegate.specs.commands.Big.{summing_up, summed_up}
+use Rattle.delegate.specs.Decided.{digest_of, Written, report, full, summary, Deciding, written_as, case_for, tasks_within_limit, tasks_for, response_to_case, together, responses_to_cases, StandsUnder}
+use Rattle.delegate.specs.commands.Judge.{judging, response_to_tasks, judge_response}
+use Rattle.delegate.specs.commands.Big.{summing_up, big_response}
 use Rattle.delegate.specs.Outcome.{bytes_for, carried_out, decides, response_to, outcome}
 use Rattle.delegate.specs.Headline.{Headline, AreByteStrings, HeadlineOfCases, AnswersTheCase, KeepsTheTruthful, AnswersTheTasks, AreTasks, KeepsTheTruthfulOfTasks}
 use Rattle.case_match.specs.Match.{record_of_case, verdict_of_record}
@@ -31,23 +31,23 @@ use Rattle.delegate.proofs.TaskLemmas.{decided-stands, played-of, played-at}
 -- a command that decides answers by what it reads
 
 judged-tasks : (text : MatchText) (name : DigestName) (tasks : TasksData) (read : Result (List ℕ) Response) → (read >>= tasks_in) ≡ Ok tasks
-    → (read >>= judged text name) ≡ judged_of (judging text name) tasks
-unfolding judged
+    → (read >>= judge_response text name) ≡ response_to_tasks (judging text name) tasks
+unfolding judge_response
 judged-tasks text name tasks (Ok given) reads = goes_on _ _ _ reads
 judged-tasks text name tasks (Err e) reads = absurd (cc reads)
 
 -- whichever text is asked for, the tasks are those of the bytes
-pub tasks-read : (text : MatchText) (bytes : List ℕ) → tasks_for (written_as text) bytes ≡ tasks_of bytes
+pub tasks-read : (text : MatchText) (bytes : List ℕ) → tasks_for (written_as text) bytes ≡ tasks_within_limit bytes
 unfolding tasks_for
 tasks-read Report bytes = refl
 tasks-read Full bytes = refl
 
-big-judged : (seed : ℕ) → summed_up seed ≡ judged_of (summing_up seed) (One (big_data seed))
-unfolding summed_up judged_of
+big-judged : (seed : ℕ) → big_response seed ≡ response_to_tasks (summing_up seed) (One (big_data seed))
+unfolding big_response response_to_tasks
 big-judged seed = refl
 
 abbrev Answered : Command → List ℕ → Deciding → TasksData → Type 0
-Answered command bytes m tasks = (bytes_for command bytes >>= (λ given. carried_out command given)) ≡ judged_of m tasks
+Answered command bytes m tasks = (bytes_for command bytes >>= (λ given. carried_out command given)) ≡ response_to_tasks m tasks
 
 command-tasks : (command : Command) (bytes : List ℕ) (m : Deciding) (tasks : TasksData) → decides command ≡ Some m → tasks_for m.written bytes ≡ Ok tasks → Answered command bytes m tasks
 unfolding tasks_for
@@ -68,21 +68,21 @@ command-tasks Audit bytes m tasks is reads = absurd (cc is)
 command-tasks Listing bytes m tasks is reads = absurd (cc is)
 
 tasks-steps : (words : List (List ℕ)) (bytes : List ℕ) (m : Deciding) (tasks : TasksData) → option_and_then decides (chosen words) ≡ Some m → tasks_for m.written bytes ≡ Ok tasks
-    → response_to words bytes ≡ judged_of m tasks
+    → response_to words bytes ≡ response_to_tasks m tasks
 tasks-steps words bytes m tasks is reads = by (chosen words) refl
   where
-    by : (o : Option Command) → chosen words ≡ o → response_to words bytes ≡ judged_of m tasks
+    by : (o : Option Command) → chosen words ≡ o → response_to words bytes ≡ response_to_tasks m tasks
     by None none = (let asked = sym (ap (option_and_then decides) none) ∙ is in absurd (cc asked))
     by (Some command) some =
         let asked : decides command ≡ Some m = sym (ap (option_and_then decides) some) ∙ is in
         of_command words bytes command some ∙ command-tasks command bytes m tasks asked reads
 
-one-judged : (m : Deciding) (c : CaseData) (start : State) → start_in Whole c ≡ Ok start → judged_of m (One c) ≡ Ok (decided m c start)
-unfolding judged_of
+one-judged : (m : Deciding) (c : CaseData) (start : State) → start_in Whole c ≡ Ok start → response_to_tasks m (One c) ≡ Ok (response_to_case m c start)
+unfolding response_to_tasks
 one-judged m c start loads = goes_on _ _ _ loads
 
-many-judged : (m : Deciding) (cs : List CaseData) (starts : List State) → starts_in 1 cs ≡ Ok starts → judged_of m (Many cs) ≡ Ok (together (each_decided m cs starts))
-unfolding judged_of
+many-judged : (m : Deciding) (cs : List CaseData) (starts : List State) → starts_in 1 cs ≡ Ok starts → response_to_tasks m (Many cs) ≡ Ok (together (responses_to_cases m cs starts))
+unfolding response_to_tasks
 many-judged m cs starts loads = goes_on _ _ _ loads
 
 -- a case is read as one task
@@ -122,9 +122,9 @@ outcome-headline law headline words bytes in_range m c start p is truthful =
 -- the text of a task stands under its line, and what its run shows
 
 pub task-stands : (words : List (List ℕ)) (bytes : List ℕ) (m : Deciding) (cs : List CaseData) (starts : List State) (t : ℕ) (c : CaseData) (start : State) → AreTasks words bytes m cs starts
-    → slice_get cs (t - 1) ≡ Some c → slice_get starts (t - 1) ≡ Some start → StandsUnder (length cs) t (decided m c start) (outcome words bytes).text
+    → slice_get cs (t - 1) ≡ Some c → slice_get starts (t - 1) ≡ Some start → StandsUnder (length cs) t (response_to_case m c start) (outcome words bytes).text
 task-stands words bytes m cs starts t c start is at from =
-    subst (λ (r : Response). StandsUnder (length cs) t (decided m c start) r.text) (sym (outcome-tasks words bytes m cs starts is)) (decided-stands m cs starts t c start is.loads at from)
+    subst (λ (r : Response). StandsUnder (length cs) t (response_to_case m c start) r.text) (sym (outcome-tasks words bytes m cs starts is)) (decided-stands m cs starts t c start is.loads at from)
 
 pub task-played : (words : List (List ℕ)) (bytes : List ℕ) → CasesAreInRange words bytes → (m : Deciding) (cs : List CaseData) (starts : List State) (t : ℕ) (c : CaseData) (start : State)
     → AreTasks words bytes m cs starts → slice_get cs (t - 1) ≡ Some c → slice_get starts (t - 1) ≡ Some start → IsPlayed m c start
@@ -134,7 +134,7 @@ pub outcome-task-headline : HeadlineOfCases → (words : List (List ℕ)) (bytes
 outcome-task-headline headline words bytes in_range m cs starts t c start p is some at from truthful =
     let played = task-played words bytes in_range m cs starts t c start is at from in
     record {
-      part = decided m c start;
+      part = response_to_case m c start;
       stands = task-stands words bytes m cs starts t c start is at from;
       keeps = headline m c start p played.range played.strings truthful;
     }
@@ -216,10 +216,10 @@ summary-in-range seed bytes c start same loads range strings other is =
     subst (AreInRange (summing_up seed)) (same-ok (Ok (One c)) (One c) other refl both)
     (one-in-range (summing_up seed) c start loads (record { range = range; strings = strings; written = λ is. absurd (cc is) }))
 
-pub big-stands : (seed : ℕ) (c : CaseData) (start : State) (response : Response) → c ≡ big_data seed → start_in Whole c ≡ Ok start → response ≡ decided (summing_up seed) c start → summed_up seed ≡ Ok response
+pub big-stands : (seed : ℕ) (c : CaseData) (start : State) (response : Response) → c ≡ big_data seed → start_in Whole c ≡ Ok start → response ≡ response_to_case (summing_up seed) c start → big_response seed ≡ Ok response
 big-stands seed c start response same loads is =
     big-judged seed
-    ∙ (ap (λ (x : CaseData). judged_of (summing_up seed) (One x)) (sym same)
+    ∙ (ap (λ (x : CaseData). response_to_tasks (summing_up seed) (One x)) (sym same)
     ∙ (one-judged (summing_up seed) c start loads ∙ ap Ok (sym is)))
 
 -- of a command

@@ -15,7 +15,7 @@ use Rattle.command_line.specs.declared.request.Command.TheVariants.{Audit as Aud
 use Rattle.delegate.specs.Decided.{digest_of}
 use Rattle.delegate.specs.Refusal.{too_long, or_refusal}
 use Rattle.delegate.specs.Outcome.{either_way}
-use Rattle.delegate.specs.commands.Audit.{text_refusal, judge_of, found, checked}
+use Rattle.delegate.specs.commands.Audit.{text_refusal, ruling_of_text, response_to_finding, audit_response}
 use Rattle.delegate.specs.Confirmed.{IsConfirmed, ConfirmedTextsAreRight}
 use Rattle.delegate.specs.declared.response.Response.{Response}
 use Rattle.delegate.specs.declared.response.Answered.TheVariants.{Done}
@@ -30,23 +30,23 @@ known-version exactly bytes text read =
 abbrev AreRight : Type 0
 AreRight = (name : DigestName) → ConfirmedCasesAreRight (digest_of name)
 
-of-finding : AreRight → (bytes : List ℕ) (text : FullText) → read_text bytes ≡ Ok text → (finding : Audit) → audited (judge_of text) text ≡ finding
-    → (found text.stated finding).answered ≡ Done → IsConfirmed bytes (found text.stated finding)
+of-finding : AreRight → (bytes : List ℕ) (text : FullText) → read_text bytes ≡ Ok text → (finding : Audit) → audited (ruling_of_text text) text ≡ finding
+    → (response_to_finding text.stated finding).answered ≡ Done → IsConfirmed bytes (response_to_finding text.stated finding)
 of-finding right bytes text read (Confirmed v) is done =
     record { text = text; read = read; written = refl; right = λ start p begins some few lines. right text.head.digest bytes text v start p read is begins some few lines }
 of-finding right bytes text read (Refused line cause) is done = absurd (cc done)
 
 of-text : AreRight → (bytes : List ℕ) (r : Result FullText TextFault) → read_text bytes ≡ r
-    → (either_way (or_refusal text_refusal r >>= (λ text. Ok (found text.stated (audited (judge_of text) text))))).answered ≡ Done
-    → IsConfirmed bytes (either_way (or_refusal text_refusal r >>= (λ text. Ok (found text.stated (audited (judge_of text) text)))))
-of-text right bytes (Ok text) read done = of-finding right bytes text read (audited (judge_of text) text) refl done
+    → (either_way (or_refusal text_refusal r >>= (λ text. Ok (response_to_finding text.stated (audited (ruling_of_text text) text))))).answered ≡ Done
+    → IsConfirmed bytes (either_way (or_refusal text_refusal r >>= (λ text. Ok (response_to_finding text.stated (audited (ruling_of_text text) text)))))
+of-text right bytes (Ok text) read done = of-finding right bytes text read (audited (ruling_of_text text) text) refl done
 of-text right bytes (Err fault) read done = absurd (cc done)
 
-of-checked : AreRight → (bytes : List ℕ) → (either_way (checked bytes)).answered ≡ Done → IsConfirmed bytes (either_way (checked bytes))
-unfolding checked
+of-checked : AreRight → (bytes : List ℕ) → (either_way (audit_response bytes)).answered ≡ Done → IsConfirmed bytes (either_way (audit_response bytes))
+unfolding audit_response
 of-checked right bytes done = of-text right bytes (read_text bytes) refl done
 
-of-bytes : AreRight → (bytes : List ℕ) (many : Bool) → (either_way (cond many (Err too_long) (Ok bytes) >>= checked)).answered ≡ Done → IsConfirmed bytes (either_way (cond many (Err too_long) (Ok bytes) >>= checked))
+of-bytes : AreRight → (bytes : List ℕ) (many : Bool) → (either_way (cond many (Err too_long) (Ok bytes) >>= audit_response)).answered ≡ Done → IsConfirmed bytes (either_way (cond many (Err too_long) (Ok bytes) >>= audit_response))
 of-bytes right bytes true done = absurd (cc done)
 of-bytes right bytes false done = of-checked right bytes done
 

@@ -24,7 +24,7 @@ use Rattle.case_match.specs.Match.{start_root, rules_of_case, says_of_case, reco
 use Rattle.case_match.specs.TruthfulInCase.{IsSafeInCase, TruthfulProversOfCasesAreSafe}
 use Rattle.command_line.specs.declared.request.MatchText.{MatchText}
 use Rattle.command_line.specs.declared.request.MatchText.TheVariants.{Report, Full}
-use Rattle.delegate.specs.Decided.{digest_of, Written, report, full, summary, written_as, Deciding, match_text, answered_by, head_of, balances_in, before_verdict, answered_for, decided}
+use Rattle.delegate.specs.Decided.{digest_of, Written, report, full, summary, written_as, Deciding, match_text, answered_by, match_head, balances_in, before_verdict, answered_for, response_to_case}
 use Rattle.transcript_text.specs.declared.text.Head.{Head}
 use Rattle.delegate.specs.declared.response.Answered.TheVariants.{Done}
 use Rattle.delegate.specs.Headline.{AcceptsTheRun, ShowsCollision, AreByteStrings, HeadlineOfCases}
@@ -77,10 +77,10 @@ accepts-done (summary seed) n = refl
 ends : (m : Deciding) (c : CaseData) (start : State) (verdict : Verdict) → verdict_of_record (digest_of m.digest) c start (record_of_case (digest_of m.digest) c start) ≡ verdict
     → AreByteStrings (verdict_of_record (digest_of m.digest) c start (record_of_case (digest_of m.digest) c start))
     → IsRightVerdict (rules_of_case (digest_of m.digest) c start) (truth_of_case (digest_of m.digest) c start) (record_of_case (digest_of m.digest) c start) verdict
-    → AcceptsTheRun m (decided m c start) c start ⊎ ShowsCollision m (decided m c start) c start
+    → AcceptsTheRun m (response_to_case m c start) c start ⊎ ShowsCollision m (response_to_case m c start) c start
 ends m c start (Accept n) is strings right =
     let settled = record_of_case (digest_of m.digest) c start in
-    let head = head_of m.digest c (start_root (digest_of m.digest) start) in
+    let head = match_head m.digest c (start_root (digest_of m.digest) start) in
     let balances = balances_in c settled in
     inl (record {
       done = ap (answered_for m.written) is ∙ accepts-done m.written n;
@@ -91,7 +91,7 @@ ends m c start (Accept n) is strings right =
     })
 ends m c start (Collision x y) is strings right =
     let settled = record_of_case (digest_of m.digest) c start in
-    let head = head_of m.digest c (start_root (digest_of m.digest) start) in
+    let head = match_head m.digest c (start_root (digest_of m.digest) start) in
     let balances = balances_in c settled in
     inr (record {
       pair = (x, y);

@@ -29,11 +29,11 @@ use Rattle.case_match.specs.Match.{start_root, record_of_case}
 use Rattle.case_match.specs.TruthfulInCase.{IsInRange, IsTruthfulInCase}
 use Rattle.case_match.specs.HonestScripts.{UntouchedProversAreTruthful}
 use Rattle.delegate.specs.Answered.{status_number}
-use Rattle.delegate.specs.Decided.{digest_of, written_as, before_verdict, answered_for, head_of, balances_in, decided, case_for}
+use Rattle.delegate.specs.Decided.{digest_of, written_as, before_verdict, answered_for, match_head, balances_in, response_to_case, case_for}
 use Rattle.delegate.specs.Loading.{start_in}
 use Rattle.delegate.specs.Refusal.{or_refusal, case_refusal}
 use Rattle.delegate.specs.commands.Judge.{judging}
-use Rattle.delegate.specs.commands.Run.{ran, answer_of_run}
+use Rattle.delegate.specs.commands.Run.{run_response, answer_of_run}
 use Rattle.delegate.specs.Headline.{HeadlineOfCases, AcceptsTheRun, ShowsCollision, IsCase}
 use Rattle.delegate.specs.InShort.{IsStartOf, IsCaseOf, honest, HasLastLine, accepting, colliding, Collides, AcceptsOrCollides, Answers, SaysInShort, IsWrittenOf}
 use Rattle.delegate.specs.InShortLaw.{HeadlineInShort, JudgeAcceptsWhatRunPrints}
@@ -153,8 +153,8 @@ in_short headline untouched asked name c start range bytes contains =
     let m = judging asked name in
     by (headline m c start p.0 range bytes p.1).ends
   where
-    by : AcceptsTheRun (judging asked name) (decided (judging asked name) c start) c start ⊎ ShowsCollision (judging asked name) (decided (judging asked name) c start) c start
-        → AcceptsOrCollides name (state_at start c.bound) (status_number (decided (judging asked name) c start).answered) (decided (judging asked name) c start).text
+    by : AcceptsTheRun (judging asked name) (response_to_case (judging asked name) c start) c start ⊎ ShowsCollision (judging asked name) (response_to_case (judging asked name) c start) c start
+        → AcceptsOrCollides name (state_at start c.bound) (status_number (response_to_case (judging asked name) c start).answered) (response_to_case (judging asked name) c start).text
     by (inl accepts) = inl (record { done = ap status_number accepts.done; last = last-of asked _ _ _ (accepting (state_at start c.bound)) _ accepts.text })
     by (inr shows) = inr (let digest = digest_of name in let settled = record_of_case digest c start in record {
       collision = ap status_number shows.answered ∙ collided asked shows.pair.0 shows.pair.1;
@@ -162,7 +162,7 @@ in_short headline untouched asked name c start range bytes contains =
         x = shows.pair.0;
         y = shows.pair.1;
         strings = record { first = shows.of_bytes.0; second = shows.of_bytes.1; differ = shows.collision.collision.differ; one_digest = shows.collision.collision.one_digest };
-        last = last-of asked _ _ _ (colliding shows.pair.0 shows.pair.1) _ (shows.text ∙ ap (before_verdict (written_as asked) (head_of name c (start_root digest start)) settled (balances_in c settled)) (colliding-line shows.pair.0 shows.pair.1));
+        last = last-of asked _ _ _ (colliding shows.pair.0 shows.pair.1) _ (shows.text ∙ ap (before_verdict (written_as asked) (match_head name c (start_root digest start)) settled (balances_in c settled)) (colliding-line shows.pair.0 shows.pair.1));
       };
     })
 
@@ -187,8 +187,8 @@ judge-in-short law short words bytes in_range asked name c start chosen_is reads
     subst (λ (r : Response). AcceptsOrCollides name (state_at start c.bound) (status_number r.answered) r.text) (sym (outcome-case law words bytes (judging asked name) c start is))
     (short asked name c start played.range played.strings contains)
 
-run-is : (bytes : List ℕ) (c : CaseData) (start : State) → case_at bytes ≡ Ok c → start_in Whole c ≡ Ok start → ran bytes ≡ Ok (answer_of_run c start)
-unfolding ran
+run-is : (bytes : List ℕ) (c : CaseData) (start : State) → case_at bytes ≡ Ok c → start_in Whole c ≡ Ok start → run_response bytes ≡ Ok (answer_of_run c start)
+unfolding run_response
 run-is bytes c start reads loads = goes_on _ _ _ (ap (or_refusal (case_refusal Whole)) reads) ∙ goes_on _ _ _ loads
 
 run-in-short : (words : List (List ℕ)) (bytes : List ℕ) (c : CaseData) (start : State) → chosen words ≡ Some Run → IsCaseOf bytes c → IsStartOf c start

@@ -16,9 +16,9 @@ use Rattle.command_line.specs.declared.request.Command.{Command}
 use Rattle.command_line.specs.declared.request.Command.TheVariants.{Judge, Run, Roots, Listing, Big, Audit as AuditOf}
 use Rattle.delegate.specs.Answered.{is_outcome, is_of_case, is_of_match, is_of_text, is_done, is_answer_of, is_answer_to}
 use Rattle.delegate.specs.Refusal.{usage, task_refusal}
-use Rattle.delegate.specs.Decided.{digest_of, written_as, answered_for, each_decided}
+use Rattle.delegate.specs.Decided.{digest_of, written_as, answered_for, responses_to_cases}
 use Rattle.delegate.specs.commands.Judge.{judging}
-use Rattle.delegate.specs.commands.Audit.{found}
+use Rattle.delegate.specs.commands.Audit.{response_to_finding}
 use Rattle.delegate.specs.Outcome.{outcome}
 use Rattle.delegate.specs.Answering.{EachCommandHasItsAnswers}
 use Rattle.delegate.specs.Writing.{ForItsBytes}
@@ -58,7 +58,7 @@ task-kind (faults.Whole fault) = refl
 task-kind (faults.Task t fault) = refl
 task-kind faults.Memory = refl
 
-found-kind : (stated : Stated) (finding : Audit) → Answers is_of_text (found stated finding)
+found-kind : (stated : Stated) (finding : Audit) → Answers is_of_text (response_to_finding stated finding)
 found-kind stated (Confirmed verdict) = refl
 found-kind stated (Refused line cause) = refl
 
@@ -67,7 +67,7 @@ parts (Judge text name) = record {
   of_cases = case-kind (is_answer_of (Judge text name)) refl refl refl refl;
   untold = λ bytes fault e. task-kind fault;
   one = λ c start. verdict-kind text (verdict_of_record (digest_of name) c start (record_of_case (digest_of name) c start));
-  many = λ cs starts. gravest-is is_of_match true refl refl refl (each_decided (judging text name) cs starts);
+  many = λ cs starts. gravest-is is_of_match true refl refl refl (responses_to_cases (judging text name) cs starts);
 }
 parts Run = case-kind (is_answer_of Run) refl refl refl refl
 parts Roots = case-kind (is_answer_of Roots) refl refl refl refl

@@ -16,7 +16,7 @@ use Rattle.rv_text.specs.Listing.{listing}
 use Rattle.rv_text.specs.Assembly.{assembled}
 use Rattle.transcript_text.specs.reader.InLimits.{AreBytes}
 use Rattle.delegate.specs.AsmImage.{bytes_of, asm_words, asm_at}
-use Rattle.delegate.specs.commands.List.{word_at, words_of}
+use Rattle.delegate.specs.commands.List.{word_in_file, words_in_file}
 use Rattle.delegate.specs.declared.loading.AsmImageFault.TheVariants as fault
 
 -- the four bytes of a word of a file
@@ -30,21 +30,21 @@ quad-bytes file bytes place (suc (suc zero)) = bytes (place + 2)
 quad-bytes file bytes place (suc (suc (suc zero))) = bytes (place + 3)
 quad-bytes file bytes place (suc (suc (suc (suc i)))) = omega arith
 
-word-bytes : (file : List ℕ) → AreBytes file → (place : ℕ) → to_le_bytes w32 (word_at file place) ≡ quad file place
-word-bytes file bytes place = le_bytes_4 (quad file place) (word_at file place) refl (quad-bytes file bytes place) refl
+word-bytes : (file : List ℕ) → AreBytes file → (place : ℕ) → to_le_bytes w32 (word_in_file file place) ≡ quad file place
+word-bytes file bytes place = le_bytes_4 (quad file place) (word_in_file file place) refl (quad-bytes file bytes place) refl
 
-word-small : (file : List ℕ) → AreBytes file → (place : ℕ) → word_at file place < 2 ^ 32
+word-small : (file : List ℕ) → AreBytes file → (place : ℕ) → word_in_file file place < 2 ^ 32
 word-small file bytes place = omega (arith, bytes place, bytes (place + 1), bytes (place + 2), bytes (place + 3))
 
 abbrev some_words : List ℕ → ℕ → ℕ → List ℕ
-some_words file start n = map (λ k. word_at file (4 * k)) (range_with_len start n)
+some_words file start n = map (λ k. word_in_file file (4 * k)) (range_with_len start n)
 
 words-small : (file : List ℕ) → AreBytes file → (start n : ℕ) → AllByRecursion (λ w. w < 2 ^ 32) (some_words file start n)
 words-small file bytes start zero = tt
 words-small file bytes start (suc n) = (word-small file bytes (4 * start), words-small file bytes (start + 1) n)
 
 bytes-cons : (file : List ℕ) → AreBytes file → (start n : ℕ) → bytes_of (some_words file start (suc n)) ≡ quad file (4 * start) ++ bytes_of (some_words file (start + 1) n)
-bytes-cons file bytes start n = ap (λ b. b ++ bytes_of (map (λ k. word_at file (4 * k)) (range_with_len (start + 1) n))) (word-bytes file bytes (4 * start))
+bytes-cons file bytes start n = ap (λ b. b ++ bytes_of (map (λ k. word_in_file file (4 * k)) (range_with_len (start + 1) n))) (word-bytes file bytes (4 * start))
 
 bytes-length : (file : List ℕ) → AreBytes file → (start n : ℕ) → length (bytes_of (some_words file start n)) ≡ 4 * n
 bytes-length file bytes start zero = refl
@@ -67,12 +67,12 @@ bytes-at file bytes start (suc n) i within =
     ap (λ b. slice_index b i) (bytes-cons file bytes start n) ∙ quad-at file start n (bytes_of (some_words file (start + 1) n)) (λ j below. bytes-at file bytes (start + 1) n j below) i within
 
 -- the bytes of the words of a file are those of the file, at each place
-bytes-same : (file : List ℕ) → AreBytes file → (i : ℕ) → slice_index (bytes_of (words_of file)) i ≡ slice_index file i
+bytes-same : (file : List ℕ) → AreBytes file → (i : ℕ) → slice_index (bytes_of (words_in_file file)) i ≡ slice_index file i
 bytes-same file bytes i =
     let n = div_ceil (length file) 4 in
     ⊎_elim
     (λ within. bytes-at file bytes 0 n i within ∙ at-place file (4 * 0 + i) i (omega arith))
-    (λ past. get_or_past (bytes_of (words_of file)) i 0 (omega (arith, bytes-length file bytes 0 n)) ∙ sym (get_or_past file i 0 (omega arith)))
+    (λ past. get_or_past (bytes_of (words_in_file file)) i 0 (omega (arith, bytes-length file bytes 0 n)) ∙ sym (get_or_past file i 0 (omega arith)))
     (cases_lt i (4 * n))
 
 -- laws of lower crates, as their functions state them
@@ -122,17 +122,17 @@ large-same m n low high whole = ⊎_elim
 small-length : (n : ℕ) → nat_lt 4194304 n ≡ false → 65536 + n ≤ 2 ^ 32
 small-length n small = omega (arith, ltb-false _ _ small)
 
-flat-same : Alike → Nothing → Laid → (file : List ℕ) → AreBytes file → flat_at (bytes_of (words_of file)) ≡ flat_at file
+flat-same : Alike → Nothing → Laid → (file : List ℕ) → AreBytes file → flat_at (bytes_of (words_in_file file)) ≡ flat_at file
 unfolding flat_at
 flat-same alike nothing over file bytes =
     let long = bytes-length file bytes 0 (div_ceil (length file) 4) in
-    let whole : length (bytes_of (words_of file)) % 4 ≡ 0 = omega (arith, long) in
-    let large : too_large (bytes_of (words_of file)) ≡ too_large file = large-same (length (bytes_of (words_of file))) (length file) (omega (arith, long)) (omega (arith, long)) whole in
-    same-image (laid no_bytes 0x10000 (bytes_of (words_of file))) (laid no_bytes 0x10000 file) (too_large (bytes_of (words_of file))) (too_large file) large
-    (λ small. memory-same alike nothing over 0x10000 (bytes_of (words_of file)) file (small-length _ small) (small-length _ (sym large ∙ small)) (bytes-same file bytes))
+    let whole : length (bytes_of (words_in_file file)) % 4 ≡ 0 = omega (arith, long) in
+    let large : too_large (bytes_of (words_in_file file)) ≡ too_large file = large-same (length (bytes_of (words_in_file file))) (length file) (omega (arith, long)) (omega (arith, long)) whole in
+    same-image (laid no_bytes 0x10000 (bytes_of (words_in_file file))) (laid no_bytes 0x10000 file) (too_large (bytes_of (words_in_file file))) (too_large file) large
+    (λ small. memory-same alike nothing over 0x10000 (bytes_of (words_in_file file)) file (small-length _ small) (small-length _ (sym large ∙ small)) (bytes-same file bytes))
 
-pub listed-alike : ReadBack → Alike → Nothing → Laid → (file : List ℕ) → AreBytes file → length (listing (words_of file)) ≤ 16777216 → asm_at (listing (words_of file)) ≡ map_fault fault.Image (flat_at file)
+pub listed-alike : ReadBack → Alike → Nothing → Laid → (file : List ℕ) → AreBytes file → length (listing (words_in_file file)) ≤ 16777216 → asm_at (listing (words_in_file file)) ≡ map_fault fault.Image (flat_at file)
 unfolding asm_at asm_words
 listed-alike back alike nothing over file bytes short =
-    rw (le-ltb 16777216 (length (listing (words_of file))) short, back (words_of file) (words-small file bytes 0 (div_ceil (length file) 4)))
+    rw (le-ltb 16777216 (length (listing (words_in_file file))) short, back (words_in_file file) (words-small file bytes 0 (div_ceil (length file) 4)))
     (ap (map_fault fault.Image) (flat-same alike nothing over file bytes))

@@ -31,14 +31,14 @@ use Rattle.command_line.specs.declared.request.MatchText.{MatchText}
 use Rattle.command_line.specs.declared.request.Command.{Command}
 use Rattle.command_line.specs.declared.request.Command.TheVariants.{Judge, Run, Roots, Listing, Big, Audit as AuditOf}
 use Rattle.delegate.specs.Refusal.{too_long, case_refusal, task_refusal, image_refusal, asm_refusal, or_refusal}
-use Rattle.delegate.specs.Decided.{digest_of, Deciding, decided, together, each_decided}
+use Rattle.delegate.specs.Decided.{digest_of, Deciding, response_to_case, together, responses_to_cases}
 use Rattle.delegate.specs.Loading.{within_limit, case_in, image_by, start_in, starts_in}
-use Rattle.delegate.specs.commands.Judge.{judging, judged_of, judged}
-use Rattle.delegate.specs.commands.Run.{ran}
-use Rattle.delegate.specs.commands.Roots.{roots_of_run, rooted}
-use Rattle.delegate.specs.commands.Audit.{text_refusal, judge_of, found, checked}
-use Rattle.delegate.specs.commands.List.{words_of, words_by, listed}
-use Rattle.delegate.specs.commands.Big.{summing_up, summed_up}
+use Rattle.delegate.specs.commands.Judge.{judging, response_to_tasks, judge_response}
+use Rattle.delegate.specs.commands.Run.{run_response}
+use Rattle.delegate.specs.commands.Roots.{roots_of_run, roots_response}
+use Rattle.delegate.specs.commands.Audit.{text_refusal, ruling_of_text, response_to_finding, audit_response}
+use Rattle.delegate.specs.commands.List.{words_in_file, words_by, list_response}
+use Rattle.delegate.specs.commands.Big.{summing_up, big_response}
 use Rattle.delegate.specs.Outcome.{bytes_for, carried_out, either_way}
 use Rattle.delegate.specs.declared.response.Subject.{Subject}
 use Rattle.delegate.specs.declared.response.Subject.TheVariants.{Whole, Task}
@@ -60,20 +60,20 @@ pub record OfCases (P : Response → Type 0) : Type 0 where
 
 -- P of a match that is decided
 abbrev pub OfMatches : (Response → Type 0) → Deciding → Type 0
-OfMatches P m = (c : CaseData) (start : State) → P (decided m c start)
+OfMatches P m = (c : CaseData) (start : State) → P (response_to_case m c start)
 
 -- P of what is written of one case or of tasks, and of what they are refused for
 pub record OfTasks (P : Response → Type 0) (m : Deciding) : Type 0 where
   pub of_cases : OfCases P
   pub untold : (bytes : List ℕ) (fault : TaskFault) → tasks_at bytes ≡ Err fault → P (task_refusal fault)
   pub one : OfMatches P m
-  pub many : (cs : List CaseData) (starts : List State) → P (together (each_decided m cs starts))
+  pub many : (cs : List CaseData) (starts : List State) → P (together (responses_to_cases m cs starts))
 
 -- P of what is found of a text
 pub record OfTexts (P : Response → Type 0) : Type 0 where
   pub long : P too_long
   pub unread : (bytes : List ℕ) (fault : TextFault) → read_text bytes ≡ Err fault → P (text_refusal fault)
-  pub finding : (stated : Stated) (finding : Audit) → P (found stated finding)
+  pub finding : (stated : Stated) (finding : Audit) → P (response_to_finding stated finding)
 
 -- P of what a command comes to
 abbrev pub OfCommand : (Response → Type 0) → Command → Type 0
@@ -150,7 +150,7 @@ unfolding asm_at
 asm-goes_on text words is = ap (λ r. r >>= words_at) is
 
 words-fit : (P : Response → Type 0) → OfCases P → (format : Format) (file : List ℕ) → IsFit P (words_by format file)
-words-fit P of Flat file = fit-both P (image_by Whole Flat file) (λ image. Ok (words_of file)) (image-fit P of Whole Flat file) (λ image. ok-fit P (words_of file))
+words-fit P of Flat file = fit-both P (image_by Whole Flat file) (λ image. Ok (words_in_file file)) (image-fit P of Whole Flat file) (λ image. ok-fit P (words_in_file file))
 words-fit P of Elf file = of.ranged key.Format
 words-fit P of Asm text = by (asm_words text) (asm-stops text) (asm-goes_on text)
   where
@@ -165,45 +165,45 @@ words-fit P of Asm text = by (asm_words text) (asm-stops text) (asm-goes_on text
 
 -- the commands
 
-judged-of : (P : Response → Type 0) (m : Deciding) → OfTasks P m → (tasks : TasksData) → Of P (judged_of m tasks)
-unfolding judged_of
+judged-of : (P : Response → Type 0) (m : Deciding) → OfTasks P m → (tasks : TasksData) → Of P (response_to_tasks m tasks)
+unfolding response_to_tasks
 judged-of P m of (One c) = fit-then P (start_in Whole c) _ (start-fit P of.of_cases Whole c) (λ start. of.one c start)
 judged-of P m of (Many cs) = fit-then P (starts_in 1 cs) _ (starts-fit P of.of_cases 1 cs) (λ starts. of.many cs starts)
 
-judge-of : (P : Response → Type 0) (text : MatchText) (name : DigestName) → OfTasks P (judging text name) → (bytes : List ℕ) → Of P (judged text name bytes)
-unfolding judged
+judge-of : (P : Response → Type 0) (text : MatchText) (name : DigestName) → OfTasks P (judging text name) → (bytes : List ℕ) → Of P (judge_response text name bytes)
+unfolding judge_response
 judge-of P text name of bytes = by (tasks_at bytes) refl
   where
-    by : (r : Result TasksData TaskFault) → tasks_at bytes ≡ r → Of P (or_refusal task_refusal r >>= judged_of (judging text name))
+    by : (r : Result TasksData TaskFault) → tasks_at bytes ≡ r → Of P (or_refusal task_refusal r >>= response_to_tasks (judging text name))
     by (Ok tasks) is = judged-of P (judging text name) of tasks
     by (Err fault) is = of.untold bytes fault is
 
-ran-of : (P : Response → Type 0) → OfCases P → (bytes : List ℕ) → Of P (ran bytes)
-unfolding ran
+ran-of : (P : Response → Type 0) → OfCases P → (bytes : List ℕ) → Of P (run_response bytes)
+unfolding run_response
 ran-of P of bytes = case-then P of bytes _ (λ c. fit-then P (start_in Whole c) _ (start-fit P of Whole c) (λ start. of.done _))
 
 -- a limit as a test
 abbrev limit : Response → Bool → Result (Unit {0}) Response
 limit refusal many = cond many (Err refusal) (Ok tt)
 
-rooted-of : (P : Response → Type 0) → OfCases P → (bytes : List ℕ) → Of P (rooted bytes)
-unfolding rooted
+rooted-of : (P : Response → Type 0) → OfCases P → (bytes : List ℕ) → Of P (roots_response bytes)
+unfolding roots_response
 rooted-of P of bytes = case-then P of bytes _ (λ c. by c (nat_lt 4096 c.bound))
   where
     by : (c : CaseData) (many : Bool) → Of P (limit (case_refusal Whole (OutOfRange key.Bound)) many >>= (λ few. start_in Whole c >>= (λ start. Ok (roots_of_run (digest_of Sha256) c start))))
     by c true = of.ranged key.Bound
     by c false = fit-then P (start_in Whole c) _ (start-fit P of Whole c) (λ start. of.done _)
 
-listed-of : (P : Response → Type 0) → OfCases P → (bytes : List ℕ) → Of P (listed bytes)
-unfolding listed
+listed-of : (P : Response → Type 0) → OfCases P → (bytes : List ℕ) → Of P (list_response bytes)
+unfolding list_response
 listed-of P of bytes = case-then P of bytes _ (λ c. fit-then P (words_by c.format c.image) _ (words-fit P of c.format c.image) (λ words. of.done _))
 
-checked-of : (P : Response → Type 0) → OfTexts P → (bytes : List ℕ) → Of P (checked bytes)
-unfolding checked
+checked-of : (P : Response → Type 0) → OfTexts P → (bytes : List ℕ) → Of P (audit_response bytes)
+unfolding audit_response
 checked-of P of bytes = by (read_text bytes) refl
   where
-    by : (r : Result FullText TextFault) → read_text bytes ≡ r → Of P (or_refusal text_refusal r >>= (λ text. Ok (found text.stated (audited (judge_of text) text))))
-    by (Ok text) is = of.finding text.stated (audited (judge_of text) text)
+    by : (r : Result FullText TextFault) → read_text bytes ≡ r → Of P (or_refusal text_refusal r >>= (λ text. Ok (response_to_finding text.stated (audited (ruling_of_text text) text))))
+    by (Ok text) is = of.finding text.stated (audited (ruling_of_text text) text)
     by (Err fault) is = of.unread bytes fault is
 
 -- the large workload loads
@@ -211,8 +211,8 @@ big-fit : (P : Response → Type 0) (seed : ℕ) → IsFit P (start_in Whole (bi
 unfolding start_in big_data program flat_at
 big-fit P seed = tt
 
-summed_up-of : (P : Response → Type 0) (seed : ℕ) → OfMatches P (summing_up seed) → Of P (summed_up seed)
-unfolding summed_up
+summed_up-of : (P : Response → Type 0) (seed : ℕ) → OfMatches P (summing_up seed) → Of P (big_response seed)
+unfolding big_response
 summed_up-of P seed matches = fit-then P (start_in Whole (big_data seed)) _ (big-fit P seed) (λ start. matches (big_data seed) start)
 
 limit-then : (P : Response → Type 0) (bytes : List ℕ) (next : List ℕ → Result Response Response) → P too_long → ((given : List ℕ) → Of P (next given)) → Of P (within_limit bytes >>= next)

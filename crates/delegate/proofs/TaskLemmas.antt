@@ -20,7 +20,7 @@ use Rattle.case_match.specs.declared.referee.Ended.{Ended}
 use Rattle.case_match.specs.Match.{rules_of_case, says_of_case, record_of_case, RecordsOfCasesAreSettledUp}
 use Rattle.case_match.specs.Openings.{ended_of}
 use Rattle.delegate.specs.Answered.{graver}
-use Rattle.delegate.specs.Decided.{digest_of, Deciding, decided, told, task_texts, gravest, together, each_told, each_decided, StandsUnder}
+use Rattle.delegate.specs.Decided.{digest_of, Deciding, response_to_case, response_by, task_texts, gravest, together, responses_by, responses_to_cases, StandsUnder}
 use Rattle.delegate.specs.Standing.{IsFreshStart, responses, CanBePaid, AreAllInRange, AreAllPlayed, AreAllShown, EndsAreShown, IsPlayed, AreStarted, AddsStarts}
 use Rattle.delegate.specs.Loading.{start_in, starts_in}
 use Rattle.delegate.specs.declared.response.Subject.{Subject}
@@ -63,9 +63,9 @@ gravest-is is x done none collision (r ∷ rs) = graver-is is x none collision r
 -- the responses of endings are those to each task
 
 pub same-responses : (digest : List ℕ → List ℕ) (m : Deciding) (ls : List LoadedCase) → responses m (map (λ (l : LoadedCase). data_of l.case.now) ls) (map (ended_of digest) ls)
-    ≡ each_told digest m (map (λ (l : LoadedCase). data_of l.case.now) ls) (map state_of (map (λ (l : LoadedCase). l.start) ls))
+    ≡ responses_by digest m (map (λ (l : LoadedCase). data_of l.case.now) ls) (map state_of (map (λ (l : LoadedCase). l.start) ls))
 same-responses digest m [] = refl
-same-responses digest m (l ∷ ls) = ap (λ (rs : List Response). told digest m (data_of l.case.now) (state_of l.start) ∷ rs) (same-responses digest m ls)
+same-responses digest m (l ∷ ls) = ap (λ (rs : List Response). response_by digest m (data_of l.case.now) (state_of l.start) ∷ rs) (same-responses digest m ls)
 
 -- a case that was read can be played, so each record may be paid
 
@@ -111,11 +111,11 @@ all-chained digest ms fresh = All-weaker IsFreshStart (IsChained digest) (λ m i
 -- the text of a task stands under its line
 
 told-at : (digest : List ℕ → List ℕ) (m : Deciding) (cs : List CaseData) (starts : List State) (i : ℕ) (c : CaseData) (start : State)
-    → slice_get cs i ≡ Some c → slice_get starts i ≡ Some start → slice_get (each_told digest m cs starts) i ≡ Some (told digest m c start)
+    → slice_get cs i ≡ Some c → slice_get starts i ≡ Some start → slice_get (responses_by digest m cs starts) i ≡ Some (response_by digest m c start)
 told-at digest m [] starts i c start at from = absurd (none-some c at)
 told-at digest m (d ∷ cs) [] i c start at from = absurd (none-some start from)
 told-at digest m (d ∷ cs) (s ∷ starts) zero c start at from =
-    ap (λ (x : CaseData). Some (told digest m x s)) (same_Some d c at) ∙ ap (λ (x : State). Some (told digest m c x)) (same_Some s start from)
+    ap (λ (x : CaseData). Some (response_by digest m x s)) (same_Some d c at) ∙ ap (λ (x : State). Some (response_by digest m c x)) (same_Some s start from)
 told-at digest m (d ∷ cs) (s ∷ starts) (suc i) c start at from = told-at digest m cs starts i c start at from
 
 -- what is shown of the ends of tasks is shown of their cases, each by itself
@@ -191,7 +191,7 @@ starts-count number (c ∷ cs) starts is =
     let all = first-starts number c cs starts is in
     ap length all.are ∙ ap suc (starts-count (number + 1) cs all.later all.starts_later)
 
-told-count : (digest : List ℕ → List ℕ) (m : Deciding) (cs : List CaseData) (starts : List State) → length starts ≡ length cs → length (each_told digest m cs starts) ≡ length cs
+told-count : (digest : List ℕ → List ℕ) (m : Deciding) (cs : List CaseData) (starts : List State) → length starts ≡ length cs → length (responses_by digest m cs starts) ≡ length cs
 told-count digest m [] [] same = refl
 told-count digest m [] (s ∷ starts) same = absurd (omega (arith, same))
 told-count digest m (c ∷ cs) [] same = absurd (omega (arith, same))
@@ -199,9 +199,9 @@ told-count digest m (c ∷ cs) (s ∷ starts) same = ap suc (told-count digest m
 
 -- so a text of tasks has a part for each, and that of a task stands under its line
 pub decided-stands : (m : Deciding) (cs : List CaseData) (starts : List State) (t : ℕ) (c : CaseData) (start : State) → starts_in 1 cs ≡ Ok starts
-    → slice_get cs (t - 1) ≡ Some c → slice_get starts (t - 1) ≡ Some start → StandsUnder (length cs) t (decided m c start) (together (each_decided m cs starts)).text
+    → slice_get cs (t - 1) ≡ Some c → slice_get starts (t - 1) ≡ Some start → StandsUnder (length cs) t (response_to_case m c start) (together (responses_to_cases m cs starts)).text
 decided-stands m cs starts t c start loads at from = record {
-  parts = each_decided m cs starts;
+  parts = responses_to_cases m cs starts;
   all = told-count (digest_of m.digest) m cs starts (starts-count 1 cs starts loads);
   whole = refl;
   here = told-at (digest_of m.digest) m cs starts (t - 1) c start at from;
@@ -271,9 +271,9 @@ adds-first-refused number cs c later response are refused = subst (λ (l : List 
 pub told-together : (digest : List ℕ → List ℕ) (m : Deciding) (ls : List LoadedCase) (cs : List CaseData) (starts : List Machine) (own_ends ends : List Ended) (answered : Answered) (before out text : List ℕ)
     → map (λ (l : LoadedCase). data_of l.case.now) ls ≡ cs → map (λ (l : LoadedCase). l.start) ls ≡ starts → own_ends ≡ map (ended_of digest) ls → ends ≡ own_ends → before ≡ []
     → out ≡ before ++ task_texts 1 (responses m cs ends) → answered ≡ gravest (responses m cs ends) → text ≡ out
-    → record { answered = answered; text = text } ≡ together (each_told digest m cs (map state_of starts))
+    → record { answered = answered; text = text } ≡ together (responses_by digest m cs (map state_of starts))
 told-together digest m ls cs starts own_ends ends answered before out text cases_are starts_are own_are ends_are none written gravest_is text_is =
-    let all : responses m cs ends ≡ each_told digest m cs (map state_of starts) =
-    ap₂ (responses m) (sym cases_are) (ends_are ∙ own_are) ∙ (same-responses digest m ls ∙ ap₂ (λ (ds : List CaseData) (ms : List Machine). each_told digest m ds (map state_of ms)) cases_are starts_are) in
+    let all : responses m cs ends ≡ responses_by digest m cs (map state_of starts) =
+    ap₂ (responses m) (sym cases_are) (ends_are ∙ own_are) ∙ (same-responses digest m ls ∙ ap₂ (λ (ds : List CaseData) (ms : List Machine). responses_by digest m ds (map state_of ms)) cases_are starts_are) in
     ap₂ (λ (a : Answered) (t : List ℕ). record { answered = a; text = t }) (gravest_is ∙ ap gravest all)
     (text_is ∙ (written ∙ (ap (λ (l : List ℕ). l ++ task_texts 1 (responses m cs ends)) none ∙ ap (task_texts 1) all)))

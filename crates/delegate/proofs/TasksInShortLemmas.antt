@@ -20,7 +20,7 @@ use Rattle.command_line.specs.Words.{chosen}
 use Rattle.command_line.specs.declared.request.MatchText.{MatchText}
 use Rattle.command_line.specs.declared.request.Command.TheVariants.{Judge}
 use Rattle.delegate.specs.Answered.{status_number}
-use Rattle.delegate.specs.Decided.{written_as, tasks_for, decided}
+use Rattle.delegate.specs.Decided.{written_as, tasks_for, response_to_case}
 use Rattle.delegate.specs.Loading.{image_by, start_in, starts_in}
 use Rattle.delegate.specs.Refusal.{or_refusal, task_refusal, image_refusal, asm_refusal}
 use Rattle.delegate.specs.commands.Judge.{judging}
@@ -103,7 +103,7 @@ tasks-in-short short words bytes in_range asked name cs t c start chosen_is are 
     let from : slice_get all.starts (t - 1) ≡ Some start = own.there ∙ ap Some same in
     let played : IsPlayed m c start = task-played words bytes in_range m cs all.starts t c start is at from in
     record {
-      part = decided m c start;
+      part = response_to_case m c start;
       stands = task-stands words bytes m cs all.starts t c start is at from;
-      ends = part-ends name (state_at start c.bound) (status_number (decided m c start).answered) (decided m c start).text (short asked name c start played.range played.strings contains);
+      ends = part-ends name (state_at start c.bound) (status_number (response_to_case m c start).answered) (response_to_case m c start).text (short asked name c start played.range played.strings contains);
     }

@@ -32,9 +32,9 @@ use Rattle.command_line.specs.declared.request.Command.TheVariants.{Judge, Run, 
 use Rattle.case_match.specs.Match.{record_of_case, verdict_of_record}
 use Rattle.delegate.specs.Answered.{is_refusal}
 use Rattle.delegate.specs.Refusal.{case_fault_text, task_refusal, rule_text, asm_fault_text}
-use Rattle.delegate.specs.Decided.{digest_of, written_as, answered_for, each_decided}
+use Rattle.delegate.specs.Decided.{digest_of, written_as, answered_for, responses_to_cases}
 use Rattle.delegate.specs.commands.Judge.{judging}
-use Rattle.delegate.specs.commands.Audit.{text_fault_text, found}
+use Rattle.delegate.specs.commands.Audit.{text_fault_text, response_to_finding}
 use Rattle.delegate.specs.Outcome.{outcome}
 use Rattle.delegate.specs.Answering.{EachRefusalSaysWhy}
 use Rattle.delegate.specs.declared.response.Subject.{Subject}
@@ -183,7 +183,7 @@ of-texts law = record {
   finding = by;
 }
   where
-    by : (stated : Stated) (finding : Audit) → SaysWhy (found stated finding)
+    by : (stated : Stated) (finding : Audit) → SaysWhy (response_to_finding stated finding)
     by stated (Confirmed verdict) = λ refused. absurd (cc refused)
     by stated (Refused line cause) = λ refused e. cc e
 
@@ -201,7 +201,7 @@ parts none (Judge text name) = record {
   untold = λ bytes fault is refused. task-why none bytes fault is;
   one = λ c start refused.
       (let both = sym refused ∙ no-verdict text (verdict_of_record (digest_of name) c start (record_of_case (digest_of name) c start)) in absurd (cc both));
-  many = λ cs starts refused. (let both = sym refused ∙ gravest-is is_refusal false refl refl refl (each_decided (judging text name) cs starts) in absurd (cc both));
+  many = λ cs starts refused. (let both = sym refused ∙ gravest-is is_refusal false refl refl refl (responses_to_cases (judging text name) cs starts) in absurd (cc both));
 }
 parts none Run = of-cases none
 parts none Roots = of-cases none

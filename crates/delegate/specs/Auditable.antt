@@ -11,7 +11,7 @@ use Rattle.command_line.specs.declared.request.MatchText.TheVariants.{Report, Fu
 use Rattle.command_line.specs.declared.request.Command.TheVariants.{Audit}
 use Rattle.case_match.specs.Match.{record_of_case}
 use Rattle.case_match.specs.TruthfulInCase.{IsInRange}
-use Rattle.delegate.specs.Decided.{digest_of, decided, StandsUnder}
+use Rattle.delegate.specs.Decided.{digest_of, response_to_case, StandsUnder}
 use Rattle.delegate.specs.commands.Judge.{judging}
 use Rattle.delegate.specs.Headline.{IsCase, AreTasks}
 use Rattle.delegate.specs.InShort.{HasLastLine}
@@ -47,15 +47,15 @@ AreAuditable words bytes response =
 abbrev pub WrittenTextsAreConfirmed : Type 0
 WrittenTextsAreConfirmed =
     (name : DigestName) (c : CaseData) (start : State) (auditing : List (List ℕ)) → IsInRange c start → start.version ≡ c.version →
-    AreWritten (moves_of (record_of_case (digest_of name) c start)) → length (decided (judging Full name) c start).text ≤ 16777216 →
-    chosen auditing ≡ Some Audit → IsConfirmedByItsLine auditing (decided (judging Full name) c start).text
+    AreWritten (moves_of (record_of_case (digest_of name) c start)) → length (response_to_case (judging Full name) c start).text ≤ 16777216 →
+    chosen auditing ≡ Some Audit → IsConfirmedByItsLine auditing (response_to_case (judging Full name) c start).text
 
 -- `judge` and `judge --full` of one case have one answer and one last line
 pub record EndAlike (name : DigestName) (c : CaseData) (start : State) : Type 0 where
   pub line : List ℕ
-  pub answer : (decided (judging Report name) c start).answered ≡ (decided (judging Full name) c start).answered
-  pub of_report : HasLastLine line (decided (judging Report name) c start).text
-  pub of_full : HasLastLine line (decided (judging Full name) c start).text
+  pub answer : (response_to_case (judging Report name) c start).answered ≡ (response_to_case (judging Full name) c start).answered
+  pub of_report : HasLastLine line (response_to_case (judging Report name) c start).text
+  pub of_full : HasLastLine line (response_to_case (judging Full name) c start).text
 
 abbrev pub JudgesEndAlike : Type 0
 JudgesEndAlike = (name : DigestName) (c : CaseData) (start : State) → EndAlike name c start

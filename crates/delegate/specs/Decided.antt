@@ -56,32 +56,32 @@ pub record Deciding : Type 0 where
   pub written : Written
 
 -- the case of the bytes, which are not too many
-abbrev pub case_of : List ℕ → Result CaseData Response
-case_of bytes = do
+abbrev pub case_within_limit : List ℕ → Result CaseData Response
+case_within_limit bytes = do
   given ← within_limit bytes
   case_in given
 
 -- the case of the match: that of the bytes, or the large workload of a seed, for which nothing is read
 unfoldable pub case_for : Written → List ℕ → Result CaseData Response
 case_for (summary seed) bytes = Ok (big_data seed)
-case_for report bytes = case_of bytes
-case_for full bytes = case_of bytes
+case_for report bytes = case_within_limit bytes
+case_for full bytes = case_within_limit bytes
 
 -- what the bytes hold, one case or tasks, which are not too many
-abbrev pub tasks_of : List ℕ → Result TasksData Response
-tasks_of bytes = do
+abbrev pub tasks_within_limit : List ℕ → Result TasksData Response
+tasks_within_limit bytes = do
   given ← within_limit bytes
   tasks_in given
 
 -- that of the bytes, or the large workload of a seed
 unfoldable pub tasks_for : Written → List ℕ → Result TasksData Response
 tasks_for (summary seed) bytes = Ok (One (big_data seed))
-tasks_for report bytes = tasks_of bytes
-tasks_for full bytes = tasks_of bytes
+tasks_for report bytes = tasks_within_limit bytes
+tasks_for full bytes = tasks_within_limit bytes
 
 -- what the match is played over, from the root of the state in which the run starts
-abbrev pub head_of : DigestName → CaseData → Digest32 → Head
-head_of name c root = record { provers = length c.provers; bound = c.bound; patience = c.patience; version = c.version; fan = c.fan; digest = name; start = root }
+abbrev pub match_head : DigestName → CaseData → Digest32 → Head
+match_head name c root = record { provers = length c.provers; bound = c.bound; patience = c.patience; version = c.version; fan = c.fan; digest = name; start = root }
 
 abbrev pub answered_by : Verdict → Answered
 answered_by (Accept number) = answered.Done
@@ -114,18 +114,18 @@ before_verdict full head settled balances verdict_text = refereed_text head ++ (
 -- the response of this record and verdict, over a match from this root
 abbrev pub response_of : Deciding → CaseData → Digest32 → Record → Verdict → Response
 response_of m c root settled verdict =
-    record { answered = answered_for m.written verdict; text = match_text m.written (head_of m.digest c root) settled (balances_in c settled) verdict }
+    record { answered = answered_for m.written verdict; text = match_text m.written (match_head m.digest c root) settled (balances_in c settled) verdict }
 
 -- the verdict of a case, by a digest function, and its text
-abbrev pub told : (List ℕ → List ℕ) → Deciding → CaseData → State → Response
-told digest m c start =
+abbrev pub response_by : (List ℕ → List ℕ) → Deciding → CaseData → State → Response
+response_by digest m c start =
     let settled = record_of_case digest c start in
     let verdict = verdict_of_record digest c start settled in
     response_of m c (start_root digest start) settled verdict
 
 -- by the digest function that is asked for: it depends on nothing but that, the case and the text that is asked for
-abbrev pub decided : Deciding → CaseData → State → Response
-decided m c start = told (digest_of m.digest) m c start
+abbrev pub response_to_case : Deciding → CaseData → State → Response
+response_to_case m c start = response_by (digest_of m.digest) m c start
 
 -- TASKS
 
@@ -147,12 +147,12 @@ abbrev pub together : List Response → Response
 together rs = record { answered = gravest rs; text = task_texts 1 rs }
 
 -- the responses to tasks whose runs start in these states, by a digest function, each as to its case alone
-abbrev pub each_told : (List ℕ → List ℕ) → Deciding → List CaseData → List State → List Response
-each_told digest m cs starts = map (λ (x : CaseData × State). told digest m x.0 x.1) (zip cs starts)
+abbrev pub responses_by : (List ℕ → List ℕ) → Deciding → List CaseData → List State → List Response
+responses_by digest m cs starts = map (λ (x : CaseData × State). response_by digest m x.0 x.1) (zip cs starts)
 
 -- by the digest function that is asked for
-abbrev pub each_decided : Deciding → List CaseData → List State → List Response
-each_decided m cs starts = each_told (digest_of m.digest) m cs starts
+abbrev pub responses_to_cases : Deciding → List CaseData → List State → List Response
+responses_to_cases m cs starts = responses_by (digest_of m.digest) m cs starts
 
 -- a text of nothing but parts, one for each of so many tasks, each under its task's line; and this is the part of task t
 pub record StandsUnder (tasks t : ℕ) (part : Response) (text : List ℕ) : Type 0 where

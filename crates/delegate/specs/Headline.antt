@@ -20,7 +20,7 @@ use Rattle.transcript_text.specs.reader.InLimits.{AreBytes}
 use Rattle.command_line.specs.Words.{chosen}
 use Rattle.case_match.specs.Match.{start_root, rules_of_case, record_of_case, verdict_of_record, truth_of_case, final_state}
 use Rattle.case_match.specs.TruthfulInCase.{IsTruthfulInCase, IsInRange}
-use Rattle.delegate.specs.Decided.{digest_of, Deciding, case_for, tasks_for, answered_for, head_of, balances_in, before_verdict, decided, together, each_decided, StandsUnder}
+use Rattle.delegate.specs.Decided.{digest_of, Deciding, case_for, tasks_for, answered_for, match_head, balances_in, before_verdict, response_to_case, together, responses_to_cases, StandsUnder}
 use Rattle.delegate.specs.Loading.{start_in, starts_in}
 use Rattle.delegate.specs.Outcome.{decides}
 use Rattle.delegate.specs.declared.response.Subject.TheVariants.{Whole}
@@ -72,7 +72,7 @@ pub record IsNotEliminated (name : DigestName) (c : CaseData) (start : State) (p
 -- EITHER the verdict's line accepts the status and the output of the sequential run
 pub record AcceptsTheRun (m : Deciding) (response : Response) (c : CaseData) (start : State) : Type 0 where
   pub done : response.answered ≡ Done
-  pub text : response.text ≡ before_verdict m.written (head_of m.digest c (start_root (digest_of m.digest) start)) (record_of_case (digest_of m.digest) c start) (balances_in c (record_of_case (digest_of m.digest) c start)) (line_text (accept_line (final_state c start).status (final_state c start).output))
+  pub text : response.text ≡ before_verdict m.written (match_head m.digest c (start_root (digest_of m.digest) start)) (record_of_case (digest_of m.digest) c start) (balances_in c (record_of_case (digest_of m.digest) c start)) (line_text (accept_line (final_state c start).status (final_state c start).output))
 
 -- OR it shows two different strings of bytes with one digest, each opened by an answer of the record
 pub record ShowsCollision (m : Deciding) (response : Response) (c : CaseData) (start : State) : Type 0 where
@@ -81,7 +81,7 @@ pub record ShowsCollision (m : Deciding) (response : Response) (c : CaseData) (s
   pub verdict : verdict_of_record (digest_of m.digest) c start (record_of_case (digest_of m.digest) c start) ≡ Collision (pair.0) (pair.1)
   pub of_bytes : AreBytes (pair.0) × AreBytes (pair.1)
   pub answered : response.answered ≡ answered_for m.written (Collision (pair.0) (pair.1))
-  pub text : response.text ≡ before_verdict m.written (head_of m.digest c (start_root (digest_of m.digest) start)) (record_of_case (digest_of m.digest) c start) (balances_in c (record_of_case (digest_of m.digest) c start)) (line_text (collision_line (pair.0) (pair.1)))
+  pub text : response.text ≡ before_verdict m.written (match_head m.digest c (start_root (digest_of m.digest) start)) (record_of_case (digest_of m.digest) c start) (balances_in c (record_of_case (digest_of m.digest) c start)) (line_text (collision_line (pair.0) (pair.1)))
 
 -- what holds of the response to a case with a truthful prover
 pub record Headline (m : Deciding) (response : Response) (c : CaseData) (start : State) (p : ℕ) : Type 0 where
@@ -100,12 +100,12 @@ abbrev pub HeadlineOfCases : Type 0
 HeadlineOfCases =
     (m : Deciding) (c : CaseData) (start : State) (p : ℕ) → IsInRange c start →
     AreByteStrings (verdict_of_record (digest_of m.digest) c start (record_of_case (digest_of m.digest) c start)) → IsTruthfulInCase (digest_of m.digest) c start p →
-    Headline m (decided m c start) c start p
+    Headline m (response_to_case m c start) c start p
 
 -- COMPLETENESS, of a response to these arguments and bytes: a case is answered by the verdict of its record, and its text is that
 -- of the record and the verdict, whole
 abbrev pub AnswersTheCase : List (List ℕ) → List ℕ → Response → Type 0
-AnswersTheCase words bytes response = (m : Deciding) (c : CaseData) (start : State) → IsCase words bytes m c start → response ≡ decided m c start
+AnswersTheCase words bytes response = (m : Deciding) (c : CaseData) (start : State) → IsCase words bytes m c start → response ≡ response_to_case m c start
 
 -- THE HEADLINE, of a response to these arguments and bytes. No option is named that changes nothing.
 abbrev pub KeepsTheTruthful : List (List ℕ) → List ℕ → Response → Type 0
@@ -117,7 +117,7 @@ KeepsTheTruthful words bytes response =
 -- answer is the gravest
 abbrev pub AnswersTheTasks : List (List ℕ) → List ℕ → Response → Type 0
 AnswersTheTasks words bytes response =
-    (m : Deciding) (cs : List CaseData) (starts : List State) → AreTasks words bytes m cs starts → response ≡ together (each_decided m cs starts)
+    (m : Deciding) (cs : List CaseData) (starts : List State) → AreTasks words bytes m cs starts → response ≡ together (responses_to_cases m cs starts)
 
 -- the text is one of parts, each under the line of its task, and the headline holds of that of task t
 pub record HeadlineOfTask (m : Deciding) (response : Response) (tasks t : ℕ) (c : CaseData) (start : State) (p : ℕ) : Type 0 where

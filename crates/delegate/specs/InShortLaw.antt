@@ -11,7 +11,7 @@ use Rattle.case_match.specs.TruthfulInCase.{IsInRange}
 use Rattle.delegate.specs.Answered.{status_number}
 use Rattle.case_match.specs.Match.{record_of_case, verdict_of_record}
 use Rattle.delegate.specs.Headline.{AreByteStrings}
-use Rattle.delegate.specs.Decided.{digest_of, decided}
+use Rattle.delegate.specs.Decided.{digest_of, response_to_case}
 use Rattle.workload.specs.Workload.{big_data}
 use Rattle.delegate.specs.commands.Judge.{judging}
 use Rattle.delegate.specs.commands.Big.{summing_up}
@@ -22,7 +22,7 @@ use Rattle.delegate.specs.InShort.{honest, accepting, EndsWith, EndsWithTwoStrin
 abbrev pub HeadlineInShort : Type 0
 HeadlineInShort =
     (asked : MatchText) (name : DigestName) (c : CaseData) (start : State) → IsInRange c start → AreByteStrings (verdict_of_record (digest_of name) c start (record_of_case (digest_of name) c start)) → Contains c.provers honest →
-    AcceptsOrCollides name (state_at start c.bound) (status_number (decided (judging asked name) c start).answered) (decided (judging asked name) c start).text
+    AcceptsOrCollides name (state_at start c.bound) (status_number (response_to_case (judging asked name) c start).answered) (response_to_case (judging asked name) c start).text
 
 -- `judge` accepts what `run` prints of the same bytes, or shows a collision
 pub record JudgeAccepts (name : DigestName) (judge_status : ℕ) (judge_text : List ℕ) (run_status : ℕ) (run_text : List ℕ) : Type 0 where
@@ -42,6 +42,6 @@ JudgeAcceptsWhatRunPrints =
 abbrev pub BigInShort : Type 0
 BigInShort = (seed : ℕ) → IsInRange (big_data seed) (big_start seed) →
     AreByteStrings (verdict_of_record (digest_of Sha256) (big_data seed) (big_start seed) (record_of_case (digest_of Sha256) (big_data seed) (big_start seed))) →
-    (status_number (decided (summing_up seed) (big_data seed) (big_start seed)).answered ≡ 0)
-    × (EndsWith (accepting (state_at (big_start seed) big_bound)) (decided (summing_up seed) (big_data seed) (big_start seed)).text
-    ⊎ EndsWithTwoStrings Sha256 (decided (summing_up seed) (big_data seed) (big_start seed)).text)
+    (status_number (response_to_case (summing_up seed) (big_data seed) (big_start seed)).answered ≡ 0)
+    × (EndsWith (accepting (state_at (big_start seed) big_bound)) (response_to_case (summing_up seed) (big_data seed) (big_start seed)).text
+    ⊎ EndsWithTwoStrings Sha256 (response_to_case (summing_up seed) (big_data seed) (big_start seed)).text)

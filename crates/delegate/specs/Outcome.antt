@@ -8,22 +8,22 @@ use Rattle.command_line.specs.declared.request.Command.TheVariants.{Judge, Run, 
 use Rattle.delegate.specs.Refusal.{usage}
 use Rattle.delegate.specs.Loading.{within_limit}
 use Rattle.delegate.specs.Decided.{Deciding}
-use Rattle.delegate.specs.commands.Judge.{judging, judged}
-use Rattle.delegate.specs.commands.Run.{ran}
-use Rattle.delegate.specs.commands.Roots.{rooted}
-use Rattle.delegate.specs.commands.Audit.{checked}
-use Rattle.delegate.specs.commands.List.{listed}
-use Rattle.delegate.specs.commands.Big.{summing_up, summed_up}
+use Rattle.delegate.specs.commands.Judge.{judging, judge_response}
+use Rattle.delegate.specs.commands.Run.{run_response}
+use Rattle.delegate.specs.commands.Roots.{roots_response}
+use Rattle.delegate.specs.commands.Audit.{audit_response}
+use Rattle.delegate.specs.commands.List.{list_response}
+use Rattle.delegate.specs.commands.Big.{summing_up, big_response}
 use Rattle.delegate.specs.declared.response.Response.{Response}
 
 -- a command on the bytes that were read for it
 abbrev pub carried_out : Command → List ℕ → Result Response Response
-carried_out (Judge text name) bytes = judged text name bytes
-carried_out Run bytes = ran bytes
-carried_out Roots bytes = rooted bytes
-carried_out Audit bytes = checked bytes
-carried_out Listing bytes = listed bytes
-carried_out (Big seed) bytes = summed_up seed
+carried_out (Judge text name) bytes = judge_response text name bytes
+carried_out Run bytes = run_response bytes
+carried_out Roots bytes = roots_response bytes
+carried_out Audit bytes = audit_response bytes
+carried_out Listing bytes = list_response bytes
+carried_out (Big seed) bytes = big_response seed
 
 -- what a command that decides a match is asked for
 abbrev pub decides : Command → Option Deciding

@@ -37,9 +37,9 @@ given_after OutOfMemory = None
 given_after _ = Some []
 
 -- the arguments as they were read
-abbrev pub given : Result (Vec (String Global) Global) Error → Option (List Text)
-given (Ok words) = Some (texts words.items)
-given (Err error) = given_after (error_kind error)
+abbrev pub words_given : Result (Vec (String Global) Global) Error → Option (List Text)
+words_given (Ok words) = Some (texts words.items)
+words_given (Err error) = given_after (error_kind error)
 
 -- a status with which a whole text is written
 abbrev pub is_whole : ℕ → Bool

@@ -5,7 +5,7 @@ ghost use Rattle.image_reader.specs.Image.{flat_at};
 ghost use Rattle.rv_text.specs.Listing.{listing};
 ghost use Rattle.delegate.specs.AsmImage.{asm_at};
 ghost use Rattle.delegate.specs.declared.loading.AsmImageFault.TheVariants as fault;
-ghost use Rattle.delegate.specs.commands.List.{words_of};
+ghost use Rattle.delegate.specs.commands.List.{words_in_file};
 ghost use Rattle.delegate.specs.Answering.{EachCommandHasItsAnswers, EachRefusalSaysWhy};
 ghost use Rattle.delegate.specs.Confirmed.{ConfirmedTextsAreRight};
 ghost use Rattle.delegate.specs.Headline.{HeadlineOfCases};
@@ -106,8 +106,8 @@ pub fn answers_are_those_of_the_command()
 /// The listing of a flat file, taken as an assembly text, is loaded as the file is: the same memory and entry, or the same rule is broken.
 /// The listing has to be no longer than a text may be.
 pub fn listed_files_load_alike()
-    ensures { (file : List ℕ) → ((k : ℕ) → slice_index file k < 256) → length (listing (words_of file)) ≤ 16777216 →
-        asm_at (listing (words_of file)) ≡ map_fault fault.Image (flat_at file) }
+    ensures { (file : List ℕ) → ((k : ℕ) → slice_index file k < 256) → length (listing (words_in_file file)) ≤ 16777216 →
+        asm_at (listing (words_in_file file)) ≡ map_fault fault.Image (flat_at file) }
 {
     listing_is_read_back();
     contents_of_a_function();

@@ -44,15 +44,15 @@ cause_number MovesMissing = 4
 cause_number MovesAfterEnd = 5
 
 -- a text is confirmed with the line of its verdict, or refused with a line and a cause
-abbrev pub found : Stated → Audit → Response
-found stated (Confirmed verdict) = record { answered = Done; text = codes "confirmed " ++ line_text (line_of_stated stated) }
-found stated (Refused line cause) = record { answered = AuditRefused; text = codes "refused " ++ (decimal line ++ (codes " " ++ (decimal (cause_number cause) ++ codes "\n"))) }
+abbrev pub response_to_finding : Stated → Audit → Response
+response_to_finding stated (Confirmed verdict) = record { answered = Done; text = codes "confirmed " ++ line_text (line_of_stated stated) }
+response_to_finding stated (Refused line cause) = record { answered = AuditRefused; text = codes "refused " ++ (decimal line ++ (codes " " ++ (decimal (cause_number cause) ++ codes "\n"))) }
 
 -- before the judge of the machine in the version and by the digest that its head names
-abbrev pub judge_of : FullText → Ruling
-judge_of text = machine_ruling (digest_of text.head.digest) text.head.version
+abbrev pub ruling_of_text : FullText → Ruling
+ruling_of_text text = machine_ruling (digest_of text.head.digest) text.head.version
 
-unfoldable pub checked : List ℕ → Result Response Response
-checked bytes = do
+unfoldable pub audit_response : List ℕ → Result Response Response
+audit_response bytes = do
   text ← full_text_in bytes
-  Ok (found text.stated (audited (judge_of text) text))
+  Ok (response_to_finding text.stated (audited (ruling_of_text text) text))

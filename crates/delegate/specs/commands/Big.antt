@@ -4,7 +4,7 @@ use Rattle.rd_base.specs.Results.{◌>>=◌}
 use Rattle.transcript_text.specs.declared.text.DigestName.TheVariants.{Sha256}
 use Rattle.workload.specs.Workload.{big_data}
 use Rattle.delegate.specs.Loading.{start_in}
-use Rattle.delegate.specs.Decided.{Deciding, summary, decided}
+use Rattle.delegate.specs.Decided.{Deciding, summary, response_to_case}
 use Rattle.delegate.specs.declared.response.Subject.TheVariants.{Whole}
 use Rattle.delegate.specs.declared.response.Response.{Response}
 
@@ -12,7 +12,7 @@ use Rattle.delegate.specs.declared.response.Response.{Response}
 abbrev pub summing_up : ℕ → Deciding
 summing_up seed = record { digest = Sha256; written = summary seed }
 
-unfoldable pub summed_up : ℕ → Result Response Response
-summed_up seed = do
+unfoldable pub big_response : ℕ → Result Response Response
+big_response seed = do
   start ← start_in Whole (big_data seed)
-  Ok (decided (summing_up seed) (big_data seed) start)
+  Ok (response_to_case (summing_up seed) (big_data seed) start)

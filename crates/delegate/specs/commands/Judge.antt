@@ -6,7 +6,7 @@ use Rattle.case_reader.specs.Tasks.{TasksData, One, Many}
 use Rattle.transcript_text.specs.declared.text.DigestName.{DigestName}
 use Rattle.command_line.specs.declared.request.MatchText.{MatchText}
 use Rattle.delegate.specs.Loading.{tasks_in, start_in, starts_in}
-use Rattle.delegate.specs.Decided.{Deciding, written_as, decided, together, each_decided}
+use Rattle.delegate.specs.Decided.{Deciding, written_as, response_to_case, together, responses_to_cases}
 use Rattle.delegate.specs.declared.response.Subject.TheVariants.{Whole}
 use Rattle.delegate.specs.declared.response.Response.{Response}
 
@@ -15,15 +15,15 @@ abbrev pub judging : MatchText → DigestName → Deciding
 judging text name = record { digest = name; written = written_as text }
 
 -- of what was read
-unfoldable pub judged_of : Deciding → TasksData → Result Response Response
-judged_of m (One c) = do
+unfoldable pub response_to_tasks : Deciding → TasksData → Result Response Response
+response_to_tasks m (One c) = do
   start ← start_in Whole c
-  Ok (decided m c start)
-judged_of m (Many cs) = do
+  Ok (response_to_case m c start)
+response_to_tasks m (Many cs) = do
   starts ← starts_in 1 cs
-  Ok (together (each_decided m cs starts))
+  Ok (together (responses_to_cases m cs starts))
 
-unfoldable pub judged : MatchText → DigestName → List ℕ → Result Response Response
-judged text name bytes = do
+unfoldable pub judge_response : MatchText → DigestName → List ℕ → Result Response Response
+judge_response text name bytes = do
   tasks ← tasks_in bytes
-  judged_of (judging text name) tasks
+  response_to_tasks (judging text name) tasks

@@ -16,12 +16,12 @@ use Rattle.delegate.specs.declared.response.Response.{Response}
 use Rattle.delegate.specs.declared.response.Answered.TheVariants.{Done}
 
 -- the word whose first byte, the least, is at this place. Bytes behind the end are 0.
-abbrev pub word_at : List ℕ → ℕ → ℕ
-word_at bytes place = from_le_bytes w32 (slice_index bytes place ∷ slice_index bytes (place + 1) ∷ slice_index bytes (place + 2) ∷ slice_index bytes (place + 3) ∷ [])
+abbrev pub word_in_file : List ℕ → ℕ → ℕ
+word_in_file bytes place = from_le_bytes w32 (slice_index bytes place ∷ slice_index bytes (place + 1) ∷ slice_index bytes (place + 2) ∷ slice_index bytes (place + 3) ∷ [])
 
 -- the words of bytes, four bytes each; the last one is filled with zeros
-abbrev pub words_of : List ℕ → List ℕ
-words_of bytes = map (λ k. word_at bytes (4 * k)) (range_with_len 0 (div_ceil (length bytes) 4))
+abbrev pub words_in_file : List ℕ → List ℕ
+words_in_file bytes = map (λ k. word_in_file bytes (4 * k)) (range_with_len 0 (div_ceil (length bytes) 4))
 
 -- a format that has no listing
 abbrev pub format_refusal : Response
@@ -31,12 +31,12 @@ format_refusal = case_refusal Whole (OutOfRange key.Format)
 abbrev pub words_by : Format → List ℕ → Result (List ℕ) Response
 words_by Flat file = do
   image ← image_by Whole Flat file
-  Ok (words_of file)
+  Ok (words_in_file file)
 words_by Asm text = or_refusal (asm_refusal Whole) (asm_words text >>= (λ words. words_at words >>= (λ image. Ok words)))
 words_by Elf file = Err format_refusal
 
-unfoldable pub listed : List ℕ → Result Response Response
-listed bytes = do
+unfoldable pub list_response : List ℕ → Result Response Response
+list_response bytes = do
   c ← case_in bytes
   words ← words_by c.format c.image
   Ok (record { answered = Done; text = listing words })

@@ -23,8 +23,8 @@ within_bound c = if nat_lt 4096 c.bound then Err bound_refusal else Ok tt
 abbrev pub roots_of_run : (List ℕ → List ℕ) → CaseData → State → Response
 roots_of_run digest c start = record { answered = Done; text = root_lines (λ i. own_root digest (state_at start i)) (c.bound + 1) }
 
-unfoldable pub rooted : List ℕ → Result Response Response
-rooted bytes = do
+unfoldable pub roots_response : List ℕ → Result Response Response
+roots_response bytes = do
   c ← case_in bytes
   few ← within_bound c
   start ← start_in Whole c

@@ -15,8 +15,8 @@ answer_of_run c start =
     let final = state_at start c.bound in
     record { answered = Done; text = answer_line_text final.status final.output }
 
-unfoldable pub ran : List ℕ → Result Response Response
-ran bytes = do
+unfoldable pub run_response : List ℕ → Result Response Response
+run_response bytes = do
   c ← case_in bytes
   start ← start_in Whole c
   Ok (answer_of_run c start)

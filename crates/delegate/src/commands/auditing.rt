@@ -4,7 +4,7 @@ ghost use Rattle.transcript_text.specs.Lines.{accept_line, line_of_stated};
 ghost use Rattle.transcript_text.specs.Report.{output_text, line_text};
 ghost use Rattle.transcript_text.specs.reader.ReadText.{read_text};
 ghost use Rattle.audit.specs.LineByLine.{audited};
-ghost use Rattle.delegate.specs.commands.Audit.{text_refusal, full_text_in, cause_number, found, judge_of, checked};
+ghost use Rattle.delegate.specs.commands.Audit.{text_refusal, full_text_in, cause_number, response_to_finding, ruling_of_text, audit_response};
 ghost use Rattle.delegate.specs.Standing.{Stands};
 
 use crate::response::{Answered, Response, Stop, text_response};
@@ -45,7 +45,7 @@ fn full_text_in(alloc: Global, bytes: &[u8]) -> Result<FullText, Stop>
 /// Audits a text that was read before the judge of the machine, in the version and by the digest that the text's head names.
 fn audit_by_name(alloc: Global, bytes: &[u8], text: &FullText) -> Result<Audit, Memory>
     requires { read_text bytes.now ≡ Ok text.now }
-    ensures { IfOk result (λ found. found ≡ audited (judge_of text.now) text.now) }
+    ensures { IfOk result (λ found. found ≡ audited (ruling_of_text text.now) text.now) }
 {
     a_read_text_may_be_audited(bytes, text);
     let version = text.head.version;
@@ -118,8 +118,12 @@ fn confirmed(alloc: Global, stated: &Stated) -> Result<Response, AllocError>
 }
 
 /// The response to what an audit finds of a text with this stated verdict.
-fn found(alloc: Global, stated: &Stated, audit: &Audit) -> Result<Response, AllocError>
-    ensures { IfOk result (λ response. response ≡ found stated.now audit.now) }
+fn response_to_finding(
+    alloc: Global,
+    stated: &Stated,
+    audit: &Audit,
+) -> Result<Response, AllocError>
+    ensures { IfOk result (λ response. response ≡ response_to_finding stated.now audit.now) }
 {
     match audit {
         Audit::Confirmed(_) => confirmed(alloc, stated),
@@ -132,11 +136,11 @@ fn found(alloc: Global, stated: &Stated, audit: &Audit) -> Result<Response, Allo
 }
 
 /// Audits the full text of the bytes, and answers with the line of its verdict, or with what refuses it.
-#[tactic(auto, unfolding(crate::specs::commands::Audit::checked))]
+#[tactic(auto, unfolding(crate::specs::commands::Audit::audit_response))]
 pub fn check(alloc: Global, bytes: Vec<u8>) -> Result<Response, Stop>
-    ensures { Stands (λ response. response) result (checked bytes.items) }
+    ensures { Stands (λ response. response) result (audit_response bytes.items) }
 {
     let text = full_text_in(alloc, bytes.as_slice())?;
     let finding = audit_by_name(alloc, bytes.as_slice(), &text)?;
-    Ok(found(alloc, &text.stated, &finding)?)
+    Ok(response_to_finding(alloc, &text.stated, &finding)?)
 }

@@ -12,10 +12,10 @@ ghost use Rattle.transcript_text.specs.FullLines.{AreWritten};
 ghost use Rattle.transcript_text.specs.reader.InLimits.{AreBytes};
 ghost use Rattle.case_match.specs.Match.{record_of_case, verdict_of_record};
 ghost use Rattle.case_match.specs.Openings.{IsFresh, ended_of};
-ghost use Rattle.delegate.specs.Decided.{digest_of, written_as, tasks_for, balances_in, match_text, response_of, decided, head_of, answered_by, task_line, task_texts, gravest, together, each_decided};
+ghost use Rattle.delegate.specs.Decided.{digest_of, written_as, tasks_for, balances_in, match_text, response_of, response_to_case, match_head, answered_by, task_line, task_texts, gravest, together, responses_to_cases};
 ghost use Rattle.delegate.specs.Headline.{AreByteStrings};
 ghost use Rattle.delegate.specs.Standing.{Stands, AreInRange, AreInRangeIfThere, IsFreshStart, IsShown, EndsAreShown, AreAllShown, CanBePaid, responses};
-ghost use Rattle.delegate.specs.commands.Judge.{judging, judged_of, judged};
+ghost use Rattle.delegate.specs.commands.Judge.{judging, response_to_tasks, judge_response};
 
 use crate::loading::{start_in, starts_in, tasks_in};
 use crate::response::{Answered, Response, Stop, Subject};
@@ -59,8 +59,8 @@ pub fn strings_are_bytes(verdict: &Verdict)
 }
 
 /// What the match of a case is played over, from the root of the state in which its run starts.
-fn head_of(name: DigestName, case: &Case, start: Digest32) -> Head
-    ensures { result ≡ head_of name (data_of case.now) start }
+fn match_head(name: DigestName, case: &Case, start: Digest32) -> Head
+    ensures { result ≡ match_head name (data_of case.now) start }
 {
     Head {
         provers: case.provers.len() as u32,
@@ -128,7 +128,7 @@ fn text_in(alloc: Global, asked: Asked, case: &Case, end: &Ended) -> Result<Vec<
     ensures text { IfOk result (λ bytes. bytes.items ≡ (response_of (judging asked.text asked.name) (data_of case.now) end.now.setup.start end.now.match_record end.now.verdict).text) }
     ensures written { IfOk result (λ bytes. asked.text ≡ MatchText.Full → AreWritten (moves_of end.now.match_record)) }
 {
-    let head = head_of(asked.name, case, end.setup.start());
+    let head = match_head(asked.name, case, end.setup.start());
     text_of(
         alloc,
         asked.text,
@@ -206,7 +206,7 @@ fn judge_case<R: Threads + Wait + Sync>(
 ) -> Result<Response, Memory>
     requires fresh { IsFreshStart start }
     requires options { AreAtLeastOne options }
-    ensures decided { IfOk result (λ response. response ≡ decided (judging asked.text asked.name) (data_of case.now) (state_of start)) }
+    ensures decided { IfOk result (λ response. response ≡ response_to_case (judging asked.text asked.name) (data_of case.now) (state_of start)) }
     ensures strings { IfOk result (λ response. AreByteStrings (verdict_of_record (digest_of asked.name) (data_of case.now) (state_of start) (record_of_case (digest_of asked.name) (data_of case.now) (state_of start)))) }
     ensures written { IfOk result (λ response. asked.text ≡ MatchText.Full → AreWritten (moves_of (record_of_case (digest_of asked.name) (data_of case.now) (state_of start)))) }
 {
@@ -279,7 +279,7 @@ fn judge_tasks<R: Threads + Wait + Sync>(
     requires count { length starts.items ≡ length cases.now }
     requires fresh { All IsFreshStart starts.items }
     requires options { AreAtLeastOne options }
-    ensures decided { IfOk result (λ response. response ≡ together (each_decided (judging asked.text asked.name) (map data_of cases.now) (map state_of starts.items))) }
+    ensures decided { IfOk result (λ response. response ≡ together (responses_to_cases (judging asked.text asked.name) (map data_of cases.now) (map state_of starts.items))) }
     ensures shown { IfOk result (λ response. AreAllShown (digest_of asked.name) (judging asked.text asked.name) (map data_of cases.now) (map state_of starts.items)) }
 {
     records_of_cases_are_settled_up();
@@ -294,8 +294,8 @@ fn judge_tasks<R: Threads + Wait + Sync>(
 }
 
 /// Decides one case that was read, or those of tasks: all images are loaded before anything is played.
-#[tactic(auto, unfolding(crate::specs::commands::Judge::judged_of))]
-fn judged_of<R: Threads + Wait + Sync>(
+#[tactic(auto, unfolding(crate::specs::commands::Judge::response_to_tasks))]
+fn response_to_tasks<R: Threads + Wait + Sync>(
     rt: &R,
     alloc: Global,
     asked: Asked,
@@ -304,7 +304,7 @@ fn judged_of<R: Threads + Wait + Sync>(
 ) -> Result<Response, Stop>
     requires few { AreFew tasks.now }
     requires options { AreAtLeastOne options }
-    ensures stands { Stands (λ response. response) result (judged_of (judging asked.text asked.name) (tasks_data tasks.now)) }
+    ensures stands { Stands (λ response. response) result (response_to_tasks (judging asked.text asked.name) (tasks_data tasks.now)) }
     ensures in_range { IfOk result (λ response. AreInRange (judging asked.text asked.name) (tasks_data tasks.now)) }
 {
     match tasks {
@@ -321,7 +321,7 @@ fn judged_of<R: Threads + Wait + Sync>(
 
 /// Decides the match of the case of the bytes, or those of its tasks, by commitments of the digest with this name, and writes the text
 /// of each that is asked for.
-#[tactic(auto, unfolding(crate::specs::commands::Judge::judged))]
+#[tactic(auto, unfolding(crate::specs::commands::Judge::judge_response))]
 pub fn judge<R: Threads + Wait + Sync>(
     rt: &R,
     alloc: Global,
@@ -331,9 +331,9 @@ pub fn judge<R: Threads + Wait + Sync>(
     bytes: Vec<u8>,
 ) -> Result<Response, Stop>
     requires { AreAtLeastOne options }
-    ensures stands { Stands (λ response. response) result (judged text name bytes.items) }
+    ensures stands { Stands (λ response. response) result (judge_response text name bytes.items) }
     ensures in_range { IfOk result (λ response. AreInRangeIfThere (judging text name) (tasks_for (written_as text) bytes.items)) }
 {
     let tasks = tasks_in(alloc, bytes)?;
-    judged_of(rt, alloc, Asked { name, text }, options, &tasks)
+    response_to_tasks(rt, alloc, Asked { name, text }, options, &tasks)
 }

@@ -1,6 +1,6 @@
 //! `list`: to write the listing of a case's image.
 ghost use Rattle.std.specs.Prelude.{◌≡◌, ◌<◌, length, slice_index, IfOk};
-ghost use Rattle.delegate.specs.commands.List.{word_at, words_of, format_refusal, words_by, listed};
+ghost use Rattle.delegate.specs.commands.List.{word_in_file, words_in_file, format_refusal, words_by, list_response};
 ghost use Rattle.delegate.specs.Standing.{Stands};
 
 use crate::faults;
@@ -21,9 +21,9 @@ fn byte_at(bytes: &[u8], place: usize) -> u8
 }
 
 /// The word at a place, its least byte first. Bytes behind the end are 0.
-fn word_at(bytes: &[u8], place: usize) -> u32
+fn word_in_file(bytes: &[u8], place: usize) -> u32
     requires { place < length bytes.now }
-    ensures { result ≡ word_at bytes.now place }
+    ensures { result ≡ word_in_file bytes.now place }
 {
     u32::from_le_bytes([
         byte_at(bytes, place),
@@ -34,12 +34,12 @@ fn word_at(bytes: &[u8], place: usize) -> u32
 }
 
 /// The words of bytes, four bytes each; the last one is filled with zeros.
-fn words_of(alloc: Global, bytes: &[u8]) -> Result<Vec<u32>, Memory>
-    ensures { IfOk result (λ words. words.items ≡ words_of bytes.now) }
+fn words_in_file(alloc: Global, bytes: &[u8]) -> Result<Vec<u32>, Memory>
+    ensures { IfOk result (λ words. words.items ≡ words_in_file bytes.now) }
 {
     let mut words = Vec::new(alloc);
     'words: for k in 0..bytes.len().div_ceil(4) {
-        words.push(word_at(bytes, 4 * k))?;
+        words.push(word_in_file(bytes, 4 * k))?;
     }
     Ok(words)
 }
@@ -49,7 +49,7 @@ fn flat_words(alloc: Global, file: &[u8]) -> Result<Vec<u32>, Stop>
     ensures { Stands (λ words. words.items) result (words_by Format.Flat file.now) }
 {
     flat_image(alloc, Subject::Whole, file)?;
-    Ok(words_of(alloc, file)?)
+    Ok(words_in_file(alloc, file)?)
 }
 
 /// The words of an assembly text, whose image breaks no rule.
@@ -83,9 +83,9 @@ fn words_in(alloc: Global, case: &Case) -> Result<Vec<u32>, Stop>
 }
 
 /// Lists the image of the case of the bytes, and answers with the listing.
-#[tactic(auto, unfolding(crate::specs::commands::List::listed))]
+#[tactic(auto, unfolding(crate::specs::commands::List::list_response))]
 pub fn list(alloc: Global, bytes: Vec<u8>) -> Result<Response, Stop>
-    ensures { Stands (λ response. response) result (listed bytes.items) }
+    ensures { Stands (λ response. response) result (list_response bytes.items) }
 {
     let case = case_in(alloc, bytes)?;
     let words = words_in(alloc, &case)?;

@@ -5,8 +5,8 @@ ghost use Rattle.rv_step.specs.Step.{state_at};
 ghost use Rattle.case_reader.specs.Case.{data_of};
 ghost use Rattle.transcript_text.specs.Roots.{root_lines};
 ghost use Rattle.segment_replay.specs.Roots.{own_root};
-ghost use Rattle.delegate.specs.commands.Run.{ran};
-ghost use Rattle.delegate.specs.commands.Roots.{within_bound, roots_of_run, rooted};
+ghost use Rattle.delegate.specs.commands.Run.{run_response};
+ghost use Rattle.delegate.specs.commands.Roots.{within_bound, roots_of_run, roots_response};
 ghost use Rattle.delegate.specs.Standing.{Stands};
 
 use crate::faults;
@@ -22,9 +22,9 @@ use std::thread::Threads;
 use transcript_text::{add_root_line, answer_line};
 
 /// Runs the program of the case of the bytes, and answers with its status and output at the bound.
-#[tactic(auto, unfolding(crate::specs::commands::Run::ran))]
+#[tactic(auto, unfolding(crate::specs::commands::Run::run_response))]
 pub fn run(alloc: Global, bytes: Vec<u8>) -> Result<Response, Stop>
-    ensures { Stands (λ response. response) result (ran bytes.items) }
+    ensures { Stands (λ response. response) result (run_response bytes.items) }
 {
     let case = case_in(alloc, bytes)?;
     let mut machine = start_in(alloc, Subject::Whole, &case)?;
@@ -93,9 +93,9 @@ where
 }
 
 /// Runs the program of the case of the bytes, and answers with the root of each of its states.
-#[tactic(auto, unfolding(crate::specs::commands::Roots::rooted))]
+#[tactic(auto, unfolding(crate::specs::commands::Roots::roots_response))]
 pub fn roots<R: Threads + Sync>(rt: &R, alloc: Global, bytes: Vec<u8>) -> Result<Response, Stop>
-    ensures { Stands (λ response. response) result (rooted bytes.items) }
+    ensures { Stands (λ response. response) result (roots_response bytes.items) }
 {
     let case = case_in(alloc, bytes)?;
     bound_in(alloc, &case)?;

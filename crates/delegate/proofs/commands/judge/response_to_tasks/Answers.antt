@@ -7,7 +7,7 @@ use Rattle.delegate.specs.Loading.{starts_in}
 use Rattle.delegate.specs.commands.Judge.{judging}
 use Rattle.delegate.specs.Standing.{AreAllInRange, AreAllShown, AreInRange}
 use Rattle.delegate.proofs.CaseLemmas.{many-in-range}
-use Rattle.delegate.proofs.commands.judge.judged_of.Goals as goal
+use Rattle.delegate.proofs.commands.judge.response_to_tasks.Goals as goal
 
 pub returns-in_ok-judge_tasks-in-Many-clause-in_range :
     goal.returns-in_ok-judge_tasks-in-Many-clause-in_range
