@@ -24,6 +24,7 @@ use Rattle.transcript_text.specs.StatedVerdict.{stated_of, VerdictsAreStated}
 use Rattle.transcript_text.specs.FullLines.{full_text, AreWritten}
 use Rattle.transcript_text.specs.Lines.{line_of_stated, line_if_stated}
 use Rattle.transcript_text.specs.Report.{line_text, text_if_there}
+use Rattle.transcript_text.specs.reader.Laws.{stated_text, IsOneLine, ReadVerdictsAreOneLine}
 use Rattle.transcript_text.specs.reader.ReadText.{read_text}
 use Rattle.transcript_text.specs.reader.InLimits.{IsHeadInLimits}
 use Rattle.audit.specs.declared.finding.Audit.{Audit}
@@ -132,8 +133,8 @@ one-last-line stated name c start =
 judge-is : (t : FullText) (head : Head) → t.head ≡ head → ruling_of_text t ≡ machine_ruling (digest_of head.digest) head.version
 judge-is t head is = ap (λ (h : Head). machine_ruling (digest_of h.digest) h.version) is
 
-pub texts-confirmed : ((name : DigestName) → MachineCasesAreConfirmed (digest_of name)) → WrittenTextsAreConfirmed
-texts-confirmed law name c start auditing range same written short is =
+pub texts-confirmed : ((name : DigestName) → MachineCasesAreConfirmed (digest_of name)) → ReadVerdictsAreOneLine → WrittenTextsAreConfirmed
+texts-confirmed law one_line name c start auditing range same written short is =
     let digest = digest_of name in
     let head = match_head name c (start_root digest start) in
     let r = record_of_case digest c start in
@@ -143,12 +144,13 @@ texts-confirmed law name c start auditing range same written short is =
     let confirmed = ap (λ judge. audited judge b.text) (judge-is b.text head b.head_is) ∙ b.confirmed in
     let stated : stated_of r.claims (verdict_of_record digest c start r) ≡ Some b.text.stated =
     ap (λ (v : ℕ). stated_of (record-at name c start v).claims (verdict_of (rules-at name c start v) (record-at name c start v))) same ∙ b.stated_is in
-    let line = line-ends (line_of_stated b.text.stated) in
+    let line : IsOneLine b.text.stated = one_line (response_to_case (judging Full name) c start).text b.text read in
     record {
-      line = line.before;
-      last = stated-last Full name c start b.text.stated line.before stated line.is;
+      line = stated_text b.text.stated;
+      one_line = line.lone;
+      last = stated-last Full name c start b.text.stated (stated_text b.text.stated) stated line.ended;
       confirmed = audit-is auditing (response_to_case (judging Full name) c start).text b.text _ is short read confirmed
-          ∙ ap (λ (l : List ℕ). record { answered = Done; text = codes "confirmed " ++ l }) line.is;
+          ∙ ap (λ (l : List ℕ). record { answered = Done; text = codes "confirmed " ++ l }) line.ended;
     }
 
 -- the run of a case starts in a state of the case's version

@@ -1,6 +1,6 @@
 -- To believe. The pipe `judge --full | audit`: what `judge --full` writes of one case, or of each of many tasks, `audit` confirms with its
 -- last line.
-use Rattle.std.specs.Prelude.{◌≡◌, ◌<◌, ◌≤◌, ℕ, List, length, codes, ◌++◌, Some}
+use Rattle.std.specs.Prelude.{◌≡◌, ◌<◌, ◌≤◌, ℕ, List, Contains, length, codes, ◌++◌, Some}
 use Rattle.rv_step.specs.State.{State}
 use Rattle.case_reader.specs.Case.{CaseData}
 use Rattle.transcript_text.specs.MoveLists.{moves_of}
@@ -19,9 +19,10 @@ use Rattle.delegate.specs.Outcome.{outcome}
 use Rattle.delegate.specs.declared.response.Response.{Response}
 use Rattle.delegate.specs.declared.response.Answered.TheVariants.{Done}
 
--- `audit` of this text answers that all is done, with the word `confirmed` and the text's last line
+-- `audit` of this text answers that all is done, with the word `confirmed` and the text's last line, which has no line feed in it
 pub record IsConfirmedByItsLine (auditing : List (List ℕ)) (text : List ℕ) : Type 0 where
   pub line : List ℕ
+  pub one_line : ¬ Contains line 10
   pub last : HasLastLine line text
   pub confirmed : outcome auditing text ≡ record { answered = Done; text = codes "confirmed " ++ (line ++ codes "\n") }
 

@@ -25,6 +25,7 @@ use mem_plain::contents_of_a_function;
 use rv_text::listing_is_read_back;
 use transcript_text::{
     a_verdict_is_stated, no_fault_of_a_text_is_out_of_memory, nothing_is_said_against_the_truthful,
+    stated_verdicts_are_one_line,
 };
 
 /// The headline, for what is written of each case whose numbers are in range, whose run starts in a valid state without output, and
@@ -73,6 +74,7 @@ pub fn written_texts_are_confirmed()
 {
     written_cases_are_confirmed::<Sha256>();
     written_cases_are_confirmed::<Weak8>();
+    stated_verdicts_are_one_line();
 }
 
 /// `judge` and `judge --full` of one case have one answer and one last line.
