@@ -1,7 +1,7 @@
 //! `audit`: to check a full text line by line, and to write its verdict.
-ghost use Rattle.std.specs.Prelude.{◌≡◌, ◌≤◌, ◌++◌, Ok, codes, string_bytes, IfOk, OnOk};
-ghost use Rattle.transcript_text.specs.Lines.{accept_line, line_of_stated};
-ghost use Rattle.transcript_text.specs.Report.{output_text, line_text};
+ghost use Rattle.std.specs.Prelude.{◌≡◌, ◌++◌, Ok, codes, IfOk};
+ghost use Rattle.transcript_text.specs.Lines.{line_of_stated};
+ghost use Rattle.transcript_text.specs.Report.{line_text};
 ghost use Rattle.transcript_text.specs.reader.ReadText.{read_text};
 ghost use Rattle.audit.specs.LineByLine.{audited};
 ghost use Rattle.delegate.specs.commands.Audit.{text_refusal, full_text_in, cause_number, response_to_finding, ruling_of_text, audit_response};
@@ -10,11 +10,10 @@ ghost use Rattle.delegate.specs.Standing.{Stands};
 use crate::response::{Answered, Response, Stop, text_response};
 use audit::{Audit, Cause, a_read_text_may_be_audited, audit};
 use digest_core::{Sha256, Weak8};
-use rd_base::{Memory, Status};
+use rd_base::Memory;
 use std::alloc::{AllocError, Global};
-use std::fmt::Write;
 use step_referee::MachineJudge;
-use transcript_text::{DigestName, FullText, Stated, TextFault, read_full};
+use transcript_text::{DigestName, FullText, Stated, TextFault, read_full, stated_line};
 
 /// The response to a fault of a text. Its text is empty if the fault is `Memory`.
 fn text_refusal(alloc: Global, fault: TextFault) -> Result<Response, AllocError>
@@ -68,52 +67,12 @@ fn number_of(cause: Cause) -> u32
     }
 }
 
-/// Adds an output, if there is any.
-fn add_output(text: &mut String, alloc: Global, output: &[u8]) -> Result<(), AllocError>
-    ensures { OnOk result (string_bytes text.new ≡ string_bytes text.old ++ output_text output.now) }
-{
-    if output.is_empty() {
-        return Ok(());
-    }
-    let digits = hex::encode(alloc, output)?;
-    write!(text, " {digits}")
-}
-
-/// Adds the line of a claim that is accepted.
-fn add_accepted(
-    text: &mut String,
-    alloc: Global,
-    status: Status,
-    output: &[u8],
-) -> Result<(), AllocError>
-    ensures { OnOk result (string_bytes text.new ≡ string_bytes text.old ++ line_text (accept_line status output.now)) }
-{
-    write!(text, "accept {status} output")?;
-    add_output(text, alloc, output)?;
-    text.push_str("\n")
-}
-
-/// Adds the line of a stated verdict.
-fn add_stated(text: &mut String, alloc: Global, stated: &Stated) -> Result<(), AllocError>
-    ensures { OnOk result (string_bytes text.new ≡ string_bytes text.old ++ line_text (line_of_stated stated.now)) }
-{
-    match stated {
-        Stated::Accept(status, output) => add_accepted(text, alloc, *status, output.as_slice()),
-        Stated::NoneLeft => text.push_str("none left\n"),
-        Stated::Collision(x, y) => {
-            let first = hex::encode(alloc, x.as_slice())?;
-            let second = hex::encode(alloc, y.as_slice())?;
-            write!(text, "collision {first} {second}\n")
-        }
-    }
-}
-
 /// The response to a text that is confirmed: the line of its verdict.
 fn confirmed(alloc: Global, stated: &Stated) -> Result<Response, AllocError>
     ensures { IfOk result (λ response. response ≡ record { answered = Answered.Done; text = codes "confirmed " ++ line_text (line_of_stated stated.now) }) }
 {
-    let mut text = String::from_str(alloc, "confirmed ")?;
-    add_stated(&mut text, alloc, stated)?;
+    let line = stated_line(alloc, stated)?;
+    let text = format!(in alloc; "confirmed {line}")?;
     Ok(text_response(Answered::Done, text))
 }
 
