@@ -17,8 +17,8 @@ use Rattle.bisect_game.specs.Truth.{Truth, IsTrueSettled, IsTrueSoFar, AllTrue, 
 use Rattle.tournament.specs.Bracket.{Record}
 use Rattle.tournament.specs.Theorem.{HasTrueClaimSoFar, AllTrueIn, AllRightIn, TrueIn, RightIn}
 use Rattle.tournament.specs.Truthful.{IsSafe}
-use Rattle.transcript_text.specs.declared.word.Word.{Word}
-use Rattle.transcript_text.specs.declared.word.Word.TheVariants as word
+use Rattle.transcript_text.specs.declared.disputes.Word.{Word}
+use Rattle.transcript_text.specs.declared.disputes.Word.TheVariants as word
 use Rattle.transcript_text.specs.Words.{said_word, said_word_of_proof, speaks_against}
 use Rattle.transcript_text.specs.Lines.{Parted, Line, stage_line, said_in, is_said_against, is_against, is_against_if_there, are_against, line_of_claim, lines_of_claims, line_of_halves, line_of_parts, line_of_round, lines_of_rounds, line_of_step, line_of_last, lines_of_dispute, lines_of_disputes, lines_of_record}
 

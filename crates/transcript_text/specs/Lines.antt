@@ -18,8 +18,8 @@ use Rattle.deposits.specs.declared.amounts.Balances.{Balances}
 use Rattle.transcript_text.specs.declared.text.Stated.{Stated}
 use Rattle.transcript_text.specs.declared.text.Stated.TheVariants.{Accept, NoneLeft, Collision}
 use Rattle.transcript_text.specs.StatedVerdict.{given_claim, stated_claim, stated_of}
-use Rattle.transcript_text.specs.declared.word.Word.{Word}
-use Rattle.transcript_text.specs.declared.word.Word.TheVariants as word
+use Rattle.transcript_text.specs.declared.disputes.Word.{Word}
+use Rattle.transcript_text.specs.declared.disputes.Word.TheVariants as word
 use Rattle.transcript_text.specs.Words.{said_word, said_word_of_proof, speaks_against}
 
 -- what a line says of both sides of a dispute: `pA X pB Y`

@@ -2,8 +2,8 @@
 use Rattle.std.specs.Prelude.{ℕ, List, Bool, true, false, codes, if◌then◌else◌}
 use Rattle.bisect_game.specs.declared.settled.Settled.{Settled}
 use Rattle.bisect_game.specs.declared.settled.Settled.TheVariants as settled
-use Rattle.transcript_text.specs.declared.word.Word.{Word}
-use Rattle.transcript_text.specs.declared.word.Word.TheVariants.{Given, Faulty, Spent, Proved, Refuted}
+use Rattle.transcript_text.specs.declared.disputes.Word.{Word}
+use Rattle.transcript_text.specs.declared.disputes.Word.TheVariants.{Given, Faulty, Spent, Proved, Refuted}
 
 abbrev pub word_text : Word → List ℕ
 word_text Given = codes "given"

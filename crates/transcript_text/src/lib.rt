@@ -9,36 +9,27 @@
 //! of a run is `answer_line_text`, that of a large workload `summary_text`, that of a root `root_line`. The names of digests are a
 //! table (`DigestName::ALL`), the limits of a head's numbers are data (`limits`). Read `text`, `specs/Lines.antt`,
 //! `specs/Report.antt` and `specs/FullLines.antt` first, then `reporting` and `refereed`; for the reader
-//! `specs/reader/ReadText.antt`, then `reader/reading`. An `Err` of `Memory` or `AllocError` is out of memory.
+//! `specs/reader/ReadText.antt`, then `reader`. An `Err` of `Memory` or `AllocError` is out of memory.
 #![tactic(auto)]
 
-mod answer;
-mod claims;
 mod disputes;
 mod laws;
 pub mod limits;
-mod moves;
+mod lines;
 mod reader;
 mod refereed;
 mod reporting;
-mod roots;
-mod summing;
 mod text;
-mod word;
 
-pub use answer::answer_line;
-pub use claims::claim_lines;
+pub use disputes::Word;
 pub use laws::{
-    a_full_text_is_that_of_its_parts, a_verdict_is_stated, nothing_is_said_against_the_truthful,
-};
-pub use limits::Limit;
-pub use reader::{
-    TextFault, a_full_text_is_read_back, no_fault_of_a_text_is_out_of_memory, read_full,
+    a_full_text_is_read_back, a_full_text_is_that_of_its_parts, a_verdict_is_stated,
+    no_fault_of_a_text_is_out_of_memory, nothing_is_said_against_the_truthful,
     reading_is_the_inverse_of_writing, stated_verdicts_are_one_line,
 };
+pub use limits::Limit;
+pub use lines::{add_root_line, answer_line, root_line, summary};
+pub use reader::{TextFault, read_full};
 pub use refereed::full;
-pub use reporting::{head_line, report, stated_line, verdict_line};
-pub use roots::{add_root_line, root_line};
-pub use summing::summary;
+pub use reporting::{claim_lines, head_line, report, stated_line, verdict_line};
 pub use text::{DigestName, FullText, Head, Stated, TextMove, settled_at};
-pub use word::Word;

@@ -1,12 +1,10 @@
-//! The report of a match.
+//! The report of a match: its head, what is claimed, and its verdict.
 ghost use Rattle.std.specs.Prelude.{◌≡◌, ◌++◌, string_bytes, IfOk, OnOk, Some, option_copied};
 ghost use Rattle.transcript_text.specs.StatedVerdict.{settled_at};
-ghost use Rattle.transcript_text.specs.Lines.{accept_line, none_left_line, collision_line, line_of_stated, line_of_accepted, line_of_verdict, lines_of_record, balance_line, pool_line, lines_of_provers, lines_of_balances};
-ghost use Rattle.transcript_text.specs.Report.{played_text, patience_text, committed_text, numbers_text, head_line, line_text, text_if_there, lines_text, report_text};
+ghost use Rattle.transcript_text.specs.Lines.{accept_line, none_left_line, collision_line, line_of_stated, line_of_accepted, line_of_verdict, lines_of_record, balance_line, pool_line, lines_of_provers, lines_of_balances, out_line, line_of_claim, lines_of_claims};
+ghost use Rattle.transcript_text.specs.Report.{played_text, patience_text, committed_text, numbers_text, head_line, line_text, text_if_there, lines_text, answer_text, report_text};
 
-use crate::answer::add_answer;
-use crate::claims::add_claims;
-use crate::disputes::add_disputes;
+use crate::disputes::{Word, add_disputes};
 use crate::text::{Head, Stated, settled_at};
 use bisect_game::Settled;
 use deposits::Balances;
@@ -65,6 +63,74 @@ pub fn head_line(alloc: Global, head: &Head) -> Result<String, AllocError>
 {
     let mut text = String::new(alloc);
     add_head(&mut text, head)?;
+    Ok(text)
+}
+
+/// Adds a status and an output, in hexadecimal if it isn't empty.
+pub(crate) fn add_answer(
+    text: &mut String,
+    alloc: Global,
+    status: Status,
+    output: &[u8],
+) -> Result<(), AllocError>
+    ensures { OnOk result (string_bytes text.new ≡ string_bytes text.old ++ answer_text status output.now) }
+{
+    write!(text, "{status} output")?;
+    if output.is_empty() {
+        return Ok(());
+    }
+    let digits = hex::encode(alloc, output)?;
+    write!(text, " {digits}")
+}
+
+/// Adds the line of a prover that is out by its claim.
+fn add_out(text: &mut String, prover: usize, word: Word) -> Result<(), AllocError>
+    ensures { OnOk result (string_bytes text.new ≡ string_bytes text.old ++ line_text (out_line prover word)) }
+{
+    write!(text, "out p{prover} {word}\n")
+}
+
+/// Adds the line of a prover.
+fn add_claim(
+    text: &mut String,
+    alloc: Global,
+    prover: usize,
+    settled: &Option<Settled>,
+) -> Result<(), AllocError>
+    ensures { OnOk result (string_bytes text.new ≡ string_bytes text.old ++ text_if_there (line_of_claim prover settled.now)) }
+{
+    match settled {
+        Some(Settled::Given(Answer::Claim(claim))) => {
+            write!(text, "p{prover} claims ")?;
+            add_answer(text, alloc, claim.ctl.status, claim.output.as_slice())?;
+            text.push_str("\n")
+        }
+        Some(Settled::Faulty(_)) => add_out(text, prover, Word::Faulty),
+        Some(Settled::Spent) => add_out(text, prover, Word::Spent),
+        _ => Ok(()),
+    }
+}
+
+/// Adds the line of each prover whose claim is settled, of whom the first has the number 1.
+pub(crate) fn add_claims(
+    text: &mut String,
+    alloc: Global,
+    claims: &[Option<Settled>],
+) -> Result<(), AllocError>
+    ensures { OnOk result (string_bytes text.new ≡ string_bytes text.old ++ lines_text (lines_of_claims 1 claims.now)) }
+{
+    'claims: for (i, settled) in claims.iter().enumerate() {
+        add_claim(text, alloc, i + 1, settled)?;
+    }
+    Ok(())
+}
+
+/// The line of each prover whose claim is settled, of whom the first has the number 1.
+pub fn claim_lines(alloc: Global, claims: &[Option<Settled>]) -> Result<String, AllocError>
+    ensures { IfOk result (λ text. string_bytes text ≡ lines_text (lines_of_claims 1 claims.now)) }
+{
+    let mut text = String::new(alloc);
+    add_claims(&mut text, alloc, claims)?;
     Ok(text)
 }
 

@@ -20,8 +20,8 @@ use Rattle.transcript_text.specs.declared.text.TextMove.{TextMove}
 use Rattle.transcript_text.specs.declared.text.Stated.{Stated}
 use Rattle.transcript_text.specs.declared.text.Stated.TheVariants as stated
 use Rattle.transcript_text.specs.declared.text.FullText.{FullText}
-use Rattle.transcript_text.specs.declared.reader.entry.Entry.TheVariants.{Move, Verdict}
-use Rattle.transcript_text.specs.declared.reader.entry.HeadNumbers.{HeadNumbers}
+use Rattle.transcript_text.specs.declared.reader.entries.Entry.TheVariants.{Move, Verdict}
+use Rattle.transcript_text.specs.declared.reader.entries.HeadNumbers.{HeadNumbers}
 use Rattle.transcript_text.specs.Lines.{line_of_stated}
 use Rattle.transcript_text.specs.FullLines.{HasWireForm, start_text, refereed_text, wire_text, settled_text, asked_text, move_text, moves_text, text_of}
 use Rattle.transcript_text.specs.reader.TextLines.{Lines, tail, line, lines_of}

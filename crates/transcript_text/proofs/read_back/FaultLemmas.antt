@@ -5,9 +5,9 @@ use Rattle.rd_base.specs.Results.{◌>>=◌}
 use Rattle.transcript_text.specs.declared.text.Head.{Head}
 use Rattle.transcript_text.specs.declared.text.TextMove.{TextMove}
 use Rattle.transcript_text.specs.declared.text.Stated.{Stated}
-use Rattle.transcript_text.specs.declared.reader.entry.Entry.{Entry}
-use Rattle.transcript_text.specs.declared.reader.entry.Entry.TheVariants.{Move, Verdict}
-use Rattle.transcript_text.specs.declared.reader.entry.HeadNumbers.{HeadNumbers}
+use Rattle.transcript_text.specs.declared.reader.entries.Entry.{Entry}
+use Rattle.transcript_text.specs.declared.reader.entries.Entry.TheVariants.{Move, Verdict}
+use Rattle.transcript_text.specs.declared.reader.entries.HeadNumbers.{HeadNumbers}
 use Rattle.transcript_text.specs.declared.reader.fault.LineFault.{LineFault}
 use Rattle.transcript_text.specs.declared.reader.fault.TextFault.{TextFault}
 use Rattle.transcript_text.specs.declared.reader.fault.TextFault.TheVariants.{BadHead, BadLine, Truncated, OutOfRange, Memory}

@@ -23,9 +23,9 @@ use Rattle.transcript_text.specs.declared.text.FullText.{FullText}
 use Rattle.transcript_text.specs.declared.reader.fault.LineFault.{LineFault}
 use Rattle.transcript_text.specs.declared.reader.fault.LineFault.TheVariants.{NoForm}
 use Rattle.transcript_text.specs.declared.reader.fault.TextFault.TheVariants.{OutOfRange}
-use Rattle.transcript_text.specs.declared.reader.entry.Entry.{Entry}
-use Rattle.transcript_text.specs.declared.reader.entry.Entry.TheVariants.{Move, Verdict}
-use Rattle.transcript_text.specs.declared.reader.entry.HeadNumbers.{HeadNumbers}
+use Rattle.transcript_text.specs.declared.reader.entries.Entry.{Entry}
+use Rattle.transcript_text.specs.declared.reader.entries.Entry.TheVariants.{Move, Verdict}
+use Rattle.transcript_text.specs.declared.reader.entries.HeadNumbers.{HeadNumbers}
 use Rattle.transcript_text.specs.reader.TextLines.{Lines, tail, line, lines_of, cut_at}
 use Rattle.transcript_text.specs.reader.Fields.{after, skip, small_number_at, number_after, hex_of, some_hex_of, digest_of, answer_of, name_at}
 use Rattle.transcript_text.specs.reader.Entries.{head_in, faulty_or_spent, given_or_not, settled_in, move_in, coded, trapped_or_not, exited_or_not, running_or_not, status_at, output_in, accepted_in, string_in, collided_in, collided_or_none, accepted_or_not, verdict_in, move_or_verdict, entry_in}

@@ -4,8 +4,8 @@ use Rattle.std.proofs.lemmas.Bool.Decides.{nat_tests}
 use Rattle.transcript_text.specs.declared.reader.fault.LineFault.{LineFault}
 use Rattle.transcript_text.specs.declared.reader.fault.TextFault.{TextFault}
 use Rattle.transcript_text.specs.declared.reader.fault.TextFault.TheVariants.{BadLine, Truncated, OutOfRange}
-use Rattle.transcript_text.specs.declared.reader.entry.Entry.{Entry}
-use Rattle.transcript_text.specs.declared.reader.entry.Entry.TheVariants.{Move, Verdict}
+use Rattle.transcript_text.specs.declared.reader.entries.Entry.{Entry}
+use Rattle.transcript_text.specs.declared.reader.entries.Entry.TheVariants.{Move, Verdict}
 use Rattle.transcript_text.specs.declared.text.TextMove.{TextMove}
 use Rattle.transcript_text.specs.declared.text.Stated.{Stated}
 use Rattle.transcript_text.specs.reader.TextLines.{tail, line, lines_of, cut_at}

@@ -11,9 +11,9 @@ use Rattle.transcript_text.specs.declared.reader.fault.LineFault.TheVariants.{No
 use Rattle.transcript_text.specs.declared.text.TextMove.{TextMove}
 use Rattle.transcript_text.specs.declared.text.Stated.{Stated}
 use Rattle.transcript_text.specs.declared.text.Stated.TheVariants as stated
-use Rattle.transcript_text.specs.declared.reader.entry.Entry.{Entry}
-use Rattle.transcript_text.specs.declared.reader.entry.Entry.TheVariants.{Move, Verdict}
-use Rattle.transcript_text.specs.declared.reader.entry.HeadNumbers.{HeadNumbers}
+use Rattle.transcript_text.specs.declared.reader.entries.Entry.{Entry}
+use Rattle.transcript_text.specs.declared.reader.entries.Entry.TheVariants.{Move, Verdict}
+use Rattle.transcript_text.specs.declared.reader.entries.HeadNumbers.{HeadNumbers}
 use Rattle.transcript_text.specs.reader.TextLines.{cut_at}
 use Rattle.transcript_text.specs.reader.Fields.{Read, after, skip, small_number_at, number_after, some_hex_of, digest_of, answer_of, name_at}
 

@@ -10,9 +10,9 @@ use Rattle.transcript_text.specs.Limits.{is_within, provers_limit, bound_limit, 
 use Rattle.transcript_text.specs.declared.reader.fault.TextFault.{TextFault}
 use Rattle.transcript_text.specs.declared.reader.fault.TextFault.TheVariants.{BadHead, BadLine, Truncated, OutOfRange}
 use Rattle.transcript_text.specs.declared.reader.fault.LineFault.{LineFault}
-use Rattle.transcript_text.specs.declared.reader.entry.Entry.{Entry}
-use Rattle.transcript_text.specs.declared.reader.entry.Entry.TheVariants.{Move, Verdict}
-use Rattle.transcript_text.specs.declared.reader.entry.HeadNumbers.{HeadNumbers}
+use Rattle.transcript_text.specs.declared.reader.entries.Entry.{Entry}
+use Rattle.transcript_text.specs.declared.reader.entries.Entry.TheVariants.{Move, Verdict}
+use Rattle.transcript_text.specs.declared.reader.entries.HeadNumbers.{HeadNumbers}
 use Rattle.transcript_text.specs.reader.TextLines.{Lines, tail, line, lines_of}
 use Rattle.transcript_text.specs.reader.Entries.{head_in, entry_in}
 

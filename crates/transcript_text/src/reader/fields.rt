@@ -1,8 +1,9 @@
-//! Fields at the front of a line. Each function gives the field and the bytes behind it.
-ghost use Rattle.std.specs.Prelude.{◌≡◌, ◌≤◌, IfOk};
-ghost use Rattle.std.specs.Option.{option_copied};
+//! Fields at the front of a line, and where bytes are cut. Each reader of a field gives it and the bytes behind it.
+ghost use Rattle.std.specs.Prelude.{◌≡◌, ◌≤◌, IfOk, ◌<◌, length, IfSome};
+ghost use Rattle.std.specs.Option.{option_copied, option_map};
 ghost use Rattle.rd_base.specs.Results.{Gives};
 ghost use Rattle.transcript_text.specs.reader.Fields.{after, skip, digits_at, number_at, small_number_at, number_after, are_lower, hex_of, some_hex_of, digest_of, answer_of, name_among, name_at};
+ghost use Rattle.transcript_text.specs.reader.TextLines.{cut_at};
 
 use crate::reader::fault::LineFault;
 use crate::text::DigestName;
@@ -188,4 +189,18 @@ pub(crate) fn read_name(bytes: &[u8]) -> Result<(DigestName, &[u8]), LineFault>
     ensures { Gives LineFault.Memory (λ x. (x.0, x.1.now)) result (name_at bytes.now) }
 {
     read_name_among(&DigestName::ALL, bytes)
+}
+
+/// The bytes before the first byte of this value, and those behind it. `None` if there is no such byte.
+#[tactic(auto, using(crate::proofs::read_back::LineLemmas::cuts))]
+pub(crate) fn cut_at(bytes: &[u8], value: u8) -> Option<(&[u8], &[u8])>
+    ensures is { option_map (λ x. (x.0.now, x.1.now)) result ≡ cut_at value bytes.now }
+    ensures shorter { IfSome result (λ x. length x.1.now < length bytes.now) }
+{
+    'bytes: for (i, byte) in bytes.iter().enumerate() {
+        if *byte == value {
+            return Some((&bytes[..i], &bytes[i + 1..]));
+        }
+    }
+    None
 }
