@@ -27,7 +27,7 @@ use Rattle.audit.specs.declared.finding.Audit.TheVariants.{Confirmed, Refused}
 use Rattle.audit.specs.NextEntry.{next}
 use Rattle.audit.specs.LineByLine.{IsOfProver, AreOfProvers, is_right, is_move_of, cause_of, rules_of_head, is_this, end_of, audit_from, audited}
 use Rattle.audit.specs.BetweenLines.{fresh, passed_on}
-use Rattle.audit.specs.OwnMatch.{settled_by_lines, answer_in, says_in, own_record, IsTextOf, ConfirmedExactly, CaseTextsAreConfirmed}
+use Rattle.audit.specs.OwnMatch.{settled_by_lines, settled_answer, says_in, own_record, IsTextOf, ConfirmedExactly, CaseTextsAreConfirmed}
 use Rattle.audit.proofs.PassLemmas.{same-number, begin_passing, passes-there, pass-counts, pass-spends, moved-pass, moved-settled, moved_more, moved_last, moved_once}
 use Rattle.audit.proofs.NextLemmas.{next_is_open, nobody_next}
 use Rattle.audit.proofs.StatedLemmas.{eqb-same, is-eqb, is-this}
@@ -102,7 +102,7 @@ settle-turns rules says t p q None some few asked is =
 
 -- CONFIRMED, SO IT IS THE TEXT OF ITS OWN MATCH
 
-as-said : (rules : Rules) (q : Question) (s : Settled) → is_right rules q.kind s ≡ true → settled_as rules q (answer_in (Some s)) ≡ s
+as-said : (rules : Rules) (q : Question) (s : Settled) → is_right rules q.kind s ≡ true → settled_as rules q (settled_answer (Some s)) ≡ s
 as-said rules q (Given a) right = fit-given rules q a right
 as-said rules q (Faulty a) right = unfit-faulty rules q a (not-true _ right)
 as-said rules q Spent right = refl
@@ -132,10 +132,10 @@ line-turns rules all done rest m t whole is order here legal =
     let same : q.qid ≡ m.qid = qid-is q.qid m.qid legal.numbered in
     let other : AreOther m.prover q.qid done = subst (AreOther m.prover q.qid) is (unseen rules t m.prover q order legal.is_next) in
     let line : settled_by_lines m.prover q.qid all ≡ Some m.settled = ap (settled_by_lines m.prover q.qid) (sym whole) ∙ found-line m.prover q.qid done m rest other refl (sym same) in
-    let says : (n : ℕ) → says_in all m.prover q n ≡ answer_in (Some m.settled) = λ n. ap answer_in line in
-    let s : settled_as rules q (answer_in (Some m.settled)) ≡ m.settled = as-said rules q m.settled legal.right in
-    let turn_ : IsPlayedTo rules (says_in all) (fresh rules t) (fresh rules (settle rules m.prover (settled_as rules q (answer_in (Some m.settled))) t)) 1 =
-    settle-turns rules (says_in all) t m.prover q (answer_in (Some m.settled)) here.0 here.1 (next_is_open rules t m.prover q legal.is_next) says in
+    let says : (n : ℕ) → says_in all m.prover q n ≡ settled_answer (Some m.settled) = λ n. ap settled_answer line in
+    let s : settled_as rules q (settled_answer (Some m.settled)) ≡ m.settled = as-said rules q m.settled legal.right in
+    let turn_ : IsPlayedTo rules (says_in all) (fresh rules t) (fresh rules (settle rules m.prover (settled_as rules q (settled_answer (Some m.settled))) t)) 1 =
+    settle-turns rules (says_in all) t m.prover q (settled_answer (Some m.settled)) here.0 here.1 (next_is_open rules t m.prover q legal.is_next) says in
     let longer : IsLonger rules t (settle rules m.prover m.settled t) (move_on m.prover q m.settled) = grows rules m.prover q m.settled t order legal.is_next in
     let entry : move_on m.prover q m.settled ≡ m = ap (λ (x : Qid). let y : TextMove = record { qid = x; prover = m.prover; settled = m.settled } in y) same in
     record {

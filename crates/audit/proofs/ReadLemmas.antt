@@ -5,7 +5,7 @@ use Rattle.transcript_text.specs.declared.text.TextMove.{TextMove}
 use Rattle.transcript_text.specs.reader.InLimits.{IsHeadInLimits, IsMoveInLimits, AreMovesInLimits, IsInLimits}
 use Rattle.transcript_text.specs.reader.Laws.{ReadsExactly}
 use Rattle.audit.specs.LineByLine.{IsOfProver, AreOfProvers}
-use Rattle.audit.specs.Auditable.{IsAuditable, ReadTextsMayBeAudited}
+use Rattle.audit.specs.Auditable.{MayBeAudited, ReadTextsMayBeAudited}
 
 of-provers : (provers : ℕ) (ms : List TextMove) → AreMovesInLimits provers ms → AreOfProvers provers ms
 of-provers provers [] limits = All-nil (IsOfProver provers)

@@ -10,7 +10,7 @@ use Rattle.tournament.specs.Length.{SpareIsEnough, ThereIsAMost}
 use Rattle.transcript_text.specs.declared.text.Head.{Head}
 use Rattle.transcript_text.specs.MoveLists.{moves_of}
 use Rattle.transcript_text.specs.FullLines.{AreWritten}
-use Rattle.transcript_text.specs.Laws.{parts_of}
+use Rattle.transcript_text.specs.Laws.{text_parts}
 use Rattle.transcript_text.specs.reader.InLimits.{IsHeadInLimits}
 use Rattle.transcript_text.specs.reader.Laws.{HasStrings, IsReadBack, MatchesAreReadBack}
 use Rattle.audit.specs.LineByLine.{rules_of_head}
@@ -41,9 +41,9 @@ written-confirmed of_case enough most over back ruling says head limits written 
     let same = ap (λ (st : MatchState). st.record_) c.driven.posts.1 in
     let b : IsReadBack rules head r = read-back back ruling head r _ c.driven.posts.0 same c.same playable limits written strings in
     record {
-      text = parts_of head r b.stated;
+      text = text_parts head r b.stated;
       head_is = refl;
       stated_is = b.of_verdict;
       read = b.read;
-      confirmed = case-confirmed of_case enough most over ruling says (parts_of head r b.stated) playable (record { moves = refl; stated = b.of_verdict });
+      confirmed = case-confirmed of_case enough most over ruling says (text_parts head r b.stated) playable (record { moves = refl; stated = b.of_verdict });
     }

@@ -5,7 +5,7 @@ use Rattle.transcript_text.specs.declared.text.FullText.{FullText}
 use Rattle.transcript_text.specs.reader.ReadText.{read_text}
 use Rattle.audit.specs.LineByLine.{AreOfProvers}
 
-pub record IsAuditable (text : FullText) : Type 0 where
+pub record MayBeAudited (text : FullText) : Type 0 where
   pub some : 0 < text.head.provers
   pub few : text.head.provers ≤ 2 ^ 16
   pub steps : 0 < text.head.bound
@@ -16,4 +16,4 @@ pub record IsAuditable (text : FullText) : Type 0 where
 
 -- of every text that was read, whatever its bytes are
 abbrev pub ReadTextsMayBeAudited : Type 0
-ReadTextsMayBeAudited = (bytes : List ℕ) (text : FullText) → read_text bytes ≡ Ok text → IsAuditable text
+ReadTextsMayBeAudited = (bytes : List ℕ) (text : FullText) → read_text bytes ≡ Ok text → MayBeAudited text

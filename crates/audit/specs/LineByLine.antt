@@ -26,12 +26,12 @@ use Rattle.audit.specs.declared.finding.Audit.TheVariants.{Confirmed, Refused}
 use Rattle.audit.specs.NextEntry.{next}
 
 -- the numbers by which the match of a head is played
-abbrev pub setup_of : Head → Setup
-setup_of h = record { provers = h.provers; bound = h.bound; fan = h.fan; patience = h.patience; start = h.start }
+abbrev pub setup_of_head : Head → Setup
+setup_of_head h = record { provers = h.provers; bound = h.bound; fan = h.fan; patience = h.patience; start = h.start }
 
 -- a judge and the numbers of a head
 abbrev pub rules_of_head : Ruling → Head → Rules
-rules_of_head r h = rules_of r (setup_of h)
+rules_of_head r h = rules_of r (setup_of_head h)
 
 -- each move is of one of `provers` provers
 abbrev pub IsOfProver : ℕ → TextMove → Type 0

@@ -28,15 +28,15 @@ abbrev pub settled_by_lines : ℕ → Qid → List TextMove → Option Settled
 settled_by_lines p qid [] = None
 settled_by_lines p qid (m ∷ ms) = if (m.prover == p) && same_qid m.qid qid then Some m.settled else settled_by_lines p qid ms
 
-abbrev pub answer_in : Option Settled → Option Answer
-answer_in (Some (Given a)) = Some a
-answer_in (Some (Faulty a)) = Some a
-answer_in (Some Spent) = None
-answer_in None = None
+abbrev pub settled_answer : Option Settled → Option Answer
+settled_answer (Some (Given a)) = Some a
+settled_answer (Some (Faulty a)) = Some a
+settled_answer (Some Spent) = None
+settled_answer None = None
 
 -- the provers of a text: each gives the answer that the text has of it, and passes for ever if there is none
 abbrev pub says_in : List TextMove → Says
-says_in ms p q passes = answer_in (settled_by_lines p q.qid ms)
+says_in ms p q passes = settled_answer (settled_by_lines p q.qid ms)
 
 -- THE TEXT'S OWN MATCH: the bracket over these very moves
 abbrev pub own_record : Rules → List TextMove → Record

@@ -1,19 +1,60 @@
 //! The audit of a full text.
 ghost use Rattle.std.specs.Prelude.{◌≡◌, ◌<◌, ◌≤◌, ◌^◌, IfOk};
 ghost use Rattle.tournament.specs.Match.{rules_in};
-ghost use Rattle.audit.specs.LineByLine.{AreOfProvers, end_of, audited};
+ghost use Rattle.audit.specs.LineByLine.{AreOfProvers, end_of, audited, same_status, is_this, is_stated};
+ghost use Rattle.transcript_text.specs.declared.text.Stated.TheVariants.{Accept};
+ghost use Rattle.transcript_text.specs.StatedVerdict.{settled_at, given_claim, stated_claim};
 
 use crate::finding::{Audit, Cause};
 use crate::playing::play;
-use crate::stating::is_stated;
-use bisect_game::Judge;
-use rd_base::Memory;
+use bisect_game::{Judge, Settled};
+use rd_base::{Answer, Memory, Status};
 use std::alloc::Global;
-use tournament::Match;
-use transcript_text::{FullText, Stated};
+use tournament::{Match, Verdict};
+use transcript_text::{FullText, Stated, settled_at};
 
 /// The number of the first line of a text that is a move: the head is line 1.
 const FIRST_MOVE: u64 = 2;
+
+/// Whether two statuses are the same.
+fn same_status(first: Status, second: Status) -> bool
+    ensures { result ≡ same_status first second }
+{
+    match (first, second) {
+        (Status::Running, Status::Running) => true,
+        (Status::Exited(x), Status::Exited(y)) => x == y,
+        (Status::Trapped(x), Status::Trapped(y)) => x == y,
+        _ => false,
+    }
+}
+
+/// Whether the claim of a prover was given with this status and this output.
+fn states_claim(claims: &[Option<Settled>], number: u32, status: Status, output: &[u8]) -> bool
+    ensures { result ≡ is_this (stated_claim (given_claim (settled_at claims.now number))) (Accept status output.now) }
+{
+    match settled_at(claims, number) {
+        Some(Some(Settled::Given(Answer::Claim(claim)))) => {
+            same_status(claim.ctl.status, status) && claim.output.as_slice() == output
+        }
+        _ => false,
+    }
+}
+
+/// Whether the stated verdict is this one, of a match with these claims.
+fn is_stated(claims: &[Option<Settled>], verdict: &Verdict, stated: &Stated) -> bool
+    ensures { result ≡ is_stated claims.now verdict.now stated.now }
+{
+    match (verdict, stated) {
+        (Verdict::Accept(number), Stated::Accept(status, output)) => {
+            states_claim(claims, *number, *status, output.as_slice())
+        }
+        (Verdict::NoneLeft, Stated::NoneLeft) => true,
+        (Verdict::Collision(x, y), Stated::Collision(a, b)) => {
+            x.as_slice() == a.as_slice() && y.as_slice() == b.as_slice()
+        }
+        _ => false,
+    }
+}
 
 /// The finding at the verdict's line, which has this number.
 fn end<J: Judge + Drop>(played: &Match<J>, line: u64, stated: &Stated) -> Audit

@@ -14,7 +14,6 @@ mod finding;
 mod laws;
 mod next_entry;
 mod playing;
-mod stating;
 
 pub use auditing::audit;
 pub use finding::{Audit, Cause};

@@ -13,7 +13,7 @@ use Rattle.clap.specs.declared.builder.value_parser.ValueParser.TheVariants as v
 use Rattle.clap.specs.declared.error.kind.ErrorKind.TheVariants.{ValueValidation}
 use Rattle.clap.specs.declared.parser.matches.ValueSource.TheVariants.{CommandLine}
 use Rattle.clap.proofs.OnLiterals.{clap_on_literals}
-use Rattle.command_line.specs.Words.{command_line, is_taken, named, command_of, chosen, seed_in}
+use Rattle.command_line.specs.Words.{command_line, is_taken, command_entered, command_in_words, chosen, seed_in}
 use Rattle.command_line.specs.Options.{Given, number, full, digest, workers, posters, every, words_of, begins_with_digit, IsOfBig, are_taken}
 use Rattle.command_line.specs.declared.request.Command.TheVariants.{Big}
 use Rattle.command_line.proofs.NumberLemmas.{each_digit, unsigned}
@@ -56,10 +56,10 @@ big-faults program words =
 abbrev rows_of_words : List Text → List Row
 rows_of_words words = finished (rules true) (walk (rules true) [] nothing_held words).held
 
-big-named : (program : Text) (words : List Text) → command_of (program ∷ codes "big" ∷ words) ≡ option_map Big (option_and_then seed_in (one_of (codes "N") (rows_of_words words)))
-unfolding clap_on_literals command_line command_of
+big-named : (program : Text) (words : List Text) → command_in_words (program ∷ codes "big" ∷ words) ≡ option_map Big (option_and_then seed_in (one_of (codes "N") (rows_of_words words)))
+unfolding clap_on_literals command_line command_in_words
 big-named program words =
-    ap (λ (w : Walk). named (entered (built command_line) w.stopped)) (collected (built command_line).top.rules (names_of (built command_line)) (codes "big") [] words)
+    ap (λ (w : Walk). command_entered (entered (built command_line) w.stopped)) (collected (built command_line).top.rules (names_of (built command_line)) (codes "big") [] words)
 
 big-fine : AllFine (rules true)
 unfolding clap_on_literals

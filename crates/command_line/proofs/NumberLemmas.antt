@@ -9,7 +9,7 @@ use Rattle.clap.specs.ValueTests.{is_signed_in, is_unsigned_in, is_numeral}
 use Rattle.clap.specs.declared.builder.value_parser.ValueParser.TheVariants as vp
 use Rattle.clap.specs.declared.error.kind.ErrorKind.TheVariants.{ValueValidation}
 use Rattle.clap.proofs.OnLiterals.{clap_on_literals}
-use Rattle.command_line.specs.Words.{command_line, is_faultless, is_taken, command_of, seed_in, chosen}
+use Rattle.command_line.specs.Words.{command_line, is_faultless, is_taken, command_in_words, seed_in, chosen}
 use Rattle.command_line.specs.declared.request.Command.{Command}
 use Rattle.command_line.specs.declared.request.Command.TheVariants.{Big}
 
@@ -67,10 +67,10 @@ seed-where true seed = refl
 seed-where false seed = refl
 
 pub seeds_are_numbers : (program : Text) (x : ℕ) (rest : Text) → 48 ≤ x → x ≤ 57 → chosen (program ∷ codes "big" ∷ (x ∷ rest) ∷ []) ≡ option_map Big (seed_in (x ∷ rest))
-unfolding clap_on_literals command_line is_taken command_of
+unfolding clap_on_literals command_line is_taken command_in_words
 seeds_are_numbers program x rest from to =
     taken (is_unsigned_in 0 4294967295 (x ∷ rest)) _ _ _
     (each_digit (λ y. fault_of command_line (program ∷ codes "big" ∷ (y ∷ rest) ∷ []) ≡ number_fault 0 4294967295 (y ∷ rest)) refl refl refl refl refl refl refl refl refl refl x from to
     ∙ ap refused (unsigned rest 0 4294967295 (omega arith) x from to))
-    (each_digit (λ y. command_of (program ∷ codes "big" ∷ (y ∷ rest) ∷ []) ≡ option_map Big (seed_in (y ∷ rest))) refl refl refl refl refl refl refl refl refl refl x from to)
+    (each_digit (λ y. command_in_words (program ∷ codes "big" ∷ (y ∷ rest) ∷ []) ≡ option_map Big (seed_in (y ∷ rest))) refl refl refl refl refl refl refl refl refl refl x from to)
     ∙ seed-where (is_unsigned_in 0 4294967295 (x ∷ rest)) _

@@ -21,7 +21,7 @@ use Rattle.transcript_text.specs.Digest.{digest_text}
 use Rattle.transcript_text.specs.declared.text.DigestName.{DigestName}
 use Rattle.transcript_text.specs.declared.text.DigestName.TheVariants.{Sha256, Weak8}
 use Rattle.command_line.specs.Words.{judge_line, big_line, is_faultless}
-use Rattle.command_line.specs.Options.{OptionName, workers, posters, every, Given, number, full, digest, name_of, most_of, word_of, words_of, begins_with_digit, IsOfJudge, IsOfBig, is_fine, given_by, are_taken_after}
+use Rattle.command_line.specs.Options.{OptionName, workers, posters, every, Given, number, full, digest, name_of, most_of, option_word, words_of, begins_with_digit, IsOfJudge, IsOfBig, is_fine, given_by, are_taken_after}
 use Rattle.command_line.proofs.NumberLemmas.{each_digit, unsigned}
 
 -- the commands with options: judge, and big
@@ -111,7 +111,7 @@ used-digest name rows = refl
 
 abbrev Walks : Bool → OptionName → Text → List Row → Pending → ℕ → Type 0
 Walks big o rest rows pending x =
-    walked (rules big) [] (walked (rules big) [] (between big rows pending) (word_of o)) (x ∷ rest) ≡ between big (settled_rows (rules big) pending rows) (last_is (number o (x ∷ rest)))
+    walked (rules big) [] (walked (rules big) [] (between big rows pending) (option_word o)) (x ∷ rest) ≡ between big (settled_rows (rules big) pending rows) (last_is (number o (x ∷ rest)))
 
 walks : (big : Bool) (o : OptionName) (rest : Text) (rows : List Row) (pending : Pending) (x : ℕ) → 48 ≤ x → x ≤ 57 → Walks big o rest rows pending x
 unfolding clap_on_literals
@@ -124,7 +124,7 @@ walks true every rest rows pending = each_digit (Walks true every rest rows pend
 
 abbrev FaultsOf : Bool → OptionName → Text → List Row → Pending → List Text → ℕ → Type 0
 FaultsOf big o rest rows pending ws x =
-    walk_fault (shape big) [] (between big rows pending) (word_of o ∷ (x ∷ rest) ∷ ws)
+    walk_fault (shape big) [] (between big rows pending) (option_word o ∷ (x ∷ rest) ∷ ws)
     ≡ or_else (or_else (settle_fault (rules big) false (held rows pending)) [])
     (walk_fault (shape big) [] (between big (settled_rows (rules big) pending rows) (last_is (number o (x ∷ rest)))) ws)
 
@@ -144,12 +144,12 @@ pub digit-to : (x : ℕ) (rest : Text) → begins_with_digit (x ∷ rest) ≡ tr
 digit-to x rest digit = grind (arith, nat_tests)
 
 walks-number : (big : Bool) (o : OptionName) (text : Text) (rows : List Row) (pending : Pending) → begins_with_digit text ≡ true
-    → walked (rules big) [] (walked (rules big) [] (between big rows pending) (word_of o)) text ≡ between big (settled_rows (rules big) pending rows) (last_is (number o text))
+    → walked (rules big) [] (walked (rules big) [] (between big rows pending) (option_word o)) text ≡ between big (settled_rows (rules big) pending rows) (last_is (number o text))
 walks-number big o [] rows pending digit = absurd (cc digit)
 walks-number big o (x ∷ rest) rows pending digit = walks big o rest rows pending x (digit-from x rest digit) (digit-to x rest digit)
 
 faults-number : (big : Bool) (o : OptionName) (text : Text) (rows : List Row) (pending : Pending) (ws : List Text) → begins_with_digit text ≡ true
-    → walk_fault (shape big) [] (between big rows pending) (word_of o ∷ text ∷ ws)
+    → walk_fault (shape big) [] (between big rows pending) (option_word o ∷ text ∷ ws)
     ≡ or_else (or_else (settle_fault (rules big) false (held rows pending)) []) (walk_fault (shape big) [] (between big (settled_rows (rules big) pending rows) (last_is (number o text))) ws)
 faults-number big o [] rows pending ws digit = absurd (cc digit)
 faults-number big o (x ∷ rest) rows pending ws digit = faults-of big o rest rows pending ws x (digit-from x rest digit) (digit-to x rest digit)

@@ -11,7 +11,7 @@ use Rattle.clap.specs.Kinds.{Kinds, or_else}
 use Rattle.clap.proofs.OnLiterals.{clap_on_literals}
 use Rattle.transcript_text.specs.declared.text.DigestName.{DigestName}
 use Rattle.transcript_text.specs.declared.text.DigestName.TheVariants.{Sha256, Weak8}
-use Rattle.command_line.specs.Words.{command_line, is_taken, named, command_of, chosen, text_in, digest_in, judge_in}
+use Rattle.command_line.specs.Words.{command_line, is_taken, command_entered, command_in_words, chosen, match_text_in, digest_in, judge_in}
 use Rattle.command_line.specs.Options.{Given, number, full, digest, workers, posters, every, name_of, words_of, IsOfJudge, given_by, are_taken, text_asked, digest_or, digest_asked, judge_of}
 use Rattle.command_line.specs.declared.request.Command.TheVariants.{Judge}
 use Rattle.command_line.specs.declared.request.MatchText.{MatchText}
@@ -52,10 +52,10 @@ judge-faults program words =
 abbrev rows_of_words : List Text → List Row
 rows_of_words words = finished (rules false) (walk (rules false) [] nothing_held words).held
 
-judge-named : (program : Text) (words : List Text) → command_of (program ∷ codes "judge" ∷ words) ≡ judge_in (rows_of_words words)
-unfolding clap_on_literals command_line command_of
+judge-named : (program : Text) (words : List Text) → command_in_words (program ∷ codes "judge" ∷ words) ≡ judge_in (rows_of_words words)
+unfolding clap_on_literals command_line command_in_words
 judge-named program words =
-    ap (λ (w : Walk). named (entered (built command_line) w.stopped)) (collected (built command_line).top.rules (names_of (built command_line)) (codes "judge") [] words)
+    ap (λ (w : Walk). command_entered (entered (built command_line) w.stopped)) (collected (built command_line).top.rules (names_of (built command_line)) (codes "judge") [] words)
 
 -- no default is a fault
 
@@ -96,14 +96,14 @@ judge-level words =
 
 -- what the rows ask for
 
-asks-full : (gs : List Given) → text_in (one_of (codes "full") (fold with_default (map row_of gs) (rules false))) ≡ text_asked gs
+asks-full : (gs : List Given) → match_text_in (one_of (codes "full") (fold with_default (map row_of gs) (rules false))) ≡ text_asked gs
 unfolding clap_on_literals
 asks-full gs =
-    ap (λ (found : Option Row). text_in (option_and_then row_text found)) (row-finished (codes "full") (rules false) (map row_of gs) ∙ ap (defaulted (codes "full") (rules false)) (row-given (codes "full") gs))
+    ap (λ (found : Option Row). match_text_in (option_and_then row_text found)) (row-finished (codes "full") (rules false) (map row_of gs) ∙ ap (defaulted (codes "full") (rules false)) (row-given (codes "full") gs))
     ∙ by (given_by (codes "full") gs) (name-given (codes "full") gs)
   where
     by : (found : Option Given) → ((g : Given) → found ≡ Some g → bytes_eq (name_of g) (codes "full") ≡ true)
-        → text_in (option_and_then row_text (defaulted (codes "full") (rules false) (option_map row_of found))) ≡ cond (is_some found) Full Report
+        → match_text_in (option_and_then row_text (defaulted (codes "full") (rules false) (option_map row_of found))) ≡ cond (is_some found) Full Report
     by None named = refl
     by (Some full) named = refl
     by (Some (number workers text)) named = absurd (cc (named _ refl))

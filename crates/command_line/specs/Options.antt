@@ -46,15 +46,15 @@ most_of posters = 16
 most_of every = 65536
 
 -- the name with its hyphens
-abbrev pub word_of : OptionName → Text
-word_of workers = codes "--workers"
-word_of posters = codes "--posters"
-word_of every = codes "--every"
+abbrev pub option_word : OptionName → Text
+option_word workers = codes "--workers"
+option_word posters = codes "--posters"
+option_word every = codes "--every"
 
 -- the words of options one after another
 abbrev pub words_of : List Given → List Text
 words_of [] = []
-words_of (number o text ∷ gs) = word_of o ∷ text ∷ words_of gs
+words_of (number o text ∷ gs) = option_word o ∷ text ∷ words_of gs
 words_of (full ∷ gs) = codes "--full" ∷ words_of gs
 words_of (digest name ∷ gs) = codes "--digest" ∷ digest_text name ∷ words_of gs
 

@@ -12,7 +12,7 @@ use Rattle.clap.specs.Simple.{App, Shape, new_app, new_rule, new_shape, on_top, 
 use Rattle.clap.specs.Faults.{fault_of}
 use Rattle.clap.specs.declared.builder.action.ArgAction.TheVariants.{SetTrue}
 use Rattle.clap.specs.declared.builder.value_parser.ValueParser.TheVariants as vp
-use Rattle.transcript_text.specs.Digest.{digest_text, digests}
+use Rattle.transcript_text.specs.Digest.{digest_text, digest_names}
 use Rattle.transcript_text.specs.declared.text.DigestName.{DigestName}
 use Rattle.command_line.specs.declared.request.MatchText.{MatchText}
 use Rattle.command_line.specs.declared.request.MatchText.TheVariants.{Report, Full}
@@ -78,17 +78,17 @@ abbrev pub seed_in : Text → Option ℕ
 seed_in text = if is_unsigned_in 0 4294967295 text then Some (digits_value 10 (without_leading_plus text)) else None
 
 -- the text of a match that is asked for: the full text by `--full`, and else the report
-abbrev pub text_in : Option Text → MatchText
-text_in None = Report
-text_in (Some text) = if bytes_eq text (codes "true") then Full else Report
+abbrev pub match_text_in : Option Text → MatchText
+match_text_in None = Report
+match_text_in (Some text) = if bytes_eq text (codes "true") then Full else Report
 
 -- the digest of a name
 abbrev pub digest_in : Text → Option DigestName
-digest_in text = find (λ name. bytes_eq text (digest_text name)) digests
+digest_in text = find (λ name. bytes_eq text (digest_text name)) digest_names
 
 -- `judge`, by what was given to it
 abbrev pub judge_in : List Row → Option Command
-judge_in rows = option_map (Judge (text_in (one_of (codes "full") rows))) (option_and_then digest_in (first_of (codes "digest") rows))
+judge_in rows = option_map (Judge (match_text_in (one_of (codes "full") rows))) (option_and_then digest_in (first_of (codes "digest") rows))
 
 -- the command of a name, by what was given to it
 abbrev pub command_of_name : Text → List Row → Option Command
@@ -101,16 +101,16 @@ command_of_name name rows =
     else if bytes_eq name (codes "big") then option_map Big (option_and_then seed_in (one_of (codes "N") rows))
     else None
 
-abbrev pub named : Option (Text × List Row) → Option Command
-named entered = option_and_then (λ e. command_of_name e.0 e.1) entered
+abbrev pub command_entered : Option (Text × List Row) → Option Command
+command_entered entered = option_and_then (λ e. command_of_name e.0 e.1) entered
 
 -- the command of the subcommand that the arguments name
-unfoldable pub command_of : List Text → Option Command
-command_of words = named (subcommand_of command_line words)
+unfoldable pub command_in_words : List Text → Option Command
+command_in_words words = command_entered (subcommand_of command_line words)
 
 -- the command, if the arguments are taken
 abbrev pub chosen : List Text → Option Command
-chosen words = if is_taken words then command_of words else None
+chosen words = if is_taken words then command_in_words words else None
 
 -- what the arguments give the options of their command, defaults among it
 abbrev pub rows_given : Option (Text × List Row) → List Row

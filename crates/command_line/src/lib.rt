@@ -5,18 +5,16 @@
 //! from 1 to 4,294,967,295. `judge` has two options of its own, `--full` and `--digest`, which choose what is written, so they are a part
 //! of the command. Which arguments are taken follows from `clap`'s definitions for a command line with these commands and options; the laws
 //! state it for plain ones, for each seed of `big` that begins with a decimal digit, and for any list of options of `judge` and of `big`
-//! whose numbers do. The crate reads no device and knows nothing of a case. Read `specs/Words.antt` first, then `request`, `parser` and
-//! `given`. An `Err` that no comment names is out of memory.
+//! whose numbers do. The crate reads no device and knows nothing of a case. Read `specs/Words.antt` first, then `request` and
+//! `parser`. An `Err` that no comment names is out of memory.
 #![tactic(auto)]
 
-mod given;
 mod laws;
 mod parser;
 mod request;
 
-pub use given::command_given;
 pub use laws::{
     a_command_is_required, digests_by_name, help_is_refused, options_are_taken, own_options,
     plain_seeds, plain_words, seeds_are_numbers,
 };
-pub use request::{Command, MatchText, Options, Request};
+pub use request::{Command, MatchText, Options, Request, command_given};

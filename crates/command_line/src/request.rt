@@ -1,5 +1,16 @@
-//! What the program is asked to do.
+//! What the program is asked to do, by what was given to the command line.
+ghost use Rattle.std.specs.Prelude.{◌≡◌, ◌<◌, codes, IfOk, IfSome, option_map, option_and_then, if◌then◌else◌};
+ghost use Rattle.clap.specs.Matches.{found_of};
+ghost use Rattle.clap.specs.Walk.{first_of, one_of, rows_of};
+ghost use Rattle.clap.specs.Simple.{subcommand_rows_of};
+ghost use Rattle.command_line.specs.declared.request.MatchText.TheVariants.{Report, Full};
+ghost use Rattle.command_line.specs.Words.{texts, command_of_name, command_entered, chosen, match_text_in, digest_in, judge_in, seed_in, rows_given, given_options, IsNumberOf, AreAtLeastOne, AreGiven};
 
+use crate::parser::command_line;
+use clap::ArgMatches;
+use clap::error::ErrorKind;
+use rd_base::Memory;
+use std::alloc::Global;
 use transcript_text::DigestName;
 
 /// Which text of a match is written.
@@ -44,4 +55,130 @@ pub struct Options {
 pub struct Request {
     pub command: Command,
     pub options: Options,
+}
+
+/// The seed that was given.
+fn seed_given(given: &ArgMatches<'_>) -> Option<u32>
+    ensures { result ≡ option_and_then seed_in (one_of (codes "N") (rows_of (found_of given.now))) }
+{
+    given.get_one::<u32>("N")
+}
+
+/// The full text if it is asked for, and else the report.
+fn text_where(is_full: bool) -> MatchText
+    ensures { result ≡ (if is_full then Full else Report) }
+{
+    if is_full {
+        MatchText::Full
+    } else {
+        MatchText::Report
+    }
+}
+
+/// The text that was asked for.
+fn text_given(given: &ArgMatches<'_>) -> MatchText
+    ensures { result ≡ match_text_in (one_of (codes "full") (rows_of (found_of given.now))) }
+{
+    text_where(given.get_one("full").unwrap_or(false))
+}
+
+/// The digest of a name.
+fn digest_in(name: &str) -> Option<DigestName>
+    ensures { result ≡ digest_in name.now }
+{
+    match name {
+        "sha256" => Some(DigestName::Sha256),
+        "weak8" => Some(DigestName::Weak8),
+        _ => None,
+    }
+}
+
+/// The digest that was asked for.
+fn digest_given(given: &ArgMatches<'_>) -> Option<DigestName>
+    ensures { result ≡ option_and_then digest_in (first_of (codes "digest") (rows_of (found_of given.now))) }
+{
+    digest_in(given.get_str("digest")?)
+}
+
+/// `judge`, by what was given to it.
+fn judge_given(given: &ArgMatches<'_>) -> Option<Command>
+    ensures { result ≡ judge_in (rows_of (found_of given.now)) }
+{
+    let digest = digest_given(given)?;
+    Some(Command::Judge(text_given(given), digest))
+}
+
+/// The command of a name, by what was given to it.
+fn command_named(name: &str, given: &ArgMatches<'_>) -> Option<Command>
+    ensures { result ≡ command_of_name name.now (rows_of (found_of given.now)) }
+{
+    match name {
+        "judge" => judge_given(given),
+        "run" => Some(Command::Run),
+        "roots" => Some(Command::Roots),
+        "audit" => Some(Command::Audit),
+        "list" => Some(Command::Listing),
+        "big" => match seed_given(given) {
+            Some(seed) => Some(Command::Big(seed)),
+            None => None,
+        },
+        _ => None,
+    }
+}
+
+/// The number of an option, at least 1.
+fn number(given: &ArgMatches<'_>, name: &str, default: u32) -> u32
+    requires { 0 < default }
+    ensures some { 0 < result }
+    ensures value { IsNumberOf (one_of name.now (rows_of (found_of given.now))) default result }
+{
+    match given.get_one::<u32>(name) {
+        Some(number) => number.max(1),
+        None => default,
+    }
+}
+
+/// The numbers of the options.
+fn options_in(given: &ArgMatches<'_>) -> Options
+    ensures counts { AreAtLeastOne result }
+    ensures given { AreGiven (rows_of (found_of given.now)) result }
+{
+    Options {
+        workers: number(given, "workers", 1),
+        posters: number(given, "posters", 1),
+        every: number(given, "every", 1_024),
+    }
+}
+
+/// The command that was parsed, with its options.
+fn request_in(matches: &ArgMatches<'_>) -> Option<Request>
+    ensures command { option_map (λ request. request.command) result ≡ command_entered (subcommand_rows_of matches.now) }
+    ensures counts { IfSome result (λ request. AreAtLeastOne request.options) }
+    ensures given { IfSome result (λ request. AreGiven (rows_given (subcommand_rows_of matches.now)) request.options) }
+{
+    match matches.subcommand() {
+        Some((name, given)) => match command_named(name, given) {
+            Some(command) => Some(Request {
+                command,
+                options: options_in(given),
+            }),
+            None => None,
+        },
+        None => None,
+    }
+}
+
+/// The command that the arguments name, of which the first is the program's name, and its options; `None` if they name none.
+pub fn command_given(alloc: Global, words: &[String]) -> Result<Option<Request>, Memory>
+    ensures command { IfOk result (λ given. option_map (λ request. request.command) given ≡ chosen (texts words.now)) }
+    ensures counts { IfOk result (λ given. IfSome given (λ request. AreAtLeastOne request.options)) }
+    ensures options { IfOk result (λ given. IfSome given (λ request. AreGiven (given_options (texts words.now)) request.options)) }
+{
+    match command_line(alloc)?.try_get_matches_from(words) {
+        Ok(matches) => Ok(request_in(&matches)),
+        Err(error) => match error.kind() {
+            ErrorKind::OutOfMemory => Err(Memory),
+            _ => Ok(None),
+        },
+    }
 }

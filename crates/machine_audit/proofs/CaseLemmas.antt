@@ -13,7 +13,7 @@ use Rattle.transcript_text.specs.declared.text.Stated.TheVariants.{Accept, NoneL
 use Rattle.transcript_text.specs.declared.text.FullText.{FullText}
 use Rattle.transcript_text.specs.reader.InLimits.{IsStatedInLimits}
 use Rattle.transcript_text.specs.reader.Laws.{ReadsExactly}
-use Rattle.audit.specs.Auditable.{IsAuditable, ReadTextsMayBeAudited}
+use Rattle.audit.specs.Auditable.{MayBeAudited, ReadTextsMayBeAudited}
 use Rattle.audit.specs.LineByLine.{rules_of_head}
 use Rattle.audit.specs.TrueLines.{IsRightStated, ConfirmedTextIsRight}
 use Rattle.machine_audit.specs.MachineAudit.{rules_of_text, IsAnswerOrCollision, ConfirmedCasesAreRight}
@@ -34,7 +34,7 @@ pub cases-right : (digest : List ℕ → List ℕ) → ((bytes : List ℕ) → l
 cases-right digest is_digest runs right auditable exactly bytes text v s p read confirmed start some few lines =
     let ruling = machine_ruling digest text.head.version in
     let rules : Rules = rules_of_head ruling text.head in
-    let fit : IsAuditable text = auditable bytes text read in
+    let fit : MayBeAudited text = auditable bytes text read in
     let short : length s.output + text.head.bound < 2 ^ 64 = (let none : length s.output ≡ 0 = ap length start.silent in omega (arith, none, fit.short)) in
     let run : IsRun rules (machine_truth digest s text.head.bound) =
     runs s rules start.valid short (ap (machine_ruling digest) (sym start.version)) (start.root ∙ ap (λ v. root_in digest v s) (sym start.version)) in

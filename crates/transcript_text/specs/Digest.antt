@@ -8,5 +8,5 @@ digest_text Sha256 = codes "sha256"
 digest_text Weak8 = codes "weak8"
 
 -- each digest that a text may name
-abbrev pub digests : List DigestName
-digests = Sha256 ∷ Weak8 ∷ []
+abbrev pub digest_names : List DigestName
+digest_names = Sha256 ∷ Weak8 ∷ []

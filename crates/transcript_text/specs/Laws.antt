@@ -18,9 +18,9 @@ abbrev pub NothingIsSaidAgainstTheTruthful : Type 0
 NothingIsSaidAgainstTheTruthful = (rules : Rules) (t : Truth) (p : ℕ) (r : Record) → IsSafe rules t p r → are_against p (lines_of_record r) ≡ false
 
 -- a record and a verdict as the parts of a text
-abbrev pub parts_of : Head → Record → Stated → FullText
-parts_of head r s = record { head = head; moves = moves_of r; stated = s }
+abbrev pub text_parts : Head → Record → Stated → FullText
+text_parts head r s = record { head = head; moves = moves_of r; stated = s }
 
 -- the full text of a record is that of its parts, if the verdict is stated
 abbrev pub FullTextIsThatOfItsParts : Type 0
-FullTextIsThatOfItsParts = (head : Head) (r : Record) (v : Verdict) (s : Stated) → stated_of r.claims v ≡ Some s → full_text head r v ≡ text_of (parts_of head r s)
+FullTextIsThatOfItsParts = (head : Head) (r : Record) (v : Verdict) (s : Stated) → stated_of r.claims v ≡ Some s → full_text head r v ≡ text_of (text_parts head r s)

@@ -3,8 +3,8 @@ use Rattle.std.specs.Prelude.{ℕ, nat_le, Bool, ◌&&◌}
 use Rattle.transcript_text.specs.declared.limits.Limit.{Limit}
 
 -- neither less nor more
-abbrev pub is_within : Limit → ℕ → Bool
-is_within limit n = nat_le limit.least n && nat_le n limit.most
+abbrev pub is_in_limit : Limit → ℕ → Bool
+is_in_limit limit n = nat_le limit.least n && nat_le n limit.most
 
 -- how many provers play
 abbrev pub provers_limit : Limit

@@ -1,6 +1,6 @@
 //! The limits of the numbers of a head.
 ghost use Rattle.std.specs.Prelude.{◌≡◌};
-ghost use Rattle.transcript_text.specs.Limits.{is_within};
+ghost use Rattle.transcript_text.specs.Limits.{is_in_limit};
 
 /// The least and the most that a number may be.
 #[derive(Clone, Copy, Debug, PartialEq, Eq)]
@@ -12,7 +12,7 @@ pub struct Limit {
 impl Limit {
     /// Whether a number is neither less nor more.
     pub fn holds(self, number: u64) -> bool
-        ensures { result ≡ is_within self number }
+        ensures { result ≡ is_in_limit self number }
     {
         self.least <= number && number <= self.most
     }

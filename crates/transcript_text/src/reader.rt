@@ -3,7 +3,7 @@ ghost use Rattle.std.specs.Prelude.{◌+◌, ◌<◌, ◌^◌, []};
 ghost use Rattle.rd_base.specs.Results.{Gives};
 ghost use Rattle.transcript_text.specs.reader.Entries.{head_in};
 ghost use Rattle.transcript_text.specs.reader.TextLines.{lines_of};
-ghost use Rattle.transcript_text.specs.reader.ReadText.{ended, later, rest_with, text_with, read_text};
+ghost use Rattle.transcript_text.specs.reader.ReadText.{after_verdict, later, rest_with, text_with, read_text};
 
 mod entries;
 mod fault;
@@ -29,7 +29,7 @@ fn end(
     behind: &[u8],
 ) -> Result<(Vec<TextMove>, Stated), TextFault>
     requires { number + 1 < 2 ^ 64 }
-    ensures { Gives TextFault.Memory (λ x. (x.0.items, x.1)) result (ended number moves.items stated (lines_of behind.now)) }
+    ensures { Gives TextFault.Memory (λ x. (x.0.items, x.1)) result (after_verdict number moves.items stated (lines_of behind.now)) }
 {
     if behind.is_empty() {
         return Ok((moves, stated));

@@ -25,10 +25,10 @@ use Rattle.transcript_text.specs.declared.reader.entries.HeadNumbers.{HeadNumber
 use Rattle.transcript_text.specs.Lines.{line_of_stated}
 use Rattle.transcript_text.specs.FullLines.{HasWireForm, start_text, refereed_text, wire_text, settled_text, asked_text, move_text, moves_text, text_of}
 use Rattle.transcript_text.specs.reader.TextLines.{Lines, tail, line, lines_of}
-use Rattle.transcript_text.specs.reader.Fields.{number_after, digest_of, answer_of, name_at}
-use Rattle.transcript_text.specs.reader.Entries.{head_in, settled_in, move_in, status_at, output_in, accepted_in, string_in, collided_in, verdict_in, entry_in}
-use Rattle.transcript_text.specs.reader.ReadText.{is_prover, are_in_limits, head_with, line_read, later, text_in, read_text}
-use Rattle.transcript_text.specs.Limits.{is_within, provers_limit, bound_limit, patience_limit, version_limit, fan_limit}
+use Rattle.transcript_text.specs.reader.Fields.{number_after, digest_in_hex, answer_in_hex, name_at}
+use Rattle.transcript_text.specs.reader.Entries.{head_in, settlement_in, move_in, status_at, output_in, accepted_in, string_in, collided_in, verdict_in, entry_in}
+use Rattle.transcript_text.specs.reader.ReadText.{is_prover, are_in_limits, head_with, line_read, later, text_in_lines, read_text}
+use Rattle.transcript_text.specs.Limits.{is_in_limit, provers_limit, bound_limit, patience_limit, version_limit, fan_limit}
 use Rattle.transcript_text.specs.declared.limits.Limit.{Limit}
 use Rattle.transcript_text.specs.reader.InLimits.{AreBytes, IsWithin, IsHeadInLimits, IsMoveInLimits, AreMovesInLimits, IsStatusInLimits, IsString, IsStatedInLimits, IsInLimits}
 use Rattle.transcript_text.specs.reader.Laws.{stated_text, IsOfBytes, StatedVerdictsAreOneLine}
@@ -61,12 +61,12 @@ wire-bytes wire a fits = wire.bytes a (wire_form a).bytes (fits, refl)
 
 -- answers
 
-answer-back : WireReads → (a : Answer) → (wire_form a).fits → answer_of (wire_text a) ≡ Ok a
-unfolding answer_of wire_text
+answer-back : WireReads → (a : Answer) → (wire_form a).fits → answer_in_hex (wire_text a) ≡ Ok a
+unfolding answer_in_hex wire_text
 answer-back wire a fits = rw (hex-back (wire_form a).bytes (wire-bytes wire a fits), wire.read a (wire_form a).bytes (fits, refl)) refl
 
-settled-back : WireReads → (s : Settled) → HasWireForm s → settled_in (settled_text s) ≡ Ok s
-unfolding settled_in
+settled-back : WireReads → (s : Settled) → HasWireForm s → settlement_in (settled_text s) ≡ Ok s
+unfolding settlement_in
 settled-back wire (Given a) w = rw (answer-back wire a w) refl
 settled-back wire (Faulty a) w = rw (answer-back wire a w) refl
 settled-back wire Spent w = refl
@@ -216,8 +216,8 @@ later-back wire provers n done (m ∷ ms) s top i j =
 
 -- the head
 
-digest-back : (h : Head) → IsHeadInLimits h → digest_of (encode_lower h.start.0) ≡ Ok h.start
-unfolding digest_of
+digest-back : (h : Head) → IsHeadInLimits h → digest_in_hex (encode_lower h.start.0) ≡ Ok h.start
+unfolding digest_in_hex
 digest-back h i =
     let e : (length h.start.0 == 32) ≡ true = (let l : length h.start.0 ≡ 32 = i.length in grind (arith, nat_tests)) in
     rw (hex-back h.start.0 i.bytes, e) refl
@@ -277,7 +277,7 @@ head-in-back h i small =
       digest-back h i,
     ) refl
 
-holds-within : (l : Limit) (n : ℕ) → IsWithin l n → is_within l n ≡ true
+holds-within : (l : Limit) (n : ℕ) → IsWithin l n → is_in_limit l n ≡ true
 holds-within l n i = (let a : l.least ≤ n = i.0 in let b : n ≤ l.most = i.1 in grind (arith, nat_tests))
 
 limits-hold : (h : Head) → IsHeadInLimits h → are_in_limits (numbers_of h) ≡ true
@@ -327,4 +327,4 @@ reads-back wire x i =
     ap lines_of spelled ∙ line-back (refereed_text x.head) (moves_text x.moves ++ (stated_text x.stated ++ codes "\n")) (without-head x.head i.head) in
     let more : later x.head.provers 2 [] (lines_of (moves_text x.moves ++ (stated_text x.stated ++ codes "\n"))) ≡ Ok (x.moves, x.stated) =
     later-back wire x.head.provers 2 [] x.moves x.stated (few-provers x.head i.head) i.moves i.stated in
-    ap text_in cut ∙ (rw (head-back x.head i.head, more) refl)
+    ap text_in_lines cut ∙ (rw (head-back x.head i.head, more) refl)

@@ -2,7 +2,7 @@
 use Rattle.std.proofs.Common.{◌≡◌, ℕ, List, Ok, refl, ◌∙◌, ap, sym}
 use Rattle.transcript_text.specs.declared.text.FullText.{FullText}
 use Rattle.transcript_text.specs.FullLines.{full_text, text_of}
-use Rattle.transcript_text.specs.Laws.{parts_of, FullTextIsThatOfItsParts}
+use Rattle.transcript_text.specs.Laws.{text_parts, FullTextIsThatOfItsParts}
 use Rattle.transcript_text.specs.reader.ReadText.{read_text}
 use Rattle.transcript_text.specs.reader.InLimits.{IsInLimits}
 use Rattle.transcript_text.specs.reader.Laws.{ReadsExactly, AlikeIsEqual, ReadVerdictsAreOneLine, ReadsRecordsBack}
@@ -20,4 +20,4 @@ pub read-is-one-line : ReadsExactly → ReadVerdictsAreOneLine
 read-is-one-line exactly bytes x e = stated-is-one-line x.stated (limits-are-of-bytes x.stated ((exactly bytes x).0 e).0.stated)
 
 pub reads-records-back : ReadsExactly → FullTextIsThatOfItsParts → ReadsRecordsBack
-reads-records-back exactly parts head r v s is limits = (exactly (full_text head r v) (parts_of head r s)).1 (limits, parts head r v s is)
+reads-records-back exactly parts head r v s is limits = (exactly (full_text head r v) (text_parts head r s)).1 (limits, parts head r v s is)

@@ -12,7 +12,7 @@ use Rattle.transcript_text.specs.declared.reader.fault.LineFault.{LineFault}
 use Rattle.transcript_text.specs.declared.reader.fault.TextFault.{TextFault}
 use Rattle.transcript_text.specs.declared.reader.fault.TextFault.TheVariants.{BadHead, BadLine, Truncated, OutOfRange, Memory}
 use Rattle.transcript_text.specs.reader.Entries.{head_in, entry_in}
-use Rattle.transcript_text.specs.reader.ReadText.{are_in_limits, head_of, head_with, Later, is_prover, ended, line_read, later, rest_with, text_in, read_text}
+use Rattle.transcript_text.specs.reader.ReadText.{are_in_limits, head_of_numbers, head_with, Later, is_prover, after_verdict, line_read, later, rest_with, text_in_lines, read_text}
 use Rattle.transcript_text.specs.reader.TextLines.{Lines, tail, line, lines_of}
 
 -- a reading that doesn't end as out of memory
@@ -35,9 +35,9 @@ if-free false r s one other = other
 
 head-free : (r : Result HeadNumbers LineFault) → IsFree (head_with r)
 head-free (Err e) = err-free BadHead (λ is. cc is)
-head-free (Ok h) = if-free (are_in_limits h) (Ok (head_of h)) (Err (OutOfRange 1)) (ok-free (head_of h)) (err-free (OutOfRange 1) (λ is. cc is))
+head-free (Ok h) = if-free (are_in_limits h) (Ok (head_of_numbers h)) (Err (OutOfRange 1)) (ok-free (head_of_numbers h)) (err-free (OutOfRange 1) (λ is. cc is))
 
-ended-free : (n : ℕ) (moves : List TextMove) (s : Stated) (ls : Lines) → IsFree (ended n moves s ls)
+ended-free : (n : ℕ) (moves : List TextMove) (s : Stated) (ls : Lines) → IsFree (after_verdict n moves s ls)
 ended-free n moves s (tail t) = if-free (length t == 0) (Ok (moves, s)) (Err Truncated) (ok-free (moves, s)) (err-free Truncated (λ is. cc is))
 ended-free n moves s (line l ls) = err-free (BadLine (n + 1)) (λ is. cc is)
 
@@ -55,7 +55,7 @@ later-free provers n moves (line l ls) =
 rest-free : (head : Head) (ls : Lines) → IsFree (rest_with head ls)
 rest-free head ls = then-free (later head.provers 2 [] ls) _ (later-free head.provers 2 [] ls) (λ x. ok-free _)
 
-text-free : (ls : Lines) → IsFree (text_in ls)
+text-free : (ls : Lines) → IsFree (text_in_lines ls)
 text-free (tail t) = err-free Truncated (λ is. cc is)
 text-free (line l ls) = then-free (head_with (head_in l)) (λ h. rest_with h ls) (head-free (head_in l)) (λ h. rest-free h ls)
 

@@ -7,7 +7,7 @@ use Rattle.std.proofs.lemmas.Bool.{and_parts}
 use Rattle.hex.specs.Hex.{encode_with, encode_lower, lower_digits}
 use Rattle.hex.proofs.HexLemmas.{decode_of-encode_lower}
 use Rattle.transcript_text.specs.reader.TextLines.{line, begun_with, lines_of, cut_front, cut_at}
-use Rattle.transcript_text.specs.reader.Fields.{is_digit, with_digit, digits_at, number_at, small_number_at, is_lower, are_lower, hex_of, some_hex_of}
+use Rattle.transcript_text.specs.reader.Fields.{is_digit, with_digit, digits_at, decimal_at, small_number_at, is_lower, are_lower, bytes_in_hex, some_bytes_in_hex}
 use Rattle.transcript_text.specs.reader.InLimits.{AreBytes}
 
 pub eqb-same : (n : ℕ) → (n == n) ≡ true
@@ -68,8 +68,8 @@ digits-end : (n : ℕ) (rest : List ℕ) → NoDigit rest → digits_at n rest �
 digits-end n [] free = refl
 digits-end n (b ∷ bs) free = rw free refl
 
-number-by : (n : ℕ) (ds rest : List ℕ) → n < 4294967296 → NoDigit rest → IsNumeral n ds → number_at (ds ++ rest) ≡ Ok (n, rest)
-unfolding number_at
+number-by : (n : ℕ) (ds rest : List ℕ) → n < 4294967296 → NoDigit rest → IsNumeral n ds → decimal_at (ds ++ rest) ≡ Ok (n, rest)
+unfolding decimal_at
 number-by zero ds rest few free i =
     let z : (i.first ≡ 48) × (i.others ≡ []) = i.lone refl in
     rw (i.is, z.0, z.1) refl
@@ -77,7 +77,7 @@ number-by (suc n) ds rest few free i =
     let lead : (i.first == 48) ≡ false = (let ne : i.first ≢ 48 = i.lead (omega arith) in grind (arith, nat_tests)) in
     rw (i.is, lead, i.digit) (ap Ok (i.reads few rest ∙ digits-end (suc n) rest free))
 
-pub number-back : (n : ℕ) (rest : List ℕ) → n < 4294967296 → NoDigit rest → number_at (decimal n ++ rest) ≡ Ok (n, rest)
+pub number-back : (n : ℕ) (rest : List ℕ) → n < 4294967296 → NoDigit rest → decimal_at (decimal n ++ rest) ≡ Ok (n, rest)
 number-back n rest few free = number-by n (decimal n) rest few free (numeral n (omega arith))
 
 pub small-back : (n : ℕ) (rest : List ℕ) → n < 4294967296 → NoDigit rest → small_number_at (decimal n ++ rest) ≡ Ok (n, rest)
@@ -98,12 +98,12 @@ unfolding encode_with
 encoded-lower [] = refl
 encoded-lower (b ∷ rest) = rw (lower-at lower_digits (b / 16) refl, lower-at lower_digits (b % 16) refl) (encoded-lower rest)
 
-pub hex-back : (xs : List ℕ) → AreBytes xs → hex_of (encode_lower xs) ≡ Ok xs
-unfolding hex_of
+pub hex-back : (xs : List ℕ) → AreBytes xs → bytes_in_hex (encode_lower xs) ≡ Ok xs
+unfolding bytes_in_hex
 hex-back xs bytes = rw (encoded-lower xs, decode_of-encode_lower xs bytes) refl
 
-pub some-hex-back : (xs : List ℕ) → 0 < length xs → AreBytes xs → some_hex_of (encode_lower xs) ≡ Ok xs
-unfolding some_hex_of
+pub some-hex-back : (xs : List ℕ) → 0 < length xs → AreBytes xs → some_bytes_in_hex (encode_lower xs) ≡ Ok xs
+unfolding some_bytes_in_hex
 some-hex-back xs some bytes =
     let e : (length xs == 0) ≡ false = grind (arith, nat_tests) in
     rw (hex-back xs bytes, e) refl

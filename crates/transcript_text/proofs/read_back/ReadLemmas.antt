@@ -10,7 +10,7 @@ use Rattle.transcript_text.specs.declared.text.TextMove.{TextMove}
 use Rattle.transcript_text.specs.declared.text.Stated.{Stated}
 use Rattle.transcript_text.specs.reader.TextLines.{tail, line, lines_of, cut_at}
 use Rattle.transcript_text.specs.reader.Entries.{entry_in, head_in}
-use Rattle.transcript_text.specs.reader.ReadText.{is_prover, ended, line_read, later, text_with, text_in}
+use Rattle.transcript_text.specs.reader.ReadText.{is_prover, after_verdict, line_read, later, text_with, text_in_lines}
 use Rattle.transcript_text.proofs.read_back.LineLemmas.{lines_by, lines_cut}
 
 abbrev pub no_cut : Option (List ℕ × List ℕ)
@@ -50,7 +50,7 @@ pub later_outside : (p n : ℕ) (ms : List TextMove) (bytes l b : List ℕ) (x :
 later_outside p n ms bytes l b x e is out = by-entry p n ms bytes l b (Ok (Move x)) e is ∙ (let w : is_prover p x.prover ≡ false = outside p x.prover out in rw w refl)
 
 pub later_ends : (p n : ℕ) (ms : List TextMove) (bytes l b : List ℕ) (s : Stated) → cut_to l b ≡ cut_at 10 bytes → entry_in l ≡ Ok (Verdict s) →
-    later p n ms (lines_of bytes) ≡ ended n ms s (lines_of b)
+    later p n ms (lines_of bytes) ≡ after_verdict n ms s (lines_of b)
 later_ends p n ms bytes l b s e is = by-entry p n ms bytes l b (Ok (Verdict s)) e is
 
 pub later_bad : (p n : ℕ) (ms : List TextMove) (bytes l b : List ℕ) (f : LineFault) → cut_to l b ≡ cut_at 10 bytes → entry_in l ≡ Err f →
@@ -60,25 +60,25 @@ later_bad p n ms bytes l b f e is = by-entry p n ms bytes l b (Err f) e is
 pub later_tail : (p n : ℕ) (ms : List TextMove) (bytes : List ℕ) → no_cut ≡ cut_at 10 bytes → later p n ms (lines_of bytes) ≡ Err Truncated
 later_tail p n ms bytes e = ap (later p n ms) (lines_none bytes e)
 
-pub ended_more : (n : ℕ) (ms : List TextMove) (s : Stated) (bytes l b : List ℕ) → cut_to l b ≡ cut_at 10 bytes → ended n ms s (lines_of bytes) ≡ Err (BadLine (n + 1))
-ended_more n ms s bytes l b e = ap (ended n ms s) (lines_at bytes l b e)
+pub ended_more : (n : ℕ) (ms : List TextMove) (s : Stated) (bytes l b : List ℕ) → cut_to l b ≡ cut_at 10 bytes → after_verdict n ms s (lines_of bytes) ≡ Err (BadLine (n + 1))
+ended_more n ms s bytes l b e = ap (after_verdict n ms s) (lines_at bytes l b e)
 
-pub ended_cut : (n : ℕ) (ms : List TextMove) (s : Stated) (bytes : List ℕ) → no_cut ≡ cut_at 10 bytes → 0 < length bytes → ended n ms s (lines_of bytes) ≡ Err Truncated
+pub ended_cut : (n : ℕ) (ms : List TextMove) (s : Stated) (bytes : List ℕ) → no_cut ≡ cut_at 10 bytes → 0 < length bytes → after_verdict n ms s (lines_of bytes) ≡ Err Truncated
 ended_cut n ms s bytes e some =
     let z : (length bytes == 0) ≡ false = grind (arith, nat_tests) in
-    ap (ended n ms s) (lines_none bytes e) ∙ rw z refl
+    ap (after_verdict n ms s) (lines_none bytes e) ∙ rw z refl
 
-pub ended_whole : (n : ℕ) (ms : List TextMove) (s : Stated) (bytes : List ℕ) → length bytes ≡ 0 → ended n ms s (lines_of bytes) ≡ Ok (ms, s)
+pub ended_whole : (n : ℕ) (ms : List TextMove) (s : Stated) (bytes : List ℕ) → length bytes ≡ 0 → after_verdict n ms s (lines_of bytes) ≡ Ok (ms, s)
 ended_whole n ms s [] e = refl
 ended_whole n ms s (b ∷ bytes) e = absurd (omega (arith, e))
 
 -- the whole text
 
-pub text_at : (bytes l b : List ℕ) → cut_to l b ≡ cut_at 10 bytes → text_in (lines_of bytes) ≡ text_with (head_in l) (lines_of b)
-text_at bytes l b e = ap text_in (lines_at bytes l b e)
+pub text_at : (bytes l b : List ℕ) → cut_to l b ≡ cut_at 10 bytes → text_in_lines (lines_of bytes) ≡ text_with (head_in l) (lines_of b)
+text_at bytes l b e = ap text_in_lines (lines_at bytes l b e)
 
-pub text_none : (bytes : List ℕ) → no_cut ≡ cut_at 10 bytes → text_in (lines_of bytes) ≡ Err Truncated
-text_none bytes e = ap text_in (lines_none bytes e)
+pub text_none : (bytes : List ℕ) → no_cut ≡ cut_at 10 bytes → text_in_lines (lines_of bytes) ≡ Err Truncated
+text_none bytes e = ap text_in_lines (lines_none bytes e)
 
 pub ruleset whole = (text_at, text_none)
 

@@ -29,7 +29,7 @@ use Rattle.transcript_text.specs.MoveLists.{qid_of, move_if, moves_of_claims, mo
 use Rattle.tournament.specs.Numbers.{IsProver, AreNumbered, IsOfProvers, RecordsAreOfProvers}
 use Rattle.transcript_text.specs.StatedVerdict.{settled_at, given_claim, stated_claim, stated_of, VerdictsAreStated}
 use Rattle.transcript_text.specs.FullLines.{HasWireForm, AreWritten}
-use Rattle.transcript_text.specs.Laws.{parts_of}
+use Rattle.transcript_text.specs.Laws.{text_parts}
 use Rattle.transcript_text.specs.reader.InLimits.{AreBytes, IsHeadInLimits, IsMoveInLimits, AreMovesInLimits, IsStatusInLimits, IsStatedInLimits, IsInLimits}
 use Rattle.transcript_text.specs.reader.Laws.{IsHeadOf, HasStrings, IsReadBack, ReadsRecordsBack, MatchesAreReadBack}
 use Rattle.transcript_text.proofs.read_back.LimitLemmas.{moves-both}
@@ -164,7 +164,7 @@ stated-limits claims (verdict.Collision x y) s w strings e = subst IsStatedInLim
 -- the whole match
 
 parts-in-limits : RecordsAreOfProvers → FewDisputes → FewRounds → (rules : Rules) (xs : List Post) (head : Head) (s : Stated) → ArePlayable rules → IsHeadOf rules head → IsHeadInLimits head →
-    AreWritten (moves_of (record_after rules xs)) → HasStrings (verdict_of rules (record_after rules xs)) → stated_of (record_after rules xs).claims (verdict_of rules (record_after rules xs)) ≡ Some s → IsInLimits (parts_of head (record_after rules xs) s)
+    AreWritten (moves_of (record_after rules xs)) → HasStrings (verdict_of rules (record_after rules xs)) → stated_of (record_after rules xs).claims (verdict_of rules (record_after rules xs)) ≡ Some s → IsInLimits (text_parts head (record_after rules xs) s)
 parts-in-limits of_provers few_disputes few_rounds rules xs head s playable of limits written strings is =
     let r : Record = record_after rules xs in
     let numbers : IsOfProvers rules.setup.provers (record_after rules xs) = of_provers rules xs in
@@ -192,5 +192,5 @@ parts-in-limits of_provers few_disputes few_rounds rules xs head s playable of l
 pub matches-are-read-back : ReadsRecordsBack → VerdictsAreStated → RecordsAreOfProvers → FewDisputes → FewRounds → MatchesAreReadBack
 matches-are-read-back back is_stated of_provers few_disputes few_rounds rules xs head playable of limits written strings =
     let st = is_stated rules (record_after rules xs) in
-    let i : IsInLimits (parts_of head (record_after rules xs) st.0) = parts-in-limits of_provers few_disputes few_rounds rules xs head st.0 playable of limits written strings st.1 in
+    let i : IsInLimits (text_parts head (record_after rules xs) st.0) = parts-in-limits of_provers few_disputes few_rounds rules xs head st.0 playable of limits written strings st.1 in
     record { stated = st.0; of_verdict = st.1; in_limits = i; read = back head (record_after rules xs) (verdict_of rules (record_after rules xs)) st.0 st.1 i }

@@ -16,7 +16,7 @@ use Rattle.proof_wire.specs.Reading.{answer_in}
 use Rattle.transcript_text.specs.declared.reader.fault.LineFault.{LineFault}
 use Rattle.transcript_text.specs.declared.reader.fault.LineFault.TheVariants.{NoForm}
 use Rattle.transcript_text.specs.reader.TextLines.{Lines, tail, line, begun_with, lines_of, cut_front, cut_at}
-use Rattle.transcript_text.specs.reader.Fields.{after, skip, is_digit, with_digit, digits_at, number_at, small_number_at, are_lower, or_no_form, hex_of, some_hex_of, digest_of, answer_of}
+use Rattle.transcript_text.specs.reader.Fields.{behind_word, skip_word, is_digit, with_digit, digits_at, decimal_at, small_number_at, are_lower, or_no_form, bytes_in_hex, some_bytes_in_hex, digest_in_hex, answer_in_hex}
 use Rattle.transcript_text.specs.FullLines.{wire_text}
 
 pub is-eqb : (a b : ℕ) → (a == b) ≡ true → a ≡ b
@@ -35,7 +35,7 @@ ok-same x y e = cc
 
 -- words
 
-pub after-is : (word bytes rest : List ℕ) → after word bytes ≡ Some rest → bytes ≡ word ++ rest
+pub after-is : (word bytes rest : List ℕ) → behind_word word bytes ≡ Some rest → bytes ≡ word ++ rest
 after-is [] bytes rest e = cc
 after-is (w ∷ ws) [] rest e = absurd (cc)
 after-is (w ∷ ws) (b ∷ bs) rest e =
@@ -48,8 +48,8 @@ skip-by : (o : Option (List ℕ)) (rest : List ℕ) → ok_or o NoForm ≡ Ok re
 skip-by (Some x) rest e = ap Some (ok-same x rest e)
 skip-by None rest e = absurd (cc)
 
-pub skip-is : (word bytes rest : List ℕ) → skip word bytes ≡ Ok rest → bytes ≡ word ++ rest
-skip-is word bytes rest e = after-is word bytes rest (skip-by (after word bytes) rest e)
+pub skip-is : (word bytes rest : List ℕ) → skip_word word bytes ≡ Ok rest → bytes ≡ word ++ rest
+skip-is word bytes rest e = after-is word bytes rest (skip-by (behind_word word bytes) rest e)
 
 -- numbers
 
@@ -133,8 +133,8 @@ number-by n b bs rest false true ex ey few e =
     rw (i.spelled, d, one) (ap (λ (xs : List ℕ). b ∷ xs) i.is)
 number-by n b bs rest false false ex ey few e = absurd (cc)
 
-pub number-is : (n : ℕ) (bytes rest : List ℕ) → number_at bytes ≡ Ok (n, rest) → n < 4294967296 → bytes ≡ decimal n ++ rest
-unfolding number_at
+pub number-is : (n : ℕ) (bytes rest : List ℕ) → decimal_at bytes ≡ Ok (n, rest) → n < 4294967296 → bytes ≡ decimal n ++ rest
+unfolding decimal_at
 number-is n [] rest e few = absurd (cc)
 number-is n (b ∷ bs) rest e few = number-by n b bs rest (b == 48) (is_digit b) refl refl few e
 
@@ -142,7 +142,7 @@ pub record IsSmall (n : ℕ) (bytes rest : List ℕ) : Type 0 where
   pub few : n < 4294967296
   pub is : bytes ≡ decimal n ++ rest
 
-small-by : (x : ℕ × List ℕ) (n : ℕ) (bytes rest : List ℕ) (b : Bool) → number_at bytes ≡ Ok x → nat_lt x.0 4294967296 ≡ b → (if b then Ok x else Err NoForm) ≡ Ok (n, rest) → IsSmall n bytes rest
+small-by : (x : ℕ × List ℕ) (n : ℕ) (bytes rest : List ℕ) (b : Bool) → decimal_at bytes ≡ Ok x → nat_lt x.0 4294967296 ≡ b → (if b then Ok x else Err NoForm) ≡ Ok (n, rest) → IsSmall n bytes rest
 small-by x n bytes rest true is lt e =
     let p : x ≡ (n, rest) = ok-same x (n, rest) e in
     let few : n < 4294967296 = (let f : x.0 < 4294967296 = grind (arith, nat_tests) in let same : x.0 ≡ n = ap (λ (y : ℕ × List ℕ). y.0) p in omega (arith, f, same)) in
@@ -152,7 +152,7 @@ small-by x n bytes rest false is lt e = absurd (cc)
 pub small-is : (n : ℕ) (bytes rest : List ℕ) → small_number_at bytes ≡ Ok (n, rest) → IsSmall n bytes rest
 unfolding small_number_at
 small-is n bytes rest e =
-    let b = bind-ok (number_at bytes) _ (n, rest) e in
+    let b = bind-ok (decimal_at bytes) _ (n, rest) e in
     small-by b.0 n bytes rest (nat_lt (b.0).0 4294967296) b.1 refl b.2
 
 -- hexadecimal digits
@@ -171,37 +171,37 @@ hex-by digits xs true l e =
     record { is = decoded-are digits xs l d; bytes = decoded-bytes digits xs d }
 hex-by digits xs false l e = absurd (cc)
 
-pub hex-is : (digits xs : List ℕ) → hex_of digits ≡ Ok xs → IsHexOf xs digits
-unfolding hex_of
+pub hex-is : (digits xs : List ℕ) → bytes_in_hex digits ≡ Ok xs → IsHexOf xs digits
+unfolding bytes_in_hex
 hex-is digits xs e = hex-by digits xs (are_lower digits) refl e
 
-some-by : (digits ys xs : List ℕ) (b : Bool) → hex_of digits ≡ Ok ys → (if b then Err NoForm else Ok ys) ≡ Ok xs → IsHexOf xs digits
+some-by : (digits ys xs : List ℕ) (b : Bool) → bytes_in_hex digits ≡ Ok ys → (if b then Err NoForm else Ok ys) ≡ Ok xs → IsHexOf xs digits
 some-by digits ys xs true h e = absurd (cc)
 some-by digits ys xs false h e = hex-is digits xs (h ∙ ap Ok (ok-same ys xs e))
 
-pub some-hex-is : (digits xs : List ℕ) → some_hex_of digits ≡ Ok xs → IsHexOf xs digits
-unfolding some_hex_of
-some-hex-is digits xs e = let b = bind-ok (hex_of digits) _ xs e in some-by digits b.0 xs (length b.0 == 0) b.1 b.2
+pub some-hex-is : (digits xs : List ℕ) → some_bytes_in_hex digits ≡ Ok xs → IsHexOf xs digits
+unfolding some_bytes_in_hex
+some-hex-is digits xs e = let b = bind-ok (bytes_in_hex digits) _ xs e in some-by digits b.0 xs (length b.0 == 0) b.1 b.2
 
-digest-by : (digits ys : List ℕ) (d : Digest32) (b : Bool) → hex_of digits ≡ Ok ys → (if b then okay {E = LineFault} (let x : Digest32 = record { 0 = ys } in x) else Err NoForm) ≡ Ok d → digits ≡ encode_lower d.0
+digest-by : (digits ys : List ℕ) (d : Digest32) (b : Bool) → bytes_in_hex digits ≡ Ok ys → (if b then okay {E = LineFault} (let x : Digest32 = record { 0 = ys } in x) else Err NoForm) ≡ Ok d → digits ≡ encode_lower d.0
 digest-by digits ys d true h e =
     let i : IsHexOf ys digits = hex-is digits ys h in
     i.is ∙ ap (λ (x : Digest32). encode_lower x.0) (ok-same (let x : Digest32 = record { 0 = ys } in x) d e)
 digest-by digits ys d false h e = absurd (cc)
 
-pub digest-is : (digits : List ℕ) (d : Digest32) → digest_of digits ≡ Ok d → digits ≡ encode_lower d.0
-unfolding digest_of
-digest-is digits d e = let b = bind-ok (hex_of digits) _ d e in digest-by digits b.0 d (length b.0 == 32) b.1 b.2
+pub digest-is : (digits : List ℕ) (d : Digest32) → digest_in_hex digits ≡ Ok d → digits ≡ encode_lower d.0
+unfolding digest_in_hex
+digest-is digits d e = let b = bind-ok (bytes_in_hex digits) _ d e in digest-by digits b.0 d (length b.0 == 32) b.1 b.2
 
 -- answers: bytes that are read as an answer spell it
 
 abbrev pub WireSpells : Type 0
 WireSpells = (answer : Answer) (bytes : List ℕ) → AreBytes bytes → answer_in bytes ≡ Ok answer → Spells answer bytes
 
-pub answer-is : WireSpells → (digits : List ℕ) (a : Answer) → answer_of digits ≡ Ok a → digits ≡ wire_text a
-unfolding answer_of wire_text
+pub answer-is : WireSpells → (digits : List ℕ) (a : Answer) → answer_in_hex digits ≡ Ok a → digits ≡ wire_text a
+unfolding answer_in_hex wire_text
 answer-is wire digits a e =
-    let b = bind-ok (hex_of digits) _ a e in
+    let b = bind-ok (bytes_in_hex digits) _ a e in
     let i : IsHexOf b.0 digits = hex-is digits b.0 b.1 in
     let s : Spells a b.0 = wire a b.0 i.bytes (or-ok (answer_in b.0) a b.2) in
     i.is ∙ ap encode_lower s.1

@@ -7,7 +7,7 @@ use Rattle.std.proofs.lemmas.Slice.Eq.{bytes_eq-Decides}
 use Rattle.std.proofs.lemmas.Bool.{and_parts}
 use Rattle.hex.specs.Hex.{encode_lower}
 use Rattle.rd_base.specs.Status.{status_text}
-use Rattle.transcript_text.specs.Digest.{digest_text, digests}
+use Rattle.transcript_text.specs.Digest.{digest_text, digest_names}
 use Rattle.transcript_text.specs.declared.text.DigestName.{DigestName}
 use Rattle.transcript_text.specs.Report.{output_text}
 use Rattle.transcript_text.specs.declared.reader.fault.LineFault.{LineFault}
@@ -24,11 +24,11 @@ use Rattle.transcript_text.specs.declared.text.Stated.TheVariants as stated
 use Rattle.transcript_text.specs.declared.text.FullText.{FullText}
 use Rattle.transcript_text.specs.FullLines.{refereed_text, asked_text, settled_text, move_text, moves_text, text_of}
 use Rattle.transcript_text.specs.reader.TextLines.{Lines, tail, line, lines_of, cut_at}
-use Rattle.transcript_text.specs.reader.Fields.{after, skip, number_at, number_after, hex_of, some_hex_of, digest_of, name_or, name_among, name_at}
+use Rattle.transcript_text.specs.reader.Fields.{behind_word, skip_word, decimal_at, number_after, bytes_in_hex, some_bytes_in_hex, digest_in_hex, name_or, name_among, name_at}
 use Rattle.transcript_text.specs.reader.Entries.{head_in, move_in, status_at, output_in, accepted_in, string_in, collided_in, collided_or_none, accepted_or_not, verdict_in, move_or_verdict, entry_in}
-use Rattle.transcript_text.specs.reader.ReadText.{is_prover, are_in_limits, head_of, head_with, ended, line_read, later, rest_with, text_in, read_text}
+use Rattle.transcript_text.specs.reader.ReadText.{is_prover, are_in_limits, head_of_numbers, head_with, after_verdict, line_read, later, rest_with, text_in_lines, read_text}
 use Rattle.transcript_text.specs.reader.Laws.{stated_text}
-use Rattle.transcript_text.specs.Limits.{is_within, provers_limit, bound_limit, patience_limit, version_limit, fan_limit}
+use Rattle.transcript_text.specs.Limits.{is_in_limit, provers_limit, bound_limit, patience_limit, version_limit, fan_limit}
 use Rattle.transcript_text.specs.declared.limits.Limit.{Limit}
 use Rattle.transcript_text.proofs.read_back.SpellLemmas.{bind-ok, okay, ok-same, after-is, skip-is, number-is, some-hex-is, digest-is, joined, joined-lines, cut-is, WireSpells}
 use Rattle.transcript_text.proofs.read_back.EntrySpellLemmas.{move-spelled, move-is, status-is}
@@ -36,8 +36,8 @@ use Rattle.transcript_text.proofs.read_back.BackLemmas.{stated-line, head-spelle
 
 -- the verdict
 
-output-by : (b : ℕ) (bytes digits output : List ℕ) → skip (codes " ") (b ∷ bytes) ≡ Ok digits → some_hex_of digits ≡ Ok output → b ∷ bytes ≡ output_text output
-unfolding some_hex_of
+output-by : (b : ℕ) (bytes digits output : List ℕ) → skip_word (codes " ") (b ∷ bytes) ≡ Ok digits → some_bytes_in_hex digits ≡ Ok output → b ∷ bytes ≡ output_text output
+unfolding some_bytes_in_hex
 output-by b bytes digits [] is e = absurd (none-read digits e)
   where
     none-by : (ys : List ℕ) (c : Bool) → (length ys == 0) ≡ c → (if c then Err NoForm else Ok ys) ≡ Ok [] → ⊥
@@ -45,20 +45,20 @@ output-by b bytes digits [] is e = absurd (none-read digits e)
     none-by [] false z h = cc
     none-by (y ∷ ys) false z h = let q : y ∷ ys ≡ [] = ok-same (y ∷ ys) [] h in cc
 
-    none-read : (ds : List ℕ) → some_hex_of ds ≡ Ok [] → ⊥
-    none-read ds h = let q = bind-ok (hex_of ds) _ [] h in none-by q.0 (length q.0 == 0) refl q.2
+    none-read : (ds : List ℕ) → some_bytes_in_hex ds ≡ Ok [] → ⊥
+    none-read ds h = let q = bind-ok (bytes_in_hex ds) _ [] h in none-by q.0 (length q.0 == 0) refl q.2
 output-by b bytes digits (o ∷ output) is e = skip-is (codes " ") (b ∷ bytes) digits is ∙ ap (λ (xs : List ℕ). codes " " ++ xs) (some-hex-is digits (o ∷ output) e).is
 
 output-is : (bytes output : List ℕ) → output_in bytes ≡ Ok output → bytes ≡ output_text output
 unfolding output_in
 output-is [] output e = ap output_text (ok-same [] output e)
-output-is (b ∷ bytes) output e = let q = bind-ok (skip (codes " ") (b ∷ bytes)) some_hex_of output e in output-by b bytes q.0 output q.1 q.2
+output-is (b ∷ bytes) output e = let q = bind-ok (skip_word (codes " ") (b ∷ bytes)) some_bytes_in_hex output e in output-by b bytes q.0 output q.1 q.2
 
 accepted-is : (bytes : List ℕ) (s : Stated) → accepted_in bytes ≡ Ok s → (codes "accept " ++ bytes) ≡ stated_text s
 unfolding accepted_in
 accepted-is bytes s e =
     let b1 = bind-ok (status_at bytes) _ s e in
-    let b2 = bind-ok (skip (codes " output") (b1.0).1) _ s b1.2 in
+    let b2 = bind-ok (skip_word (codes " output") (b1.0).1) _ s b1.2 in
     let b3 = bind-ok (output_in b2.0) _ s b2.2 in
     let same : stated.Accept (b1.0).0 b3.0 ≡ s = ok-same (stated.Accept (b1.0).0 b3.0) s b3.2 in
     let s1 : bytes ≡ status_text (b1.0).0 ++ (b1.0).1 = status-is bytes (b1.0).1 (b1.0).0 b1.1 in
@@ -68,13 +68,13 @@ accepted-is bytes s e =
     (s1 ∙ (ap (λ (xs : List ℕ). status_text (b1.0).0 ++ xs) (s2 ∙ ap (λ (xs : List ℕ). codes " output" ++ xs) s3) ∙ sym (append_assoc (status_text (b1.0).0) (codes " output") (output_text b3.0))))
     ∙ ap stated_text same
 
-string-by : (digits ys xs : List ℕ) (c : Bool) → some_hex_of digits ≡ Ok ys → (if c then Err NoForm else Ok ys) ≡ Ok xs → digits ≡ encode_lower xs
+string-by : (digits ys xs : List ℕ) (c : Bool) → some_bytes_in_hex digits ≡ Ok ys → (if c then Err NoForm else Ok ys) ≡ Ok xs → digits ≡ encode_lower xs
 string-by digits ys xs true is e = absurd (cc)
 string-by digits ys xs false is e = (some-hex-is digits xs (is ∙ ap Ok (ok-same ys xs e))).is
 
 string-is : (digits xs : List ℕ) → string_in digits ≡ Ok xs → digits ≡ encode_lower xs
 unfolding string_in
-string-is digits xs e = let b = bind-ok (some_hex_of digits) _ xs e in string-by digits b.0 xs (nat_lt 129 (length b.0)) b.1 b.2
+string-is digits xs e = let b = bind-ok (some_bytes_in_hex digits) _ xs e in string-by digits b.0 xs (nat_lt 129 (length b.0)) b.1 b.2
 
 cut-by : (o : Option (List ℕ × List ℕ)) (x : List ℕ × List ℕ) → ok_or o NoForm ≡ Ok x → o ≡ Some x
 cut-by (Some y) x e = ap Some (ok-same y x e)
@@ -97,13 +97,13 @@ left-by : (bytes : List ℕ) (s : Stated) (c : Bool) → bytes_eq bytes (codes "
 left-by bytes s true is e = (bytes_eq-Decides bytes (codes "none left")).0 is ∙ ap stated_text (ok-same stated.NoneLeft s e)
 left-by bytes s false is e = absurd (cc)
 
-collided-by : (bytes : List ℕ) (s : Stated) (o : Option (List ℕ)) → after (codes "collision ") bytes ≡ o → collided_or_none bytes o ≡ Ok s → bytes ≡ stated_text s
+collided-by : (bytes : List ℕ) (s : Stated) (o : Option (List ℕ)) → behind_word (codes "collision ") bytes ≡ o → collided_or_none bytes o ≡ Ok s → bytes ≡ stated_text s
 collided-by bytes s (Some rest) is e = after-is (codes "collision ") bytes rest is ∙ collided-is rest s e
 collided-by bytes s None is e = left-by bytes s (bytes_eq bytes (codes "none left")) refl e
 
-accepted-by : (bytes : List ℕ) (s : Stated) (o : Option (List ℕ)) → after (codes "accept ") bytes ≡ o → accepted_or_not bytes o ≡ Ok s → bytes ≡ stated_text s
+accepted-by : (bytes : List ℕ) (s : Stated) (o : Option (List ℕ)) → behind_word (codes "accept ") bytes ≡ o → accepted_or_not bytes o ≡ Ok s → bytes ≡ stated_text s
 accepted-by bytes s (Some rest) is e = after-is (codes "accept ") bytes rest is ∙ accepted-is rest s e
-accepted-by bytes s None is e = collided-by bytes s (after (codes "collision ") bytes) refl e
+accepted-by bytes s None is e = collided-by bytes s (behind_word (codes "collision ") bytes) refl e
 
 -- lines
 
@@ -118,18 +118,18 @@ move-nested m =
     ≡ decimal m.qid.dispute ++ (codes " " ++ (decimal m.qid.round ++ (codes " p" ++ (decimal m.prover ++ (codes " " ++ settled_text m.settled))))) = simp append_assoc in
     ap (λ (xs : List ℕ). codes "move " ++ xs) (sym e)
 
-entry-by : WireSpells → (bytes : List ℕ) (x : Entry) (o : Option (List ℕ)) → after (codes "move ") bytes ≡ o → move_or_verdict bytes o ≡ Ok x → bytes ≡ entry_text x
+entry-by : WireSpells → (bytes : List ℕ) (x : Entry) (o : Option (List ℕ)) → behind_word (codes "move ") bytes ≡ o → move_or_verdict bytes o ≡ Ok x → bytes ≡ entry_text x
 unfolding entry_text verdict_in
 entry-by wire bytes x (Some rest) is e =
     let b = bind-ok (move_in rest) (λ m. Ok (Move m)) x e in
     after-is (codes "move ") bytes rest is ∙ (ap (λ (xs : List ℕ). codes "move " ++ xs) (move-is wire rest b.0 b.1) ∙ (move-nested b.0 ∙ ap entry_text (ok-same (Move b.0) x b.2)))
 entry-by wire bytes x None is e =
     let b = bind-ok (verdict_in bytes) (λ s. Ok (Verdict s)) x e in
-    accepted-by bytes b.0 (after (codes "accept ") bytes) refl b.1 ∙ ap entry_text (ok-same (Verdict b.0) x b.2)
+    accepted-by bytes b.0 (behind_word (codes "accept ") bytes) refl b.1 ∙ ap entry_text (ok-same (Verdict b.0) x b.2)
 
 entry-is : WireSpells → (bytes : List ℕ) (x : Entry) → entry_in bytes ≡ Ok x → bytes ≡ entry_text x
 unfolding entry_in
-entry-is wire bytes x e = entry-by wire bytes x (after (codes "move ") bytes) refl e
+entry-is wire bytes x e = entry-by wire bytes x (behind_word (codes "move ") bytes) refl e
 
 -- the lines from one on are those of moves and of a verdict
 pub record IsRest (moves all : List TextMove) (s : Stated) (ls : Lines) : Type 0 where
@@ -143,7 +143,7 @@ pair-same a b e = cc
 abbrev cut_off : Result (List TextMove × Stated) TextFault
 cut_off = Err Truncated
 
-ended-is : (n : ℕ) (moves all : List TextMove) (s z : Stated) (l : List ℕ) (ls : Lines) → l ≡ stated_text s → ended n moves s ls ≡ Ok (all, z) → IsRest moves all z (line l ls)
+ended-is : (n : ℕ) (moves all : List TextMove) (s z : Stated) (l : List ℕ) (ls : Lines) → l ≡ stated_text s → after_verdict n moves s ls ≡ Ok (all, z) → IsRest moves all z (line l ls)
 unfolding joined
 ended-is n moves all s z l (tail []) is e =
     let p : (moves, s) ≡ (all, z) = pair-same (moves, s) (all, z) e in
@@ -184,9 +184,9 @@ later-is wire provers n moves all s (line l ls) e = by (entry_in l) refl e (λ k
 
 name-by : (ds : List DigestName) (bytes rest : List ℕ) (d : DigestName) → name_among ds bytes ≡ Ok (d, rest) → bytes ≡ digest_text d ++ rest
 name-by [] bytes rest d e = absurd (cc)
-name-by (x ∷ xs) bytes rest d e = by (after (digest_text x) bytes) refl e (name-by xs bytes rest d)
+name-by (x ∷ xs) bytes rest d e = by (behind_word (digest_text x) bytes) refl e (name-by xs bytes rest d)
   where
-    by : (o : Option (List ℕ)) → after (digest_text x) bytes ≡ o → name_or x o (name_among xs bytes) ≡ Ok (d, rest) → (name_among xs bytes ≡ Ok (d, rest) → bytes ≡ digest_text d ++ rest) → bytes ≡ digest_text d ++ rest
+    by : (o : Option (List ℕ)) → behind_word (digest_text x) bytes ≡ o → name_or x o (name_among xs bytes) ≡ Ok (d, rest) → (name_among xs bytes ≡ Ok (d, rest) → bytes ≡ digest_text d ++ rest) → bytes ≡ digest_text d ++ rest
     by (Some behind) is h further =
         let p : (x, behind) ≡ (d, rest) = ok-same (x, behind) (d, rest) h in
         after-is (digest_text x) bytes behind is ∙ ap (λ (y : DigestName × List ℕ). digest_text y.0 ++ y.1) p
@@ -194,12 +194,12 @@ name-by (x ∷ xs) bytes rest d e = by (after (digest_text x) bytes) refl e (nam
 
 name-is : (bytes rest : List ℕ) (d : DigestName) → name_at bytes ≡ Ok (d, rest) → bytes ≡ digest_text d ++ rest
 unfolding name_at
-name-is bytes rest d e = name-by digests bytes rest d e
+name-is bytes rest d e = name-by digest_names bytes rest d e
 
 number-after-is : (word bytes rest : List ℕ) (n : ℕ) → number_after word bytes ≡ Ok (n, rest) → n < 4294967296 → bytes ≡ word ++ (decimal n ++ rest)
 unfolding number_after
 number-after-is word bytes rest n e few =
-    let b = bind-ok (skip word bytes) number_at (n, rest) e in
+    let b = bind-ok (skip_word word bytes) decimal_at (n, rest) e in
     skip-is word bytes b.0 b.1 ∙ ap (λ (xs : List ℕ). word ++ xs) (number-is n b.0 rest b.2 few)
 
 pub record AreSmall (h : HeadNumbers) : Type 0 where
@@ -209,7 +209,7 @@ pub record AreSmall (h : HeadNumbers) : Type 0 where
   pub version : h.version < 4294967296
   pub fan : h.fan < 4294967296
 
-head-is : (bytes : List ℕ) (h : HeadNumbers) → head_in bytes ≡ Ok h → AreSmall h → bytes ≡ head-spelled (head_of h)
+head-is : (bytes : List ℕ) (h : HeadNumbers) → head_in bytes ≡ Ok h → AreSmall h → bytes ≡ head-spelled (head_of_numbers h)
 unfolding head_in head-spelled
 head-is bytes h e small =
     let b1 = bind-ok (number_after (codes "refereed provers ") bytes) _ h e in
@@ -217,10 +217,10 @@ head-is bytes h e small =
     let b3 = bind-ok (number_after (codes " patience ") (b2.0).1) _ h b2.2 in
     let b4 = bind-ok (number_after (codes " version ") (b3.0).1) _ h b3.2 in
     let b5 = bind-ok (number_after (codes " fan ") (b4.0).1) _ h b4.2 in
-    let b6 = bind-ok (skip (codes " digest ") (b5.0).1) _ h b5.2 in
+    let b6 = bind-ok (skip_word (codes " digest ") (b5.0).1) _ h b5.2 in
     let b7 = bind-ok (name_at b6.0) _ h b6.2 in
-    let b8 = bind-ok (skip (codes " start ") (b7.0).1) _ h b7.2 in
-    let b9 = bind-ok (digest_of b8.0) _ h b8.2 in
+    let b8 = bind-ok (skip_word (codes " start ") (b7.0).1) _ h b7.2 in
+    let b9 = bind-ok (digest_in_hex b8.0) _ h b8.2 in
     let x : HeadNumbers = record { provers = (b1.0).0; bound = (b2.0).0; patience = (b3.0).0; version = (b4.0).0; fan = (b5.0).0; digest = (b7.0).0; start = b9.0 } in
     let same : x ≡ h = ok-same x h b9.2 in
     let l : AreSmall x = subst AreSmall (sym same) small in
@@ -241,9 +241,9 @@ head-is bytes h e small =
     ∙ ap (λ (xs : List ℕ). codes " patience " ++ (decimal (b3.0).0 ++ xs)) (s4
     ∙ ap (λ (xs : List ℕ). codes " version " ++ (decimal (b4.0).0 ++ xs)) (s5
     ∙ ap (λ (xs : List ℕ). codes " fan " ++ (decimal (b5.0).0 ++ xs)) t6))))
-    ∙ ap (λ (y : HeadNumbers). head-spelled (head_of y)) same)
+    ∙ ap (λ (y : HeadNumbers). head-spelled (head_of_numbers y)) same)
 
-within-few : (l : Limit) (n : ℕ) → l.most < 4294967296 → is_within l n ≡ true → n < 4294967296
+within-few : (l : Limit) (n : ℕ) → l.most < 4294967296 → is_in_limit l n ≡ true → n < 4294967296
 within-few l n few e =
     let parts : (nat_le l.least n ≡ true) × (nat_le n l.most ≡ true) = and_parts (nat_le l.least n) (nat_le n l.most) e in
     let most : nat_le n l.most ≡ true = parts.1 in
@@ -252,18 +252,18 @@ within-few l n few e =
 
 -- the numbers of a head, each within its limit
 pub record AreWithin (h : HeadNumbers) : Type 0 where
-  pub provers : is_within provers_limit h.provers ≡ true
-  pub bound : is_within bound_limit h.bound ≡ true
-  pub patience : is_within patience_limit h.patience ≡ true
-  pub version : is_within version_limit h.version ≡ true
-  pub fan : is_within fan_limit h.fan ≡ true
+  pub provers : is_in_limit provers_limit h.provers ≡ true
+  pub bound : is_in_limit bound_limit h.bound ≡ true
+  pub patience : is_in_limit patience_limit h.patience ≡ true
+  pub version : is_in_limit version_limit h.version ≡ true
+  pub fan : is_in_limit fan_limit h.fan ≡ true
 
 pub are-within : (h : HeadNumbers) → are_in_limits h ≡ true → AreWithin h
 are-within h e =
-    let p1 : (is_within provers_limit h.provers ≡ true) × ((is_within bound_limit h.bound && (is_within patience_limit h.patience && (is_within version_limit h.version && is_within fan_limit h.fan))) ≡ true) = and_parts _ _ e in
-    let p2 : (is_within bound_limit h.bound ≡ true) × ((is_within patience_limit h.patience && (is_within version_limit h.version && is_within fan_limit h.fan)) ≡ true) = and_parts _ _ p1.1 in
-    let p3 : (is_within patience_limit h.patience ≡ true) × ((is_within version_limit h.version && is_within fan_limit h.fan) ≡ true) = and_parts _ _ p2.1 in
-    let p4 : (is_within version_limit h.version ≡ true) × (is_within fan_limit h.fan ≡ true) = and_parts _ _ p3.1 in
+    let p1 : (is_in_limit provers_limit h.provers ≡ true) × ((is_in_limit bound_limit h.bound && (is_in_limit patience_limit h.patience && (is_in_limit version_limit h.version && is_in_limit fan_limit h.fan))) ≡ true) = and_parts _ _ e in
+    let p2 : (is_in_limit bound_limit h.bound ≡ true) × ((is_in_limit patience_limit h.patience && (is_in_limit version_limit h.version && is_in_limit fan_limit h.fan)) ≡ true) = and_parts _ _ p1.1 in
+    let p3 : (is_in_limit patience_limit h.patience ≡ true) × ((is_in_limit version_limit h.version && is_in_limit fan_limit h.fan) ≡ true) = and_parts _ _ p2.1 in
+    let p4 : (is_in_limit version_limit h.version ≡ true) × (is_in_limit fan_limit h.fan ≡ true) = and_parts _ _ p3.1 in
     record { provers = p1.0; bound = p2.0; patience = p3.0; version = p4.0; fan = p4.1 }
 
 small-limits : (h : HeadNumbers) → are_in_limits h ≡ true → AreSmall h
@@ -284,14 +284,14 @@ head-by : (bytes : List ℕ) (r : Result HeadNumbers LineFault) (h : Head) → h
 head-by bytes (Err f) h is e = absurd (cc)
 head-by bytes (Ok n) h is e = by (are_in_limits n) refl e
   where
-    by : (c : Bool) → are_in_limits n ≡ c → (if c then Ok (head_of n) else Err (OutOfRange 1)) ≡ Ok h → bytes ≡ refereed_text h
-    by true limits k = head-is bytes n is (small-limits n limits) ∙ (ap head-spelled (head-same (head_of n) h k) ∙ sym (head-nested h))
+    by : (c : Bool) → are_in_limits n ≡ c → (if c then Ok (head_of_numbers n) else Err (OutOfRange 1)) ≡ Ok h → bytes ≡ refereed_text h
+    by true limits k = head-is bytes n is (small-limits n limits) ∙ (ap head-spelled (head-same (head_of_numbers n) h k) ∙ sym (head-nested h))
     by false limits k = absurd (cc)
 
 pub text-same : (a b : FullText) → okay {E = TextFault} a ≡ Ok b → a ≡ b
 text-same a b e = cc
 
-text-by : WireSpells → (ls : Lines) (x : FullText) → text_in ls ≡ Ok x → joined ls ≡ text_of x
+text-by : WireSpells → (ls : Lines) (x : FullText) → text_in_lines ls ≡ Ok x → joined ls ≡ text_of x
 unfolding joined
 text-by wire (tail t) x e = absurd (cc)
 text-by wire (line l ls) x e =

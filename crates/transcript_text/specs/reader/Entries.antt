@@ -15,7 +15,7 @@ use Rattle.transcript_text.specs.declared.reader.entries.Entry.{Entry}
 use Rattle.transcript_text.specs.declared.reader.entries.Entry.TheVariants.{Move, Verdict}
 use Rattle.transcript_text.specs.declared.reader.entries.HeadNumbers.{HeadNumbers}
 use Rattle.transcript_text.specs.reader.TextLines.{cut_at}
-use Rattle.transcript_text.specs.reader.Fields.{Read, after, skip, small_number_at, number_after, some_hex_of, digest_of, answer_of, name_at}
+use Rattle.transcript_text.specs.reader.Fields.{Read, behind_word, skip_word, small_number_at, number_after, some_bytes_in_hex, digest_in_hex, answer_in_hex, name_at}
 
 -- THE HEAD: `refereed provers M bound N patience P version V fan F digest NAME start HEX`
 unfoldable pub head_in : List ℕ → Result HeadNumbers LineFault
@@ -25,35 +25,35 @@ head_in line = do
   patience ← number_after (codes " patience ") bound.1
   version ← number_after (codes " version ") patience.1
   fan ← number_after (codes " fan ") version.1
-  digits ← skip (codes " digest ") fan.1
+  digits ← skip_word (codes " digest ") fan.1
   name ← name_at digits
-  root ← skip (codes " start ") name.1
-  start ← digest_of root
+  root ← skip_word (codes " start ") name.1
+  start ← digest_in_hex root
   Ok (record { provers = provers.0; bound = bound.0; patience = patience.0; version = version.0; fan = fan.0; digest = name.0; start = start })
 
 -- A MOVE: `move D R pI given HEX`, `move D R pI faulty HEX` or `move D R pI spent`
 
 abbrev pub faulty_or_spent : List ℕ → Option (List ℕ) → Result Settled LineFault
-faulty_or_spent bytes (Some digits) = answer_of digits >>= (λ a. Ok (Faulty a))
+faulty_or_spent bytes (Some digits) = answer_in_hex digits >>= (λ a. Ok (Faulty a))
 faulty_or_spent bytes None = if bytes_eq bytes (codes "spent") then Ok Spent else Err NoForm
 
 abbrev pub given_or_not : List ℕ → Option (List ℕ) → Result Settled LineFault
-given_or_not bytes (Some digits) = answer_of digits >>= (λ a. Ok (Given a))
-given_or_not bytes None = faulty_or_spent bytes (after (codes "faulty ") bytes)
+given_or_not bytes (Some digits) = answer_in_hex digits >>= (λ a. Ok (Given a))
+given_or_not bytes None = faulty_or_spent bytes (behind_word (codes "faulty ") bytes)
 
-unfoldable pub settled_in : List ℕ → Result Settled LineFault
-settled_in bytes = given_or_not bytes (after (codes "given ") bytes)
+unfoldable pub settlement_in : List ℕ → Result Settled LineFault
+settlement_in bytes = given_or_not bytes (behind_word (codes "given ") bytes)
 
 -- behind `move `
 unfoldable pub move_in : List ℕ → Result TextMove LineFault
 move_in bytes = do
   dispute ← small_number_at bytes
-  behind ← skip (codes " ") dispute.1
+  behind ← skip_word (codes " ") dispute.1
   round ← small_number_at behind
-  name ← skip (codes " p") round.1
+  name ← skip_word (codes " p") round.1
   prover ← small_number_at name
-  rest ← skip (codes " ") prover.1
-  s ← settled_in rest
+  rest ← skip_word (codes " ") prover.1
+  s ← settlement_in rest
   Ok (record { qid = record { dispute = dispute.0; round = round.0 }; prover = prover.0; settled = s })
 
 -- THE VERDICT: `accept STATE output`, with a space and bytes if there are any, `none left` or `collision HEX HEX`
@@ -67,31 +67,31 @@ trapped_or_not None = Err NoForm
 
 abbrev pub exited_or_not : List ℕ → Option (List ℕ) → Read Status
 exited_or_not bytes (Some code) = small_number_at code >>= coded Exited
-exited_or_not bytes None = trapped_or_not (after (codes "trapped ") bytes)
+exited_or_not bytes None = trapped_or_not (behind_word (codes "trapped ") bytes)
 
 abbrev pub running_or_not : List ℕ → Option (List ℕ) → Read Status
 running_or_not bytes (Some rest) = Ok (Running, rest)
-running_or_not bytes None = exited_or_not bytes (after (codes "exited ") bytes)
+running_or_not bytes None = exited_or_not bytes (behind_word (codes "exited ") bytes)
 
 unfoldable pub status_at : List ℕ → Read Status
-status_at bytes = running_or_not bytes (after (codes "running") bytes)
+status_at bytes = running_or_not bytes (behind_word (codes "running") bytes)
 
 unfoldable pub output_in : List ℕ → Result (List ℕ) LineFault
 output_in [] = Ok []
-output_in (b ∷ bytes) = skip (codes " ") (b ∷ bytes) >>= some_hex_of
+output_in (b ∷ bytes) = skip_word (codes " ") (b ∷ bytes) >>= some_bytes_in_hex
 
 -- behind `accept `
 unfoldable pub accepted_in : List ℕ → Result Stated LineFault
 accepted_in bytes = do
   status ← status_at bytes
-  rest ← skip (codes " output") status.1
+  rest ← skip_word (codes " output") status.1
   output ← output_in rest
   Ok (stated.Accept status.0 output)
 
 -- a string that is digested: at most 129 bytes, and not none
 unfoldable pub string_in : List ℕ → Result (List ℕ) LineFault
 string_in digits = do
-  bytes ← some_hex_of digits
+  bytes ← some_bytes_in_hex digits
   if nat_lt 129 (length bytes) then Err NoForm else Ok bytes
 
 -- behind `collision `
@@ -108,10 +108,10 @@ collided_or_none bytes None = if bytes_eq bytes (codes "none left") then Ok stat
 
 abbrev pub accepted_or_not : List ℕ → Option (List ℕ) → Result Stated LineFault
 accepted_or_not bytes (Some rest) = accepted_in rest
-accepted_or_not bytes None = collided_or_none bytes (after (codes "collision ") bytes)
+accepted_or_not bytes None = collided_or_none bytes (behind_word (codes "collision ") bytes)
 
 unfoldable pub verdict_in : List ℕ → Result Stated LineFault
-verdict_in bytes = accepted_or_not bytes (after (codes "accept ") bytes)
+verdict_in bytes = accepted_or_not bytes (behind_word (codes "accept ") bytes)
 
 -- a later line: a move or the verdict
 
@@ -120,4 +120,4 @@ move_or_verdict bytes (Some rest) = move_in rest >>= (λ x. Ok (Move x))
 move_or_verdict bytes None = verdict_in bytes >>= (λ s. Ok (Verdict s))
 
 unfoldable pub entry_in : List ℕ → Result Entry LineFault
-entry_in bytes = move_or_verdict bytes (after (codes "move ") bytes)
+entry_in bytes = move_or_verdict bytes (behind_word (codes "move ") bytes)

@@ -7,7 +7,7 @@ use Rattle.rd_base.specs.declared.digest.Digest32.{Digest32}
 use Rattle.rd_base.specs.Results.{◌>>=◌}
 use Rattle.proof_wire.specs.Reading.{answer_in}
 use Rattle.transcript_text.specs.declared.text.DigestName.{DigestName}
-use Rattle.transcript_text.specs.Digest.{digest_text, digests}
+use Rattle.transcript_text.specs.Digest.{digest_text, digest_names}
 use Rattle.transcript_text.specs.declared.reader.fault.LineFault.{LineFault}
 use Rattle.transcript_text.specs.declared.reader.fault.LineFault.TheVariants.{NoForm}
 
@@ -16,13 +16,13 @@ abbrev pub Read : Type 0 → Type 0
 Read A = Result (A × List ℕ) LineFault
 
 -- the bytes behind a word, if they begin with it
-abbrev pub after : List ℕ → List ℕ → Option (List ℕ)
-after [] bytes = Some bytes
-after (w ∷ ws) [] = None
-after (w ∷ ws) (b ∷ bs) = if b == w then after ws bs else None
+abbrev pub behind_word : List ℕ → List ℕ → Option (List ℕ)
+behind_word [] bytes = Some bytes
+behind_word (w ∷ ws) [] = None
+behind_word (w ∷ ws) (b ∷ bs) = if b == w then behind_word ws bs else None
 
-abbrev pub skip : List ℕ → List ℕ → Result (List ℕ) LineFault
-skip word bytes = ok_or (after word bytes) NoForm
+abbrev pub skip_word : List ℕ → List ℕ → Result (List ℕ) LineFault
+skip_word word bytes = ok_or (behind_word word bytes) NoForm
 
 -- NUMBERS: decimal digits, of which the first is 0 only in the number 0. One that needs more than 32 bits is read as 2^32, which is
 -- beyond each limit.
@@ -39,19 +39,19 @@ abbrev pub digits_at : ℕ → List ℕ → ℕ × List ℕ
 digits_at n [] = (n, [])
 digits_at n (b ∷ bs) = if is_digit b then digits_at (with_digit n b) bs else (n, b ∷ bs)
 
-unfoldable pub number_at : List ℕ → Read ℕ
-number_at [] = Err NoForm
-number_at (b ∷ bs) = if b == 48 then Ok (0, bs) else if is_digit b then Ok (digits_at (b - 48) bs) else Err NoForm
+unfoldable pub decimal_at : List ℕ → Read ℕ
+decimal_at [] = Err NoForm
+decimal_at (b ∷ bs) = if b == 48 then Ok (0, bs) else if is_digit b then Ok (digits_at (b - 48) bs) else Err NoForm
 
 -- a number of at most 32 bits
 unfoldable pub small_number_at : List ℕ → Read ℕ
 small_number_at bytes = do
-  n ← number_at bytes
+  n ← decimal_at bytes
   if nat_lt n.0 4294967296 then Ok n else Err NoForm
 
 -- a number behind a word
 unfoldable pub number_after : List ℕ → List ℕ → Read ℕ
-number_after word bytes = skip word bytes >>= number_at
+number_after word bytes = skip_word word bytes >>= decimal_at
 
 -- HEXADECIMAL DIGITS of lower case, in pairs, to the end of the line
 
@@ -67,25 +67,25 @@ abbrev pub or_no_form : {A E : Type 0} → Result A E → Result A LineFault
 or_no_form (Ok x) = Ok x
 or_no_form (Err e) = Err NoForm
 
-unfoldable pub hex_of : List ℕ → Result (List ℕ) LineFault
-hex_of digits = if are_lower digits then or_no_form (decode_of digits) else Err NoForm
+unfoldable pub bytes_in_hex : List ℕ → Result (List ℕ) LineFault
+bytes_in_hex digits = if are_lower digits then or_no_form (decode_of digits) else Err NoForm
 
 -- at least one byte
-unfoldable pub some_hex_of : List ℕ → Result (List ℕ) LineFault
-some_hex_of digits = do
-  bytes ← hex_of digits
+unfoldable pub some_bytes_in_hex : List ℕ → Result (List ℕ) LineFault
+some_bytes_in_hex digits = do
+  bytes ← bytes_in_hex digits
   if length bytes == 0 then Err NoForm else Ok bytes
 
 -- 32 bytes
-unfoldable pub digest_of : List ℕ → Result Digest32 LineFault
-digest_of digits = do
-  bytes ← hex_of digits
+unfoldable pub digest_in_hex : List ℕ → Result Digest32 LineFault
+digest_in_hex digits = do
+  bytes ← bytes_in_hex digits
   if length bytes == 32 then Ok (record { 0 = bytes }) else Err NoForm
 
 -- an answer in its wire form
-unfoldable pub answer_of : List ℕ → Result Answer LineFault
-answer_of digits = do
-  bytes ← hex_of digits
+unfoldable pub answer_in_hex : List ℕ → Result Answer LineFault
+answer_in_hex digits = do
+  bytes ← bytes_in_hex digits
   or_no_form (answer_in bytes)
 
 -- THE NAME OF A DIGEST
@@ -97,7 +97,7 @@ name_or d None others = others
 -- the first of these with whose name the bytes begin
 abbrev pub name_among : List DigestName → List ℕ → Read DigestName
 name_among [] bytes = Err NoForm
-name_among (d ∷ ds) bytes = name_or d (after (digest_text d) bytes) (name_among ds bytes)
+name_among (d ∷ ds) bytes = name_or d (behind_word (digest_text d) bytes) (name_among ds bytes)
 
 unfoldable pub name_at : List ℕ → Read DigestName
-name_at bytes = name_among digests bytes
+name_at bytes = name_among digest_names bytes

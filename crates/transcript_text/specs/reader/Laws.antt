@@ -15,7 +15,7 @@ use Rattle.transcript_text.specs.StatedVerdict.{stated_of}
 use Rattle.transcript_text.specs.Lines.{line_of_stated}
 use Rattle.transcript_text.specs.Report.{answer_text, line_text}
 use Rattle.transcript_text.specs.FullLines.{full_text, text_of, AreWritten}
-use Rattle.transcript_text.specs.Laws.{parts_of}
+use Rattle.transcript_text.specs.Laws.{text_parts}
 use Rattle.transcript_text.specs.reader.InLimits.{AreBytes, IsHeadInLimits, IsStatusInLimits, IsString, IsInLimits}
 use Rattle.transcript_text.specs.reader.ReadText.{read_text}
 
@@ -53,8 +53,8 @@ ReadVerdictsAreOneLine = (bytes : List ℕ) (x : FullText) → read_text bytes �
 -- the full text of a record and a verdict is read as their parts, if these are within the limits
 abbrev pub ReadsRecordsBack : Type 0
 ReadsRecordsBack =
-    (head : Head) (r : Record) (v : Verdict) (s : Stated) → stated_of r.claims v ≡ Some s → IsInLimits (parts_of head r s) →
-    read_text (full_text head r v) ≡ Ok (parts_of head r s)
+    (head : Head) (r : Record) (v : Verdict) (s : Stated) → stated_of r.claims v ≡ Some s → IsInLimits (text_parts head r s) →
+    read_text (full_text head r v) ≡ Ok (text_parts head r s)
 
 -- A MATCH, whatever was posted
 
@@ -74,8 +74,8 @@ HasStrings (verdict.Collision x y) = IsString x × IsString y
 pub record IsReadBack (rules : Rules) (head : Head) (r : Record) : Type 0 where
   pub stated : Stated
   pub of_verdict : stated_of r.claims (verdict_of rules r) ≡ Some stated
-  pub in_limits : IsInLimits (parts_of head r stated)
-  pub read : read_text (full_text head r (verdict_of rules r)) ≡ Ok (parts_of head r stated)
+  pub in_limits : IsInLimits (text_parts head r stated)
+  pub read : read_text (full_text head r (verdict_of rules r)) ≡ Ok (text_parts head r stated)
 
 -- the full text of each match is read back, if its answers have wire forms
 abbrev pub MatchesAreReadBack : Type 0

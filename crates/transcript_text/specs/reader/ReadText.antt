@@ -6,7 +6,7 @@ use Rattle.transcript_text.specs.declared.text.Head.{Head}
 use Rattle.transcript_text.specs.declared.text.TextMove.{TextMove}
 use Rattle.transcript_text.specs.declared.text.Stated.{Stated}
 use Rattle.transcript_text.specs.declared.text.FullText.{FullText}
-use Rattle.transcript_text.specs.Limits.{is_within, provers_limit, bound_limit, patience_limit, version_limit, fan_limit}
+use Rattle.transcript_text.specs.Limits.{is_in_limit, provers_limit, bound_limit, patience_limit, version_limit, fan_limit}
 use Rattle.transcript_text.specs.declared.reader.fault.TextFault.{TextFault}
 use Rattle.transcript_text.specs.declared.reader.fault.TextFault.TheVariants.{BadHead, BadLine, Truncated, OutOfRange}
 use Rattle.transcript_text.specs.declared.reader.fault.LineFault.{LineFault}
@@ -20,14 +20,14 @@ use Rattle.transcript_text.specs.reader.Entries.{head_in, entry_in}
 
 abbrev pub are_in_limits : HeadNumbers → Bool
 are_in_limits h =
-    is_within provers_limit h.provers && (is_within bound_limit h.bound && (is_within patience_limit h.patience && (is_within version_limit h.version && is_within fan_limit h.fan)))
+    is_in_limit provers_limit h.provers && (is_in_limit bound_limit h.bound && (is_in_limit patience_limit h.patience && (is_in_limit version_limit h.version && is_in_limit fan_limit h.fan)))
 
-abbrev pub head_of : HeadNumbers → Head
-head_of h = record { provers = h.provers; bound = h.bound; patience = h.patience; version = h.version; fan = h.fan; digest = h.digest; start = h.start }
+abbrev pub head_of_numbers : HeadNumbers → Head
+head_of_numbers h = record { provers = h.provers; bound = h.bound; patience = h.patience; version = h.version; fan = h.fan; digest = h.digest; start = h.start }
 
 abbrev pub head_with : Result HeadNumbers LineFault → Result Head TextFault
 head_with (Err e) = Err BadHead
-head_with (Ok h) = if are_in_limits h then Ok (head_of h) else Err (OutOfRange 1)
+head_with (Ok h) = if are_in_limits h then Ok (head_of_numbers h) else Err (OutOfRange 1)
 
 -- LATER LINES, of this many provers: moves, and then the verdict, with whose line feed the text ends. What was read, or the first fault.
 
@@ -39,15 +39,15 @@ abbrev pub is_prover : ℕ → ℕ → Bool
 is_prover provers p = nat_le 1 p && nat_le p provers
 
 -- behind the verdict's line, which has the number n, after these moves: another line is one too many, and a piece of one is cut off
-abbrev pub ended : ℕ → List TextMove → Stated → Lines → Later
-ended n moves s (tail t) = if length t == 0 then Ok (moves, s) else Err Truncated
-ended n moves s (line l ls) = Err (BadLine (n + 1))
+abbrev pub after_verdict : ℕ → List TextMove → Stated → Lines → Later
+after_verdict n moves s (tail t) = if length t == 0 then Ok (moves, s) else Err Truncated
+after_verdict n moves s (line l ls) = Err (BadLine (n + 1))
 
 -- line n, by its form: no form is a fault, and then a number that is no prover's; a move goes further, a verdict ends the text
 abbrev pub line_read : ℕ → ℕ → List TextMove → Lines → (TextMove → Later) → Result Entry LineFault → Later
 line_read provers n moves ls further (Err e) = Err (BadLine n)
 line_read provers n moves ls further (Ok (Move x)) = if is_prover provers x.prover then further x else Err (OutOfRange n)
-line_read provers n moves ls further (Ok (Verdict s)) = ended n moves s ls
+line_read provers n moves ls further (Ok (Verdict s)) = after_verdict n moves s ls
 
 -- line n and those behind it, after these moves; a line without its line feed is cut off, whatever its form
 abbrev pub later : ℕ → ℕ → List TextMove → Lines → Later
@@ -62,9 +62,9 @@ rest_with head ls = later head.provers 2 [] ls >>= (λ x. Ok (record { head = he
 abbrev pub text_with : Result HeadNumbers LineFault → Lines → Result FullText TextFault
 text_with head ls = head_with head >>= (λ h. rest_with h ls)
 
-abbrev pub text_in : Lines → Result FullText TextFault
-text_in (tail t) = Err Truncated
-text_in (line l ls) = text_with (head_in l) ls
+abbrev pub text_in_lines : Lines → Result FullText TextFault
+text_in_lines (tail t) = Err Truncated
+text_in_lines (line l ls) = text_with (head_in l) ls
 
 unfoldable pub read_text : List ℕ → Result FullText TextFault
-read_text bytes = text_in (lines_of bytes)
+read_text bytes = text_in_lines (lines_of bytes)

@@ -1,14 +1,14 @@
 //! The lines of a full text: the head, a move, the verdict.
 ghost use Rattle.std.specs.Prelude.{◌≡◌};
 ghost use Rattle.rd_base.specs.Results.{Gives};
-ghost use Rattle.transcript_text.specs.reader.Entries.{head_in, settled_in, move_in, status_at, output_in, accepted_in, string_in, collided_in, verdict_in, entry_in};
+ghost use Rattle.transcript_text.specs.reader.Entries.{head_in, settlement_in, move_in, status_at, output_in, accepted_in, string_in, collided_in, verdict_in, entry_in};
 ghost use Rattle.transcript_text.specs.reader.ReadText.{are_in_limits, head_with};
 
 use crate::limits;
 use crate::reader::fault::{LineFault, TextFault};
 use crate::reader::fields::{
-    after, cut_at, read_answer, read_digest, read_name, read_number_after, read_small_number,
-    read_some_hex, skip,
+    behind_word, cut_at, read_answer, read_digest, read_name, read_number_after, read_small_number,
+    read_some_hex, skip_word,
 };
 use crate::text::{DigestName, Head, Stated, TextMove};
 use bisect_game::Settled;
@@ -44,8 +44,8 @@ fn head_in(alloc: Global, line: &[u8]) -> Result<HeadNumbers, LineFault>
     let (patience, rest) = read_number_after(rest, b" patience ")?;
     let (version, rest) = read_number_after(rest, b" version ")?;
     let (fan, rest) = read_number_after(rest, b" fan ")?;
-    let (digest, rest) = read_name(skip(rest, b" digest ")?)?;
-    let start = read_digest(alloc, skip(rest, b" start ")?)?;
+    let (digest, rest) = read_name(skip_word(rest, b" digest ")?)?;
+    let start = read_digest(alloc, skip_word(rest, b" start ")?)?;
     Ok(HeadNumbers {
         provers,
         bound,
@@ -92,14 +92,14 @@ pub(crate) fn read_head(alloc: Global, line: &[u8]) -> Result<Head, TextFault>
 }
 
 /// What an answer is settled as.
-#[tactic(auto, unfolding(crate::specs::reader::Entries::settled_in))]
-fn settled_in(alloc: Global, bytes: &[u8]) -> Result<Settled, LineFault>
-    ensures { Gives LineFault.Memory (λ settled. settled) result (settled_in bytes.now) }
+#[tactic(auto, unfolding(crate::specs::reader::Entries::settlement_in))]
+fn settlement_in(alloc: Global, bytes: &[u8]) -> Result<Settled, LineFault>
+    ensures { Gives LineFault.Memory (λ settled. settled) result (settlement_in bytes.now) }
 {
-    if let Some(digits) = after(bytes, b"given ") {
+    if let Some(digits) = behind_word(bytes, b"given ") {
         return Ok(Settled::Given(read_answer(alloc, digits)?));
     }
-    if let Some(digits) = after(bytes, b"faulty ") {
+    if let Some(digits) = behind_word(bytes, b"faulty ") {
         return Ok(Settled::Faulty(read_answer(alloc, digits)?));
     }
     if bytes == b"spent".as_slice() {
@@ -115,9 +115,9 @@ fn move_in(alloc: Global, bytes: &[u8]) -> Result<TextMove, LineFault>
     ensures { Gives LineFault.Memory (λ entry. entry) result (move_in bytes.now) }
 {
     let (dispute, rest) = read_small_number(bytes)?;
-    let (round, rest) = read_small_number(skip(rest, b" ")?)?;
-    let (prover, rest) = read_small_number(skip(rest, b" p")?)?;
-    let settled = settled_in(alloc, skip(rest, b" ")?)?;
+    let (round, rest) = read_small_number(skip_word(rest, b" ")?)?;
+    let (prover, rest) = read_small_number(skip_word(rest, b" p")?)?;
+    let settled = settlement_in(alloc, skip_word(rest, b" ")?)?;
     Ok(TextMove {
         qid: Qid { dispute, round },
         prover,
@@ -130,14 +130,14 @@ fn move_in(alloc: Global, bytes: &[u8]) -> Result<TextMove, LineFault>
 fn status_at(bytes: &[u8]) -> Result<(Status, &[u8]), LineFault>
     ensures { Gives LineFault.Memory (λ x. (x.0, x.1.now)) result (status_at bytes.now) }
 {
-    if let Some(rest) = after(bytes, b"running") {
+    if let Some(rest) = behind_word(bytes, b"running") {
         return Ok((Status::Running, rest));
     }
-    if let Some(code) = after(bytes, b"exited ") {
+    if let Some(code) = behind_word(bytes, b"exited ") {
         let (code, rest) = read_small_number(code)?;
         return Ok((Status::Exited(code), rest));
     }
-    if let Some(code) = after(bytes, b"trapped ") {
+    if let Some(code) = behind_word(bytes, b"trapped ") {
         let (code, rest) = read_small_number(code)?;
         return Ok((Status::Trapped(code), rest));
     }
@@ -151,7 +151,7 @@ fn output_in(alloc: Global, bytes: &[u8]) -> Result<Vec<u8>, LineFault>
 {
     match bytes {
         [] => Ok(Vec::new(alloc)),
-        [_, ..] => read_some_hex(alloc, skip(bytes, b" ")?),
+        [_, ..] => read_some_hex(alloc, skip_word(bytes, b" ")?),
     }
 }
 
@@ -161,7 +161,7 @@ fn accepted_in(alloc: Global, bytes: &[u8]) -> Result<Stated, LineFault>
     ensures { Gives LineFault.Memory (λ stated. stated) result (accepted_in bytes.now) }
 {
     let (status, rest) = status_at(bytes)?;
-    let output = output_in(alloc, skip(rest, b" output")?)?;
+    let output = output_in(alloc, skip_word(rest, b" output")?)?;
     Ok(Stated::Accept(status, Bytes::new(output)))
 }
 
@@ -197,10 +197,10 @@ fn collided_in(alloc: Global, bytes: &[u8]) -> Result<Stated, LineFault>
 fn verdict_in(alloc: Global, bytes: &[u8]) -> Result<Stated, LineFault>
     ensures { Gives LineFault.Memory (λ stated. stated) result (verdict_in bytes.now) }
 {
-    if let Some(rest) = after(bytes, b"accept ") {
+    if let Some(rest) = behind_word(bytes, b"accept ") {
         return accepted_in(alloc, rest);
     }
-    if let Some(rest) = after(bytes, b"collision ") {
+    if let Some(rest) = behind_word(bytes, b"collision ") {
         return collided_in(alloc, rest);
     }
     if bytes == b"none left".as_slice() {
@@ -215,7 +215,7 @@ fn verdict_in(alloc: Global, bytes: &[u8]) -> Result<Stated, LineFault>
 pub(crate) fn entry_in(alloc: Global, bytes: &[u8]) -> Result<Entry, LineFault>
     ensures { Gives LineFault.Memory (λ entry. entry) result (entry_in bytes.now) }
 {
-    match after(bytes, b"move ") {
+    match behind_word(bytes, b"move ") {
         Some(rest) => Ok(Entry::Move(move_in(alloc, rest)?)),
         None => Ok(Entry::Verdict(verdict_in(alloc, bytes)?)),
     }

@@ -2,7 +2,7 @@
 ghost use Rattle.std.specs.Prelude.{◌≡◌, ◌≤◌, IfOk, ◌<◌, length, IfSome};
 ghost use Rattle.std.specs.Option.{option_copied, option_map};
 ghost use Rattle.rd_base.specs.Results.{Gives};
-ghost use Rattle.transcript_text.specs.reader.Fields.{after, skip, digits_at, number_at, small_number_at, number_after, are_lower, hex_of, some_hex_of, digest_of, answer_of, name_among, name_at};
+ghost use Rattle.transcript_text.specs.reader.Fields.{behind_word, skip_word, digits_at, decimal_at, small_number_at, number_after, are_lower, bytes_in_hex, some_bytes_in_hex, digest_in_hex, answer_in_hex, name_among, name_at};
 ghost use Rattle.transcript_text.specs.reader.TextLines.{cut_at};
 
 use crate::reader::fault::LineFault;
@@ -16,8 +16,8 @@ use std::alloc::Global;
 const TOO_LARGE: u64 = 4_294_967_296;
 
 /// The bytes behind a word, if they begin with it.
-pub(crate) fn after<'a>(bytes: &'a [u8], word: &[u8]) -> Option<&'a [u8]>
-    ensures { option_copied result ≡ after word.now bytes.now }
+pub(crate) fn behind_word<'a>(bytes: &'a [u8], word: &[u8]) -> Option<&'a [u8]>
+    ensures { option_copied result ≡ behind_word word.now bytes.now }
 {
     let mut rest = bytes;
     'word: for letter in word {
@@ -35,10 +35,10 @@ pub(crate) fn after<'a>(bytes: &'a [u8], word: &[u8]) -> Option<&'a [u8]>
 }
 
 /// The bytes behind a word.
-pub(crate) fn skip<'a>(bytes: &'a [u8], word: &[u8]) -> Result<&'a [u8], LineFault>
-    ensures { Gives LineFault.Memory (λ rest. rest.now) result (skip word.now bytes.now) }
+pub(crate) fn skip_word<'a>(bytes: &'a [u8], word: &[u8]) -> Result<&'a [u8], LineFault>
+    ensures { Gives LineFault.Memory (λ rest. rest.now) result (skip_word word.now bytes.now) }
 {
-    after(bytes, word).ok_or(LineFault::NoForm)
+    behind_word(bytes, word).ok_or(LineFault::NoForm)
 }
 
 /// The digits at the front, after those of the number so far.
@@ -58,9 +58,9 @@ fn read_digits(so_far: u64, bytes: &[u8]) -> (u64, &[u8])
 }
 
 /// A number. One that needs more than 32 bits is 2^32.
-#[tactic(auto, unfolding(crate::specs::reader::Fields::number_at))]
+#[tactic(auto, unfolding(crate::specs::reader::Fields::decimal_at))]
 pub(crate) fn read_number(bytes: &[u8]) -> Result<(u64, &[u8]), LineFault>
-    ensures is { Gives LineFault.Memory (λ x. (x.0, x.1.now)) result (number_at bytes.now) }
+    ensures is { Gives LineFault.Memory (λ x. (x.0, x.1.now)) result (decimal_at bytes.now) }
     ensures small { IfOk result (λ x. x.0 ≤ 4294967296) }
 {
     match bytes {
@@ -98,7 +98,7 @@ pub(crate) fn read_number_after<'a>(
 ) -> Result<(u64, &'a [u8]), LineFault>
     ensures { Gives LineFault.Memory (λ x. (x.0, x.1.now)) result (number_after word.now bytes.now) }
 {
-    let behind = skip(bytes, word)?;
+    let behind = skip_word(bytes, word)?;
     read_number(behind)
 }
 
@@ -115,9 +115,9 @@ fn are_lower(digits: &[u8]) -> bool
 }
 
 /// The bytes of hexadecimal digits of lower case.
-#[tactic(auto, unfolding(crate::specs::reader::Fields::hex_of))]
+#[tactic(auto, unfolding(crate::specs::reader::Fields::bytes_in_hex))]
 fn read_hex(alloc: Global, digits: &[u8]) -> Result<Vec<u8>, LineFault>
-    ensures { Gives LineFault.Memory (λ bytes. bytes.items) result (hex_of digits.now) }
+    ensures { Gives LineFault.Memory (λ bytes. bytes.items) result (bytes_in_hex digits.now) }
 {
     if !are_lower(digits) {
         return Err(LineFault::NoForm);
@@ -130,9 +130,9 @@ fn read_hex(alloc: Global, digits: &[u8]) -> Result<Vec<u8>, LineFault>
 }
 
 /// At least one byte, of hexadecimal digits of lower case.
-#[tactic(auto, unfolding(crate::specs::reader::Fields::some_hex_of))]
+#[tactic(auto, unfolding(crate::specs::reader::Fields::some_bytes_in_hex))]
 pub(crate) fn read_some_hex(alloc: Global, digits: &[u8]) -> Result<Vec<u8>, LineFault>
-    ensures { Gives LineFault.Memory (λ bytes. bytes.items) result (some_hex_of digits.now) }
+    ensures { Gives LineFault.Memory (λ bytes. bytes.items) result (some_bytes_in_hex digits.now) }
 {
     let bytes = read_hex(alloc, digits)?;
     if bytes.len() == 0 {
@@ -142,9 +142,9 @@ pub(crate) fn read_some_hex(alloc: Global, digits: &[u8]) -> Result<Vec<u8>, Lin
 }
 
 /// A digest, of 64 digits.
-#[tactic(auto, unfolding(crate::specs::reader::Fields::digest_of))]
+#[tactic(auto, unfolding(crate::specs::reader::Fields::digest_in_hex))]
 pub(crate) fn read_digest(alloc: Global, digits: &[u8]) -> Result<Digest32, LineFault>
-    ensures { Gives LineFault.Memory (λ digest. digest) result (digest_of digits.now) }
+    ensures { Gives LineFault.Memory (λ digest. digest) result (digest_in_hex digits.now) }
 {
     let bytes = read_hex(alloc, digits)?;
     if bytes.len() != 32 {
@@ -156,9 +156,9 @@ pub(crate) fn read_digest(alloc: Global, digits: &[u8]) -> Result<Digest32, Line
 }
 
 /// An answer, of the digits of its wire form.
-#[tactic(auto, unfolding(crate::specs::reader::Fields::answer_of))]
+#[tactic(auto, unfolding(crate::specs::reader::Fields::answer_in_hex))]
 pub(crate) fn read_answer(alloc: Global, digits: &[u8]) -> Result<Answer, LineFault>
-    ensures { Gives LineFault.Memory (λ answer. answer) result (answer_of digits.now) }
+    ensures { Gives LineFault.Memory (λ answer. answer) result (answer_in_hex digits.now) }
 {
     let bytes = read_hex(alloc, digits)?;
     match decode(alloc, bytes.as_slice()) {
@@ -176,7 +176,7 @@ fn read_name_among<'a>(
     ensures { Gives LineFault.Memory (λ x. (x.0, x.1.now)) result (name_among names.now bytes.now) }
 {
     'names: for name in names {
-        if let Some(rest) = after(bytes, name.text().as_bytes()) {
+        if let Some(rest) = behind_word(bytes, name.text().as_bytes()) {
             return Ok((*name, rest));
         }
     }

@@ -2,7 +2,7 @@ use Rattle.std.proofs.Common.{◌∙◌, subst}
 use Rattle.std.proofs.lemmas.Option.{IfSome_then}
 use Rattle.command_line.specs.Words.{AreGiven}
 use Rattle.command_line.proofs.WordsLemmas.{chosen-of-parse, chosen-of-fault, options-of-parse}
-use Rattle.command_line.proofs.given.command_given.Goals as goal
+use Rattle.command_line.proofs.request.command_given.Goals as goal
 
 pub returns-in-Ok-clause-command : goal.returns-in-Ok-clause-command
 returns-in-Ok-clause-command c =

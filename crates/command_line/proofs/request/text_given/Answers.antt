@@ -4,7 +4,7 @@ use Rattle.clap.specs.Matches.{found_of}
 use Rattle.clap.proofs.WalkLemmas.{one_text-rows}
 use Rattle.command_line.specs.declared.request.MatchText.TheVariants.{Report, Full}
 use Rattle.command_line.proofs.WordsLemmas.{text-of-getter}
-use Rattle.command_line.proofs.given.text_given.Goals as goal
+use Rattle.command_line.proofs.request.text_given.Goals as goal
 
 pub returns : goal.returns
 returns c =

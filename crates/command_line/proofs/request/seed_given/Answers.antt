@@ -3,7 +3,7 @@ use Rattle.std.specs.Str.Parse.{ParsesUnsigned, ExplainsUnsignedError, HasUnsign
 use Rattle.clap.specs.Matches.{found_of}
 use Rattle.clap.proofs.WalkLemmas.{one_text-rows}
 use Rattle.command_line.proofs.WordsLemmas.{seed-of-getter}
-use Rattle.command_line.proofs.given.seed_given.Goals as goal
+use Rattle.command_line.proofs.request.seed_given.Goals as goal
 
 pub returns : goal.returns
 returns c =
