@@ -118,10 +118,7 @@ fn command_named(name: &str, given: &ArgMatches<'_>) -> Option<Command>
         "roots" => Some(Command::Roots),
         "audit" => Some(Command::Audit),
         "list" => Some(Command::Listing),
-        "big" => match seed_given(given) {
-            Some(seed) => Some(Command::Big(seed)),
-            None => None,
-        },
+        "big" => Some(Command::Big(seed_given(given)?)),
         _ => None,
     }
 }
@@ -156,16 +153,10 @@ fn request_in(matches: &ArgMatches<'_>) -> Option<Request>
     ensures counts { IfSome result (λ request. AreAtLeastOne request.options) }
     ensures given { IfSome result (λ request. AreGiven (rows_given (subcommand_rows_of matches.now)) request.options) }
 {
-    match matches.subcommand() {
-        Some((name, given)) => match command_named(name, given) {
-            Some(command) => Some(Request {
-                command,
-                options: options_in(given),
-            }),
-            None => None,
-        },
-        None => None,
-    }
+    let (name, given) = matches.subcommand()?;
+    let command = command_named(name, given)?;
+    let options = options_in(given);
+    Some(Request { command, options })
 }
 
 /// The command that the arguments name, of which the first is the program's name, and its options; `None` if they name none.
