@@ -1,0 +1,25 @@
+//! The program `test_cases`: tests the reader of cases, a row of its standard input for each call, and writes each row with its answer
+//! below it.
+//!
+//! No layer of the product depends on this crate. An answer follows two spaces. Lines that begin with `#`, and empty ones, are written as
+//! they are. So `stdout` is the table to read, and `stdin` is `stdout` without its answers. `rows` defines what a row calls, `texts` how
+//! it writes its text, and `answers` how what is read of it is written.
+#![tactic(auto)]
+
+mod answers;
+mod rows;
+mod texts;
+mod unanswered;
+
+use io_edge::StdSource;
+use std::io;
+use std::process::ExitCode;
+
+fn main(rt: HostRuntime) -> io::Result<ExitCode> {
+    let mut source = StdSource::new(rt.stdin());
+    match rows::answered(rt.alloc(), &mut source) {
+        Ok(lines) => print!(rt; "{lines}")?,
+        Err(_) => return Ok(ExitCode::from(9)),
+    }
+    Ok(ExitCode::SUCCESS)
+}
