@@ -1,85 +1,85 @@
-//! What the tests of provers share: questions, and what answers stand for.
+//! Questions, as rows write them, and asking them.
 ghost use denote.Param.Send.{IsSync};
 
+use crate::words::{Unanswered, long_of, number, number_of, parts_of, word};
 use bisect_game::{Answerer, Kind, Question};
-use digest_core::{Digester, Sha256, registers_text, storage_text};
-use out_chain::{ClaimCheck, check_claim, parts_root};
-use rd_base::{Answer, Claim, Digest32, Memory, Proof, Qid, Tamper};
+use rd_base::{Answer, Memory, Qid};
 use std::alloc::Global;
 use std::thread::Threads;
-use toy_machine::first_eight;
 
-/// The question of this kind in a round.
-pub(crate) fn asked(round: u32, kind: Kind) -> Question {
-    Question {
-        qid: Qid { dispute: 1, round },
-        kind,
+/// A question, and the passes on it so far.
+#[derive(Clone, Copy)]
+pub struct Asked {
+    /// The question.
+    pub question: Question,
+    /// The passes.
+    pub passes: u32,
+}
+
+/// `DISPUTE.ROUND`.
+pub fn qid_of(text: &str) -> Result<Qid, Unanswered> {
+    match text.split_once('.') {
+        Some((dispute, round)) => Ok(Qid {
+            dispute: number_of(dispute)?,
+            round: number_of(round)?,
+        }),
+        None => Err(Unanswered::NoRow),
     }
 }
 
-/// How the root begins of the state whose parts a proof has.
-fn root_of_parts(proof: &Proof) -> u64 {
-    let root = match proof {
-        Proof::V1(parts) => {
-            let regs = Sha256.digest(registers_text(&parts.regs).as_slice());
-            parts_root(Sha256, parts.mem, regs, &parts.ctl)
-        }
-        Proof::V2(parts) => parts_root(Sha256, parts.mem, parts.regs, &parts.ctl),
-        Proof::V3(parts) => {
-            let text = storage_text(&parts.mem, parts.input_len, &parts.input_root);
-            parts_root(
-                Sha256,
-                Sha256.digest(text.as_slice()),
-                parts.regs,
-                &parts.ctl,
-            )
-        }
-    };
-    first_eight(root)
-}
-
-/// The root of the state that a claim names.
-pub(crate) fn claimed_root(claim: &Claim) -> Digest32 {
-    parts_root(Sha256, claim.mem, claim.regs, &claim.ctl)
-}
-
-/// How the root begins that an answer stands for: that of the claimed state, the root itself, or that of the state whose
-/// parts a proof has. 0 if a claim doesn't agree with itself, and of several roots.
-pub(crate) fn root_in(answer: &Answer) -> u64 {
-    match answer {
-        Answer::Root(root) => first_eight(*root),
-        Answer::Claim(claim) => match check_claim(Sha256, claim) {
-            ClaimCheck::Sound => first_eight(claimed_root(claim)),
-            _ => 0,
-        },
-        Answer::Step(proof) => root_of_parts(proof.get()),
-        Answer::Roots(_) => 0,
+/// What these parts ask for.
+fn of_parts(parts: &[&str]) -> Result<Kind, Unanswered> {
+    match word(parts, 0)? {
+        "claim" => Ok(Kind::Claim),
+        "root" => Ok(Kind::Root(long_of(word(parts, 1)?)?)),
+        "proof" => Ok(Kind::Proof(long_of(word(parts, 1)?)?)),
+        "roots" => Ok(Kind::Roots {
+            lo: long_of(word(parts, 1)?)?,
+            hi: long_of(word(parts, 2)?)?,
+            parts: number(parts, 3)?,
+        }),
+        _ => Err(Unanswered::NoRow),
     }
 }
 
-/// How the root begins that an answer stands for, as `root_in` has it; none of a pass.
-pub(crate) fn root_said(answer: &Option<Answer>) -> Option<u64> {
-    match answer {
-        Some(answer) => Some(root_in(answer)),
-        None => None,
+/// `claim`, `root,STEP`, `roots,FROM,TO,PARTS` or `proof,STEP`.
+fn kind_of(alloc: Global, text: &str) -> Result<Kind, Unanswered> {
+    let parts = parts_of(alloc, text, ',')?;
+    of_parts(parts.as_slice())
+}
+
+/// `DISPUTE.ROUND:KIND`.
+fn question_of(alloc: Global, text: &str) -> Result<Question, Unanswered> {
+    match text.split_once(':') {
+        Some((qid, kind)) => Ok(Question {
+            qid: qid_of(qid)?,
+            kind: kind_of(alloc, kind)?,
+        }),
+        None => Err(Unanswered::NoRow),
     }
 }
 
-/// The byte that is flipped.
-pub(crate) const FLIPPED: Tamper = Tamper::Flip {
-    step: 3,
-    addr: 0x2_0003,
-    mask: 0xff,
-};
+/// A question, and behind `+` the passes on it so far, if there are any.
+pub fn asked_in(alloc: Global, text: &str) -> Result<Asked, Unanswered> {
+    match text.split_once('+') {
+        Some((question, passes)) => Ok(Asked {
+            question: question_of(alloc, question)?,
+            passes: number_of(passes)?,
+        }),
+        None => Ok(Asked {
+            question: question_of(alloc, text)?,
+            passes: 0,
+        }),
+    }
+}
 
-/// What an answerer answers. No clause states what, so that the proofs of the tests don't carry it. An `Err` is out of memory.
-pub(crate) fn answer_of<R: Threads + Sync, A: Answerer>(
+/// What an answerer answers. No clause states what, so that the proofs of rows don't carry it. An `Err` is out of memory.
+pub fn answer_of<R: Threads + Sync, A: Answerer>(
     rt: &R,
     answerer: &mut A,
-    question: &Question,
-    passes: u32,
+    asked: Asked,
 ) -> Result<Option<Answer>, Memory>
     requires { IsSync R.row }
 {
-    answerer.answer(rt, question, passes)
+    answerer.answer(rt, &asked.question, asked.passes)
 }

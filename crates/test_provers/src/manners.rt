@@ -1,44 +1,30 @@
-//! Manners of provers, by their numbers.
-
+//! Manners, as rows write them.
+use crate::asking::qid_of;
+use crate::words::{Unanswered, byte_of, bytes_of, number, parts_of, word};
 use rd_base::{
-    Answer, Claim, ClaimOutput, Ctl, Digest32, FirstSilentRound, Manner, Memory, PassCount, Qid,
-    RegisterNumber, Status, Tape, TapeAnswer,
+    Answer, Claim, ClaimOutput, Ctl, Digest32, FirstSilentRound, Manner, PassCount, RegisterNumber,
+    Status, Tape, TapeAnswer,
 };
-use std::alloc::{AllocError, Global};
+use std::alloc::Global;
 
-/// A manner, by its numbers.
-#[derive(Clone, Copy)]
-pub(crate) enum Named {
-    Plain,
-    Late(u32),
-    Silent(u32),
-    /// It claims the output `2b`.
-    Output,
-    /// In the proof of step 2 it shows 77 in x5.
-    Forge,
-    Noise(u32),
-    /// Its tape has these answers.
-    Tape(&'static [OnTape]),
-}
-
-/// An answer on a tape: the question's dispute and round, and the root of this byte 32 times, or a claim of the output `2b`.
-pub(crate) type OnTape = (u32, u32, Option<u8>);
-
-/// The output of one byte. An `Err` is out of memory.
-pub(crate) fn output_of(alloc: Global, byte: u8) -> Result<Option<ClaimOutput>, AllocError> {
-    Ok(ClaimOutput::new(vec![in alloc; byte]?))
+/// The output that a text writes.
+pub fn output_of(alloc: Global, text: &str) -> Result<ClaimOutput, Unanswered> {
+    match ClaimOutput::new(bytes_of(alloc, text)?) {
+        Some(output) => Ok(output),
+        None => Err(Unanswered::NoRow),
+    }
 }
 
 /// Control fields of a running machine that has written a byte.
-pub(crate) const CTL: Ctl = Ctl {
+pub const CTL: Ctl = Ctl {
     pc: 65536,
     status: Status::Running,
     out_len: 1,
     chain: Digest32([3; 32]),
 };
 
-/// A claim of an output.
-pub(crate) fn claim_of(output: ClaimOutput) -> Answer {
+/// A claim of an output, which doesn't agree with its chain.
+pub fn claim_of(output: ClaimOutput) -> Answer {
     Answer::Claim(Claim {
         mem: Digest32([1; 32]),
         regs: Digest32([2; 32]),
@@ -47,63 +33,87 @@ pub(crate) fn claim_of(output: ClaimOutput) -> Answer {
     })
 }
 
-/// The root of this byte, or the claim of the output `2b`. An `Err` is out of memory.
-fn answer_on_tape(alloc: Global, byte: Option<u8>) -> Result<Answer, AllocError> {
-    let Some(byte) = byte else {
-        return match output_of(alloc, 0x2b)? {
-            Some(output) => Ok(claim_of(output)),
-            None => Ok(Answer::Root(Digest32([0; 32]))),
-        };
-    };
-    Ok(Answer::Root(Digest32([byte; 32])))
+/// `claim`, of the output `2b`, or a byte, which stands for the root of this byte 32 times.
+fn answer_of(alloc: Global, text: &str) -> Result<Answer, Unanswered> {
+    if text == "claim" {
+        return Ok(claim_of(output_of(alloc, "2b")?));
+    }
+    Ok(Answer::Root(Digest32([byte_of(text)?; 32])))
 }
 
-/// A tape with these answers. An `Err` is out of memory.
-fn with_tape(alloc: Global, entries: &[OnTape]) -> Result<Manner, Memory> {
+/// `DISPUTE.ROUND=ANSWER`.
+fn entry_of(alloc: Global, text: &str) -> Result<TapeAnswer, Unanswered> {
+    match text.split_once('=') {
+        Some((qid, answer)) => Ok(TapeAnswer {
+            qid: qid_of(qid)?,
+            answer: answer_of(alloc, answer)?,
+        }),
+        None => Err(Unanswered::NoRow),
+    }
+}
+
+/// A tape of these answers.
+fn tape(alloc: Global, entries: &[&str]) -> Result<Manner, Unanswered> {
     let mut answers = Vec::new(alloc);
-    for (dispute, round, byte) in entries {
-        let qid = Qid {
-            dispute: *dispute,
-            round: *round,
-        };
-        let answer = answer_on_tape(alloc, *byte)?;
-        answers.push(TapeAnswer { qid, answer })?;
+    for entry in entries {
+        answers.push(entry_of(alloc, entry)?)?;
     }
-    Ok(Tape::new(answers).map_or(Manner::Plain, Manner::Tape))
+    match Tape::new(answers) {
+        Some(tape) => Ok(Manner::Tape(tape)),
+        None => Err(Unanswered::NoRow),
+    }
 }
 
-fn late(passes: u32) -> Manner {
-    PassCount::new(passes).map_or(Manner::Plain, Manner::Late)
+fn late(parts: &[&str]) -> Result<Manner, Unanswered> {
+    match PassCount::new(number(parts, 1)?) {
+        Some(passes) => Ok(Manner::Late(passes)),
+        None => Err(Unanswered::NoRow),
+    }
 }
 
-fn silent(from: u32) -> Manner {
-    FirstSilentRound::new(from).map_or(Manner::Plain, Manner::Silent)
+fn silent(parts: &[&str]) -> Result<Manner, Unanswered> {
+    match FirstSilentRound::new(number(parts, 1)?) {
+        Some(from) => Ok(Manner::Silent(from)),
+        None => Err(Unanswered::NoRow),
+    }
 }
 
-fn with_output(alloc: Global) -> Result<Manner, AllocError> {
-    Ok(output_of(alloc, 0x2b)?.map_or(Manner::Plain, Manner::Output))
-}
-
-fn forging() -> Manner {
-    match RegisterNumber::new(5) {
-        Some(reg) => Manner::Forge {
-            step: 2,
+fn forge(parts: &[&str]) -> Result<Manner, Unanswered> {
+    match RegisterNumber::new(byte_of(word(parts, 2)?)?) {
+        Some(reg) => Ok(Manner::Forge {
+            step: number(parts, 1)?,
             reg,
-            value: 77,
-        },
-        None => Manner::Plain,
+            value: number(parts, 3)?,
+        }),
+        None => Err(Unanswered::NoRow),
     }
 }
 
-/// The manner of these numbers; the plain one if a number is none that a manner may have. An `Err` is out of memory.
-pub(crate) fn manner_of(alloc: Global, named: Named) -> Result<Manner, Memory> {
-    match named {
-        Named::Plain => Ok(Manner::Plain),
-        Named::Late(passes) => Ok(late(passes)),
-        Named::Silent(from) => Ok(silent(from)),
-        Named::Output => Ok(with_output(alloc)?),
-        Named::Forge => Ok(forging()),
-        Named::Noise(seed) => Ok(Manner::Noise { seed }),
-        Named::Tape(entries) => with_tape(alloc, entries),
+/// A manner that has an output or a tape.
+fn of_memory(alloc: Global, parts: &[&str]) -> Result<Manner, Unanswered> {
+    match word(parts, 0)? {
+        "output" => Ok(Manner::Output(output_of(alloc, word(parts, 1)?)?)),
+        "tape" => tape(alloc, parts.get(1..).unwrap_or(&[])),
+        _ => Err(Unanswered::NoRow),
     }
+}
+
+/// A manner of these parts.
+fn of_parts(alloc: Global, parts: &[&str]) -> Result<Manner, Unanswered> {
+    match word(parts, 0)? {
+        "plain" => Ok(Manner::Plain),
+        "late" => late(parts),
+        "silent" => silent(parts),
+        "forge" => forge(parts),
+        "noise" => Ok(Manner::Noise {
+            seed: number(parts, 1)?,
+        }),
+        _ => of_memory(alloc, parts),
+    }
+}
+
+/// `plain`, `late,PASSES`, `silent,ROUND`, `output,BYTES`, `forge,STEP,REGISTER,VALUE`, `noise,SEED` or `tape,ENTRY,..`.
+pub fn manner_of(alloc: Global, text: &str) -> Result<Manner, Unanswered> {
+    let parts = parts_of(alloc, text, ',')?;
+    of_parts(alloc, parts.as_slice())
 }

@@ -1,46 +1,103 @@
-//! Programs, and machines at their start.
-ghost use Rattle.std.specs.Prelude.{◌≡◌, ◌≤◌, ℕ, [], List, length, IfOk};
+//! The program of rows, its machine at the start, and its recorded run.
+ghost use Rattle.std.specs.Prelude.{◌≡◌, ◌<◌, ℕ, [], List, IfOk};
 ghost use Rattle.rv_step.specs.State.{IsChained};
+ghost use Rattle.checkpoint_run.specs.Recorded.{AreChained};
+ghost use Rattle.sha2.specs.Sha256.{sha256};
 
+use crate::tampers::tamper_of;
+use crate::words::{Unanswered, number, word};
+use checkpoint_run::{Run, record_run};
+use digest_core::Sha256;
 use mem_plain::PlainMem;
-use rd_base::Memory;
+use rd_base::Tamper;
 use rv_step::Machine;
 use std::alloc::Global;
 
-/// addi x10, x0, 42; addi x17, x0, 1; ecall; addi x10, x0, 0; addi x17, x0, 93; ecall: it writes 42 in step 2, and has
-/// stopped at step 6
-pub const SIX_STEPS: [u8; 24] = [
-    0x13, 0x05, 0xa0, 0x02, 0x93, 0x08, 0x10, 0x00, 0x73, 0x00, 0x00, 0x00, 0x13, 0x05, 0x00, 0x00,
-    0x93, 0x08, 0xd0, 0x05, 0x73, 0x00, 0x00, 0x00,
-];
+/// A program to run.
+#[derive(Drop)]
+pub struct Program {
+    /// The version of the commitment.
+    pub version: u32,
+    /// The bytes that lie at 0x10000, where it begins.
+    pub image: Vec<u8>,
+    /// Its input.
+    pub input: Vec<u8>,
+    /// How many pages its memory holds besides, the last of which has the byte 0 alone, and the others a 1.
+    pub pages: u32,
+}
 
-/// lui x5, 0x20; addi x6, x0, 122; sb x6, 3(x5); lw x10, 0(x5); srli x10, x10, 24; addi x17, x0, 1; ecall; lw x10, 1(x5): it
-/// stores in step 2, and traps in step 7
-pub const EIGHT_STEPS: [u8; 32] = [
-    0xb7, 0x02, 0x02, 0x00, 0x13, 0x03, 0xa0, 0x07, 0xa3, 0x81, 0x62, 0x00, 0x03, 0xa5, 0x02, 0x00,
-    0x13, 0x55, 0x85, 0x01, 0x93, 0x08, 0x10, 0x00, 0x73, 0x00, 0x00, 0x00, 0x03, 0xa5, 0x12, 0x00,
-];
-
-/// lui x5, 0x20; addi x6, x0, 7; lui x7, 1; then sw x6, 0(x5); add x5, x5, x7; jal x0, -8: it stores to one page after
-/// the other, from 0x20000 on, to page j in step 3 * j + 3
-pub const A_STORE_IN_EACH_PAGE: [u8; 24] = [
-    0xb7, 0x02, 0x02, 0x00, 0x13, 0x03, 0x70, 0x00, 0xb7, 0x13, 0x00, 0x00, 0x23, 0xa0, 0x62, 0x00,
-    0xb3, 0x82, 0x72, 0x00, 0x6f, 0xf0, 0x9f, 0xff,
-];
-
-/// A machine at the start of an image of at most 64 bytes, which lies at 0x10000, with an input of at most 4,096 bytes, in a version of
-/// the commitment from 1 to 3; of another number the nearest. An `Err` is out of memory.
-pub fn machine_in(
+/// The program in a version, with an input.
+pub fn copy_with(
     alloc: Global,
+    program: &Program,
     version: u32,
-    image: &[u8],
     input: &[u8],
-) -> Result<Machine, Memory>
-    requires image { length image.now ≤ 64 }
-    requires input { length input.now ≤ 4096 }
+) -> Result<Program, Unanswered> {
+    Ok(Program {
+        version,
+        image: program.image.as_slice().to_vec(alloc)?,
+        input: input.to_vec(alloc)?,
+        pages: program.pages,
+    })
+}
+
+/// The memory with more pages. The program's is at 0x10000.
+fn with_pages(mut mem: PlainMem, pages: u32) -> Result<PlainMem, Unanswered> {
+    if pages == 0 {
+        return Ok(mem);
+    }
+    for page in 1..pages.min(1000) {
+        mem.store(0xffff_ffff - 8192 * page, 1, 1)?;
+    }
+    mem.store(0, 1, 0)?;
+    Ok(mem)
+}
+
+/// The machine before the first instruction.
+pub fn started(alloc: Global, program: &Program) -> Result<Machine, Unanswered>
     ensures chained { IfOk result (λ m. (digest : List ℕ → List ℕ) → IsChained digest m) }
     ensures silent { IfOk result (λ m. m.output.items ≡ []) }
 {
-    let mem = PlainMem::new(alloc).lay(0x1_0000, image)?;
-    Machine::new(alloc, version.clamp(1, 3), mem, 0x1_0000, input)
+    let Program {
+        version,
+        image,
+        input,
+        pages,
+    } = program;
+    if *version < 1 || *version > 3 || image.len() > 64 || input.len() > 4096 {
+        return Err(Unanswered::NoRow);
+    }
+    let mem = PlainMem::new(alloc).lay(0x1_0000, image.as_slice())?;
+    let mem = with_pages(mem, *pages)?;
+    Ok(Machine::new(alloc, *version, mem, 0x1_0000, input.as_slice())?)
+}
+
+/// The run from a machine.
+fn run_from(
+    alloc: Global,
+    machine: &Machine,
+    bound: u32,
+    every: u32,
+    tamper: Tamper,
+) -> Result<Box<Run>, Unanswered>
+    requires chained { IsChained sha256 machine.now }
+    requires every { 0 < every }
+    ensures { IfOk result (λ r. AreChained sha256 r.value) }
+{
+    let run = record_run(alloc, Sha256, machine, u64::from(bound), every, tamper)?;
+    Ok(Box::new(alloc, run)?)
+}
+
+/// The run of `NAME BOUND EVERY TAMPER ..`.
+pub fn run_of(alloc: Global, program: &Program, words: &[&str]) -> Result<Box<Run>, Unanswered>
+    ensures { IfOk result (λ r. AreChained sha256 r.value) }
+{
+    let bound = number(words, 1)?;
+    let every = number(words, 2)?;
+    let tamper = tamper_of(alloc, word(words, 3)?)?;
+    if every == 0 {
+        return Err(Unanswered::NoRow);
+    }
+    let machine = started(alloc, program)?;
+    run_from(alloc, &machine, bound, every, tamper)
 }

@@ -1,20 +1,44 @@
-//! Tampers by their numbers.
+//! Tampers, as rows write them.
+use crate::words::{Unanswered, byte_of, number, parts_of, word};
 use rd_base::{RegisterNumber, Tamper};
+use std::alloc::Global;
 
-/// A byte that is flipped by a mask before a step.
-pub fn flip(step: u32, addr: u32, mask: u8) -> Tamper {
-    Tamper::Flip { step, addr, mask }
-}
-
-/// A register that is set before a step; no tamper if there is no register of this number.
-pub fn register(step: u32, reg: u8, value: u32) -> Tamper {
-    match RegisterNumber::new(reg) {
-        Some(reg) => Tamper::Register { step, reg, value },
-        None => Tamper::Untouched,
+/// `register,STEP,NUMBER,VALUE`.
+fn register(parts: &[&str]) -> Result<Tamper, Unanswered> {
+    match RegisterNumber::new(byte_of(word(parts, 2)?)?) {
+        Some(reg) => Ok(Tamper::Register {
+            step: number(parts, 1)?,
+            reg,
+            value: number(parts, 3)?,
+        }),
+        None => Err(Unanswered::NoRow),
     }
 }
 
-/// An end after this many steps.
-pub fn early(steps: u32) -> Tamper {
-    Tamper::Early { steps }
+/// `flip,STEP,ADDRESS,MASK`.
+fn flip(parts: &[&str]) -> Result<Tamper, Unanswered> {
+    Ok(Tamper::Flip {
+        step: number(parts, 1)?,
+        addr: number(parts, 2)?,
+        mask: byte_of(word(parts, 3)?)?,
+    })
+}
+
+/// A tamper of these parts.
+fn of_parts(parts: &[&str]) -> Result<Tamper, Unanswered> {
+    match word(parts, 0)? {
+        "untouched" => Ok(Tamper::Untouched),
+        "flip" => flip(parts),
+        "register" => register(parts),
+        "early" => Ok(Tamper::Early {
+            steps: number(parts, 1)?,
+        }),
+        _ => Err(Unanswered::NoRow),
+    }
+}
+
+/// `untouched`, `flip,STEP,ADDRESS,MASK`, `register,STEP,NUMBER,VALUE` or `early,STEPS`.
+pub fn tamper_of(alloc: Global, text: &str) -> Result<Tamper, Unanswered> {
+    let parts = parts_of(alloc, text, ',')?;
+    of_parts(parts.as_slice())
 }

@@ -1,0 +1,37 @@
+//! The program `test_provers`: tests recorded runs, their roots, proofs and claims, manners and provers, a row of its standard input for
+//! each call, and writes each row with its answer below it.
+//!
+//! No layer of the product depends on this crate. An answer follows two spaces. Lines that begin with `#`, and empty ones, are written as
+//! they are. So `stdout` is the table to read, and `stdin` is `stdout` without its answers, whose head says how rows are written. `rows`
+//! defines what a row calls. Roots go by their first eight bytes. The answers come from outside: the machine and the roots of `checks/`,
+//! which are written in Python, and counts by hand.
+#![tactic(auto)]
+
+mod asking;
+mod counting;
+mod digests;
+mod given;
+mod manners;
+mod playing;
+mod programs;
+mod proofs;
+mod provers;
+mod roots;
+mod rows;
+mod runs;
+mod said;
+mod tampers;
+mod words;
+
+use io_edge::StdSource;
+use std::io;
+use std::process::ExitCode;
+
+fn main(rt: HostRuntime) -> io::Result<ExitCode> {
+    let mut source = StdSource::new(rt.stdin());
+    match rows::answered(&rt, rt.alloc(), &mut source) {
+        Ok(lines) => print!(rt; "{lines}")?,
+        Err(_) => return Ok(ExitCode::from(9)),
+    }
+    Ok(ExitCode::SUCCESS)
+}
