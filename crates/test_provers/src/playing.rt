@@ -197,6 +197,9 @@ pub fn case<R: Threads + Sync>(
     let plan = plan_of(words)?;
     let rest = words.get(5..).unwrap_or(&[]);
     let count = number(words, 4)?.min(16) as usize;
+    if rest.len() < count {
+        return Err(Unanswered::NoRow);
+    }
     let scripts = scripts_of(alloc, rest.get(..count).unwrap_or(&[]))?;
     let texts = rest.get(count..).unwrap_or(&[]);
     case_of(rt, alloc, program, scripts.as_slice(), plan, texts)
@@ -262,6 +265,9 @@ pub fn first_answer<R: Threads + Sync>(
 {
     let plan = plan_of(words)?;
     let least = u64::from(number(words, 4)?);
+    if words.len() < 7 {
+        return Err(Unanswered::NoRow);
+    }
     let scripts = scripts_of(alloc, words.get(5..6).unwrap_or(&[]))?;
     let asked = all_asked(alloc, words.get(6..).unwrap_or(&[]))?;
     let (before, after) = digests_of(

@@ -57,7 +57,24 @@ fn committed_roots<R: Threads + Sync>(
     Ok((kept, scratch))
 }
 
-/// How the root of a step's committed machine begins, if it is the one from scratch.
+/// Whether this is the root of a step as it is replayed. An `Err` is out of memory.
+fn is_replayed<R: Threads + Sync>(
+    rt: &R,
+    alloc: Global,
+    run: &Run,
+    step: u64,
+    root: Digest32,
+) -> Result<bool, Memory>
+    requires { AreChained sha256 run.now }
+{
+    let found = roots_of(rt, alloc, run, 2, &[step])?;
+    match found.first() {
+        Some(replayed) => Ok(*replayed == root),
+        None => Ok(false),
+    }
+}
+
+/// How the root of a step's committed machine begins, if it is the one from scratch and the one that is replayed.
 fn state<R: Threads + Sync>(
     rt: &R,
     alloc: Global,
@@ -67,7 +84,7 @@ fn state<R: Threads + Sync>(
     requires { AreChained sha256 run.now }
 {
     let (kept, scratch) = committed_roots(rt, alloc, run, step)?;
-    if kept != scratch {
+    if kept != scratch || !is_replayed(rt, alloc, run, step, kept)? {
         return Ok(String::from_str(alloc, "another")?);
     }
     begin(alloc, kept)
@@ -90,7 +107,8 @@ fn states<R: Threads + Sync>(
     Ok(text)
 }
 
-/// `committed BOUND EVERY TAMPER STEP,..`: the roots of the committed machines of these steps, and of their states from scratch.
+/// `committed BOUND EVERY TAMPER STEP,..`: the roots of the committed machines of these steps, if they are those of their states from
+/// scratch and those that are replayed.
 pub fn committed<R: Threads + Sync>(
     rt: &R,
     alloc: Global,

@@ -60,11 +60,18 @@ fn digit(byte: u8) -> Option<u64> {
     }
 }
 
-/// The number that a text writes in a base.
+/// The number that a text of at least one digit writes in a base.
 fn number_in(base: u64, text: &str) -> Option<u64> {
+    if text.is_empty() {
+        return None;
+    }
     let mut value: u64 = 0;
     for byte in text.bytes() {
-        value = value.checked_mul(base)?.checked_add(digit(byte)?)?;
+        let digit = digit(byte)?;
+        if digit >= base {
+            return None;
+        }
+        value = value.checked_mul(base)?.checked_add(digit)?;
     }
     Some(value)
 }
