@@ -1,23 +1,20 @@
 -- Tasks: their gravest answer, their texts, and the states in which their runs start.
-use Rattle.std.proofs.Common.{◌≡◌, ℕ, zero, suc, ◌+◌, ◌-◌, ◌<◌, ◌≤◌, List, [], ◌∷◌, ◌++◌, All, map, length, get_or, length-append, slice_get, take, drop, Bool, Option, Some, Result, Ok, Err, refl, sym, ap, ap₂, subst, ◌∙◌, arith, append_assoc}
+use Rattle.std.proofs.Common.{◌≡◌, ℕ, zero, suc, ◌+◌, ◌-◌, ◌<◌, ◌≤◌, List, [], ◌∷◌, ◌++◌, All, map, length, slice_get, take, drop, Bool, Some, Result, Ok, Err, refl, sym, ap, ap₂, subst, ◌∙◌, arith, append_assoc}
 use Rattle.std.specs.Prelude.{slice_index_or}
 use Rattle.std.proofs.Math.Seq.{take-length}
 use Rattle.std.proofs.lemmas.List.{append-nil}
 use Rattle.std.proofs.lemmas.List.Elements.{All-nil, All-cons, All-weaker}
-use Rattle.std.specs.Option.{option_to_list}
 use Rattle.std.proofs.lemmas.Option.{same_Some, none-some}
 use Rattle.rd_base.specs.Results.{◌>>=◌}
 use Rattle.bisect_game.specs.Rules.{ArePlayable}
 use Rattle.rv_step.specs.declared.machine.Machine.{Machine}
 use Rattle.rv_step.specs.State.{State, state_of, IsChained}
-use Rattle.tournament.specs.Bracket.{Record}
-use Rattle.deposits.specs.Balances.{IsSettledUp}
 use Rattle.case_reader.specs.declared.case.Case.{Case as CaseOf}
 use Rattle.case_reader.specs.Case.{CaseData, data_of}
 use Rattle.case_match.specs.TruthfulInCase.{IsInRange}
 use Rattle.case_match.specs.declared.opening.LoadedCase.{LoadedCase}
 use Rattle.case_match.specs.declared.referee.Ended.{Ended}
-use Rattle.case_match.specs.Match.{rules_of_case, says_of_case, record_of_case, RecordsOfCasesAreSettledUp}
+use Rattle.case_match.specs.Match.{rules_of_case, says_of_case, RecordsOfCasesAreSettledUp}
 use Rattle.case_match.specs.Openings.{ended_of}
 use Rattle.delegate.specs.Answered.{graver}
 use Rattle.delegate.specs.Decided.{digest_of, Deciding, response_to_case, response_by, task_texts, gravest, together, responses_by, responses_to_cases, StandsUnder}
@@ -83,22 +80,6 @@ pub all-settled : RecordsOfCasesAreSettledUp → (digest : List ℕ → List ℕ
 all-settled law digest ls cs own_ends ends cases_are own_are ends_are =
     subst (λ (ds : List CaseData). CanBePaid ds ends) cases_are
     (subst (CanBePaid (map (λ (l : LoadedCase). data_of l.case.now) ls)) (sym (ends_are ∙ own_are)) (settled law digest ls))
-
--- the list of one, and what comes of it
-
-pub one-loaded : {A : Type 0} (old now : List A) (x : A) → old ≡ [] → now ≡ old ++ x ∷ [] → now ≡ x ∷ []
-one-loaded old now x none pushed = pushed ∙ ap (λ l. l ++ x ∷ []) none
-
-pub only-last : {A : Type 0} (xs rest : List A) (o : Option A) (x y : A) → xs ≡ x ∷ [] → xs ≡ rest ++ option_to_list o → o ≡ Some y → y ≡ x
-only-last {A} xs rest o x y one parts is = by rest (sym one ∙ (parts ∙ ap (λ (p : Option A). rest ++ option_to_list p) is))
-  where
-    by : (zs : List A) → x ∷ [] ≡ zs ++ y ∷ [] → y ≡ x
-    by [] e = sym (ap (λ (l : List A). get_or l 0 x) e)
-    by (z ∷ zs) e = absurd (omega (arith, ap length e, length-append zs (y ∷ [])))
-
-pub record-settled : RecordsOfCasesAreSettledUp → (digest : List ℕ → List ℕ) (c : CaseOf) (start : State) (r : Record) → r ≡ record_of_case digest (data_of c) start → IsSettledUp (length c.provers) r
-record-settled law digest c start r is =
-    subst (IsSettledUp (length c.provers)) (sym is) (law (rules_of_case digest (data_of c) start) (says_of_case digest (data_of c) start) (playable digest c start))
 
 -- machines that are fresh
 

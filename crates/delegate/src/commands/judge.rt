@@ -19,7 +19,9 @@ ghost use Rattle.delegate.specs.commands.Judge.{judging, response_to_tasks, judg
 
 use crate::loading::{start_in, starts_in, tasks_in};
 use crate::response::{Answered, Response, Stop, Subject};
-use case_match::{Ended, LoadedCase, ended_tasks, loaded_cases, records_of_cases_are_settled_up};
+use case_match::{
+    Ended, LoadedCase, ended_one, ended_tasks, loaded_cases, records_of_cases_are_settled_up,
+};
 use case_reader::{Case, Tasks};
 use command_line::{MatchText, Options};
 use deposits::balances;
@@ -188,11 +190,10 @@ pub fn ended_one_by<R: Threads + Wait + Sync>(
     ensures ended { IfOk result (λ end. end ≡ ended_of (digest_of name) loaded.entry) }
     ensures settled_up { IfOk result (λ end. IsSettledUp (length loaded.entry.case.now.provers) end.match_record) }
 {
-    records_of_cases_are_settled_up();
-    let mut loads = Vec::with_capacity(alloc, 1)?;
-    loads.push(loaded)?;
-    let mut ends = ended_by(rt, alloc, name, loads, options)?;
-    Ok(ends.pop().unwrap())
+    match name {
+        DigestName::Sha256 => ended_one(rt, alloc, Sha256, loaded, options),
+        DigestName::Weak8 => ended_one(rt, alloc, Weak8, loaded, options),
+    }
 }
 
 /// Plays the match of a case by the digester that is asked for, and writes its text. The machine is fresh, and each option is at least 1.
@@ -264,8 +265,8 @@ fn add_text(
     Ok(())
 }
 
-/// Plays the matches of the cases of tasks by the digester that is asked for, and writes the text of each under its line. There is a machine
-/// for each case, and each is fresh; each option is at least 1.
+/// Plays the matches of the cases of tasks by the digester that is asked for, and writes the text of each under its line. There is a
+/// machine for each case, and each is fresh; each option is at least 1.
 fn judge_tasks<R: Threads + Wait + Sync>(
     rt: &R,
     alloc: Global,

@@ -45,7 +45,7 @@ fn words_in_file(alloc: Global, bytes: &[u8]) -> Result<Vec<u32>, Memory>
 }
 
 /// The words of a flat file, which breaks no rule of images.
-fn flat_words(alloc: Global, file: &[u8]) -> Result<Vec<u32>, Stop>
+fn words_of_flat(alloc: Global, file: &[u8]) -> Result<Vec<u32>, Stop>
     ensures { Stands (λ words. words.items) result (words_by Format.Flat file.now) }
 {
     flat_image(alloc, Subject::Whole, file)?;
@@ -53,7 +53,7 @@ fn flat_words(alloc: Global, file: &[u8]) -> Result<Vec<u32>, Stop>
 }
 
 /// The words of an assembly text, whose image breaks no rule.
-fn asm_words(alloc: Global, text: &[u8]) -> Result<Vec<u32>, Stop>
+fn words_of_asm(alloc: Global, text: &[u8]) -> Result<Vec<u32>, Stop>
     ensures { Stands (λ words. words.items) result (words_by Format.Asm text.now) }
 {
     match loadable_words(alloc, text) {
@@ -76,9 +76,9 @@ fn words_in(alloc: Global, case: &Case) -> Result<Vec<u32>, Stop>
 {
     let file = case.image.as_slice();
     match case.format {
-        Format::Flat => flat_words(alloc, file),
+        Format::Flat => words_of_flat(alloc, file),
         Format::Elf => Err(Stop::Refused(format_refusal(alloc)?)),
-        Format::Asm => asm_words(alloc, file),
+        Format::Asm => words_of_asm(alloc, file),
     }
 }
 

@@ -1,31 +1,19 @@
-use Rattle.std.proofs.Common.{All, map, length, [], ◌∙◌, sym, ap, subst, arith}
-use Rattle.std.proofs.lemmas.List.Elements.{All-nil, All-cons}
-use Rattle.rv_step.specs.State.{state_of}
-use Rattle.case_match.specs.declared.opening.LoadedCase.{LoadedCase}
-use Rattle.case_match.specs.declared.referee.Ended.{Ended}
+use Rattle.std.proofs.Common.{◌∙◌, ap, sym, subst}
+use Rattle.std.proofs.lemmas.Result.{IfOk-weaker}
 use Rattle.case_match.specs.Openings.{IsFresh, ended_of}
 use Rattle.delegate.specs.Decided.{digest_of}
-use Rattle.delegate.proofs.TaskLemmas.{one-loaded, only-last, record-settled}
 use Rattle.delegate.proofs.commands.judge.ended_one_by.Goals as goal
 
-pub ended_by-requires-clause-some : goal.ended_by-requires-clause-some
-ended_by-requires-clause-some g c κs within = omega (arith, ap length (one-loaded c.in_ok-loads.loads.items c.push.new.self.items _ c.in_ok-loads.ensures.items c.in_ok-push.ensures.items))
+pub ended_one-requires-clause-fresh : goal.ended_one-requires-clause-fresh
+ended_one-requires-clause-fresh g c κs within = subst (λ name. IsFresh (digest_of name) c.args.loaded.start) c.in-Sha256.is c.requires.fresh
 
-pub ended_by-requires-clause-few : goal.ended_by-requires-clause-few
-ended_by-requires-clause-few g c κs within = omega (arith, ap length (one-loaded c.in_ok-loads.loads.items c.push.new.self.items _ c.in_ok-loads.ensures.items c.in_ok-push.ensures.items))
+pub ended_one-requires-in-Weak8-clause-fresh : goal.ended_one-requires-in-Weak8-clause-fresh
+ended_one-requires-in-Weak8-clause-fresh g c κs within = subst (λ name. IsFresh (digest_of name) c.args.loaded.start) c.in-Weak8.is c.requires.fresh
 
-pub ended_by-requires-clause-fresh : goal.ended_by-requires-clause-fresh
-ended_by-requires-clause-fresh g c κs within =
-    let fresh = λ (l : LoadedCase). IsFresh (digest_of c.args.name) l.start in
-    subst (All fresh) (sym (one-loaded c.in_ok-loads.loads.items c.push.new.self.items _ c.in_ok-loads.ensures.items c.in_ok-push.ensures.items)) (All-cons fresh _ [] c.requires.fresh (All-nil fresh))
+pub returns-in-Sha256-clause-ended : goal.returns-in-Sha256-clause-ended
+returns-in-Sha256-clause-ended g c =
+    IfOk-weaker c.ended_one.result _ _ (λ end is. is ∙ ap (λ name. ended_of (digest_of name) c.args.loaded) (sym c.in-Sha256.is)) c.ended_one.ensures.ended
 
-pub returns-clause-ended : goal.returns-clause-ended
-returns-clause-ended g c =
-    let one = one-loaded c.in_ok-loads.loads.items c.push.new.self.items _ c.in_ok-loads.ensures.items c.in_ok-push.ensures.items in
-    only-last c.in_ok-ends.ends.items c.pop.new.self.items c.pop.result _ c.unwrap.result (c.in_ok-ends.ensures ∙ ap (map (ended_of (digest_of c.args.name))) one) c.pop.ensures.items c.unwrap.ensures
-
-pub returns-clause-settled_up : goal.returns-clause-settled_up
-returns-clause-settled_up g c =
-    let one = one-loaded c.in_ok-loads.loads.items c.push.new.self.items _ c.in_ok-loads.ensures.items c.in_ok-push.ensures.items in
-    let ended = only-last c.in_ok-ends.ends.items c.pop.new.self.items c.pop.result _ c.unwrap.result (c.in_ok-ends.ensures ∙ ap (map (ended_of (digest_of c.args.name))) one) c.pop.ensures.items c.unwrap.ensures in
-    record-settled c.records_of_cases_are_settled_up.ensures (digest_of c.args.name) c.args.loaded.case.now (state_of c.args.loaded.start) c.unwrap.result.match_record (ap (λ (e : Ended). e.match_record) ended)
+pub returns-in-Weak8-clause-ended : goal.returns-in-Weak8-clause-ended
+returns-in-Weak8-clause-ended g c =
+    IfOk-weaker c.ended_one-in-Weak8.result _ _ (λ end is. is ∙ ap (λ name. ended_of (digest_of name) c.args.loaded) (sym c.in-Weak8.is)) c.ended_one-in-Weak8.ensures.ended
