@@ -1,7 +1,7 @@
 -- What answerers say, as lists.
 use Rattle.std.proofs.Common.{◌≡◌, ℕ, zero, suc, ◌+◌, ◌<◌, List, [], ◌∷◌, map, length, get_or, set, drop, Option, refl, ap, ◌∙◌, arith}
 use Rattle.rd_base.specs.declared.answer.Answer.{Answer}
-use Rattle.bisect_game.specs.declared.question.Question.{Question}
+use Rattle.bisect_game.specs.declared.settled.Question.{Question}
 use Rattle.bisect_game.specs.Says.{Says, AnswerAs}
 
 abbrev pub first_or : {B : Type 0} → B → List B → B

@@ -3,7 +3,7 @@ use Rattle.std.proofs.Common.{◌≡◌, ℕ, List, [], ◌∷◌, ◌++◌, Opt
 use Rattle.std.specs.List.{All}
 use Rattle.std.proofs.lemmas.List.Elements.{All-nil, All-cons, All-head, All-tail}
 use Rattle.rd_base.specs.declared.answer.Answer.{Answer}
-use Rattle.bisect_game.specs.declared.question.Question.{Question}
+use Rattle.bisect_game.specs.declared.settled.Question.{Question}
 use Rattle.bisect_game.specs.Says.{Says}
 use Rattle.seat_lock.specs.History.{LogEntry, History, log_of, turns_of, Begins}
 use Rattle.seat_lock.specs.Seats.{LockId, Known, after_join}

@@ -262,7 +262,7 @@ impl<'g, J: Judge + Drop, P: Provers + Drop, A: Answerer, G: TaskGate> ClassServ
 > for Poster<J, P> {
     ghost use Rattle.std.specs.Prelude.{◌≡◌, ℕ, Option, List};
     ghost use Rattle.rd_base.specs.declared.answer.Answer.{Answer};
-    ghost use Rattle.bisect_game.specs.declared.question.Question.{Question};
+    ghost use Rattle.bisect_game.specs.declared.settled.Question.{Question};
     ghost use Rattle.board_book.specs.declared.book.Opening.{Opening};
     ghost use Rattle.seat_lock.specs.Seats.{Known};
     ghost use Rattle.posters.specs.Serving.{places_from, kept_of, IsSeatOf, said_by};

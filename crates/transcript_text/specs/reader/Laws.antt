@@ -1,4 +1,4 @@
--- Derived: reading is the inverse of writing. The laws of these names show it.
+-- Derived: reading is the inverse of writing, and a stated verdict is one line. The laws of these names show it.
 use Rattle.std.specs.Prelude.{◌≡◌, ◌↔◌, ℕ, List, ◌++◌, Contains, Some, Ok, codes}
 use Rattle.hex.specs.Hex.{encode_lower}
 use Rattle.bisect_game.specs.Rules.{Rules, ArePlayable}

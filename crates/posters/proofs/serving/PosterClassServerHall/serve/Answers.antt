@@ -1,6 +1,6 @@
 use Rattle.std.proofs.Common.{ℕ, Option, map, ap, ◌∙◌}
 use Rattle.rd_base.specs.declared.answer.Answer.{Answer}
-use Rattle.bisect_game.specs.declared.question.Question.{Question}
+use Rattle.bisect_game.specs.declared.settled.Question.{Question}
 use Rattle.posters.proofs.serving.PosterClassServerHall.serve.Goals as goal
 
 pub serve_until_over-requires-clause-seat : goal.serve_until_over-requires-clause-seat
