@@ -1,5 +1,5 @@
-//! The subject `lock`: many threads add to one counter under a lock, one a turn. Its numbers are how many threads there are, at most 16, and
-//! how many turns each takes. `bench/lock` measures it.
+//! The subject `lock`: many threads add to one counter under a lock, one a turn. Its numbers are how many threads there are, at most 16,
+//! and how many turns each takes. `bench/lock` measures it.
 ghost use Rattle.std.specs.Prelude.{◌≡◌, ◌≤◌, All, IfOk};
 
 use rd_base::Memory;

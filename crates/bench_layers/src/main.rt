@@ -1,7 +1,7 @@
 //! The program `bench_layers`: what `bench/lock`, `bench/rulings`, `bench/replays` and `bench/text` measure.
 //!
-//! The command line names subjects, `lock`, `rulings`, `replays` or `text`, each with its numbers behind it, and the program writes a line for
-//! each. The status is 2 at a word that is neither, numbers that are no subject's, or if memory runs out.
+//! The command line names subjects, `lock`, `rulings`, `replays` or `text`, each with its numbers behind it, and the program writes a
+//! line for each. The status is 2 at a word that is neither, numbers that are no subject's, or if memory runs out.
 #![tactic(auto)]
 
 mod lock_turns;

@@ -1,6 +1,6 @@
-//! The subject `replays`: a run of a small program is recorded, and roots are asked of it. Its numbers are how many pages the program stores
-//! to, the bound, how many steps lie between two checkpoints, how many roots are asked, at even distances up to the bound, and how many
-//! workers there are. With no steps between two checkpoints the program runs plainly, and with no roots the run is recorded alone.
+//! The subject `replays`: a run of a small program is recorded, and roots are asked of it. Its numbers are how many pages the program
+//! stores to, the bound, how many steps lie between two checkpoints, how many roots are asked, at even distances up to the bound, and how
+//! many workers there are. With no steps between two checkpoints the program runs plainly, and with no roots the run is recorded alone.
 //! `bench/replays` measures it.
 ghost use Rattle.std.specs.Prelude.{ℕ, List, IfOk};
 ghost use Rattle.rv_step.specs.State.{IsChained};

@@ -3,7 +3,7 @@ use Rattle.std.specs.Prelude.{ℕ, [], Option, None, if◌then◌else◌}
 use Rattle.std.specs.Fn.{iterate}
 use Rattle.std.specs.Option.{option_or}
 use Rattle.rd_base.specs.declared.digest.Digest32.{Digest32}
-use Rattle.bisect_game.specs.declared.question.Question.{Question}
+use Rattle.bisect_game.specs.declared.settled.Question.{Question}
 use Rattle.bisect_game.specs.declared.settled.Settled.{Settled}
 use Rattle.bisect_game.specs.declared.settled.Claimed.{Claimed}
 use Rattle.bisect_game.specs.Setup.{Setup}

@@ -2,9 +2,9 @@
 use Rattle.std.specs.Prelude.{◌-◌, ◌<◌, ◌≤◌, ◌==◌, length, Bool, true, false, if◌then◌else◌}
 use Rattle.rd_base.specs.declared.answer.Answer.{Answer}
 use Rattle.rd_base.specs.declared.answer.Answer.TheVariants as answer
-use Rattle.bisect_game.specs.declared.question.Kind.{Kind}
-use Rattle.bisect_game.specs.declared.question.Kind.TheVariants as kind
-use Rattle.bisect_game.specs.declared.question.Question.{Question}
+use Rattle.bisect_game.specs.declared.settled.Kind.{Kind}
+use Rattle.bisect_game.specs.declared.settled.Kind.TheVariants as kind
+use Rattle.bisect_game.specs.declared.settled.Question.{Question}
 use Rattle.bisect_game.specs.declared.settled.Settled.{Settled}
 use Rattle.bisect_game.specs.declared.settled.Settled.TheVariants.{Given, Faulty}
 use Rattle.bisect_game.specs.Setup.{Setup}

@@ -1,7 +1,7 @@
 -- To believe: what the provers of a match say, and which answerers answer as they say.
 use Rattle.std.specs.Prelude.{◌≡◌, ℕ, ◌+◌, List, [], ◌∷◌, Option, Some}
 use Rattle.rd_base.specs.declared.answer.Answer.{Answer}
-use Rattle.bisect_game.specs.declared.question.Question.{Question}
+use Rattle.bisect_game.specs.declared.settled.Question.{Question}
 
 -- what a prover answers to a question after this many passes on it; None is a pass
 abbrev pub Says : Type 0

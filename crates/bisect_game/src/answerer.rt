@@ -3,9 +3,9 @@ ghost use denote.Param.Send.{IsSync};
 ghost use Rattle.std.specs.Prelude.{◌≡◌, ◌≤◌, ◌<◌, is_none, IfOk, ℕ, Option};
 ghost use Rattle.rd_base.specs.declared.answer.Answer.{Answer};
 ghost use Rattle.bisect_game.specs.Says.{Says, GiveOneAnswer};
-ghost use Rattle.bisect_game.specs.declared.question.Question.{Question};
+ghost use Rattle.bisect_game.specs.declared.settled.Question.{Question};
 
-use crate::question::Question;
+use crate::settled::Question;
 use rd_base::{Answer, Memory};
 use std::thread::Threads;
 

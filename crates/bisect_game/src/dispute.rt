@@ -7,9 +7,8 @@ ghost use Rattle.bisect_game.specs.Disputes.{claimed_by, dispute_from};
 ghost use Rattle.bisect_game.specs.Truth.{own_open};
 
 use crate::judge::Judge;
-use crate::question::Question;
 use crate::rounds::{close_of, kept, kind_over, parts_of};
-use crate::settled::{Close, Interval, Round, Settled, Side};
+use crate::settled::{Close, Interval, Question, Round, Settled, Side};
 use rd_base::{Digest32, Memory, Qid};
 use std::alloc::Global;
 use std::marker::Model;

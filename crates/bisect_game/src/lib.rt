@@ -5,7 +5,7 @@
 //! It knows no machine and no hash: a `Judge` decides what is sound, which root a claim has, where a proof leads and what a collision is,
 //! by laws that every judge proves. The layers above may rely on this: each call of a `Dispute` is the definition of a dispute
 //! (`specs/Bisection.antt`, `specs/Closing.antt`) moved one answer at a time, and takes no memory once its `Room` was made; the laws in
-//! `laws` hold of that definition. Read `setup`, `question`, `settled` and `judge` first, then `dispute`; `rounds` decides a round.
+//! `laws` hold of that definition. Read `setup`, `settled` and `judge` first, then `dispute`; `rounds` decides a round.
 //! An `Err` that no comment names is out of memory.
 #![tactic(auto)]
 
@@ -13,11 +13,9 @@ mod answerer;
 mod dispute;
 mod judge;
 mod laws;
-mod question;
 mod rounds;
 mod settled;
 mod setup;
-mod steps;
 
 pub use answerer::{Answerer, Provers};
 pub use dispute::{Dispute, Room};
@@ -27,8 +25,6 @@ pub use laws::{
     disputes_end_where_runs_part, halves_are_bisection, one_cut_fewer_than_parts,
     sides_settle_in_any_order, the_fan_stays, the_kept_part_is_the_first_that_differs,
 };
-pub use question::{Kind, Question};
-pub use rounds::{cut, kept_part, parts_of, roots_in};
-pub use settled::{Claimed, Close, Interval, Round, Settled, Side};
+pub use rounds::{cut, kept_part, parts_of, roots_in, steps_asked};
+pub use settled::{Claimed, Close, Interval, Kind, Question, Round, Settled, Side};
 pub use setup::Setup;
-pub use steps::steps_asked;

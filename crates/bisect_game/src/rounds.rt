@@ -1,12 +1,12 @@
-//! A round: what it asks, which part it keeps, and how it closes its dispute.
-ghost use Rattle.std.specs.Prelude.{◌≡◌, ◌-◌, ◌<◌, ◌≤◌, ◌∷◌, ◌++◌, [], length, min, slice_index_or};
-ghost use Rattle.bisect_game.specs.Bisection.{cut, kept_part, kept, kind_over, roots_in, roots_of, agreeing};
+//! A round: what it asks and of which steps, which part it keeps, and how it closes its dispute.
+ghost use Rattle.std.specs.Prelude.{◌≡◌, ◌-◌, ◌<◌, ◌≤◌, ◌∷◌, ◌++◌, [], length, min, slice_index_or, IfOk};
+ghost use Rattle.bisect_game.specs.Bisection.{cut, kept_part, kept, kind_over, roots_in, roots_of, agreeing, can_cut, steps_asked};
 ghost use Rattle.bisect_game.specs.Closing.{is_out, is_proved, both_proved, close_of};
 
 use crate::judge::Judge;
-use crate::question::Kind;
-use crate::settled::{Close, Interval, Settled};
-use rd_base::{Answer, Digest32, same_digest};
+use crate::settled::{Close, Interval, Kind, Settled};
+use rd_base::{Answer, Digest32, Memory, same_digest};
+use std::alloc::Global;
 use std::slice;
 
 /// The `j`-th cut of an interval in this many parts (2 to 16, at most its steps): `lo + j * (hi - lo) / parts`, rounded down. Cut 0 is
@@ -208,4 +208,31 @@ pub(crate) fn close_of<J: Judge>(
     } else {
         None
     }
+}
+
+/// The most parts of a round.
+const MOST_PARTS: u32 = 16;
+
+/// Whether an interval is cut in this many parts: 2 to 16, and no more than it has steps.
+fn can_cut(lo: u64, hi: u64, parts: u32) -> bool
+    ensures { result ≡ can_cut lo hi parts }
+{
+    2 <= parts && (parts <= MOST_PARTS && u64::from(parts) <= hi.saturating_sub(lo))
+}
+
+/// The cuts between the ends of an interval, or its beginning if there are none.
+pub fn steps_asked(alloc: Global, lo: u64, hi: u64, parts: u32) -> Result<Vec<u64>, Memory>
+    ensures value { IfOk result (λ v. v.items ≡ steps_asked lo hi parts) }
+    ensures some { IfOk result (λ v. 0 < length v.items) }
+    ensures few { IfOk result (λ v. length v.items ≤ 15) }
+{
+    let mut steps = Vec::new(alloc);
+    if !can_cut(lo, hi, parts) {
+        steps.push(lo)?;
+        return Ok(steps);
+    }
+    'cuts: for j in 1..parts {
+        steps.push(cut(lo, hi, parts, j))?;
+    }
+    Ok(steps)
 }

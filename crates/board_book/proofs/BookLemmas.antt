@@ -6,7 +6,7 @@ use Rattle.std.proofs.Math.Pow.{pow_mono}
 use Rattle.std.proofs.lemmas.Bool.{cases_Bool, and_parts}
 use Rattle.rd_base.specs.declared.answer.Answer.{Answer}
 use Rattle.rd_base.specs.declared.answer.Qid.{Qid}
-use Rattle.bisect_game.specs.declared.question.Question.{Question}
+use Rattle.bisect_game.specs.declared.settled.Question.{Question}
 use Rattle.bisect_game.specs.Says.{Says, AnswerAs}
 use Rattle.bisect_game.specs.Rules.{Rules, ArePlayable}
 use Rattle.tournament.specs.declared.posting.Reply.{Reply}

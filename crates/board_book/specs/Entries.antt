@@ -1,7 +1,7 @@
 -- To believe: a journal, and what a prover is asked. Each entry is a move of its prover on its open question, as that prover says, with
 -- the reply to it.
 use Rattle.std.specs.Prelude.{◌≡◌, ℕ, ◌<◌, Bool, false, List, [], ◌∷◌, ◌++◌, Some, is_none, if◌then◌else◌, Option, None}
-use Rattle.bisect_game.specs.declared.question.Question.{Question}
+use Rattle.bisect_game.specs.declared.settled.Question.{Question}
 use Rattle.bisect_game.specs.Says.{Says}
 use Rattle.bisect_game.specs.Rules.{Rules}
 use Rattle.tournament.specs.Bracket.{open_question, is_complete}

@@ -11,7 +11,7 @@ use Rattle.board_book.specs.Entries.{IsJournal, state_after}
 use Rattle.board_book.specs.Tasks.{BookOf, openings, tasks_of, numbered, games_of, IsTaskJournal, entries_of, Task, task_of, of_task, sayings_from}
 use Rattle.bisect_game.specs.Rules.{Rules, ArePlayable, rules_of}
 use Rattle.rd_base.specs.declared.answer.Answer.{Answer}
-use Rattle.bisect_game.specs.declared.question.Question.{Question}
+use Rattle.bisect_game.specs.declared.settled.Question.{Question}
 
 -- a book as it is kept: its journal is legal, the match is its state, and there is room for each entry that can come
 pub record IsBook (rules : Rules) (says : Says) (count : ℕ) (es : List Entry) (st : MatchState) (room capacity : ℕ) : Type 0 where

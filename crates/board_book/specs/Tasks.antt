@@ -15,7 +15,7 @@ use Rattle.board_book.specs.declared.book.Opening.{Opening}
 use Rattle.board_book.specs.Entries.{IsEntry, noted}
 use Rattle.rd_base.specs.declared.answer.Answer.{Answer}
 use Rattle.rd_base.specs.declared.answer.Qid.{Qid}
-use Rattle.bisect_game.specs.declared.question.Question.{Question}
+use Rattle.bisect_game.specs.declared.settled.Question.{Question}
 use Rattle.tournament.specs.declared.posting.Reply.{Reply}
 
 -- a task: by what its match is played, and what its provers say

@@ -1,7 +1,7 @@
 //! The book of one match.
 ghost use denote.Param.Send.{IsSync};
 ghost use Rattle.std.specs.Prelude.{◌≡◌, ◌+◌, ◌<◌, ◌≤◌, ◌^◌, ◌∷◌, ◌++◌, [], ℕ, List, Some, None, if◌then◌else◌, IfOk, IfErr, IfSome, IfNone, length, true, is_none};
-ghost use Rattle.bisect_game.specs.declared.question.Question.{Question};
+ghost use Rattle.bisect_game.specs.declared.settled.Question.{Question};
 ghost use Rattle.bisect_game.specs.Setup.{Setup};
 ghost use Rattle.tournament.specs.Bracket.{open_question, is_complete, bracket, verdict_of};
 ghost use Rattle.tournament.specs.Moves.{passes_of, begun};
@@ -18,8 +18,8 @@ ghost use Rattle.board_book.specs.declared.entry.Entry.{Entry};
 ghost use Rattle.board_book.specs.Tasks.{match_of};
 ghost use Rattle.board_book.specs.Entries.{IsJournal, state_after, noted, ask_on, waits_on};
 
+use crate::books::most_entries;
 use crate::entry::{Ask, Entry};
-use crate::room::most_entries;
 use bisect_game::{Answerer, Judge, Provers, Question, Setup};
 use rd_base::{Digest32, Memory, Qid};
 use std::alloc::Global;

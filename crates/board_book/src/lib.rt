@@ -18,7 +18,6 @@ mod book;
 mod books;
 mod entry;
 mod laws;
-mod room;
 
 pub use book::{Book, Opening};
 pub use books::Books;

@@ -15,9 +15,9 @@ use Rattle.checkpoint_run.specs.TamperedRun.{run_at}
 use Rattle.rv_step.specs.State.{State}
 use Rattle.rv_step.specs.Step.{state_at}
 use Rattle.case_reader.specs.Case.{CaseData}
-use Rattle.bisect_game.specs.declared.question.Kind.{Kind}
-use Rattle.bisect_game.specs.declared.question.Kind.TheVariants as kind
-use Rattle.bisect_game.specs.declared.question.Question.{Question}
+use Rattle.bisect_game.specs.declared.settled.Kind.{Kind}
+use Rattle.bisect_game.specs.declared.settled.Kind.TheVariants as kind
+use Rattle.bisect_game.specs.declared.settled.Question.{Question}
 use Rattle.bisect_game.specs.Bisection.{cut, cuts, cuts_from, can_cut}
 use Rattle.bisect_game.specs.Laws.{CutsDivide}
 use Rattle.bisect_game.specs.Truth.{IsTrueAnswer}

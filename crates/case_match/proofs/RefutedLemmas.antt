@@ -9,7 +9,7 @@ use Rattle.rd_base.specs.declared.script.Manner.{Manner}
 use Rattle.rd_base.specs.declared.script.Manner.TheVariants.{Plain, Late, Silent, Output, Forge, Noise, Tape}
 use Rattle.rd_base.specs.declared.tamper.Tamper.{Tamper}
 use Rattle.rd_base.specs.declared.tamper.Tamper.TheVariants.{Untouched, Flip, Register, Early}
-use Rattle.bisect_game.specs.declared.question.Question.{Question}
+use Rattle.bisect_game.specs.declared.settled.Question.{Question}
 use Rattle.bisect_game.specs.declared.settled.Close.{Close}
 use Rattle.bisect_game.specs.declared.settled.Close.TheVariants.{Out, Collision}
 use Rattle.bisect_game.specs.Bisection.{Bisection, is_closed}

@@ -8,7 +8,7 @@ use Rattle.rd_base.specs.declared.tamper.Tamper.{Tamper}
 use Rattle.rd_base.specs.declared.tamper.Tamper.TheVariants.{Untouched}
 use Rattle.rv_step.specs.State.{State}
 use Rattle.rv_step.specs.Step.{state_at}
-use Rattle.bisect_game.specs.declared.question.Question.{Question}
+use Rattle.bisect_game.specs.declared.settled.Question.{Question}
 use Rattle.bisect_game.specs.Truth.{IsTrueAnswer}
 use Rattle.tournament.specs.Asked.{asked}
 use Rattle.prover_script.specs.Manners.{written}

@@ -47,8 +47,8 @@ pub fn records_of_cases_are_settled_up()
     a_match_that_has_ended_is_settled_up();
 }
 
-/// Who is live in the record of a case has its stake and one more for each of its disputes but that of a collision, of which there is one at
-/// most, and the others and the pool have exactly the rest, whatever the provers say.
+/// Who is live in the record of a case has its stake and one more for each of its disputes but that of a collision, of which there is one
+/// at most, and the others and the pool have exactly the rest, whatever the provers say.
 pub fn who_lives_in_a_case_wins_all()
     ensures { WhoLivesInACaseWinsAll }
 {
@@ -59,14 +59,14 @@ pub fn who_lives_in_a_case_wins_all()
     who_lives_wins_all();
 }
 
-/// A tampered run is refuted where it was tampered with. In each dispute of a case between a prover that claims and answers as the machine's
-/// definition says and one that answers by its own tampered run, at once or after no more passes than the patience, the second alone is
-/// out, or the dispute has closed by a collision of their two proofs: two different strings of one digest. It is out in the proof of step
-/// s - 1 if a byte or a register is changed in the state of step s, which is that of step 0 if s is 0; and if its run ends early at step s,
-/// in that of step s, or of a later one before which the sequential run has come back to the root of step s (`refuted`). Each dispute between
-/// two provers that answer by their own runs, tampered with or not, ends in the proof of step 0 or of a step from which these part, by their
-/// proofs of it (`part`). The case's numbers are in range, and the tampers' too, as those of each case that is read
-/// (`tampers_of_cases_are_in_range`).
+/// A tampered run is refuted where it was tampered with. In each dispute of a case between a prover that claims and answers as the
+/// machine's definition says and one that answers by its own tampered run, at once or after no more passes than the patience, the second
+/// alone is out, or the dispute has closed by a collision of their two proofs: two different strings of one digest. It is out in the
+/// proof of step s - 1 if a byte or a register is changed in the state of step s, which is that of step 0 if s is 0; and if its run ends
+/// early at step s, in that of step s, or of a later one before which the sequential run has come back to the root of step s (`refuted`).
+/// Each dispute between two provers that answer by their own runs, tampered with or not, ends in the proof of step 0 or of a step from
+/// which these part, by their proofs of it (`part`). The case's numbers are in range, and the tampers' too, as those of each case that is
+/// read (`tampers_of_cases_are_in_range`).
 pub fn tampers_are_refuted<D: Digester>()
     ensures refuted { TampersAreRefuted D.digest_of }
     ensures part { DisputesOfCasesEndWhereRunsPart D.digest_of }

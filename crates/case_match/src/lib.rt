@@ -9,12 +9,11 @@
 //! two tampered runs ends; and `specs/Earnings.antt`, what a prover has at the end.
 //!
 //! What decides a match is `referee`, which gets no case, no image and no machine. The crate reads no device and writes no text. Read
-//! `specs/Match.antt` first, then `playing`. An `Err` that no comment names is out of memory.
+//! `specs/Match.antt` first, then `opening`. An `Err` that no comment names is out of memory.
 #![tactic(auto)]
 
 mod laws;
 mod opening;
-mod playing;
 mod referee;
 mod verdict;
 
@@ -23,7 +22,6 @@ pub use laws::{
     tampers_of_cases_are_refuted, truthful_provers_of_cases_are_safe,
     untouched_provers_are_truthful, who_lives_in_a_case_wins_all,
 };
-pub use opening::{LoadedCase, loaded_cases};
-pub use playing::{ended_one, ended_tasks};
+pub use opening::{LoadedCase, ended_one, ended_tasks, loaded_cases};
 pub use referee::Ended;
 pub use verdict::{verdict_of_case, verdict_of_tasks};

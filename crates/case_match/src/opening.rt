@@ -1,5 +1,5 @@
-//! Loaded cases, and their matches, opened.
-ghost use Rattle.std.specs.Prelude.{◌≡◌, ℕ, List, [], map, length, IfOk};
+//! Loaded cases, and their matches, opened and handed to the referee.
+ghost use Rattle.std.specs.Prelude.{◌≡◌, ℕ, List, [], map, length, IfOk, ◌<◌, ◌≤◌};
 ghost use Rattle.std.specs.List.{All};
 ghost use Rattle.bisect_game.specs.Says.{AnswerAs};
 ghost use Rattle.rv_step.specs.State.{state_of, IsChained};
@@ -7,8 +7,11 @@ ghost use Rattle.board_book.specs.Tasks.{openings, sayings};
 ghost use Rattle.prover_run.specs.CaseScripts.{case_says};
 ghost use Rattle.case_reader.specs.Case.{data_of};
 ghost use Rattle.command_line.specs.Words.{AreAtLeastOne};
-ghost use Rattle.case_match.specs.Openings.{IsFresh, opening_of_case, opening_of};
+ghost use Rattle.case_match.specs.Openings.{IsFresh, opening_of_case, opening_of, ended_of};
+ghost use Rattle.deposits.specs.Balances.{IsSettledUp};
 
+use crate::laws::records_of_cases_are_settled_up;
+use crate::referee::{Ended, decide};
 use bisect_game::{Answerer, Provers};
 use board_book::{Book, answerers_say_in_order};
 use case_reader::Case;
@@ -20,6 +23,8 @@ use rv_step::Machine;
 use segment_replay::Replays;
 use state_commit::{SharedInput, state_root_with};
 use std::alloc::Global;
+use std::sync::Wait;
+use std::thread::Threads;
 use step_referee::MachineJudge;
 
 /// A case that is loaded: the case, and the machine in which its run starts.
@@ -62,7 +67,7 @@ struct OpenedMatch<D: Replays> {
 
 /// The matches of cases, opened: their books, and the answerers of all their provers.
 #[derive(Drop)]
-pub struct OpenedMatches<D: Replays> {
+struct OpenedMatches<D: Replays> {
     pub books: Vec<Book<MachineJudge<D>, CaseProvers<D>>>,
     pub answerers: Vec<Scripted<RunAnswerer<D>, D>>,
 }
@@ -107,7 +112,7 @@ fn open_match<D: Replays>(
 }
 
 /// Opens the matches of loaded cases, in their order.
-pub fn open_matches<D: Replays>(
+fn open_matches<D: Replays>(
     alloc: Global,
     d: D,
     mut loads: Vec<LoadedCase>,
@@ -137,4 +142,52 @@ pub fn open_matches<D: Replays>(
     books.push(book)?;
     answerers.append(&mut own)?;
     Ok(OpenedMatches { books, answerers })
+}
+
+/// The results of the matches of 1 to 8 loaded cases, in their order, played by commitments of the digester `d`. Posters go over the
+/// provers of all cases. Each case ends as it ends alone, whatever the others' provers do. Each machine has no output, and its chain is
+/// that of no output by `d`; each option is at least 1, and none changes the answer.
+pub fn ended_tasks<R: Threads + Wait + Sync, D: Replays>(
+    rt: &R,
+    alloc: Global,
+    d: D,
+    loads: Vec<LoadedCase>,
+    options: Options,
+) -> Result<Vec<Ended>, Memory>
+where
+    D: Send + Sync,
+    requires some { 0 < length loads.items }
+    requires few { length loads.items ≤ 8 }
+    requires fresh { All (λ l. IsFresh D.digest_of l.start) loads.items }
+    requires options { AreAtLeastOne options }
+    ensures { IfOk result (λ ends. ends.items ≡ map (ended_of D.digest_of) loads.entry.items) }
+{
+    let OpenedMatches {
+        books,
+        mut answerers,
+    } = open_matches(alloc, d, loads, options)?;
+    decide(rt, alloc, books, answerers.as_mut_slice(), options.posters)
+}
+
+/// The result of the match of one loaded case, as of one task. The record may be paid. The machine and the options are as for
+/// `ended_tasks`.
+pub fn ended_one<R: Threads + Wait + Sync, D: Replays>(
+    rt: &R,
+    alloc: Global,
+    d: D,
+    loaded: LoadedCase,
+    options: Options,
+) -> Result<Ended, Memory>
+where
+    D: Send + Sync,
+    requires fresh { IsFresh D.digest_of loaded.start }
+    requires options { AreAtLeastOne options }
+    ensures ended { IfOk result (λ end. end ≡ ended_of D.digest_of loaded.entry) }
+    ensures settled_up { IfOk result (λ end. IsSettledUp (length loaded.entry.case.now.provers) end.match_record) }
+{
+    records_of_cases_are_settled_up();
+    let mut loads = Vec::with_capacity(alloc, 1)?;
+    loads.push(loaded)?;
+    let mut ends = ended_tasks(rt, alloc, d, loads, options)?;
+    Ok(ends.pop().unwrap())
 }

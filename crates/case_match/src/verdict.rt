@@ -8,8 +8,7 @@ ghost use Rattle.deposits.specs.Balances.{IsSettledUp};
 ghost use Rattle.case_match.specs.Match.{record_of_case, verdict_of_record, endings_of_cases, AreSettledUp};
 
 use crate::laws::records_of_cases_are_settled_up;
-use crate::opening::{LoadedCase, loaded_cases};
-use crate::playing::{ended_one, ended_tasks};
+use crate::opening::{LoadedCase, ended_one, ended_tasks, loaded_cases};
 use crate::referee::Ended;
 use case_reader::Case;
 use command_line::Options;

@@ -24,8 +24,8 @@ pub fn cases_are_read_as_one_task()
     ensures { CasesAreTasks }
 {}
 
-/// The numbers of each tamper of a case that is read are in the ranges of its keys: steps, addresses and values are words, a mask is a byte,
-/// and a register is one of x1 to x31.
+/// The numbers of each tamper of a case that is read are in the ranges of its keys: steps, addresses and values are words, a mask is a
+/// byte, and a register is one of x1 to x31.
 pub fn tampers_are_read_in_range()
     ensures { TampersAreRead }
 {}

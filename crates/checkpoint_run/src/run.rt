@@ -7,8 +7,7 @@ ghost use Rattle.checkpoint_run.specs.NamedPages.{IsNamed, ArePages};
 ghost use Rattle.checkpoint_run.specs.WrittenPages.{written_by};
 ghost use Rattle.checkpoint_run.specs.Recorded.{AreChained, state_of_step, still_of};
 
-use crate::checkpoint::{Checkpoint, place_of, restored};
-use crate::page_places::{PagePlaces, index_of};
+use crate::checkpoint::{Checkpoint, PagePlaces, index_of, place_of, restored};
 use crate::recording::{Kept, Recording, begin, record_to_end};
 use crate::tampering::{follow, same_until};
 use crate::version::Version;

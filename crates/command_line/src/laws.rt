@@ -33,7 +33,8 @@ pub fn help_is_refused()
     ensures behind { (program : List ℕ) → list_all (λ word. list_all (λ command. is_refused program (command ++ word ∷ [])) plain_commands) help_words ≡ true }
 {}
 
-/// `--full=true` is refused, as the option takes no value; and so is `--full` alone, or `--digest sha256` alone, behind each command but `judge`.
+/// `--full=true` is refused, as the option takes no value; and so is `--full` alone, or `--digest sha256` alone, behind each command but
+/// `judge`.
 #[tactic(auto, using(crate::proofs::WordsLemmas::valued_full_is_refused, crate::proofs::WordsLemmas::full_of_big_is_refused, crate::proofs::WordsLemmas::full_of_run_is_refused, crate::proofs::WordsLemmas::full_of_roots_is_refused, crate::proofs::WordsLemmas::full_of_audit_is_refused, crate::proofs::WordsLemmas::full_of_list_is_refused, crate::proofs::WordsLemmas::digest_of_big_is_refused, crate::proofs::WordsLemmas::digest_of_run_is_refused, crate::proofs::WordsLemmas::digest_of_roots_is_refused, crate::proofs::WordsLemmas::digest_of_audit_is_refused, crate::proofs::WordsLemmas::digest_of_list_is_refused))]
 pub fn own_options()
     ensures valued { (program : List ℕ) → chosen (program ∷ codes "judge" ∷ codes "--full=true" ∷ []) ≡ None }

@@ -105,7 +105,8 @@ fn written(found: Option<StepCheck>, next: &mut [u8]) -> u32
 /// commitment (1, 2 or 3) and by SHA-256. It takes no memory, and reads nothing else.
 ///
 /// - 0: it leads, and to the root whose 32 bytes are written to `next`. Otherwise `next` stays as it was.
-/// - 1: it isn't open: the first of its conditions that fails is that its parts open the root, or that an opening opens the root of its tree.
+/// - 1: it isn't open: the first of its conditions that fails is that its parts open the root, or that an opening opens the root of its
+///   tree.
 /// - 2: its shape is wrong: it is of another version, as any is if `version` isn't 1, 2 or 3; or an opening is missing, or is there and
 ///   not called for.
 /// - 3: the bytes are the wire form of no proof of a step.

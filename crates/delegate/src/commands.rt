@@ -1,5 +1,5 @@
-//! The commands, each in a module of its own or beside one like it, and which one is carried out; and those that need no runtime, for callers
-//! that have bytes in memory. An `Err` is a refusal, with the response to it, or out of memory.
+//! The commands, each in a module of its own or beside one like it, and which one is carried out; and those that need no runtime, for
+//! callers that have bytes in memory. An `Err` is a refusal, with the response to it, or out of memory.
 ghost use Rattle.std.specs.Prelude.{◌≡◌, ℕ, List, IfOk, true};
 ghost use Rattle.command_line.specs.Words.{AreAtLeastOne};
 ghost use Rattle.delegate.specs.declared.commands.Alone as commands;

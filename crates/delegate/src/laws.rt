@@ -84,8 +84,8 @@ pub fn judges_end_alike()
     a_verdict_is_stated();
 }
 
-/// An outcome depends on the bytes and on the command that the arguments choose; so the program's name, `--workers`, `--posters`, `--every` and
-/// the order of options change nothing.
+/// An outcome depends on the bytes and on the command that the arguments choose; so the program's name, `--workers`, `--posters`,
+/// `--every` and the order of options change nothing.
 pub fn sharing_out_changes_nothing()
     ensures command { OutcomesAreOfTheCommand }
     ensures judge { JudgingIsSharedOut }

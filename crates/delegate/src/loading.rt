@@ -162,8 +162,8 @@ fn image_in(alloc: Global, subject: Subject, case: &Case) -> Result<Loaded, Stop
     }
 }
 
-/// The machine in which the run of the case starts, of the case's version. It is fresh: it has no output, and its chain is that of no output
-/// by every digester. A refusal names this subject.
+/// The machine in which the run of the case starts, of the case's version. It is fresh: it has no output, and its chain is that of no
+/// output by every digester. A refusal names this subject.
 #[tactic(auto, unfolding(crate::specs::Loading::start_in))]
 pub fn start_in(alloc: Global, subject: Subject, case: &Case) -> Result<Machine, Stop>
     ensures stands { Stands state_of result (start_in subject (data_of case.now)) }

@@ -1,13 +1,14 @@
-//! Digest functions.
-ghost use Rattle.std.specs.Prelude.{◌≡◌, ◌<◌, ℕ, List, ◌∷◌, length, replicate, slice_index};
+//! Digest functions, and digests that are counted.
+ghost use Rattle.std.specs.Prelude.{◌≡◌, ◌+◌, ◌<◌, ℕ, List, ◌∷◌, length, replicate, slice_index};
 ghost use Rattle.sha2.specs.Sha256.{sha256};
 ghost use Rattle.sha2.proofs.Facts256.{length-sha256};
 ghost use Rattle.digest_core.specs.Sha256Bytes.{byte-sha256};
 ghost use Rattle.digest_core.specs.Weak8.{weak8};
 ghost use Rattle.digest_core.specs.Weak8Bytes.{length-weak8, byte-weak8};
 
-use rd_base::Digest32;
+use rd_base::{Digest32, OpenText, Steps};
 use sha2::Digest;
+use std::sync::ledger::Ledger;
 
 /// A digest function, which the type alone names: two values of one type give the same digests.
 pub trait Digester: Copy {
@@ -64,6 +65,28 @@ impl Digester for Weak8 {
 
     #[tactic(auto, unfolding(crate::specs::Weak8::weak8))]
     fn digest(&self, bytes: &[u8]) -> Digest32 {
-        Digest32(padded(Sha256.digest(bytes).0[0]))
+        Digest32(padded(Digester::digest(&Sha256, bytes).0[0]))
+    }
+}
+
+/// A digest function that can't be called without a counter, which each digest counts up by 1. A function that gets a `Counted` and
+/// no `Digester` makes no digest, by its type, without a counter; a clause on its own counter says how many those are that it counted
+/// there. Each `Digester` is one.
+pub trait Counted: Copy {
+    /// The digest of a list of bytes.
+    ghost digest_of: { List ℕ → List ℕ };
+
+    /// The digest of a string, which is counted as one step. It takes no memory.
+    fn digest<L: Ledger>(&self, text: &OpenText, steps: &mut Steps<L>) -> Digest32
+        ensures digest { result.0 ≡ digest_of text.now }
+        ensures steps { steps.new ≡ steps.old + 1 };
+}
+
+impl<D: Digester> Counted for D {
+    ghost digest_of = { D.digest_of };
+
+    fn digest<L: Ledger>(&self, text: &OpenText, steps: &mut Steps<L>) -> Digest32 {
+        steps.tick();
+        Digester::digest(self, text.as_slice())
     }
 }

@@ -1,10 +1,13 @@
-//! Laws of the definitions, each of them the contract of a function that does nothing.
+//! Laws of the definitions, and of what the parts of the strings are by their types, each of them the contract of a function that
+//! changes nothing.
 ghost use Rattle.std.specs.Prelude.{◌≡◌, ◌≢◌, ℕ, ◌^◌, ◌<◌, List, [], ◌∷◌, ◌++◌, codes, length, replicate, slice_index};
 ghost use Rattle.sha2.specs.Sha256.{sha256};
 ghost use Rattle.rd_base.specs.declared.status.Status.{Status};
 ghost use Rattle.digest_core.specs.Text.{leaf_text, node_text, registers_text, control_text, status_code, state_text, link_text, noise_text, register_text, storage_text};
 ghost use Rattle.digest_core.specs.Kinds.{Kind, IsOfKind, size_of};
 ghost use Rattle.digest_core.specs.Chain.{chain_of};
+
+use rd_base::{Digest32, Status};
 
 /// A string of each kind has the length of that kind (`length`), no two kinds have one length (`apart`), and so no string is of two
 /// kinds (`differ`).
@@ -58,3 +61,21 @@ pub fn sha256_has_the_digests_of_the_standard()
         0x24 ∷ 0x8D ∷ 0x6A ∷ 0x61 ∷ 0xD2 ∷ 0x06 ∷ 0x38 ∷ 0xB8 ∷ 0xE5 ∷ 0xC0 ∷ 0x26 ∷ 0x93 ∷ 0x0C ∷ 0x3E ∷ 0x60 ∷ 0x39 ∷
         0xA3 ∷ 0x3C ∷ 0xE4 ∷ 0x59 ∷ 0x64 ∷ 0xFF ∷ 0x21 ∷ 0x67 ∷ 0xF6 ∷ 0xEC ∷ 0xED ∷ 0xD4 ∷ 0x19 ∷ 0xDB ∷ 0x06 ∷ 0xC1 ∷ [] }
 {}
+
+/// A digest has 32 bytes.
+pub fn digests_are_32_bytes(digest: &Digest32)
+    ensures { length digest.now.0 ≡ 32 }
+{
+    let _first = digest.0[0];
+}
+
+/// The code of a status fits in 32 bits.
+pub fn codes_fit(status: Status)
+    ensures { status_code status < 2 ^ 32 }
+{
+    match status {
+        Status::Running => {}
+        Status::Exited(_code) => {}
+        Status::Trapped(_code) => {}
+    }
+}

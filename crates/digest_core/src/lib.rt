@@ -8,26 +8,20 @@
 //!
 //! The layers above may rely on this: each kind of string has one definition in `specs/Text.antt` and one function
 //! here that makes it, without memory; each kind has its length, no string is of two kinds (`specs/Kinds.antt`), and a string
-//! determines its parts (`laws`), which are in the ranges of their types (`ranges`). The chain of an output is defined in
+//! determines its parts, which are in the ranges of their types (`laws`). The chain of an output is defined in
 //! `specs/Chain.antt`, and `link` adds a byte to it. Read those two definitions first, then `digester`, then `text`.
 #![tactic(auto)]
 
-mod chain;
-mod counted;
 mod digester;
 mod laws;
-mod ranges;
 mod text;
 
-pub use chain::link;
-pub use counted::Counted;
-pub use digester::{Digester, Sha256, Weak8};
+pub use digester::{Counted, Digester, Sha256, Weak8};
 pub use laws::{
-    chain_grows, kinds_have_lengths, sha256_has_the_digests_of_the_standard,
-    texts_determine_their_parts,
+    chain_grows, codes_fit, digests_are_32_bytes, kinds_have_lengths,
+    sha256_has_the_digests_of_the_standard, texts_determine_their_parts,
 };
-pub use ranges::{codes_fit, digests_are_32_bytes};
 pub use text::{
-    control_text, leaf_text, link_text, node_text, noise_text, register_text, registers_text,
+    control_text, leaf_text, link, link_text, node_text, noise_text, register_text, registers_text,
     state_text, storage_text,
 };

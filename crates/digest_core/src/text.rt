@@ -1,8 +1,9 @@
-//! The strings that are digested.
+//! The strings that are digested, and a link of the chain of an output.
 ghost use Rattle.std.specs.Prelude.{◌≡◌, ◌+◌, ◌≤◌, ◌++◌, length};
 ghost use Rattle.byteorder.specs.Endian.{little_bytes};
 ghost use Rattle.digest_core.specs.Text as text;
 
+use crate::digester::Digester;
 use byteorder::{ByteOrder, LittleEndian};
 use rd_base::{Ctl, Digest32, OpenText, Regs, Status, registers_are_32};
 
@@ -171,4 +172,14 @@ pub fn storage_text(memory: &Digest32, input_len: u32, input: &Digest32) -> Open
     append_u32(&mut string, input_len);
     string.extend(&input.0);
     string
+}
+
+/// The chain of an output after one more byte, from the chain before: the digest of their link string.
+///
+/// It isn't inlined, so that a step without output carries none of the code of a digest.
+#[inline(never)]
+pub fn link<D: Digester>(d: D, chain: Digest32, byte: u8) -> Digest32
+    ensures { result.0 ≡ D.digest_of (text.link_text chain.0 byte) }
+{
+    d.digest(link_text(&chain, byte).as_slice())
 }

@@ -8,7 +8,7 @@ use Rattle.board_book.specs.declared.entry.Entry.{Entry}
 use Rattle.board_book.specs.Tasks.{Task, task_of, numbered, games_of, IsTaskJournal, entries_of, BookOf, tasks_of, openings, noted_for}
 use Rattle.rd_base.specs.declared.answer.Answer.{Answer}
 use Rattle.rd_base.specs.declared.answer.Qid.{Qid}
-use Rattle.bisect_game.specs.declared.question.Question.{Question}
+use Rattle.bisect_game.specs.declared.settled.Question.{Question}
 use Rattle.tournament.specs.declared.posting.Reply.{Reply}
 use Rattle.tournament.specs.declared.posting.Reply.TheVariants.{Stale}
 use Rattle.tournament.specs.Bracket.{open_question}

@@ -4,7 +4,7 @@ use Rattle.std.specs.Prelude.{◌≡◌, ℕ, ◌<◌, List, [], length, Option,
 use Rattle.std.specs.List.{All}
 use Rattle.rd_base.specs.declared.answer.Answer.{Answer}
 use Rattle.rd_base.specs.declared.answer.Qid.{Qid}
-use Rattle.bisect_game.specs.declared.question.Question.{Question}
+use Rattle.bisect_game.specs.declared.settled.Question.{Question}
 use Rattle.tournament.specs.declared.posting.Reply.{Reply}
 use Rattle.tournament.specs.Moves.{MatchState, passes_of}
 use Rattle.board_book.specs.declared.entry.Entry.{Entry}

@@ -11,16 +11,12 @@ mod fault;
 mod mem_sink;
 mod mem_source;
 mod quiet;
-mod reader_source;
 mod sink;
 mod source;
-mod writer_sink;
 
 pub use fault::Failed;
 pub use mem_sink::MemSink;
 pub use mem_source::MemSource;
 pub use quiet::{QuietSink, QuietSource};
-pub use reader_source::{ReaderSource, StdSource};
-pub use sink::{Sink, write_all};
-pub use source::{ReadAll, Source, read_all};
-pub use writer_sink::{StdSink, WriterSink};
+pub use sink::{Sink, StdSink, WriterSink, write_all};
+pub use source::{ReadAll, ReaderSource, Source, StdSource, read_all};

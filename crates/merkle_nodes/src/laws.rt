@@ -1,4 +1,4 @@
-//! Laws of nodes, paths and heaps, each the contract of a function that does nothing.
+//! Laws of nodes, paths, heaps and the strings of a tree, each the contract of a function that does nothing.
 ghost use Rattle.std.specs.Prelude.{◌≡◌, ◌≢◌, ◌↔◌, ◌⊎◌, ℕ, suc, ◌+◌, ◌*◌, ◌-◌, ◌/◌, ◌%◌, ◌^◌, ◌<◌, ◌≤◌, ◌||◌, Bool, true, List, length};
 ghost use Rattle.digest_core.specs.Text.{node_text};
 ghost use Rattle.rd_base.specs.declared.digest.Digest32.{Digest32};
@@ -6,7 +6,8 @@ ghost use Rattle.merkle_nodes.specs.Node.{node, empty_node, beside, digest_at};
 ghost use Rattle.merkle_nodes.specs.Heap.{IsHeap};
 ghost use Rattle.merkle_nodes.specs.Renewals.{how_many, is_changed, renewals};
 ghost use Rattle.merkle_nodes.specs.Opening.{joined, Opens, opened, AreSiblings};
-ghost use Rattle.merkle_nodes.specs.Split.{IsSplitAt};
+ghost use Rattle.merkle_nodes.specs.Split.{IsSplitAt, IsSplit};
+ghost use Rattle.merkle_nodes.specs.TreeStrings.{IsTreeString, TreesSplit};
 
 /// What a node is, at level 0 and above; `node` doesn't compute by itself.
 #[tactic(auto, unfolding(crate::specs::Node::node))]
@@ -103,4 +104,22 @@ pub fn renewals_are_few()
     ensures most { (changed : ℕ → Bool) (n : ℕ) → renewals changed n < 2 ^ (n + 1) }
     ensures root { (changed : ℕ → Bool) (n k : ℕ) → k < 2 ^ n → changed k ≡ true → is_changed changed n 0 ≡ true }
     ensures some { (changed : ℕ → Bool) (n : ℕ) → is_changed changed n 0 ≡ true → 0 < how_many changed (2 ^ n) }
+{}
+
+/// With the siblings of a tree of any number of levels, each string along the path of a leaf, from its leaf string up to the root's
+/// node string, is a string of the tree.
+pub fn paths_open_strings_of_the_tree()
+    ensures strings { (digest : List ℕ → List ℕ) (leaf : ℕ → List ℕ) (siblings : ℕ → List ℕ) (n l k : ℕ) → l ≤ n → k < 2 ^ n →
+        AreSiblings digest leaf l k siblings → IsTreeString digest leaf n (opened digest (leaf k) siblings l k) }
+{
+    paths_climb_to_nodes();
+}
+
+/// A root binds its tree: two trees of any number of levels that have one root have the same leaf strings, or a string of the one and a
+/// different string of the other have one digest (`leaves`). So it is of two strings alone (`strings`).
+pub fn roots_bind_trees()
+    ensures leaves { (digest : List ℕ → List ℕ) → ((bytes : List ℕ) → length (digest bytes) ≡ 32) → (leaf other : ℕ → List ℕ) (n : ℕ) →
+        node digest leaf n 0 ≡ node digest other n 0 →
+        ((k : ℕ) → k < 2 ^ n → leaf k ≡ other k) ⊎ TreesSplit digest leaf other n }
+    ensures strings { (digest : List ℕ → List ℕ) (x y : List ℕ) → digest x ≡ digest y → (x ≡ y) ⊎ IsSplit digest x y }
 {}

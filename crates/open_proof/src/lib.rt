@@ -9,10 +9,11 @@
 //!
 //! The layers above may rely on this: the step on what is held of a state (`specs/Held.antt`) depends on the opened parts alone and is
 //! the step of the machine (`shown_states_lead`); each proof that a program holds is in the ranges of its types (`proofs_are_in_range`);
-//! `make_proof` gives the plain proof of a state, which leads from the root of the state to the root of the next (`plain_proofs_lead`); what
-//! `step_collision` gives is a pair of different strings of one digest, the first opened by the first proof, the second by the second,
-//! and it gives none if and only if the proofs are equal (`proofs_from_one_root`). Only a claim takes memory, for its output. Read
-//! `specs/Held.antt`, `specs/Facts.antt`, `specs/Next.antt` and `specs/Conditions.antt`, then `facts`, `proving` and `specs/Collision.antt`.
+//! `make_proof` gives the plain proof of a state, which leads from the root of the state to the root of the next (`plain_proofs_lead`);
+//! what `step_collision` gives is a pair of different strings of one digest, the first opened by the first proof, the second by the
+//! second, and it gives none if and only if the proofs are equal (`proofs_from_one_root`). Only a claim takes memory, for its output.
+//! Read `specs/Held.antt`, `specs/Facts.antt`, `specs/Next.antt` and `specs/Conditions.antt`, then `facts`, `proving` and
+//! `specs/Collision.antt`.
 #![tactic(auto)]
 
 mod collision;

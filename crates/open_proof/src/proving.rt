@@ -1,24 +1,30 @@
-//! The two answers that are true of a state: its claim, and the plain proof of its step.
-ghost use Rattle.std.specs.Prelude.{◌≡◌, ◌≤◌, IfOk, length};
+//! The two answers that are true of a state, its claim and the plain proof of its step, and the openings of that proof.
+ghost use Rattle.std.specs.Prelude.{◌≡◌, ◌≢◌, ◌+◌, ◌<◌, ◌≤◌, ◌%◌, ◌++◌, map, length, IfOk, IfSome};
 ghost use Rattle.rd_base.specs.declared.digest.Digest32.{Digest32};
 ghost use Rattle.rv_step.specs.Step.{step};
+ghost use Rattle.rv_step.specs.Alike.{named_at};
+ghost use Rattle.rv_step.specs.Named.{AreRegisters};
 ghost use Rattle.state_commit.specs.StateRoot.{ctl_of, root_in, storage_digest};
 ghost use Rattle.open_proof.specs.Conditions.{LeadsFrom};
 ghost use Rattle.open_proof.specs.Facts.{facts_of};
 ghost use Rattle.open_proof.specs.PlainProof as plain;
 ghost use Rattle.open_proof.specs.PlainClaim.{plain_claim};
+ghost use Rattle.open_proof.specs.OpenedChunk as openings;
+ghost use Rattle.open_proof.specs.Shown as shown;
 
-mod called;
-mod opening;
-
-use crate::facts::plain_proofs_lead;
-use crate::proving::called::called_by_state;
-use crate::proving::opening::{input_opening_at, named_openings, opening_at};
-use digest_core::{Digester, storage_text};
-use rd_base::{
-    Claim, ClaimOutput, Ctl, Digest32, Memory, Proof, StepProof, StepProof2, StepProof3,
+use crate::facts::{
+    HeldInput, address_needed, byte_needed, needed_by, plain_proofs_lead, states_name_registers,
 };
-use rv_step::machines_are_valid;
+use digest_core::{Digester, storage_text};
+use mem_plain::PlainMem;
+use mem_tree::input_chunk;
+use rd_base::{
+    Claim, ClaimOutput, Ctl, Digest32, InOpening, Memory, Opening, Proof, RegOpening, RegOpenings,
+    StepProof, StepProof2, StepProof3, paths_have_5_levels, paths_have_15_levels,
+    paths_have_27_levels,
+};
+use rv_decode::{Instr, decode};
+use rv_step::{Names, fetch_address, machines_are_valid, named_by};
 use state_commit::{Committed, INPUT_TREE, WHOLE_REGISTERS};
 use std::alloc::Global;
 
@@ -143,4 +149,153 @@ pub fn make_proof<D: Digester>(committed: &Committed<D>) -> Proof
         return Proof::V3(proof_3(committed));
     }
     Proof::V2(proof_2(committed))
+}
+
+/// The instruction at an address that is a multiple of 4, in memory.
+fn fetched_at(mem: &PlainMem, address: Option<u32>) -> Option<Instr>
+    requires { IfSome address (λ addr. addr % 4 ≡ 0) }
+    ensures { result ≡ openings.fetched_at mem.now address }
+{
+    match address {
+        Some(addr) => decode(mem.word(addr)),
+        None => None,
+    }
+}
+
+/// What a state has of the input as a tree.
+fn tree_of<D: Digester>(committed: &Committed<D>) -> Option<HeldInput>
+    ensures value { result ≡ shown.tree_of D.digest_of committed.now }
+    ensures short { IfSome result (λ t. t.len ≤ 1048576) }
+{
+    let machine = committed.machine();
+    if machine.version == INPUT_TREE {
+        Some(HeldInput {
+            len: machine.input.len() as u32,
+            root: committed.input().root(),
+        })
+    } else {
+        None
+    }
+}
+
+/// For which openings a state calls.
+#[derive(Debug, Drop)]
+struct CalledByState {
+    /// The address of the word that it fetches.
+    fetch: Option<u32>,
+    /// The registers that its instruction names.
+    names: Names,
+    /// The address of the instruction's data.
+    operand: Option<u32>,
+    /// The number of the input's byte that the instruction reads.
+    input: Option<u32>,
+}
+
+/// For which openings a machine's state calls.
+fn called_by_state<D: Digester>(committed: &Committed<D>) -> CalledByState
+    ensures fetch { result.fetch ≡ openings.fetch_of_state D.digest_of committed.now }
+    ensures names { result.names ≡ named_at committed.now }
+    ensures registers { AreRegisters result.names }
+    ensures operand { result.operand ≡ shown.operand_of_state D.digest_of committed.now }
+    ensures input { result.input ≡ shown.input_of_state D.digest_of committed.now }
+    ensures inside { IfSome result.input (λ k. k < 1048576) }
+{
+    states_name_registers();
+    let machine = committed.machine();
+    let fetch = fetch_address(&machine.ctl);
+    let word = fetched_at(&machine.mem, fetch);
+    let tree = tree_of(committed);
+    let need = needed_by(&tree, &machine.regs, machine.ctl.pc, &word);
+    CalledByState {
+        fetch,
+        names: named_by(&word),
+        operand: address_needed(need),
+        input: byte_needed(&tree, need),
+    }
+}
+
+/// The chunk of memory that holds an address, with its path.
+fn opening_of<D: Digester>(committed: &Committed<D>, addr: u32) -> Opening
+    ensures { result ≡ openings.opening_of D.digest_of committed.now.memory addr }
+{
+    let index = addr / 32;
+    let chunk = committed.machine().mem.chunk(index);
+    let path = committed.memory().path(index);
+    paths_have_27_levels(&path);
+    Opening { chunk, path }
+}
+
+/// The chunk of memory that holds an address, with its path, if one is called for.
+fn opening_at<D: Digester>(committed: &Committed<D>, address: Option<u32>) -> Option<Opening>
+    ensures { result ≡ openings.opening_at D.digest_of committed.now.memory address }
+{
+    match address {
+        Some(addr) => Some(opening_of(committed, addr)),
+        None => None,
+    }
+}
+
+/// A register, with its path.
+fn register_opening<D: Digester>(committed: &Committed<D>, reg: u8) -> RegOpening
+    requires reg { reg < 32 }
+    requires version { committed.now.version ≢ 1 }
+    ensures { result ≡ plain.register_opening D.digest_of committed.now.regs reg }
+{
+    let value = committed.machine().regs.get(reg);
+    let path = committed.register_path(reg);
+    paths_have_5_levels(&path);
+    RegOpening { value, path }
+}
+
+/// Puts registers behind others, with their paths: at most three altogether.
+fn put_openings<D: Digester>(committed: &Committed<D>, names: &[u8], opened: &mut RegOpenings)
+    requires registers { AreRegisters names.now }
+    requires version { committed.now.version ≢ 1 }
+    requires few { length opened.old + length names.now ≤ 3 }
+    ensures { opened.new ≡ opened.old ++ map (plain.register_opening D.digest_of committed.now.regs) names.now }
+{
+    match names {
+        [] => {}
+        [reg, more @ ..] => {
+            opened.push(register_opening(committed, *reg));
+            put_openings(committed, more, opened);
+        }
+    }
+}
+
+/// The registers of these numbers, with their paths.
+fn named_openings<D: Digester>(committed: &Committed<D>, names: &[u8]) -> RegOpenings
+    requires registers { AreRegisters names.now }
+    requires version { committed.now.version ≢ 1 }
+    requires few { length names.now ≤ 3 }
+    ensures { result ≡ map (plain.register_opening D.digest_of committed.now.regs) names.now }
+{
+    let mut opened = RegOpenings::new();
+    put_openings(committed, names, &mut opened);
+    opened
+}
+
+/// The chunk of the input that holds a byte, with its path.
+fn input_opening_of<D: Digester>(committed: &Committed<D>, byte: u32) -> InOpening
+    requires byte { byte < 1048576 }
+    requires version { committed.now.version ≡ 3 }
+    ensures { result ≡ plain.input_opening_of D.digest_of committed.now.input byte }
+{
+    let index = byte / 32;
+    let chunk = input_chunk(&committed.machine().input, index as usize);
+    let path = committed.input().path(index);
+    paths_have_15_levels(&path);
+    InOpening { chunk, path }
+}
+
+/// The chunk of the input that holds a byte, with its path, if one is called for.
+fn input_opening_at<D: Digester>(committed: &Committed<D>, byte: Option<u32>) -> Option<InOpening>
+    requires byte { IfSome byte (λ k. k < 1048576) }
+    requires version { committed.now.version ≡ 3 }
+    ensures { result ≡ plain.input_opening_at D.digest_of committed.now.input byte }
+{
+    match byte {
+        Some(k) => Some(input_opening_of(committed, k)),
+        None => None,
+    }
 }

@@ -1,10 +1,35 @@
-//! Chains of outputs, and claims checked against them.
+//! The root of a state from its parts or from a claim, chains of outputs, and claims checked against these.
 ghost use Rattle.std.specs.Prelude.{◌≡◌, true};
 ghost use Rattle.digest_core.specs.Chain as chain;
 ghost use Rattle.out_chain.specs.Soundness.{claim_check, says_sound, is_claim_in_range, is_sound};
+ghost use Rattle.out_chain.specs.Root as root;
 
-use digest_core::{Digester, chain_grows, codes_fit, digests_are_32_bytes, link};
-use rd_base::{Claim, Digest32, same_digest};
+use digest_core::{
+    Digester, chain_grows, codes_fit, control_text, digests_are_32_bytes, link, state_text,
+};
+use rd_base::{Claim, Ctl, Digest32, OpenText, same_digest};
+
+/// The state string of the state with these digests of memory and registers, and these control fields: its digest is the state's root.
+pub fn parts_text<D: Digester>(d: D, mem: Digest32, regs: Digest32, ctl: &Ctl) -> OpenText
+    ensures { result ≡ root.parts_text D.digest_of mem.0 regs.0 ctl.now }
+{
+    let control = d.digest(control_text(ctl).as_slice());
+    state_text(&mem, &regs, &control)
+}
+
+/// The root of the state with these digests of memory and registers, and these control fields.
+pub fn parts_root<D: Digester>(d: D, mem: Digest32, regs: Digest32, ctl: &Ctl) -> Digest32
+    ensures { result.0 ≡ root.parts_root D.digest_of mem.0 regs.0 ctl.now }
+{
+    d.digest(parts_text(d, mem, regs, ctl).as_slice())
+}
+
+/// The root of the state that a claim names: the digest of the claim's state string. It takes no memory.
+pub fn root_of_claim<D: Digester>(d: D, claim: &Claim) -> Digest32
+    ensures { result.0 ≡ root.root_of_claim D.digest_of claim.now }
+{
+    parts_root(d, claim.mem, claim.regs, &claim.ctl)
+}
 
 /// The chain of an output: 32 zero bytes for no byte, else the digest of the link string of the chain before and the
 /// last byte.

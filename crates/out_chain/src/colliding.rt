@@ -4,7 +4,7 @@ ghost use Rattle.out_chain.specs.Root.{control_text_of, root_of_claim};
 ghost use Rattle.out_chain.specs.Soundness.{is_sound};
 ghost use Rattle.out_chain.specs.Collision as collision;
 
-use crate::root::parts_text;
+use crate::checking::parts_text;
 use digest_core::{Digester, control_text, link_text};
 use rd_base::{Claim, Digest32, OpenText, same_digest};
 

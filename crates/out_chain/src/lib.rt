@@ -10,9 +10,7 @@
 mod checking;
 mod colliding;
 mod laws;
-mod root;
 
-pub use checking::{ClaimCheck, chain_of, check_claim};
+pub use checking::{ClaimCheck, chain_of, check_claim, parts_root, parts_text, root_of_claim};
 pub use colliding::{claim_collision, collides, collision_below};
 pub use laws::{chains_bind_outputs, claims_of_one_root};
-pub use root::{parts_root, parts_text, root_of_claim};

@@ -5,7 +5,7 @@ use Rattle.std.proofs.Math.Seq.{take-length}
 use Rattle.rd_base.specs.declared.answer.Answer.{Answer}
 use Rattle.rd_base.specs.declared.script.Script.{Script}
 use Rattle.rv_step.specs.State.{State}
-use Rattle.bisect_game.specs.declared.question.Question.{Question}
+use Rattle.bisect_game.specs.declared.settled.Question.{Question}
 use Rattle.bisect_game.specs.Says.{AnswerAs}
 use Rattle.prover_run.specs.CaseScripts.{said_by, script_says, case_says}
 

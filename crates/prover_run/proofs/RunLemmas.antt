@@ -5,8 +5,8 @@ use Rattle.rd_base.specs.declared.answer.Answer.TheVariants as answer
 use Rattle.rv_step.specs.State.{State}
 use Rattle.checkpoint_run.specs.TamperedRun.{tampered, run_from}
 use Rattle.checkpoint_run.specs.Recorded.{Recorded, state_of_step}
-use Rattle.bisect_game.specs.declared.question.Kind.{Kind}
-use Rattle.bisect_game.specs.declared.question.Kind.TheVariants as kind
+use Rattle.bisect_game.specs.declared.settled.Kind.{Kind}
+use Rattle.bisect_game.specs.declared.settled.Kind.TheVariants as kind
 use Rattle.segment_replay.specs.Roots.{own_root, root_at, digests}
 use Rattle.prover_run.specs.Growing.{OutputGrowsSlowly}
 use Rattle.bisect_game.specs.Bisection.{steps_asked}

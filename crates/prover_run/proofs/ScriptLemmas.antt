@@ -12,10 +12,10 @@ use Rattle.rd_base.specs.declared.script.Manner.TheVariants.{Forge, Noise}
 use Rattle.rd_base.specs.declared.answer.Answer.TheVariants as answer
 use Rattle.rd_base.specs.declared.digest.Digest32.{Digest32}
 use Rattle.rv_step.specs.State.{State}
-use Rattle.bisect_game.specs.declared.question.Kind.{Kind}
-use Rattle.bisect_game.specs.declared.question.Kind.TheVariants as kind
+use Rattle.bisect_game.specs.declared.settled.Kind.{Kind}
+use Rattle.bisect_game.specs.declared.settled.Kind.TheVariants as kind
 use Rattle.bisect_game.specs.Bisection.{steps_asked}
-use Rattle.bisect_game.specs.declared.question.Question.{Question}
+use Rattle.bisect_game.specs.declared.settled.Question.{Question}
 use Rattle.rv_step.specs.Step.{state_at}
 use Rattle.rd_base.specs.Status.{is_running}
 use Rattle.rv_decode.specs.Reading.{reading_of}

@@ -5,7 +5,7 @@ use Rattle.rd_base.specs.declared.script.Script.{Script}
 use Rattle.rv_step.specs.State.{State}
 use Rattle.checkpoint_run.specs.TamperedRun.{run_at}
 use Rattle.bisect_game.specs.Says.{Says}
-use Rattle.bisect_game.specs.declared.question.Question.{Question}
+use Rattle.bisect_game.specs.declared.settled.Question.{Question}
 use Rattle.prover_script.specs.Manners.{says}
 use Rattle.prover_run.specs.Plain.{plain_says}
 

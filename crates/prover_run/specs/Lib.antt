@@ -1,6 +1,6 @@
 pub mod Plain
 pub mod CaseScripts
-pub mod Codes
+pub mod CaseCode
 pub mod Prover
 pub mod Growing
 pub mod OneAnswer

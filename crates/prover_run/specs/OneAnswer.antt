@@ -6,7 +6,7 @@ use Rattle.rd_base.specs.declared.answer.Answer.{Answer}
 use Rattle.rd_base.specs.declared.script.Script.{Script}
 use Rattle.rv_step.specs.State.{State}
 use Rattle.bisect_game.specs.Says.{GiveOneAnswer}
-use Rattle.bisect_game.specs.declared.question.Question.{Question}
+use Rattle.bisect_game.specs.declared.settled.Question.{Question}
 use Rattle.prover_script.specs.Manners.{Behaviour, IsSteady}
 use Rattle.prover_script.specs.Steadiness.{manners_are_steady}
 use Rattle.prover_run.specs.Plain.{plain_says}

@@ -8,9 +8,9 @@ use Rattle.rv_step.specs.State.{State}
 use Rattle.open_proof.specs.PlainProof.{plain_proof}
 use Rattle.open_proof.specs.PlainClaim.{plain_claim}
 use Rattle.segment_replay.specs.Roots.{own_root}
-use Rattle.bisect_game.specs.declared.question.Kind.{Kind}
-use Rattle.bisect_game.specs.declared.question.Kind.TheVariants as kind
-use Rattle.bisect_game.specs.declared.question.Question.{Question}
+use Rattle.bisect_game.specs.declared.settled.Kind.{Kind}
+use Rattle.bisect_game.specs.declared.settled.Kind.TheVariants as kind
+use Rattle.bisect_game.specs.declared.settled.Question.{Question}
 use Rattle.bisect_game.specs.Bisection.{steps_asked}
 
 -- the root of the state of a step; the last state stands for a step above the bound

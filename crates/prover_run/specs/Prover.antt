@@ -15,7 +15,7 @@ use Rattle.rv_step.specs.StateCode.{state_code}
 use Rattle.checkpoint_run.specs.Recorded.{Recorded, AreChained, state_of_step}
 use Rattle.state_commit.specs.Committing.{HasInput}
 use Rattle.segment_replay.specs.Roots.{own_root}
-use Rattle.bisect_game.specs.declared.question.Question.{Question}
+use Rattle.bisect_game.specs.declared.settled.Question.{Question}
 use Rattle.prover_run.specs.Plain.{plain_says}
 
 -- a prover with a run: the state from which it starts, what is wrong with it, and how far it goes

@@ -1,12 +1,11 @@
-//! The plain answers of a recorded run.
+//! How runs are recorded and replayed, and the plain answers of a recorded run.
 ghost use denote.Param.Send.{IsSync};
-ghost use Rattle.std.specs.Prelude.{◌≡◌, ◌<◌, ◌≤◌, ℕ, IfOk, IfSome, List, length, map};
+ghost use Rattle.std.specs.Prelude.{◌≡◌, ◌<◌, ◌≤◌, ◌^◌, ℕ, IfOk, IfSome, List, length, map};
 ghost use Rattle.checkpoint_run.specs.Recorded.{state_of_step};
 ghost use Rattle.segment_replay.specs.Roots.{root_at, digests};
 ghost use Rattle.prover_run.specs.Plain as plain;
 ghost use Rattle.prover_run.specs.Prover.{Prover, IsRunOf, AreKept, run_of, root_of};
 
-use crate::start::Plan;
 use bisect_game::{Kind, steps_asked};
 use open_proof::{make_claim, make_proof};
 use rd_base::{Answer, Boxed, Digest32, Memory, RootList};
@@ -14,6 +13,20 @@ use segment_replay::{KeptRun, Replays};
 use std::alloc::Global;
 use std::collections::BTreeMap;
 use std::thread::Threads;
+
+/// How far provers' runs go, and how they are recorded and replayed.
+#[derive(Clone, Copy)]
+pub struct Plan {
+    /// The last step of a run, below 2^32.
+    pub bound: u64,
+    /// How many steps lie between two checkpoints: at least 1.
+    pub every: u32,
+    /// In how many pieces at most the roots that one question asks are made, side by side: at least 1.
+    pub workers: u32,
+    ghost short: { bound < 2 ^ 32 },
+    ghost spaced: { 0 < every },
+    ghost working: { 0 < workers },
+}
 
 /// By what a run is recorded and replayed.
 #[derive(Drop)]

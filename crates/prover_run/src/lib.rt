@@ -17,9 +17,8 @@ mod answering;
 mod laws;
 mod prover;
 mod provers;
-mod start;
 
+pub use answering::Plan;
 pub use laws::{harmless_manners, outputs_grow_slowly, provers_are_steady, untouched_provers};
 pub use prover::RunAnswerer;
-pub use provers::{CaseNames, CaseProvers, answerers_with_input};
-pub use start::{Plan, Start};
+pub use provers::{CaseNames, CaseProvers, Start, answerers_with_input};

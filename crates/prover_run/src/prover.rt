@@ -4,9 +4,8 @@ ghost use Rattle.rv_step.specs.State.{state_of, IsChained};
 ghost use Rattle.state_commit.specs.Committing.{HasInput};
 ghost use Rattle.prover_run.specs.Prover.{IsRunOf};
 
-use crate::answering::{RunReader, plain_answer};
+use crate::answering::{Plan, RunReader, plain_answer};
 use crate::laws::outputs_grow_slowly;
-use crate::start::Plan;
 use bisect_game::{Answerer, Question};
 use checkpoint_run::{record_run, tampered_runs_keep_the_input};
 use rd_base::{Answer, Digest32, Memory, Tamper};

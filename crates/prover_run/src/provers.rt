@@ -1,19 +1,74 @@
-//! The provers of a case: what each says and where it waits, for those that post, and the answerers that say so.
-ghost use Rattle.std.specs.Prelude.{◌≡◌, ◌<◌, ◌^◌, IfOk, length, ◌++◌, OnOk, map};
-ghost use Rattle.rv_step.specs.State.{state_of};
+//! Where the runs of a case start, and its provers: what each says and where it waits, for those that post, and the answerers that say so.
+ghost use Rattle.std.specs.Prelude.{◌≡◌, ◌<◌, ◌^◌, ◌++◌, [], IfOk, OnOk, length, map};
+ghost use Rattle.rv_step.specs.State.{state_of, IsChained};
+ghost use Rattle.state_commit.specs.Committing.{HasInput};
 ghost use Rattle.bisect_game.specs.Says.{AnswerAs};
 ghost use Rattle.prover_run.specs.CaseScripts.{script_says, case_says};
 
+use crate::answering::Plan;
 use crate::prover::RunAnswerer;
-use crate::start::{Plan, Start};
 use bisect_game::{Answerer, Provers, Question};
 use digest_core::Digester;
 use prover_script::{Scripted, waits};
 use rd_base::{Memory, Script};
 use rv_step::Machine;
 use segment_replay::Replays;
+use state_commit::SharedInput;
 use std::alloc::Global;
 use std::marker::Model;
+
+/// Where provers' runs start: a machine that has no output, whose chain is that of no output, and the tree of its input.
+///
+/// Contracts see it as the machine's state.
+#[derive(Drop)]
+pub struct Start<'m, D: Digester> {
+    machine: &'m Machine,
+    input: &'m SharedInput<D>,
+}
+
+impl<'m, D: Digester> Model for Start<'m, D> {
+    ghost use Rattle.std.specs.Prelude.{◌≡◌, []};
+    ghost use Rattle.rv_step.specs.State.{State, state_of, IsChained};
+    ghost use Rattle.rv_step.specs.StateCode.{state_code};
+    ghost use Rattle.state_commit.specs.Committing.{HasInput};
+
+    ghost Value = { State };
+
+    ghost coded = { state_code };
+
+    ghost view = { λ s. state_of s.machine.now };
+
+    ghost invariant = { λ s. IsChained D.digest_of s.machine.now × (s.machine.now.output.items ≡ []) × HasInput D.digest_of (state_of s.machine.now) s.input.now };
+}
+
+impl<'m, D: Digester> Start<'m, D> {
+    /// A start in this machine, with the tree of its input. The machine has no output, and its chain is that of no output by the
+    /// digester.
+    pub fn new(machine: &'m Machine, input: &'m SharedInput<D>) -> Self
+        requires chained { IsChained D.digest_of machine.now }
+        requires silent { machine.now.output.items ≡ [] }
+        requires input { HasInput D.digest_of (state_of machine.now) input.now }
+        ensures { result ≡ state_of machine.now }
+    {
+        Start { machine, input }
+    }
+
+    /// The machine.
+    pub(crate) fn machine(&self) -> &'m Machine
+        ensures state { state_of result.now ≡ self.now }
+        ensures chained { IsChained D.digest_of result.now }
+        ensures silent { result.now.output.items ≡ [] }
+    {
+        self.machine
+    }
+
+    /// The tree of the machine's input.
+    pub(crate) fn input(&self) -> &'m SharedInput<D>
+        ensures { HasInput D.digest_of self.now result.now }
+    {
+        self.input
+    }
+}
 
 /// What fixes what the provers of a case say: the state from which the runs start, the bound, and the scripts. It is data of
 /// contracts alone: no program makes one.
@@ -25,7 +80,7 @@ pub struct CaseNames {
 impl Model for CaseNames {
     ghost use Rattle.std.specs.Prelude.{◌≡◌};
     ghost use Rattle.prover_run.specs.CaseScripts.{CaseScripts};
-    ghost use Rattle.prover_run.specs.Codes.{case_scripts_code, no_case};
+    ghost use Rattle.prover_run.specs.CaseCode.{case_scripts_code, no_case};
 
     ghost Value = { CaseScripts };
 
@@ -53,7 +108,7 @@ pub struct CaseProvers<D: Digester> {
 impl<D: Digester> Model for CaseProvers<D> {
     ghost use Rattle.std.specs.Prelude.{◌<◌, ◌^◌, vec_len};
     ghost use Rattle.prover_run.specs.CaseScripts.{CaseScripts};
-    ghost use Rattle.prover_run.specs.Codes.{case_scripts_code};
+    ghost use Rattle.prover_run.specs.CaseCode.{case_scripts_code};
     ghost use Rattle.rv_step.specs.State.{state_of};
 
     ghost Value = { CaseScripts };

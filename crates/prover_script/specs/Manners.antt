@@ -15,9 +15,9 @@ use Rattle.rd_base.specs.declared.script.Manner.{Manner}
 use Rattle.rd_base.specs.declared.script.Manner.TheVariants.{Plain, Late, Silent, Output, Forge, Noise, Tape}
 use Rattle.rd_base.specs.declared.tape.TapeAnswer.{TapeAnswer}
 use Rattle.digest_core.specs.Text.{noise_text}
-use Rattle.bisect_game.specs.declared.question.Kind.{Kind}
-use Rattle.bisect_game.specs.declared.question.Kind.TheVariants as kind
-use Rattle.bisect_game.specs.declared.question.Question.{Question}
+use Rattle.bisect_game.specs.declared.settled.Kind.{Kind}
+use Rattle.bisect_game.specs.declared.settled.Kind.TheVariants as kind
+use Rattle.bisect_game.specs.declared.settled.Question.{Question}
 use Rattle.rv_step.specs.Named.{named_by}
 use Rattle.rv_step.specs.Fetching.{fetch_address, fetched_in}
 

@@ -1,16 +1,14 @@
 //! Manners: how a prover answers, over any answerer that gives what its run gives.
 //!
-//! The layers above may rely on this: a `Scripted` answers what `says` of `specs/Manners.antt` makes of its inner
-//! answerer, a function of the question and of the passes so far, which no call changes, not even one that runs out of
-//! memory; `waits` decides whether that is a pass, for an answerer that always answers; and a manner gives one answer to one
-//! question if the answerer without it does (`laws`). Read `specs/Manners.antt` first, then `altering` and `tape`, then
-//! `scripted`. An `Err` that no comment names is out of memory.
+//! The layers above may rely on this: a `Scripted` answers what `says` of `specs/Manners.antt` makes of its inner answerer, a function of
+//! the question and of the passes so far, which no call changes, not even one that runs out of memory; `waits` decides whether that is a
+//! pass, for an answerer that always answers; and a manner gives one answer to one question if the answerer without it does (`laws`).
+//! Read `specs/Manners.antt` first, then `altering`, then `scripted`. An `Err` that no comment names is out of memory.
 #![tactic(auto)]
 
 mod altering;
 mod laws;
 mod scripted;
-mod tape;
 
 pub use laws::manners_are_steady;
 pub use scripted::{Scripted, waits};

@@ -1,14 +1,35 @@
-//! An answerer with a manner.
-ghost use Rattle.std.specs.Prelude.{◌≡◌, is_some, is_none, true, ℕ, List};
-ghost use Rattle.prover_script.specs.Manners.{Behaviour, says, passes_by};
+//! An answerer with a manner, and what is written down on a tape.
+ghost use Rattle.std.specs.Prelude.{◌≡◌, ℕ, List, is_some, is_none, true, None, Some, IfOk, MatchOption};
+ghost use Rattle.prover_script.specs.Manners.{Behaviour, says, passes_by, written};
 
 use crate::altering::{noise, with_forgery, with_output, with_roots};
-use crate::tape::{written, written_copy};
 use bisect_game::{Answerer, Question};
 use digest_core::Digester;
-use rd_base::{Answer, Manner, Memory};
+use rd_base::{Answer, Manner, Memory, Qid, TapeAnswer, same_qid};
 use std::alloc::Global;
 use std::thread::Threads;
+
+/// The first answer that is written down for the question of this number.
+fn written(entries: &[TapeAnswer], qid: Qid) -> Option<&Answer>
+    ensures { MatchOption result (written entries.now qid ≡ None) (λ a. written entries.now qid ≡ Some a.now) }
+{
+    'entries: for entry in entries {
+        if same_qid(entry.qid, qid) {
+            return Some(&entry.answer);
+        }
+    }
+    None
+}
+
+/// A copy of the first answer that is written down for the question of this number.
+fn written_copy(alloc: Global, entries: &[TapeAnswer], qid: Qid) -> Result<Option<Answer>, Memory>
+    ensures { IfOk result (λ o. o ≡ written entries.now qid) }
+{
+    match written(entries, qid) {
+        Some(answer) => Ok(Some(answer.copy(alloc)?)),
+        None => Ok(None),
+    }
+}
 
 /// An answerer with a manner.
 #[derive(Drop)]

@@ -4,7 +4,7 @@ ghost use Rattle.rd_base.specs.Status.{is_running};
 ghost use Rattle.rv_decode.specs.declared.instr.Instr.{Instr};
 ghost use Rattle.mem_plain.specs.Contents.{byte_at};
 ghost use Rattle.rv_step.specs.State.{State, state_of};
-ghost use Rattle.rv_step.specs.Valid.{IsValid};
+ghost use Rattle.rv_step.specs.Valid.{IsValid, HasWordCode};
 ghost use Rattle.rv_step.specs.Effect.{effect, effect_with};
 ghost use Rattle.rv_step.specs.Offer.{offered};
 ghost use Rattle.rv_step.specs.Step.{step, state_at, after_word};
@@ -14,9 +14,8 @@ ghost use Rattle.rv_step.specs.Named.{named, named_by, destination, AreRegisters
 ghost use Rattle.rv_step.specs.Alike.{with_registers, Shows, StepAlike, ChangesNamed};
 
 use crate::machine::Machine;
-use crate::valid::{bytes_are_small, codes_are_words};
 use mem_plain::{laying_bytes, memories_are_their_bytes};
-use rd_base::registers_are_32;
+use rd_base::{Status, registers_are_32};
 
 /// The two parts of a step are the step, for every state and instruction (`step`): what `need` names is read or
 /// written, and `finish` does the rest, with the number that was read, or with any if none was.
@@ -113,3 +112,23 @@ pub fn machines_are_valid(machine: &Machine)
     machine.mem.is_memory();
     let _pc = machine.ctl.pc;
 }
+
+/// The code of a status is a word.
+fn codes_are_words(status: &Status)
+    ensures { HasWordCode status.now }
+{
+    match status {
+        Status::Running => {}
+        Status::Exited(code) => {
+            let _word = *code;
+        }
+        Status::Trapped(code) => {
+            let _word = *code;
+        }
+    }
+}
+
+/// Bytes are below 256.
+fn bytes_are_small(bytes: &[u8])
+    ensures { (k : ℕ) → slice_index bytes.now k < 256 }
+{}

@@ -1,13 +1,13 @@
 //! The machine: RV32IM and its three environment calls, one step at a time (RISC-V Unprivileged ISA 20191213, chapters
 //! 2 and 7).
 //!
-//! The layers above may rely on this: `step` is the definition of the step, and returns the page that it stored to; `advance` makes as many
-//! of them as are asked, or fewer if it runs out of memory. Both keep the output's chain by the digester that is handed to them, and
+//! The layers above may rely on this: `step` is the definition of the step, and returns the page that it stored to; `advance` makes as
+//! many of them as are asked, or fewer if it runs out of memory. Both keep the output's chain by the digester that is handed to them, and
 //! `Machine::new` begins it for every digester. `need` finds from registers alone the one number of memory that an instruction reads or
-//! writes, or the byte of the input that it reads. `finish` changes registers and pc, and returns what is left to do. Both together are the
-//! step, whoever holds memory and the input (`two_parts_are_the_step`), and nothing else is read (`needs_tell_what_is_read`). `touches`
-//! gives the page that the next step stores to. `fetched_in` reads the instruction out of an opened chunk, and `named_by` gives the registers
-//! that it names.
+//! writes, or the byte of the input that it reads. `finish` changes registers and pc, and returns what is left to do. Both together are
+//! the step, whoever holds memory and the input (`two_parts_are_the_step`), and nothing else is read (`needs_tell_what_is_read`).
+//! `touches` gives the page that the next step stores to. `fetched_in` reads the instruction out of an opened chunk, and `named_by` gives
+//! the registers that it names.
 //!
 //! A machine has a version, that of the commitment to its states. In versions 1 and 2 its input lies in memory; in version 3
 //! it is offered to a call, byte by byte.
@@ -28,11 +28,9 @@ mod effect;
 mod fetching;
 mod laws;
 mod machine;
-mod naming;
 mod parts;
 mod stepping;
 mod touching;
-mod valid;
 
 pub use arithmetic_laws::{
     dividends_come_back, extensions_keep_bits, products_have_two_words, shifts_move_bits,
@@ -40,14 +38,13 @@ pub use arithmetic_laws::{
 };
 pub use asked::{Need, Outcome};
 pub use effect::{ILLEGAL_INSTRUCTION, MISALIGNED_JUMP};
-pub use fetching::{fetch_address, fetched_in, number_shown};
+pub use fetching::{Names, fetch_address, fetched_in, named_by, number_shown};
 pub use laws::{
     effects_read_named_registers, machines_are_valid, names_are_registers, needs_tell_what_is_read,
     one_page_changes, output_only_grows, runs_keep_the_input, steps_keep_valid_states,
     steps_read_named_registers, stopped_states_stay, two_parts_are_the_step,
 };
 pub use machine::{INPUT_BASE, Machine, OFFERING_VERSION};
-pub use naming::{Names, named_by};
 pub use parts::{finish, need};
 pub use stepping::{advance, step};
 pub use touching::touches;

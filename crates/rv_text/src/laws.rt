@@ -48,8 +48,8 @@ pub fn only_names_fail_later()
         (word_in distances text ≡ Err FaultKind.Undefined) ↔ (HasUndefinedTarget distances text × ¬ HasFarTarget distances text) }
 {}
 
-/// After a first pass without a fault each label stands for the place of the next word, four bytes for each word of the lines before it, and
-/// no other name has a place.
+/// After a first pass without a fault each label stands for the place of the next word, four bytes for each word of the lines before it,
+/// and no other name has a place.
 pub fn labels_stand_for_places()
     ensures { (lines : List (List ℕ)) (p : Pass) (name : List ℕ) (place : ℕ) → first_pass 1 (pass no_names 0) lines ≡ Ok p → (p.names name ≡ Some place) ↔ IsPlace lines name place }
 {}

@@ -9,10 +9,10 @@
 //! counts (`least_fault_counts`); a text has the first fault of its lines, or the words of its statements in their order
 //! (`texts_have_words_or_a_fault`).
 //!
-//! Read `specs/Lines.antt` first, from there `Rows`, `Operands`, `Fields`, `Numbers`, `Characters` and `Faults`, then `specs/Assembly.antt`;
-//! `specs/Spelling.antt` and `specs/Meaning.antt` say how an instruction is written, `specs/Listing.antt` how words are listed, and
-//! `specs/Labels.antt`, `Unknown`, `Later`, `Causes` and `LineFaults` belong to the laws. Of the code read `assembling` first.
-//! An `Err` of `Memory` or `AllocError` is out of memory.
+//! Read `specs/Lines.antt` first, from there `Rows`, `Operands`, `Fields`, `Numbers`, `Characters` and `Faults`, then
+//! `specs/Assembly.antt`; `specs/Spelling.antt` and `specs/Meaning.antt` say how an instruction is written, `specs/Listing.antt` how
+//! words are listed, and `specs/Labels.antt`, `Unknown`, `Later`, `Causes` and `LineFaults` belong to the laws. Of the code read
+//! `assembling` first. An `Err` of `Memory` or `AllocError` is out of memory.
 #![tactic(auto)]
 
 mod assembling;

@@ -14,7 +14,6 @@ mod committed;
 mod kept_registers;
 mod laws;
 mod root;
-mod scratch;
 mod shared_input;
 
 pub use committed::Committed;

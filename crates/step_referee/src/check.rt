@@ -1,4 +1,4 @@
-//! The check of one proof: which of its conditions fails first, or to which root it leads.
+//! The check of one proof: which of its conditions fails first, or to which root it leads. Each digest is counted.
 ghost use Rattle.std.specs.Prelude.{◌≡◌, ◌↔◌, ◌+◌, ◌≤◌, bytes_eq, false, is_some};
 ghost use Rattle.rd_base.specs.declared.digest.Digest32.{Digest32};
 ghost use Rattle.open_proof.specs.Conditions.{FirstFails, LeadsFrom, conditions};
@@ -8,18 +8,21 @@ ghost use Rattle.open_proof.specs.Next as next;
 ghost use Rattle.open_proof.specs.Openings as openings;
 ghost use Rattle.step_referee.specs.Tests as tests;
 ghost use Rattle.step_referee.specs.Tests.{checked, checked_ticks};
-ghost use Rattle.step_referee.specs.Ticks.{TicksUntil, condition_digests, step_ticks, most_alone, most_ticks, opening_digests, registers_digests, storage_digests, ticks_of};
+ghost use Rattle.step_referee.specs.Ticks.{TicksUntil, condition_digests, step_ticks, most_alone, most_ticks, opening_digests, registers_changed_digests, registers_digests, storage_digests, ticks_of};
+ghost use Rattle.out_chain.specs.Root as roots;
+ghost use Rattle.rv_step.specs.Named.{AreRegisters};
 
 mod carrying;
 mod laws;
-mod roots;
 
 use crate::check::carrying::{Parts, step_on};
-use crate::check::roots::{registers_changed, registers_held, root_of, storage_held};
-use digest_core::{Counted, Digester};
+use digest_core::{Counted, Digester, control_text, registers_text, state_text, storage_text};
 pub use laws::leading_is_decided;
-use open_proof::{Facts, HeldRegisters, called_by, facts_of, file_shown, ways_climb, ways_of};
-use rd_base::{Digest32, Proof, Steps, same_digest};
+use open_proof::{
+    Facts, HeldInput, HeldRegisters, called_by, changed_register, facts_of, file_shown, root_after,
+    ways_climb, ways_of,
+};
+use rd_base::{Ctl, Digest32, Proof, Regs, Steps, same_digest};
 use rv_step::{fetch_address, names_are_registers};
 use std::sync::ledger::Ledger;
 
@@ -159,11 +162,11 @@ fn check_facts<C: Counted, L: Ledger>(
 /// calls for it, or there though it doesn't; `NotOpen` if that doesn't open the root of memory; and the same for the chunk of the input
 /// (`not_open`, `wrong_shape`).
 ///
-/// `steps` ticks once for each digest that the answer depends on (by type the functions below make none without a counter, `Counted`), and
-/// once for the step of the machine: at most 91, 101 or 103 times, by the version (`few`), and at most 36, 57 or 69 times if there is no data
-/// chunk (`alone`). If it leads, it ticks exactly as often as its openings and its step take (`exactly`). If it refuses, it ticks
-/// exactly as often as the conditions take up to the first that fails, and for those of shape not at all: for the root all strings of
-/// the parts are digested, and for openings all their ways up, be the first of them wrong or the last (`counted`).
+/// `steps` ticks once for each digest that the answer depends on (by type the functions below make none without a counter, `Counted`),
+/// and once for the step of the machine: at most 91, 101 or 103 times, by the version (`few`), and at most 36, 57 or 69 times if there is
+/// no data chunk (`alone`). If it leads, it ticks exactly as often as its openings and its step take (`exactly`). If it refuses, it ticks
+/// exactly as often as the conditions take up to the first that fails, and for those of shape not at all: for the root all strings of the
+/// parts are digested, and for openings all their ways up, be the first of them wrong or the last (`counted`).
 pub fn check_step<D: Digester, L: Ledger>(
     d: D,
     version: u32,
@@ -182,4 +185,74 @@ pub fn check_step<D: Digester, L: Ledger>(
 {
     let facts = facts_of(proof);
     check_facts(d, version, a, &facts, steps)
+}
+
+/// The digest of what is stored: the root of memory, or the digest of the storage string.
+fn storage_held<C: Counted, L: Ledger>(
+    c: C,
+    tree: &Option<HeldInput>,
+    mem: &Digest32,
+    steps: &mut Steps<L>,
+) -> Digest32
+    ensures digest { result.0 ≡ next.storage_held C.digest_of tree.now mem.now.0 }
+    ensures steps { steps.new ≡ steps.old + storage_digests tree.now }
+{
+    match tree {
+        Some(tree) => c.digest(&storage_text(mem, tree.len, &tree.root), steps),
+        None => *mem,
+    }
+}
+
+/// The digest of the registers: that of their string, or the root that is held.
+fn registers_held<C: Counted, L: Ledger>(
+    c: C,
+    regs: &HeldRegisters,
+    steps: &mut Steps<L>,
+) -> Digest32
+    ensures digest { result.0 ≡ next.registers_held C.digest_of regs.now }
+    ensures steps { steps.new ≡ steps.old + registers_digests regs.now }
+{
+    match regs {
+        HeldRegisters::Whole(regs) => c.digest(&registers_text(regs), steps),
+        HeldRegisters::Opened(root, _named) => *root,
+    }
+}
+
+/// The digest of the registers after a step: that of their string, or the root of their tree with the one register changed that the
+/// step has changed among those that are shown.
+#[tactic(auto, using(crate::proofs::ChangeLemmas::changed_digest, crate::proofs::ChangeLemmas::changed_ticks))]
+fn registers_changed<C: Counted, L: Ledger>(
+    c: C,
+    names: &[u8],
+    regs: &HeldRegisters,
+    after: &Regs,
+    steps: &mut Steps<L>,
+) -> Digest32
+    requires { AreRegisters names.now }
+    ensures digest { result.0 ≡ next.registers_changed C.digest_of names.now regs.now (facts_of_proof.file_shown names.now regs.now) after.now }
+    ensures steps { steps.new ≡ steps.old + registers_changed_digests names.now regs.now (facts_of_proof.file_shown names.now regs.now) after.now }
+{
+    match regs {
+        HeldRegisters::Whole(_regs) => c.digest(&registers_text(after), steps),
+        HeldRegisters::Opened(root, named) => {
+            let before = file_shown(names, regs);
+            let changed = changed_register(*root, names, named.as_slice(), &before, after);
+            root_after(c, *root, &changed, steps)
+        }
+    }
+}
+
+/// The root of a state, from the digests of its storage and of its registers, by two digests.
+pub(crate) fn root_of<C: Counted, L: Ledger>(
+    c: C,
+    storage: &Digest32,
+    regs: &Digest32,
+    ctl: &Ctl,
+    steps: &mut Steps<L>,
+) -> Digest32
+    ensures digest { result.0 ≡ roots.parts_root C.digest_of storage.now.0 regs.now.0 ctl.now }
+    ensures steps { steps.new ≡ steps.old + 2 }
+{
+    let control = c.digest(&control_text(ctl), steps);
+    c.digest(&state_text(storage, regs, &control), steps)
 }

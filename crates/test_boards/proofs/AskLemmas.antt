@@ -1,7 +1,7 @@
 -- What an ask and a wait tell of the open question.
 use Rattle.std.proofs.Common.{◌≡◌, ℕ, Bool, true, Option, Some, None, is_none, refl, ◌∙◌, ap}
 use Rattle.rd_base.specs.declared.answer.Answer.{Answer}
-use Rattle.bisect_game.specs.declared.question.Question.{Question}
+use Rattle.bisect_game.specs.declared.settled.Question.{Question}
 use Rattle.bisect_game.specs.Says.{Says}
 use Rattle.tournament.specs.Moves.{MatchState, passes_of}
 use Rattle.board_book.specs.declared.entry.Ask.TheVariants as ask

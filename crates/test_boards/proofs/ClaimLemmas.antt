@@ -3,9 +3,9 @@ use Rattle.board_book.specs.declared.book.Opening.{Opening}
 use Rattle.std.proofs.Common.{◌≡◌, ℕ, ◌≤◌, List, [], ◌∷◌, Option, Some, None, sym, ap, ap₂, ◌∙◌, subst, arith}
 use Rattle.rd_base.specs.declared.answer.Answer.{Answer}
 use Rattle.rd_base.specs.declared.answer.Qid.{Qid}
-use Rattle.bisect_game.specs.declared.question.Kind.{Kind}
-use Rattle.bisect_game.specs.declared.question.Kind.TheVariants as kind
-use Rattle.bisect_game.specs.declared.question.Question.{Question}
+use Rattle.bisect_game.specs.declared.settled.Kind.{Kind}
+use Rattle.bisect_game.specs.declared.settled.Kind.TheVariants as kind
+use Rattle.bisect_game.specs.declared.settled.Question.{Question}
 use Rattle.bisect_game.specs.Says.{Says}
 use Rattle.bisect_game.specs.Rules.{Rules}
 use Rattle.tournament.specs.Bracket.{bracket}

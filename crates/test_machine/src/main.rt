@@ -2,8 +2,8 @@
 //! its answer below it.
 //!
 //! No layer of the product depends on this crate. An answer follows two spaces. Lines that begin with `#`, and empty ones, are written as
-//! they are. So `stdout` is the table to read, and `stdin` is `stdout` without its answers. `rows` defines what a row calls, and numbers are
-//! hexadecimal. The answers come from outside: an assembler's listing, Python, and the examples of the standards.
+//! they are. So `stdout` is the table to read, and `stdin` is `stdout` without its answers. `rows` defines what a row calls, and numbers
+//! are hexadecimal. The answers come from outside: an assembler's listing, Python, and the examples of the standards.
 #![tactic(auto)]
 
 mod decoding;

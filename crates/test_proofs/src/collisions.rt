@@ -84,7 +84,8 @@ fn opened(x5: u32, sibling: u8, byte: u8) -> Proof {
     })
 }
 
-/// A proof of version 3 of a step that carries out `ecall`, which reads byte 0 of the input: the input's length, what `x17` holds, the byte.
+/// A proof of version 3 of a step that carries out `ecall`, which reads byte 0 of the input: the input's length, what `x17` holds, the
+/// byte.
 fn reading(input_len: u32, x17: u32, byte: u8) -> Proof {
     Proof::V3(StepProof3 {
         mem: ONE_VALUE.digest(&[]),

@@ -1,9 +1,9 @@
 //! The program `test_refcli`: calls `delegate::run` over memory for each row, and writes the result.
 //!
-//! The rows of its standard input are calls whose answers are written out. Those after them have a line each: calls over devices
-//! that fail, and calls at the limits of what the program takes. A call may answer that memory ran out, so no proof shows that a body doesn't
-//! give up at some size; these show it, for the largest case, image, input and bound, the most loads, provers, passes and rounds, and
-//! the ends of the options. `checks/limits --lines` writes their lines.
+//! The rows of its standard input are calls whose answers are written out. Those after them have a line each: calls over devices that
+//! fail, and calls at the limits of what the program takes. A call may answer that memory ran out, so no proof shows that a body doesn't
+//! give up at some size; these show it, for the largest case, image, input and bound, the most loads, provers, passes and rounds, and the
+//! ends of the options. `checks/limits --lines` writes their lines.
 #![tactic(auto)]
 
 mod answering;

@@ -3,9 +3,9 @@ use Rattle.std.specs.Prelude.{◌≡◌, ◌≢◌, ℕ, zero, suc, ◌-◌, ◌
 use Rattle.rd_base.specs.declared.answer.Qid.{Qid}
 use Rattle.bisect_game.specs.declared.settled.Interval.{Interval}
 use Rattle.bisect_game.specs.declared.settled.Round.{Round}
-use Rattle.bisect_game.specs.declared.question.Kind.{Kind}
-use Rattle.bisect_game.specs.declared.question.Kind.TheVariants as kind
-use Rattle.bisect_game.specs.declared.question.Question.{Question}
+use Rattle.bisect_game.specs.declared.settled.Kind.{Kind}
+use Rattle.bisect_game.specs.declared.settled.Kind.TheVariants as kind
+use Rattle.bisect_game.specs.declared.settled.Question.{Question}
 use Rattle.bisect_game.specs.Says.{Says}
 use Rattle.bisect_game.specs.Rules.{Rules, ArePlayable}
 use Rattle.bisect_game.specs.Bisection.{Bisection, kind_over}

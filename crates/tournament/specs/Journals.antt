@@ -1,7 +1,7 @@
 -- To believe: moves by the provers' own scripts, in any order, and the record in which they end.
 use Rattle.std.specs.Prelude.{◌≡◌, ℕ, zero, suc, ◌+◌, ◌<◌, true, List, [], ◌∷◌, Option, Some, None}
 use Rattle.rd_base.specs.declared.answer.Answer.{Answer}
-use Rattle.bisect_game.specs.declared.question.Question.{Question}
+use Rattle.bisect_game.specs.declared.settled.Question.{Question}
 use Rattle.bisect_game.specs.declared.settled.Settled.{Settled}
 use Rattle.bisect_game.specs.declared.settled.Settled.TheVariants.{Spent}
 use Rattle.bisect_game.specs.Says.{Says}

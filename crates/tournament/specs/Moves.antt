@@ -1,7 +1,7 @@
 -- To believe: a match in play, moved by one move at a time. Passes are counted on the question on which they were made.
 use Rattle.std.specs.Prelude.{ℕ, ◌+◌, ◌-◌, nat_lt, List, replicate, slice_index, slice_set, Option, Some, None, if◌then◌else◌}
 use Rattle.rd_base.specs.declared.answer.Answer.{Answer}
-use Rattle.bisect_game.specs.declared.question.Question.{Question}
+use Rattle.bisect_game.specs.declared.settled.Question.{Question}
 use Rattle.bisect_game.specs.declared.settled.Settled.{Settled}
 use Rattle.bisect_game.specs.declared.settled.Settled.TheVariants.{Spent}
 use Rattle.bisect_game.specs.Rules.{Rules, judged}

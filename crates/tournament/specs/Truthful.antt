@@ -1,7 +1,7 @@
 -- To believe: a prover that answers a case truthfully, and what the dispute theorem says of it.
 use Rattle.std.specs.Prelude.{◌≡◌, ℕ, ◌<◌, ◌≤◌, true, List, Some, None, Contains}
 use Rattle.rd_base.specs.declared.answer.Answer.{Answer}
-use Rattle.bisect_game.specs.declared.question.Question.{Question}
+use Rattle.bisect_game.specs.declared.settled.Question.{Question}
 use Rattle.bisect_game.specs.Says.{Says}
 use Rattle.bisect_game.specs.Ruling.{IsFair}
 use Rattle.bisect_game.specs.Rules.{Rules, ArePlayable}

@@ -188,9 +188,9 @@ pub fn questions_are_few()
     a_match_has_few_disputes_and_rounds();
 }
 
-/// Few posts: whoever posts whatever, all but a few posts are stale. Those of a prover that aren't are in all at most P + 1 times as many as
-/// the questions that it has been asked, for the patience P (`by_questions`). So for m provers and a most number k of bisection rounds they
-/// are at most `(P + 1) * (1 + (m - 1) * (k + 1))` of each prover (`of_each`), and at most `most_entries` of all together (`all`).
+/// Few posts: whoever posts whatever, all but a few posts are stale. Those of a prover that aren't are in all at most P + 1 times as many
+/// as the questions that it has been asked, for the patience P (`by_questions`). So for m provers and a most number k of bisection rounds
+/// they are at most `(P + 1) * (1 + (m - 1) * (k + 1))` of each prover (`of_each`), and at most `most_entries` of all together (`all`).
 pub fn posts_are_few()
     ensures by_questions { PostsByQuestions }
     ensures of_each { FewPostsOfEach }

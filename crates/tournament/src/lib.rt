@@ -4,15 +4,14 @@
 //! (`specs/Posting.antt`, over `specs/Bracket.antt`) with its reply, and takes no memory once the match was made; the
 //! dispute theorem (`laws`) holds of that definition whatever is posted in whatever order, and of every match
 //! (`Match::is_after_posts`, `Match::keeps_true_provers`, `Match::has_few_disputes_and_rounds`, `Match::is_never_stuck`,
-//! `Match::has_survivors_that_agree`). Read `posting` first, then `playing`; `record` is what a match leaves, and `reading` decides its
-//! verdict. The numbers of a match are a `Setup` of `bisect_game`. An `Err` that no comment names is out of memory.
+//! `Match::has_survivors_that_agree`). Read `posting` first, then `playing`; `sheet` has what a match leaves, and decides its verdict by
+//! what `reading` finds. The numbers of a match are a `Setup` of `bisect_game`. An `Err` that no comment names is out of memory.
 #![tactic(auto)]
 
 mod laws;
 mod playing;
 mod posting;
 mod reading;
-mod record;
 mod sheet;
 
 pub use laws::{
@@ -29,4 +28,4 @@ pub use laws::{
 pub use playing::Match;
 pub use posting::{Move, Reply, is_pass, is_stale, move_of};
 pub use reading::Verdict;
-pub use record::Record;
+pub use sheet::Record;

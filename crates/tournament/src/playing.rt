@@ -20,8 +20,7 @@ use crate::laws::{
 };
 use crate::posting::{Move, Reply, judged, reply_by};
 use crate::reading::{Verdict, all_closed, all_there, question_in};
-use crate::record::Record;
-use crate::sheet::Sheet;
+use crate::sheet::{Record, Sheet};
 use bisect_game::{Claimed, Judge, Question, Settled, Setup};
 use rd_base::{Digest32, Memory, Qid, same_qid};
 use std::alloc::Global;

@@ -74,7 +74,7 @@ pub(crate) fn all_out(disputes: &[Dispute]) -> bool
 }
 
 /// Whether a dispute has eliminated the prover.
-pub(crate) fn is_out_in(disputes: &[Dispute], p: u32) -> bool
+fn is_out_in(disputes: &[Dispute], p: u32) -> bool
     ensures { result ≡ is_out_in disputes.now p }
 {
     match disputes {

@@ -10,9 +10,9 @@ use Rattle.rd_base.specs.declared.proof.Proof.TheVariants as proof
 use Rattle.rd_base.specs.declared.status.Status.TheVariants.{Running}
 use Rattle.rd_base.specs.Regs.{no_registers_set}
 use Rattle.rd_base.specs.Status.{is_running}
-use Rattle.bisect_game.specs.declared.question.Kind.{Kind}
-use Rattle.bisect_game.specs.declared.question.Kind.TheVariants as kind
-use Rattle.bisect_game.specs.declared.question.Question.{Question}
+use Rattle.bisect_game.specs.declared.settled.Kind.{Kind}
+use Rattle.bisect_game.specs.declared.settled.Kind.TheVariants as kind
+use Rattle.bisect_game.specs.declared.settled.Question.{Question}
 use Rattle.bisect_game.specs.Ruling.{Ruling, same_digest}
 use Rattle.bisect_game.specs.Says.{Says}
 use Rattle.bisect_game.specs.Bisection.{steps_asked}

@@ -42,7 +42,7 @@ impl fmt::Display for Word {
 }
 
 /// What an answer to a question for a root is called.
-pub(crate) fn said_word(settled: &Settled) -> Word
+fn said_word(settled: &Settled) -> Word
     ensures { result ≡ said_word settled.now }
 {
     match settled {
@@ -53,7 +53,7 @@ pub(crate) fn said_word(settled: &Settled) -> Word
 }
 
 /// What an answer to a question for a proof is called, of a side that is out or not.
-pub(crate) fn said_word_of_proof(is_out: bool, settled: &Settled) -> Word
+fn said_word_of_proof(is_out: bool, settled: &Settled) -> Word
     ensures { result ≡ said_word_of_proof is_out settled.now }
 {
     match settled {
@@ -63,8 +63,8 @@ pub(crate) fn said_word_of_proof(is_out: bool, settled: &Settled) -> Word
     }
 }
 
-/// A round that asked for roots: its number in its dispute, from 1, the interval that it cuts, from the step `lo` to the step `hi`, and what
-/// each side's answer was settled as.
+/// A round that asked for roots: its number in its dispute, from 1, the interval that it cuts, from the step `lo` to the step `hi`, and
+/// what each side's answer was settled as.
 #[derive(Clone, Copy)]
 struct NumberedRound<'a> {
     number: usize,

@@ -157,11 +157,7 @@ fn add_moves_of_disputes(
 
 /// Adds a line for each settled answer: the claims by prover, then by dispute, round and side.
 #[tactic(auto, using(crate::proofs::MoveLemmas::adding))]
-pub(crate) fn add_moves(
-    text: &mut String,
-    alloc: Global,
-    match_record: &Record,
-) -> Result<(), Memory>
+fn add_moves(text: &mut String, alloc: Global, match_record: &Record) -> Result<(), Memory>
     ensures text { OnOk result (string_bytes text.new ≡ string_bytes text.old ++ moves_text (moves_of match_record.now)) }
     ensures written { OnOk result (AreWritten (moves_of match_record.now)) }
 {

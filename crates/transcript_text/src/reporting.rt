@@ -112,7 +112,7 @@ fn add_claim(
 }
 
 /// Adds the line of each prover whose claim is settled, of whom the first has the number 1.
-pub(crate) fn add_claims(
+fn add_claims(
     text: &mut String,
     alloc: Global,
     claims: &[Option<Settled>],

@@ -1,6 +1,6 @@
 -- A legal list of moves is one of posts none of which is stale, so it is no longer than such lists are.
 use Rattle.std.proofs.Common.{◌≡◌, false, ℕ, not, if◌then◌else◌, Bool, List, [], ◌∷◌, length, refl, sym, ◌∙◌, ap, arith}
-use Rattle.bisect_game.specs.declared.question.Question.{Question}
+use Rattle.bisect_game.specs.declared.settled.Question.{Question}
 use Rattle.bisect_game.specs.Rules.{Rules}
 use Rattle.bisect_game.specs.Says.{Says}
 use Rattle.tournament.specs.Bracket.{open_question}

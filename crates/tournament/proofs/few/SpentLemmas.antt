@@ -6,7 +6,7 @@ use Rattle.std.proofs.lemmas.Bool.{cases_Bool}
 use Rattle.rd_base.specs.declared.answer.Answer.{Answer}
 use Rattle.rd_base.specs.declared.answer.Qid.{Qid}
 use Rattle.rd_base.specs.Questions.{same_qid}
-use Rattle.bisect_game.specs.declared.question.Question.{Question}
+use Rattle.bisect_game.specs.declared.settled.Question.{Question}
 use Rattle.bisect_game.specs.declared.settled.Settled.{Settled}
 use Rattle.bisect_game.specs.declared.settled.Settled.TheVariants.{Spent}
 use Rattle.bisect_game.specs.Bisection.{Bisection, question_of}

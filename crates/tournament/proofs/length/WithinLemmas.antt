@@ -4,9 +4,9 @@ use Rattle.std.proofs.lemmas.Bool.Decides.{nat_tests}
 use Rattle.rd_base.specs.declared.answer.Qid.{Qid}
 use Rattle.bisect_game.specs.declared.settled.Interval.{Interval}
 use Rattle.bisect_game.specs.declared.settled.Round.{Round}
-use Rattle.bisect_game.specs.declared.question.Kind.{Kind}
-use Rattle.bisect_game.specs.declared.question.Kind.TheVariants as kind
-use Rattle.bisect_game.specs.declared.question.Question.{Question}
+use Rattle.bisect_game.specs.declared.settled.Kind.{Kind}
+use Rattle.bisect_game.specs.declared.settled.Kind.TheVariants as kind
+use Rattle.bisect_game.specs.declared.settled.Question.{Question}
 use Rattle.bisect_game.specs.declared.settled.Settled.{Settled}
 use Rattle.bisect_game.specs.Bisection.{Bisection, cut, kind_over, question_of}
 use Rattle.bisect_game.specs.Laws.{BisectionLaws}

@@ -5,7 +5,7 @@ use Rattle.std.proofs.lemmas.Bool.{cases_Bool}
 use Rattle.rd_base.specs.declared.answer.Answer.TheVariants as answer
 use Rattle.rd_base.specs.declared.answer.Qid.{Qid}
 use Rattle.rd_base.specs.declared.claim.Claim.{Claim}
-use Rattle.bisect_game.specs.declared.question.Question.{Question}
+use Rattle.bisect_game.specs.declared.settled.Question.{Question}
 use Rattle.bisect_game.specs.declared.settled.Settled.{Settled}
 use Rattle.bisect_game.specs.declared.settled.Settled.TheVariants.{Given}
 use Rattle.bisect_game.specs.declared.settled.Side.TheVariants.{First, Second}

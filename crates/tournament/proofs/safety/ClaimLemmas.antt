@@ -4,8 +4,8 @@ use Rattle.std.proofs.lemmas.Bool.{cases_Bool}
 use Rattle.std.specs.Option.{option_or}
 use Rattle.rd_base.specs.declared.claim.Claim.{Claim}
 use Rattle.rd_base.specs.declared.answer.Answer.TheVariants as answer
-use Rattle.bisect_game.specs.declared.question.Kind.TheVariants as kind
-use Rattle.bisect_game.specs.declared.question.Question.{Question}
+use Rattle.bisect_game.specs.declared.settled.Kind.TheVariants as kind
+use Rattle.bisect_game.specs.declared.settled.Question.{Question}
 use Rattle.bisect_game.specs.declared.settled.Settled.{Settled}
 use Rattle.bisect_game.specs.declared.settled.Settled.TheVariants.{Given}
 use Rattle.bisect_game.specs.Rules.{Rules, claim_question}

@@ -59,7 +59,7 @@ fn read_digits(so_far: u64, bytes: &[u8]) -> (u64, &[u8])
 
 /// A number. One that needs more than 32 bits is 2^32.
 #[tactic(auto, unfolding(crate::specs::reader::Fields::decimal_at))]
-pub(crate) fn read_number(bytes: &[u8]) -> Result<(u64, &[u8]), LineFault>
+fn read_number(bytes: &[u8]) -> Result<(u64, &[u8]), LineFault>
     ensures is { Gives LineFault.Memory (λ x. (x.0, x.1.now)) result (decimal_at bytes.now) }
     ensures small { IfOk result (λ x. x.0 ≤ 4294967296) }
 {

@@ -2,7 +2,7 @@ use Rattle.std.proofs.Common.{◌∙◌, ℕ, Option, ap, ap₂}
 use Rattle.rd_base.specs.declared.answer.Answer.{Answer}
 use Rattle.rd_base.specs.declared.script.Manner.{Manner}
 use Rattle.rv_step.specs.State.{State}
-use Rattle.bisect_game.specs.declared.question.Question.{Question}
+use Rattle.bisect_game.specs.declared.settled.Question.{Question}
 use Rattle.prover_script.specs.Manners.{says}
 use Rattle.prover_run.specs.Prover.{Prover, prover_says}
 use Rattle.prover_run.proofs.provers.answerer_of.Goals as goal

@@ -1,6 +1,6 @@
 use Rattle.std.proofs.Common.{◌≡◌, ◌∙◌, ℕ, Option, ap}
 use Rattle.rd_base.specs.declared.answer.Answer.{Answer}
-use Rattle.bisect_game.specs.declared.question.Question.{Question}
+use Rattle.bisect_game.specs.declared.settled.Question.{Question}
 use Rattle.tournament.specs.Posting.{answer_of}
 use Rattle.toy_game.specs.Toy.{says_of}
 use Rattle.test_boards.specs.Casts.{cast_at}

@@ -1,6 +1,0 @@
-use Rattle.checkpoint_run.specs.Versions.{pages_of}
-use Rattle.checkpoint_run.specs.Places.{IsIndex}
-use Rattle.checkpoint_run.proofs.page_places.index_of.Given as goal
-
-abbrev pub invariant-versions : goal.invariant-versions
-invariant-versions l = IsIndex l.index.places.entries l.index.pages.items (pages_of l.versions) l.place

@@ -1,5 +1,0 @@
-use Rattle.std.proofs.Common.{length}
-use Rattle.open_proof.proofs.facts.called.+file_of.Given as goal
-
-abbrev pub decreases-file_of : goal.decreases-file_of
-decreases-file_of l = length l.names.now

@@ -1,0 +1,41 @@
+use Rattle.std.proofs.Common.{◌<◌, ℕ, Option, IfSome, ap, ◌∙◌, sym, subst}
+use Rattle.rv_step.specs.Named.{named_by}
+use Rattle.rv_step.specs.State.{state_of}
+use Rattle.open_proof.specs.Called.{address_needed}
+use Rattle.open_proof.specs.Facts.{byte_needed}
+use Rattle.open_proof.specs.Shown.{tree_of}
+use Rattle.open_proof.specs.declared.facts.HeldInput.{HeldInput}
+use Rattle.open_proof.proofs.CalledLemmas.{fetch-is, need-is, word-is}
+use Rattle.open_proof.proofs.WholeLemmas.{byte-within}
+use Rattle.open_proof.proofs.proving.called_by_state.Goals as goal
+
+pub returns-clause-fetch : goal.returns-clause-fetch
+returns-clause-fetch g c =
+    fetch-is g.D.Digester.digest_of c.args.committed.now (state_of c.machine-machine.result.now) c.machine-machine.ensures.state c.fetch_address-fetch.result c.fetch_address-fetch.ensures.value
+
+pub returns-clause-names : goal.returns-clause-names
+returns-clause-names g c =
+    let digest = g.D.Digester.digest_of in
+    let s = c.args.committed.now in
+    let word = word-is digest s (state_of c.machine-machine.result.now) c.machine-machine.ensures.state c.fetch_address-fetch.result c.fetched_at-word.result c.fetch_address-fetch.ensures.value c.fetched_at-word.ensures in
+    c.named_by.ensures.value ∙ (ap named_by word ∙ c.states_name_registers.ensures digest s)
+
+pub returns-clause-operand : goal.returns-clause-operand
+returns-clause-operand g c =
+    let digest = g.D.Digester.digest_of in
+    let s = c.args.committed.now in
+    let word = word-is digest s (state_of c.machine-machine.result.now) c.machine-machine.ensures.state c.fetch_address-fetch.result c.fetched_at-word.result c.fetch_address-fetch.ensures.value c.fetched_at-word.ensures in
+    let need = need-is digest s (state_of c.machine-machine.result.now) c.machine-machine.ensures.state c.tree_of-tree.result c.fetched_at-word.result c.needed_by-need.result c.tree_of-tree.ensures.value word c.needed_by-need.ensures in
+    c.address_needed.ensures ∙ ap address_needed need
+
+pub returns-clause-input : goal.returns-clause-input
+returns-clause-input g c =
+    let digest = g.D.Digester.digest_of in
+    let s = c.args.committed.now in
+    let word = word-is digest s (state_of c.machine-machine.result.now) c.machine-machine.ensures.state c.fetch_address-fetch.result c.fetched_at-word.result c.fetch_address-fetch.ensures.value c.fetched_at-word.ensures in
+    let need = need-is digest s (state_of c.machine-machine.result.now) c.machine-machine.ensures.state c.tree_of-tree.result c.fetched_at-word.result c.needed_by-need.result c.tree_of-tree.ensures.value word c.needed_by-need.ensures in
+    c.byte_needed.ensures ∙ (ap (λ (t : Option HeldInput). byte_needed t c.needed_by-need.result) c.tree_of-tree.ensures.value ∙ ap (byte_needed (tree_of digest s)) need)
+
+pub returns-clause-inside : goal.returns-clause-inside
+returns-clause-inside g c =
+    subst (λ (o : Option ℕ). IfSome o (λ k. k < 1048576)) (sym c.byte_needed.ensures) (byte-within c.tree_of-tree.result c.needed_by-need.result c.tree_of-tree.ensures.short)
