@@ -1,14 +1,14 @@
-//! Rows that count the digests of roots.
-ghost use Rattle.std.specs.Prelude.{◌≡◌, ◌<◌, ℕ, List, IfOk};
-ghost use Rattle.rv_step.specs.State.{IsChained, state_of};
+//! Roots of runs, and rows that count the digests that they take.
+ghost use Rattle.std.specs.Prelude.{◌≡◌, ◌<◌};
+ghost use Rattle.rv_step.specs.State.{state_of};
 ghost use Rattle.checkpoint_run.specs.Recorded.{AreChained};
 ghost use Rattle.state_commit.specs.Committing.{HasInput};
 ghost use Rattle.sha2.specs.Sha256.{sha256};
 
-use crate::programs::{Program, run_of, started};
-use crate::said::begin;
-use crate::words::{Unanswered, long_of, number, steps_of, word};
-use checkpoint_run::{Run, record_run};
+use crate::programs::{Program, run_from, started};
+use crate::said::begins;
+use crate::words::steps_of;
+use checkpoint_run::Run;
 use digest_core::{Digester, Sha256};
 use rd_base::{Digest32, Memory, Tamper};
 use rv_step::Machine;
@@ -18,27 +18,30 @@ use std::alloc::Global;
 use std::sync::atomic::{AtomicU64, Ordering};
 use std::thread::Threads;
 use toy_machine::Tally;
+use toy_rows::{Unanswered, long, number, word};
 
-/// How many digests the roots of some steps take, by one worker. An `Err` is out of memory.
-fn digests_of<R: Threads + Sync>(
+/// The roots of some steps by a number of workers, and how many digests they take. An `Err` is out of memory.
+pub fn counted<R: Threads + Sync>(
     rt: &R,
     alloc: Global,
     run: &Run,
+    workers: u32,
     steps: &[u64],
-) -> Result<u64, Memory>
-    requires { AreChained sha256 run.now }
+) -> Result<(Vec<Digest32>, u64), Memory>
+    requires workers { 0 < workers }
+    requires chained { AreChained sha256 run.now }
 {
     let made = AtomicU64::new(0);
     let counted = Tally {
         of: Sha256,
         made: &made,
     };
-    roots(rt, alloc, counted, run, steps, 1)?;
-    Ok(made.load(Ordering::SeqCst))
+    let found = roots(rt, alloc, counted, run, steps, workers)?;
+    Ok((found, made.load(Ordering::SeqCst)))
 }
 
-/// How many digests they take if the root of the input is given. An `Err` is out of memory.
-fn digests_with_input<R: Threads + Sync>(
+/// How many digests the roots take, by one worker, if the root of the input is given. An `Err` is out of memory.
+fn counted_with_input<R: Threads + Sync>(
     rt: &R,
     alloc: Global,
     run: &Run,
@@ -56,58 +59,46 @@ fn digests_with_input<R: Threads + Sync>(
     Ok(made.load(Ordering::SeqCst))
 }
 
-/// How many digests more the roots of the first steps take than those of the others.
-fn more_of<R: Threads + Sync>(
-    rt: &R,
-    alloc: Global,
-    program: &Program,
-    words: &[&str],
-) -> Result<u64, Unanswered> {
-    let steps = steps_of(alloc, word(words, 4)?)?;
-    let others = steps_of(alloc, word(words, 5)?)?;
-    let run = run_of(alloc, program, words)?;
-    let many = digests_of(rt, alloc, &run, steps.as_slice())?;
-    let few = digests_of(rt, alloc, &run, others.as_slice())?;
-    Ok(many.wrapping_sub(few))
+/// How many digests more the roots of the first steps take than those of the others, in the words of `more` or `within`.
+fn in_words(alloc: Global, words: &[&str], more: u64) -> Result<String, Unanswered> {
+    if word(words, 0)? == "within" {
+        let (least, most) = (long(words, 6)?, long(words, 7)?);
+        if least <= more && more <= most {
+            return Ok(format!(in alloc; "from {least} to {most}")?);
+        }
+    }
+    Ok(format!(in alloc; "{more}")?)
 }
 
 /// `more BOUND EVERY TAMPER STEP,.. STEP,..`: how many digests more the roots of the first steps take than those of the others.
+/// `within` the same, `LEAST MOST`: whether it is a number from the least to the most.
 pub fn more<R: Threads + Sync>(
     rt: &R,
     alloc: Global,
-    program: &Program,
+    run: &Run,
     words: &[&str],
-) -> Result<String, Unanswered> {
-    let more = more_of(rt, alloc, program, words)?;
-    Ok(format!(in alloc; "{more}")?)
-}
-
-/// `within LEAST MOST` behind a row of `more`: whether it is a number from the least to the most.
-pub fn within<R: Threads + Sync>(
-    rt: &R,
-    alloc: Global,
-    program: &Program,
-    words: &[&str],
-) -> Result<String, Unanswered> {
-    let (least, most) = (long_of(word(words, 6)?)?, long_of(word(words, 7)?)?);
-    let more = more_of(rt, alloc, program, words)?;
-    if least <= more && more <= most {
-        return Ok(format!(in alloc; "from {least} to {most}")?);
-    }
-    Ok(format!(in alloc; "{more}")?)
+) -> Result<String, Unanswered>
+    requires { AreChained sha256 run.now }
+{
+    let steps = steps_of(alloc, words, 4)?;
+    let others = steps_of(alloc, words, 5)?;
+    let (_, many) = counted(rt, alloc, run, 1, steps.as_slice())?;
+    let (_, few) = counted(rt, alloc, run, 1, others.as_slice())?;
+    in_words(alloc, words, many.wrapping_sub(few))
 }
 
 /// `input_root BOUND EVERY TAMPER STEP,..`: how many digests the roots of steps take less if the root of the input is given.
 pub fn input_root<R: Threads + Sync>(
     rt: &R,
     alloc: Global,
-    program: &Program,
+    run: &Run,
     words: &[&str],
-) -> Result<String, Unanswered> {
-    let steps = steps_of(alloc, word(words, 4)?)?;
-    let run = run_of(alloc, program, words)?;
-    let whole = digests_of(rt, alloc, &run, steps.as_slice())?;
-    let rest = digests_with_input(rt, alloc, &run, steps.as_slice())?;
+) -> Result<String, Unanswered>
+    requires { AreChained sha256 run.now }
+{
+    let steps = steps_of(alloc, words, 4)?;
+    let (_, whole) = counted(rt, alloc, run, 1, steps.as_slice())?;
+    let rest = counted_with_input(rt, alloc, run, steps.as_slice())?;
     Ok(format!(in alloc; "{}", whole.wrapping_sub(rest))?)
 }
 
@@ -143,48 +134,22 @@ fn with_input<D: Digester>(
     KeptRun::new(alloc, d, run, input)
 }
 
-/// The run from a machine without a tamper, up to a bound and with a spacing of at least 1. An `Err` is out of memory.
-fn untouched_run<D: Digester>(
+/// The untouched run of `NAME BOUND EVERY ..`, from which no root was made so far, by a digest function that counts.
+fn kept_run<'a>(
     alloc: Global,
-    d: D,
-    machine: &Machine,
-    bound: u64,
-    every: u32,
-) -> Result<Run, Memory>
-    requires { IsChained D.digest_of machine.now }
-    ensures chained { IfOk result (λ r. AreChained D.digest_of r) }
-    ensures first { IfOk result (λ r. r.first ≡ state_of machine.now) }
-{
-    record_run(alloc, d, machine, bound, every.max(1), Tamper::Untouched)
-}
-
-/// Such a run, from which no root was made so far. An `Err` is out of memory.
-fn kept_from<D: Digester>(
-    alloc: Global,
-    d: D,
-    machine: &Machine,
-    bound: u64,
-    every: u32,
-) -> Result<KeptRun<D>, Memory>
-    requires { IsChained D.digest_of machine.now }
-{
-    let run = untouched_run(alloc, d, machine, bound, every)?;
-    let input = SharedInput::of(alloc, d, machine)?;
-    Ok(with_input(alloc, d, machine, run, input))
-}
-
-/// The untouched run of `NAME BOUND EVERY ..`, from which no root was made so far.
-fn kept_run<D: Digester>(
-    alloc: Global,
-    d: D,
+    counted: Tally<'a, Sha256>,
     program: &Program,
     words: &[&str],
-) -> Result<Box<KeptRun<D>>, Unanswered> {
-    let bound = u64::from(number(words, 1)?);
+) -> Result<Box<KeptRun<Tally<'a, Sha256>>>, Unanswered> {
+    let bound = number(words, 1)?;
     let every = number(words, 2)?;
+    if every == 0 {
+        return Err(Unanswered::NoRow);
+    }
     let machine = started(alloc, program)?;
-    let kept = kept_from(alloc, d, &machine, bound, every)?;
-    Ok(Box::new(alloc, kept)?)
+    let run = run_from(alloc, &machine, bound, every, Tamper::Untouched)?;
+    let input = SharedInput::of(alloc, counted, &machine)?;
+    Ok(Box::new(alloc, with_input(alloc, counted, &machine, run, input))?)
 }
 
 /// How many digests the committed machine of the bound takes less if it shares the tree of the input with its run.
@@ -192,20 +157,21 @@ fn saved_at_bound<R: Threads + Sync>(
     rt: &R,
     alloc: Global,
     program: &Program,
+    run: &Run,
     words: &[&str],
-) -> Result<u64, Unanswered> {
+) -> Result<u64, Unanswered>
+    requires { AreChained sha256 run.now }
+{
     let made = AtomicU64::new(0);
     let counted = Tally {
         of: Sha256,
         made: &made,
     };
-    let bound = u64::from(number(words, 1)?);
-    let run = run_of(alloc, program, words)?;
-    drop(committed_at(rt, alloc, counted, &run, bound)?);
+    drop(committed_at(rt, alloc, counted, run, run.bound())?);
     let without = made.load(Ordering::SeqCst);
     let kept = kept_run(alloc, counted, program, words)?;
     made.store(0, Ordering::SeqCst);
-    drop(kept.committed(rt, alloc, bound)?);
+    drop(kept.committed(rt, alloc, run.bound())?);
     Ok(without.wrapping_sub(made.load(Ordering::SeqCst)))
 }
 
@@ -215,14 +181,17 @@ pub fn input_tree<R: Threads + Sync>(
     rt: &R,
     alloc: Global,
     program: &Program,
+    run: &Run,
     words: &[&str],
-) -> Result<String, Unanswered> {
+) -> Result<String, Unanswered>
+    requires { AreChained sha256 run.now }
+{
     let root = saved_at_start(alloc, program)?;
-    let machine = saved_at_bound(rt, alloc, program, words)?;
+    let machine = saved_at_bound(rt, alloc, program, run, words)?;
     Ok(format!(in alloc; "{root}, {machine}")?)
 }
 
-/// The root of a step of a kept run.
+/// The root of a step of a kept run. An `Err` is out of memory.
 fn kept_root<D: Digester + Copy + Send + Sync, R: Threads + Sync>(
     rt: &R,
     alloc: Global,
@@ -233,7 +202,7 @@ fn kept_root<D: Digester + Copy + Send + Sync, R: Threads + Sync>(
     Ok(roots.first().copied().unwrap_or(Digest32([0; 32])))
 }
 
-/// How the roots of a kept run begin, made one after another, and how many digests the last one took.
+/// The roots of a kept run, made one after another, and how many digests the last one took.
 fn kept_roots<D: Digester + Copy + Send + Sync, R: Threads + Sync>(
     rt: &R,
     alloc: Global,
@@ -241,15 +210,14 @@ fn kept_roots<D: Digester + Copy + Send + Sync, R: Threads + Sync>(
     kept: &mut KeptRun<D>,
     steps: &[u64],
 ) -> Result<String, Unanswered> {
-    let mut text = String::new(alloc);
+    let mut roots = Vec::new(alloc);
     for step in steps {
         made.store(0, Ordering::SeqCst);
-        let root = kept_root(rt, alloc, kept, *step)?;
-        text.push_str(begin(alloc, root)?.as_str())?;
-        text.push_str(" ")?;
+        roots.push(kept_root(rt, alloc, kept, *step)?)?;
     }
     let last = made.load(Ordering::SeqCst);
-    Ok(format!(in alloc; "{text}by {last} digests")?)
+    let begins = begins(alloc, "", roots.as_slice())?;
+    Ok(format!(in alloc; "{} by {last} digests", begins.as_str().trim_start())?)
 }
 
 /// `kept BOUND EVERY STEP,..`: the roots of a kept run's steps, made one after another, and how many digests the last one took.
@@ -259,7 +227,7 @@ pub fn kept<R: Threads + Sync>(
     program: &Program,
     words: &[&str],
 ) -> Result<String, Unanswered> {
-    let steps = steps_of(alloc, word(words, 3)?)?;
+    let steps = steps_of(alloc, words, 3)?;
     let made = AtomicU64::new(0);
     let counted = Tally {
         of: Sha256,

@@ -11,7 +11,7 @@ mod asking;
 mod counting;
 mod digests;
 mod given;
-mod manners;
+mod opened;
 mod playing;
 mod programs;
 mod proofs;
@@ -20,16 +20,24 @@ mod roots;
 mod rows;
 mod runs;
 mod said;
-mod tampers;
+mod scripts;
 mod words;
 
 use io_edge::StdSource;
+use programs::Program;
 use std::io;
 use std::process::ExitCode;
+use toy_rows::answered;
 
 fn main(rt: HostRuntime) -> io::Result<ExitCode> {
     let mut source = StdSource::new(rt.stdin());
-    match rows::answered(&rt, rt.alloc(), &mut source) {
+    let mut program = Program {
+        version: 1,
+        image: Vec::new(rt.alloc()),
+        input: Vec::new(rt.alloc()),
+        pages: 0,
+    };
+    match answered(&rt, rt.alloc(), &mut source, &mut program) {
         Ok(lines) => print!(rt; "{lines}")?,
         Err(_) => return Ok(ExitCode::from(9)),
     }

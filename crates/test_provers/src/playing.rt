@@ -3,15 +3,13 @@ ghost use denote.Param.Send.{IsSync};
 ghost use Rattle.std.specs.Prelude.{◌≡◌, ◌<◌, []};
 ghost use Rattle.rv_step.specs.State.{IsChained};
 
-use crate::asking::{Asked, answer_of, asked_in};
+use crate::asking::{answer_of, asked_in};
 use crate::counting::Counting;
-use crate::manners::manner_of;
 use crate::programs::{Program, copy_with, started};
-use crate::provers::in_words;
+use crate::provers::asked_all;
 use crate::said::waiting;
-use crate::tampers::tamper_of;
-use crate::words::{Unanswered, number, word};
-use bisect_game::{Answerer, Provers};
+use crate::scripts::scripts_of;
+use bisect_game::Provers;
 use digest_core::Sha256;
 use prover_run::{CaseProvers, Plan, RunAnswerer, Start, answerers_with_input};
 use prover_script::Scripted;
@@ -23,25 +21,7 @@ use std::alloc::Global;
 use std::sync::atomic::{AtomicU64, Ordering};
 use std::thread::Threads;
 use toy_machine::Tally;
-
-/// `TAMPER/MANNER`.
-fn script_of(alloc: Global, text: &str) -> Result<Script, Unanswered> {
-    match text.split_once('/') {
-        Some((tamper, manner)) => Ok(Script {
-            tamper: tamper_of(alloc, tamper)?,
-            manner: manner_of(alloc, manner)?,
-        }),
-        None => Err(Unanswered::NoRow),
-    }
-}
-
-fn scripts_of(alloc: Global, texts: &[&str]) -> Result<Vec<Script>, Unanswered> {
-    let mut scripts = Vec::new(alloc);
-    for text in texts {
-        scripts.push(script_of(alloc, text)?)?;
-    }
-    Ok(scripts)
-}
+use toy_rows::{Unanswered, long, number};
 
 /// The plan of `NAME BOUND EVERY WORKERS ..`.
 fn plan_of(words: &[&str]) -> Result<Plan, Unanswered> {
@@ -74,11 +54,8 @@ fn answerers_of<D: Replays>(
     Ok(answerers_with_input(alloc, d, scripts, &start, plan)?)
 }
 
-/// The provers of a case, and their answerers.
-type Playing = (
-    CaseProvers<Sha256>,
-    Vec<Scripted<RunAnswerer<Sha256>, Sha256>>,
-);
+/// An answerer of a case.
+type Playing = Scripted<RunAnswerer<Sha256>, Sha256>;
 
 /// The provers with these scripts, and their answerers.
 fn playing(
@@ -86,7 +63,7 @@ fn playing(
     program: &Program,
     scripts: &[Script],
     plan: Plan,
-) -> Result<Playing, Unanswered> {
+) -> Result<(CaseProvers<Sha256>, Vec<Playing>), Unanswered> {
     if scripts.len() > 16 {
         return Err(Unanswered::NoRow);
     }
@@ -101,40 +78,40 @@ fn said_by<R: Threads + Sync>(
     rt: &R,
     alloc: Global,
     provers: &CaseProvers<Sha256>,
-    answerer: &mut Scripted<RunAnswerer<Sha256>, Sha256>,
+    answerer: &mut Playing,
     p: u32,
     text: &str,
 ) -> Result<String, Unanswered>
     requires sync { IsSync R.row }
     requires some { 0 < p }
 {
-    let asked = asked_in(alloc, text)?;
+    let asked = asked_in(text)?;
     if p > provers.count() {
         return Err(Unanswered::NoRow);
     }
-    let waits = provers.waits(p, &asked.question, asked.passes);
+    let waits = provers.waits(p, &asked.0, asked.1);
     let answer = answer_of(rt, answerer, asked)?;
-    let said = in_words(alloc, &answer, text)?;
-    waiting(alloc, waits, said.as_str())
+    waiting(alloc, waits, &answer, Some(text))
 }
 
-/// The answers of provers to a question.
-fn said_by_all<R: Threads + Sync>(
+/// Adds the answers of provers to a question.
+fn add_answers<R: Threads + Sync>(
     rt: &R,
     alloc: Global,
+    lines: &mut String,
     provers: &CaseProvers<Sha256>,
-    answerers: &mut [Scripted<RunAnswerer<Sha256>, Sha256>],
+    answerers: &mut [Playing],
     text: &str,
-) -> Result<String, Unanswered>
+) -> Result<(), Unanswered>
     requires { IsSync R.row }
 {
-    let mut line = String::new(alloc);
+    lines.push_str("\n ")?;
     for (k, answerer) in answerers.iter_mut().enumerate() {
         let p = k.min(15) as u32 + 1;
-        line.push_str(said_by(rt, alloc, provers, answerer, p, text)?.as_str())?;
-        line.push_str("; ")?;
+        let said = said_by(rt, alloc, provers, answerer, p, text)?;
+        lines.push_str(format!(in alloc; " {said};")?.as_str())?;
     }
-    Ok(line)
+    Ok(())
 }
 
 /// How many provers and answerers there are, and their answers to questions, one question a line.
@@ -142,29 +119,23 @@ fn said<R: Threads + Sync>(
     rt: &R,
     alloc: Global,
     provers: &CaseProvers<Sha256>,
-    answerers: &mut [Scripted<RunAnswerer<Sha256>, Sha256>],
+    answerers: &mut [Playing],
     texts: &[&str],
 ) -> Result<String, Unanswered>
     requires { IsSync R.row }
 {
     let (many, answering) = (provers.count(), answerers.len());
-    let mut lines = format!(in alloc; "{many} provers, {answering} answerers\n  ")?;
+    let mut lines = format!(in alloc; "{many} provers, {answering} answerers")?;
     for text in texts {
-        lines.push_str(
-            said_by_all(rt, alloc, provers, answerers, text)?
-                .as_str()
-                .trim_end(),
-        )?;
-        lines.push_str("\n  ")?;
+        add_answers(rt, alloc, &mut lines, provers, answerers, text)?;
     }
     Ok(lines)
 }
 
-fn may_be_shared<T: Send + Sync>(_shared: &T) {}
+/// What is handed to a thread, one by reference and one by value: a call proves that threads may hold them.
+fn may_cross<T: Send + Sync, U: Send>(_shared: &T, _sent: &U) {}
 
-fn may_be_sent<T: Send>(_sent: &T) {}
-
-/// The answers of the provers with these scripts. The calls that hand them to a thread prove that threads may hold them.
+/// The answers of the provers with these scripts.
 fn case_of<R: Threads + Sync>(
     rt: &R,
     alloc: Global,
@@ -176,8 +147,7 @@ fn case_of<R: Threads + Sync>(
     requires { IsSync R.row }
 {
     let (provers, mut answerers) = playing(alloc, program, scripts, plan)?;
-    may_be_shared(&provers);
-    may_be_sent(&answerers);
+    may_cross(&provers, &answerers);
     let said = said(rt, alloc, &provers, &mut answerers, texts);
     drop(provers);
     drop(answerers);
@@ -196,27 +166,13 @@ pub fn case<R: Threads + Sync>(
 {
     let plan = plan_of(words)?;
     let rest = words.get(5..).unwrap_or(&[]);
-    let count = number(words, 4)?.min(16) as usize;
-    if rest.len() < count {
+    let count = number(words, 4)? as usize;
+    if count > rest.len() {
         return Err(Unanswered::NoRow);
     }
-    let scripts = scripts_of(alloc, rest.get(..count).unwrap_or(&[]))?;
-    let texts = rest.get(count..).unwrap_or(&[]);
+    let (scripts, texts) = rest.split_at(count);
+    let scripts = scripts_of(alloc, scripts)?;
     case_of(rt, alloc, program, scripts.as_slice(), plan, texts)
-}
-
-/// Asks an answerer one question after another.
-fn ask_all<R: Threads + Sync, A: Answerer>(
-    rt: &R,
-    answerer: &mut A,
-    asked: &[Asked],
-) -> Result<(), Unanswered>
-    requires { IsSync R.row }
-{
-    for asked in asked {
-        answer_of(rt, answerer, *asked)?;
-    }
-    Ok(())
 }
 
 /// Of the provers with these scripts: how many digests they make until one is asked, and then until each was asked these questions.
@@ -226,7 +182,7 @@ fn digests_of<R: Threads + Sync>(
     program: &Program,
     scripts: &[Script],
     plan: Plan,
-    asked: &[Asked],
+    texts: &[&str],
 ) -> Result<(u64, u64), Unanswered>
     requires { IsSync R.row }
 {
@@ -239,18 +195,9 @@ fn digests_of<R: Threads + Sync>(
     let mut answerers = answerers_of(alloc, Counting { of }, scripts, &machine, plan)?;
     let before = made.load(Ordering::SeqCst);
     for answerer in answerers.iter_mut() {
-        ask_all(rt, answerer, asked)?;
+        asked_all(rt, alloc, &made, answerer, texts, true)?;
     }
     Ok((before, made.load(Ordering::SeqCst)))
-}
-
-/// Questions.
-fn all_asked(alloc: Global, texts: &[&str]) -> Result<Vec<Asked>, Unanswered> {
-    let mut all = Vec::new(alloc);
-    for text in texts {
-        all.push(asked_in(alloc, text)?)?;
-    }
-    Ok(all)
 }
 
 /// `first_answer BOUND EVERY WORKERS LEAST SCRIPT QUESTION ..`: how many digests are made until the prover is asked, and then until it was
@@ -264,62 +211,31 @@ pub fn first_answer<R: Threads + Sync>(
     requires { IsSync R.row }
 {
     let plan = plan_of(words)?;
-    let least = u64::from(number(words, 4)?);
-    if words.len() < 7 {
+    let least = long(words, 4)?;
+    let rest = words.get(5..).unwrap_or(&[]);
+    if rest.len() < 2 {
         return Err(Unanswered::NoRow);
     }
-    let scripts = scripts_of(alloc, words.get(5..6).unwrap_or(&[]))?;
-    let asked = all_asked(alloc, words.get(6..).unwrap_or(&[]))?;
-    let (before, after) = digests_of(
-        rt,
-        alloc,
-        program,
-        scripts.as_slice(),
-        plan,
-        asked.as_slice(),
-    )?;
+    let (script, texts) = rest.split_at(1);
+    let scripts = scripts_of(alloc, script)?;
+    let (before, after) = digests_of(rt, alloc, program, scripts.as_slice(), plan, texts)?;
     if least > 0 && least <= after {
         return Ok(format!(in alloc; "{before}, then at least {least}")?);
     }
     Ok(format!(in alloc; "{before}, then {after}")?)
 }
 
-/// Scripts of sixteen provers, every other of which has a flipped byte.
-fn sixteen_scripts(alloc: Global) -> Result<Vec<Script>, Unanswered> {
-    let mut scripts = Vec::new(alloc);
-    for k in 0..16u32 {
-        let text = if k % 2 == 0 {
-            "flip,25,0x20003,0xff/plain"
-        } else {
-            "flip,3,0x20003,0xff/plain"
-        };
-        scripts.push(script_of(alloc, text)?)?;
-    }
-    Ok(scripts)
-}
+/// The byte is flipped behind the last step.
+const BEHIND: &str = "flip,25,0x20003,0xff/plain";
 
-/// How many digests sixteen provers take for their answers.
-fn digests_of_sixteen<R: Threads + Sync>(
-    rt: &R,
-    alloc: Global,
-    program: &Program,
-    words: &[&str],
-) -> Result<u64, Unanswered>
-    requires { IsSync R.row }
-{
-    let plan = plan_of(words)?;
-    let scripts = sixteen_scripts(alloc)?;
-    let asked = all_asked(alloc, words.get(4..).unwrap_or(&[]))?;
-    let (_, made) = digests_of(
-        rt,
-        alloc,
-        program,
-        scripts.as_slice(),
-        plan,
-        asked.as_slice(),
-    )?;
-    Ok(made)
-}
+/// It is flipped at step 3.
+const AT_3: &str = "flip,3,0x20003,0xff/plain";
+
+/// Scripts of sixteen provers, every other of which has a flipped byte.
+const SIXTEEN: [&str; 16] = [
+    BEHIND, AT_3, BEHIND, AT_3, BEHIND, AT_3, BEHIND, AT_3, BEHIND, AT_3, BEHIND, AT_3, BEHIND,
+    AT_3, BEHIND, AT_3,
+];
 
 /// `sixteen BOUND EVERY WORKERS QUESTION ..`: how many digests sixteen provers take for their answers to these questions more than without
 /// an input.
@@ -331,8 +247,12 @@ pub fn sixteen<R: Threads + Sync>(
 ) -> Result<String, Unanswered>
     requires { IsSync R.row }
 {
+    let plan = plan_of(words)?;
+    let texts = words.get(4..).unwrap_or(&[]);
+    let scripts = scripts_of(alloc, &SIXTEEN)?;
+    let scripts = scripts.as_slice();
     let without = copy_with(alloc, program, program.version, &[])?;
-    let few = digests_of_sixteen(rt, alloc, &without, words)?;
-    let many = digests_of_sixteen(rt, alloc, program, words)?;
+    let (_, few) = digests_of(rt, alloc, &without, scripts, plan, texts)?;
+    let (_, many) = digests_of(rt, alloc, program, scripts, plan, texts)?;
     Ok(format!(in alloc; "{}", many.wrapping_sub(few))?)
 }

@@ -1,17 +1,18 @@
 //! The program of rows, its machine at the start, and its recorded run.
 ghost use Rattle.std.specs.Prelude.{◌≡◌, ◌<◌, ℕ, [], List, IfOk};
-ghost use Rattle.rv_step.specs.State.{IsChained};
+ghost use Rattle.rv_step.specs.State.{IsChained, state_of};
 ghost use Rattle.checkpoint_run.specs.Recorded.{AreChained};
+ghost use Rattle.checkpoint_run.specs.TamperedRun.{tampered};
 ghost use Rattle.sha2.specs.Sha256.{sha256};
 
-use crate::tampers::tamper_of;
-use crate::words::{Unanswered, number, word};
+use crate::scripts::tamper_of;
 use checkpoint_run::{Run, record_run};
 use digest_core::Sha256;
 use mem_plain::PlainMem;
-use rd_base::Tamper;
+use rd_base::{Memory, Tamper};
 use rv_step::Machine;
 use std::alloc::Global;
+use toy_rows::{Unanswered, bytes, number, word};
 
 /// A program to run.
 #[derive(Drop)]
@@ -24,6 +25,16 @@ pub struct Program {
     pub input: Vec<u8>,
     /// How many pages its memory holds besides, the last of which has the byte 0 alone, and the others a 1.
     pub pages: u32,
+}
+
+/// `program VERSION IMAGE INPUT`, without further pages.
+pub fn program_of(alloc: Global, words: &[&str]) -> Result<Program, Unanswered> {
+    Ok(Program {
+        version: number(words, 1)?,
+        image: bytes(alloc, words, 2)?,
+        input: bytes(alloc, words, 3)?,
+        pages: 0,
+    })
 }
 
 /// The program in a version, with an input.
@@ -41,7 +52,7 @@ pub fn copy_with(
     })
 }
 
-/// The memory with more pages. The program's is at 0x10000.
+/// The memory with more pages, at most 1,000. The program's is at 0x10000.
 fn with_pages(mut mem: PlainMem, pages: u32) -> Result<PlainMem, Unanswered> {
     if pages == 0 {
         return Ok(mem);
@@ -64,7 +75,8 @@ pub fn started(alloc: Global, program: &Program) -> Result<Machine, Unanswered>
         input,
         pages,
     } = program;
-    if *version < 1 || *version > 3 || image.len() > 64 || input.len() > 4096 {
+    let is_known = *version >= 1 && *version <= 3;
+    if !is_known || image.len() > 64 || input.len() > 4096 || *pages > 1000 {
         return Err(Unanswered::NoRow);
     }
     let mem = PlainMem::new(alloc).lay(0x1_0000, image.as_slice())?;
@@ -72,20 +84,20 @@ pub fn started(alloc: Global, program: &Program) -> Result<Machine, Unanswered>
     Ok(Machine::new(alloc, *version, mem, 0x1_0000, input.as_slice())?)
 }
 
-/// The run from a machine.
-fn run_from(
+/// The run from a machine. An `Err` is out of memory.
+pub fn run_from(
     alloc: Global,
     machine: &Machine,
     bound: u32,
     every: u32,
     tamper: Tamper,
-) -> Result<Box<Run>, Unanswered>
+) -> Result<Run, Memory>
     requires chained { IsChained sha256 machine.now }
     requires every { 0 < every }
-    ensures { IfOk result (λ r. AreChained sha256 r.value) }
+    ensures chained { IfOk result (λ r. AreChained sha256 r) }
+    ensures first { IfOk result (λ r. r.first ≡ tampered tamper 0 (state_of machine.now)) }
 {
-    let run = record_run(alloc, Sha256, machine, u64::from(bound), every, tamper)?;
-    Ok(Box::new(alloc, run)?)
+    record_run(alloc, Sha256, machine, u64::from(bound), every, tamper)
 }
 
 /// The run of `NAME BOUND EVERY TAMPER ..`.
@@ -94,10 +106,11 @@ pub fn run_of(alloc: Global, program: &Program, words: &[&str]) -> Result<Box<Ru
 {
     let bound = number(words, 1)?;
     let every = number(words, 2)?;
-    let tamper = tamper_of(alloc, word(words, 3)?)?;
+    let tamper = tamper_of(word(words, 3)?)?;
     if every == 0 {
         return Err(Unanswered::NoRow);
     }
     let machine = started(alloc, program)?;
-    run_from(alloc, &machine, bound, every, tamper)
+    let run = run_from(alloc, &machine, bound, every, tamper)?;
+    Ok(Box::new(alloc, run)?)
 }

@@ -5,30 +5,17 @@ ghost use Rattle.std.specs.Prelude.{◌≡◌, ℕ, [], List};
 use crate::asking::{answer_of, asked_in};
 use crate::counting::Counting;
 use crate::programs::{Program, started};
-use crate::proofs::proof_said;
 use crate::said;
-use crate::tampers::tamper_of;
-use crate::words::{Unanswered, number, parts_of, word};
+use crate::scripts::tamper_of;
 use bisect_game::Answerer;
 use digest_core::Sha256;
 use prover_run::RunAnswerer;
-use rd_base::Answer;
 use segment_replay::Replays;
 use std::alloc::Global;
 use std::sync::atomic::{AtomicU64, Ordering};
 use std::thread::Threads;
 use toy_machine::Tally;
-
-/// An answer in words; `text` is that of its question.
-pub fn in_words(alloc: Global, answer: &Option<Answer>, text: &str) -> Result<String, Unanswered> {
-    match answer {
-        Some(Answer::Step(proof)) => {
-            let parts = parts_of(alloc, text, ',')?;
-            proof_said(alloc, proof.get(), parts.as_slice())
-        }
-        _ => said::answer(alloc, answer),
-    }
-}
+use toy_rows::{Unanswered, add_part, number, word};
 
 /// The prover of `NAME BOUND EVERY TAMPER WORKERS ..`.
 fn prover_of<D: Replays>(
@@ -39,7 +26,7 @@ fn prover_of<D: Replays>(
 ) -> Result<RunAnswerer<D>, Unanswered> {
     let bound = number(words, 1)?;
     let every = number(words, 2)?;
-    let tamper = tamper_of(alloc, word(words, 3)?)?;
+    let tamper = tamper_of(word(words, 3)?)?;
     let workers = number(words, 4)?;
     if every == 0 || workers == 0 {
         return Err(Unanswered::NoRow);
@@ -48,59 +35,44 @@ fn prover_of<D: Replays>(
     Ok(RunAnswerer::new(alloc, d, &machine, u64::from(bound), every, tamper, workers)?)
 }
 
-/// The answer to a question of this text, and how many digests it took.
+/// The answer to a question of this text, or, if that is wanted, how many digests it takes.
 fn asked<R: Threads + Sync, A: Answerer>(
     rt: &R,
     alloc: Global,
     made: &AtomicU64,
     answerer: &mut A,
     text: &str,
-) -> Result<(Option<Answer>, u64), Unanswered>
+    is_counted: bool,
+) -> Result<String, Unanswered>
     requires { IsSync R.row }
 {
-    let asked = asked_in(alloc, text)?;
-    made.store(0, Ordering::SeqCst);
-    let answer = answer_of(rt, answerer, asked)?;
-    Ok((answer, made.load(Ordering::SeqCst)))
+    let before = made.load(Ordering::SeqCst);
+    let answer = answer_of(rt, answerer, asked_in(text)?)?;
+    if is_counted {
+        let after = made.load(Ordering::SeqCst);
+        return Ok(format!(in alloc; "{}", after.wrapping_sub(before))?);
+    }
+    said::answer(alloc, &answer, Some(text))
 }
 
-/// The answers to questions, one a line.
-fn asked_all<R: Threads + Sync, A: Answerer>(
+/// The answers to questions, one a line, or how many digests each takes.
+pub fn asked_all<R: Threads + Sync, A: Answerer>(
     rt: &R,
     alloc: Global,
     made: &AtomicU64,
     answerer: &mut A,
     texts: &[&str],
+    is_counted: bool,
 ) -> Result<String, Unanswered>
     requires { IsSync R.row }
 {
-    let mut lines = String::new(alloc);
+    let between = if is_counted { " " } else { "\n  " };
+    let mut said = String::new(alloc);
     for text in texts {
-        let (answer, _) = asked(rt, alloc, made, answerer, text)?;
-        lines.push_str(in_words(alloc, &answer, text)?.as_str().trim_end())?;
-        lines.push_str("\n  ")?;
+        let part = asked(rt, alloc, made, answerer, text, is_counted)?;
+        add_part(&mut said, between, part.as_str())?;
     }
-    Ok(lines)
-}
-
-/// How many digests the answers to questions take, but that to the first one.
-fn counted_all<R: Threads + Sync, A: Answerer>(
-    rt: &R,
-    alloc: Global,
-    made: &AtomicU64,
-    answerer: &mut A,
-    texts: &[&str],
-) -> Result<String, Unanswered>
-    requires { IsSync R.row }
-{
-    let mut counts = String::new(alloc);
-    for (place, text) in texts.iter().enumerate() {
-        let (_, digests) = asked(rt, alloc, made, answerer, text)?;
-        if place > 0 {
-            counts.push_str(format!(in alloc; "{digests} ")?.as_str())?;
-        }
-    }
-    Ok(counts)
+    Ok(said)
 }
 
 /// `answers BOUND EVERY TAMPER WORKERS QUESTION ..`: a prover's answers to these questions, one after another. `digests` with the same
@@ -121,11 +93,14 @@ pub fn answers<R: Threads + Sync>(
     };
     let texts = words.get(5..).unwrap_or(&[]);
     let mut prover = prover_of(alloc, Counting { of }, program, words)?;
-    let said = if is_counted {
-        counted_all(rt, alloc, &made, &mut prover, texts)
-    } else {
-        asked_all(rt, alloc, &made, &mut prover, texts)
-    };
+    let said = asked_all(rt, alloc, &made, &mut prover, texts, is_counted);
     drop(prover);
-    said
+    let said = said?;
+    if is_counted {
+        return match said.as_str().split_once(' ') {
+            Some((_, counts)) => Ok(String::from_str(alloc, counts)?),
+            None => Err(Unanswered::NoRow),
+        };
+    }
+    Ok(said)
 }

@@ -2,42 +2,35 @@
 ghost use Rattle.checkpoint_run.specs.Recorded.{AreChained};
 ghost use Rattle.sha2.specs.Sha256.{sha256};
 
+use crate::digests::counted;
 use crate::programs::{Program, copy_with, run_of};
-use crate::said::{begin, begins};
-use crate::words::{Unanswered, number, steps_of, word};
+use crate::said::begins;
+use crate::words::steps_of;
 use checkpoint_run::Run;
 use digest_core::Sha256;
 use rd_base::{Digest32, Memory};
-use segment_replay::{committed_at, roots};
+use segment_replay::committed_at;
 use state_commit::state_root;
 use std::alloc::Global;
 use std::thread::Threads;
-
-/// The roots of some steps, by at least one worker. An `Err` is out of memory.
-fn roots_of<R: Threads + Sync>(
-    rt: &R,
-    alloc: Global,
-    run: &Run,
-    workers: u32,
-    steps: &[u64],
-) -> Result<Vec<Digest32>, Memory>
-    requires { AreChained sha256 run.now }
-{
-    roots(rt, alloc, Sha256, run, steps, workers.max(1))
-}
+use toy_rows::{Unanswered, number};
 
 /// `roots BOUND EVERY TAMPER WORKERS STEP,..`: the roots of these steps, by this many workers.
 pub fn replayed<R: Threads + Sync>(
     rt: &R,
     alloc: Global,
-    program: &Program,
+    run: &Run,
     words: &[&str],
-) -> Result<String, Unanswered> {
+) -> Result<String, Unanswered>
+    requires { AreChained sha256 run.now }
+{
     let workers = number(words, 4)?;
-    let steps = steps_of(alloc, word(words, 5)?)?;
-    let run = run_of(alloc, program, words)?;
-    let found = roots_of(rt, alloc, &run, workers, steps.as_slice())?;
-    begins(alloc, found.as_slice())
+    let steps = steps_of(alloc, words, 5)?;
+    if workers == 0 {
+        return Err(Unanswered::NoRow);
+    }
+    let (found, _) = counted(rt, alloc, run, workers, steps.as_slice())?;
+    begins(alloc, "", found.as_slice())
 }
 
 /// The root of the committed machine of a step, and that of its state from scratch. An `Err` is out of memory.
@@ -57,24 +50,7 @@ fn committed_roots<R: Threads + Sync>(
     Ok((kept, scratch))
 }
 
-/// Whether this is the root of a step as it is replayed. An `Err` is out of memory.
-fn is_replayed<R: Threads + Sync>(
-    rt: &R,
-    alloc: Global,
-    run: &Run,
-    step: u64,
-    root: Digest32,
-) -> Result<bool, Memory>
-    requires { AreChained sha256 run.now }
-{
-    let found = roots_of(rt, alloc, run, 2, &[step])?;
-    match found.first() {
-        Some(replayed) => Ok(*replayed == root),
-        None => Ok(false),
-    }
-}
-
-/// How the root of a step's committed machine begins, if it is the one from scratch and the one that is replayed.
+/// How the root of a step's committed machine begins, behind a space, if it is the one from scratch and the one that is replayed.
 fn state<R: Threads + Sync>(
     rt: &R,
     alloc: Global,
@@ -84,27 +60,11 @@ fn state<R: Threads + Sync>(
     requires { AreChained sha256 run.now }
 {
     let (kept, scratch) = committed_roots(rt, alloc, run, step)?;
-    if kept != scratch || !is_replayed(rt, alloc, run, step, kept)? {
-        return Ok(String::from_str(alloc, "another")?);
+    let (found, _) = counted(rt, alloc, run, 2, &[step])?;
+    match found.first() {
+        Some(root) if kept == scratch && *root == kept => begins(alloc, "", &[kept]),
+        _ => Ok(String::from_str(alloc, " another")?),
     }
-    begin(alloc, kept)
-}
-
-/// How the roots of the committed machines of steps begin, each behind a space.
-fn states<R: Threads + Sync>(
-    rt: &R,
-    alloc: Global,
-    run: &Run,
-    steps: &[u64],
-) -> Result<String, Unanswered>
-    requires { AreChained sha256 run.now }
-{
-    let mut text = String::new(alloc);
-    for step in steps {
-        text.push_str(" ")?;
-        text.push_str(state(rt, alloc, run, *step)?.as_str())?;
-    }
-    Ok(text)
 }
 
 /// `committed BOUND EVERY TAMPER STEP,..`: the roots of the committed machines of these steps, if they are those of their states from
@@ -112,12 +72,17 @@ fn states<R: Threads + Sync>(
 pub fn committed<R: Threads + Sync>(
     rt: &R,
     alloc: Global,
-    program: &Program,
+    run: &Run,
     words: &[&str],
-) -> Result<String, Unanswered> {
-    let steps = steps_of(alloc, word(words, 4)?)?;
-    let run = run_of(alloc, program, words)?;
-    states(rt, alloc, &run, steps.as_slice())
+) -> Result<String, Unanswered>
+    requires { AreChained sha256 run.now }
+{
+    let steps = steps_of(alloc, words, 4)?;
+    let mut text = String::new(alloc);
+    for step in steps.as_slice() {
+        text.push_str(state(rt, alloc, run, *step)?.as_str())?;
+    }
+    Ok(text)
 }
 
 /// Whether two of some roots are equal if and only if those of the same places are of others, and none is among the others.
@@ -135,18 +100,20 @@ fn are_alike(some: &[Digest32], others: &[Digest32]) -> bool {
     true
 }
 
-/// The roots of steps in a version.
+/// The roots of steps in the version that the word at a place writes.
 fn roots_in<R: Threads + Sync>(
     rt: &R,
     alloc: Global,
     program: &Program,
     words: &[&str],
-    version: u32,
+    at: usize,
 ) -> Result<Vec<Digest32>, Unanswered> {
-    let steps = steps_of(alloc, word(words, 6)?)?;
+    let steps = steps_of(alloc, words, 6)?;
+    let version = number(words, at)?;
     let program = copy_with(alloc, program, version, program.input.as_slice())?;
     let run = run_of(alloc, &program, words)?;
-    Ok(roots_of(rt, alloc, &run, 2, steps.as_slice())?)
+    let (found, _) = counted(rt, alloc, &run, 2, steps.as_slice())?;
+    Ok(found)
 }
 
 /// `alike BOUND EVERY TAMPER VERSION VERSION STEP,..`: whether the roots of two versions are equal for the same steps, and never to each
@@ -157,8 +124,8 @@ pub fn alike<R: Threads + Sync>(
     program: &Program,
     words: &[&str],
 ) -> Result<String, Unanswered> {
-    let some = roots_in(rt, alloc, program, words, number(words, 4)?)?;
-    let others = roots_in(rt, alloc, program, words, number(words, 5)?)?;
+    let some = roots_in(rt, alloc, program, words, 4)?;
+    let others = roots_in(rt, alloc, program, words, 5)?;
     let alike = are_alike(some.as_slice(), others.as_slice());
     Ok(format!(in alloc; "{alike}")?)
 }

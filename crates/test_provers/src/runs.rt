@@ -2,17 +2,16 @@
 ghost use Rattle.checkpoint_run.specs.Recorded.{AreChained};
 ghost use Rattle.sha2.specs.Sha256.{sha256};
 
-use crate::programs::{Program, run_of};
-use crate::tampers::tamper_of;
-use crate::words::{Unanswered, number, word};
+use crate::scripts::tamper_of;
 use checkpoint_run::{Run, machine_at, next};
 use digest_core::Sha256;
 use mem_plain::PlainMem;
 use rd_base::Tamper;
 use std::alloc::Global;
+use toy_rows::{Unanswered, number, word};
 
-/// The step from which a run stands still, and what its last checkpoint has.
-fn last_kept(alloc: Global, run: &Run) -> Result<String, Unanswered> {
+/// `run BOUND EVERY TAMPER`: the step from which the run stands still, and the last checkpoint's status, pc, x10 and length of output.
+pub fn last_kept(alloc: Global, run: &Run) -> Result<String, Unanswered> {
     let still = run.still();
     let last = machine_at(run, still / u64::from(run.every()))?;
     let (ctl, x10, len) = (last.ctl, last.regs.get(10), last.output.len());
@@ -21,12 +20,6 @@ fn last_kept(alloc: Global, run: &Run) -> Result<String, Unanswered> {
         "still from {still} on, {} at 0x{:x}, x10 {x10}, output of {len}",
         ctl.status, ctl.pc
     )?)
-}
-
-/// `run BOUND EVERY TAMPER`: the step from which the run stands still, and the last checkpoint's status, pc, x10 and length of output.
-pub fn recorded(alloc: Global, program: &Program, words: &[&str]) -> Result<String, Unanswered> {
-    let run = run_of(alloc, program, words)?;
-    last_kept(alloc, &run)
 }
 
 /// The byte if a condition holds, and else 0.
@@ -64,13 +57,12 @@ fn right_ones(run: &Run, flipped: u32, addr: u32) -> Result<u32, Unanswered> {
 
 /// `checkpoints BOUND EVERY TAMPER`, of a flipped byte: from where the run stands still, and how many checkpoints from the first one on
 /// have the bytes of their steps.
-pub fn checkpoints(alloc: Global, program: &Program, words: &[&str]) -> Result<String, Unanswered> {
-    let Tamper::Flip { step, addr, .. } = tamper_of(alloc, word(words, 3)?)? else {
+pub fn checkpoints(alloc: Global, run: &Run, words: &[&str]) -> Result<String, Unanswered> {
+    let Tamper::Flip { step, addr, .. } = tamper_of(word(words, 3)?)? else {
         return Err(Unanswered::NoRow);
     };
-    let run = run_of(alloc, program, words)?;
     let still = run.still();
-    let right = right_ones(&run, step, addr)?;
+    let right = right_ones(run, step, addr)?;
     Ok(format!(in alloc; "still from {still} on, {right} right ones")?)
 }
 
@@ -95,10 +87,10 @@ fn page(alloc: Global, page: Option<u32>) -> Result<String, Unanswered> {
 }
 
 /// `pages BOUND 1 TAMPER STEP`: the pages that `next` names from a step on, that of the store and that of the flipped byte.
-pub fn pages(alloc: Global, program: &Program, words: &[&str]) -> Result<String, Unanswered> {
-    let step = number(words, 4)?;
-    let run = run_of(alloc, program, words)?;
-    let [stored, flipped] = named_from(&run, step)?;
+pub fn pages(alloc: Global, run: &Run, words: &[&str]) -> Result<String, Unanswered>
+    requires { AreChained sha256 run.now }
+{
+    let [stored, flipped] = named_from(run, number(words, 4)?)?;
     let (stored, flipped) = (page(alloc, stored)?, page(alloc, flipped)?);
     Ok(format!(in alloc; "{stored}, {flipped}")?)
 }

@@ -1,0 +1,71 @@
+//! A table of rows, and its answers.
+ghost use denote.Param.Send.{IsSync};
+
+use crate::words::Unanswered;
+use io_edge::{Source, read_all};
+use rd_base::Memory;
+use std::alloc::Global;
+use std::thread::Threads;
+
+/// The most bytes of all rows.
+const MOST: usize = 1_048_576;
+
+/// What answers rows. It keeps what some of them say of those below.
+pub trait Table {
+    /// The answer to a row; an empty one isn't written.
+    fn answer<R: Threads + Sync>(
+        &mut self,
+        rt: &R,
+        alloc: Global,
+        row: &str,
+    ) -> Result<String, Unanswered>
+        requires { IsSync R.row };
+}
+
+/// The text of a source. An `Err` is out of memory, or the source can't be read.
+fn text_of<S: Source>(alloc: Global, source: &mut S) -> Result<String, Memory> {
+    match read_all(alloc, source, MOST) {
+        Ok(bytes) => String::from_utf8(bytes).or(Err(Memory)),
+        Err(_) => Err(Memory),
+    }
+}
+
+/// Adds an answer, if there is one, behind two spaces.
+fn add_text(lines: &mut String, text: &str) -> Result<(), Memory> {
+    if !text.is_empty() {
+        lines.push_str("  ")?;
+        lines.push_str(text)?;
+        lines.push_str("\n")?;
+    }
+    Ok(())
+}
+
+/// Adds a row's answer.
+fn add_answer(lines: &mut String, answer: Result<String, Unanswered>) -> Result<(), Memory> {
+    match answer {
+        Ok(text) => add_text(lines, text.as_str()),
+        Err(Unanswered::NoRow) => add_text(lines, "no such row"),
+        Err(Unanswered::Memory) => Err(Memory),
+    }
+}
+
+/// The rows of a source, one a line, each with its answer below it. An `Err` is out of memory, or the source can't be read.
+pub fn answered<R: Threads + Sync, S: Source, T: Table>(
+    rt: &R,
+    alloc: Global,
+    source: &mut S,
+    table: &mut T,
+) -> Result<String, Memory>
+    requires { IsSync R.row }
+{
+    let rows = text_of(alloc, source)?;
+    let mut lines = String::new(alloc);
+    for row in rows.as_str().lines() {
+        lines.push_str(row)?;
+        lines.push_str("\n")?;
+        if !row.is_empty() && !row.starts_with('#') {
+            add_answer(&mut lines, table.answer(rt, alloc, row))?;
+        }
+    }
+    Ok(lines)
+}
