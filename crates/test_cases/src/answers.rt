@@ -1,8 +1,8 @@
 //! What is read, in words.
-use crate::unanswered::Unanswered;
 use case_reader::{Case, CaseFault, TaskFault, Tasks, read_case, read_tasks};
 use rd_base::{Answer, Manner, RootList, Script, Tape, TapeAnswer};
 use std::alloc::Global;
+use toy_rows::Unanswered;
 
 /// The most bytes that are written, and the most answers of a tape.
 const MOST: usize = 64;

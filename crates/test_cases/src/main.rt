@@ -9,15 +9,19 @@
 mod answers;
 mod rows;
 mod texts;
-mod unanswered;
 
 use io_edge::StdSource;
+use rows::Base;
 use std::io;
 use std::process::ExitCode;
+use toy_rows::answered;
 
 fn main(rt: HostRuntime) -> io::Result<ExitCode> {
     let mut source = StdSource::new(rt.stdin());
-    match rows::answered(rt.alloc(), &mut source) {
+    let mut base = Base {
+        text: String::new(rt.alloc()),
+    };
+    match answered(&rt, rt.alloc(), &mut source, &mut base) {
         Ok(lines) => print!(rt; "{lines}")?,
         Err(_) => return Ok(ExitCode::from(9)),
     }

@@ -1,7 +1,6 @@
 //! The texts that rows write.
-use crate::unanswered::Unanswered;
-use hex::FromHexError;
 use std::alloc::Global;
+use toy_rows::{Unanswered, bytes_of};
 
 /// Adds what a repetition writes: its count, `*`, and the piece that stands so often.
 fn add_repeated(alloc: Global, text: &mut String, repetition: &str) -> Result<(), Unanswered> {
@@ -48,15 +47,6 @@ fn edited_by_all(alloc: Global, base: &str, edits: &str) -> Result<String, Unans
         text = edited(alloc, text.as_str(), edit)?;
     }
     Ok(text)
-}
-
-/// The bytes of hexadecimal digits.
-fn bytes_of(alloc: Global, digits: &str) -> Result<Vec<u8>, Unanswered> {
-    match hex::decode(alloc, digits) {
-        Ok(bytes) => Ok(bytes),
-        Err(FromHexError::OutOfMemory) => Err(Unanswered::Memory),
-        Err(_) => Err(Unanswered::NoRow),
-    }
 }
 
 /// What a row writes: `bytes DIGITS`, `with EDIT and EDIT ..`, which edits the base, or the text itself.
