@@ -5,8 +5,7 @@ use Rattle.std.proofs.lemmas.List.{map-append, length-map, take_more, take_all, 
 use Rattle.std.proofs.lemmas.List.Elements.{All-nil, All-cons}
 use Rattle.rd_base.specs.declared.answer.Answer.{Answer}
 use Rattle.bisect_game.specs.declared.settled.Question.{Question}
-use Rattle.bisect_game.specs.Says.{Says}
-use Rattle.bisect_game.specs.Setup.{Setup}
+use Rattle.bisect_game.specs.Says.{Says, AnswerAs}
 use Rattle.board_book.specs.declared.book.Opening.{Opening}
 use Rattle.board_book.specs.Tasks.{BookOf, openings, sayings, sayings_from}
 use Rattle.toy_game.specs.declared.cast.Cast.{Cast}
@@ -61,9 +60,6 @@ count_at [] i d all within = absurd (omega (arith, within))
 count_at (x ∷ xs) zero d all within = (all.0, all.1)
 count_at (x ∷ xs) (suc i) d all within = count_at xs i d all.2 (omega (arith, within))
 
-pub as_many_books : (books : List (BookOf ℕ Cast)) (casts : List Cast) → openings books ≡ map opening_of casts → length books ≡ length casts
-as_many_books books casts same = sym (length-map books (λ (b : BookOf ℕ Cast). b.opening)) ∙ (ap length same ∙ length-map casts opening_of)
-
 -- the books of all casts
 
 whole : (casts : List Cast) (i : ℕ) (books : List (BookOf ℕ Cast)) → length casts ≤ i → books ≡ map book_of (take i casts) → books ≡ map book_of casts
@@ -83,3 +79,18 @@ pub player_said : (players : List Player) (i : ℕ) → answers (get_or players 
 player_said players i =
     let place : i ≡ 1 + i - 1 = omega arith in
     ap (λ (n : ℕ). answers (get_or players n nobody)) place
+
+-- who says in order what the provers of a task say answers as these
+pub answer_as : {A : Type 0} (answers : A → Question → ℕ → Option Answer) (says : Says) (p n : ℕ) (xs : List A) → map answers xs ≡ sayings_from says p n → (length xs ≡ n) × AnswerAs answers says p xs
+answer_as answers says p zero [] e = (refl, tt)
+answer_as answers says p zero (x ∷ xs) e = absurd (cc)
+answer_as answers says p (suc n) [] e = absurd (cc)
+answer_as answers says p (suc n) (x ∷ xs) e =
+    let first : answers x ≡ says p = cc in
+    let others : map answers xs ≡ sayings_from says (p + 1) n = cc in
+    let rest : (length xs ≡ n) × AnswerAs answers says (p + 1) xs = answer_as answers says (p + 1) n xs others in
+    (ap suc rest.0, (first, rest.1))
+
+-- the same of the answerers of one task alone
+pub alone_as : {A : Type 0} (answers : A → Question → ℕ → Option Answer) (says : Says) (n : ℕ) (xs : List A) → map answers xs ≡ sayings_from says 1 n ++ [] → (length xs ≡ n) × AnswerAs answers says 1 xs
+alone_as answers says n xs e = answer_as answers says 1 n xs (e ∙ append-nil (sayings_from says 1 n))

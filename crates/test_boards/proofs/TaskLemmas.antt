@@ -1,22 +1,19 @@
 -- A seat at a board of two tasks: who is there, and what may be posted.
-use Rattle.std.proofs.Common.{◌≡◌, ℕ, zero, suc, ◌<◌, ◌≤◌, ◌==◌, Bool, true, false, if◌then◌else◌, List, [], ◌∷◌, length, Option, Some, refl, sym, ap, ◌∙◌, subst, arith}
+use Rattle.std.proofs.Common.{◌≡◌, ℕ, zero, suc, ◌<◌, ◌≤◌, ◌==◌, Bool, true, false, if◌then◌else◌, List, [], ◌∷◌, Option, Some, refl, sym, ap, ◌∙◌, subst, arith}
 use Rattle.std.proofs.lemmas.Option.{same_Some}
 use Rattle.rd_base.specs.declared.answer.Answer.{Answer}
 use Rattle.bisect_game.specs.declared.settled.Question.{Question}
-use Rattle.bisect_game.specs.Setup.{Setup}
-use Rattle.seat_lock.specs.History.{LogEntry}
-use Rattle.seat_lock.specs.Seats.{LockId, Known, first_seat}
+use Rattle.seat_lock.specs.Seats.{LockId, Known}
 use Rattle.seat_lock.specs.Turned.{SameSeat}
 use Rattle.board_book.specs.declared.book.Opening.{Opening}
 use Rattle.board_book.specs.declared.entry.Ask.{Ask}
 use Rattle.board_book.specs.declared.entry.Ask.TheVariants as variant
-use Rattle.board_book.specs.Tasks.{Task, task_of, BookOf, openings, tasks_of, numbered}
+use Rattle.board_book.specs.Tasks.{Task, task_of, tasks_of, numbered}
 use Rattle.dispute_board.specs.OneHistory.{IsThere, MayPostFor, SaidMayBePosted, AsksOnBoard}
 use Rattle.toy_game.specs.declared.cast.Cast.{Cast}
 use Rattle.toy_game.specs.Toy.{toy_ruling, says_of}
 use Rattle.test_boards.specs.Casts.{opening_of, cast_at}
 use Rattle.test_boards.specs.TaskSeats.{IsSeatOfTasks}
-use Rattle.test_boards.proofs.CastLemmas.{as_many_books}
 
 abbrev says : Cast → ℕ → Question → ℕ → Option Answer
 says cast = says_of cast.players
@@ -56,15 +53,3 @@ module _ (board : LockId) (a b : Cast) (k : Known (List (Opening ℕ Cast))) (s 
     head = same.head ∙ s.head;
     two = s.two;
   }
-
--- a fresh seat at a board of two casts
-pub fresh_seat : (board : LockId) (a b : Cast) (k : Known (List (Opening ℕ Cast))) (heads : List (Opening ℕ Cast)) (log : List LogEntry) → k ≡ first_seat board heads log → heads ≡ opening_of a ∷ opening_of b ∷ [] → a.count ≡ 2 → b.count ≡ 2 → IsSeatOfTasks board a b k
-fresh_seat board a b k heads log is same one two = record {
-  lock = ap (λ (x : Known (List (Opening ℕ Cast))). x.lock) is;
-  head = ap (λ (x : Known (List (Opening ℕ Cast))). x.head) is ∙ ap Some same;
-  two = (one, two);
-}
-
--- the books of two casts are two
-pub two_books : (a b : Cast) (books : List (BookOf ℕ Cast)) (k : Option (List (Opening ℕ Cast))) → k ≡ Some (opening_of a ∷ opening_of b ∷ []) → k ≡ Some (openings books) → length books ≡ 2
-two_books a b books k is same = as_many_books books (a ∷ b ∷ []) (same_Some (openings books) (opening_of a ∷ opening_of b ∷ []) (sym same ∙ is))

@@ -7,5 +7,5 @@ length-told : (stake : ℕ) (e : Event) (p : ℕ) (xs : List ℕ) → length (ba
 length-told stake e p [] = refl
 length-told stake e p (x ∷ xs) = ap suc (length-told stake e (p + 1) xs)
 
-pub three-told : (s t : Accounts) (e : Event) → t ≡ told s e → length s.of ≡ 3 → length t.of ≡ 3
-three-told s t e is three = ap (λ (a : Accounts). length a.of) is ∙ (length-told s.stake e 1 s.of ∙ three)
+pub three_told : (s t : Accounts) (e : Event) → t ≡ told s e → length s.of ≡ 3 → length t.of ≡ 3
+three_told s t e is three = ap (λ (a : Accounts). length a.of) is ∙ (length-told s.stake e 1 s.of ∙ three)

@@ -2,7 +2,6 @@
 use Rattle.board_book.specs.declared.book.Opening.{Opening}
 use Rattle.std.specs.Prelude.{◌≡◌, ℕ, List, [], ◌∷◌, Some}
 use Rattle.seat_lock.specs.Seats.{LockId, Known}
-use Rattle.bisect_game.specs.Setup.{Setup}
 use Rattle.toy_game.specs.declared.cast.Cast.{Cast}
 use Rattle.test_boards.specs.Casts.{opening_of}
 

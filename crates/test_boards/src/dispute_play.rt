@@ -1,127 +1,104 @@
 //! Disputes of two players, played to their end.
-ghost use Rattle.std.specs.Prelude.{◌<◌, ◌≤◌, ◌^◌};
-
-use bisect_game::{Close, Dispute, Room, Settled, Side};
+use bisect_game::{Close, Dispute, Room, Round, Settled, Side, roots_in};
 use rd_base::Memory;
 use std::alloc::Global;
 use toy_game::{Player, ToyJudge, given, number_at, passes_now, root};
 
 /// The most rounds below a bound of 2^32, with the proof round.
-const MOST_ROUNDS: u32 = 33;
-
-/// What a player's question is settled as, with a patience of 0. `None` if it has none.
-fn settled_by(
-    alloc: Global,
-    dispute: &Dispute,
-    side: Side,
-    player: Player,
-) -> Result<Option<Settled>, Memory> {
-    match dispute.question(side) {
-        None => Ok(None),
-        Some(question) => {
-            if passes_now(&player, &question, 0) {
-                Ok(Some(Settled::Spent))
-            } else {
-                Ok(Some(Settled::Given(given(alloc, &player, question.kind)?)))
-            }
-        }
-    }
-}
-
-/// A side settles its open question, if it has one.
-fn move_side(
-    alloc: Global,
-    dispute: &mut Dispute,
-    side: Side,
-    player: Player,
-) -> Result<(), Memory> {
-    if let Some(settled) = settled_by(alloc, dispute, side, player)? {
-        if dispute.question(side).is_some() {
-            dispute.settle(&ToyJudge { name: 0 }, side, settled);
-        }
-    }
-    Ok(())
-}
-
-/// Dispute 7 over `bound` steps, of which a round cuts its interval in `fan` parts.
-fn begun(
-    alloc: Global,
-    bound: u64,
-    fan: u32,
-    first: Player,
-    second: Player,
-) -> Result<Box<Dispute>, Memory>
-    requires some { 0 < bound }
-    requires short { bound < 2 ^ 32 }
-    requires parted { 1 < fan }
-    requires few_parts { fan ≤ 16 }
-{
-    let room = Room::new(alloc, bound, fan)?;
-    let first = (3, root(number_at(&first, bound)));
-    let second = (5, root(number_at(&second, bound)));
-    let dispute = Dispute::new(room, 1, 7, root(0), first, second);
-    Ok(Box::new(alloc, dispute)?)
-}
-
-/// A side and who plays it.
-type Seat = (Side, Player);
-
-/// The two seats in this order, or the other way round.
-fn in_order(first: Seat, second: Seat, first_is_sooner: bool) -> (Seat, Seat) {
-    if first_is_sooner {
-        (first, second)
-    } else {
-        (second, first)
-    }
-}
-
-/// Both sides move, one after the other.
-fn play_round(
-    alloc: Global,
-    dispute: &mut Dispute,
-    sooner: Seat,
-    later: Seat,
-) -> Result<(), Memory> {
-    move_side(alloc, dispute, sooner.0, sooner.1)?;
-    move_side(alloc, dispute, later.0, later.1)
-}
-
-/// Dispute 7, played to its end. If bit k of `order` is set, the second side settles first in round k, counted from 0.
-pub(crate) fn played(
-    alloc: Global,
-    bound: u64,
-    fan: u32,
-    sides: (Player, Player),
-    order: u64,
-) -> Result<Box<Dispute>, Memory>
-    requires some { 0 < bound }
-    requires short { bound < 2 ^ 32 }
-    requires parted { 1 < fan }
-    requires few_parts { fan ≤ 16 }
-{
-    let mut dispute = begun(alloc, bound, fan, sides.0, sides.1)?;
-    let first = (Side::First, sides.0);
-    let second = (Side::Second, sides.1);
-    for round in 0..MOST_ROUNDS {
-        let (sooner, later) = in_order(first, second, (order >> round) & 1 == 0);
-        play_round(alloc, &mut dispute, sooner, later)?;
-    }
-    Ok(dispute)
-}
+const MOST_ROUNDS: u64 = 33;
 
 /// How a dispute ended, without its strings.
-#[derive(Clone, Copy, Debug, PartialEq, Eq)]
+#[derive(Clone, Copy, PartialEq, Eq)]
 pub(crate) enum Ended {
     Open,
     Out(bool, bool),
     Collided,
 }
 
-/// How a dispute ended.
-pub(crate) fn how(dispute: &Dispute) -> Ended {
-    match dispute.closed() {
+/// A past round: the ends of its interval, and whether both answers gave the same roots.
+pub(crate) type Past = (u64, u64, bool);
+
+/// What comes of a dispute.
+#[derive(Drop)]
+pub(crate) struct Outcome {
+    pub number: u32,
+    pub rounds: Vec<Past>,
+    /// The ends of its interval.
+    pub last: (u64, u64),
+    pub end: Ended,
+}
+
+/// A side settles its open question, if it has one, with a patience of 0.
+fn move_side(
+    alloc: Global,
+    dispute: &mut Dispute,
+    side: Side,
+    player: &Player,
+) -> Result<(), Memory> {
+    let Some(question) = dispute.question(side) else {
+        return Ok(());
+    };
+    let settled = if passes_now(player, &question, 0) {
+        Settled::Spent
+    } else {
+        Settled::Given(given(alloc, player, question.kind)?)
+    };
+    dispute.settle(&ToyJudge { name: 0 }, side, settled);
+    Ok(())
+}
+
+/// A past round in short.
+fn past(round: &Round) -> Past {
+    let same = match (&round.first, &round.second) {
+        (Settled::Given(x), Settled::Given(y)) => roots_in(x) == roots_in(y),
+        _ => false,
+    };
+    (round.lo, round.hi, same)
+}
+
+/// What has come of a dispute.
+fn in_short(alloc: Global, dispute: &Dispute) -> Result<Outcome, Memory> {
+    let mut rounds = Vec::new(alloc);
+    for round in dispute.rounds() {
+        rounds.push(past(round))?;
+    }
+    let end = match dispute.closed() {
         None => Ended::Open,
         Some(Close::Out { first, second }) => Ended::Out(first, second),
         Some(Close::Collision(_, _)) => Ended::Collided,
+    };
+    let last = (dispute.interval().lo, dispute.interval().hi);
+    Ok(Outcome {
+        number: dispute.number(),
+        rounds,
+        last,
+        end,
+    })
+}
+
+/// What comes of dispute 7 over `bound` steps, of which a round cuts its interval in `fan` parts. If bit k of `order` is set, the second
+/// side settles first in round k, counted from 0. `None` if no dispute has such numbers.
+pub(crate) fn played(
+    alloc: Global,
+    bound: u64,
+    fan: u32,
+    sides: (Player, Player),
+    order: u64,
+) -> Result<Option<Outcome>, Memory> {
+    if bound == 0 || bound > 4_294_967_295 || fan < 2 || fan > 16 {
+        return Ok(None);
     }
+    let first = (3, root(number_at(&sides.0, bound)));
+    let second = (5, root(number_at(&sides.1, bound)));
+    let room = Room::new(alloc, bound, fan)?;
+    let dispute = Dispute::new(room, 1, 7, root(0), first, second);
+    let mut dispute = Box::new(alloc, dispute)?;
+    for turn in 0..2 * MOST_ROUNDS {
+        if ((order >> (turn / 2)) ^ turn) & 1 == 0 {
+            move_side(alloc, &mut dispute, Side::First, &sides.0)?;
+        } else {
+            move_side(alloc, &mut dispute, Side::Second, &sides.1)?;
+        }
+    }
+    Ok(Some(in_short(alloc, &dispute)?))
 }

@@ -1,133 +1,371 @@
-//! Tests of disputes by bisection.
-ghost use Rattle.std.specs.Prelude.{◌<◌, ◌^◌};
-
-use crate::dispute_play::{Ended, how, played};
+//! Tests of disputes by bisection, with rounds of two parts and of several.
+use crate::dispute_play::{Ended, Past, played};
 use crate::players::{FALLS_SILENT, FORGER, LIAR_FALLS_SILENT};
-use bisect_game::{Dispute, Settled};
-use rd_base::{Answer, Memory};
+use bisect_game::{Kind, cut};
+use rd_base::{Memory, Qid};
 use std::alloc::Global;
 use std::test::Fail;
-use toy_game::{HONEST, LIAR, Player};
+use tournament::{Match, Move};
+use toy_game::in_short::{CLAIM, Replied, reply_in_short};
+use toy_game::{HONEST, LIAR, Player, ToyJudge, given, number_at, root};
 
-/// Whether both answers of a round are the same root.
-fn is_same(first: &Settled, second: &Settled) -> bool {
-    match (first, second) {
-        (Settled::Given(Answer::Root(x)), Settled::Given(Answer::Root(y))) => x == y,
-        _ => false,
+/// Cuts by hand: `lo + floor(j * (hi - lo) / parts)`.
+#[test]
+fn cuts_by_hand(rt: HostRuntime) {
+    // the ends of the interval, its parts, the number of the cut, and the step
+    for (lo, hi, parts, j, wanted) in [
+        (0, 8, 2, 0, 0),
+        (0, 7, 2, 1, 3),
+        (10, 12, 2, 1, 11),
+        (0, 8, 4, 1, 2),
+        (0, 7, 3, 1, 2),
+        (0, 7, 3, 2, 4),
+        (4, 7, 3, 1, 5),
+        (5, 21, 16, 15, 20),
+        (5, 21, 16, 16, 21),
+        (0, 4_294_967_295, 16, 1, 268_435_455),
+        (0, u64::MAX, 16, 15, 17_293_822_569_102_704_639),
+        (3, u64::MAX, 15, 15, u64::MAX),
+    ] {
+        assert!(rt;
+            parts >= 2 && parts <= 16 && j <= parts && u64::from(parts) <= hi.saturating_sub(lo)
+        );
+        assert!(rt; cut(lo, hi, parts, j) == wanted, "{wanted}");
     }
 }
 
-/// The steps at which roots were asked in the past rounds, and whether they were the same.
-fn asked(alloc: Global, dispute: &Dispute) -> Result<Vec<(u64, bool)>, Memory> {
-    let mut asked = Vec::new(alloc);
-    for round in dispute.rounds() {
-        let mid = u64::midpoint(round.lo, round.hi);
-        asked.push((mid, is_same(&round.first, &round.second)))?;
-    }
-    Ok(asked)
-}
-
-/// A dispute: at which steps roots are asked and whether they are the same, and how it ends.
+/// The past rounds of a dispute: each of them, or how many there are.
 #[derive(Clone, Copy)]
-struct Row {
-    bound: u64,
-    sides: (Player, Player),
-    asked: &'static [(u64, bool)],
-    ends: Ended,
+enum Rounds {
+    Are(&'static [Past]),
+    Many(usize),
 }
 
-/// Whether a dispute is played so in this order.
-fn is_played_so(alloc: Global, row: Row, order: u64) -> Result<bool, Memory>
-    requires some { 0 < row.bound }
-    requires short { row.bound < 2 ^ 32 }
-{
-    let dispute = played(alloc, row.bound, 2, row.sides, order)?;
-    let asked = asked(alloc, &dispute)?;
-    Ok(asked.as_slice() == row.asked && how(&dispute) == row.ends && dispute.number() == 7)
+/// A dispute over so many steps, of which a round cuts its interval in so many parts: its sides, its past rounds, the step of its last
+/// interval, and how it ends.
+type Row = (u64, u32, (Player, Player), Rounds, u64, Ended);
+
+/// A player that lies from this step on.
+macro_rules! liar {
+    ($from:expr) => {
+        Player {
+            from: $from,
+            ..LIAR
+        }
+    };
 }
 
-const EARLY_LIAR: Player = Player { from: 1, ..LIAR };
+const SECOND_OUT: Ended = Ended::Out(false, true);
 
-const LATE_LIAR: Player = Player { from: 7, ..LIAR };
-
-const DISPUTES: [Row; 5] = [
-    Row {
-        bound: 8,
-        sides: (HONEST, LIAR),
-        asked: &[(4, false), (2, false), (1, true)],
-        ends: Ended::Out(false, true),
-    },
-    Row {
-        bound: 1,
-        sides: (HONEST, EARLY_LIAR),
-        asked: &[],
-        ends: Ended::Out(false, true),
-    },
-    Row {
-        bound: 7,
-        sides: (HONEST, LATE_LIAR),
-        asked: &[(3, true), (5, true), (6, true)],
-        ends: Ended::Out(false, true),
-    },
-    Row {
-        bound: 8,
-        sides: (FALLS_SILENT, LIAR_FALLS_SILENT),
-        asked: &[(4, false)],
-        ends: Ended::Out(true, true),
-    },
-    Row {
-        bound: 1,
-        sides: (HONEST, FORGER),
-        asked: &[],
-        ends: Ended::Collided,
-    },
+/// By hand: cuts are at `lo + floor(j * (hi - lo) / parts)`, and of an interval of fewer steps than the fan each step is a part. The first
+/// part at whose end the roots differ is kept, or the last one. There is no round over one step; in rounds of two parts with the first
+/// difference at step 1 the halves are rounded down, at the last step up.
+const DISPUTES: [Row; 20] = [
+    (
+        8,
+        2,
+        (HONEST, LIAR),
+        Rounds::Are(&[(0, 8, false), (0, 4, false), (0, 2, true)]),
+        1,
+        SECOND_OUT,
+    ),
+    (1, 2, (HONEST, liar!(1)), Rounds::Are(&[]), 0, SECOND_OUT),
+    (
+        7,
+        2,
+        (HONEST, liar!(7)),
+        Rounds::Are(&[(0, 7, true), (3, 7, true), (5, 7, true)]),
+        6,
+        SECOND_OUT,
+    ),
+    (
+        8,
+        2,
+        (FALLS_SILENT, LIAR_FALLS_SILENT),
+        Rounds::Are(&[(0, 8, false)]),
+        0,
+        Ended::Out(true, true),
+    ),
+    (1, 2, (HONEST, FORGER), Rounds::Are(&[]), 0, Ended::Collided),
+    (
+        8,
+        4,
+        (HONEST, liar!(2)),
+        Rounds::Are(&[(0, 8, false), (0, 2, true)]),
+        1,
+        SECOND_OUT,
+    ),
+    (
+        7,
+        3,
+        (HONEST, liar!(7)),
+        Rounds::Are(&[(0, 7, true), (4, 7, true)]),
+        6,
+        SECOND_OUT,
+    ),
+    (
+        8,
+        4,
+        (HONEST, liar!(1)),
+        Rounds::Are(&[(0, 8, false), (0, 2, false)]),
+        0,
+        SECOND_OUT,
+    ),
+    (
+        17,
+        16,
+        (HONEST, liar!(9)),
+        Rounds::Are(&[(0, 17, false)]),
+        8,
+        SECOND_OUT,
+    ),
+    (
+        16,
+        3,
+        (HONEST, liar!(16)),
+        Rounds::Are(&[(0, 16, true), (10, 16, true), (14, 16, true)]),
+        15,
+        SECOND_OUT,
+    ),
+    (1, 16, (HONEST, liar!(1)), Rounds::Are(&[]), 0, SECOND_OUT),
+    (
+        4_294_967_295,
+        16,
+        (HONEST, liar!(2)),
+        Rounds::Are(&[
+            (0, 4_294_967_295, false),
+            (0, 268_435_455, false),
+            (0, 16_777_215, false),
+            (0, 1_048_575, false),
+            (0, 65_535, false),
+            (0, 4_095, false),
+            (0, 255, false),
+            (0, 15, false),
+        ]),
+        1,
+        SECOND_OUT,
+    ),
+    (2, 2, (HONEST, liar!(1)), Rounds::Many(1), 0, SECOND_OUT),
+    (2, 2, (HONEST, liar!(2)), Rounds::Many(1), 1, SECOND_OUT),
+    (3, 2, (HONEST, liar!(1)), Rounds::Many(1), 0, SECOND_OUT),
+    (3, 2, (HONEST, liar!(3)), Rounds::Many(2), 2, SECOND_OUT),
+    (
+        16_777_216,
+        2,
+        (HONEST, liar!(1)),
+        Rounds::Many(24),
+        0,
+        SECOND_OUT,
+    ),
+    (
+        16_777_216,
+        2,
+        (HONEST, liar!(16_777_216)),
+        Rounds::Many(24),
+        16_777_215,
+        SECOND_OUT,
+    ),
+    (
+        4_294_967_295,
+        2,
+        (HONEST, liar!(1)),
+        Rounds::Many(31),
+        0,
+        SECOND_OUT,
+    ),
+    // at the last step of the largest bound the root of `HONEST` isn't the true one either
+    (
+        4_294_967_295,
+        2,
+        (HONEST, liar!(4_294_967_295)),
+        Rounds::Many(32),
+        4_294_967_294,
+        Ended::Out(true, true),
+    ),
 ];
 
-/// The steps at which roots were asked and whether they were the same, by hand: `mid = lo + (hi - lo) / 2`; equal roots move
-/// `lo`, different ones move `hi`.
+/// Whether a dispute is played so in this order.
+fn is_played_so(alloc: Global, row: &Row, order: u64) -> Result<bool, Memory> {
+    let (bound, fan, sides, rounds, step, end) = *row;
+    let Some(played) = played(alloc, bound, fan, sides, order)? else {
+        return Ok(false);
+    };
+    let so = match rounds {
+        Rounds::Are(rounds) => played.rounds.as_slice() == rounds,
+        Rounds::Many(count) => played.rounds.len() == count,
+    };
+    Ok(so && played.last.0 == step && played.end == end && played.number == 7)
+}
+
 #[test]
 fn disputes_are_played_round_by_round_in_either_order(rt: HostRuntime) -> Result<(), Fail> {
     for (place, row) in DISPUTES.iter().enumerate() {
-        assert!(rt; row.bound >= 1 && row.bound <= 8);
         for order in [0, u64::MAX] {
-            assert!(rt; is_played_so(rt.alloc(), *row, order)?, "row {place}");
+            let is_right = is_played_so(rt.alloc(), row, order)?;
+            assert!(rt; is_right, "row {place}");
         }
     }
     Ok(())
 }
 
-/// How many past rounds a dispute has in which the second side lies from a step on.
-fn rounds_against(alloc: Global, bound: u64, from: u64) -> Result<usize, Memory>
-    requires some { 0 < bound }
-    requires short { bound < 2 ^ 32 }
-{
-    let liar = Player { from, ..LIAR };
-    let dispute = played(alloc, bound, 2, (HONEST, liar), 0)?;
-    Ok(dispute.rounds().len())
+/// The last step up to which two players have one run, looked for step by step.
+fn parting(bound: u64, sides: (Player, Player)) -> u64 {
+    for step in 0..bound {
+        if number_at(&sides.0, step + 1) != number_at(&sides.1, step + 1) {
+            return step;
+        }
+    }
+    bound
 }
 
-/// How many past rounds a dispute has if the second side lies from step 1 on, and if it lies from the last step on.
-fn rounds_down_and_up(alloc: Global, bound: u64) -> Result<(usize, usize), Memory>
-    requires some { 0 < bound }
-    requires short { bound < 2 ^ 32 }
-{
-    let down = rounds_against(alloc, bound, 1)?;
-    Ok((down, rounds_against(alloc, bound, bound)?))
+/// Whether `fan^rounds < fan * bound`.
+fn are_few(fan: u32, bound: u64, rounds: usize) -> bool {
+    let mut power: u64 = 1;
+    for _ in 0..rounds {
+        power = power.saturating_mul(u64::from(fan));
+    }
+    power < u64::from(fan).saturating_mul(bound)
 }
 
-/// The rounds of a dispute, by hand: 0 for one step; with the first difference at step 1 the halves are rounded down, at the
-/// last step up.
+/// In which rounds the second side settles first: in none, in each, and in some.
+const ORDERS: [u64; 4] = [0, u64::MAX, 0x9e37_79b9_7f4a_7c15, 0x5a5a_3c96_0ff0_1235];
+
+/// Whether a dispute ends so, after few rounds and at a step where the runs of the sides part; of a short one, where they part first.
+fn ends_at_a_parting(
+    alloc: Global,
+    bound: u64,
+    fan: u32,
+    sides: (Player, Player),
+    order: u64,
+    end: Ended,
+) -> Result<bool, Memory> {
+    let Some(played) = played(alloc, bound, fan, sides, order)? else {
+        return Ok(false);
+    };
+    let (lo, hi) = played.last;
+    Ok(
+        hi.wrapping_sub(lo) == 1
+            && number_at(&sides.0, lo) == number_at(&sides.1, lo)
+            && number_at(&sides.0, hi) != number_at(&sides.1, hi)
+            && (bound > 17 || lo == parting(bound, sides))
+            && are_few(fan, bound, played.rounds.len())
+            && played.end == end,
+    )
+}
+
+/// Whether each dispute between two of a truthful player and two liars whose runs part at this step ends as it must, in each order: with
+/// the liars out.
+fn all_end_at_a_parting(alloc: Global, bound: u64, fan: u32, from: u64) -> Result<bool, Memory> {
+    // true at the last step of the largest bound too
+    let honest = Player {
+        from: u64::MAX,
+        ..HONEST
+    };
+    let liar = liar!(from);
+    let other = Player { shift: 50, ..liar };
+    for order in ORDERS {
+        for (sides, end) in [
+            ((honest, liar), SECOND_OUT),
+            ((liar, honest), Ended::Out(true, false)),
+            ((liar, other), Ended::Out(true, true)),
+        ] {
+            if !ends_at_a_parting(alloc, bound, fan, sides, order, end)? {
+                return Ok(false);
+            }
+        }
+    }
+    Ok(true)
+}
+
+/// Whatever the fan, the step is found at which two runs part, for each such step of a small bound and for some of the largest.
 #[test]
-fn a_dispute_has_as_many_rounds_as_halves(rt: HostRuntime) -> Result<(), Fail> {
-    for (bound, down, up) in [
-        (1, 0, 0),
-        (2, 1, 1),
-        (3, 1, 2),
-        (16_777_216, 24, 24),
-        (4_294_967_295, 31, 32),
-    ] {
-        assert!(rt; bound >= 1 && bound <= 4_294_967_295);
-        assert_eq!(rt; rounds_down_and_up(rt.alloc(), bound)?, (down, up));
+fn the_step_where_two_runs_part_is_found(rt: HostRuntime) -> Result<(), Fail> {
+    for fan in [2, 3, 4, 16] {
+        for bound in [1, 2, 3, 15, 16, 17, 4_294_967_295] {
+            for from in [
+                1,
+                2,
+                3,
+                4,
+                5,
+                6,
+                7,
+                8,
+                9,
+                10,
+                11,
+                12,
+                13,
+                14,
+                15,
+                16,
+                17,
+                268_435_456,
+                2_147_483_648,
+                4_294_967_295,
+            ] {
+                let is_right = from > bound || all_end_at_a_parting(rt.alloc(), bound, fan, from)?;
+                assert!(rt; is_right, "{fan} {bound} {from}");
+            }
+        }
+    }
+    Ok(())
+}
+
+/// How the answer of a truthful player to a question of this kind is taken if the roots at the cuts of 8 steps in 4 parts are asked.
+fn reply_to(alloc: Global, kind: Kind) -> Result<Replied, Memory> {
+    let first = Qid {
+        dispute: 1,
+        round: 1,
+    };
+    let claim = given(alloc, &HONEST, Kind::Claim)?;
+    let lie = given(alloc, &LIAR, Kind::Claim)?;
+    let answer = given(alloc, &HONEST, kind)?;
+    let mut game = Match::new(alloc, ToyJudge { name: 0 }, 2, 8, 4, 0, root(0))?;
+    game.post(1, CLAIM, Move::Give(claim));
+    game.post(2, CLAIM, Move::Give(lie));
+    let reply = game.post(1, first, Move::Give(answer));
+    drop(game);
+    Ok(reply_in_short(reply))
+}
+
+/// Three roots are asked: three are taken, and two, four, one alone and an answer of another kind are faulty.
+#[test]
+fn a_list_of_another_length_is_faulty(rt: HostRuntime) -> Result<(), Fail> {
+    for (place, (kind, wanted)) in [
+        (
+            Kind::Roots {
+                lo: 0,
+                hi: 8,
+                parts: 4,
+            },
+            Replied::Taken,
+        ),
+        (
+            Kind::Roots {
+                lo: 0,
+                hi: 8,
+                parts: 3,
+            },
+            Replied::Faulty,
+        ),
+        (
+            Kind::Roots {
+                lo: 0,
+                hi: 8,
+                parts: 5,
+            },
+            Replied::Faulty,
+        ),
+        (Kind::Root(2), Replied::Faulty),
+        (Kind::Proof(0), Replied::Faulty),
+        (Kind::Claim, Replied::Faulty),
+    ]
+    .iter()
+    .enumerate()
+    {
+        let is_right = reply_to(rt.alloc(), *kind)? == *wanted;
+        assert!(rt; is_right, "row {place}");
     }
     Ok(())
 }

@@ -1,156 +1,148 @@
 //! Tests of a ledger of stakes.
-use crate::telling::{Told, tell_all};
+ghost use Rattle.std.specs.Prelude.{◌≡◌, ◌<◌, ◌≤◌, true, false, length};
+ghost use Rattle.deposits.specs.Accounts.{is_out};
+
+use bisect_game::Close;
 use deposits::Ledger;
-use rd_base::Memory;
+use rd_base::{Memory, OpenText};
 use std::alloc::Global;
 use std::test::Fail;
 
-/// What a ledger of three provers says.
-#[derive(Clone, Copy, Debug, PartialEq, Eq)]
-struct Amounts {
-    balances: [u64; 3],
-    out: [bool; 3],
-    pool: u64,
-}
-
-const BEGUN: Amounts = Amounts {
-    balances: [10, 10, 10],
-    out: [false, false, false],
-    pool: 0,
-};
-
-/// Events, and what the ledger says after them.
+/// An event of a match.
 #[derive(Clone, Copy)]
-struct Row {
-    name: &'static str,
-    events: &'static [Told],
-    after: Amounts,
+enum Told {
+    /// The claim of this prover eliminates it.
+    ClaimOut(u32),
+    /// The dispute of these two provers eliminates its first side, its second, both or none.
+    Out(u32, u32, bool, bool),
+    /// The dispute of these two provers closes with a collision.
+    Collision(u32, u32),
 }
 
-/// What a ledger of three provers with a stake of 10 each has after these events. `None` if one of them may not be applied.
+/// Whether this is one of the three provers of a ledger, and isn't out if it is to lose its stake.
+fn may_be_told(ledger: &Ledger, p: u32, loses: bool) -> bool
+    requires { length ledger.now.of ≡ 3 }
+    ensures few { result ≡ true → (0 < p) × (p ≤ 3) }
+    ensures loses { result ≡ true → loses ≡ true → is_out ledger.now p ≡ false }
+{
+    if p == 0 || p > 3 {
+        return false;
+    }
+    if loses { !ledger.is_out(p) } else { true }
+}
+
+/// Applies an event to a ledger of three provers. The result is whether it may be applied.
+#[tactic(auto, using(crate::proofs::TellLemmas::three_told))]
+fn tell(ledger: &mut Ledger, told: Told) -> bool
+    requires { length ledger.old.of ≡ 3 }
+    ensures { length ledger.new.of ≡ 3 }
+{
+    match told {
+        Told::ClaimOut(p) => {
+            if !may_be_told(ledger, p, true) {
+                return false;
+            }
+            ledger.claim_out(p);
+        }
+        Told::Out(a, b, first, second) => {
+            if a == b || !may_be_told(ledger, a, first) || !may_be_told(ledger, b, second) {
+                return false;
+            }
+            ledger.closed(a, b, &Close::Out { first, second });
+        }
+        Told::Collision(a, b) => {
+            if a == b || !may_be_told(ledger, a, false) || !may_be_told(ledger, b, false) {
+                return false;
+            }
+            ledger.closed(a, b, &Close::Collision(OpenText::new(), OpenText::new()));
+        }
+    }
+    true
+}
+
+/// What each prover of a ledger of three has, who is out, and what is in the pool.
+type Amounts = ([u64; 3], [bool; 3], u64);
+
+/// What a ledger of three provers with a stake of 10 each says after these events. `None` if one of them may not be applied.
 fn after(alloc: Global, events: &[Told]) -> Result<Option<Amounts>, Memory> {
     let mut ledger = Ledger::new(alloc, 3, 10)?;
-    if !tell_all(&mut ledger, events) {
-        return Ok(None);
+    for told in events {
+        if !tell(&mut ledger, *told) {
+            return Ok(None);
+        }
     }
-    Ok(Some(Amounts {
-        balances: [ledger.balance(1), ledger.balance(2), ledger.balance(3)],
-        out: [ledger.is_out(1), ledger.is_out(2), ledger.is_out(3)],
-        pool: ledger.pool(),
-    }))
+    let balances = [ledger.balance(1), ledger.balance(2), ledger.balance(3)];
+    let out = [ledger.is_out(1), ledger.is_out(2), ledger.is_out(3)];
+    Ok(Some((balances, out, ledger.pool())))
 }
 
-const LEDGERS: [Row; 9] = [
-    Row {
-        name: "begun",
-        events: &[],
-        after: BEGUN,
-    },
-    Row {
-        name: "a claim is out",
-        events: &[Told::ClaimOut(2)],
-        after: Amounts {
-            balances: [10, 0, 10],
-            out: [false, true, false],
-            pool: 10,
-        },
-    },
-    Row {
-        name: "the first side is out",
-        events: &[Told::Out(1, 3, true, false)],
-        after: Amounts {
-            balances: [0, 10, 20],
-            out: [true, false, false],
-            pool: 0,
-        },
-    },
-    Row {
-        name: "the second side is out",
-        events: &[Told::Out(1, 3, false, true)],
-        after: Amounts {
-            balances: [20, 10, 0],
-            out: [false, false, true],
-            pool: 0,
-        },
-    },
-    Row {
-        name: "both sides are out",
-        events: &[Told::Out(1, 2, true, true)],
-        after: Amounts {
-            balances: [0, 0, 10],
-            out: [true, true, false],
-            pool: 20,
-        },
-    },
-    Row {
-        name: "a collision",
-        events: &[Told::Collision(1, 2)],
-        after: BEGUN,
-    },
-    Row {
-        name: "one puts out both others",
-        events: &[Told::Out(1, 3, true, false), Told::Out(2, 3, true, false)],
-        after: Amounts {
-            balances: [0, 0, 30],
-            out: [true, true, false],
-            pool: 0,
-        },
-    },
-    Row {
-        name: "a winner is out and loses its own stake",
-        events: &[Told::Out(1, 2, false, true), Told::Out(1, 3, true, false)],
-        after: Amounts {
-            balances: [10, 0, 20],
-            out: [true, true, false],
-            pool: 0,
-        },
-    },
-    Row {
-        name: "nobody stays",
-        events: &[Told::ClaimOut(3), Told::Out(1, 2, true, true)],
-        after: Amounts {
-            balances: [0, 0, 0],
-            out: [true, true, true],
-            pool: 30,
-        },
-    },
-];
+/// What a ledger says at its beginning.
+const BEGUN: Amounts = ([10, 10, 10], [false, false, false], 0);
 
-/// A ledger moves the stakes of those who are out, and no others.
-#[test]
-fn a_ledger_moves_the_stakes_of_those_who_are_out(rt: HostRuntime) -> Result<(), Fail> {
-    for row in LEDGERS {
-        assert_eq!(rt;
-            after(rt.alloc(), row.events)?,
-            Some(row.after),
-            "{}",
-            row.name
-        );
-    }
-    Ok(())
-}
+const WINS: Told = Told::Out(1, 2, false, true);
+
+const LOSES: Told = Told::Out(1, 3, true, false);
+
+const COLLIDES: Told = Told::Collision(1, 3);
 
 /// Prover 3 has won the stake of prover 1, which had won that of prover 2.
-const IN_ANY_ORDER: Amounts = Amounts {
-    balances: [10, 0, 20],
-    out: [true, true, false],
-    pool: 0,
-};
+const IN_ANY_ORDER: Amounts = ([10, 0, 20], [true, true, false], 0);
 
-/// The order of events doesn't matter: who loses its stake wins one before or after.
+/// Events, and what a ledger says after them.
+const LEDGERS: [(&[Told], Amounts); 12] = [
+    // begun
+    (&[], BEGUN),
+    // a claim is out
+    (
+        &[Told::ClaimOut(2)],
+        ([10, 0, 10], [false, true, false], 10),
+    ),
+    // the first side is out
+    (
+        &[Told::Out(1, 3, true, false)],
+        ([0, 10, 20], [true, false, false], 0),
+    ),
+    // the second side is out
+    (
+        &[Told::Out(1, 3, false, true)],
+        ([20, 10, 0], [false, false, true], 0),
+    ),
+    // both sides are out
+    (
+        &[Told::Out(1, 2, true, true)],
+        ([0, 0, 10], [true, true, false], 20),
+    ),
+    // a collision
+    (&[Told::Collision(1, 2)], BEGUN),
+    // one puts out both others
+    (
+        &[Told::Out(1, 3, true, false), Told::Out(2, 3, true, false)],
+        ([0, 0, 30], [true, true, false], 0),
+    ),
+    // a winner is out and loses its own stake
+    (
+        &[Told::Out(1, 2, false, true), Told::Out(1, 3, true, false)],
+        ([10, 0, 20], [true, true, false], 0),
+    ),
+    // nobody stays
+    (
+        &[Told::ClaimOut(3), Told::Out(1, 2, true, true)],
+        ([0, 0, 0], [true, true, true], 30),
+    ),
+    // the order of events doesn't matter: who loses its stake wins one before or after
+    (&[WINS, LOSES, COLLIDES], IN_ANY_ORDER),
+    (&[LOSES, WINS, COLLIDES], IN_ANY_ORDER),
+    (&[COLLIDES, LOSES, WINS], IN_ANY_ORDER),
+];
+
+/// A ledger moves the stakes of those who are out, and no others, in whatever order they come.
 #[test]
-fn the_order_of_events_does_not_matter(rt: HostRuntime) -> Result<(), Fail> {
-    let wins = Told::Out(1, 2, false, true);
-    let loses = Told::Out(1, 3, true, false);
-    let collides = Told::Collision(1, 3);
-    let orders = [
-        [wins, loses, collides],
-        [loses, wins, collides],
-        [collides, loses, wins],
-    ];
-    for order in orders {
-        let amounts = after(rt.alloc(), order.as_slice())?;
-        assert_eq!(rt; amounts, Some(IN_ANY_ORDER));
+fn a_ledger_moves_the_stakes_of_those_who_are_out_in_any_order(
+    rt: HostRuntime,
+) -> Result<(), Fail> {
+    for (place, (events, amounts)) in LEDGERS.iter().enumerate() {
+        let after = after(rt.alloc(), events)?;
+        assert!(rt; after == Some(*amounts), "row {place}");
     }
     Ok(())
 }

@@ -2,9 +2,9 @@
 //! boards and posters of one task and of many, and of deposits.
 //!
 //! No layer of the product depends on this crate. Read `disputes_test` and `books_test` first, then `boards_test` and `posters_test`, each
-//! for one layer; those of many tasks are in `task_boards_test` and `task_posters_test`, whose tasks are in `casts`. `seat_lock_test` and
-//! `round_robin_test` have the tests of the lock and of many items served by a few servers. `ledger_test` and `balances_test` are of
-//! deposits: `telling` is how events are applied to a ledger, and `playing` how a match is played. `players` has what two of them share.
+//! for one layer; those of many tasks are in `task_boards_test` and `task_posters_test`. `seat_lock_test` and `round_robin_test` have the
+//! tests of the lock and of many items served by a few servers, `ledger_test` and `balances_test` those of deposits. `dispute_play` plays a
+//! dispute, `casts` plays whole tasks, and `gates` has what is seen of their posts.
 #![tactic(auto)]
 
 #[cfg(test)]
@@ -20,15 +20,13 @@ mod dispute_play;
 #[cfg(test)]
 mod disputes_test;
 #[cfg(test)]
+mod gates;
+#[cfg(test)]
 mod in_short;
 #[cfg(test)]
 mod ledger_test;
 #[cfg(test)]
-mod parts_test;
-#[cfg(test)]
 mod players;
-#[cfg(test)]
-mod playing;
 #[cfg(test)]
 mod posters_test;
 #[cfg(test)]
@@ -39,5 +37,3 @@ mod seat_lock_test;
 mod task_boards_test;
 #[cfg(test)]
 mod task_posters_test;
-#[cfg(test)]
-mod telling;

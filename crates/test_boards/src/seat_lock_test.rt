@@ -119,15 +119,6 @@ fn seat_workers(
     Ok(workers)
 }
 
-/// Each worker adds its numbers in a thread of its own.
-fn add_in_threads<R: Threads + Wait + Sync>(rt: &R, lock: &SeatLock<Notes>, workers: &mut [Worker])
-    requires { All (λ w. w.seat.lock ≡ lock.now) workers.old }
-    ensures length { length workers.new ≡ length workers.old }
-    ensures seats { All (λ w. w.seat.lock ≡ lock.now) workers.new }
-{
-    thread::for_each_mut(rt, workers, 16, &|_, worker| worker.add_all(rt, lock));
-}
-
 /// Joins the seats in again, the last first. The result is what each worker was answered.
 fn join_workers(
     alloc: Global,
@@ -166,7 +157,12 @@ fn add_by_turns<R: Threads + Wait + Sync>(
     ensures { IfOk result (λ _. (seat.new.lock ≡ lock.now) × (seat.new.number ≡ 0) × (seat.new.out ≡ 0)) }
 {
     let mut workers = seat_workers(alloc, lock, seat, threads)?;
-    add_in_threads(rt, lock, workers.as_mut_slice());
+    thread::for_each_mut(
+        rt,
+        workers.as_mut_slice(),
+        16,
+        &|_, worker| worker.add_all(rt, lock),
+    );
     join_workers(alloc, lock, seat, workers)
 }
 
@@ -190,17 +186,8 @@ fn added_by<R: Threads + Wait + Sync>(
     }
 }
 
-/// Whether each of the places that a worker was answered has its number, one after another, and each place comes behind the one before.
-fn has_places(notes: &Notes, first: u64, places: &[usize]) -> bool {
-    for (place, number) in places.iter().zip(first..) {
-        if notes.numbers.get(*place) != Some(&number) {
-            return false;
-        }
-    }
-    places.len() == EACH as usize && places.is_sorted()
-}
-
-/// How many different places these threads were answered if each has its numbers at its places, and how many entries there are.
+/// How many different places these threads were answered if each has its numbers at its places, one after another, and each place comes
+/// behind the one before; and how many entries there are.
 fn places_of<R: Threads + Wait + Sync>(
     rt: &R,
     alloc: Global,
@@ -211,7 +198,12 @@ fn places_of<R: Threads + Wait + Sync>(
     let (notes, answers) = added_by(rt, alloc, threads)?;
     let mut answered = Vec::new(alloc);
     for (first, places) in answers.iter() {
-        if !has_places(&notes, *first, places) {
+        for (place, number) in places.iter().zip(*first..) {
+            if notes.numbers.get(*place) != Some(&number) {
+                return Ok(None);
+            }
+        }
+        if places.len() != EACH as usize || !places.is_sorted() {
             return Ok(None);
         }
         answered.extend_from_slice(places)?;
@@ -226,7 +218,8 @@ fn each_entry_stands_once_at_the_place_answered_and_in_its_threads_order(
     rt: HostRuntime,
 ) -> Result<(), Fail> {
     for (threads, count) in [(2, 2_000), (16, 16_000)] {
-        assert_eq!(rt; places_of(&rt, rt.alloc(), threads)?, Some((count, count)));
+        let places = places_of(&rt, rt.alloc(), threads)?;
+        assert!(rt; places == Some((count, count)), "{threads}");
     }
     Ok(())
 }
@@ -248,21 +241,6 @@ fn turns_of_two<R: Wait>(rt: &R, alloc: Global) -> Result<Turns, Memory> {
     Ok((places, count, lock.close(a)))
 }
 
-/// An idle turn answers from the value, and the last one finds no room.
-#[test]
-fn a_turn_a_split_a_turn_of_the_other_a_join_and_a_turn(rt: HostRuntime) -> Result<(), Fail> {
-    let (places, count, notes) = turns_of_two(&rt, rt.alloc())?;
-    assert_eq!(rt;
-        (places, count, notes.numbers.as_slice()),
-        (
-            [Some(0), Some(1), Some(2), None],
-            2,
-            [70, 80, 90].as_slice()
-        )
-    );
-    Ok(())
-}
-
 /// What the turns of four seats answer, in their order, and the numbers that are left.
 fn turns_of_four<R: Wait>(rt: &R, alloc: Global) -> Result<([Option<usize>; 5], Notes), Memory> {
     let numbers = Vec::with_capacity(alloc, 6)?;
@@ -282,15 +260,19 @@ fn turns_of_four<R: Wait>(rt: &R, alloc: Global) -> Result<([Option<usize>; 5], 
     Ok((places, lock.close(a)))
 }
 
+/// Of two seats an idle turn answers from the value, and the last turn finds no room. Four seats are split off and joined in another order.
 #[test]
-fn seats_are_split_off_and_joined_in_any_order(rt: HostRuntime) -> Result<(), Fail> {
+fn seats_that_are_split_off_and_joined_add_in_the_order_of_their_turns(
+    rt: HostRuntime,
+) -> Result<(), Fail> {
+    let (places, count, notes) = turns_of_two(&rt, rt.alloc())?;
+    let are_two = places == [Some(0), Some(1), Some(2), None]
+        && count == 2
+        && notes.numbers.as_slice() == [70, 80, 90].as_slice();
+    assert!(rt; are_two);
     let (places, notes) = turns_of_four(&rt, rt.alloc())?;
-    assert_eq!(rt;
-        (places, notes.numbers.as_slice()),
-        (
-            [Some(0), Some(1), Some(2), Some(3), Some(4)],
-            [3, 2, 4, 5, 1].as_slice()
-        )
-    );
+    let are_four = places == [Some(0), Some(1), Some(2), Some(3), Some(4)]
+        && notes.numbers.as_slice() == [3, 2, 4, 5, 1].as_slice();
+    assert!(rt; are_four);
     Ok(())
 }

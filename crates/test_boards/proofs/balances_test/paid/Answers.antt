@@ -1,7 +1,7 @@
 use Rattle.std.proofs.Common.{◌≡◌, true}
 use Rattle.tournament.specs.Bracket.{is_complete}
 use Rattle.test_boards.proofs.PaidLemmas.{settled-up}
-use Rattle.test_boards.proofs.playing.paid.Goals as goal
+use Rattle.test_boards.proofs.balances_test.paid.Goals as goal
 
 pub balances-requires-clause-settled_up : goal.balances-requires-clause-settled_up
 balances-requires-clause-settled_up c =

@@ -1,5 +1,0 @@
-use Rattle.std.proofs.Common.{length}
-use Rattle.test_boards.proofs.telling.+tell_all.Given as goal
-
-abbrev pub decreases-tell_all : goal.decreases-tell_all
-decreases-tell_all l = length l.events.now
