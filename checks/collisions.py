@@ -1,7 +1,8 @@
 #!/usr/bin/env python3
 """Finds two collisions of the digest of eight bits with SHA-256 alone, from docs/COMMITMENTS.md.
 
-    checks/collisions.py    writes the values of x5 and the two strings of each collision; `crates/test_collisions` expects these
+    checks/collisions.py    writes the values of x5, the two strings of each collision behind their digest, the last line of the match's full
+                            text and its audit: lines of crates/test_refcli/stdout, which `rt ci` compares
 
 The program is JALR x0, 0(x5). The first is the least pair of multiples of 4 up to 1,024 whose claims after the step have one root; the
 second is the first multiple of 4 whose state before the step has the root of the honest one, and whose state after it another root than
@@ -52,13 +53,34 @@ def root(x5, pc):
 MEMORY = memory_digest()
 
 
+LIARS = range(0, 1025, 4)
+
+
 def least_pair():
-    values = range(0, 1025, 4)
-    return next((a, b) for a in values for b in values if a < b and root(a, a) == root(b, b))
+    return next((a, b) for a in LIARS for b in LIARS if a < b and root(a, a) == root(b, b))
 
 
 def proved_twice():
     return next(v for v in range(4, 262_145, 4) if root(v, BASE) == root(0, BASE) and root(v, v) != root(0, 0))
+
+
+def lines_of_match(first, second):
+    """The lines of two strings of one digest, and of the match that ends with them."""
+    if first == second or weak8(first) != weak8(second):
+        sys.exit("collisions.py: no two strings of one digest")
+    for string in first, second:
+        yield f"{weak8(string)[0]:02x} is the digest of {string.hex()}"
+    collision = f"collision {first.hex()} {second.hex()}"
+    yield from (collision, "audit: status 0", f"confirmed {collision}")
+
+
+def lines():
+    first, second = least_pair()
+    yield f"{len(LIARS)} claims, the least two of one root: {first} {second}"
+    yield from lines_of_match(state_string(first, first), state_string(second, second))
+    value = proved_twice()
+    yield f"the first step that both prove: 0 {value}"
+    yield from lines_of_match(registers_string(0), registers_string(value))
 
 
 def main():
@@ -68,10 +90,8 @@ def main():
     if len(sys.argv) != 1:
         print(__doc__, end="", file=sys.stderr)
         return 2
-    first, second = least_pair()
-    print(f"claims {first} {second}", state_string(first, first).hex(), state_string(second, second).hex())
-    value = proved_twice()
-    print(f"proofs 0 {value}", registers_string(0).hex(), registers_string(value).hex())
+    for line in lines():
+        print(line)
     return 0
 
 

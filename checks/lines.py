@@ -3,8 +3,9 @@
 
     checks/lines.py FILE            a line for each of these changes to the text in FILE: what was done, and what `refcli audit` has to write
     checks/lines.py --answers FILE  only what it has to write
-    checks/lines.py --stored FILE   the same of each of several texts, one behind the other, for texts that are cut and lines that are exchanged,
-                                    left out and doubled: crates/test_lines/stdout for crates/test_lines/stdin, which `rt ci` compares
+    checks/lines.py --stored FILE   the same of the text of each row of FILE whose command is `each line changed`, behind the row's name, for
+                                    texts that are cut and lines that are exchanged, left out and doubled: lines of crates/test_refcli/stdout for
+                                    the rows of crates/test_refcli/stdin, which `rt ci` compares
 
 It is written from docs/PROGRAM.md, docs/AUDIT.md and docs/COMMITMENTS.md, and no code is taken from the crates. FILE has to be the full
 text of a match, which `refcli audit` confirms. Its order of lines, who is asked what, and whether each claim is sound are tested here
@@ -236,9 +237,10 @@ def answers(data):
 
 
 def stored(data):
-    """What has to be written of each of several texts with one line moved."""
-    for one in re.split(rb"(?m)^(?=refereed )", data)[1:]:
-        text = Text(one)
+    """What has to be written of each row's text with one line moved."""
+    for name, row in texts.rows(data, b"each line changed"):
+        yield f"{name}:"
+        text = Text(row)
         for what, changed in moved_lines(text):
             answer = text.answer(changed)
             if answer is None:

@@ -3,6 +3,8 @@
 
     checks/texts.py <FILE           says how the text on standard input is read: `read`, or its fault as `refcli audit` prints it
     checks/texts.py --mutants FILE  the same for each of the mutants of a text, a line each
+    checks/texts.py --stored FILE   the same for the text of each row of FILE whose command is `mutants`, behind the row's name: lines of
+                                    crates/test_refcli/stdout for the rows of crates/test_refcli/stdin, which `rt ci` compares
 
 No code is taken from the crates. It plays no match: whether the moves are those of one is for the audit.
 """
@@ -147,6 +149,14 @@ def mutants(text):
             yield before + (b"" if kind == 1 else byte + byte) + after
 
 
+def rows(data, command):
+    """The name and the text of each row of this command, in which a `|` stands for a line feed."""
+    for row in data.splitlines():
+        name, given, text = row.split(b"\t")
+        if given == command:
+            yield name.decode(), text.replace(b"|", b"\n")
+
+
 def main():
     if sys.argv[1:] in (["--help"], ["-h"]):
         print(__doc__, end="")
@@ -157,7 +167,7 @@ def main():
             sys.exit("texts.py: standard input is closed")
         print(read(sys.stdin.buffer.read()))
         return 0
-    if len(words) != 2 or words[0] != "--mutants":
+    if len(words) != 2 or words[0] not in ("--mutants", "--stored"):
         print(__doc__, end="", file=sys.stderr)
         return 2
     try:
@@ -165,8 +175,14 @@ def main():
             text = file.read()
     except OSError as fault:
         sys.exit(f"texts.py: {words[1]}: {fault.strerror}")
-    for mutant in mutants(text):
-        print(read(mutant))
+    if words[0] == "--mutants":
+        for mutant in mutants(text):
+            print(read(mutant))
+        return 0
+    for name, row in rows(text, b"mutants"):
+        print(f"{name}:")
+        for mutant in mutants(row):
+            print(read(mutant))
     return 0
 
 

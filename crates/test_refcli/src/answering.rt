@@ -64,7 +64,7 @@ pub fn digest_of(alloc: Global, text: &[u8]) -> Result<String, AllocError> {
 }
 
 /// The last line of a text.
-fn last_line(text: &str) -> &str {
+pub fn last_line(text: &str) -> &str {
     let lines = text.trim_end();
     match lines.rsplit_once('\n') {
         Some((_, line)) => line,

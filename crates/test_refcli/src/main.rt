@@ -1,19 +1,26 @@
 //! The program `test_refcli`: calls `delegate::run` over memory for each row, and writes the result.
 //!
-//! The rows of its standard input are calls whose answers are written out. Those after them have a line each: calls over devices that
-//! fail, and calls at the limits of what the program takes. A call may answer that memory ran out, so no proof shows that a body doesn't
-//! give up at some size; these show it, for the largest case, image, input and bound, the most loads, provers, passes and rounds, and the
-//! ends of the options. `checks/limits --lines` writes their lines.
+//! The rows of its standard input are calls whose answers are written out; those of the commands `each line changed` and `mutants` are the
+//! audits of many texts that are made of one. The lines after them are of calls over devices that fail, of the collisions that the program
+//! itself finds, of verdicts without a text, and of calls at the limits of what the program takes.
+//!
+//! A call may answer that memory ran out, so no proof shows that a body doesn't give up at some size; the last lines show it, for the largest
+//! case, image, input and bound, the most loads, provers, passes and rounds, and the ends of the options. `checks/limits --lines` writes
+//! them.
 #![tactic(auto)]
 
 mod answering;
 mod cases;
+mod changes;
+mod collisions;
 mod devices;
 mod failing;
 mod images;
 mod matches;
+mod mutants;
 mod rows;
 mod runs;
+mod verdicts;
 
 use io_edge::StdSource;
 use rd_base::Memory;
@@ -23,11 +30,13 @@ use std::process::ExitCode;
 use std::sync::Wait;
 use std::thread::Threads;
 
-/// The lines of the calls over devices that fail, and of those at the limits.
+/// The lines of the calls over devices that fail, of collisions and verdicts, and of the calls at the limits.
 fn lines_after_rows<R: Threads + Wait + Sync>(rt: &R, alloc: Global) -> Result<String, Memory> {
     let mut lines = String::new(alloc);
     devices::add_calls(rt, alloc, &mut lines)?;
     failing::add_calls_in_turn(rt, alloc, &mut lines)?;
+    collisions::add_collisions(rt, alloc, &mut lines)?;
+    verdicts::add_verdicts(rt, alloc, &mut lines)?;
     runs::add_sizes(rt, alloc, &mut lines)?;
     runs::add_runs(rt, alloc, &mut lines)?;
     matches::add_options(rt, alloc, &mut lines)?;

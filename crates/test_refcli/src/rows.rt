@@ -1,5 +1,6 @@
 //! The rows of standard input, and what each writes.
 use crate::answering::outcome_of;
+use crate::{changes, mutants};
 use io_edge::{Source, read_all};
 use rd_base::Memory;
 use std::alloc::{AllocError, Global};
@@ -18,8 +19,14 @@ fn bytes_of(alloc: Global, text: &str) -> Result<Vec<u8>, AllocError> {
     Ok(bytes)
 }
 
-/// Adds the result of a row: a line with its name and the status, and the text.
-fn add_row<R: Threads + Wait + Sync>(
+/// Adds the line of a name.
+fn add_name(lines: &mut String, name: &str) -> Result<(), AllocError> {
+    lines.push_str(name)?;
+    lines.push_str(":\n")
+}
+
+/// Adds the result of a call: a line with its name and the status, and the text.
+pub fn add_row<R: Threads + Wait + Sync>(
     rt: &R,
     alloc: Global,
     lines: &mut String,
@@ -34,6 +41,27 @@ fn add_row<R: Threads + Wait + Sync>(
     lines.push_str(first.as_str())?;
     lines.push_str(outcome.text.as_str())?;
     Ok(())
+}
+
+/// Adds the result of a row of the audit of many texts: a line with its name, and the answers to its text with each line changed, or to its
+/// mutants; or that of a row that is a call.
+fn add_result<R: Threads + Wait + Sync>(
+    rt: &R,
+    alloc: Global,
+    lines: &mut String,
+    name: &str,
+    command: &str,
+    text: &str,
+) -> Result<(), Memory> {
+    if command == "each line changed" {
+        add_name(lines, name)?;
+        changes::add_answers(rt, alloc, lines, text)
+    } else if command == "mutants" {
+        add_name(lines, name)?;
+        mutants::add_readings(rt, alloc, lines, bytes_of(alloc, text)?.as_slice())
+    } else {
+        add_row(rt, alloc, lines, name, command, text)
+    }
 }
 
 /// The name, the command and the bytes of a row, which are parted by tabs.
@@ -58,7 +86,7 @@ pub fn lines_of_rows<R: Threads + Wait + Sync, S: Source>(
     };
     for row in rows.as_str().lines() {
         if let Some((name, command, text)) = parts_of(row) {
-            add_row(rt, alloc, &mut lines, name, command, text)?;
+            add_result(rt, alloc, &mut lines, name, command, text)?;
         }
     }
     Ok(lines)

@@ -1,13 +1,13 @@
-//! The mutants of a text, and how each is read.
+//! The audit of a full text's mutants, in each of which one byte is changed, dropped or doubled.
+//!
+//! The expected lines are those of another reader of texts, `checks/texts.py --stored`: `read`, or the fault of reading.
 ghost use Rattle.std.specs.Prelude.{◌<◌, ◌≤◌, length};
 
-use io_edge::{Source, read_all};
+use crate::answering::outcome_of;
 use rd_base::Memory;
 use std::alloc::{AllocError, Global};
-use transcript_text::{TextFault, read_full};
-
-/// The most bytes of the text.
-const MOST: usize = 1_048_576;
+use std::sync::Wait;
+use std::thread::Threads;
 
 /// How many mutants there are.
 const MUTANTS: usize = 240;
@@ -58,30 +58,28 @@ fn mutant_of(alloc: Global, text: &[u8], mutant: usize) -> Result<Vec<u8>, Alloc
     Ok(bytes)
 }
 
-/// How bytes are read: `read`, or their fault as `refcli audit` prints it.
-fn line_of(alloc: Global, bytes: &[u8]) -> Result<String, Memory> {
-    match read_full(alloc, bytes) {
-        Ok(_) => Ok(String::from_str(alloc, "read\n")?),
-        Err(TextFault::BadHead) => Ok(String::from_str(alloc, "fault text 1\n")?),
-        Err(TextFault::BadLine(line)) => Ok(format!(in alloc; "fault text 2 {line}\n")?),
-        Err(TextFault::Truncated) => Ok(String::from_str(alloc, "fault text 3\n")?),
-        Err(TextFault::OutOfRange(line)) => Ok(format!(in alloc; "fault text 4 {line}\n")?),
-        Err(TextFault::Memory) => Err(Memory),
+/// How a text is read whose audit answers this: `read`, or its fault.
+fn reading_of(answer: &str) -> &str {
+    if answer.starts_with("confirmed ") || answer.starts_with("refused ") {
+        "read\n"
+    } else {
+        answer
     }
 }
 
-/// A line for each mutant of the text that a source has. None for a text of fewer than 120 bytes; `Memory` if it can't be read, too.
-pub fn lines_of_mutants<S: Source>(alloc: Global, source: &mut S) -> Result<String, Memory> {
-    let mut lines = String::new(alloc);
-    let Ok(text) = read_all(alloc, source, MOST) else {
-        return Err(Memory);
-    };
+/// Adds a line for each mutant of a text. None for a text of fewer than 120 bytes.
+pub fn add_readings<R: Threads + Wait + Sync>(
+    rt: &R,
+    alloc: Global,
+    lines: &mut String,
+    text: &[u8],
+) -> Result<(), Memory> {
     if text.len() < AT_ENDS {
-        return Ok(lines);
+        return Ok(());
     }
     for mutant in 0..MUTANTS {
-        let bytes = mutant_of(alloc, text.as_slice(), mutant)?;
-        lines.push_str(line_of(alloc, bytes.as_slice())?.as_str())?;
+        let outcome = outcome_of(rt, alloc, "audit", mutant_of(alloc, text, mutant)?)?;
+        lines.push_str(reading_of(outcome.text.as_str()))?;
     }
-    Ok(lines)
+    Ok(())
 }

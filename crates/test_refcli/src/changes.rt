@@ -1,13 +1,12 @@
-//! Texts with one changed line.
-use crate::audited::audited;
-use io_edge::{Source, read_all};
+//! The audit of full texts of which one line is changed.
+//!
+//! A text is cut after each of its lines, and each line is exchanged with the next, left out and doubled. The expected lines are those of
+//! another reader of texts, `checks/lines.py --stored`.
+use crate::answering::outcome_of;
 use rd_base::Memory;
 use std::alloc::{AllocError, Global};
 use std::sync::Wait;
 use std::thread::Threads;
-
-/// The most bytes of all texts.
-const MOST: usize = 1_048_576;
 
 /// How a line is changed.
 #[derive(Clone, Copy)]
@@ -20,6 +19,7 @@ enum Change {
     Doubled,
 }
 
+/// Adds this line to a text.
 fn add_line(text: &mut String, line: &str) -> Result<(), AllocError> {
     text.push_str(line)?;
     text.push_str("\n")
@@ -71,51 +71,29 @@ fn add_answer<R: Threads + Wait + Sync>(
     change: Change,
 ) -> Result<(), Memory> {
     let text = changed(alloc, lines, at, change)?;
-    let answer = audited(rt, alloc, text.as_str())?;
-    answers.push_str(answer.as_str())?;
+    let outcome = outcome_of(rt, alloc, "audit", text.into_bytes())?;
+    answers.push_str(outcome.text.as_str())?;
     Ok(())
 }
 
-/// Adds the audit's answers to a text of these lines with one changed, line after line. The last one is left out and doubled alone.
-fn add_answers<R: Threads + Wait + Sync>(
+/// Adds the audit's answers to the text of a row with one line changed, line after line. The last one is left out and doubled alone.
+pub fn add_answers<R: Threads + Wait + Sync>(
     rt: &R,
     alloc: Global,
     answers: &mut String,
-    lines: &[&str],
+    row: &str,
 ) -> Result<(), Memory> {
-    for at in 0..lines.len() {
-        if lines.len().saturating_sub(at) > 1 {
-            add_answer(rt, alloc, answers, lines, at, Change::Cut)?;
-            add_answer(rt, alloc, answers, lines, at, Change::Exchanged)?;
-        }
-        add_answer(rt, alloc, answers, lines, at, Change::LeftOut)?;
-        add_answer(rt, alloc, answers, lines, at, Change::Doubled)?;
-    }
-    Ok(())
-}
-
-/// The audit's answers to the texts that a source has, one behind the other, with one line changed. A text begins with its head.
-/// `Memory` if they can't be read, too.
-pub fn answers_to_changes<R: Threads + Wait + Sync, S: Source>(
-    rt: &R,
-    alloc: Global,
-    source: &mut S,
-) -> Result<String, Memory> {
-    let mut answers = String::new(alloc);
-    let Ok(bytes) = read_all(alloc, source, MOST) else {
-        return Err(Memory);
-    };
-    let Ok(texts) = String::from_utf8(bytes) else {
-        return Err(Memory);
-    };
     let mut lines = Vec::new(alloc);
-    for line in texts.as_str().lines() {
-        if line.starts_with("refereed ") {
-            add_answers(rt, alloc, &mut answers, lines.as_slice())?;
-            lines = Vec::new(alloc);
-        }
+    for line in row.split_terminator('|') {
         lines.push(line)?;
     }
-    add_answers(rt, alloc, &mut answers, lines.as_slice())?;
-    Ok(answers)
+    for at in 0..lines.len() {
+        if lines.len().saturating_sub(at) > 1 {
+            add_answer(rt, alloc, answers, lines.as_slice(), at, Change::Cut)?;
+            add_answer(rt, alloc, answers, lines.as_slice(), at, Change::Exchanged)?;
+        }
+        add_answer(rt, alloc, answers, lines.as_slice(), at, Change::LeftOut)?;
+        add_answer(rt, alloc, answers, lines.as_slice(), at, Change::Doubled)?;
+    }
+    Ok(())
 }
