@@ -38,10 +38,13 @@ fn texts_hold_what_their_seeds_draw(rt: HostRuntime) -> Result<(), Fail> {
     ] {
         let text = big_case(rt.alloc(), seed)?;
         let text = str::from_utf8(text.as_slice())?;
-        assert_eq!(rt; text.len(), length, "{seed}");
-        assert!(rt; text.starts_with(BEGINNING), "{seed}");
-        assert!(rt; text.contains(input), "{seed}");
-        assert!(rt; text.ends_with(ending), "{seed}");
+        assert!(rt;
+            text.len() == length
+                && text.starts_with(BEGINNING)
+                && text.contains(input)
+                && text.ends_with(ending),
+            "{seed}"
+        );
     }
     Ok(())
 }

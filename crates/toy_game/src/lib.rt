@@ -1,8 +1,7 @@
 //! A judge, provers and answerers over numbers.
 //!
 //! No layer of the product depends on this crate. It shows the traits of the game in their smallest form: read `toy_judge`, then
-//! `cast`; `in_short` has what tests compare. The crates `test_boards`, `test_full_text`, `test_audit` and
-//! `test_report` play with it.
+//! `cast`; `in_short` has what tests compare. The crates `test_boards` and `test_texts` play with it.
 #![tactic(auto)]
 
 mod cast;

@@ -1,14 +1,11 @@
-//! Tests of posts that change nothing.
-ghost use denote.Param.Send.{IsSync};
-
+//! Posts that change nothing.
 use crate::playing::CLAIM;
-use bisect_game::{Answerer, Kind, Question};
+use bisect_game::Kind;
 use rd_base::{Memory, Qid};
 use std::alloc::Global;
 use std::test::Fail;
-use std::thread::Threads;
 use tournament::{Match, Move, Reply, Verdict};
-use toy_game::{HONEST, LIAR, Player, Seated, ToyJudge, root};
+use toy_game::{HONEST, LIAR, ToyJudge, given, root};
 
 /// The number of the first question of the dispute.
 const FIRST: Qid = Qid {
@@ -54,38 +51,15 @@ fn post(game: &mut Match<ToyJudge>, p: u32, qid: Qid, turn: Move) -> Replied {
     }
 }
 
-/// What a player gives to a question of this kind.
-fn answer_of<R: Threads + Sync>(
-    rt: &R,
-    alloc: Global,
-    player: Player,
-    kind: Kind,
-) -> Result<Move, Memory>
-    requires { IsSync R.row }
-{
-    let mut seated = Seated { player, alloc };
-    let question = Question {
-        qid: CLAIM.qid,
-        kind,
-    };
-    let answer = seated.answer(rt, &question, 0)?;
-    Ok(answer.map_or(Move::Pass, Move::Give))
-}
-
-/// A match of two provers over 8 steps, with a patience of 1.
-fn begun(alloc: Global) -> Result<Match<ToyJudge>, Memory> {
-    Match::new(alloc, ToyJudge { name: 0 }, 2, 8, 2, 1, root(0))
-}
-
-/// What posts of two provers are answered, and whether nobody is left then. The first one claims truly and then gives a proof for a
-/// root; the second one lies and then passes.
+/// What posts of two provers are answered in a match over 8 steps with a patience of 1, and whether nobody is left then. The first one
+/// claims truly and then gives a proof for a root; the second one lies and then passes.
 fn answered(
     alloc: Global,
     claim: Move,
     lie: Move,
     proof: Move,
 ) -> Result<([Replied; 11], bool), Memory> {
-    let mut game = begun(alloc)?;
+    let mut game = Match::new(alloc, ToyJudge { name: 0 }, 2, 8, 2, 1, root(0))?;
     let replies = [
         post(&mut game, 1, FIRST, Move::Pass),
         post(&mut game, 1, CLAIM.qid, Move::Pass),
@@ -107,10 +81,11 @@ fn answered(
 /// round, and a post of a prover without a question.
 #[test]
 fn stale_posts_change_nothing(rt: HostRuntime) -> Result<(), Fail> {
-    let claim = answer_of(&rt, rt.alloc(), HONEST, Kind::Claim)?;
-    let lie = answer_of(&rt, rt.alloc(), LIAR, Kind::Claim)?;
-    let proof = answer_of(&rt, rt.alloc(), HONEST, Kind::Proof(0))?;
-    let answered = answered(rt.alloc(), claim, lie, proof)?;
+    let alloc = rt.alloc();
+    let claim = Move::Give(given(alloc, &HONEST, Kind::Claim)?);
+    let lie = Move::Give(given(alloc, &LIAR, Kind::Claim)?);
+    let proof = Move::Give(given(alloc, &HONEST, Kind::Proof(0))?);
+    let answered = answered(alloc, claim, lie, proof)?;
     let want = [
         Replied::Stale(Some(CLAIM.qid), 0),
         Replied::Taken(1),

@@ -1,4 +1,4 @@
-//! Matches of toy players, and their reports.
+//! Matches of toy players, their reports and their full texts.
 ghost use denote.Param.Send.{IsSync};
 ghost use Rattle.std.specs.Prelude.{length, ◌<◌, ◌≤◌, ◌^◌};
 
@@ -9,7 +9,7 @@ use std::alloc::Global;
 use std::thread::Threads;
 use tournament::{Match, Move, Verdict};
 use toy_game::{Player, Seated, ToyJudge, root};
-use transcript_text::{DigestName, Head, report};
+use transcript_text::{DigestName, Head, full, report};
 
 /// The question for a claim.
 pub(crate) const CLAIM: Question = Question {
@@ -21,34 +21,48 @@ pub(crate) const CLAIM: Question = Question {
 };
 
 /// Where a prover gives an answer of another kind than asked: its number, and the round in which it does.
-#[derive(Clone, Copy, Debug)]
+#[derive(Clone, Copy)]
 pub(crate) struct Wrong {
     pub prover: u32,
     pub round: u32,
 }
 
-/// Nobody does.
-pub(crate) const NOBODY: Wrong = Wrong {
-    prover: 0,
-    round: 0,
-};
-
-/// How a match is played.
-#[derive(Clone, Copy, Debug)]
+/// Who plays a match, and how.
+#[derive(Clone, Copy)]
 pub(crate) struct Terms {
+    /// Who plays, of whom there are 1 to 16; prover 1 is the first.
+    pub players: &'static [Player],
+    /// The order in which they move in turn; the place of the first is 0.
+    pub order: &'static [usize],
+    /// How many steps a run has.
     pub bound: u64,
+    /// In how many parts a round cuts its interval.
     pub fan: u32,
+    /// How often a prover may pass on a question.
     pub patience: u32,
     pub wrong: Wrong,
 }
 
-/// Over 8 steps in halves, without patience.
+/// Nobody, over 8 steps in halves, without patience or a wrong answer.
 pub(crate) const HALVES: Terms = Terms {
+    players: &[],
+    order: &[0, 1, 2, 3, 4, 5, 6, 7, 8, 9, 10, 11, 12, 13, 14, 15],
     bound: 8,
     fan: 2,
     patience: 0,
-    wrong: NOBODY,
+    wrong: Wrong {
+        prover: 0,
+        round: 0,
+    },
 };
+
+/// Which text of a match is written.
+#[derive(Clone, Copy)]
+pub(crate) enum Form<'a> {
+    Full,
+    /// The report, with these balances.
+    Report(Option<&'a Balances>),
+}
 
 /// An answer of another kind than asked.
 fn wrong_answer<R: Threads + Sync>(
@@ -89,30 +103,26 @@ fn move_prover<R: Threads + Sync>(
     Ok(())
 }
 
-/// A match of these players, who move in turn in this order; the place of the first is 0.
-fn played<R: Threads + Sync>(
-    rt: &R,
-    alloc: Global,
-    players: &[Player],
-    order: &[usize],
-    terms: Terms,
-) -> Result<Match<ToyJudge>, Memory>
+/// A match on these terms, of more turns than any of these matches has.
+fn played<R: Threads + Sync>(rt: &R, alloc: Global, terms: Terms) -> Result<Match<ToyJudge>, Memory>
     requires sync { IsSync R.row }
-    requires some { 0 < length players.now }
-    requires few { length players.now ≤ 16 }
+    requires some { 0 < length terms.players.now }
+    requires few { length terms.players.now ≤ 16 }
     requires steps { 0 < terms.bound }
     requires short { terms.bound < 2 ^ 32 }
     requires parted { 1 < terms.fan }
     requires few_parts { terms.fan ≤ 16 }
 {
-    let judge = ToyJudge { name: 0 };
-    let count = players.len() as u32;
     let Terms {
+        players,
+        order,
         bound,
         fan,
         patience,
         wrong,
     } = terms;
+    let judge = ToyJudge { name: 0 };
+    let count = players.len() as u32;
     let mut game = Match::new(alloc, judge, count, bound, fan, patience, root(0))?;
     for _ in 0..64 {
         for place in order {
@@ -136,42 +146,41 @@ fn accepted(verdict: &Verdict) -> u32 {
     }
 }
 
-/// The report of a match, and the prover whose claim is accepted, 0 if none is. The report is empty if the match isn't over.
+/// The text of a match, and the prover whose claim is accepted, 0 if none is. The text is empty if the match isn't over.
 fn told(
     alloc: Global,
     head: &Head,
     game: &Match<ToyJudge>,
-    balances: Option<&Balances>,
+    form: Form<'_>,
 ) -> Result<(Vec<u8>, u32), Memory> {
-    match game.verdict() {
-        Some(verdict) => {
-            let text = report(alloc, head, game.record(), &verdict, balances)?;
-            Ok((text, accepted(&verdict)))
-        }
-        None => Ok((Vec::new(alloc), 0)),
-    }
+    let Some(verdict) = game.verdict() else {
+        return Ok((Vec::new(alloc), 0));
+    };
+    let text = match form {
+        Form::Full => full(alloc, head, game.record(), &verdict)?,
+        Form::Report(balances) => report(alloc, head, game.record(), &verdict, balances)?,
+    };
+    Ok((text, accepted(&verdict)))
 }
 
-/// The report of a match of these players, of whom there are 1 to 16, and whose claim is accepted, 0 if none is. The report is
-/// empty if there is no match on such terms, and if it isn't over.
-pub(crate) fn report_of<R: Threads + Sync>(
+/// The text of a match on these terms, and whose claim is accepted, 0 if none is. The text is empty if there is no match on such terms,
+/// and if it isn't over.
+pub(crate) fn written<R: Threads + Sync>(
     rt: &R,
     alloc: Global,
-    players: &[Player],
-    order: &[usize],
     terms: Terms,
-    balances: Option<&Balances>,
+    form: Form<'_>,
 ) -> Result<(Vec<u8>, u32), Memory>
     requires { IsSync R.row }
 {
-    if players.is_empty() || players.len() > 16 {
+    if terms.players.is_empty() || terms.players.len() > 16 {
         return Ok((Vec::new(alloc), 0));
     }
     if terms.bound == 0 || terms.bound > 4_294_967_295 || terms.fan < 2 || terms.fan > 16 {
         return Ok((Vec::new(alloc), 0));
     }
     let head = Head {
-        provers: players.len() as u32,
+        provers: terms.players.len() as u32,
         bound: terms.bound,
         patience: terms.patience,
         version: 1,
@@ -179,6 +188,18 @@ pub(crate) fn report_of<R: Threads + Sync>(
         digest: DigestName::Sha256,
         start: root(0),
     };
-    let game = played(rt, alloc, players, order, terms)?;
-    told(alloc, &head, &game, balances)
+    let game = played(rt, alloc, terms)?;
+    told(alloc, &head, &game, form)
+}
+
+/// The full text of a match on these terms.
+pub(crate) fn full_of<R: Threads + Sync>(
+    rt: &R,
+    alloc: Global,
+    terms: Terms,
+) -> Result<Vec<u8>, Memory>
+    requires { IsSync R.row }
+{
+    let (text, _) = written(rt, alloc, terms, Form::Full)?;
+    Ok(text)
 }
