@@ -1,26 +1,19 @@
 //! Rows of one instruction word.
-use crate::words::{Unanswered, number, number_of};
+use crate::words::number;
 use rd_base::Regs;
 use rv_decode::decode;
 use rv_step::{Outcome, finish};
 use std::alloc::Global;
+use toy_rows::{Unanswered, add_part, hexadecimal_of};
 
-/// The instruction of a word, as its fields print; `None` if it is no instruction.
-fn read(alloc: Global, word: u32) -> Result<String, Unanswered> {
-    Ok(format!(in alloc; "{:?}", decode(word))?)
-}
-
-/// `decode WORD`, and `listed BYTES` with the four bytes of a word as a file has them, the lowest first.
+/// `decode WORD`, and `listed BYTES` with the four bytes of a word as a file has them, the lowest first: its instruction, as the fields
+/// print; `None` if it is none.
 pub fn reading(alloc: Global, words: &[&str], is_listed: bool) -> Result<String, Unanswered> {
-    let word = number(words, 1)?;
-    read(
-        alloc,
-        if is_listed {
-            u32::swap_bytes(word)
-        } else {
-            word
-        },
-    )
+    let mut word = number(words, 1)?;
+    if is_listed {
+        word = u32::swap_bytes(word);
+    }
+    Ok(format!(in alloc; "{:?}", decode(word))?)
 }
 
 /// What a word leaves in x3, with `a` in x1 and `b` in x2, and with the number that it loads.
@@ -35,20 +28,19 @@ fn result_of(word: u32, a: u32, b: u32, loaded: u32) -> Option<u32> {
     }
 }
 
-/// Adds a result, and a space.
+/// Adds a result behind a space.
 fn add(alloc: Global, results: &mut String, value: Option<u32>) -> Result<(), Unanswered> {
-    let text = match value {
-        Some(value) => format!(in alloc; "{value:x} ")?,
-        None => String::from_str(alloc, "none ")?,
-    };
-    Ok(results.push_str(text.as_str())?)
+    match value {
+        Some(value) => add_part(results, " ", format!(in alloc; "{value:x}")?.as_str()),
+        None => add_part(results, " ", "none"),
+    }
 }
 
 /// The operands in a text, of x1 and x2; the second one is 0 if it is left out.
 fn operands_of(text: &str) -> Result<(u32, u32), Unanswered> {
     match text.split_once(',') {
-        Some((a, b)) => Ok((number_of(a)?, number_of(b)?)),
-        None => Ok((number_of(text)?, 0)),
+        Some((a, b)) => Ok((hexadecimal_of(a)?, hexadecimal_of(b)?)),
+        None => Ok((hexadecimal_of(text)?, 0)),
     }
 }
 
@@ -68,7 +60,11 @@ pub fn loads(alloc: Global, words: &[&str]) -> Result<String, Unanswered> {
     let word = number(words, 1)?;
     let mut results = String::new(alloc);
     for text in words.get(2..).unwrap_or(&[]) {
-        add(alloc, &mut results, result_of(word, 0, 0, number_of(text)?))?;
+        add(
+            alloc,
+            &mut results,
+            result_of(word, 0, 0, hexadecimal_of(text)?),
+        )?;
     }
     Ok(results)
 }

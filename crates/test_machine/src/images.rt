@@ -1,8 +1,9 @@
 //! Rows of an image. What is loaded becomes the first memory.
 use crate::memory::Memories;
-use crate::words::{Unanswered, number, number_of};
+use crate::words::number;
 use image_reader::{ImageFault, Loaded, load_elf, load_flat};
 use std::alloc::Global;
+use toy_rows::{Unanswered, hexadecimal_of};
 
 /// What a file is loaded as: its entry, or the fault.
 fn loaded(
@@ -25,6 +26,35 @@ fn loaded(
     }
 }
 
+/// Changes the byte at a place.
+fn change(file: &mut [u8], place: &str, byte: &str) -> Result<(), Unanswered> {
+    let value = hexadecimal_of(byte)?;
+    match file.get_mut(hexadecimal_of(place)? as usize) {
+        Some(changed) if value < 256 => {
+            *changed = value as u8;
+            Ok(())
+        }
+        _ => Err(Unanswered::NoRow),
+    }
+}
+
+/// Leaves the first bytes of the file, which has so many.
+fn shorten(file: &mut Vec<u8>, length: usize) -> Result<(), Unanswered> {
+    if length > file.len() {
+        return Err(Unanswered::NoRow);
+    }
+    file.truncate(length);
+    Ok(())
+}
+
+/// The file with an edit: `LENGTH` leaves its first bytes, and `PLACE=BYTE` puts another byte at a place.
+fn edit(file: &mut Vec<u8>, edit: &str) -> Result<(), Unanswered> {
+    match edit.split_once('=') {
+        Some((place, byte)) => change(file.as_mut_slice(), place, byte),
+        None => shorten(file, hexadecimal_of(edit)? as usize),
+    }
+}
+
 /// `elf` and `flat`: loads the file. `elf LENGTH` loads its first bytes, and `elf PLACE=BYTE ..` the file with other bytes at these places.
 pub fn load(
     alloc: Global,
@@ -34,16 +64,8 @@ pub fn load(
     is_flat: bool,
 ) -> Result<String, Unanswered> {
     let mut edited = file.to_vec(alloc)?;
-    for edit in words.get(1..).unwrap_or(&[]) {
-        match edit.split_once('=') {
-            Some((place, byte)) => {
-                let place = number_of(place)? as usize;
-                if place < edited.len() {
-                    edited[place] = (number_of(byte)? % 256) as u8;
-                }
-            }
-            None => edited.truncate(number_of(edit)? as usize),
-        }
+    for text in words.get(1..).unwrap_or(&[]) {
+        edit(&mut edited, text)?;
     }
     loaded(alloc, both, edited.as_slice(), is_flat)
 }
@@ -63,7 +85,7 @@ pub fn load_zeros(
 /// Adds the fields that a text writes, four bytes each, the lowest first.
 fn add_fields(made: &mut Vec<u8>, fields: &str) -> Result<(), Unanswered> {
     for field in fields.split(',') {
-        made.extend_from_slice(&number_of(field)?.to_le_bytes())?;
+        made.extend_from_slice(&hexadecimal_of(field)?.to_le_bytes())?;
     }
     Ok(())
 }

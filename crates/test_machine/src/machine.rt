@@ -2,12 +2,13 @@
 ghost use Rattle.std.specs.Prelude.{ℕ, ◌≤◌, List, length, IfOk};
 ghost use Rattle.rv_step.specs.State.{IsChained};
 
-use crate::words::{Unanswered, bytes, number, number_of, written};
+use crate::words::{number, written};
 use digest_core::Sha256;
 use mem_plain::PlainMem;
 use rd_base::Memory;
 use rv_step::{Machine, advance, step, touches};
 use std::alloc::Global;
+use toy_rows::{Unanswered, add_part, bytes, hexadecimal_of};
 
 /// A program to run.
 #[derive(Drop)]
@@ -63,15 +64,15 @@ fn page(alloc: Global, page: Option<u32>) -> Result<String, Unanswered> {
 /// A register or a number of memory: `xNUMBER`, `byteADDRESS` or `wordADDRESS`.
 fn place(alloc: Global, machine: &Machine, name: &str) -> Result<String, Unanswered> {
     let value = if let Some(number) = name.strip_prefix("x") {
-        let number = number_of(number)?;
+        let number = hexadecimal_of(number)?;
         if number >= 32 {
             return Err(Unanswered::NoRow);
         }
         machine.regs.get(number as u8)
     } else if let Some(addr) = name.strip_prefix("byte") {
-        u32::from(machine.mem.byte(number_of(addr)?))
+        u32::from(machine.mem.byte(hexadecimal_of(addr)?))
     } else if let Some(addr) = name.strip_prefix("word") {
-        let addr = number_of(addr)?;
+        let addr = hexadecimal_of(addr)?;
         if addr % 4 != 0 {
             return Err(Unanswered::NoRow);
         }
@@ -95,12 +96,12 @@ fn fact(alloc: Global, machine: &Machine, name: &str) -> Result<String, Unanswer
     }
 }
 
-/// What a machine has by each of these names.
+/// What a machine has by each of these names, with a comma behind it.
 fn facts(alloc: Global, machine: &Machine, names: &[&str]) -> Result<String, Unanswered> {
     let mut facts = String::new(alloc);
     for name in names {
-        facts.push_str(fact(alloc, machine, name)?.as_str())?;
-        facts.push_str(", ")?;
+        add_part(&mut facts, " ", fact(alloc, machine, name)?.as_str())?;
+        facts.push_str(",")?;
     }
     Ok(facts)
 }

@@ -16,10 +16,12 @@ mod words;
 use io_edge::StdSource;
 use std::io;
 use std::process::ExitCode;
+use toy_rows::answered;
 
 fn main(rt: HostRuntime) -> io::Result<ExitCode> {
     let mut source = StdSource::new(rt.stdin());
-    match rows::answered(rt.alloc(), &mut source) {
+    let mut subject = rows::empty_subject(rt.alloc());
+    match answered(&rt, rt.alloc(), &mut source, &mut subject) {
         Ok(lines) => print!(rt; "{lines}")?,
         Err(_) => return Ok(ExitCode::from(9)),
     }

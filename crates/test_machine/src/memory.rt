@@ -1,8 +1,9 @@
 //! Rows of a memory. There are two: rows speak of the first, and `copy` and `exchange` reach the other.
-use crate::words::{Unanswered, bytes, number, written};
+use crate::words::{number, written};
 use mem_plain::PlainMem;
 use std::alloc::Global;
 use std::mem::{replace, swap};
+use toy_rows::{Unanswered, bytes};
 
 /// The two memories.
 #[derive(Drop)]

@@ -1,19 +1,15 @@
 //! The rows, and what each calls.
 use crate::machine::Program;
 use crate::memory::Memories;
-use crate::words::{Unanswered, bytes, word};
 use crate::{decoding, images, machine, memory};
-use io_edge::{Source, read_all};
 use mem_plain::PlainMem;
-use rd_base::Memory;
 use std::alloc::Global;
-
-/// The most bytes of all rows.
-const MOST: usize = 1_048_576;
+use std::thread::Threads;
+use toy_rows::{Table, Unanswered, bytes, parts_of, word};
 
 /// What rows speak of: two memories, a program and a file.
 #[derive(Drop)]
-struct Table {
+pub struct Subject {
     memories: Memories,
     program: Program,
     file: Vec<u8>,
@@ -92,10 +88,14 @@ fn of_words(alloc: Global, program: &Program, words: &[&str]) -> Result<String, 
 }
 
 /// The answer to a row that calls.
-fn answer_to_call(alloc: Global, table: &mut Table, words: &[&str]) -> Result<String, Unanswered> {
-    match of_words(alloc, &table.program, words) {
+fn answer_to_call(
+    alloc: Global,
+    subject: &mut Subject,
+    words: &[&str],
+) -> Result<String, Unanswered> {
+    match of_words(alloc, &subject.program, words) {
         Err(Unanswered::NoRow) => {
-            of_images(alloc, &mut table.memories, table.file.as_slice(), words)
+            of_images(alloc, &mut subject.memories, subject.file.as_slice(), words)
         }
         answered => answered,
     }
@@ -120,52 +120,29 @@ fn take_program(
 }
 
 /// The answer to a row that says of what the rows below it speak, or to one that calls.
-fn answer(alloc: Global, table: &mut Table, words: &[&str]) -> Result<String, Unanswered> {
+fn answer(alloc: Global, subject: &mut Subject, words: &[&str]) -> Result<String, Unanswered> {
     match word(words, 0)? {
-        "file" => take_file(alloc, &mut table.file, words),
-        "program" => take_program(alloc, &mut table.program, words),
-        _ => answer_to_call(alloc, table, words),
+        "file" => take_file(alloc, &mut subject.file, words),
+        "program" => take_program(alloc, &mut subject.program, words),
+        _ => answer_to_call(alloc, subject, words),
     }
 }
 
-/// The words of a row, between single spaces.
-fn words_of<'a>(alloc: Global, row: &'a str) -> Result<Vec<&'a str>, Memory> {
-    let mut words = Vec::new(alloc);
-    for word in row.split(' ') {
-        words.push(word)?;
-    }
-    Ok(words)
-}
-
-/// Adds an answer, if there is one, behind two spaces.
-fn add_text(lines: &mut String, text: &str) -> Result<(), Memory> {
-    if text.is_empty() {
-        return Ok(());
-    }
-    lines.push_str("  ")?;
-    lines.push_str(text.trim_end())?;
-    lines.push_str("\n")?;
-    Ok(())
-}
-
-/// Adds a row's answer.
-fn add_answer(
-    alloc: Global,
-    lines: &mut String,
-    table: &mut Table,
-    row: &str,
-) -> Result<(), Memory> {
-    let words = words_of(alloc, row)?;
-    match answer(alloc, table, words.as_slice()) {
-        Ok(text) => add_text(lines, text.as_str()),
-        Err(Unanswered::NoRow) => add_text(lines, "no such row"),
-        Err(Unanswered::Memory) => Err(Memory),
+impl Table for Subject {
+    fn answer<R: Threads + Sync>(
+        &mut self,
+        _rt: &R,
+        alloc: Global,
+        row: &str,
+    ) -> Result<String, Unanswered> {
+        let words = parts_of(alloc, row, ' ')?;
+        answer(alloc, self, words.as_slice())
     }
 }
 
-/// The table before the first row: empty memories, program and file.
-fn empty_table(alloc: Global) -> Table {
-    Table {
+/// What the first row speaks of: empty memories, program and file.
+pub fn empty_subject(alloc: Global) -> Subject {
+    Subject {
         memories: Memories {
             first: PlainMem::new(alloc),
             other: PlainMem::new(alloc),
@@ -177,36 +154,4 @@ fn empty_table(alloc: Global) -> Table {
         },
         file: Vec::new(alloc),
     }
-}
-
-/// The text of a source. An `Err` is out of memory, or the source can't be read.
-fn text_of<S: Source>(alloc: Global, source: &mut S) -> Result<String, Memory> {
-    let Ok(bytes) = read_all(alloc, source, MOST) else {
-        return Err(Memory);
-    };
-    match String::from_utf8(bytes) {
-        Ok(text) => Ok(text),
-        Err(_) => Err(Memory),
-    }
-}
-
-/// Adds a row and its answer. A comment and an empty row have none.
-fn add_row(alloc: Global, lines: &mut String, table: &mut Table, row: &str) -> Result<(), Memory> {
-    lines.push_str(row)?;
-    lines.push_str("\n")?;
-    if row.is_empty() || row.starts_with('#') {
-        return Ok(());
-    }
-    add_answer(alloc, lines, table, row)
-}
-
-/// The rows of a source, one a line, each with its answer below it. An `Err` is out of memory, or the source can't be read.
-pub fn answered<S: Source>(alloc: Global, source: &mut S) -> Result<String, Memory> {
-    let rows = text_of(alloc, source)?;
-    let mut lines = String::new(alloc);
-    let mut table = empty_table(alloc);
-    for row in rows.as_str().lines() {
-        add_row(alloc, &mut lines, &mut table, row)?;
-    }
-    Ok(lines)
 }

@@ -1,14 +1,23 @@
 //! Changes of the parts of a proof.
 use crate::run::{Run, state_at};
-use crate::words::{Unanswered, number_of};
 use open_proof::{Facts, HeldRegisters, facts_of};
 use rd_base::{Digest32, InOpening, Opening, RegOpening, RegOpenings, Status};
+use toy_rows::{Unanswered, number_of};
 
 /// The digest with its last bit changed.
 fn changed(digest: Digest32) -> Digest32 {
     let mut bytes = digest.0;
     bytes[31] ^= 1;
     Digest32(bytes)
+}
+
+/// Changes the last bit of a digest, at `changed`.
+fn change_digest(digest: &mut Digest32, value: &str) -> Result<(), Unanswered> {
+    if value != "changed" {
+        return Err(Unanswered::NoRow);
+    }
+    *digest = changed(*digest);
+    Ok(())
 }
 
 /// Changes a bit of the byte at a place.
@@ -42,15 +51,10 @@ fn facts_at(run: &Run, step: &str) -> Result<Facts, Unanswered> {
 /// A chunk of memory: `none`, or `fetch@STEP` or `data@STEP`, that of the plain proof of a step.
 fn chunk_of(run: &Run, text: &str) -> Result<Option<Opening>, Unanswered> {
     match text.split_once('@') {
-        Some((part, step)) => {
-            let facts = facts_at(run, step)?;
-            Ok(if part == "fetch" {
-                facts.fetch
-            } else {
-                facts.operand
-            })
-        }
-        None => Ok(None),
+        Some(("fetch", step)) => Ok(facts_at(run, step)?.fetch),
+        Some(("data", step)) => Ok(facts_at(run, step)?.operand),
+        None if text == "none" => Ok(None),
+        _ => Err(Unanswered::NoRow),
     }
 }
 
@@ -64,7 +68,7 @@ fn input_of(run: &Run, text: &str) -> Result<Option<InOpening>, Unanswered> {
 
 /// An opened register: the place of one that the plain proof opens, with `.value` or `.siblingLEVEL` behind it if that is changed.
 fn register_of(opened: &[RegOpening], text: &str) -> Result<RegOpening, Unanswered> {
-    let (place, change) = text.split_once('.').unwrap_or((text, ""));
+    let (place, change) = text.split_once('.').unwrap_or((text, "plain"));
     let Some(opening) = opened.get(number_of(place)? as usize) else {
         return Err(Unanswered::NoRow);
     };
@@ -73,6 +77,8 @@ fn register_of(opened: &[RegOpening], text: &str) -> Result<RegOpening, Unanswer
         change_sibling(&mut opening.path.0, level)?;
     } else if change == "value" {
         opening.value ^= 1;
+    } else if change != "plain" {
+        return Err(Unanswered::NoRow);
     }
     Ok(opening)
 }
@@ -84,9 +90,10 @@ fn registers_of(opened: &[RegOpening], text: &str) -> Result<RegOpenings, Unansw
         return Ok(registers);
     }
     for part in text.split(',') {
-        if registers.as_slice().len() < 3 {
-            registers.push(register_of(opened, part)?);
+        if registers.as_slice().len() >= 3 {
+            return Err(Unanswered::NoRow);
         }
+        registers.push(register_of(opened, part)?);
     }
     Ok(registers)
 }
@@ -99,7 +106,7 @@ fn change_registers(held: &mut HeldRegisters, name: &str, value: &str) -> Result
             _ => return Err(Unanswered::NoRow),
         },
         HeldRegisters::Opened(root, named) => match name {
-            "registers" => *root = changed(*root),
+            "registers" => change_digest(root, value)?,
             "named" => *named = registers_of(named.as_slice(), value)?,
             _ => return Err(Unanswered::NoRow),
         },
@@ -114,7 +121,7 @@ fn change_trees(facts: &mut Facts, name: &str, value: &str) -> Result<(), Unansw
     };
     match name {
         "input_len" => tree.len = number_of(value)?,
-        "input_root" => tree.root = changed(tree.root),
+        "input_root" => change_digest(&mut tree.root, value)?,
         _ => return change_registers(&mut facts.regs, name, value),
     }
     Ok(())
@@ -123,11 +130,11 @@ fn change_trees(facts: &mut Facts, name: &str, value: &str) -> Result<(), Unansw
 /// Changes a control field, the root of memory, or what `change_trees` does.
 fn change_fields(facts: &mut Facts, name: &str, value: &str) -> Result<(), Unanswered> {
     match name {
-        "memory" => facts.mem = changed(facts.mem),
+        "memory" => change_digest(&mut facts.mem, value)?,
         "pc" => facts.ctl.pc = number_of(value)?,
         "exited" => facts.ctl.status = Status::Exited(number_of(value)?),
         "out_len" => facts.ctl.out_len = u64::from(number_of(value)?),
-        "chain" => facts.ctl.chain = changed(facts.ctl.chain),
+        "chain" => change_digest(&mut facts.ctl.chain, value)?,
         _ => return change_trees(facts, name, value),
     }
     Ok(())
@@ -142,7 +149,8 @@ fn change_inside(
 ) -> Result<(), Unanswered> {
     match part {
         "byte" => change_byte(chunk, place),
-        _ => change_sibling(siblings, place),
+        "sibling" => change_sibling(siblings, place),
+        _ => Err(Unanswered::NoRow),
     }
 }
 
@@ -179,7 +187,8 @@ pub fn change(run: &Run, facts: &mut Facts, name: &str, value: &str) -> Result<(
         Some((chunk, part)) => match chunk {
             "fetch" => change_chunk(&mut facts.fetch, part, value),
             "data" => change_chunk(&mut facts.operand, part, value),
-            _ => change_input(&mut facts.input, part, value),
+            "input" => change_input(&mut facts.input, part, value),
+            _ => Err(Unanswered::NoRow),
         },
         None => change_part(run, facts, name, value),
     }

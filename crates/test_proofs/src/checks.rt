@@ -3,7 +3,6 @@ ghost use Rattle.std.specs.Prelude.{◌≡◌};
 
 use crate::changes::change;
 use crate::run::{Run, state_at};
-use crate::words::{Unanswered, number, number_of};
 use digest_core::Sha256;
 use open_proof::{Facts, HeldInput, HeldRegisters, facts_of};
 use rd_base::{Digest32, Proof, StepProof, StepProof2, StepProof3, Steps};
@@ -11,6 +10,7 @@ use std::alloc::Global;
 use std::marker::Brand;
 use std::sync::ledger::{Blank, Ledger};
 use step_referee::{StepCheck, check_step};
+use toy_rows::{Unanswered, number, number_of};
 
 /// What the referee is asked.
 #[derive(Drop)]
@@ -81,6 +81,15 @@ fn checked(version: u32, a: Digest32, proof: &Proof) -> StepCheck {
     checked_in::<Brand>(version, a, proof, Blank::new(1))
 }
 
+/// The root that a proof is to open: `next`, that of the next state, or `zero`.
+fn root_of(text: &str, next: Digest32) -> Result<Digest32, Unanswered> {
+    match text {
+        "next" => Ok(next),
+        "zero" => Ok(Digest32::ZERO),
+        _ => Err(Unanswered::NoRow),
+    }
+}
+
 /// Changes what is asked: `referee=VERSION`, `from=ROOT`, or a change of the proof.
 fn change_question(
     run: &Run,
@@ -93,11 +102,7 @@ fn change_question(
     };
     match name {
         "referee" => question.version = number_of(value)?,
-        "from" => question.root = if value == "next" {
-            next
-        } else {
-            Digest32::ZERO
-        },
+        "from" => question.root = root_of(value, next)?,
         _ => return change(run, &mut question.facts, name, value),
     }
     Ok(())
@@ -125,6 +130,10 @@ pub fn check(alloc: Global, run: &Run, words: &[&str]) -> Result<String, Unanswe
     let step = number(words, 1)?;
     let state = state_at(run, step)?;
     let next = state_at(run, step.saturating_add(1))?.root;
+    if words.len() == 2 {
+        let result = checked(run.version, state.root, &state.proof);
+        return Ok(String::from_str(alloc, said(result, state.root, next))?);
+    }
     let mut question = Question {
         version: run.version,
         root: state.root,

@@ -1,7 +1,7 @@
 //! Rows of claims and their collisions, of the chain of an output, and of the judge.
 use crate::run::{Run, State, state_at};
 use crate::strings::{ONE_VALUE, pair};
-use crate::words::{Unanswered, bytes, bytes_of, digest, number};
+use crate::words::digest;
 use bisect_game::Judge;
 use digest_core::{Digester, Sha256};
 use out_chain::{
@@ -10,6 +10,7 @@ use out_chain::{
 use rd_base::{Claim, ClaimOutput, Ctl, Digest32, Status};
 use std::alloc::Global;
 use step_referee::MachineJudge;
+use toy_rows::{Unanswered, bytes, bytes_of, number};
 
 /// Whether the plain proof of a state leads to the next root for the judge of a version.
 fn leads(version: u32, state: &State, next: Digest32) -> bool {

@@ -1,6 +1,6 @@
 //! Rows of the collisions of two proofs, by the digest function with one value, which finds them in any two different strings.
 use crate::strings::{ONE_VALUE, pair};
-use crate::words::{Unanswered, digest, number, numbers_of, word};
+use crate::words::{digest, numbers_of};
 use digest_core::Digester;
 use open_proof::step_collision;
 use rd_base::{
@@ -8,6 +8,7 @@ use rd_base::{
     Status, StepProof, StepProof2, StepProof3,
 };
 use std::alloc::Global;
+use toy_rows::{Unanswered, number, word};
 
 /// A chunk with this word at its start.
 fn chunk_of(word: [u8; 4]) -> [u8; 32] {
@@ -104,8 +105,8 @@ fn reading(input_len: u32, x17: u32, byte: u8) -> Proof {
 }
 
 /// A number as a byte.
-fn byte_of(number: u32) -> u8 {
-    (number % 256) as u8
+fn byte_of(number: u32) -> Result<u8, Unanswered> {
+    u8::try_from(number).or(Err(Unanswered::NoRow))
 }
 
 /// The proof that the word at a place writes: its version, and the numbers of a proof of this version.
@@ -113,10 +114,10 @@ fn proof(alloc: Global, words: &[&str], at: usize) -> Result<Proof, Unanswered> 
     let numbers = numbers_of(alloc, word(words, at)?)?;
     match numbers.as_slice() {
         [1, x5, out_len, sibling, byte] => {
-            Ok(whole(*x5, *out_len, byte_of(*sibling), byte_of(*byte)))
+            Ok(whole(*x5, *out_len, byte_of(*sibling)?, byte_of(*byte)?))
         }
-        [2, x5, sibling, byte] => Ok(opened(*x5, byte_of(*sibling), byte_of(*byte))),
-        [3, input_len, x17, byte] => Ok(reading(*input_len, *x17, byte_of(*byte))),
+        [2, x5, sibling, byte] => Ok(opened(*x5, byte_of(*sibling)?, byte_of(*byte)?)),
+        [3, input_len, x17, byte] => Ok(reading(*input_len, *x17, byte_of(*byte)?)),
         _ => Err(Unanswered::NoRow),
     }
 }

@@ -1,6 +1,6 @@
 //! Rows of what plain proofs open.
 use crate::run::{Run, State, state_at};
-use crate::words::{Unanswered, number, number_of, numbers_of, word};
+use crate::words::{index_of, numbers_of};
 use digest_core::{Sha256, leaf_text, register_text};
 use merkle_nodes::climb;
 use open_proof::{Facts, HeldRegisters, facts_of};
@@ -9,30 +9,29 @@ use rd_base::{Answer, Boxed, Digest32, OpenText, Opening, RegOpening};
 use rv_decode::decode;
 use rv_step::named_by;
 use std::alloc::Global;
+use toy_rows::{Unanswered, add_part, number, word};
 
 /// Whether a leaf climbs by its path to a root.
 fn climbs(index: u32, leaf: &OpenText, siblings: &[Digest32], root: Digest32) -> bool {
     climb(Sha256, index, leaf, siblings) == root
 }
 
-/// Whether a chunk is there with this index, and climbs to the root of memory; or, at `none`, isn't there.
-fn opens(chunk: &Option<Opening>, index: &str, mem: Digest32) -> Result<bool, Unanswered> {
-    match chunk {
-        Some(opening) => Ok(climbs(
-            number_of(index)?,
-            &leaf_text(&opening.chunk),
-            &opening.path.0,
-            mem,
-        )),
-        None => Ok(index == "none"),
+/// Whether a chunk is there with this index, and climbs to the root of memory; or, without an index, isn't there.
+fn opens(chunk: &Option<Opening>, index: Option<u32>, mem: Digest32) -> bool {
+    match (chunk, index) {
+        (Some(opening), Some(index)) => {
+            climbs(index, &leaf_text(&opening.chunk), &opening.path.0, mem)
+        }
+        (None, None) => true,
+        _ => false,
     }
 }
 
 /// Whether a proof opens these chunks: `FETCHED`, or `FETCHED+DATA`.
 fn chunks_open(facts: &Facts, wanted: &str) -> Result<bool, Unanswered> {
     let (fetch, data) = wanted.split_once('+').unwrap_or((wanted, "none"));
-    let is_fetched = opens(&facts.fetch, fetch, facts.mem)?;
-    let is_there = opens(&facts.operand, data, facts.mem)?;
+    let is_fetched = opens(&facts.fetch, index_of(fetch)?, facts.mem);
+    let is_there = opens(&facts.operand, index_of(data)?, facts.mem);
     Ok(is_fetched && is_there)
 }
 
@@ -61,18 +60,16 @@ fn registers_open(alloc: Global, facts: &Facts, wanted: &str) -> Result<bool, Un
 }
 
 /// Whether a proof opens the chunk of the input with this index, or none.
-fn input_opens(facts: &Facts, wanted: &str) -> Result<bool, Unanswered> {
-    let Some(tree) = &facts.input_tree else {
-        return Ok(false);
-    };
-    match &facts.input {
-        Some(opening) => Ok(climbs(
-            number_of(wanted)?,
+fn input_opens(facts: &Facts, index: Option<u32>) -> bool {
+    match (&facts.input_tree, &facts.input, index) {
+        (Some(tree), Some(opening), Some(index)) => climbs(
+            index,
             &leaf_text(&opening.chunk),
             &opening.path.0,
             tree.root,
-        )),
-        None => Ok(wanted == "none"),
+        ),
+        (Some(_tree), None, None) => true,
+        _ => false,
     }
 }
 
@@ -82,7 +79,8 @@ fn state_opens(alloc: Global, state: &State, kind: &str, wanted: &str) -> Result
     match kind {
         "chunks" => chunks_open(&facts, wanted),
         "registers" => registers_open(alloc, &facts, wanted),
-        _ => input_opens(&facts, wanted),
+        "input" => Ok(input_opens(&facts, index_of(wanted)?)),
+        _ => Err(Unanswered::NoRow),
     }
 }
 
@@ -112,7 +110,7 @@ pub fn names(alloc: Global, words: &[&str]) -> Result<String, Unanswered> {
     let named = named_by(&decode(number(words, 1)?));
     let mut text = String::new(alloc);
     for reg in named.as_slice() {
-        text.push_str(format!(in alloc; "x{reg} ")?.as_str())?;
+        add_part(&mut text, " ", format!(in alloc; "x{reg}")?.as_str())?;
     }
     if text.is_empty() {
         text.push_str("none")?;

@@ -2,7 +2,6 @@
 ghost use Rattle.std.specs.Prelude.{◌≡◌, ◌≤◌, IfOk};
 ghost use Rattle.rv_step.specs.State.{IsChained};
 
-use crate::words::Unanswered;
 use digest_core::Sha256;
 use mem_plain::PlainMem;
 use open_proof::{make_claim, make_proof};
@@ -11,6 +10,7 @@ use rv_step::Machine;
 use state_commit::Committed;
 use std::alloc::Global;
 use std::thread::Threads;
+use toy_rows::Unanswered;
 
 /// A state of a machine.
 #[derive(Drop)]

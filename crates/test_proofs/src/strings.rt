@@ -1,9 +1,9 @@
 //! Strings that collide, as texts.
-use crate::words::Unanswered;
 use digest_core::Sha256;
 use rd_base::OpenText;
 use std::alloc::Global;
 use toy_machine::OneValue;
+use toy_rows::Unanswered;
 
 /// The digest function with one value, SHA-256 of nothing.
 pub const ONE_VALUE: OneValue<Sha256> = OneValue { of: Sha256 };
