@@ -1,12 +1,24 @@
-//! Tests of the values that all crates share, of sources and sinks, and of the texts of faults.
+//! Tests of the values that all crates share, of sources and sinks, of wire forms, and of the texts of faults.
 //!
 //! No layer of the product depends on this crate. `rd_base_test` and `io_edge_test` have the tests of those crates, and `fault_texts_test`
-//! those of the texts of faults.
+//! those of the texts of faults. The tests of wire forms lay bytes out in `runs` and make answers in `answers`: `wire_rules_test` has bytes
+//! and the first rule that they break; the other two have answers and their bytes, with each field at its ends (`wire_ends_test`) and in its
+//! place (`wire_places_test`).
 #![tactic(auto)]
 
+#[cfg(test)]
+mod answers;
 #[cfg(test)]
 mod fault_texts_test;
 #[cfg(test)]
 mod io_edge_test;
 #[cfg(test)]
 mod rd_base_test;
+#[cfg(test)]
+mod runs;
+#[cfg(test)]
+mod wire_ends_test;
+#[cfg(test)]
+mod wire_places_test;
+#[cfg(test)]
+mod wire_rules_test;

@@ -1,6 +1,6 @@
 //! The program `test_proofs`: tests claims and proofs of one step, in each version of the commitment: the chain of an output, what plain
 //! proofs open, changed proofs, the collisions of two, and the referee. A row of its standard input is a call. Their form as bytes is
-//! tested in `test_wire`.
+//! tested in `test_edge`.
 //!
 //! No layer of the product depends on this crate. It writes each row with its answer below it, behind two spaces. Lines that begin with
 //! `#`, and empty ones, are written as they are. So `stdout` is the table to read, and `stdin` is `stdout` without its answers. `rows`

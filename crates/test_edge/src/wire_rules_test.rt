@@ -4,7 +4,6 @@ use crate::runs::{Run, assert_form, broken_rule, laid_out, rule_of_step};
 use proof_wire::WireFault;
 use rd_base::{Answer, Digest32};
 use std::alloc::{AllocError, Global};
-use std::process::Abort;
 use std::test::Fail;
 
 /// Bytes, and the first rule that they break.
@@ -26,18 +25,16 @@ fn rule_for_step(bytes: &[u8], rule: u32) -> u32 {
     }
 }
 
-/// Asserts of each row which rule its bytes break, as an answer and as a step alone.
-fn assert_rules(rt: &impl Abort, alloc: Global, table: &[Row]) -> Result<(), Fail> {
-    for row in table {
+/// The first row whose bytes break another rule, as an answer or as a step alone.
+fn first_other(alloc: Global, rows: &[Row]) -> Result<Option<usize>, Fail> {
+    for (place, row) in rows.iter().enumerate() {
         let bytes = laid_out(alloc, row.bytes)?;
         let of_step = rule_for_step(&bytes, row.rule);
-        assert_eq!(rt;
-            (broken_rule(alloc, &bytes), rule_of_step(&bytes)),
-            (row.rule, of_step),
-            "{row:?}"
-        );
+        if broken_rule(alloc, &bytes) != row.rule || rule_of_step(&bytes) != of_step {
+            return Ok(Some(place));
+        }
     }
-    Ok(())
+    Ok(None)
 }
 
 const ROWS: [Row; 10] = [
@@ -85,13 +82,6 @@ const ROWS: [Row; 10] = [
         rule: 1,
     },
 ];
-
-#[test]
-fn wire_rows(rt: HostRuntime) -> Result<(), Fail> {
-    assert_rules(&rt, rt.alloc(), &ROWS)?;
-    let root = Answer::Root(Digest32::ZERO);
-    assert_form(&rt, rt.alloc(), &root, &[(2, 1), (0, 32)])
-}
 
 const FIRST_BROKEN: [Row; 19] = [
     Row {
@@ -176,11 +166,6 @@ const FIRST_BROKEN: [Row; 19] = [
         rule: 4,
     },
 ];
-
-#[test]
-fn the_first_broken_rule_is_the_fault(rt: HostRuntime) -> Result<(), Fail> {
-    assert_rules(&rt, rt.alloc(), &FIRST_BROKEN)
-}
 
 const FIRST_BROKEN_OF_ROOTS: [Row; 10] = [
     Row {
@@ -349,10 +334,18 @@ const FIRST_BROKEN_OF_VERSION_3: [Row; 13] = [
 ];
 
 #[test]
-fn the_first_broken_rule_of_newer_forms_is_the_fault(rt: HostRuntime) -> Result<(), Fail> {
-    assert_rules(&rt, rt.alloc(), &FIRST_BROKEN_OF_ROOTS)?;
-    assert_rules(&rt, rt.alloc(), &FIRST_BROKEN_OF_VERSION_2)?;
-    assert_rules(&rt, rt.alloc(), &FIRST_BROKEN_OF_VERSION_3)
+fn the_first_broken_rule_is_the_fault(rt: HostRuntime) -> Result<(), Fail> {
+    let alloc = rt.alloc();
+    let others = [
+        first_other(alloc, &ROWS)?,
+        first_other(alloc, &FIRST_BROKEN)?,
+        first_other(alloc, &FIRST_BROKEN_OF_ROOTS)?,
+        first_other(alloc, &FIRST_BROKEN_OF_VERSION_2)?,
+        first_other(alloc, &FIRST_BROKEN_OF_VERSION_3)?,
+    ];
+    assert_eq!(rt; others, [None; 5]);
+    let root = Answer::Root(Digest32::ZERO);
+    assert_form(&rt, alloc, &root, &[(2, 1), (0, 32)])
 }
 
 /// A fault, the number of its rule, and its text.
@@ -400,8 +393,7 @@ fn a_fault_says_what_is_wrong(rt: HostRuntime) -> Result<(), Fail> {
     ];
     for Said { fault, rule, text } in faults {
         let printed = format!(in rt.alloc(); "{fault}")?;
-        assert_eq!(rt; printed.as_str(), text);
-        assert_eq!(rt; fault.rule(), rule, "{text}");
+        assert!(rt; printed.as_str() == text && fault.rule() == rule, "{text}");
     }
     Ok(())
 }
