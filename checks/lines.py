@@ -3,9 +3,9 @@
 
     checks/lines.py FILE            a line for each of these changes to the text in FILE: what was done, and what `refcli audit` has to write
     checks/lines.py --answers FILE  only what it has to write
-    checks/lines.py --stored FILE   the same of the text of each row of FILE whose command is `each line changed`, behind the row's name, for
-                                    texts that are cut and lines that are exchanged, left out and doubled: lines of crates/test_refcli/stdout for
-                                    the rows of crates/test_refcli/stdin, which `rt ci` compares
+    checks/lines.py --stored FILE   the same of the text of each row of FILE whose command is `each line changed`, behind the row's name,
+                                    for texts that are cut and lines that are exchanged, left out and doubled: lines of
+                                    crates/test_refcli/stdout for the rows of crates/test_refcli/stdin, which `rt ci` compares
 
 It is written from docs/PROGRAM.md, docs/AUDIT.md and docs/COMMITMENTS.md, and no code is taken from the crates. FILE has to be the full
 text of a match, which `refcli audit` confirms. Its order of lines, who is asked what, and whether each claim is sound are tested here
