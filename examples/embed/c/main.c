@@ -5,6 +5,7 @@
  */
 #include "coshalit.h"
 
+#include <errno.h>
 #include <stdio.h>
 #include <stdlib.h>
 #include <string.h>
@@ -37,8 +38,9 @@ static unsigned char *read_input(size_t *length) {
 }
 
 static int digit_of(char letter) {
-    const char *digits = "0123456789abcdef", *found = letter != 0 ? strchr(digits, letter) : NULL;
-    return found != NULL ? (int)(found - digits) : -1;
+    const char *digits = "0123456789abcdefABCDEF", *found = letter != 0 ? strchr(digits, letter) : NULL;
+    int digit = found != NULL ? (int)(found - digits) : -1;
+    return digit < 16 ? digit : digit - 6;
 }
 
 /* The bytes of a word of hexadecimal digits, in its own place; how many, or -1 if it is no such word. */
@@ -52,17 +54,28 @@ static long bytes_of(char *word) {
     return count;
 }
 
+/* Whether a word is the decimal number of a version; what it is. */
+static int is_version(const char *word, uint32_t *version) {
+    char *end = NULL;
+    errno = 0;
+    unsigned long long number = word != NULL && *word >= '0' && *word <= '9' ? strtoull(word, &end, 10) : UINT64_MAX;
+    if (number > UINT32_MAX || errno != 0 || *end != 0) return 0;
+    *version = (uint32_t)number;
+    return 1;
+}
+
 /* Rules on the step of a line, which is changed. */
 static int rule_on(char *line) {
-    char nothing[1] = "", *version = strtok(line, " "), *root = strtok(NULL, " "), *proof = strtok(NULL, " ");
+    uint32_t version;
+    char nothing[1] = "", *first = strtok(line, " "), *root = strtok(NULL, " "), *proof = strtok(NULL, " ");
     if (proof == NULL) proof = nothing;
     long root_length = root != NULL ? bytes_of(root) : -1, proof_length = bytes_of(proof);
-    if (root_length < 0 || proof_length < 0) {
+    if (!is_version(first, &version) || root_length < 0 || proof_length < 0) {
         fprintf(stderr, "embed: a line is VERSION ROOT PROOF\n");
         return 2;
     }
     unsigned char next[COSHALIT_ROOT_BYTES];
-    switch (coshalit_check_step((uint32_t)strtoul(version, NULL, 10), (unsigned char *)root, (size_t)root_length, (unsigned char *)proof,
+    switch (coshalit_check_step(version, (unsigned char *)root, (size_t)root_length, (unsigned char *)proof,
                                 (size_t)proof_length, next, sizeof next)) {
     case COSHALIT_LEADS:
         printf("leads ");

@@ -20,7 +20,7 @@ fn bytes_of(word: &str) -> Option<Vec<u8>> {
 /// The ruling on the step of a line, in words.
 fn ruling_on(line: &str) -> Option<String> {
     let mut words = line.split(' ');
-    let version = words.next()?.parse().ok()?;
+    let version = words.next().filter(|word| word.bytes().all(|letter| letter.is_ascii_digit()))?.parse().ok()?;
     let root = bytes_of(words.next()?)?;
     let proof = bytes_of(words.next().unwrap_or(""))?;
     let Ok(root) = root.try_into() else {
