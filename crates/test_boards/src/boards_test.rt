@@ -129,16 +129,22 @@ const ROWS: [Row; 3] = [
         ],
         entries: 2,
     },
-    // a player that passes once on each question: its pass and two claims of two seats are at three places of one journal, and its second
-    // question shows the pass
+    // a player that passes once on each question: its pass and two claims of two seats are at three places of one journal, its second
+    // question shows the pass, and with both claims the match is over
     Row {
         players: [Player { late: 1, ..HONEST }, HONEST, SILENT],
         patience: 1,
-        acts: &[(1, 0, false), (2, 100, true), (1, 100, false)],
+        acts: &[
+            (1, 0, false),
+            (2, 100, true),
+            (1, 100, false),
+            (2, 100, false),
+        ],
         turns: &[
             (Asked::Claim(0), Replied::Taken, Some(0)),
             (Asked::Claim(0), Replied::Taken, Some(1)),
             (Asked::Claim(1), Replied::Taken, Some(2)),
+            (Asked::Over, Replied::Stale(None), None),
         ],
         entries: 3,
     },

@@ -72,6 +72,7 @@ fn eight_tasks_of_sixteen_provers(rt: HostRuntime) -> Result<(), Fail> {
         assert!(rt; cast.count == 16);
         wanted.add_played(&rt, rt.alloc(), &[cast], 1, &OpenGate)?;
     }
+    assert!(rt; wanted.shorts.len() == 8);
     for short in wanted.shorts.iter() {
         assert!(rt; short.0 == 24);
     }

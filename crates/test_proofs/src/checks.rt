@@ -125,13 +125,18 @@ fn said(checked: StepCheck, root: Digest32, next: Digest32) -> &'static str {
     }
 }
 
-/// `check STEP CHANGE ..`: the answer of the referee to the plain proof of a step after these changes.
+/// `check STEP CHANGE ..`: the answer of the referee to the plain proof of a step after these changes. Without one it is asked about the
+/// proof itself and about the one that its parts make, as the changed ones are made.
 pub fn check(alloc: Global, run: &Run, words: &[&str]) -> Result<String, Unanswered> {
     let step = number(words, 1)?;
     let state = state_at(run, step)?;
     let next = state_at(run, step.saturating_add(1))?.root;
     if words.len() == 2 {
         let result = checked(run.version, state.root, &state.proof);
+        let of_parts = proof_of(facts_of(&state.proof));
+        if checked(run.version, state.root, &of_parts) != result {
+            return Ok(String::from_str(alloc, "the parts make another proof")?);
+        }
         return Ok(String::from_str(alloc, said(result, state.root, next))?);
     }
     let mut question = Question {
