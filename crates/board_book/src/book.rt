@@ -1,4 +1,4 @@
-//! The book of one match.
+//! The book of one match, and how many entries its journal can have.
 ghost use denote.Param.Send.{IsSync};
 ghost use Rattle.std.specs.Prelude.{◌≡◌, ◌+◌, ◌<◌, ◌≤◌, ◌^◌, ◌∷◌, ◌++◌, [], ℕ, List, Some, None, if◌then◌else◌, IfOk, IfErr, IfSome, IfNone, length, true, is_none};
 ghost use Rattle.bisect_game.specs.declared.settled.Question.{Question};
@@ -18,7 +18,6 @@ ghost use Rattle.board_book.specs.declared.entry.Entry.{Entry};
 ghost use Rattle.board_book.specs.Tasks.{match_of};
 ghost use Rattle.board_book.specs.Entries.{IsJournal, state_after, noted, ask_on, waits_on};
 
-use crate::books::most_entries;
 use crate::entry::{Ask, Entry};
 use bisect_game::{Answerer, Judge, Provers, Question, Setup};
 use rd_base::{Digest32, Memory, Qid};
@@ -29,6 +28,47 @@ use tournament::{
     Match, Move, Record, Reply, Verdict, a_number_names_one_question, is_pass, is_stale, move_of,
     one_record_of_a_case, spare_is_enough, truthful_provers_are_safe,
 };
+
+/// The most bisection rounds of a dispute: the greatest k with `F^k < F * N`, for rounds of F parts and the bound N.
+fn most_rounds(bound: u64, fan: u32) -> u64
+    requires steps { 0 < bound }
+    requires short { bound < 2 ^ 32 }
+    requires parted { 1 < fan }
+    requires few_parts { fan ≤ 16 }
+    ensures most { IsMost fan bound result }
+    ensures few { result < 36 }
+{
+    let mut rounds = 0;
+    let mut power = 1;
+    while power < bound {
+        power *= u64::from(fan);
+        rounds += 1;
+    }
+    rounds
+}
+
+/// The most entries of a journal: each question takes one for each pass and one more, and there are a claim of each
+/// prover and two questions in each round.
+fn entries_for(setup: Setup, rounds: u64) -> u64
+    requires few { setup.provers ≤ 16 }
+    requires patience { setup.patience ≤ 100 }
+    requires rounds { rounds < 36 }
+    ensures few { result < 2 ^ 32 }
+    ensures value { result ≡ most_entries setup rounds }
+{
+    let provers = u64::from(setup.provers());
+    (u64::from(setup.patience()) + 1) * (provers + 2 * (provers - 1) * (rounds + 1))
+}
+
+/// The most entries of a journal of a match.
+fn most_entries(setup: Setup) -> u64
+    requires few { setup.provers ≤ 16 }
+    requires patience { setup.patience ≤ 100 }
+    ensures few { result < 2 ^ 32 }
+    ensures most { (k : _) × IsMost setup.fan setup.bound k × (result ≡ most_entries setup k) }
+{
+    entries_for(setup, most_rounds(setup.bound(), setup.fan()))
+}
 
 /// A prover with an open question.
 #[derive(Clone, Copy)]

@@ -1,6 +1,6 @@
-//! The books of many tasks, and how many entries a journal can have.
+//! The books of many tasks.
 ghost use denote.Param.Send.{IsSync};
-ghost use Rattle.std.specs.Prelude.{◌≡◌, ℕ, ◌+◌, ◌-◌, ◌<◌, ◌≤◌, ◌++◌, [], ◌∷◌, true, take, drop, map, List, Some, IfOk, length, ◌*◌, ◌^◌};
+ghost use Rattle.std.specs.Prelude.{◌≡◌, ℕ, ◌+◌, ◌-◌, ◌<◌, ◌≤◌, ◌++◌, [], ◌∷◌, true, take, drop, map, List, Some, IfOk, length};
 ghost use Rattle.std.specs.List.{All};
 ghost use Rattle.bisect_game.specs.declared.settled.Question.{Question};
 ghost use Rattle.bisect_game.specs.Says.{AnswerAs};
@@ -13,57 +13,15 @@ ghost use Rattle.board_book.specs.declared.entry.Entry.{Entry};
 ghost use Rattle.board_book.specs.Entries.{ask_on};
 ghost use Rattle.board_book.specs.Tasks.{numbered, games_of, IsTaskJournal, entries_of, BookOf, of_task, openings, tasks_of, sayings, PostedTo};
 ghost use Rattle.board_book.specs.Keeping.{HasRoom, PlaysOn};
-ghost use Rattle.tournament.specs.Length.{IsMost, most_entries};
 
 use crate::book::Book;
 use crate::entry::{Ask, Entry};
-use bisect_game::{Answerer, Judge, Provers, Setup};
+use bisect_game::{Answerer, Judge, Provers};
 use rd_base::{Memory, Qid};
 use std::alloc::Global;
 use std::marker::Model;
 use std::thread::Threads;
 use tournament::{Move, Reply};
-
-/// The most bisection rounds of a dispute: the greatest k with `F^k < F * N`, for rounds of F parts and the bound N.
-fn most_rounds(bound: u64, fan: u32) -> u64
-    requires steps { 0 < bound }
-    requires short { bound < 2 ^ 32 }
-    requires parted { 1 < fan }
-    requires few_parts { fan ≤ 16 }
-    ensures most { IsMost fan bound result }
-    ensures few { result < 36 }
-{
-    let mut rounds = 0;
-    let mut power = 1;
-    while power < bound {
-        power *= u64::from(fan);
-        rounds += 1;
-    }
-    rounds
-}
-
-/// The most entries of a journal: each question takes one for each pass and one more, and there are a claim of each
-/// prover and two questions in each round.
-fn entries_for(setup: Setup, rounds: u64) -> u64
-    requires few { setup.provers ≤ 16 }
-    requires patience { setup.patience ≤ 100 }
-    requires rounds { rounds < 36 }
-    ensures few { result < 2 ^ 32 }
-    ensures value { result ≡ most_entries setup rounds }
-{
-    let provers = u64::from(setup.provers());
-    (u64::from(setup.patience()) + 1) * (provers + 2 * (provers - 1) * (rounds + 1))
-}
-
-/// The most entries of a journal of a match.
-pub(crate) fn most_entries(setup: Setup) -> u64
-    requires few { setup.provers ≤ 16 }
-    requires patience { setup.patience ≤ 100 }
-    ensures few { result < 2 ^ 32 }
-    ensures most { (k : _) × IsMost setup.fan setup.bound k × (result ≡ most_entries setup k) }
-{
-    entries_for(setup, most_rounds(setup.bound(), setup.fan()))
-}
 
 /// The books of 1 to 8 tasks, numbered from 1, and the one journal of all of them.
 ///

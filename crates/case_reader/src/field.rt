@@ -14,7 +14,7 @@ use serde_json::Value;
 use std::alloc::Global;
 
 /// The value of a key. `Missing` comes if the tree isn't an object with this key.
-pub fn value_of<'v>(tree: &'v Value, key: Key) -> Result<&'v Value, CaseFault>
+fn value_of<'v>(tree: &'v Value, key: Key) -> Result<&'v Value, CaseFault>
     ensures { Gives CaseFault.Memory (λ v. view v.now) result (field key (view tree.now)) }
 {
     tree.get(key.name()).ok_or(CaseFault::Missing(key))

@@ -16,7 +16,7 @@
 //! other (the clauses of `add_checkpoint` and `note`); `specs/WrittenPages.antt` defines which pages a step writes. So, beside the versions
 //! of the first checkpoint, a run keeps no more versions than pages are written, which is a part of the invariant of `Run` (`few` in
 //! `specs/Keeping.antt`); the code of `record_run` shows that the first checkpoint has those of the pages in use at step 0 (`used_pages`,
-//! clause `only`). The page of a checkpoint is found by a search among the places of the page's versions (`page_at`). The code of
+//! clause `only`). The page of a checkpoint is found by a search among the places of the page's versions (`last_place`). The code of
 //! `checkpoint` shows how much other memory a checkpoint takes. Read `specs/TamperedRun.antt` first, then `run`, then `recording`.
 //! An `Err` that no comment names is out of memory.
 #![tactic(auto)]

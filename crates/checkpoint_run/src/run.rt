@@ -175,7 +175,14 @@ pub fn machine_at(run: &Run, checkpoint: u64) -> Result<Machine, Memory>
     let mem = restored(run.alloc, &run.versions, &run.index, kept.versions)?;
     let output = Vec::from_slice(run.alloc, &run.output[..kept.ctl.out_len as usize])?;
     let input = Vec::from_slice(run.alloc, &run.input)?;
-    Ok(Machine::of_parts(kept.regs, kept.ctl, mem, output, run.version, input))
+    Ok(Machine {
+        regs: kept.regs,
+        ctl: kept.ctl,
+        mem,
+        output,
+        version: run.version,
+        input,
+    })
 }
 
 /// Takes the machine of step `at`, which is below the bound, to the next step, and counts the step. The result is the pages that were

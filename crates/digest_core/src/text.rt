@@ -7,7 +7,7 @@ use crate::digester::Digester;
 use byteorder::{ByteOrder, LittleEndian};
 use rd_base::{Ctl, Digest32, OpenText, Regs, Status, registers_are_32};
 
-/// The first byte of the string of a leaf of the memory tree. Each kind of string begins with a byte of its own.
+/// The first byte of the string of a leaf of the trees of memory and of the input. Each kind of string begins with a byte of its own.
 const LEAF: u8 = 0;
 
 /// The first byte of the string of an inner node.
@@ -54,7 +54,7 @@ fn append_u64(string: &mut OpenText, number: u64)
     string.extend(&bytes);
 }
 
-/// The string of a leaf of the memory tree, from its chunk: 33 bytes.
+/// The string of a leaf of the tree of memory or of the input, from its chunk: 33 bytes.
 pub fn leaf_text(chunk: &[u8; 32]) -> OpenText
     ensures { result ≡ text.leaf_text chunk.now }
 {
@@ -117,7 +117,9 @@ pub fn control_text(ctl: &Ctl) -> OpenText
     string
 }
 
-/// The string of a state, from the digests of its memory, of its registers string and of its control string: 97 bytes.
+/// The string of a state, from the digest of what it stores (the root of memory, or in version 3 of the commitment the digest of the
+/// storage string), that of its registers (of their string in version 1, else the root of their tree) and that of its control string: 97
+/// bytes.
 pub fn state_text(memory: &Digest32, registers: &Digest32, control: &Digest32) -> OpenText
     ensures { result ≡ text.state_text memory.now.0 registers.now.0 control.now.0 }
 {

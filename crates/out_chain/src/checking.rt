@@ -1,4 +1,5 @@
-//! The root of a state from its parts or from a claim, chains of outputs, and claims checked against these.
+//! The state string and the root of a state from its parts, the root that a claim names, the chain of an output, and whether a claim
+//! agrees with itself.
 ghost use Rattle.std.specs.Prelude.{◌≡◌, true};
 ghost use Rattle.digest_core.specs.Chain as chain;
 ghost use Rattle.out_chain.specs.Soundness.{claim_check, says_sound, is_claim_in_range, is_sound};

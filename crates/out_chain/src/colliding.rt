@@ -40,7 +40,7 @@ fn link_collision<D: Digester>(d: D, first: &[u8], second: &[u8]) -> Option<(Ope
 /// The first two different strings with one digest below the state strings of two claims: their control strings, or the link strings at one
 /// place of their outputs, in this order. The first string is opened by the first claim, the second by the second. It takes no memory.
 #[tactic(auto, unfolding(crate::specs::Collision::first_collision))]
-pub fn collision_below<D: Digester>(
+fn collision_below<D: Digester>(
     d: D,
     first: &Claim,
     second: &Claim,

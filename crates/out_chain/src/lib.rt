@@ -12,5 +12,5 @@ mod colliding;
 mod laws;
 
 pub use checking::{ClaimCheck, chain_of, check_claim, parts_root, parts_text, root_of_claim};
-pub use colliding::{claim_collision, collides, collision_below};
+pub use colliding::{claim_collision, collides};
 pub use laws::{chains_bind_outputs, claims_of_one_root};

@@ -1,4 +1,5 @@
-//! How runs are recorded and replayed, and the plain answers of a recorded run.
+//! How far runs go and how they are recorded and replayed (`Plan`), and the plain answers of a recorded run with the roots that were
+//! made of it.
 ghost use denote.Param.Send.{IsSync};
 ghost use Rattle.std.specs.Prelude.{◌≡◌, ◌<◌, ◌≤◌, ◌^◌, ℕ, IfOk, IfSome, List, length, map};
 ghost use Rattle.checkpoint_run.specs.Recorded.{state_of_step};

@@ -66,13 +66,14 @@ impl ClaimOutput {
     }
 }
 
-/// What a prover claims of the last state of its run: the digests of memory and registers, the control fields, and
+/// What a prover claims of the last state of its run: the digests of what is stored and of the registers, the control fields, and
 /// the output itself.
 #[derive(Debug, Drop)]
 pub struct Claim {
-    /// The digest of memory: the root of its Merkle tree.
+    /// The digest of what is stored: the root of the memory's Merkle tree, or in version 3 of the commitment the digest of the storage
+    /// string, which has that root and the input's.
     pub mem: Digest32,
-    /// The digest of the registers.
+    /// The digest of the registers: of their string in version 1, and from version 2 on the root of their tree.
     pub regs: Digest32,
     /// The control fields.
     pub ctl: Ctl,

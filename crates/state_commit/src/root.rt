@@ -1,4 +1,4 @@
-//! The root of a machine's state in each version of the commitment, and that of a memory, both from scratch.
+//! The root of a machine's state in each version of the commitment, from scratch or from its parts, and that of a memory from scratch.
 ghost use Rattle.std.specs.Prelude.{◌≡◌, ◌==◌, ℕ, ◌+◌, ◌-◌, ◌<◌, ◌≤◌, ◌^◌, if◌then◌else◌, length, replicate, false};
 ghost use Rattle.digest_core.specs.Text.{storage_text as text_of_storage};
 ghost use Rattle.rv_step.specs.State.{state_of, IsChained};

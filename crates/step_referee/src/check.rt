@@ -162,7 +162,7 @@ fn check_facts<C: Counted, L: Ledger>(
 /// calls for it, or there though it doesn't; `NotOpen` if that doesn't open the root of memory; and the same for the chunk of the input
 /// (`not_open`, `wrong_shape`).
 ///
-/// `steps` ticks once for each digest that the answer depends on (by type the functions below make none without a counter, `Counted`),
+/// `steps` ticks once for each digest that the answer depends on (by their type the functions that it calls make none without a counter, `Counted`),
 /// and once for the step of the machine: at most 91, 101 or 103 times, by the version (`few`), and at most 36, 57 or 69 times if there is
 /// no data chunk (`alone`). If it leads, it ticks exactly as often as its openings and its step take (`exactly`). If it refuses, it ticks
 /// exactly as often as the conditions take up to the first that fails, and for those of shape not at all: for the root all strings of the
@@ -243,7 +243,7 @@ fn registers_changed<C: Counted, L: Ledger>(
 }
 
 /// The root of a state, from the digests of its storage and of its registers, by two digests.
-pub(crate) fn root_of<C: Counted, L: Ledger>(
+fn root_of<C: Counted, L: Ledger>(
     c: C,
     storage: &Digest32,
     regs: &Digest32,

@@ -42,7 +42,8 @@ pub enum Reply {
     Faulty,
     /// It was the pass after the patience: the question is settled against the prover.
     Spent,
-    /// The question isn't the prover's open one, which this names if there is one. Nothing changed, and the move is dropped.
+    /// The prover has no open question of this number; the number of its open one is here, if it has one. Nothing changed, and the move
+    /// is dropped.
     Stale(Option<Qid>),
 }
 

@@ -45,7 +45,7 @@ fn no_claims(alloc: Global, many: usize) -> Result<Vec<Option<Settled>>, Memory>
 
 impl Record {
     /// A record of this many provers in which nothing is settled, with room for every dispute that can come.
-    pub(crate) fn new(alloc: Global, provers: usize) -> Result<Record, Memory>
+    fn new(alloc: Global, provers: usize) -> Result<Record, Memory>
         requires { 0 < provers }
         ensures { IfOk result (λ r. r ≡ record { claims = replicate provers None; disputes = [] }) }
     {
@@ -70,7 +70,7 @@ impl Record {
     }
 
     /// Adds a dispute.
-    pub(crate) fn push(&mut self, dispute: Dispute)
+    fn push(&mut self, dispute: Dispute)
         requires { length self.old.disputes + 1 < length self.old.claims }
         ensures { self.new ≡ and_also self.old (dispute ∷ []) }
     {
@@ -87,7 +87,7 @@ impl Record {
     }
 
     /// What a prover is asked is settled.
-    pub(crate) fn put<J: Judge>(&mut self, judge: &J, p: u32, settled: Settled)
+    fn put<J: Judge>(&mut self, judge: &J, p: u32, settled: Settled)
         requires some { 0 < p }
         requires few { p ≤ length self.old.claims }
         ensures { (setup : _) → self.new ≡ put (rules_of (J.ruling (J.names judge.now)) setup) p settled self.old }

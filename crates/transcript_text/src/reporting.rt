@@ -1,4 +1,4 @@
-//! The report of a match: its head, what is claimed, and its verdict.
+//! The report of a match: its head, what is claimed, what its disputes say (`disputes`), its verdict, and the balances.
 ghost use Rattle.std.specs.Prelude.{◌≡◌, ◌++◌, string_bytes, IfOk, OnOk, Some, option_copied};
 ghost use Rattle.transcript_text.specs.StatedVerdict.{settled_at};
 ghost use Rattle.transcript_text.specs.Lines.{accept_line, none_left_line, collision_line, line_of_stated, line_of_accepted, line_of_verdict, lines_of_record, balance_line, pool_line, lines_of_provers, lines_of_balances, out_line, line_of_claim, lines_of_claims};

@@ -36,9 +36,9 @@ use transcript_text::{DigestName, Head};
 
 /// What `judge` is asked for: the digest of the match's commitments, by its name, and the text.
 #[derive(Clone, Copy, Debug)]
-pub struct Asked {
-    pub name: DigestName,
-    pub text: MatchText,
+struct Asked {
+    name: DigestName,
+    text: MatchText,
 }
 
 /// Bytes are below 256.

@@ -37,7 +37,7 @@ pub fn run(alloc: Global, bytes: Vec<u8>) -> Result<Response, Stop>
 }
 
 /// The most steps of a case whose roots are written.
-pub const MAX_ROOTS_BOUND: u64 = 4_096;
+const MAX_ROOTS_BOUND: u64 = 4_096;
 
 /// Refuses a case whose bound is above `MAX_ROOTS_BOUND`.
 fn bound_in(alloc: Global, case: &Case) -> Result<(), Stop>

@@ -33,11 +33,6 @@ slice_bounds-from_slice-end c =
     let stands = stands_within _ c.args.run.now c.run.inside.still c.run.inside.checkpoints.items c.run.inside.versions.items c.run.inside.output.items c.run.inside.version c.run.inside.input.items c.run.invariant.0 c.run.view_is c.args.checkpoint c.index-kept.result.now c.requires (c.index-kept.ensures ∙ ap (λ n. get_or c.run.inside.checkpoints.items n c.index-kept.result.now) (c.place_of-place.ensures.place ∙ (ap (λ cs. found_at cs c.run.inside.every c.args.checkpoint) c.deref.ensures.value ∙ ap (λ (r : Recorded). found_at c.run.inside.checkpoints.items r.every c.args.checkpoint) c.run.view_is))) in
     sym (length-take-le c.index-kept.result.now.ctl.out_len c.deref-3.result.now (subst (λ (xs : List ℕ). c.index-kept.result.now.ctl.out_len ≤ length xs) (sym c.deref-3.ensures.value) stands.output_there))
 
-pub of_parts-requires-clause-counted : goal.of_parts-requires-clause-counted
-of_parts-requires-clause-counted c =
-    let stands = stands_within _ c.args.run.now c.run.inside.still c.run.inside.checkpoints.items c.run.inside.versions.items c.run.inside.output.items c.run.inside.version c.run.inside.input.items c.run.invariant.0 c.run.view_is c.args.checkpoint c.index-kept.result.now c.requires (c.index-kept.ensures ∙ ap (λ n. get_or c.run.inside.checkpoints.items n c.index-kept.result.now) (c.place_of-place.ensures.place ∙ (ap (λ cs. found_at cs c.run.inside.every c.args.checkpoint) c.deref.ensures.value ∙ ap (λ (r : Recorded). found_at c.run.inside.checkpoints.items r.every c.args.checkpoint) c.run.view_is))) in
-    sym (c.in_ok-output.ensures.len ∙ length-take-le c.index-kept.result.now.ctl.out_len c.deref-3.result.now (subst (λ (xs : List ℕ). c.index-kept.result.now.ctl.out_len ≤ length xs) (sym c.deref-3.ensures.value) stands.output_there))
-
 -- the state that a checkpoint stands for, by what was made of it
 made : (c : Checkpoint) (versions : List Version) (output : List ℕ) (mem : Contents) (out : List ℕ) (version : ℕ) (input : List ℕ) → mem ≡ pictured (take c.versions versions) → out ≡ take c.ctl.out_len output
     → record (state_by c versions output version input) { memory = mem; output = out } ≡ state_by c versions output version input
@@ -53,8 +48,7 @@ returns-clause-state c =
     (kept_by c.runs_keep_the_input.ensures.version c.runs_keep_the_input.ensures.input) (c.args.checkpoint * c.args.run.now.every) in
     let input = c.in_ok-input.ensures.items ∙ c.deref-4.ensures.value ∙ its.1 in
     let kept = c.index-kept.result.now in
-    c.of_parts.ensures.state
-    ∙ (made kept _ _ _ _ c.run.inside.version _ mem out
+    (made kept _ _ _ _ c.run.inside.version _ mem out
     ∙ (ap (λ v. state_by kept c.run.inside.versions.items c.run.inside.output.items v c.in_ok-input.input.items) its.0
     ∙ (ap (state_by kept c.run.inside.versions.items c.run.inside.output.items (state_of_step c.args.run.now (c.args.checkpoint * c.args.run.now.every)).version) input
     ∙ stands.state)))
@@ -63,6 +57,5 @@ pub returns-clause-chained : goal.returns-clause-chained
 returns-clause-chained c digest chained =
     let stands = stands_within _ c.args.run.now c.run.inside.still c.run.inside.checkpoints.items c.run.inside.versions.items c.run.inside.output.items c.run.inside.version c.run.inside.input.items c.run.invariant.0 c.run.view_is c.args.checkpoint c.index-kept.result.now c.requires (c.index-kept.ensures ∙ ap (λ n. get_or c.run.inside.checkpoints.items n c.index-kept.result.now) (c.place_of-place.ensures.place ∙ (ap (λ cs. found_at cs c.run.inside.every c.args.checkpoint) c.deref.ensures.value ∙ ap (λ (r : Recorded). found_at c.run.inside.checkpoints.items r.every c.args.checkpoint) c.run.view_is))) in
     let out = c.in_ok-output.ensures.items ∙ ap (take c.index-kept.result.now.ctl.out_len) c.deref-3.ensures.value in
-    ap (λ ctl. ctl.chain.0) c.of_parts.ensures.ctl
-    ∙ (chained_within _ c.args.run.now c.run.inside.still c.run.inside.checkpoints.items c.run.inside.versions.items c.run.inside.output.items c.run.inside.version c.run.inside.input.items c.run.invariant.0 c.run.view_is c.args.checkpoint c.index-kept.result.now c.requires (c.index-kept.ensures ∙ ap (λ n. get_or c.run.inside.checkpoints.items n c.index-kept.result.now) (c.place_of-place.ensures.place ∙ (ap (λ cs. found_at cs c.run.inside.every c.args.checkpoint) c.deref.ensures.value ∙ ap (λ (r : Recorded). found_at c.run.inside.checkpoints.items r.every c.args.checkpoint) c.run.view_is))) refl digest chained
-    ∙ (ap (λ (s : State). chain_of digest s.output) (sym stands.state) ∙ (ap (chain_of digest) (sym out) ∙ ap (λ (s : State). chain_of digest s.output) (sym c.of_parts.ensures.state))))
+    (chained_within _ c.args.run.now c.run.inside.still c.run.inside.checkpoints.items c.run.inside.versions.items c.run.inside.output.items c.run.inside.version c.run.inside.input.items c.run.invariant.0 c.run.view_is c.args.checkpoint c.index-kept.result.now c.requires (c.index-kept.ensures ∙ ap (λ n. get_or c.run.inside.checkpoints.items n c.index-kept.result.now) (c.place_of-place.ensures.place ∙ (ap (λ cs. found_at cs c.run.inside.every c.args.checkpoint) c.deref.ensures.value ∙ ap (λ (r : Recorded). found_at c.run.inside.checkpoints.items r.every c.args.checkpoint) c.run.view_is))) refl digest chained
+    ∙ (ap (λ (s : State). chain_of digest s.output) (sym stands.state) ∙ ap (chain_of digest) (sym out)))

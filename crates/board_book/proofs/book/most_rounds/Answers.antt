@@ -1,6 +1,6 @@
 use Rattle.std.proofs.Common.{arith}
 use Rattle.board_book.proofs.BookLemmas.{most-is, most-small}
-use Rattle.board_book.proofs.books.most_rounds.Goals as goal
+use Rattle.board_book.proofs.book.most_rounds.Goals as goal
 
 pub overflow_add-rounds : goal.overflow_add-rounds
 overflow_add-rounds c =

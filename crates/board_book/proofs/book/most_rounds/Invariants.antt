@@ -1,5 +1,5 @@
 use Rattle.std.proofs.Common.{◌≡◌, ◌*◌, ◌^◌, ◌<◌, ◌-◌}
-use Rattle.board_book.proofs.books.most_rounds.Given as goal
+use Rattle.board_book.proofs.book.most_rounds.Given as goal
 
 abbrev pub invariant-loop-power : goal.invariant-loop-power
 invariant-loop-power l = record {
