@@ -302,6 +302,7 @@ impl<J: Judge + Drop, P: Provers + Drop> Book<J, P> {
     /// The lowest prover with an open question, with that question and its passes.
     fn next_asked(&self) -> Option<Asked>
         ensures found { IfSome result (λ x. (0 < x.p) × (x.p ≤ self.now.opening.setup.provers) × (open_question (rules_of (J.ruling self.now.opening.judge) self.now.opening.setup) self.now.game.record_ x.p ≡ Some x.question) × (x.passes ≡ passes_of self.now.game x.p)) }
+        ensures lowest { IfSome result (λ x. (p : ℕ) → 0 < p → p < x.p → open_question (rules_of (J.ruling self.now.opening.judge) self.now.opening.setup) self.now.game.record_ p ≡ None) }
         ensures none { IfNone result (is_complete self.now.game.record_ ≡ true) }
     {
         let provers = self.game.setup().provers();

@@ -117,6 +117,13 @@ impl<J: Judge + Drop, P: Provers + Drop> Books<J, P> {
         self.book(t).ask(p)
     }
 
+    /// The most entries that the journals of these books can have together.
+    pub fn room(&self) -> u64
+        ensures { HasRoom self.now.books result }
+    {
+        room_of(self.books.as_slice())
+    }
+
     /// How many tasks there are.
     pub fn count(&self) -> u32
         ensures value { result ≡ length self.now.books }

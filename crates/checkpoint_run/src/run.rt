@@ -1,5 +1,5 @@
 //! A recorded run, and the machines of its steps.
-ghost use Rattle.std.specs.Prelude.{◌≡◌, ◌+◌, ◌*◌, ◌/◌, ◌<◌, ◌≤◌, ◌^◌, ℕ, IfOk, OnOk, OnErr, List, length};
+ghost use Rattle.std.specs.Prelude.{◌≡◌, ◌+◌, ◌-◌, ◌*◌, ◌/◌, ◌<◌, ◌≤◌, ◌^◌, ℕ, IfOk, OnOk, OnErr, List, length};
 ghost use Rattle.mem_plain.specs.Contents.{byte_at};
 ghost use Rattle.rv_step.specs.State.{state_of, IsChained};
 ghost use Rattle.checkpoint_run.specs.TamperedRun.{tampered};
@@ -233,6 +233,7 @@ pub fn advance<D: Digester>(
     ensures stays { OnErr result (at.new ≡ at.old) }
     ensures chained { IsChained D.digest_of machine.new }
     ensures two { IfOk result (λ pages. length pages ≡ 2) }
+    ensures written { IfOk result (λ pages. pages ≡ written_by run.now.tamper (at.new - 1) (state_of_step run.now (at.new - 1))) }
     ensures pages { IfOk result (λ pages. ArePages pages) }
     ensures elsewhere { IfOk result (λ pages. (q : ℕ) → ¬ IsNamed (q / 4096) pages → byte_at machine.new.mem q ≡ byte_at machine.old.mem q) }
 {

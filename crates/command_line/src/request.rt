@@ -1,8 +1,9 @@
 //! What the program is asked to do, by what was given to the command line.
-ghost use Rattle.std.specs.Prelude.{◌≡◌, ◌<◌, codes, IfOk, IfSome, option_map, option_and_then, if◌then◌else◌};
+ghost use Rattle.std.specs.Prelude.{◌≡◌, ◌<◌, bytes_eq, codes, find, IfOk, IfSome, option_map, option_and_then, if◌then◌else◌};
 ghost use Rattle.clap.specs.Matches.{found_of};
 ghost use Rattle.clap.specs.Walk.{first_of, one_of, rows_of};
 ghost use Rattle.clap.specs.Simple.{subcommand_rows_of};
+ghost use Rattle.transcript_text.specs.Digest.{digest_text};
 ghost use Rattle.command_line.specs.declared.request.MatchText.TheVariants.{Report, Full};
 ghost use Rattle.command_line.specs.Words.{texts, command_of_name, command_entered, chosen, match_text_in, digest_in, judge_in, seed_in, rows_given, given_options, IsNumberOf, AreAtLeastOne, AreGiven};
 
@@ -82,15 +83,23 @@ fn text_given(given: &ArgMatches<'_>) -> MatchText
     text_where(given.get_one("full").unwrap_or(false))
 }
 
+/// The first of these digests with this name.
+fn digest_among(digests: &[DigestName], name: &str) -> Option<DigestName>
+    ensures { result ≡ find (λ digest. bytes_eq name.now (digest_text digest)) digests.now }
+{
+    'digests: for digest in digests {
+        if name == digest.text() {
+            return Some(*digest);
+        }
+    }
+    None
+}
+
 /// The digest of a name.
 fn digest_in(name: &str) -> Option<DigestName>
     ensures { result ≡ digest_in name.now }
 {
-    match name {
-        "sha256" => Some(DigestName::Sha256),
-        "weak8" => Some(DigestName::Weak8),
-        _ => None,
-    }
+    digest_among(&DigestName::ALL, name)
 }
 
 /// The digest that was asked for.

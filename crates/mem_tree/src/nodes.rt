@@ -103,6 +103,7 @@ impl Nodes {
     /// Keeps a node above the pages' roots, or none if it is the empty one. An `Err` is out of memory, and changes nothing.
     fn put_upper(&mut self, above: u8, k: u32, node: Option<Digest32>) -> Result<(), Memory>
         ensures here { OnOk result (upper_at (kept_of self.new) above k ≡ node) }
+        ensures err { OnErr result (upper_at (kept_of self.new) above k ≡ upper_at (kept_of self.old) above k) }
         ensures elsewhere { (n q : ℕ) → (n ≢ above) ⊎ (q ≢ k) → upper_at (kept_of self.new) n q ≡ upper_at (kept_of self.old) n q }
         ensures pages { self.new.pages ≡ self.old.pages }
         ensures empties { self.new.empties ≡ self.old.empties }
@@ -134,6 +135,7 @@ impl Nodes {
             (node_string (node_above (kept_of self.now) above (2 * k)) (node_above (kept_of self.now) above (2 * k + 1))) }
         ensures kept { is_some result ≡ (is_some (upper_at (kept_of self.now) above (2 * k)) || is_some (upper_at (kept_of self.now) above (2 * k + 1))) }
         ensures counted { is_some result ≡ true → steps.new ≡ steps.old + 1 }
+        ensures none { is_some result ≡ false → steps.new ≡ steps.old }
         ensures steps { steps.new ≤ steps.old + 1 }
         ensures more { steps.old ≤ steps.new }
     {

@@ -183,6 +183,7 @@ pub(crate) fn page_tree_after<C: Counted, L: Ledger>(
     ensures there { IfOk result (λ r. r.changed ≡ false → is_some r.tree ≡ is_some before) }
     ensures steps { OnOk result (steps.new ≡ steps.old + page_renewals before of.now.mem.now of.now.page) }
     ensures none { OnErr result (steps.new ≡ steps.old) }
+    ensures fresh { OnErr result (is_some before ≡ false) }
 {
     renewals_are_few();
     if !is_used(of) {

@@ -1,5 +1,5 @@
 //! The lock and its seats.
-ghost use Rattle.std.specs.Prelude.{◌≡◌, ◌+◌, ◌^◌, ◌<◌, [], ◌∷◌, length, Some, MatchBool};
+ghost use Rattle.std.specs.Prelude.{◌≡◌, ◌+◌, ◌-◌, ◌*◌, ◌^◌, ◌<◌, [], ◌∷◌, length, min, Some, MatchBool};
 ghost use Rattle.std.specs.List.{All};
 ghost use Rattle.seat_lock.specs.History.{History, log_of, Begins, NoneTwice};
 ghost use Rattle.seat_lock.specs.Seats.{IfMade, first_seat, after_split, split_off, after_join};
@@ -104,6 +104,15 @@ fn look_for_turn<T: Logged>(table: &LockTable<T>, seat: &mut TableSeat<T>, ticke
     false
 }
 
+/// For how long a waiter sleeps at a time, in microseconds, by its ticket and the number served: 10 for each turn ahead of its own, and at
+/// most 1,000.
+fn sleep_for(ticket: u64, served: u64) -> u64
+    ensures { result ≡ min (ticket - served) 100 * 10 }
+{
+    let ahead = ticket.saturating_sub(served);
+    ahead.min(LONGEST_SLEEP / SLEEP_FOR_EACH_TURN) * SLEEP_FOR_EACH_TURN
+}
+
 /// Lets other threads run. With many turns ahead of its ticket the caller sleeps for about as long as they take, so that few threads look
 /// at the number served at a time. Nobody has to wake it.
 fn stand_back<T: Logged, R: Wait>(rt: &R, table: &LockTable<T>, ticket: u64)
@@ -114,13 +123,12 @@ fn stand_back<T: Logged, R: Wait>(rt: &R, table: &LockTable<T>, ticket: u64)
     if ahead <= MOST_AWAKE {
         thread::yield_now();
     } else {
-        let micros = ahead.saturating_mul(SLEEP_FOR_EACH_TURN).min(LONGEST_SLEEP);
         let words = &table.shared;
         words.park_timeout(
             rt,
             SERVING,
             (served & 0xffff_ffff) as u32,
-            Duration::from_micros(micros),
+            Duration::from_micros(sleep_for(ticket, served)),
         );
     }
 }
