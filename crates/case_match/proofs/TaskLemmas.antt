@@ -92,11 +92,12 @@ one-more-said {A} {N} {M} answers says old own now books later b joined pushed s
     ∙ ap (sayings says) (sym (ap openings pushed ∙ map-append (λ (y : BookOf N M). y.opening) books (b ∷ []))))))
 
 -- what a case's answerers say, from the same start by the same scripts
-pub scripts-said : {A : Type 0} (answers : A → Question → ℕ → Option Answer) (digest : List ℕ → List ℕ) (first start : State) (bound : ℕ) (scripts others : List Script) (xs : List A)
-    → first ≡ start → scripts ≡ others → AnswerAs answers (case_says digest first bound scripts) 1 xs → AnswerAs answers (case_says digest start bound others) 1 xs
-scripts-said answers digest first start bound scripts others xs from same say =
+pub scripts-said : {A : Type 0} (answers : A → Question → ℕ → Option Answer) (digest : List ℕ → List ℕ) (first start : State) (own bound : ℕ) (scripts others : List Script) (xs : List A)
+    → first ≡ start → own ≡ bound → scripts ≡ others → AnswerAs answers (case_says digest first own scripts) 1 xs → AnswerAs answers (case_says digest start bound others) 1 xs
+scripts-said answers digest first start own bound scripts others xs from until same say =
     subst (λ (s : State). AnswerAs answers (case_says digest s bound others) 1 xs) from
-    (subst (λ (ss : List Script). AnswerAs answers (case_says digest first bound ss) 1 xs) same say)
+    (subst (λ (n : ℕ). AnswerAs answers (case_says digest first n others) 1 xs) until
+    (subst (λ (ss : List Script). AnswerAs answers (case_says digest first own ss) 1 xs) same say))
 
 pub said-in-order : {A : Type 0} (answers : A → Question → ℕ → Option Answer) → SayInOrder answers → (digest : List ℕ → List ℕ) (start : State) (bound : ℕ) (scripts : List Script) (xs : List A)
     → length xs ≡ length scripts → AnswerAs answers (case_says digest start bound scripts) 1 xs → map answers xs ≡ sayings_from (case_says digest start bound scripts) 1 (length scripts)

@@ -72,6 +72,20 @@ struct OpenedMatches<D: Replays> {
     pub answerers: Vec<Scripted<RunAnswerer<D>, D>>,
 }
 
+/// How the provers of a case record and replay their runs, by its bound and the options, each of which is at least 1.
+fn plan_for(case: &Case, options: Options) -> Plan
+    requires { AreAtLeastOne options }
+    ensures bound { result.bound ≡ case.now.bound }
+    ensures every { result.every ≡ options.every }
+    ensures workers { result.workers ≡ options.workers }
+{
+    Plan {
+        bound: case.bound,
+        every: options.every,
+        workers: options.workers,
+    }
+}
+
 /// Opens the match of a case whose run starts in this machine. Each answerer answers as its prover's script says. In version 3 the tree of
 /// the input is built once, for the root and for all provers.
 fn open_match<D: Replays>(
@@ -92,11 +106,7 @@ fn open_match<D: Replays>(
     let root = state_root_with(d, &start, &input);
     let scripts = case.provers.as_slice();
     let judge = MachineJudge::new(d, start.version);
-    let plan = Plan {
-        bound: case.bound,
-        every: options.every,
-        workers: options.workers,
-    };
+    let plan = plan_for(case, options);
     let answerers = answerers_with_input(alloc, d, scripts, &Start::new(&start, &input), plan)?;
     let provers = CaseProvers::new(alloc, d, scripts, start, case.bound)?;
     let book = Book::open(

@@ -35,15 +35,11 @@ Stands view (Err stop) defined = (response : Response) → stop ≡ Refused resp
 abbrev pub IsFreshStart : Machine → Type 0
 IsFreshStart start = (digest : List ℕ → List ℕ) → IsFresh digest start
 
--- a relation holds of what stands at each place of two lists, as far as both go
-abbrev pub Along : {X Y : Type 0} → (X → Y → Type 0) → List X → List Y → Type 0
-Along R [] ys = Unit {0}
-Along R (x ∷ xs) [] = Unit {0}
-Along R (x ∷ xs) (y ∷ ys) = R x y × Along R xs ys
-
 -- each of these cases, whose runs start in these states, is in range
 abbrev pub AreAllInRange : List CaseData → List State → Type 0
-AreAllInRange = Along IsInRange
+AreAllInRange [] starts = Unit {0}
+AreAllInRange (c ∷ cs) [] = Unit {0}
+AreAllInRange (c ∷ cs) (start ∷ starts) = IsInRange c start × AreAllInRange cs starts
 
 -- what only its run shows of a case that was decided so: it is in range, a collision is of strings of bytes, and if its full text is
 -- written each of its answers has a wire form
@@ -54,7 +50,9 @@ pub record IsPlayed (m : Deciding) (c : CaseData) (start : State) : Type 0 where
 
 -- so was each of these cases, whose runs start in these states
 abbrev pub AreAllPlayed : Deciding → List CaseData → List State → Type 0
-AreAllPlayed m = Along (IsPlayed m)
+AreAllPlayed m [] starts = Unit {0}
+AreAllPlayed m (c ∷ cs) [] = Unit {0}
+AreAllPlayed m (c ∷ cs) (start ∷ starts) = IsPlayed m c start × AreAllPlayed m cs starts
 
 -- so of a case that was read, if it is loaded; and of those of tasks
 abbrev pub AreInRange : Deciding → TasksData → Type 0
@@ -101,12 +99,19 @@ pub record IsShown (m : Deciding) (settled : Record) (verdict : Verdict) : Type 
 
 -- of the matches of these cases, which have ended so
 abbrev pub EndsAreShown : Deciding → List CaseData → List Ended → Type 0
-EndsAreShown m = Along (λ c end. IsShown m end.match_record end.verdict)
+EndsAreShown m [] ends = Unit {0}
+EndsAreShown m (c ∷ cs) [] = Unit {0}
+EndsAreShown m (c ∷ cs) (end ∷ ends) = IsShown m end.match_record end.verdict × EndsAreShown m cs ends
 
 -- of the matches of these cases, whose runs start in these states, by a digest function
 abbrev pub AreAllShown : (List ℕ → List ℕ) → Deciding → List CaseData → List State → Type 0
-AreAllShown digest m = Along (λ c start. IsShown m (record_of_case digest c start) (verdict_of_record digest c start (record_of_case digest c start)))
+AreAllShown digest m [] starts = Unit {0}
+AreAllShown digest m (c ∷ cs) [] = Unit {0}
+AreAllShown digest m (c ∷ cs) (start ∷ starts) =
+    IsShown m (record_of_case digest c start) (verdict_of_record digest c start (record_of_case digest c start)) × AreAllShown digest m cs starts
 
 -- the records of these cases may be paid
 abbrev pub CanBePaid : List CaseData → List Ended → Type 0
-CanBePaid = Along (λ c end. IsSettledUp (length c.provers) end.match_record)
+CanBePaid [] ends = Unit {0}
+CanBePaid (c ∷ cs) [] = Unit {0}
+CanBePaid (c ∷ cs) (end ∷ ends) = IsSettledUp (length c.provers) end.match_record × CanBePaid cs ends

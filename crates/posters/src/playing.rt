@@ -72,15 +72,6 @@ fn places_of<J: Judge + Drop, P: Provers + Drop>(
     Ok(places)
 }
 
-/// The most posts that the matches of these books have room for, or 2^64 - 1 if they are more, which no run reaches.
-fn most_posts_of<J: Judge + Drop, P: Provers + Drop>(books: &Books<J, P>) -> u64 {
-    let mut total = 0_u64;
-    for i in 0..books.count() {
-        total = total.saturating_add(books.book(i + 1).room());
-    }
-    total
-}
-
 /// Splits a seat off for each poster, the classes from 0 on.
 fn seat_posters<J: Judge + Drop, P: Provers + Drop>(
     board: &TaskBoard<J, P>,
@@ -154,7 +145,7 @@ where
     ensures keeps { map A.answers answerers.new ≡ map A.answers answerers.old }
 {
     let places = places_of(alloc, &books)?;
-    let most_posts = most_posts_of(&books);
+    let most_posts = books.room();
     let mut seated = Vec::with_capacity(alloc, posters as usize)?;
     let (board, mut seat) = TaskBoard::new(alloc, books)?;
     seat_posters(&board, &mut seat, &mut seated, posters);

@@ -4,7 +4,7 @@
 //! room for posts and by `MOST_IDLE_TURNS`. The board's lock isn't held while a poster answers, waits at its gate or sleeps. As long as a
 //! match isn't over it asks one of its provers (`Match::is_never_stuck`), and that prover's poster serves it. Posters wake each other for
 //! speed alone, so that a lost wake costs time.
-ghost use Rattle.std.specs.Prelude.{◌≡◌, List, map, slice_get};
+ghost use Rattle.std.specs.Prelude.{◌≡◌, ◌≤◌, List, map, slice_get};
 ghost use Rattle.std.specs.Thread.{IsSync};
 ghost use Rattle.board_book.specs.declared.book.Opening.{Opening};
 ghost use Rattle.posters.specs.Serving.{kept_of, IsSeatOf, IsProver, MayServe};
@@ -85,8 +85,14 @@ fn place_at(places: &Vec<Place>, number: u32) -> Option<Place>
 }
 
 /// How long a poster sleeps after an idle turn, in milliseconds, if this many idle turns in a row before it were without news.
-fn sleep_after(quiet: u32) -> u64 {
-    if quiet < 7 { 1 << quiet } else { LONGEST_SLEEP }
+fn sleep_after(quiet: u32) -> u64
+    ensures { result ≤ 100 }
+{
+    if quiet < 7 {
+        (1 << quiet).min(LONGEST_SLEEP)
+    } else {
+        LONGEST_SLEEP
+    }
 }
 
 impl<'g, J: Judge + Drop, P: Provers + Drop, G: TaskGate> Hall<'g, J, P, G> {

@@ -27,5 +27,5 @@ returns-clause-count g c = c.in_ok-answerers.ensures.count ∙ ap length c.as_sl
 
 pub returns-clause-says : goal.returns-clause-says
 returns-clause-says g c =
-    scripts-said _ g.D.Digester.digest_of c.new.result (state_of c.args.start) c.args.case.now.bound c.as_slice-scripts.result.now c.args.case.now.provers c.in_ok-answerers.answerers.items
-    c.new.ensures c.as_slice-scripts.ensures c.in_ok-answerers.ensures.answers
+    scripts-said _ g.D.Digester.digest_of c.new.result (state_of c.args.start) c.plan_for-plan.result.bound c.args.case.now.bound c.as_slice-scripts.result.now c.args.case.now.provers c.in_ok-answerers.answerers.items
+    c.new.ensures c.plan_for-plan.ensures.bound c.as_slice-scripts.ensures c.in_ok-answerers.ensures.answers
