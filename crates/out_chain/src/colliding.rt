@@ -40,11 +40,7 @@ fn link_collision<D: Digester>(d: D, first: &[u8], second: &[u8]) -> Option<(Ope
 /// The first two different strings with one digest below the state strings of two claims: their control strings, or the link strings at one
 /// place of their outputs, in this order. The first string is opened by the first claim, the second by the second. It takes no memory.
 #[tactic(auto, unfolding(crate::specs::Collision::first_collision))]
-fn collision_below<D: Digester>(
-    d: D,
-    first: &Claim,
-    second: &Claim,
-) -> Option<(OpenText, OpenText)>
+fn collision_below<D: Digester>(d: D, first: &Claim, second: &Claim) -> Option<(OpenText, OpenText)>
     ensures { result ≡ collision.first_collision D.digest_of
         (control_text_of first.now.ctl ∷ collision.links_of D.digest_of first.now.output)
         (control_text_of second.now.ctl ∷ collision.links_of D.digest_of second.now.output) }
