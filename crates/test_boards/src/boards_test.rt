@@ -20,12 +20,45 @@ type ToyBoard = Board<ToyJudge, Cast>;
 
 type ToySeat = Seat<ToyJudge, Cast>;
 
-/// A prover, from 1, what it says to the question for its claim after this many passes, and whether a seat that is split off posts it
-/// and is joined in again.
-type Act = (u32, u32, bool);
+/// How a prover posts.
+#[derive(Clone, Copy, PartialEq, Eq)]
+enum How {
+    /// It is asked before.
+    Asked,
+    /// It is asked before, and both are done at a seat that is split off and joined in again.
+    Aside,
+    /// It isn't asked.
+    Unasked,
+}
 
-/// What a prover is asked, how its post is answered then, and the place of its entry.
-type Turn = (Asked, Replied, Option<u64>);
+/// A prover, from 1, what it says to the question for its claim after this many passes, and how it posts that.
+type Act = (u32, u32, How);
+
+/// What a prover is asked, if it is, how its post is answered then, and the place of its entry.
+type Turn = (Option<Asked>, Replied, Option<u64>);
+
+/// Posts what one of two provers says to the question for its claim after this many passes.
+#[tactic(auto, using(crate::proofs::ClaimLemmas::has_prover))]
+fn post_alone<R: Threads + Wait + Sync>(
+    rt: &R,
+    alloc: Global,
+    board: &ToyBoard,
+    seat: &mut ToySeat,
+    cast: Cast,
+    p: u32,
+    passes: u32,
+) -> Result<Turn, Memory>
+    requires seat { IsSeatOfTwo board.now cast seat.old }
+    requires some { 0 < p }
+    requires few { p ≤ 2 }
+    ensures seat { IsSeatOfTwo board.now cast seat.new }
+    ensures same { kept_of seat.new ≡ kept_of seat.old }
+{
+    let player = player_at(&cast, &cast, 1, p);
+    let answer = Seated { player, alloc }.answer(rt, &Question::claim(), passes)?;
+    let posted = board.post(rt, seat, p, CLAIM, move_of(answer));
+    Ok((None, reply_in_short(posted.reply), posted.receipt))
+}
 
 /// Asks one of two provers, and posts what it says to the question for its claim after this many passes.
 #[tactic(auto, using(crate::proofs::ClaimLemmas::has_prover))]
@@ -44,11 +77,9 @@ fn ask_and_post<R: Threads + Wait + Sync>(
     ensures seat { IsSeatOfTwo board.now cast seat.new }
     ensures same { kept_of seat.new ≡ kept_of seat.old }
 {
-    let player = player_at(&cast, &cast, 1, p);
-    let answer = Seated { player, alloc }.answer(rt, &Question::claim(), passes)?;
     let asked = ask_in_short(board.ask(rt, seat, p));
-    let posted = board.post(rt, seat, p, CLAIM, move_of(answer));
-    Ok((asked, reply_in_short(posted.reply), posted.receipt))
+    let (_, reply, receipt) = post_alone(rt, alloc, board, seat, cast, p, passes)?;
+    Ok((Some(asked), reply, receipt))
 }
 
 /// What comes of these acts, one after another.
@@ -66,15 +97,17 @@ fn done<R: Threads + Wait + Sync>(
     ensures first { (seat.new.number ≡ 0) × (seat.new.out ≡ 0) }
 {
     let mut turns = Vec::new(alloc);
-    for (prover, passes, aside) in acts {
+    for (prover, passes, how) in acts {
         let p = 2 - prover % 2;
-        if *aside {
-            let mut other = board.split(seat);
-            let turn = ask_and_post(rt, alloc, board, &mut other, cast, p, *passes);
-            board.join(seat, other);
-            turns.push(turn?)?;
-        } else {
-            turns.push(ask_and_post(rt, alloc, board, seat, cast, p, *passes)?)?;
+        match how {
+            How::Asked => turns.push(ask_and_post(rt, alloc, board, seat, cast, p, *passes)?)?,
+            How::Aside => {
+                let mut other = board.split(seat);
+                let turn = ask_and_post(rt, alloc, board, &mut other, cast, p, *passes);
+                board.join(seat, other);
+                turns.push(turn?)?;
+            }
+            How::Unasked => turns.push(post_alone(rt, alloc, board, seat, cast, p, *passes)?)?,
         }
     }
     Ok(turns)
@@ -108,24 +141,24 @@ struct Row {
     entries: usize,
 }
 
-const ROWS: [Row; 3] = [
+const ROWS: [Row; 4] = [
     // two silent provers without patience: each pass is spent at once and has its place as receipt; a stale one has none
     Row {
         players: [SILENT; 3],
         patience: 0,
         acts: &[
-            (1, 0, false),
-            (1, 0, false),
-            (2, 0, false),
-            (1, 0, false),
-            (2, 0, false),
+            (1, 0, How::Asked),
+            (1, 0, How::Asked),
+            (2, 0, How::Asked),
+            (1, 0, How::Asked),
+            (2, 0, How::Asked),
         ],
         turns: &[
-            (Asked::Claim(0), Replied::Spent, Some(0)),
-            (Asked::Nothing, Replied::Stale(None), None),
-            (Asked::Claim(0), Replied::Spent, Some(1)),
-            (Asked::Over, Replied::Stale(None), None),
-            (Asked::Over, Replied::Stale(None), None),
+            (Some(Asked::Claim(0)), Replied::Spent, Some(0)),
+            (Some(Asked::Nothing), Replied::Stale(None), None),
+            (Some(Asked::Claim(0)), Replied::Spent, Some(1)),
+            (Some(Asked::Over), Replied::Stale(None), None),
+            (Some(Asked::Over), Replied::Stale(None), None),
         ],
         entries: 2,
     },
@@ -135,16 +168,16 @@ const ROWS: [Row; 3] = [
         players: [Player { late: 1, ..HONEST }, HONEST, SILENT],
         patience: 1,
         acts: &[
-            (1, 0, false),
-            (2, 100, true),
-            (1, 100, false),
-            (2, 100, false),
+            (1, 0, How::Asked),
+            (2, 100, How::Aside),
+            (1, 100, How::Asked),
+            (2, 100, How::Asked),
         ],
         turns: &[
-            (Asked::Claim(0), Replied::Taken, Some(0)),
-            (Asked::Claim(0), Replied::Taken, Some(1)),
-            (Asked::Claim(1), Replied::Taken, Some(2)),
-            (Asked::Over, Replied::Stale(None), None),
+            (Some(Asked::Claim(0)), Replied::Taken, Some(0)),
+            (Some(Asked::Claim(0)), Replied::Taken, Some(1)),
+            (Some(Asked::Claim(1)), Replied::Taken, Some(2)),
+            (Some(Asked::Over), Replied::Stale(None), None),
         ],
         entries: 3,
     },
@@ -153,16 +186,28 @@ const ROWS: [Row; 3] = [
     Row {
         players: [Player { late: 2, ..HONEST }, HONEST, SILENT],
         patience: 2,
-        acts: &[(1, 0, false), (1, 100, false)],
+        acts: &[(1, 0, How::Asked), (1, 100, How::Asked)],
         turns: &[
-            (Asked::Claim(0), Replied::Taken, Some(0)),
-            (Asked::Claim(1), Replied::Stale(Some(CLAIM)), None),
+            (Some(Asked::Claim(0)), Replied::Taken, Some(0)),
+            (Some(Asked::Claim(1)), Replied::Stale(Some(CLAIM)), None),
         ],
         entries: 1,
     },
+    // a player posts its claim at a board at which nobody was asked: it is taken, as the first entry, and with the other claim the match is
+    // over
+    Row {
+        players: [HONEST, HONEST, SILENT],
+        patience: 0,
+        acts: &[(1, 0, How::Unasked), (2, 0, How::Asked)],
+        turns: &[
+            (None, Replied::Taken, Some(0)),
+            (Some(Asked::Claim(0)), Replied::Taken, Some(1)),
+        ],
+        entries: 2,
+    },
 ];
 
-/// Posts that aren't stale have their places as receipts, whichever seat posts them.
+/// Posts that aren't stale have their places as receipts, whichever seat posts them, and whether or not it asked before.
 #[test]
 fn posts_have_their_places_as_receipts_unless_they_are_stale(rt: HostRuntime) -> Result<(), Fail> {
     for (place, row) in ROWS.iter().enumerate() {

@@ -1,6 +1,6 @@
 //! Disputes of two players, played to their end.
-use bisect_game::{Close, Dispute, Room, Round, Settled, Side, roots_in};
-use rd_base::Memory;
+use bisect_game::{Close, Dispute, Room, Round, Settled, Side};
+use rd_base::{Answer, Memory};
 use std::alloc::Global;
 use toy_game::{Player, ToyJudge, given, number_at, passes_now, root};
 
@@ -15,8 +15,8 @@ pub(crate) enum Ended {
     Collided,
 }
 
-/// A past round: the ends of its interval, and whether both answers gave the same roots.
-pub(crate) type Past = (u64, u64, bool);
+/// A past round: the ends of its interval, and the number of each side's root at the last cut.
+pub(crate) type Past = (u64, u64, u8, u8);
 
 /// What comes of a dispute.
 #[derive(Drop)]
@@ -47,13 +47,26 @@ fn move_side(
     Ok(())
 }
 
+/// The number of the last root that a side gave, or 255 if it gave none.
+fn last_number(settled: &Settled) -> u8 {
+    match settled {
+        Settled::Given(Answer::Root(root)) => root.0[0],
+        Settled::Given(Answer::Roots(roots)) => match roots.as_slice().last() {
+            Some(root) => root.0[0],
+            None => 255,
+        },
+        _ => 255,
+    }
+}
+
 /// A past round in short.
 fn past(round: &Round) -> Past {
-    let same = match (&round.first, &round.second) {
-        (Settled::Given(x), Settled::Given(y)) => roots_in(x) == roots_in(y),
-        _ => false,
-    };
-    (round.lo, round.hi, same)
+    (
+        round.lo,
+        round.hi,
+        last_number(&round.first),
+        last_number(&round.second),
+    )
 }
 
 /// What has come of a dispute.

@@ -1,7 +1,7 @@
 //! Books in short, as plain values that a test can compare.
+use bisect_game::{Judge, Provers};
 use board_book::Book;
 use toy_game::in_short::{Ended, Line, how, line};
-use toy_game::{Cast, ToyJudge};
 
 /// A book in short: its entries, how its match ended, and its first three disputes.
 pub(crate) type Short = (usize, Ended, [Option<Line>; 3]);
@@ -18,7 +18,7 @@ pub(crate) const THE_MATCH: Short = (
 );
 
 /// A book in short.
-pub(crate) fn in_short(book: &Book<ToyJudge, Cast>) -> Short {
+pub(crate) fn in_short<J: Judge + Drop, P: Provers + Drop>(book: &Book<J, P>) -> Short {
     let mut lines = [None; 3];
     for (place, dispute) in book.record().disputes().iter().enumerate() {
         if place < 3 {

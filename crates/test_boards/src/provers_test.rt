@@ -1,0 +1,112 @@
+//! Posters of the product's own provers, each of which answers by a run of the machine.
+ghost use Rattle.std.specs.Prelude.{◌≡◌, ℕ, [], List, IfOk, length};
+ghost use Rattle.bisect_game.specs.Says.{AnswerAs};
+ghost use Rattle.rv_step.specs.State.{IsChained};
+
+use crate::gates::Watch;
+use crate::in_short::{Short, in_short};
+use bisect_game::{Answerer, Provers};
+use board_book::Book;
+use digest_core::Sha256;
+use mem_plain::PlainMem;
+use posters::play;
+use prover_run::{CaseProvers, Plan, RunAnswerer, Start, answerers_with_input};
+use prover_script::Scripted;
+use rd_base::{Manner, Memory, RegisterNumber, Script, Tamper};
+use rv_step::Machine;
+use segment_replay::Replays;
+use state_commit::{SharedInput, state_root_with};
+use std::alloc::Global;
+use std::sync::Wait;
+use std::test::Fail;
+use std::thread::Threads;
+use step_referee::MachineJudge;
+use toy_game::in_short::Ended;
+
+/// The program addi a0, zero, 42; addi a7, zero, 1; ecall; addi a0, zero, 0; addi a7, zero, 93; ecall: it writes the byte 42 and exits.
+const PROGRAM: &[u8] =
+    b"\x13\x05\xa0\x02\x93\x08\x10\x00\x73\x00\x00\x00\x13\x05\x00\x00\x93\x08\xd0\x05\x73\x00\x00\x00";
+
+/// The machine before the first instruction.
+fn started(alloc: Global) -> Result<Machine, Memory>
+    ensures chained { IfOk result (λ m. (digest : List ℕ → List ℕ) → IsChained digest m) }
+    ensures silent { IfOk result (λ m. m.output.items ≡ []) }
+{
+    let mem = PlainMem::new(alloc).lay(0x1_0000, PROGRAM)?;
+    Machine::new(alloc, 1, mem, 0x1_0000, &[])
+}
+
+/// A match of two provers over eight steps in rounds of two parts, and their answerers.
+#[derive(Drop)]
+struct TwoProvers<D: Replays> {
+    book: Book<MachineJudge<D>, CaseProvers<D>>,
+    answerers: Vec<Scripted<RunAnswerer<D>, D>>,
+}
+
+/// The match of an honest prover, and of one in whose run register 10 holds 43 at step 2.
+fn opened<D: Replays>(alloc: Global, d: D) -> Result<TwoProvers<D>, Memory>
+    ensures count { IfOk result (λ o. length o.answerers.items ≡ o.book.opening.setup.provers) }
+    ensures says { IfOk result (λ o. AnswerAs ⟦<Scripted<RunAnswerer<D>, D> as Answerer>⟧.answers (⟦<CaseProvers<D> as Provers>⟧.says o.book.opening.provers) 1 o.answerers.items) }
+{
+    let Some(reg) = RegisterNumber::new(10) else {
+        unreachable!()
+    };
+    let value = 43;
+    let scripts = [
+        Script {
+            tamper: Tamper::Untouched,
+            manner: Manner::Plain,
+        },
+        Script {
+            tamper: Tamper::Register {
+                step: 2,
+                reg,
+                value,
+            },
+            manner: Manner::Plain,
+        },
+    ];
+    let plan = Plan {
+        bound: 8,
+        every: 4,
+        workers: 1,
+    };
+    let machine = started(alloc)?;
+    let input = SharedInput::of(alloc, d, &machine)?;
+    let root = state_root_with(d, &machine, &input);
+    let start = Start::new(&machine, &input);
+    let answerers = answerers_with_input(alloc, d, &scripts, &start, plan)?;
+    let provers = CaseProvers::new(alloc, d, &scripts, machine, 8)?;
+    let judge = MachineJudge::new(d, 1);
+    let book = Book::open(alloc, judge, provers, 8, 2, 0, root)?;
+    Ok(TwoProvers { book, answerers })
+}
+
+/// The same match in short, which two posters play with this gate.
+fn played_in_short<R: Threads + Wait + Sync>(
+    rt: &R,
+    alloc: Global,
+    gate: &Watch,
+) -> Result<Short, Memory> {
+    let TwoProvers {
+        book,
+        mut answerers,
+    } = opened(alloc, Sha256)?;
+    let book = play(rt, alloc, book, answerers.as_mut_slice(), 2, gate)?;
+    let short = in_short(&book);
+    drop(book);
+    Ok(short)
+}
+
+/// Two posters are at work at once on each of the five questions of a dispute between two runs of the machine: before each post the poster
+/// waits until the other prover's post on the same question is about to come. The roots at the steps 4 and 2 differ and those at step 1
+/// don't, so it comes to a proof of the step from 1 to 2, where the one run is as the machine makes it and the other isn't.
+#[test]
+fn posters_of_runs_side_by_side(rt: HostRuntime) -> Result<(), Fail> {
+    let watch = Watch::new(true);
+    let short = played_in_short(&rt, rt.alloc(), &watch)?;
+    let dispute = Some((1, 1, 1, 2, 3, false, true));
+    let wanted = (10, Ended::Accepted(1), [dispute, None, None]);
+    assert!(rt; short == wanted && watch.met() == 10);
+    Ok(())
+}
