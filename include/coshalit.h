@@ -38,12 +38,12 @@ extern "C" {
 /* The exit statuses of the program, in the answers of coshalit_audit, coshalit_run and coshalit_list. */
 #define COSHALIT_DONE 0           /* the text is confirmed; the case was run; its image was listed */
 #define COSHALIT_BAD_CASE 3       /* the bytes are no case: the text is `fault case R ..`, or the format has no listing */
-#define COSHALIT_BAD_IMAGE 4      /* the image of the case can't be loaded: `fault image R` */
+#define COSHALIT_BAD_IMAGE 4      /* the image of the case can't be loaded: `fault image R ..` */
 #define COSHALIT_AUDIT_REFUSED 8  /* the text is refused: `refused LINE CAUSE`, or `fault text R ..` if it can't be read */
 #define COSHALIT_OUT_OF_MEMORY 9  /* memory ran out: no text, and nothing is written */
 #define COSHALIT_TOO_LONG 12      /* more than 16,777,216 bytes: `fault too long` */
 
-/* What a command answers: 16 bytes, by value. */
+/* What a command answers, by value: 16 bytes where `size_t` has 8. */
 typedef struct CoshalitAnswer {
     uint32_t status; /* the exit status of the program, one of those above */
     size_t length;   /* how many bytes the text has, which may be more than there was room for */
@@ -52,8 +52,8 @@ typedef struct CoshalitAnswer {
 /* The ruling on the proof of one step of the machine, from a root on which both sides agree, by SHA-256.
  *
  * `version` is that of the commitment, 1, 2 or 3; by any other number no proof has the right shape. `root` has 32 bytes. `wire` is the proof
- * as it is sent: at most 1,999 bytes in version 1, 2,400 in version 2 and 2,948 in version 3 (longer bytes are no proof). The next root, of
- * 32 bytes, is written to `next` if the proof leads; otherwise `next` stays as it was. It takes no memory from malloc.
+ * as it is sent: a proof of version 1 has at most 1,999 bytes, one of version 2 2,400, and one of version 3 2,948; more than 2,948 bytes are no
+ * proof, and a proof of another version than `version` has the wrong shape. The next root, of 32 bytes, is written to `next` if the proof leads; otherwise `next` stays as it was. It takes no memory from malloc.
  *
  * Proved: it returns 4 if and only if a length is wrong. With right lengths it returns 3 if and only if no proof has these bytes, and 0 if
  * and only if all conditions of the proof with these bytes hold from this root; then the root that is written is made of its parts after the

@@ -34,7 +34,7 @@ pub fn case_texts_are_confirmed()
 }
 
 /// What `transcript_text::full` writes of the record of every case is read, and the text that is read is confirmed, if the head's
-/// numbers are within the limits. By a clause of `full`, each answer has a wire form.
+/// numbers are within the limits, and the strings of a collision have 1 to 129 bytes. By a clause of `full`, each answer has a wire form.
 pub fn written_cases_are_confirmed()
     ensures { WrittenCasesAreConfirmed }
 {

@@ -91,8 +91,8 @@ impl Model for Dispute {
 }
 
 impl Dispute {
-    /// The dispute with this number, in this stage of its match, of two provers and their claimed roots at the bound,
-    /// which differ. `start` is the root at step 0.
+    /// The dispute with this number, in this stage of its match, of two provers and their claimed roots at the bound.
+    /// In a match these differ. `start` is the root at step 0.
     pub fn new(
         room: Room,
         stage: u32,

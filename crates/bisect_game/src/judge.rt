@@ -26,7 +26,8 @@ pub trait Judge {
     fn leads(&self, from: Digest32, proof: &Proof) -> Option<Digest32>
         ensures { result ≡ (ruling (names self.now)).leads from proof.now };
 
-    /// Two different strings of one digest, the first opened by the first claim, the second by the second.
+    /// Of two sound claims: two different strings of one digest, the first opened by the first claim, the second by the second; `None` if
+    /// and only if the claims are equal or have two roots.
     fn claim_collision(&self, first: &Claim, second: &Claim) -> Option<(OpenText, OpenText)>
         ensures { result ≡ (ruling (names self.now)).claim_collision first.now second.now };
 

@@ -22,6 +22,7 @@ use Rattle.deposits.specs.Theorem.{EndedIsSettledUp}
 use Rattle.deposits.specs.ExactBalance.{HasWonAll, WhoLivesWinsAll}
 use Rattle.case_match.specs.Earnings.{WhoLivesInACaseWinsAll}
 use Rattle.case_match.specs.Match.{RecordsOfCasesAreSettledUp}
+use Rattle.case_match.specs.Ended.{RecordsOfCasesHaveEnded}
 
 -- one more move
 
@@ -142,6 +143,12 @@ come-to enough over most of_case rules says playable =
       by_posts = ap (λ (st : MatchState). st.record_) posts.1 ∙ comes;
       complete = subst (λ (r : Record). is_complete r ≡ true) comes ending.1.complete;
     }
+
+-- so it is that of a match that is over
+pub case-has-ended : SpareIsEnough → NobodyAskedIsOver → ThereIsAMost → RecordOfCase → RecordsOfCasesHaveEnded
+case-has-ended enough over most of_case rules says playable =
+    let case : IsComeTo rules says = come-to enough over most of_case rules says playable in
+    record { posts = case.posts; comes = case.by_posts; complete = case.complete }
 
 -- it may be paid
 pub case-is-settled-up : SpareIsEnough → NobodyAskedIsOver → ThereIsAMost → RecordOfCase → EndedIsSettledUp → RecordsOfCasesAreSettledUp

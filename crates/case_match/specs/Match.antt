@@ -64,7 +64,7 @@ endings_of_cases digest cs starts = map (λ (x : CaseData × State). ending_of_c
 -- DEPOSITS may be paid by the record of a case, which is one of a match that has ended
 
 -- whatever the provers of a match say, the record of its case has one settled claim per prover and disputes between two of them, and puts
--- nobody out twice
+-- nobody out twice (that it is over is in `Ended`)
 abbrev pub RecordsOfCasesAreSettledUp : Type 0
 RecordsOfCasesAreSettledUp = (rules : Rules) (says : Says) → ArePlayable rules → IsSettledUp rules.setup.provers (bracket rules (answers_of rules says))
 

@@ -36,7 +36,8 @@ AnswersByItsRun c Plain = Unit {0}
 AnswersByItsRun c (Late many) = many ≤ c.patience
 AnswersByItsRun c manner = ⊥
 
--- in the record of a case each dispute between two such provers, the first of which is its first side, ends where their runs part
+-- in the record of a case each dispute between two such provers, the first of which is its first side, ends where their runs part, once it
+-- has closed, as each has (`Ended`)
 abbrev pub DisputesOfCasesEndWhereRunsPart : (List ℕ → List ℕ) → Type 0
 DisputesOfCasesEndWhereRunsPart digest =
     (c : CaseData) (start : State) (p q : ℕ) (one other : Script) → IsInRange c start → 0 < p → 0 < q →

@@ -2,6 +2,7 @@
 ghost use Rattle.std.specs.Prelude.{ℕ, List};
 ghost use Rattle.case_match.specs.TruthfulInCase.{TruthfulProversOfCasesAreSafe};
 ghost use Rattle.case_match.specs.Match.{RecordsOfCasesAreSettledUp};
+ghost use Rattle.case_match.specs.Ended.{RecordsOfCasesHaveEnded};
 ghost use Rattle.case_match.specs.HonestScripts.{UntouchedProversAreTruthful, TrueTapesAreTruthful};
 ghost use Rattle.case_match.specs.Earnings.{WhoLivesInACaseWinsAll};
 ghost use Rattle.case_match.specs.RefutedTampers.{TampersAreRefuted, TampersOfCasesAreInRange, ReadTampersAreRefuted};
@@ -22,9 +23,9 @@ use tournament::{
     truthful_provers_are_safe,
 };
 
-/// In the record of each case whose numbers are in range, and whose run starts in a valid state without output, nothing is open,
-/// and a prover that claims and answers as the machine's definition says, within its patience, is safe: it is live at the end, its
-/// answers are true, and the verdict is right.
+/// In the record of each case whose numbers are in range, and whose run starts in a valid state without output, a prover that claims and
+/// answers as the machine's definition says, within its patience, is safe: nothing is open, it is live at the end, its answers are true,
+/// and the verdict is right.
 pub fn truthful_provers_of_cases_are_safe<D: Digester>()
     ensures { TruthfulProversOfCasesAreSafe D.digest_of }
 {
@@ -36,7 +37,17 @@ pub fn truthful_provers_of_cases_are_safe<D: Digester>()
     machine_runs_are_true::<D>();
 }
 
-/// Whatever the provers of a match say, the record of its case is that of a match that has ended, and meets the condition of `balances`.
+/// Whatever the provers of a match say, the record of its case is that of a match that is over: some posts come to it, and nothing is open.
+pub fn records_of_cases_have_ended()
+    ensures { RecordsOfCasesHaveEnded }
+{
+    spare_is_enough();
+    nobody_asked_means_over();
+    there_is_a_most_number_of_rounds();
+    one_record_of_a_case();
+}
+
+/// So it meets the condition of `balances`: one settled claim a prover, disputes between two of them, and nobody is put out twice.
 pub fn records_of_cases_are_settled_up()
     ensures { RecordsOfCasesAreSettledUp }
 {
@@ -64,9 +75,9 @@ pub fn who_lives_in_a_case_wins_all()
 /// alone is out, or the dispute has closed by a collision of their two proofs: two different strings of one digest. It is out in the
 /// proof of step s - 1 if a byte or a register is changed in the state of step s, which is that of step 0 if s is 0; and if its run ends
 /// early at step s, in that of step s, or of a later one before which the sequential run has come back to the root of step s (`refuted`).
-/// Each dispute between two provers that answer by their own runs, tampered with or not, ends in the proof of step 0 or of a step from
-/// which these part, by their proofs of it (`part`). The case's numbers are in range, and the tampers' too, as those of each case that is
-/// read (`tampers_of_cases_are_in_range`).
+/// Each dispute between two provers that answer by their own runs, tampered with or not, closes, if it does, in the proof of step 0 or of a
+/// step from which these part, by their proofs of it (`part`); in the record of a case each has closed (`records_of_cases_have_ended`). The
+/// case's numbers are in range, and the tampers' too, as those of each case that is read (`tampers_of_cases_are_in_range`).
 pub fn tampers_are_refuted<D: Digester>()
     ensures refuted { TampersAreRefuted D.digest_of }
     ensures part { DisputesOfCasesEndWhereRunsPart D.digest_of }

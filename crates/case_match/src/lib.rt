@@ -6,7 +6,8 @@
 //! and machines. A prover that claims and answers as the machine's definition says is safe in that record, which a law states for any
 //! digester (`specs/TruthfulInCase.antt`). `specs/HonestScripts.antt` defines which scripts make a prover one of these;
 //! `specs/RefutedTampers.antt`, in the proof of which step a prover with a tamper is refuted; `specs/PartingRuns.antt`, where a dispute of
-//! two tampered runs ends; and `specs/Earnings.antt`, what a prover has at the end.
+//! two tampered runs ends; `specs/Ended.antt`, that the record of a case is that of a match that is over; and `specs/Earnings.antt`, what a
+//! prover has at the end.
 //!
 //! What decides a match is `referee`, which gets no case, no image and no machine. The crate reads no device and writes no text. Read
 //! `specs/Match.antt` first, then `opening`. An `Err` that no comment names is out of memory.
@@ -18,9 +19,10 @@ mod referee;
 mod verdict;
 
 pub use laws::{
-    records_of_cases_are_settled_up, tampers_are_refuted, tampers_of_cases_are_in_range,
-    tampers_of_cases_are_refuted, truthful_provers_of_cases_are_safe,
-    untouched_provers_are_truthful, who_lives_in_a_case_wins_all,
+    records_of_cases_are_settled_up, records_of_cases_have_ended, tampers_are_refuted,
+    tampers_of_cases_are_in_range, tampers_of_cases_are_refuted,
+    truthful_provers_of_cases_are_safe, untouched_provers_are_truthful,
+    who_lives_in_a_case_wins_all,
 };
 pub use opening::{LoadedCase, ended_one, ended_tasks, loaded_cases};
 pub use referee::Ended;

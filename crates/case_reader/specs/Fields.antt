@@ -95,7 +95,7 @@ version_in tree = do
   version ← optional_number_in keys.Version 1 3 tree
   Ok (unwrap_or version 1)
 
--- into how many parts a round cuts its interval: 2 to 16, and 2 for a case without the key
+-- into how many parts a round cuts its interval at most: 2 to 16, and 2 for a case without the key
 unfoldable pub fan_in : Data → Result ℕ CaseFault
 fan_in tree = do
   fan ← optional_number_in keys.Fan 2 16 tree

@@ -57,7 +57,7 @@ pub struct Case {
     pub patience: u32,
     /// The version of the commitments.
     pub version: u32,
-    /// Into how many parts a round cuts its interval.
+    /// Into how many parts a round cuts its interval at most.
     pub fan: u32,
     /// What each prover puts down, if there are deposits.
     pub stake: Option<u64>,

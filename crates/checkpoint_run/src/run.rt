@@ -213,10 +213,10 @@ pub fn next<D: Digester>(
     Ok(pages)
 }
 
-/// Takes the machine of step `at` towards a later step, the goal: to the next step, or at once over a stretch in which nothing happens, to
-/// the goal or to the step of the tamper if that comes first. `at` is the step that it reached. The result is as by `next`: the pages
-/// that were written on the way. An `Err` is out of memory: `at` is as it was then, and the machine is lost, as it need not be at this step
-/// any more.
+/// Takes the machine of step `at` towards a later step, the goal: to the next step, or, as the code shows, at once over a stretch in which
+/// nothing happens, to the goal or to the step of the tamper if that comes first. `at` is the step that it reached. The result is as by
+/// `next`: the pages that were written on the way. An `Err` is out of memory: `at` is as it was then, and the machine is lost, as it need
+/// not be at this step any more.
 pub fn advance<D: Digester>(
     d: D,
     run: &Run,

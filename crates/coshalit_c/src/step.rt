@@ -75,7 +75,7 @@ const ROOT_BYTES: usize = 32;
 
 /// The proof leads to the root that is written.
 const LEADS: u32 = 0;
-/// The first of the proof's conditions that fails is that an opening opens its root.
+/// The first of the proof's conditions that fails is that its parts open the root, or an opening that of its tree.
 const NOT_OPEN: u32 = 1;
 /// The first of the proof's conditions that fails is one of its shape.
 const WRONG_SHAPE: u32 = 2;

@@ -32,7 +32,7 @@ use transcript_text::{
 /// whose verdict shows strings of bytes if it is a collision, by the digest of each name: a prover that claims and answers as the
 /// machine's definition says, within its patience, is not eliminated, has its stake and one more for each of its disputes but that of a
 /// collision, if there are deposits, and the text accepts the sequential run's status and output or shows a collision of two different
-/// strings of bytes.
+/// strings of bytes. Without the condition on the strings, such a prover is safe in the record (`truthful_provers_of_cases_are_safe`).
 pub fn the_headline()
     ensures { HeadlineOfCases }
 {

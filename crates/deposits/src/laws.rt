@@ -53,8 +53,8 @@ pub fn a_match_that_has_ended_is_settled_up()
 
 /// Who lives wins all: once a match is over, whoever posted whatever, a live prover has its own stake and one more for each of its
 /// disputes but that of a collision, of which there is one at most; the others and the pool have exactly the rest (`lives`), so
-/// that together they never end with more than the others put down (`others`). A prover whose moves are true is live at the end, and
-/// has won so (`truthful`), and so has one that answers truly by its script (`scripts`).
+/// that together they never end with more than the others put down (`others`). A prover whose moves are true, which is live
+/// at the end (`true_moves_are_true_answers`), has won so (`truthful`), and so has one that answers truly by its script (`scripts`).
 pub fn who_lives_wins_all()
     ensures lives { WhoLivesWinsAll }
     ensures others { OthersGainNothing }

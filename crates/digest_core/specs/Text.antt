@@ -6,7 +6,7 @@ use Rattle.byteorder.specs.Endian.{little_bytes}
 use Rattle.rd_base.specs.declared.status.Status.{Status}
 use Rattle.rd_base.specs.declared.status.Status.TheVariants.{Running, Exited, Trapped}
 
--- leaf: 0, and a chunk of memory
+-- leaf: 0, and a chunk of memory or of the input
 abbrev pub leaf_text : List ℕ → List ℕ
 leaf_text chunk = 0 ∷ chunk
 
@@ -35,7 +35,8 @@ unfoldable pub control_text : ℕ → Status → ℕ → List ℕ → List ℕ
 control_text pc status out_len chain =
     3 ∷ little_bytes 4 pc ++ status_byte status ∷ little_bytes 4 (status_code status) ++ little_bytes 8 out_len ++ chain
 
--- state: 4, and the digests of memory, of the registers string and of the control string
+-- state: 4, the memory digest (the root of memory, in version 3 the digest of the storage string), the registers digest (that of the
+-- registers string, in versions 2 and 3 the root of the registers' tree), and the digest of the control string
 abbrev pub state_text : List ℕ → List ℕ → List ℕ → List ℕ
 state_text memory registers control = 4 ∷ memory ++ registers ++ control
 

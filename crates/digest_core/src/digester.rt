@@ -70,8 +70,8 @@ impl Digester for Weak8 {
 }
 
 /// A digest function that can't be called without a counter, which each digest counts up by 1. A function that gets a `Counted` and
-/// no `Digester` makes no digest, by its type, without a counter; a clause on its own counter says how many those are that it counted
-/// there. Each `Digester` is one.
+/// no `Digester` makes no digest of that function, by its type, without a counter; that it names no other digester, such as `Sha256`, one
+/// reads. A clause on its own counter says how many those are that it counted there. Each `Digester` is one.
 pub trait Counted: Copy {
     /// The digest of a list of bytes.
     ghost digest_of: { List ℕ → List ℕ };

@@ -160,8 +160,8 @@ impl<D: Digester> InputTree<D> {
     ghost use Rattle.merkle_nodes.specs.Opening.{IsPath};
     ghost use Rattle.mem_tree.specs.InputTree.{input_leaf, input_root};
 
-    /// The tree of an input of at most 1,048,576 bytes, by 16 digests for the tree over zeros, and one for each of its chunks and each node
-    /// above one.
+    /// The tree of an input of at most 1,048,576 bytes, as the code shows by 16 digests for the tree over zeros, and one for each of its
+    /// chunks and each node above one.
     pub fn build(alloc: Global, d: D, input: &[u8]) -> Result<Self, Memory>
         requires { length input.now ≤ 1048576 }
         ensures { IfOk result (λ t. IsInputTree D.digest_of t input.now) }

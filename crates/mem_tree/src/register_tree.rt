@@ -139,7 +139,7 @@ impl<D: Digester> RegTree<D> {
         }
     }
 
-    /// A register file with its tree, by 6 digests and those of the registers that aren't 0.
+    /// A register file with its tree, as the code shows by 6 digests and those of the registers that aren't 0.
     pub fn new(d: D, regs: &Regs) -> Self
         ensures { result ≡ regs.now }
     {

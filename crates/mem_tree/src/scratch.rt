@@ -45,8 +45,8 @@ fn part<D: Digester>(of: &Source<'_, D>, level: u8, width: u32, k: u32) -> Diges
     of.d.digest(node_text(&left, &right).as_slice())
 }
 
-/// The root of an input of at most 1,048,576 bytes, from scratch: it digests a chunk of zeros and the 15 nodes over zeros, each chunk of
-/// the input, and the nodes above those. It takes no memory.
+/// The root of an input of at most 1,048,576 bytes, from scratch: as the code shows it digests a chunk of zeros and the 15 nodes over
+/// zeros, each chunk of the input, and the nodes above those. It takes no memory.
 pub fn input_root<D: Digester>(d: D, input: &[u8]) -> Digest32
     ensures { result.0 ≡ tree.input_root D.digest_of input.now }
 {

@@ -30,7 +30,7 @@ FirstFails refusal (c ∷ cs) = ((c.refusal ≡ refusal) × (¬ c.holds)) ⊎ (c
 -- the conditions of a proof from the root a, for a referee of a version, in their order: it is of this version; it has the fetched
 -- chunk if and only if its parts call for one; they open the root, and the chunk the root of memory; as many registers are opened as
 -- are named, and they open their root; the chunk of data is there if and only if it is called for, and opens the root of memory; and
--- so does the chunk of the input open its root
+-- so it is with the chunk of the input and the root of the input
 abbrev pub conditions : (List ℕ → List ℕ) → ℕ → Digest32 → Facts → List Condition
 conditions digest version a facts =
     record { refusal = shape; holds = facts.version ≡ version }

@@ -1,17 +1,19 @@
 //! Collisions of two proofs of one step: two different strings of one digest, one opened by each.
-ghost use Rattle.std.specs.Prelude.{◌≡◌, [], ◌∷◌};
+ghost use Rattle.std.specs.Prelude.{◌≡◌, ◌↔◌, [], ◌∷◌, None};
+ghost use Rattle.rd_base.specs.declared.digest.Digest32.{Digest32};
 ghost use Rattle.out_chain.specs.Root.{control_text_of};
 ghost use Rattle.out_chain.specs.Collision.{first_collision};
 ghost use Rattle.open_proof.specs.Facts as facts;
 ghost use Rattle.open_proof.specs.Next as next;
 ghost use Rattle.open_proof.specs.Strings.{registers_texts};
 ghost use Rattle.open_proof.specs.Collision as collision;
+ghost use Rattle.open_proof.specs.Conditions.{LeadsFrom};
 
 mod laws;
 mod walking;
 
 use crate::collision::walking::{text_collision, ways_collision};
-use crate::facts::{Facts, HeldInput, HeldRegisters, called_by, facts_of};
+use crate::facts::{Facts, HeldInput, HeldRegisters, called_by, facts_of, proofs_are_in_range};
 use crate::ways::ways_of;
 use digest_core::{Digester, control_text, registers_text, state_text, storage_text};
 pub use laws::proofs_from_one_root;
@@ -140,14 +142,9 @@ fn opens_in<D: Digester>(d: D, version: u32, a: &Digest32, facts: &Facts) -> boo
     facts.version == version && a.0 == d.digest(text_before(d, facts).as_slice()).0
 }
 
-/// Two different strings of one digest, the first opened by the first proof, the second by the second, of two proofs of a version that
-/// open the root `a`: the first such pair in the order state string, storage string, registers string, control string, then the strings of
-/// the fetched chunk, of the opened registers, of the chunk of data and of the chunk of the input, each from the leaf string up.
-///
-/// `None` if a proof is of another version or doesn't open `a`. For two proofs that lead from `a` it is `None` if and only if the proofs
-/// are equal (`proofs_from_one_root`).
+/// The collision of two proofs by its definition.
 #[tactic(auto, unfolding(crate::specs::Collision::step_collision))]
-pub fn step_collision<D: Digester>(
+fn collision_between<D: Digester>(
     d: D,
     version: u32,
     a: Digest32,
@@ -162,4 +159,26 @@ pub fn step_collision<D: Digester>(
         return opened_collision(d, &x, &y);
     }
     None
+}
+
+/// Two different strings of one digest, the first opened by the first proof, the second by the second, of two proofs of a version that
+/// open the root `a`: the first such pair in the order state string, storage string, registers string, control string, then the strings of
+/// the fetched chunk, of the opened registers, of the chunk of data and of the chunk of the input, each from the leaf string up.
+///
+/// `None` if a proof is of another version or doesn't open `a`. For two proofs that lead from `a` it is `None` if and only if the proofs
+/// are equal.
+pub fn step_collision<D: Digester>(
+    d: D,
+    version: u32,
+    a: Digest32,
+    first: &Proof,
+    second: &Proof,
+) -> Option<(OpenText, OpenText)>
+    ensures value { result ≡ collision.step_collision D.digest_of version a (facts.facts_of first.now) (facts.facts_of second.now) }
+    ensures none { (b c : Digest32) → LeadsFrom D.digest_of version a (facts.facts_of first.now) b →
+        LeadsFrom D.digest_of version a (facts.facts_of second.now) c → (result ≡ None) ↔ (first.now ≡ second.now) }
+{
+    proofs_are_in_range(first);
+    proofs_are_in_range(second);
+    collision_between(d, version, a, first, second)
 }

@@ -11,9 +11,9 @@
 //! the step of the machine (`shown_states_lead`); each proof that a program holds is in the ranges of its types (`proofs_are_in_range`);
 //! `make_proof` gives the plain proof of a state, which leads from the root of the state to the root of the next (`plain_proofs_lead`);
 //! what `step_collision` gives is a pair of different strings of one digest, the first opened by the first proof, the second by the
-//! second, and it gives none if and only if the proofs are equal (`proofs_from_one_root`). Only a claim takes memory, for its output.
-//! Read `specs/Held.antt`, `specs/Facts.antt`, `specs/Next.antt` and `specs/Conditions.antt`, then `facts`, `proving` and
-//! `specs/Collision.antt`.
+//! second (`proofs_from_one_root`), and of two that lead from one root it gives none if and only if they are equal. Only a claim takes
+//! memory, for its output. Read `specs/Held.antt`, `specs/Facts.antt`, `specs/Next.antt` and `specs/Conditions.antt`, then `facts`,
+//! `proving` and `specs/Collision.antt`.
 #![tactic(auto)]
 
 mod collision;

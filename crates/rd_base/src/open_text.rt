@@ -45,7 +45,7 @@ impl OpenText {
         self.len += 1;
     }
 
-    /// Appends bytes, in their order, up to 129 in all.
+    /// Appends bytes, in their order. There are at most 129 then.
     pub fn extend(&mut self, more: &[u8])
         requires { length self.old + length more.now ≤ 129 }
         ensures { self.new ≡ self.old ++ more.now }

@@ -7,7 +7,8 @@ ghost use Rattle.rv_step.specs.ArithmeticLaws.{AreSums, AreProducts, DividesUnsi
 
 use mem_plain::laying_bytes;
 
-/// Sums and differences of words are those of their values, signed or unsigned (ADD, ADDI, SUB).
+/// Sums and differences of words are those of their values as far as these are in range, and else modulo 2^32, signed or unsigned (ADD,
+/// ADDI, SUB).
 pub fn sums_are_of_values()
     ensures { (a b : ℕ) → a < 2 ^ 32 → b < 2 ^ 32 → AreSums a b }
 {}
@@ -18,8 +19,8 @@ pub fn products_have_two_words()
 {}
 
 /// The dividend is the divisor times the quotient plus the remainder, modulo 2^32, by every divisor. By zero all bits of the quotient are
-/// set, and the remainder is the dividend. By another divisor a remainder is smaller than it, and a signed one is 0 or has the sign of the
-/// dividend (DIV, DIVU, REM, REMU).
+/// set, and the remainder is the dividend. By another divisor a remainder is smaller than it, signed ones by absolute values, and a signed
+/// one is 0 or has the sign of the dividend (DIV, DIVU, REM, REMU).
 pub fn dividends_come_back()
     ensures unsigned { (a b : ℕ) → a < 2 ^ 32 → b < 2 ^ 32 → DividesUnsigned a b }
     ensures signed { (a b : ℕ) → a < 2 ^ 32 → b < 2 ^ 32 → DividesSigned a b }

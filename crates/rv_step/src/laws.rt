@@ -94,7 +94,7 @@ pub fn output_only_grows()
 {}
 
 /// A step keeps valid states, which are those with 32 words as registers of which the first is 0, a word as `pc` and
-/// as the code of the status, bytes in memory, output and input, and one of the versions.
+/// as the code of the status, bytes in memory, output and input, an input of at most 1,048,576 bytes, and one of the versions.
 pub fn steps_keep_valid_states()
     ensures { (s : State) → IsValid s → IsValid (step s) }
 {

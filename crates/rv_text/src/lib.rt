@@ -3,10 +3,10 @@
 //!
 //! The layers above may rely on this: `assemble` gives the words that the definition `assembled` gives, or its fault with its kind and its
 //! line, and but for running out of memory the answer is determined by the text alone; `list` gives the text `listing`. The laws tie both
-//! to the words of the instructions: a statement has a word if and only if it is how an instruction with that word is written
-//! (`each_word_is_said`), and the listing of any words is assembled to them (`listing_is_read_back`). A label's place is four bytes for
-//! each word of the lines before its own (`labels_stand_for_places`). Of the faults that a statement has, the one with the least number
-//! counts (`least_fault_counts`); a text has the first fault of its lines, or the words of its statements in their order
+//! to the words of the instructions: a statement has a word if and only if it is how an instruction with that word, or the word as such,
+//! is written (`each_word_is_said`), and the listing of any words is assembled to them (`listing_is_read_back`). A label's place is four
+//! bytes for each word of the lines before its own (`labels_stand_for_places`). Of the faults that a statement has, the one with the least
+//! number counts (`least_fault_counts`); a text has the first fault of its lines, or the words of its statements in their order
 //! (`texts_have_words_or_a_fault`).
 //!
 //! Read `specs/Lines.antt` first, from there `Rows`, `Operands`, `Fields`, `Numbers`, `Characters` and `Faults`, then

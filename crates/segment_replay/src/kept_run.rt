@@ -88,9 +88,9 @@ impl<D: Digester> KeptRun<D> {
     }
 
     /// The roots of steps of the run, in the order asked, as the function `roots` gives them, but without the digests of its input. Each
-    /// worker makes its first root from the one that it made last, whether the step lies ahead or behind. A single root, and all roots if
-    /// `workers` is 1, are made by the first worker, in the caller's thread; other threads help only if that one has no tree yet. An `Err`
-    /// is out of memory; a worker that was making a root then builds its next tree anew.
+    /// worker makes its first root from the one that it made last, whether the step lies ahead or behind. By the code a single root, and
+    /// all if `workers` is 1, are made by the first worker, in the caller's thread; other threads help only if that one has no tree yet. An
+    /// `Err` is out of memory; a worker that was making a root then builds its next tree anew.
     pub fn roots<R: Threads + Sync>(
         &mut self,
         rt: &R,

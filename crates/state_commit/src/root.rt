@@ -64,7 +64,7 @@ pub struct Parts {
 }
 
 /// The root of a machine's state in a version of the commitment, from the digests of its parts. The machine's chain is that of its
-/// output, by this digester. It takes two digests, and in version 3 three.
+/// output, by this digester. As the code shows it takes two digests, and in version 3 three.
 pub fn root_of_parts<D: Digester>(d: D, version: u32, parts: &Parts, machine: &Machine) -> Digest32
     requires chained { IsChained D.digest_of machine.now }
     requires memory { parts.now.memory.0 ≡ state.memory_digest D.digest_of (state_of machine.now) }

@@ -49,7 +49,7 @@ impl<D: Digester> SharedInput<D> {
         })
     }
 
-    /// Another handle to the same tree. It takes no memory. An `Err` comes only if 2^63 handles share the tree.
+    /// Another handle to the same tree. It takes no memory. An `Err` is that of `Arc::try_clone`.
     pub fn share(&self) -> Result<Self, Memory>
         ensures { IfOk result (λ i. i ≡ self.now) }
     {

@@ -162,11 +162,11 @@ fn check_facts<C: Counted, L: Ledger>(
 /// calls for it, or there though it doesn't; `NotOpen` if that doesn't open the root of memory; and the same for the chunk of the input
 /// (`not_open`, `wrong_shape`).
 ///
-/// `steps` ticks once for each digest that the answer depends on (by their type the functions that it calls make none without a counter, `Counted`),
-/// and once for the step of the machine: at most 91, 101 or 103 times, by the version (`few`), and at most 36, 57 or 69 times if there is
-/// no data chunk (`alone`). If it leads, it ticks exactly as often as its openings and its step take (`exactly`). If it refuses, it ticks
-/// exactly as often as the conditions take up to the first that fails, and for those of shape not at all: for the root all strings of the
-/// parts are digested, and for openings all their ways up, be the first of them wrong or the last (`counted`).
+/// `steps` ticks once for each digest that the answer depends on (by their type the functions that it calls make none of `d` without a
+/// counter, `Counted`), and once for the step of the machine: at most 91, 101 or 103 times, by the version (`few`), and at most 36, 57 or
+/// 69 times if there is no data chunk (`alone`). If it leads, it ticks exactly as often as its openings and its step take (`exactly`). If
+/// it refuses, it ticks exactly as often as the conditions take up to the first that fails, and for those of shape not at all: for the root
+/// all strings of the parts are digested, and for openings all their ways up, be the first of them wrong or the last (`counted`).
 pub fn check_step<D: Digester, L: Ledger>(
     d: D,
     version: u32,

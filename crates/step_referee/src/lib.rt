@@ -3,8 +3,8 @@
 //! - `check`: whether a proof of one step leads from a root, and to which. `check_step` answers exactly when a proof leads (`open_proof`,
 //!   `LeadsFrom`), and if it leads nowhere, which of its conditions fails first; the counter ticks at most 91, 101 or 103 times, by the
 //!   version, and exactly as often as `specs/Ticks.antt` defines: for the digests of the conditions up to the first that fails, and, if a
-//!   proof leads, for its step too. The functions that check get a `Counted` and no digester, so that by type they make no digest without
-//!   a counter; `check_step` hands its digester in by one line.
+//!   proof leads, for its step too. The functions that check get a `Counted` and no digester, so that by type they make no digest of the
+//!   function that is handed in without a counter; `check_step` hands its digester in by one line, and none is named beside, as one reads.
 //! - `judge`: `MachineJudge` decides by `specs/MachineRuling.antt`, which keeps the laws of a judge; a proof leads by it if and only if its
 //!   conditions hold (`judged_leading_is_exact`); and a run of the machine is a true run for it (`machine_runs_are_true`).
 //!

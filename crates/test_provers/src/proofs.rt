@@ -3,7 +3,7 @@ use crate::opened::{root_of, said};
 use crate::programs::{Program, started};
 use crate::said::claim;
 use digest_core::Sha256;
-use open_proof::{facts_of, make_claim, make_proof};
+use open_proof::{make_claim, make_proof};
 use proof_wire::encode;
 use rd_base::{Answer, Boxed, Claim, Digest32, Proof};
 use state_commit::Committed;
@@ -54,11 +54,10 @@ fn from_root(
     root: Digest32,
     words: &[&str],
 ) -> Result<String, Unanswered> {
-    let facts = facts_of(proof);
-    if root_of(&facts) != root {
+    if root_of(proof) != root {
         return Ok(String::from_str(alloc, "proof of another state")?);
     }
-    said(alloc, &facts, words.get(2..).unwrap_or(&[]))
+    said(alloc, proof, words.get(2..).unwrap_or(&[]))
 }
 
 /// `wire STEP PLACE`, `proof STEP REGISTER ..`, or `claim STEPS`: the true claim of the program after this many steps.

@@ -1,5 +1,5 @@
--- To believe: how many rulings the disputes of a match take in all, with two counted for each proof round, one for each side. A ruling is one
--- answer of the judge to where a proof leads, and only a proof round looks at proofs.
+-- To believe: how many sides the proof rounds of a match have in all, two for each. For each side the code asks the judge once where a
+-- proof leads, which is a ruling, and only a proof round looks at proofs.
 use Rattle.std.specs.Prelude.{ℕ, ◌+◌, ◌-◌, ◌*◌, ◌≤◌, List, [], ◌∷◌}
 use Rattle.bisect_game.specs.Bisection.{Bisection, proof_rounds_of}
 use Rattle.bisect_game.specs.Rules.{Rules, ArePlayable}

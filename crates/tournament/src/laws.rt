@@ -74,7 +74,7 @@ pub fn truthful_provers_are_safe()
 
 /// Few rounds: whatever is posted, m provers play at most m - 1 disputes (`disputes`), and a dispute has k bisection rounds with
 /// `F^k < F * N` for rounds of F parts and the bound N, and at most one proof round (`rounds`). So all proof rounds together have
-/// `2 (m - 1)` sides at most, for each of which the judge rules once where a proof leads (`rulings`).
+/// `2 (m - 1)` sides at most (`rulings`). For each the code asks the judge once where a proof leads.
 pub fn a_match_has_few_disputes_and_rounds()
     ensures disputes { FewDisputes }
     ensures rounds { FewRounds }

@@ -244,8 +244,8 @@ impl<J: Judge + Drop> Match<J> {
     }
 
     /// Few rounds: fewer disputes than provers, and in each k bisection rounds with `F^k < F * N` for rounds of F parts and the
-    /// bound N, and at most one proof round. So all proof rounds together have at most `2 (m - 1)` sides, for each of which the judge
-    /// rules once where a proof leads.
+    /// bound N, and at most one proof round. So all proof rounds together have at most `2 (m - 1)` sides. For each the code asks the judge
+    /// once where a proof leads.
     pub fn has_few_disputes_and_rounds(&self)
         ensures disputes { length self.now.game.record_.disputes < self.now.setup.provers }
         ensures rounds { AllShort (rules_in J.ruling self.now) self.now.game.record_.disputes }
@@ -263,7 +263,7 @@ impl<J: Judge + Drop> Match<J> {
         let _ = &self.live;
     }
 
-    /// It is never stuck, whoever posted what: unless it is over, a prover has an open question. A post on that isn't stale.
+    /// It is never stuck, whoever posted what: unless it is over, a prover has an open question.
     pub fn is_never_stuck(&self)
         ensures { is_complete self.now.game.record_ ≡ false → AsksSomebody (rules_in J.ruling self.now) self.now.game.record_ }
     {

@@ -53,7 +53,7 @@ fn rounds_of(dispute: &Dispute) -> u64
     (dispute.rounds().len() + asked_now) as u64
 }
 
-/// The bisection rounds of all disputes. `None` comes only if there are 2^64 or more, which no memory holds.
+/// The bisection rounds of all disputes. As the code shows, `None` comes only if there are 2^64 or more, which no memory holds.
 fn rounds_in(disputes: &[Dispute]) -> Option<u64>
     ensures { IfSome result (λ rounds. rounds ≡ rounds_in disputes.now) }
 {

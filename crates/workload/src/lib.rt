@@ -2,7 +2,7 @@
 //!
 //! The layers above may rely on this: what `big_case` gives is the compact JSON text of one tree, a definition, and `case_reader`'s
 //! definition of reading takes it to one case, for every seed. Each dispute of this case has 16 rounds and eliminates one prover. That
-//! isn't proved, but tested for seed 1, and shown by the examples for a few more seeds. Read `big` first, then `draws`.
+//! isn't proved, but tested for the seeds 0 and 1, and shown by the examples for a few more seeds. Read `big` first, then `draws`.
 //! An `Err` that no comment names is out of memory.
 #![tactic(auto)]
 
