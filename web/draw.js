@@ -53,21 +53,27 @@ function colourOf(number, count) {
   return [hue + 1 / 3, hue, hue - 1 / 3].map((part) => rounded(255 * partOfHue(from, to, part)));
 }
 
-/** The colour of a claim, as it is written; a lighter one for a claim of the same text that is of another state. */
+/** The colour of a claim, as it is written; a lighter one for each further shade. */
 function shaded(colour, shade) {
   const left = 0.65 ** shade;
   return `#${colour.map((part) => rounded(255 - left * (255 - part)).toString(16).padStart(2, "0")).join("")}`;
 }
 
-/** The state of each claim, by prover: its text and a shade, which differs between two of one text whose provers dispute. */
+/**
+ * The state of each claim, by prover: its text and a shade, the least that no other prover of this text has with whom it had a dispute.
+ *
+ * Two that had one claim different states. A report doesn't say whether two claim one state that never met, but for those that are live
+ * when a claim is accepted, which all do: they have the shade 0.
+ */
 function statesOf(match) {
   const areRivals = (one, other) => match.disputes.some(({ sides }) => sides.includes(one) && sides.includes(other));
-  const states = new Map();
-  for (const [prover, { words }] of match.claims) {
-    const taken = [...states].filter(([other, state]) => state.words === words && areRivals(prover, other)).map(([, state]) => state.shade);
-    let shade = 0;
-    while (taken.includes(shade)) shade += 1;
-    states.set(prover, { words, shade });
+  const out = match.disputes.flatMap(outOf), areAgreed = match.verdict.startsWith("accept");
+  const states = new Map([...match.claims].map(([prover, { words }]) => [prover, { words, shade: areAgreed && !out.includes(prover) ? 0 : null }]));
+  for (const [prover, state] of states) {
+    if (state.shade !== null) continue;
+    const taken = [...states].filter(([other, { words }]) => words === state.words && areRivals(prover, other)).map(([, { shade }]) => shade);
+    state.shade = 0;
+    while (taken.includes(state.shade)) state.shade += 1;
   }
   return states;
 }
@@ -163,10 +169,13 @@ class Picture {
       if (sides.has(key)) sides.get(key).provers.push(prover);
       else sides.set(key, { ...state, provers: [prover] });
     }
-    for (const { words, shade, provers } of sides.values()) {
+    // Claims in the order of the first prover that has them, and the shades of one in theirs.
+    const claims = [...this.states.values()].map(({ words }) => words);
+    const lines = [...sides.values()].sort((one, other) => claims.indexOf(one.words) - claims.indexOf(other.words) || one.shade - other.shade);
+    for (const { words, shade, provers } of lines) {
       this.add("rect", { x: this.bars, y: this.y - 6, width: 12, height: 12, fill: this.laneColour(provers[0]) });
       const names = provers.map((prover) => `p${prover}`).join(" "), verb = provers.length === 1 ? "claims" : "claim";
-      this.text(this.bars + 20, `${names} ${verb} ${short(words)}${shade ? ", of another state" : ""}`);
+      this.text(this.bars + 20, `${names} ${verb} ${short(words)}${shade ? ", of another state than one above" : ""}`);
       this.y += ROW;
     }
     for (const [word, why] of [["faulty", "a faulty claim"], ["spent", "no answer"]]) {
