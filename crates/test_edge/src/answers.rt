@@ -5,7 +5,6 @@ use rd_base::{
     RegOpening, RegOpenings, RegPath, Regs, RootList, Status, StepProof, StepProof2, StepProof3,
 };
 use std::alloc::Global;
-use std::test::Fail;
 
 pub(crate) fn digest(byte: u8) -> Digest32 {
     Digest32([byte; 32])
@@ -50,29 +49,24 @@ pub(crate) fn control(pc: u32, status: Status, out_len: u64, chain: u8) -> Ctl {
     }
 }
 
-pub(crate) fn claim(
-    alloc: Global,
-    mem: u8,
-    regs: u8,
-    ctl: Ctl,
-    output: &[u8],
-) -> Result<Answer, Fail> {
-    Ok(Answer::Claim(Claim {
+/// A claim, unless memory runs out or the output is too long.
+pub(crate) fn claim(alloc: Global, mem: u8, regs: u8, ctl: Ctl, output: &[u8]) -> Option<Answer> {
+    Some(Answer::Claim(Claim {
         mem: digest(mem),
         regs: digest(regs),
         ctl,
-        output: ClaimOutput::new(output.to_vec(alloc)?).ok_or("too long")?,
+        output: ClaimOutput::new(output.to_vec(alloc).ok()?)?,
     }))
 }
 
-pub(crate) fn roots(alloc: Global, digests: &[Digest32]) -> Result<Answer, Fail> {
-    let roots = RootList::new(digests.to_vec(alloc)?).ok_or("none, or too many")?;
-    Ok(Answer::Roots(roots))
+/// A list of roots, unless memory runs out, or there is none or too many.
+pub(crate) fn roots(alloc: Global, digests: &[Digest32]) -> Option<Answer> {
+    Some(Answer::Roots(RootList::new(digests.to_vec(alloc).ok()?)?))
 }
 
-/// The answer that gives a proof.
-pub(crate) fn step(alloc: Global, proof: Proof) -> Result<Answer, Fail> {
-    Ok(Answer::Step(Boxed::new(Box::new(alloc, proof)?)))
+/// The answer that gives a proof, unless memory runs out.
+pub(crate) fn step(alloc: Global, proof: Proof) -> Option<Answer> {
+    Some(Answer::Step(Boxed::new(Box::new(alloc, proof).ok()?)))
 }
 
 /// A proof of version 1.
@@ -112,7 +106,7 @@ pub(crate) fn proof_2(
 }
 
 /// What a proof of version 3 holds of the input: its length, its root, and the chunk that is read.
-#[derive(Clone, Copy, Debug)]
+#[derive(Clone, Copy)]
 pub(crate) struct Input {
     pub(crate) len: u32,
     pub(crate) root: u8,

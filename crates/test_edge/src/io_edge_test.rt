@@ -2,7 +2,8 @@
 ghost use Rattle.std.specs.Prelude.{◌≤◌, IfOk};
 
 use io_edge::*;
-use std::alloc::Global;
+use rd_base::Memory;
+use std::alloc::{AllocError, Global};
 use std::io;
 use std::io::{ErrorKind, Read, Write};
 use std::test::Fail;
@@ -165,62 +166,110 @@ const LIMITS: [Limit; 9] = [
     },
 ];
 
+/// What a whole read comes to: whether it gives these bytes, or its fault in short.
+type Outcome = Result<bool, &'static str>;
+
+/// What this read comes to.
+fn outcome(read: Result<Vec<u8>, ReadAll>, bytes: &[u8]) -> Outcome {
+    match read {
+        Ok(all) => Ok(all.as_slice() == bytes),
+        Err(fault) => Err(in_short(&fault)),
+    }
+}
+
+/// The fault of a whole read in short.
+fn in_short(fault: &ReadAll) -> &'static str {
+    match fault {
+        ReadAll::Fault => "fault",
+        ReadAll::TooLong => "too long",
+        ReadAll::Memory => "memory",
+    }
+}
+
+/// What a read of a source up to a limit comes to.
+fn read_up_to<S: Source>(alloc: Global, source: &mut S, limit: usize, bytes: &[u8]) -> Outcome {
+    outcome(read_all(alloc, source, limit), bytes)
+}
+
+/// What a read of a reader up to a limit comes to.
+fn read_from<R: Read>(alloc: Global, reader: &mut R, limit: usize, bytes: &[u8]) -> Outcome {
+    read_up_to(alloc, &mut ReaderSource::new(reader), limit, bytes)
+}
+
+/// Whether a sink takes the text.
+fn takes_text<K: Sink>(sink: &mut K) -> bool {
+    write_all(sink, TEXT).is_ok()
+}
+
+/// Whether a writer takes the text, and how many faults are counted.
+fn written_to<W: Write>(writer: &mut W) -> (bool, u64) {
+    let mut sink = WriterSink::new(writer);
+    let is_taken = takes_text(&mut sink);
+    (is_taken, sink.faults())
+}
+
+/// What a read of the text up to a limit comes to, and how many faults are counted.
+fn read_text(alloc: Global, mut source: MemSource, limit: usize) -> (Outcome, u64) {
+    let read = read_up_to(alloc, &mut source, limit, TEXT);
+    (read, source.faults())
+}
+
+/// A source of the text that gives this many bytes in each call, and fails in this one.
+fn source_of_text(alloc: Global, piece: usize, failing: u64) -> Result<MemSource, AllocError> {
+    let (bytes, fails) = (TEXT.to_vec(alloc)?, [failing].to_vec(alloc)?);
+    Ok(MemSource::new(bytes, piece.max(1), fails))
+}
+
 /// Whether such a read gives all, or is too long, and makes no call that fails.
-fn stops(alloc: Global, row: &Limit) -> Result<bool, Fail> {
-    let Limit {
-        piece,
-        limit,
-        fits,
-        failing,
-    } = *row;
-    let fails = vec![in alloc; failing]?;
-    let mut source = MemSource::new(TEXT.to_vec(alloc)?, piece.max(1), fails);
-    let as_wanted = match read_all(alloc, &mut source, limit) {
-        Ok(all) => fits && all.as_slice() == TEXT,
-        Err(ReadAll::TooLong) => !fits,
+fn stops(alloc: Global, row: &Limit) -> bool {
+    let read = if row.fits { Ok(true) } else { Err("too long") };
+    match source_of_text(alloc, row.piece, row.failing) {
+        Ok(source) => read_text(alloc, source, row.limit) == (read, 0),
         Err(_) => false,
-    };
-    Ok(as_wanted && source.faults() == 0)
+    }
 }
 
 /// The first row of limits that isn't kept.
-fn first_other_limit(alloc: Global) -> Result<Option<usize>, Fail> {
+fn first_other_limit(alloc: Global) -> Option<usize> {
     for (place, row) in LIMITS.iter().enumerate() {
-        if !stops(alloc, row)? {
-            return Ok(Some(place));
+        if !stops(alloc, row) {
+            return Some(place);
         }
     }
-    Ok(None)
+    None
 }
 
 #[test]
-fn reading_stops_at_the_end_and_once_the_limit_is_passed(rt: HostRuntime) -> Result<(), Fail> {
-    assert_eq!(rt; first_other_limit(rt.alloc())?, None);
-    Ok(())
+fn reading_stops_at_the_end_and_once_the_limit_is_passed(rt: HostRuntime) {
+    assert_eq!(rt; first_other_limit(rt.alloc()), None);
+}
+
+/// What two reads of a source come to, the second if it gives these bytes, and how many faults are counted behind each.
+fn read_twice(alloc: Global, mut source: MemSource, rest: &[u8]) -> [(Outcome, u64); 2] {
+    let first = read_up_to(alloc, &mut source, 12, b"");
+    let faults = source.faults();
+    let second = read_up_to(alloc, &mut source, 12, rest);
+    [(first, faults), (second, source.faults())]
 }
 
 /// Whether a read of which this call fails is a fault, and the next one gives the rest.
-fn fails_and_reads_on(alloc: Global, call: u64, rest: &[u8]) -> Result<bool, Fail> {
-    let mut source = MemSource::new(TEXT.to_vec(alloc)?, 7, vec![in alloc; call]?);
-    let failed = match read_all(alloc, &mut source, 12) {
-        Err(ReadAll::Fault) => source.faults() == 1,
-        _ => false,
-    };
-    let second = read_all(alloc, &mut source, 12)?;
-    Ok(failed && second.as_slice() == rest && source.faults() == 1)
+fn fails_and_reads_on(alloc: Global, call: u64, rest: &[u8]) -> bool {
+    match source_of_text(alloc, 7, call) {
+        Ok(source) => read_twice(alloc, source, rest) == [(Err("fault"), 1), (Ok(true), 1)],
+        Err(_) => false,
+    }
 }
 
 /// The first call, the second, and the third, which would show the end of input.
 #[test]
-fn a_failed_read_is_no_end_of_input_and_takes_nothing(rt: HostRuntime) -> Result<(), Fail> {
+fn a_failed_read_is_no_end_of_input_and_takes_nothing(rt: HostRuntime) {
     let alloc = rt.alloc();
     let failed = [
-        fails_and_reads_on(alloc, 1, b"hello, world")?,
-        fails_and_reads_on(alloc, 2, b"world")?,
-        fails_and_reads_on(alloc, 3, b"")?,
+        fails_and_reads_on(alloc, 1, b"hello, world"),
+        fails_and_reads_on(alloc, 2, b"world"),
+        fails_and_reads_on(alloc, 3, b""),
     ];
     assert_eq!(rt; failed, [true; 3]);
-    Ok(())
 }
 
 /// A write of the text into a sink.
@@ -293,47 +342,54 @@ const ROOMS: [Room; 9] = [
     },
 ];
 
+/// Whether the text is written whole to a sink, whether the sink then holds this many bytes of it, and how many faults are counted.
+fn write_text(mut sink: MemSink, held: usize) -> (bool, bool, u64) {
+    let is_whole = takes_text(&mut sink);
+    let holds = TEXT.get(..held) == Some(sink.as_slice());
+    (is_whole, holds, sink.faults())
+}
+
+/// A sink of such a row.
+fn sink_with(alloc: Global, row: &Room) -> Result<MemSink, Memory> {
+    let fails = [row.failing].to_vec(alloc)?;
+    MemSink::new(alloc, row.room, row.piece.max(1), fails)
+}
+
 /// Whether a sink holds this many bytes of the text after it was written, and a fault if and only if that isn't all.
-fn holds(alloc: Global, row: &Room) -> Result<bool, Fail> {
-    let Room {
-        piece,
-        room,
-        failing,
-        held,
-    } = *row;
-    let fails = vec![in alloc; failing]?;
-    let mut sink = MemSink::new(alloc, room, piece.max(1), fails)?;
-    let is_whole = write_all(&mut sink, TEXT).is_ok();
-    Ok(
-        is_whole == (held == 12)
-            && TEXT.get(..held) == Some(sink.as_slice())
-            && sink.faults() == u64::from(!is_whole),
-    )
+fn holds(alloc: Global, row: &Room) -> bool {
+    let is_whole = row.held == 12;
+    match sink_with(alloc, row) {
+        Ok(sink) => write_text(sink, row.held) == (is_whole, true, u64::from(!is_whole)),
+        Err(Memory) => false,
+    }
 }
 
 /// The first row of rooms whose sink holds something else.
-fn first_other_room(alloc: Global) -> Result<Option<usize>, Fail> {
+fn first_other_room(alloc: Global) -> Option<usize> {
     for (place, row) in ROOMS.iter().enumerate() {
-        if !holds(alloc, row)? {
-            return Ok(Some(place));
+        if !holds(alloc, row) {
+            return Some(place);
         }
     }
-    Ok(None)
+    None
 }
 
 #[test]
-fn a_sink_holds_all_or_after_a_fault_a_prefix(rt: HostRuntime) -> Result<(), Fail> {
-    assert_eq!(rt; first_other_room(rt.alloc())?, None);
-    Ok(())
+fn a_sink_holds_all_or_after_a_fault_a_prefix(rt: HostRuntime) {
+    assert_eq!(rt; first_other_room(rt.alloc()), None);
 }
 
-/// What a read from such a reader answers, `None` for a fault; how many faults are counted; and how many calls are made.
+/// What a read from a reader answers, `None` for a fault; and how many faults are counted.
+fn read_some_from<R: Read>(reader: &mut R) -> (Option<usize>, u64) {
+    let mut source = ReaderSource::new(reader);
+    let answer = source.read_some(&mut [0; 12]).ok();
+    (answer, source.faults())
+}
+
+/// The same of such a reader, and how many calls are made.
 fn read_once(turns: &'static [Turn]) -> (Option<usize>, u64, usize) {
     let mut reader = Scripted::new(turns, &[]);
-    let mut source = ReaderSource::new(&mut reader);
-    let mut buf = [0; 12];
-    let answer = source.read_some(&mut buf).ok();
-    let faults = source.faults();
+    let (answer, faults) = read_some_from(&mut reader);
     (answer, faults, reader.calls)
 }
 
@@ -415,12 +471,17 @@ struct Counts {
     moved: usize,
 }
 
-/// What a write to such a writer answers, `None` for a fault; how many faults are counted; and what the writer counts.
+/// What a write to a writer answers, `None` for a fault; and how many faults are counted.
+fn write_some_to<W: Write>(writer: &mut W) -> (Option<usize>, u64) {
+    let mut sink = WriterSink::new(writer);
+    let answer = sink.write_some(TEXT).ok();
+    (answer, sink.faults())
+}
+
+/// The same of such a writer, and what the writer counts.
 fn written_once(turns: &'static [Turn], flushes: &'static [Turn]) -> (Option<usize>, u64, Counts) {
     let mut writer = Scripted::new(turns, flushes);
-    let mut sink = WriterSink::new(&mut writer);
-    let answer = sink.write_some(TEXT).ok();
-    let faults = sink.faults();
+    let (answer, faults) = write_some_to(&mut writer);
     let counts = Counts {
         calls: writer.calls,
         flushes: writer.flush_calls,
@@ -572,9 +633,7 @@ fn a_write_is_short_or_interrupted_or_a_fault(rt: HostRuntime) {
 /// Whether a whole write to such a device succeeds, how many faults are counted, and how many calls are made.
 fn written_whole(turns: &'static [Turn]) -> (bool, u64, usize) {
     let mut device = Scripted::new(turns, &[NOTHING, NOTHING, NOTHING]);
-    let mut sink = WriterSink::new(&mut device);
-    let is_written = write_all(&mut sink, TEXT).is_ok();
-    let faults = sink.faults();
+    let (is_written, faults) = written_to(&mut device);
     (is_written, faults, device.calls)
 }
 
@@ -592,15 +651,11 @@ fn pieces_are_written_until_all_is_done_or_a_call_fails(rt: HostRuntime) {
     );
 }
 
-/// The result of a whole read of at most 10 bytes from such a device, in short, and how many calls are made.
-fn read_whole(alloc: Global, turns: &'static [Turn]) -> (Result<usize, &'static str>, usize) {
+/// Whether a whole read of at most 10 bytes from such a device gives ten, or its fault; and how many calls are made. The device writes
+/// nothing, so that each byte is 0.
+fn read_whole(alloc: Global, turns: &'static [Turn]) -> (Outcome, usize) {
     let mut device = Scripted::new(turns, &[]);
-    let read = match read_all(alloc, &mut ReaderSource::new(&mut device), 10) {
-        Ok(bytes) => Ok(bytes.len()),
-        Err(ReadAll::Fault) => Err("fault"),
-        Err(ReadAll::TooLong) => Err("too long"),
-        Err(ReadAll::Memory) => Err("memory"),
-    };
+    let read = read_from(alloc, &mut device, 10, &[0; 10]);
     (read, device.calls)
 }
 
@@ -616,7 +671,7 @@ fn pieces_are_read_until_all_is_done_or_a_call_fails(rt: HostRuntime) {
     assert_eq!(rt;
         read,
         [
-            (Ok(10), 4),
+            (Ok(true), 4),
             (Err("fault"), 2),
             (Err("too long"), 3),
             (Err("too long"), 1),
@@ -624,24 +679,38 @@ fn pieces_are_read_until_all_is_done_or_a_call_fails(rt: HostRuntime) {
     );
 }
 
+/// Whether a writer into memory takes the text, which the memory then has.
+fn is_written(alloc: Global) -> bool {
+    let mut written = Vec::new(alloc);
+    let is_taken = written_to(&mut written).0;
+    is_taken & (written.as_slice() == TEXT)
+}
+
+/// Whether a reader over memory gives the text.
+fn is_read(alloc: Global) -> bool {
+    let mut reader = TEXT;
+    read_from(alloc, &mut reader, 12, TEXT) == Ok(true)
+}
+
+/// Whether a quiet source gives the text, and then nothing.
+fn is_read_once(alloc: Global, mut source: QuietSource) -> bool {
+    let all = read_up_to(alloc, &mut source, 12, TEXT);
+    let rest = read_up_to(alloc, &mut source, 12, b"");
+    [all, rest] == [Ok(true), Ok(true)]
+}
+
 /// Devices over memory of the library, and quiet ones.
 #[test]
 fn devices_over_memory_of_the_library_move_its_bytes(rt: HostRuntime) -> Result<(), Fail> {
     let alloc = rt.alloc();
-    let read = read_all(alloc, &mut ReaderSource::new(TEXT), 12)?;
-    let mut written = Vec::new(alloc);
-    let is_written = write_all(&mut WriterSink::new(&mut written), TEXT) == Ok(());
-    let mut source = QuietSource::new(TEXT.to_vec(alloc)?);
-    let all = read_all(alloc, &mut source, 12)?;
-    let rest = read_all(alloc, &mut source, 12)?;
-    assert!(rt;
-        read.as_slice() == TEXT
-            && is_written
-            && written.as_slice() == TEXT
-            && all.as_slice() == TEXT
-            && rest.is_empty()
-            && write_all(&mut QuietSink, TEXT).is_ok()
-    );
+    let quiet = QuietSource::new(TEXT.to_vec(alloc)?);
+    let moved = [
+        is_read(alloc),
+        is_written(alloc),
+        is_read_once(alloc, quiet),
+        takes_text(&mut QuietSink),
+    ];
+    assert_eq!(rt; moved, [true; 4]);
     Ok(())
 }
 
@@ -649,6 +718,6 @@ fn devices_over_memory_of_the_library_move_its_bytes(rt: HostRuntime) -> Result<
 fn standard_devices_start_with_no_fault(rt: HostRuntime) {
     let source = StdSource::new(rt.stdin());
     let mut sink = StdSink::new(rt.stdout());
-    let is_written = write_all(&mut sink, TEXT) == Ok(());
-    assert!(rt; source.faults() == 0 && is_written && sink.faults() == 0);
+    let is_taken = takes_text(&mut sink);
+    assert_eq!(rt; (source.faults(), is_taken, sink.faults()), (0, true, 0));
 }

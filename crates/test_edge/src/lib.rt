@@ -1,9 +1,9 @@
-//! Tests of the values that all crates share, of sources and sinks, of wire forms, and of the texts of faults.
+//! Tests of the values that all crates share, of sources and sinks, of wire forms, and of the texts of faults and of statuses.
 //!
 //! No layer of the product depends on this crate. `rd_base_test` and `io_edge_test` have the tests of those crates, and `fault_texts_test`
-//! those of the texts of faults. The tests of wire forms lay bytes out in `runs` and make answers in `answers`: `wire_rules_test` has bytes
-//! and the first rule that they break; the other two have answers and their bytes, with each field at its ends (`wire_ends_test`) and in its
-//! place (`wire_places_test`).
+//! those of the texts. The tests of wire forms lay bytes out in `runs` and make answers in `answers`: `wire_rules_test` has bytes
+//! and the first rule that they break; the other two have answers with their bytes, which their copies have too, with each field at its
+//! ends (`wire_ends_test`) and in its place (`wire_places_test`).
 #![tactic(auto)]
 
 #[cfg(test)]

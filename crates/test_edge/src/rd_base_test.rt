@@ -1,8 +1,7 @@
-//! The values that all crates share: registers, lists, statuses, scripts, and copies of answers.
+//! The values that all crates share: registers, lists, statuses, texts, outputs, and copies of scripts.
 use rd_base::{
-    Answer, Boxed, Bytes, Claim, ClaimOutput, Ctl, Digest32, FirstSilentRound, Listed,
-    MAX_TEXT_BYTES, Manner, Memory, OpenText, Opening, PassCount, Path, Proof, RegisterNumber,
-    Regs, Script, Status, StepProof, Tamper,
+    Bytes, ClaimOutput, FirstSilentRound, Listed, MAX_TEXT_BYTES, Manner, Memory, OpenText,
+    PassCount, RegisterNumber, Regs, Script, Status, Tamper,
 };
 use std::alloc::{AllocError, Global};
 use std::test::Fail;
@@ -26,41 +25,46 @@ fn a_write_to_x0_is_dropped_and_one_to_another_stays(rt: HostRuntime) {
     assert!(rt; holds_x31_alone(&regs));
 }
 
+/// Whether a list is that of the bytes 0, 255 and 42.
+fn is_that(bytes: &Bytes) -> bool {
+    bytes.as_slice() == b"\x00\xff\x2a".as_slice()
+}
+
+/// Whether it gives them back.
+fn gives_back(bytes: Bytes) -> bool {
+    bytes.into_vec().as_slice() == b"\x00\xff\x2a".as_slice()
+}
+
+/// How many statuses are in a list without one.
+fn length_of_none(alloc: Global) -> usize {
+    let none: Listed<Status> = Listed::new(Vec::new(alloc));
+    none.len()
+}
+
+/// How many bytes an output of two has, unless memory runs out.
+fn length_of_output(alloc: Global) -> Option<usize> {
+    let output = ClaimOutput::new(b"\x80\xff".to_vec(alloc).ok()?)?;
+    Some(output.len())
+}
+
 #[test]
-fn a_list_gives_its_items_back(rt: HostRuntime) -> Result<(), Fail> {
+fn a_list_gives_its_items_back_and_an_output_its_length(rt: HostRuntime) -> Result<(), Fail> {
     let bytes = Bytes::new(b"\x00\xff\x2a".to_vec(rt.alloc())?);
-    let none: Listed<Status> = Listed::new(Vec::new(rt.alloc()));
-    assert!(rt;
-        bytes.len() == 3
-            && bytes.as_slice() == b"\x00\xff\x2a".as_slice()
-            && bytes.into_vec().as_slice() == b"\x00\xff\x2a".as_slice()
-            && none.len() == 0
-    );
+    let kept = (bytes.len(), is_that(&bytes), gives_back(bytes));
+    let lengths = (length_of_none(rt.alloc()), length_of_output(rt.alloc()));
+    assert!(rt; kept == (3, true, true) && lengths == (0, Some(2)));
     Ok(())
-}
-
-/// Whether a status prints so, and is that of a running machine.
-fn prints(alloc: Global, status: Status, text: &str, is_running: bool) -> Result<bool, Fail> {
-    let printed = format!(in alloc; "{status}")?;
-    Ok(printed.as_str() == text && status.is_running() == is_running)
 }
 
 #[test]
-fn a_status_is_told_in_words(rt: HostRuntime) -> Result<(), Fail> {
-    let alloc = rt.alloc();
-    let print = [
-        prints(alloc, Status::Running, "running", true)?,
-        prints(alloc, Status::Exited(0), "exited 0", false)?,
-        prints(
-            alloc,
-            Status::Exited(4294967295),
-            "exited 4294967295",
-            false,
-        )?,
-        prints(alloc, Status::Trapped(8), "trapped 8", false)?,
+fn a_machine_runs_until_it_exits_or_traps(rt: HostRuntime) {
+    let are_running = [
+        Status::Running.is_running(),
+        Status::Exited(0).is_running(),
+        Status::Exited(4294967295).is_running(),
+        Status::Trapped(8).is_running(),
     ];
-    assert_eq!(rt; print, [true; 4]);
-    Ok(())
+    assert_eq!(rt; are_running, [true, false, false, false]);
 }
 
 #[test]
@@ -68,19 +72,37 @@ fn a_refused_allocation_is_want_of_memory(rt: HostRuntime) {
     assert_eq!(rt; Memory::from(AllocError), Memory);
 }
 
-#[test]
-fn an_open_text_holds_129_bytes(rt: HostRuntime) {
+/// How many bytes a text of none has.
+fn length_of_empty() -> usize {
+    OpenText::new().as_slice().len()
+}
+
+/// The longest text: a byte of 4, and then bytes of 7.
+fn longest() -> OpenText {
     let mut text = OpenText::new();
-    let is_empty = text.as_slice().len() == 0;
     text.push(4);
     text.extend(&[7; MAX_TEXT_BYTES - 1]);
-    assert!(rt;
-        is_empty
-            && text.as_slice().len() == 129
-            && text.as_slice().first() == Some(&4)
-            && text.as_slice().last() == Some(&7)
-            && text.copy().as_slice() == text.as_slice()
-    );
+    text
+}
+
+/// Whether bytes are 129, of which the first is 4 and the last 7.
+fn are_longest(bytes: &[u8]) -> bool {
+    (bytes.len(), bytes.first(), bytes.last()) == (129, Some(&4), Some(&7))
+}
+
+/// Whether the copy of a text has its bytes.
+fn is_copied(text: &OpenText) -> bool {
+    text.copy().as_slice() == text.as_slice()
+}
+
+#[test]
+fn an_open_text_holds_129_bytes(rt: HostRuntime) {
+    let held = [
+        length_of_empty() == 0,
+        are_longest(longest().as_slice()),
+        is_copied(&longest()),
+    ];
+    assert_eq!(rt; held, [true; 3]);
 }
 
 /// The number that is kept of one, if it is taken.
@@ -139,99 +161,44 @@ fn a_late_prover_passes_at_most_1000_times_and_a_silent_one_begins_by_round_64(r
     );
 }
 
-#[test]
-fn a_copied_script_holds_what_the_script_holds(rt: HostRuntime) -> Result<(), Fail> {
-    let output = ClaimOutput::new(b"\x2b".to_vec(rt.alloc())?);
-    let manner = output.map(Manner::Output).unwrap_or(Manner::Plain);
+/// Whether a tamper flips bits 3 of the byte at 2, at step 1.
+fn is_flip(tamper: Tamper) -> bool {
+    match tamper {
+        Tamper::Flip { step, addr, mask } => (step, addr, mask) == (1, 2, 3),
+        _ => false,
+    }
+}
+
+/// Whether a manner claims the byte 43.
+fn is_output(manner: &Manner) -> bool {
+    match manner {
+        Manner::Output(output) => output.as_slice() == b"\x2b".as_slice(),
+        _ => false,
+    }
+}
+
+/// Whether a copy was made that does both.
+fn is_copy(copy: Result<Script, Memory>) -> bool {
+    match copy {
+        Ok(script) => is_flip(script.tamper) & is_output(&script.manner),
+        Err(Memory) => false,
+    }
+}
+
+/// Whether the copy of a script with such a tamper and this output does both.
+fn copies(alloc: Global, output: ClaimOutput) -> bool {
     let tamper = Tamper::Flip {
         step: 1,
         addr: 2,
         mask: 3,
     };
-    match (Script { tamper, manner }).copy(rt.alloc()) {
-        Ok(
-            Script {
-                tamper: Tamper::Flip { step, addr, mask },
-                manner: Manner::Output(output),
-            },
-        ) => {
-            assert!(rt; (step, addr, mask) == (1, 2, 3) && output.as_slice() == b"\x2b".as_slice());
-        }
-        _other => assert!(rt; false, "another script"),
-    }
-    Ok(())
-}
-
-/// Control fields of a machine that has exited after two bytes of output.
-fn exited() -> Ctl {
-    Ctl {
-        pc: 65540,
-        status: Status::Exited(7),
-        out_len: 2,
-        chain: Digest32([9; 32]),
-    }
+    let manner = Manner::Output(output);
+    is_copy((Script { tamper, manner }).copy(alloc))
 }
 
 #[test]
-fn a_copied_claim_holds_what_the_claim_holds(rt: HostRuntime) -> Result<(), Fail> {
-    let output = ClaimOutput::new(b"\x80\xff".to_vec(rt.alloc())?).ok_or("too long")?;
-    let length = output.len();
-    let claim = Answer::Claim(Claim {
-        mem: Digest32([1; 32]),
-        regs: Digest32([2; 32]),
-        ctl: exited(),
-        output,
-    });
-    match claim.copy(rt.alloc()) {
-        Ok(Answer::Claim(copy)) => {
-            assert!(rt;
-                length == 2
-                    && copy.output.as_slice() == b"\x80\xff".as_slice()
-                    && copy.ctl == exited()
-                    && copy.mem == Digest32([1; 32])
-                    && copy.regs == Digest32([2; 32])
-            );
-        }
-        _other => assert!(rt; false, "a claim's copy is no claim"),
-    }
-    Ok(())
-}
-
-#[test]
-fn a_copied_root_is_the_root(rt: HostRuntime) {
-    match Answer::Root(Digest32([3; 32])).copy(rt.alloc()) {
-        Ok(Answer::Root(root)) => assert_eq!(rt; root, Digest32([3; 32])),
-        _other => assert!(rt; false, "a root's copy is no root"),
-    }
-}
-
-/// Whether a proof is of version 1, opens the fetched chunk alone, and has the digest of memory whose bytes are 4.
-fn is_fetching(proof: &Proof) -> bool {
-    match proof {
-        Proof::V1(parts) => parts.fetch.is_some()
-            && parts.operand.is_none()
-            && parts.mem == Digest32([4; 32]),
-        Proof::V2(_) | Proof::V3(_) => false,
-    }
-}
-
-#[test]
-fn a_copied_proof_holds_what_the_proof_holds(rt: HostRuntime) -> Result<(), Fail> {
-    let opening = Opening {
-        chunk: [5; 32],
-        path: Path([Digest32([6; 32]); 27]),
-    };
-    let proof = StepProof {
-        mem: Digest32([4; 32]),
-        regs: Regs::new(),
-        ctl: exited(),
-        fetch: Some(opening),
-        operand: None,
-    };
-    let answer = Answer::Step(Boxed::new(Box::new(rt.alloc(), Proof::V1(proof))?));
-    match answer.copy(rt.alloc()) {
-        Ok(Answer::Step(copy)) => assert!(rt; is_fetching(copy.get())),
-        _other => assert!(rt; false, "a proof's copy is no proof"),
-    }
+fn a_copied_script_holds_what_the_script_holds(rt: HostRuntime) -> Result<(), Fail> {
+    let output = b"\x2b".to_vec(rt.alloc())?;
+    assert!(rt; copies(rt.alloc(), ClaimOutput::new(output).ok_or("too long")?));
     Ok(())
 }

@@ -3,10 +3,9 @@
 use crate::answers::{
     Input, claim, control, digest, input_opening, opening, proof_1, proof_2, proof_3, roots, step,
 };
-use crate::runs::{Run, assert_form, written};
-use rd_base::{Ctl, Digest32, InOpening, Opening, Regs, Status};
-use std::alloc::{AllocError, Global};
-use std::test::Fail;
+use crate::runs::{Run, are_of_size, is_form};
+use rd_base::{Answer, Ctl, Digest32, InOpening, Opening, Regs, Status};
+use std::alloc::Global;
 
 /// Control fields whose bytes, but for the chain's, are 1 to 16, with 1 for the status.
 fn control_in_order() -> Ctl {
@@ -39,137 +38,130 @@ const CONTROL_IN_ORDER: [Run; 18] = [
     (17, 32),
 ];
 
-/// The bytes of several parts, one behind another.
-fn in_a_row(alloc: Global, parts: &[&[Run]]) -> Result<Vec<Run>, AllocError> {
-    let mut runs = Vec::new(alloc);
-    for part in parts {
-        runs.extend_from_slice(part)?;
-    }
-    Ok(runs)
-}
-
-#[test]
-fn each_field_of_a_claim_stands_in_its_place(rt: HostRuntime) -> Result<(), Fail> {
-    let alloc = rt.alloc();
-    let answer = claim(alloc, 18, 19, control_in_order(), b"+-")?;
-    let want = in_a_row(
+/// Whether each field of a claim stands in its place.
+fn is_in_place(alloc: Global) -> bool {
+    is_form(
         alloc,
+        claim(alloc, 18, 19, control_in_order(), b"+-"),
         &[
             &[(1, 1), (18, 32), (19, 32)],
             &CONTROL_IN_ORDER,
             &[(2, 1), (0, 7), (43, 1), (45, 1)],
         ],
-    )?;
-    assert_form(&rt, alloc, &answer, want.as_slice())
+    )
 }
 
 #[test]
-fn roots_stand_in_their_order(rt: HostRuntime) -> Result<(), Fail> {
-    let alloc = rt.alloc();
-    let answer = roots(alloc, &[digest(1), digest(2), digest(3)])?;
-    let want = [(5, 1), (3, 1), (1, 32), (2, 32), (3, 32)];
-    assert_form(&rt, alloc, &answer, &want)
+fn each_field_of_a_claim_stands_in_its_place(rt: HostRuntime) {
+    assert!(rt; is_in_place(rt.alloc()));
 }
 
-/// Registers of which each holds its number, and their bytes.
-fn registers_in_order(alloc: Global) -> Result<(Regs, Vec<Run>), AllocError> {
+/// Whether three roots stand in their order.
+fn are_in_order(alloc: Global) -> bool {
+    is_form(
+        alloc,
+        roots(alloc, &[digest(1), digest(2), digest(3)]),
+        &[&[(5, 1), (3, 1), (1, 32), (2, 32), (3, 32)]],
+    )
+}
+
+#[test]
+fn roots_stand_in_their_order(rt: HostRuntime) {
+    assert!(rt; are_in_order(rt.alloc()));
+}
+
+/// Registers of which each holds its number.
+fn registers_in_order() -> Regs {
     let mut regs = Regs::new();
-    let mut runs = Vec::new(alloc);
     for reg in 1..32 {
         regs.set(reg, u32::from(reg));
-        runs.push((reg, 1))?;
-        runs.push((0, 3))?;
     }
-    Ok((regs, runs))
+    regs
 }
 
-/// Makes the siblings the digests of a byte, of the next one and so on, and gives their bytes.
-fn numbered(alloc: Global, siblings: &mut [Digest32], first: u8) -> Result<Vec<Run>, AllocError> {
-    let mut runs = Vec::new(alloc);
+/// Their bytes.
+fn runs_of_registers() -> [Run; 62] {
+    let mut runs = [(0, 3); 62];
+    for (place, run) in runs.iter_mut().enumerate() {
+        if place % 2 == 0 {
+            *run = ((place / 2 + 1) as u8, 1);
+        }
+    }
+    runs
+}
+
+/// Makes the siblings the digests of a byte, of the next one and so on.
+fn number(siblings: &mut [Digest32], first: u8) {
     let mut byte = first;
     for sibling in siblings {
         *sibling = digest(byte);
-        runs.push((byte, 32))?;
         byte = byte.wrapping_add(1);
     }
-    Ok(runs)
 }
 
-/// A chunk of bytes 20 with the siblings 100, 101 and so on, and its bytes.
-fn opening_in_order(alloc: Global) -> Result<(Opening, Vec<Run>), AllocError> {
+/// The bytes of such siblings.
+fn runs_of_siblings<const N: usize>(first: u8) -> [Run; N] {
+    let mut runs = [(0, 32); N];
+    let mut byte = first;
+    for run in runs.iter_mut() {
+        *run = (byte, 32);
+        byte = byte.wrapping_add(1);
+    }
+    runs
+}
+
+/// A chunk of bytes 20 with the siblings 100, 101 and so on.
+fn opening_in_order() -> Opening {
     let mut opened = opening(20, 0);
-    let siblings = numbered(alloc, &mut opened.path.0, 100)?;
-    let runs = in_a_row(alloc, &[&[(20, 32)], siblings.as_slice()])?;
-    Ok((opened, runs))
+    number(&mut opened.path.0, 100);
+    opened
 }
 
 /// The bytes of the other opened chunk, `opening(21, 22)`.
 const OPERAND: [Run; 2] = [(21, 32), (22, 864)];
 
-/// Which chunks a proof of version 1 opens, and its flags.
-#[derive(Clone, Copy, Debug)]
-struct Opened {
-    flags: u8,
-    is_fetched: bool,
-    is_loaded: bool,
+/// The runs of what is there, and else none.
+fn there(is_there: bool, runs: &[Run]) -> &[Run] {
+    if is_there { runs } else { &[] }
 }
 
-const OPENED: [Opened; 3] = [
-    Opened {
-        flags: 1,
-        is_fetched: true,
-        is_loaded: false,
-    },
-    Opened {
-        flags: 2,
-        is_fetched: false,
-        is_loaded: true,
-    },
-    Opened {
-        flags: 3,
-        is_fetched: true,
-        is_loaded: true,
-    },
-];
+/// Whether a proof of version 1 that opens these chunks has these flags, and each field in its place.
+fn is_in_place_1(alloc: Global, flags: u8, is_fetched: bool, is_loaded: bool) -> bool {
+    let fetch = is_fetched.then_some(opening_in_order());
+    let operand = is_loaded.then_some(opening(21, 22));
+    let proof = proof_1(18, registers_in_order(), control_in_order(), fetch, operand);
+    is_form(
+        alloc,
+        step(alloc, proof),
+        &[
+            &[(3, 1), (18, 32)],
+            &runs_of_registers(),
+            &CONTROL_IN_ORDER,
+            &[(flags, 1)],
+            there(is_fetched, &[(20, 32)]),
+            there(is_fetched, &runs_of_siblings::<27>(100)),
+            there(is_loaded, &OPERAND),
+        ],
+    )
+}
 
 #[test]
-fn each_field_of_a_proof_stands_in_its_place(rt: HostRuntime) -> Result<(), Fail> {
+fn each_field_of_a_proof_stands_in_its_place(rt: HostRuntime) {
     let alloc = rt.alloc();
-    let (regs, runs_of_regs) = registers_in_order(alloc)?;
-    let (fetch, runs_of_fetch) = opening_in_order(alloc)?;
-    let ctl = control_in_order();
-    for Opened {
-        flags,
-        is_fetched,
-        is_loaded,
-    } in OPENED {
-        let fetch = is_fetched.then_some(fetch);
-        let operand = is_loaded.then_some(opening(21, 22));
-        let answer = step(alloc, proof_1(18, regs, ctl, fetch, operand))?;
-        let want = in_a_row(
-            alloc,
-            &[
-                &[(3, 1), (18, 32)],
-                runs_of_regs.as_slice(),
-                &CONTROL_IN_ORDER,
-                &[(flags, 1)],
-                if is_fetched {
-                    runs_of_fetch.as_slice()
-                } else {
-                    &[]
-                },
-                if is_loaded { &OPERAND } else { &[] },
-            ],
-        )?;
-        assert_form(&rt, alloc, &answer, want.as_slice())?;
-    }
-    Ok(())
+    let in_place = [
+        is_in_place_1(alloc, 1, true, false),
+        is_in_place_1(alloc, 2, false, true),
+        is_in_place_1(alloc, 3, true, true),
+    ];
+    assert_eq!(rt; in_place, [true; 3]);
 }
 
-/// Registers of values 1, 2 and 3 with siblings 31, 32 and 33, and their bytes.
-const REGISTERS_IN_ORDER: [(u32, u8); 3] = [(1, 31), (2, 32), (3, 33)];
+/// The bytes of registers of values 1, 2 and 3 with siblings 31, 32 and 33: of the first, of the first two, and of all.
+const FIRST_REGISTER: [Run; 3] = [(1, 1), (0, 3), (31, 160)];
 
-const REGISTERS_AS_BYTES: [Run; 9] = [
+const TWO_REGISTERS: [Run; 6] = [(1, 1), (0, 3), (31, 160), (2, 1), (0, 3), (32, 160)];
+
+const THREE_REGISTERS: [Run; 9] = [
     (1, 1),
     (0, 3),
     (31, 160),
@@ -181,64 +173,59 @@ const REGISTERS_AS_BYTES: [Run; 9] = [
     (33, 160),
 ];
 
-/// How many registers a proof of version 2 with two chunks opens, and how many bytes it has.
-#[derive(Clone, Copy, Debug)]
-struct WithRegisters {
-    registers: usize,
+/// A proof of version 2 that opens two chunks and these registers.
+fn with_registers(alloc: Global, opened: &[(u32, u8)]) -> Option<Answer> {
+    let (fetch, operand) = (Some(opening_in_order()), Some(opening(21, 22)));
+    step(
+        alloc,
+        proof_2(18, 19, control_in_order(), fetch, opened, operand),
+    )
+}
+
+/// Whether such a proof has this many bytes, this count of registers, these bytes of them, and each field in its place.
+fn is_in_place_2(
+    alloc: Global,
     size: usize,
+    opened: &[(u32, u8)],
+    count: u8,
+    registers: &[Run],
+) -> bool {
+    let siblings = runs_of_siblings::<27>(100);
+    let parts: [&[Run]; 6] = [
+        &[(4, 1), (18, 32), (19, 32)],
+        &CONTROL_IN_ORDER,
+        &[(3, 1), (count, 1), (20, 32)],
+        &siblings,
+        registers,
+        &OPERAND,
+    ];
+    is_form(alloc, with_registers(alloc, opened), &parts) & are_of_size(alloc, size, &parts)
 }
 
-const SIZES: [WithRegisters; 4] = [
-    WithRegisters {
-        registers: 0,
-        size: 1908,
-    },
-    WithRegisters {
-        registers: 1,
-        size: 2072,
-    },
-    WithRegisters {
-        registers: 2,
-        size: 2236,
-    },
-    WithRegisters {
-        registers: 3,
-        size: 2400,
-    },
-];
-
-/// Among the rows is that of a proof of version 2 that stores: 2,236 bytes with two chunks and two registers.
+/// Among the proofs is one of version 2 that stores: 2,236 bytes with two chunks and two registers.
 #[test]
-fn each_field_of_a_proof_of_version_2_stands_in_its_place(rt: HostRuntime) -> Result<(), Fail> {
+fn each_field_of_a_proof_of_version_2_stands_in_its_place(rt: HostRuntime) {
     let alloc = rt.alloc();
-    let (fetch, runs_of_fetch) = opening_in_order(alloc)?;
-    let (ctl, operand) = (control_in_order(), Some(opening(21, 22)));
-    for WithRegisters { registers, size } in SIZES {
-        let opened = &REGISTERS_IN_ORDER[..registers];
-        let answer = step(alloc, proof_2(18, 19, ctl, Some(fetch), opened, operand))?;
-        let want = in_a_row(
+    let in_place = [
+        is_in_place_2(alloc, 1908, &[], 0, &[]),
+        is_in_place_2(alloc, 2072, &[(1, 31)], 1, &FIRST_REGISTER),
+        is_in_place_2(alloc, 2236, &[(1, 31), (2, 32)], 2, &TWO_REGISTERS),
+        is_in_place_2(
             alloc,
-            &[
-                &[(4, 1), (18, 32), (19, 32)],
-                &CONTROL_IN_ORDER,
-                &[(3, 1), (registers as u8, 1)],
-                runs_of_fetch.as_slice(),
-                &REGISTERS_AS_BYTES[..3 * registers],
-                &OPERAND,
-            ],
-        )?;
-        assert_form(&rt, alloc, &answer, want.as_slice())?;
-        assert_eq!(rt; written(alloc, &answer)?.len(), size);
-    }
-    Ok(())
+            2400,
+            &[(1, 31), (2, 32), (3, 33)],
+            3,
+            &THREE_REGISTERS,
+        ),
+    ];
+    assert_eq!(rt; in_place, [true; 4]);
 }
 
-/// An input chunk of bytes 23 with the siblings 150, 151 and so on, and its bytes.
-fn input_in_order(alloc: Global) -> Result<(InOpening, Vec<Run>), AllocError> {
+/// An input chunk of bytes 23 with the siblings 150, 151 and so on.
+fn input_in_order() -> InOpening {
     let mut opened = input_opening(23, 0);
-    let siblings = numbered(alloc, &mut opened.path.0, 150)?;
-    let runs = in_a_row(alloc, &[&[(23, 32)], siblings.as_slice()])?;
-    Ok((opened, runs))
+    number(&mut opened.path.0, 150);
+    opened
 }
 
 /// The bytes in front of the control fields: the tag, the digest of memory, the length and the root of the input, the registers' root.
@@ -253,62 +240,41 @@ const FRONT_OF_VERSION_3: [Run; 8] = [
     (19, 32),
 ];
 
-/// Whether a proof of version 3 that reads the input opens data too, its flags, and how many bytes it has.
-#[derive(Clone, Copy, Debug)]
-struct Reading {
-    flags: u8,
-    is_loaded: bool,
-    size: usize,
-}
-
-const READINGS: [Reading; 2] = [
-    Reading {
-        flags: 5,
-        is_loaded: false,
-        size: 1888,
-    },
-    Reading {
-        flags: 7,
-        is_loaded: true,
-        size: 2784,
-    },
-];
-
-/// Among the rows is that of a proof of version 3 that reads the input: 1,888 bytes with flags 5 and two registers.
-#[test]
-fn each_field_of_a_proof_of_version_3_stands_in_its_place(rt: HostRuntime) -> Result<(), Fail> {
-    let alloc = rt.alloc();
-    let (read, runs_of_input) = input_in_order(alloc)?;
+/// A proof of version 3 with two registers that reads the input, and opens this data.
+fn reading(alloc: Global, operand: Option<Opening>) -> Option<Answer> {
     let input = Input {
         len: 0x1413_1211,
         root: 24,
-        read: Some(read),
+        read: Some(input_in_order()),
     };
-    let (ctl, fetch, opened) = (
-        control_in_order(),
-        Some(opening(25, 26)),
-        &REGISTERS_IN_ORDER[..2],
-    );
-    for Reading {
-        flags,
-        is_loaded,
-        size,
-    } in READINGS {
-        let operand = is_loaded.then_some(opening(21, 22));
-        let answer = step(alloc, proof_3(18, input, 19, ctl, fetch, opened, operand))?;
-        let want = in_a_row(
-            alloc,
-            &[
-                &FRONT_OF_VERSION_3,
-                &CONTROL_IN_ORDER,
-                &[(flags, 1), (2, 1), (25, 32), (26, 864)],
-                &REGISTERS_AS_BYTES[..6],
-                if is_loaded { &OPERAND } else { &[] },
-                runs_of_input.as_slice(),
-            ],
-        )?;
-        assert_form(&rt, alloc, &answer, want.as_slice())?;
-        assert_eq!(rt; written(alloc, &answer)?.len(), size);
-    }
-    Ok(())
+    let (ctl, fetch) = (control_in_order(), Some(opening(25, 26)));
+    let opened = [(1, 31), (2, 32)];
+    step(alloc, proof_3(18, input, 19, ctl, fetch, &opened, operand))
+}
+
+/// Whether such a proof, which opens data or not, has this many bytes, these flags, and each field in its place.
+fn is_in_place_3(alloc: Global, size: usize, flags: u8, is_loaded: bool) -> bool {
+    let siblings = runs_of_siblings::<15>(150);
+    let parts: [&[Run]; 7] = [
+        &FRONT_OF_VERSION_3,
+        &CONTROL_IN_ORDER,
+        &[(flags, 1), (2, 1), (25, 32), (26, 864)],
+        &TWO_REGISTERS,
+        there(is_loaded, &OPERAND),
+        &[(23, 32)],
+        &siblings,
+    ];
+    let operand = is_loaded.then_some(opening(21, 22));
+    is_form(alloc, reading(alloc, operand), &parts) & are_of_size(alloc, size, &parts)
+}
+
+/// Among the proofs is one of version 3 that reads the input: 1,888 bytes with flags 5 and two registers.
+#[test]
+fn each_field_of_a_proof_of_version_3_stands_in_its_place(rt: HostRuntime) {
+    let alloc = rt.alloc();
+    let in_place = [
+        is_in_place_3(alloc, 1888, 5, false),
+        is_in_place_3(alloc, 2784, 7, true),
+    ];
+    assert_eq!(rt; in_place, [true; 2]);
 }
