@@ -2,14 +2,15 @@
 ghost use denote.Param.Send.{IsSync};
 
 use crate::audit_test::Piece::{From, Lines, New, Of};
-use crate::playing::{HALVES, Terms, full_of};
+use crate::playing::Who::{Double, Forger, Honest, Late, LaterLiar, Leaves, Liar, Silent};
+use crate::playing::{HALVES, Terms, Who, full_of};
 use audit::{Audit, Cause, a_read_text_may_be_audited, audit};
 use rd_base::Memory;
 use std::alloc::Global;
 use std::test::Fail;
 use std::thread::Threads;
 use tournament::Verdict;
-use toy_game::{HONEST, LIAR, Player, SILENT, ToyJudge};
+use toy_game::ToyJudge;
 use transcript_text::{TextFault, read_full};
 
 /// The finding of the audit of a text.
@@ -27,163 +28,81 @@ enum Told {
     Unread,
 }
 
-/// The finding of the audit of bytes before the toy judge.
-fn audit_of(alloc: Global, bytes: &[u8]) -> Result<Told, Memory> {
-    let text = match read_full(alloc, bytes) {
-        Ok(text) => text,
-        Err(TextFault::Memory) => return Err(Memory),
-        Err(_) => return Ok(Told::Unread),
-    };
-    a_read_text_may_be_audited(bytes, &text);
-    match audit(alloc, &text, ToyJudge { name: 0 })? {
-        Audit::Confirmed(Verdict::Accept(p)) => Ok(Told::Accepts(p)),
-        Audit::Confirmed(Verdict::NoneLeft) => Ok(Told::NobodyLeft),
-        Audit::Confirmed(Verdict::Collision(..)) => Ok(Told::Collides),
-        Audit::Refused { line, cause } => Ok(Told::Refused(line, cause)),
+/// A finding in short.
+fn in_short(found: Audit) -> Told {
+    match found {
+        Audit::Confirmed(Verdict::Accept(p)) => Told::Accepts(p),
+        Audit::Confirmed(Verdict::NoneLeft) => Told::NobodyLeft,
+        Audit::Confirmed(Verdict::Collision(..)) => Told::Collides,
+        Audit::Refused { line, cause } => Told::Refused(line, cause),
     }
 }
 
-/// Its proof of step 1 leads to its own false root, as no hash holds it back.
-const FORGER: Player = Player {
-    proof_mark: 102,
-    ..LIAR
-};
-/// Its claim has the true root, and another mark than the true claim.
-const DOUBLE: Player = Player {
-    claim_mark: 1,
-    ..HONEST
-};
-/// It passes twice on each question.
-const LATE: Player = Player { late: 2, ..HONEST };
-/// It stops answering after its claim.
-const LEAVES: Player = Player {
-    silent_from: 1,
-    ..LIAR
-};
-
-/// A match, and the finding of the audit of its full text.
-#[derive(Clone, Copy)]
-struct Played {
-    terms: Terms,
-    told: Told,
+/// The finding of the audit of bytes before the toy judge.
+fn audit_of(alloc: Global, bytes: &[u8]) -> Result<Told, Memory> {
+    match read_full(alloc, bytes) {
+        Ok(text) => {
+            a_read_text_may_be_audited(bytes, &text);
+            audit(alloc, &text, ToyJudge { name: 0 }).map(in_short)
+        }
+        Err(TextFault::Memory) => Err(Memory),
+        Err(_) => Ok(Told::Unread),
+    }
 }
 
-/// The last four are of sixteen silent provers, and of rounds in more parts.
-const MATCHES: [Played; 14] = [
-    Played {
-        terms: Terms {
-            players: &[HONEST],
-            ..HALVES
-        },
-        told: Told::Accepts(1),
-    },
-    Played {
-        terms: Terms {
-            players: &[SILENT],
-            ..HALVES
-        },
-        told: Told::NobodyLeft,
-    },
-    Played {
-        terms: Terms {
-            players: &[HONEST, HONEST],
-            ..HALVES
-        },
-        told: Told::Accepts(1),
-    },
-    Played {
-        terms: Terms {
-            players: &[LIAR, HONEST],
-            ..HALVES
-        },
-        told: Told::Accepts(2),
-    },
-    Played {
-        terms: Terms {
-            players: &[LEAVES, HONEST],
-            patience: 3,
-            ..HALVES
-        },
-        told: Told::Accepts(2),
-    },
-    Played {
-        terms: Terms {
-            players: &[SILENT, SILENT],
-            patience: 1,
-            ..HALVES
-        },
-        told: Told::NobodyLeft,
-    },
-    Played {
-        terms: Terms {
-            players: &[HONEST, FORGER],
-            ..HALVES
-        },
-        told: Told::Collides,
-    },
-    Played {
-        terms: Terms {
-            players: &[DOUBLE, HONEST],
-            ..HALVES
-        },
-        told: Told::Collides,
-    },
-    Played {
-        terms: Terms {
-            players: &[LIAR, LATE, SILENT],
-            patience: 2,
-            ..HALVES
-        },
-        told: Told::Accepts(2),
-    },
-    Played {
-        terms: Terms {
-            players: &[LIAR, LATE, SILENT],
-            patience: 1,
-            ..HALVES
-        },
-        told: Told::Accepts(1),
-    },
-    Played {
-        terms: Terms {
-            players: &[SILENT; 16],
-            ..HALVES
-        },
-        told: Told::NobodyLeft,
-    },
-    Played {
-        terms: Terms {
-            players: &[HONEST, LIAR],
-            fan: 3,
-            ..HALVES
-        },
-        told: Told::Accepts(1),
-    },
-    Played {
-        terms: Terms {
-            players: &[HONEST, LIAR],
-            fan: 4,
-            ..HALVES
-        },
-        told: Told::Accepts(1),
-    },
-    Played {
-        terms: Terms {
-            players: &[HONEST, LIAR],
-            fan: 16,
-            ..HALVES
-        },
-        told: Told::Accepts(1),
-    },
+/// The terms of a match over 8 steps.
+fn terms_of(players: &'static [Who], fan: u32, patience: u32) -> Terms {
+    Terms {
+        players,
+        fan,
+        patience,
+        ..HALVES
+    }
+}
+
+/// The players of a match, its fan and its patience, and the finding of the audit of its full text. The last four are of sixteen silent
+/// provers, and of rounds in more parts.
+const MATCHES: [(&[Who], u32, u32, Told); 14] = [
+    (&[Honest], 2, 0, Told::Accepts(1)),
+    (&[Silent], 2, 0, Told::NobodyLeft),
+    (&[Honest, Honest], 2, 0, Told::Accepts(1)),
+    (&[Liar, Honest], 2, 0, Told::Accepts(2)),
+    (&[Leaves, Honest], 2, 3, Told::Accepts(2)),
+    (&[Silent, Silent], 2, 1, Told::NobodyLeft),
+    (&[Honest, Forger], 2, 0, Told::Collides),
+    (&[Double, Honest], 2, 0, Told::Collides),
+    (&[Liar, Late, Silent], 2, 2, Told::Accepts(2)),
+    (&[Liar, Late, Silent], 2, 1, Told::Accepts(1)),
+    (&[Silent; 16], 2, 0, Told::NobodyLeft),
+    (&[Honest, Liar], 3, 0, Told::Accepts(1)),
+    (&[Honest, Liar], 4, 0, Told::Accepts(1)),
+    (&[Honest, Liar], 16, 0, Told::Accepts(1)),
 ];
 
-/// The first match whose full text isn't confirmed so.
-fn first_other_match<R: Threads + Sync>(rt: &R, alloc: Global) -> Result<Option<usize>, Memory>
+/// The finding of the audit of the full text of a match.
+fn found_of<R: Threads + Sync>(rt: &R, alloc: Global, terms: Terms) -> Result<Told, Memory>
     requires { IsSync R.row }
 {
-    for (place, Played { terms, told }) in MATCHES.iter().enumerate() {
-        let text = full_of(rt, alloc, *terms)?;
-        if audit_of(alloc, text.as_slice())? != *told {
+    let text = full_of(rt, alloc, terms)?;
+    audit_of(alloc, text.as_slice())
+}
+
+/// The matches as a value, of which no caller sees the rows: they would stand in each of its goals.
+fn matches() -> [(&'static [Who], u32, u32, Told); 14] {
+    MATCHES
+}
+
+/// The first match whose full text isn't confirmed so.
+fn first_other_match<R: Threads + Sync>(
+    rt: &R,
+    alloc: Global,
+    matches: &[(&'static [Who], u32, u32, Told)],
+) -> Result<Option<usize>, Memory>
+    requires { IsSync R.row }
+{
+    for (place, (players, fan, patience, told)) in matches.iter().enumerate() {
+        let terms = terms_of(*players, *fan, *patience);
+        if found_of(rt, alloc, terms)? != *told {
             return Ok(Some(place));
         }
     }
@@ -192,50 +111,19 @@ fn first_other_match<R: Threads + Sync>(rt: &R, alloc: Global) -> Result<Option<
 
 #[test]
 fn the_full_text_of_each_match_is_confirmed(rt: HostRuntime) -> Result<(), Fail> {
-    assert_eq!(rt; first_other_match(&rt, rt.alloc())?, None);
+    assert_eq!(rt; first_other_match(&rt, rt.alloc(), &matches())?, None);
     Ok(())
 }
 
-/// A player whose run is another one from step 4 on.
-const LATER_LIAR: Player = Player {
-    from: 4,
-    shift: 50,
-    ..LIAR
-};
-
-/// The matches whose full texts have lines changed, and the places of these texts.
-const TEXTS: [Terms; 7] = [
-    Terms {
-        players: &[HONEST, LIAR],
-        ..HALVES
-    },
-    Terms {
-        players: &[HONEST, LIAR, LATER_LIAR],
-        ..HALVES
-    },
-    Terms {
-        players: &[HONEST, HONEST],
-        ..HALVES
-    },
-    Terms {
-        players: &[HONEST, LATER_LIAR],
-        ..HALVES
-    },
-    Terms {
-        players: &[HONEST, LIAR],
-        fan: 3,
-        ..HALVES
-    },
-    Terms {
-        players: &[HONEST, LIAR],
-        fan: 4,
-        ..HALVES
-    },
-    Terms {
-        players: &[HONEST, LIAR],
-        fan: 16,
-        ..HALVES
-    },
+/// The players and the fan of the matches whose full texts have lines changed, and the places of these texts.
+const TEXTS: [(&[Who], u32); 7] = [
+    (&[Honest, Liar], 2),
+    (&[Honest, Liar, LaterLiar], 2),
+    (&[Honest, Honest], 2),
+    (&[Honest, LaterLiar], 2),
+    (&[Honest, Liar], 3),
+    (&[Honest, Liar], 4),
+    (&[Honest, Liar], 16),
 ];
 
 const BISECTED: usize = 0;
@@ -615,6 +503,36 @@ const LISTS: [Row; 2] = [
     },
 ];
 
+/// The tables, each with the place of the text of its pieces.
+const TABLES: [(usize, &[Row]); 12] = [
+    (BISECTED, &VERDICTS),
+    (BISECTED, &LINES),
+    (BISECTED, &REPLIES),
+    (BISECTED, &PROOFS),
+    (BISECTED, &SPENT),
+    (BISECTED, &CUT),
+    (DISPUTED, &DISPUTES),
+    (LATER, &SPLICED),
+    (THIRDS, &TEN_LINES),
+    (QUARTERS, &TEN_LINES),
+    (SIXTEENTHS, &EIGHT_LINES),
+    (QUARTERS, &LISTS),
+];
+
+/// Whether the audit finds this of the pieces of a text.
+fn is_told(
+    alloc: Global,
+    texts: &[Vec<u8>],
+    own: usize,
+    pieces: &[Piece],
+    told: Told,
+) -> Result<bool, Memory> {
+    let changed = joined(alloc, texts, own, pieces)?;
+    let found = audit_of(alloc, changed.as_slice());
+    drop(changed);
+    Ok(found? == told)
+}
+
 /// The first row of pieces of a text of which the audit finds something else.
 fn first_other(
     alloc: Global,
@@ -623,20 +541,48 @@ fn first_other(
     rows: &[Row],
 ) -> Result<Option<usize>, Memory> {
     for (place, Row { pieces, told }) in rows.iter().enumerate() {
-        let changed = joined(alloc, texts, own, *pieces)?;
-        if audit_of(alloc, changed.as_slice())? != *told {
+        if !is_told(alloc, texts, own, *pieces, *told)? {
             return Ok(Some(place));
         }
     }
     Ok(None)
 }
 
-/// The full texts of the matches of `TEXTS`.
-fn texts_of<R: Threads + Sync>(rt: &R, alloc: Global) -> Result<Vec<Vec<u8>>, Memory>
+/// The tables as a value, of which no caller sees the rows.
+fn tables() -> &'static [(usize, &'static [Row])] {
+    &TABLES
+}
+
+/// The first table with such a row, and the row.
+fn first_table(
+    alloc: Global,
+    texts: &[Vec<u8>],
+    tables: &[(usize, &[Row])],
+) -> Result<Option<(usize, usize)>, Memory> {
+    for (table, (own, rows)) in tables.iter().enumerate() {
+        if let Some(place) = first_other(alloc, texts, *own, *rows)? {
+            return Ok(Some((table, place)));
+        }
+    }
+    Ok(None)
+}
+
+/// The matches of `TEXTS` as a value, of which no caller sees the rows.
+fn changed_matches() -> &'static [(&'static [Who], u32)] {
+    &TEXTS
+}
+
+/// The full texts of these matches.
+fn texts_of<R: Threads + Sync>(
+    rt: &R,
+    alloc: Global,
+    matches: &[(&'static [Who], u32)],
+) -> Result<Vec<Vec<u8>>, Memory>
     requires { IsSync R.row }
 {
     let mut texts = Vec::new(alloc);
-    for terms in TEXTS {
+    for (players, fan) in matches {
+        let terms = terms_of(*players, *fan, 0);
         texts.push(full_of(rt, alloc, terms)?)?;
     }
     Ok(texts)
@@ -644,23 +590,9 @@ fn texts_of<R: Threads + Sync>(rt: &R, alloc: Global) -> Result<Vec<Vec<u8>>, Me
 
 #[test]
 fn a_changed_text_is_refused_where_it_is_wrong(rt: HostRuntime) -> Result<(), Fail> {
-    let alloc = rt.alloc();
-    let made = texts_of(&rt, alloc)?;
-    let texts = made.as_slice();
-    let others = [
-        first_other(alloc, texts, BISECTED, &VERDICTS)?,
-        first_other(alloc, texts, BISECTED, &LINES)?,
-        first_other(alloc, texts, BISECTED, &REPLIES)?,
-        first_other(alloc, texts, BISECTED, &PROOFS)?,
-        first_other(alloc, texts, BISECTED, &SPENT)?,
-        first_other(alloc, texts, BISECTED, &CUT)?,
-        first_other(alloc, texts, DISPUTED, &DISPUTES)?,
-        first_other(alloc, texts, LATER, &SPLICED)?,
-        first_other(alloc, texts, THIRDS, &TEN_LINES)?,
-        first_other(alloc, texts, QUARTERS, &TEN_LINES)?,
-        first_other(alloc, texts, SIXTEENTHS, &EIGHT_LINES)?,
-        first_other(alloc, texts, QUARTERS, &LISTS)?,
-    ];
-    assert_eq!(rt; others, [None; 12]);
+    let texts = texts_of(&rt, rt.alloc(), changed_matches())?;
+    let other = first_table(rt.alloc(), texts.as_slice(), tables());
+    drop(texts);
+    assert_eq!(rt; other?, None);
     Ok(())
 }

@@ -1,11 +1,29 @@
 //! Full texts of matches of the toy game, and what is read of them.
+ghost use denote.Param.Send.{IsSync};
+
+use crate::playing::Who::{Honest, Liar, Silent};
 use crate::playing::{HALVES, Terms, full_of};
 use bisect_game::Settled;
-use rd_base::{Answer, Digest32};
+use rd_base::{Answer, Digest32, Memory};
 use std::alloc::Global;
+use std::str;
 use std::test::Fail;
-use toy_game::{HONEST, LIAR, SILENT, root};
-use transcript_text::{DigestName, Head, Stated, read_full};
+use std::thread::Threads;
+use toy_game::root;
+use transcript_text::{DigestName, FullText, Head, Stated, TextMove, read_full};
+
+/// The match of a true prover and a liar, in halves and in quarters, and that of two silent provers.
+const DISPUTED: Terms = Terms {
+    players: &[Honest, Liar],
+    ..HALVES
+};
+
+const QUARTERED: Terms = Terms { fan: 4, ..DISPUTED };
+
+const SILENCE: Terms = Terms {
+    players: &[Silent, Silent],
+    ..HALVES
+};
 
 /// The text of a true prover and a liar over 8 steps: claims of the roots 6 and 108, roots at 4, 2 and 1, and two proofs of step 1.
 /// Its wire forms were laid out by hand.
@@ -91,35 +109,24 @@ fn last_mark(roots: &[Digest32]) -> u8 {
     }
 }
 
-/// What is read of a text.
-#[derive(Drop)]
-struct Back {
-    moves: Vec<Short>,
-    head: Head,
-    /// Whether a claim of a running machine without output is accepted.
-    is_running_accepted: bool,
+/// A move in short.
+fn short_of(entry: &TextMove) -> Short {
+    (
+        entry.qid.dispute,
+        entry.qid.round,
+        entry.prover,
+        mark_of(&entry.settled),
+    )
 }
 
-/// What is read of a text that has no fault.
-fn read_back(alloc: Global, text: &[u8]) -> Result<Back, Fail> {
-    let read = match read_full(alloc, text) {
-        Ok(read) => read,
-        Err(fault) => return Err(Fail::new(fault)),
-    };
-    let mut moves = Vec::new(alloc);
-    for entry in read.moves.as_slice() {
-        let (dispute, round) = (entry.qid.dispute, entry.qid.round);
-        moves.push((dispute, round, entry.prover, mark_of(&entry.settled)))?;
+/// Whether these are the moves.
+fn are_moves(moves: &[TextMove], want: &[Short]) -> bool {
+    for (entry, short) in moves.iter().zip(want) {
+        if short_of(entry) != *short {
+            return false;
+        }
     }
-    let is_running_accepted = match &read.stated {
-        Stated::Accept(status, output) => status.is_running() && output.len() == 0,
-        _ => false,
-    };
-    Ok(Back {
-        moves,
-        head: read.head,
-        is_running_accepted,
-    })
+    moves.len() == want.len()
 }
 
 /// Whether a head is that of two provers over 8 steps without patience in version 1 from root 0, with this fan.
@@ -134,50 +141,87 @@ fn is_of_fan(head: &Head, fan: u32) -> bool {
         && (head.digest, head.start) == (DigestName::Sha256, root(0))
 }
 
+/// Whether a claim of a running machine without output is accepted.
+fn is_running_accepted(stated: &Stated) -> bool {
+    match stated {
+        Stated::Accept(status, output) => status.is_running() && output.len() == 0,
+        _ => false,
+    }
+}
+
+/// Whether a text has these moves, the head of this fan, and the verdict that a claim of a running machine without output is accepted.
+fn compared(read: FullText, moves: &[Short], fan: u32) -> [bool; 3] {
+    [
+        are_moves(read.moves.as_slice(), moves),
+        is_of_fan(&read.head, fan),
+        is_running_accepted(&read.stated),
+    ]
+}
+
+/// Whether a text that has no fault is read back so.
+fn read_back(alloc: Global, text: &[u8], moves: &[Short], fan: u32) -> Result<[bool; 3], Fail> {
+    match read_full(alloc, text) {
+        Ok(read) => Ok(compared(read, moves, fan)),
+        Err(fault) => Err(Fail::new(fault)),
+    }
+}
+
+/// Whether the full text of a match is this one.
+fn is_written<R: Threads + Sync>(
+    rt: &R,
+    alloc: Global,
+    terms: Terms,
+    want: &[u8],
+) -> Result<bool, Memory>
+    requires { IsSync R.row }
+{
+    let text = full_of(rt, alloc, terms)?;
+    Ok(text.as_slice() == want)
+}
+
 /// The text of a dispute has a line for each settled answer, and is read back so.
 #[test]
 fn full_texts_are_written_and_read_back(rt: HostRuntime) -> Result<(), Fail> {
     let alloc = rt.alloc();
-    let liar = Terms {
-        players: &[HONEST, LIAR],
-        ..HALVES
-    };
-    let silent = Terms {
-        players: &[SILENT, SILENT],
-        ..HALVES
-    };
-    let halves = full_of(&rt, alloc, liar)?;
-    let silence = full_of(&rt, alloc, silent)?;
-    let back = read_back(alloc, halves.as_slice())?;
-    assert!(rt;
-        halves.as_slice() == IN_HALVES
-            && silence.as_slice() == OF_SILENCE
-            && back.moves.as_slice() == MOVES_IN_HALVES.as_slice()
-            && is_of_fan(&back.head, 2)
-            && back.is_running_accepted
-    );
+    let are_written = [
+        is_written(&rt, alloc, DISPUTED, IN_HALVES)?,
+        is_written(&rt, alloc, SILENCE, OF_SILENCE)?,
+    ];
+    let is_read = read_back(alloc, IN_HALVES, &MOVES_IN_HALVES, 2)?;
+    assert_eq!(rt; (are_written, is_read), ([true; 2], [true; 3]));
     Ok(())
+}
+
+/// The first answer of prover 1 in quarters, a list of three roots.
+const THREE_ROOTS: &str = "\nmove 1 1 p1 given 0503\
+        0200000000000000000000000000000000000000000000000000000000000000\
+        0400000000000000000000000000000000000000000000000000000000000000\
+        0600000000000000000000000000000000000000000000000000000000000000\n";
+
+/// The second answer of prover 2 in quarters, a list of one root.
+const ONE_ROOT: &str =
+    "\nmove 1 2 p2 given 05010100000000000000000000000000000000000000000000000000000000000000\n";
+
+/// Whether a text has these lines.
+fn has_lines(text: &[u8], three: &str, one: &str) -> bool {
+    match str::from_utf8(text) {
+        Ok(whole) => whole.contains(three) && whole.contains(one),
+        Err(_) => false,
+    }
+}
+
+/// Whether the full text of the match in quarters has its lines, and whether it is read back so.
+fn in_quarters(alloc: Global, text: Vec<u8>) -> Result<[bool; 4], Fail> {
+    let has_lines = has_lines(text.as_slice(), THREE_ROOTS, ONE_ROOT);
+    let read = read_back(alloc, text.as_slice(), &MOVES_IN_QUARTERS, 4);
+    drop(text);
+    let [moves, fan, is_accepted] = read?;
+    Ok([has_lines, moves, fan, is_accepted])
 }
 
 #[test]
 fn roots_of_several_cuts_are_written_and_read_back(rt: HostRuntime) -> Result<(), Fail> {
-    let alloc = rt.alloc();
-    let in_quarters = Terms {
-        players: &[HONEST, LIAR],
-        fan: 4,
-        ..HALVES
-    };
-    let quarters = full_of(&rt, alloc, in_quarters)?;
-    let back = read_back(alloc, quarters.as_slice())?;
-    let zeros = "00".repeat(alloc, 31)?;
-    let three = format!(in alloc; "\nmove 1 1 p1 given 050302{zeros}04{zeros}06{zeros}\n")?;
-    let one = format!(in alloc; "\nmove 1 2 p2 given 050101{zeros}\n")?;
-    let whole = String::from_utf8(quarters)?;
-    assert!(rt;
-        back.moves.as_slice() == MOVES_IN_QUARTERS.as_slice()
-            && is_of_fan(&back.head, 4)
-            && whole.as_str().contains(three.as_str())
-            && whole.as_str().contains(one.as_str())
-    );
+    let text = full_of(&rt, rt.alloc(), QUARTERED)?;
+    assert_eq!(rt; in_quarters(rt.alloc(), text)?, [true; 4]);
     Ok(())
 }

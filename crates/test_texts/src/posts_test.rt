@@ -1,11 +1,11 @@
 //! Posts that change nothing.
-use crate::playing::CLAIM;
 use bisect_game::Kind;
 use rd_base::{Memory, Qid};
 use std::alloc::Global;
 use std::test::Fail;
 use tournament::{Match, Move, Reply, Verdict};
-use toy_game::{HONEST, LIAR, ToyJudge, given, root};
+use toy_game::in_short::CLAIM;
+use toy_game::{HONEST, LIAR, Player, ToyJudge, given, root};
 
 /// The number of the first question of the dispute.
 const FIRST: Qid = Qid {
@@ -26,7 +26,7 @@ const ABSENT: Qid = Qid {
 };
 
 /// How a post was answered, and how often its prover has passed on its open question then.
-#[derive(Clone, Copy, Debug, PartialEq, Eq)]
+#[derive(Clone, Copy, PartialEq, Eq)]
 enum Replied {
     Taken(u32),
     Faulty(u32),
@@ -51,54 +51,80 @@ fn post(game: &mut Match<ToyJudge>, p: u32, qid: Qid, turn: Move) -> Replied {
     }
 }
 
-/// What posts of two provers are answered in a match over 8 steps with a patience of 1, and whether nobody is left then. The first one
-/// claims truly and then gives a proof for a root; the second one lies and then passes.
-fn answered(
-    alloc: Global,
-    claim: Move,
-    lie: Move,
-    proof: Move,
-) -> Result<([Replied; 11], bool), Memory> {
-    let mut game = Match::new(alloc, ToyJudge { name: 0 }, 2, 8, 2, 1, root(0))?;
-    let replies = [
-        post(&mut game, 1, FIRST, Move::Pass),
-        post(&mut game, 1, CLAIM.qid, Move::Pass),
-        post(&mut game, 1, CLAIM.qid, claim),
-        post(&mut game, 1, CLAIM.qid, Move::Pass),
-        post(&mut game, 2, CLAIM.qid, lie),
-        post(&mut game, 1, CLAIM.qid, Move::Pass),
-        post(&mut game, 1, LATER, Move::Pass),
-        post(&mut game, 1, ABSENT, Move::Pass),
-        post(&mut game, 1, FIRST, proof),
-        post(&mut game, 2, FIRST, Move::Pass),
-        post(&mut game, 2, FIRST, Move::Pass),
-    ];
-    let none_left = matches!(game.verdict(), Some(Verdict::NoneLeft));
-    Ok((replies, none_left))
+/// What a prover posts.
+#[derive(Clone, Copy)]
+enum Turn {
+    Pass,
+    /// What this player gives to a question of this kind.
+    Gives(Player, Kind),
 }
 
-/// A stale post of each kind carries the open question and changes nothing: the claim's number again, a dispute that isn't there, a later
-/// round, and a post of a prover without a question.
+/// Posts in a match over 8 steps with a patience of 1: the prover, the number under which it posts, what it posts, and how it is answered.
+/// Prover 1 claims truly and then gives a proof for a root; prover 2 lies and then passes. A stale post of each kind carries the open
+/// question and changes nothing: the claim's number again, a dispute that isn't there, a later round, and a post of a prover without a
+/// question.
+const POSTS: [(u32, Qid, Turn, Replied); 11] = [
+    (1, FIRST, Turn::Pass, Replied::Stale(Some(CLAIM), 0)),
+    (1, CLAIM, Turn::Pass, Replied::Taken(1)),
+    (
+        1,
+        CLAIM,
+        Turn::Gives(HONEST, Kind::Claim),
+        Replied::Taken(0),
+    ),
+    (1, CLAIM, Turn::Pass, Replied::Stale(None, 0)),
+    (2, CLAIM, Turn::Gives(LIAR, Kind::Claim), Replied::Taken(0)),
+    (1, CLAIM, Turn::Pass, Replied::Stale(Some(FIRST), 0)),
+    (1, LATER, Turn::Pass, Replied::Stale(Some(FIRST), 0)),
+    (1, ABSENT, Turn::Pass, Replied::Stale(Some(FIRST), 0)),
+    (
+        1,
+        FIRST,
+        Turn::Gives(HONEST, Kind::Proof(0)),
+        Replied::Faulty(0),
+    ),
+    (2, FIRST, Turn::Pass, Replied::Taken(1)),
+    (2, FIRST, Turn::Pass, Replied::Spent(0)),
+];
+
+/// How a post of this turn is answered.
+fn turned(
+    alloc: Global,
+    game: &mut Match<ToyJudge>,
+    p: u32,
+    qid: Qid,
+    turn: Turn,
+) -> Result<Replied, Memory> {
+    match turn {
+        Turn::Pass => Ok(post(game, p, qid, Move::Pass)),
+        Turn::Gives(player, kind) => {
+            let answer = given(alloc, &player, kind)?;
+            Ok(post(game, p, qid, Move::Give(answer)))
+        }
+    }
+}
+
+/// The first post that is answered otherwise.
+fn first_other(alloc: Global, game: &mut Match<ToyJudge>) -> Result<Option<usize>, Memory> {
+    for (place, (p, qid, turn, want)) in POSTS.iter().enumerate() {
+        if turned(alloc, game, *p, *qid, *turn)? != *want {
+            return Ok(Some(place));
+        }
+    }
+    Ok(None)
+}
+
+/// The first post in a match that is answered otherwise, and whether nobody is left behind them.
+fn posted(alloc: Global, mut game: Match<ToyJudge>) -> Result<(Option<usize>, bool), Memory> {
+    match first_other(alloc, &mut game) {
+        Ok(place) => Ok((place, matches!(game.verdict(), Some(Verdict::NoneLeft)))),
+        Err(memory) => Err(memory),
+    }
+}
+
 #[test]
 fn stale_posts_change_nothing(rt: HostRuntime) -> Result<(), Fail> {
-    let alloc = rt.alloc();
-    let claim = Move::Give(given(alloc, &HONEST, Kind::Claim)?);
-    let lie = Move::Give(given(alloc, &LIAR, Kind::Claim)?);
-    let proof = Move::Give(given(alloc, &HONEST, Kind::Proof(0))?);
-    let answered = answered(alloc, claim, lie, proof)?;
-    let want = [
-        Replied::Stale(Some(CLAIM.qid), 0),
-        Replied::Taken(1),
-        Replied::Taken(0),
-        Replied::Stale(None, 0),
-        Replied::Taken(0),
-        Replied::Stale(Some(FIRST), 0),
-        Replied::Stale(Some(FIRST), 0),
-        Replied::Stale(Some(FIRST), 0),
-        Replied::Faulty(0),
-        Replied::Taken(1),
-        Replied::Spent(0),
-    ];
-    assert_eq!(rt; answered, (want, true));
+    let game = Match::new(rt.alloc(), ToyJudge { name: 0 }, 2, 8, 2, 1, root(0))?;
+    assert_eq!(rt; posted(rt.alloc(), game)?, (None, true));
     Ok(())
 }

@@ -21,7 +21,7 @@ const END: &[u8] = b"none left\n";
 const NO_FORM: &[u8] = b"nonsense\n";
 
 /// What is read of a text: how many moves, or the fault.
-#[derive(Clone, Copy, Debug, PartialEq, Eq)]
+#[derive(Clone, Copy, PartialEq, Eq)]
 enum Told {
     Moves(usize),
     Fault(TextFault),
@@ -49,18 +49,29 @@ struct Row {
     told: Told,
 }
 
-/// What is read of these pieces with this behind them.
-fn read_pieces(alloc: Global, pieces: &[&[u8]], end: &[u8]) -> Result<Told, Memory> {
+/// What is read of a text.
+fn read(alloc: Global, bytes: &[u8]) -> Result<Told, Memory> {
+    match read_full(alloc, bytes) {
+        Ok(text) => Ok(Told::Moves(text.moves.len())),
+        Err(TextFault::Memory) => Err(Memory),
+        Err(fault) => Ok(Told::Fault(fault)),
+    }
+}
+
+/// These pieces, one behind another, with this behind them.
+fn joined(alloc: Global, pieces: &[&[u8]], end: &[u8]) -> Result<Vec<u8>, Memory> {
     let mut bytes = Vec::new(alloc);
     for piece in pieces {
         bytes.extend_from_slice(piece)?;
     }
     bytes.extend_from_slice(end)?;
-    match read_full(alloc, bytes.as_slice()) {
-        Ok(text) => Ok(Told::Moves(text.moves.len())),
-        Err(TextFault::Memory) => Err(Memory),
-        Err(fault) => Ok(Told::Fault(fault)),
-    }
+    Ok(bytes)
+}
+
+/// What is read of these pieces with this behind them.
+fn read_pieces(alloc: Global, pieces: &[&[u8]], end: &[u8]) -> Result<Told, Memory> {
+    let bytes = joined(alloc, pieces, end)?;
+    read(alloc, bytes.as_slice())
 }
 
 /// Heads in their limits are read: before a verdict, and before a line of no form.
@@ -109,6 +120,11 @@ const HEADS_IN_RANGE: [Row; 6] = [
     },
 ];
 
+/// These rows as a value, of which no caller sees the rows: they would stand in each of its goals.
+fn heads_in_range() -> &'static [Row] {
+    &HEADS_IN_RANGE
+}
+
 const HEADS_BEFORE_NO_FORM: [Row; 6] = [
     Row {
         pieces: &[
@@ -153,6 +169,11 @@ const HEADS_BEFORE_NO_FORM: [Row; 6] = [
         told: BAD_SECOND,
     },
 ];
+
+/// These rows as a value.
+fn heads_before_no_form() -> &'static [Row] {
+    &HEADS_BEFORE_NO_FORM
+}
 
 /// A number of a head out of its limits is out of range, and tested before later lines.
 const HEADS_OUT_OF_RANGE: [Row; 11] = [
@@ -234,6 +255,11 @@ const HEADS_OUT_OF_RANGE: [Row; 11] = [
         told: HEAD_OUT_OF_RANGE,
     },
 ];
+
+/// These rows as a value.
+fn heads_out_of_range() -> &'static [Row] {
+    &HEADS_OUT_OF_RANGE
+}
 
 /// A head has one form, which is tested before its numbers and before later lines.
 const BAD_HEADS: [Row; 13] = [
@@ -330,6 +356,11 @@ const BAD_HEADS: [Row; 13] = [
     },
 ];
 
+/// These rows as a value.
+fn bad_heads() -> &'static [Row] {
+    &BAD_HEADS
+}
+
 /// A root has 64 digits of lower case, and the line feed follows it.
 const ROOT_ENDS: [Row; 9] = [
     Row {
@@ -370,6 +401,11 @@ const ROOT_ENDS: [Row; 9] = [
     },
 ];
 
+/// These rows as a value.
+fn root_ends() -> &'static [Row] {
+    &ROOT_ENDS
+}
+
 /// A text that ends before its verdict is cut off, and so is a line without its line feed, whatever its form.
 const CUT_OFF: [Row; 9] = [
     Row {
@@ -409,6 +445,11 @@ const CUT_OFF: [Row; 9] = [
         told: CUT,
     },
 ];
+
+/// These rows as a value.
+fn cut_off() -> &'static [Row] {
+    &CUT_OFF
+}
 
 /// A move has one form, which is tested before its prover's number, and is of a prover.
 const MOVES: [Row; 22] = [
@@ -502,6 +543,11 @@ const MOVES: [Row; 22] = [
     },
 ];
 
+/// These rows as a value.
+fn moves() -> &'static [Row] {
+    &MOVES
+}
+
 /// An answer is the digits of its wire form, and no others.
 const ANSWERS: [Row; 7] = [
     Row {
@@ -533,6 +579,11 @@ const ANSWERS: [Row; 7] = [
         told: BAD_SECOND,
     },
 ];
+
+/// These rows as a value.
+fn answers() -> &'static [Row] {
+    &ANSWERS
+}
 
 /// The first line with a fault is named, whatever the fault.
 const TWO_FAULTS: [Row; 8] = [
@@ -586,6 +637,11 @@ const TWO_FAULTS: [Row; 8] = [
     },
 ];
 
+/// These rows as a value.
+fn two_faults() -> &'static [Row] {
+    &TWO_FAULTS
+}
+
 /// Nothing follows the verdict.
 const BEHIND: [Row; 5] = [
     Row {
@@ -609,6 +665,11 @@ const BEHIND: [Row; 5] = [
         told: CUT,
     },
 ];
+
+/// These rows as a value.
+fn behind() -> &'static [Row] {
+    &BEHIND
+}
 
 /// Which verdicts have their form.
 const VERDICTS: [Row; 20] = [
@@ -694,6 +755,11 @@ const VERDICTS: [Row; 20] = [
     },
 ];
 
+/// These rows as a value.
+fn verdicts() -> &'static [Row] {
+    &VERDICTS
+}
+
 /// The first row of which something else is read, with this behind it.
 fn first_other(alloc: Global, rows: &[Row], end: &[u8]) -> Result<Option<usize>, Memory> {
     for (place, row) in rows.iter().enumerate() {
@@ -704,48 +770,112 @@ fn first_other(alloc: Global, rows: &[Row], end: &[u8]) -> Result<Option<usize>,
     Ok(None)
 }
 
+/// The tables, each with what stands behind its rows.
+fn tables() -> [(&'static [Row], &'static [u8]); 13] {
+    [
+        (heads_in_range(), END),
+        (heads_before_no_form(), NO_FORM),
+        (heads_out_of_range(), END),
+        (heads_out_of_range(), NO_FORM),
+        (bad_heads(), END),
+        (bad_heads(), NO_FORM),
+        (root_ends(), END),
+        (cut_off(), b""),
+        (moves(), END),
+        (answers(), END),
+        (two_faults(), b""),
+        (behind(), b""),
+        (verdicts(), b""),
+    ]
+}
+
+/// The first table with such a row, and the row.
+fn first_table(
+    alloc: Global,
+    tables: &[(&[Row], &[u8])],
+) -> Result<Option<(usize, usize)>, Memory> {
+    for (table, (rows, end)) in tables.iter().enumerate() {
+        if let Some(place) = first_other(alloc, *rows, *end)? {
+            return Ok(Some((table, place)));
+        }
+    }
+    Ok(None)
+}
+
 #[test]
 fn the_first_fault_of_a_text_is_found(rt: HostRuntime) -> Result<(), Fail> {
-    let alloc = rt.alloc();
-    let heads = [
-        first_other(alloc, &HEADS_IN_RANGE, END)?,
-        first_other(alloc, &HEADS_BEFORE_NO_FORM, NO_FORM)?,
-        first_other(alloc, &HEADS_OUT_OF_RANGE, END)?,
-        first_other(alloc, &HEADS_OUT_OF_RANGE, NO_FORM)?,
-        first_other(alloc, &BAD_HEADS, END)?,
-        first_other(alloc, &BAD_HEADS, NO_FORM)?,
-        first_other(alloc, &ROOT_ENDS, END)?,
-    ];
-    let lines = [
-        first_other(alloc, &CUT_OFF, b"")?,
-        first_other(alloc, &MOVES, END)?,
-        first_other(alloc, &ANSWERS, END)?,
-        first_other(alloc, &TWO_FAULTS, b"")?,
-        first_other(alloc, &BEHIND, b"")?,
-        first_other(alloc, &VERDICTS, b"")?,
-    ];
-    assert_eq!(rt; (heads, lines), ([None; 7], [None; 6]));
+    assert_eq!(rt; first_table(rt.alloc(), &tables())?, None);
     Ok(())
 }
 
+/// The digits of a string of 129 bytes.
+const MOST: &[u8] = b"\
+        7f7f7f7f7f7f7f7f7f7f7f7f7f7f7f7f7f7f7f7f7f7f7f7f7f7f7f7f7f7f7f7f7f7f7f7f7f7f7f7f7f7f7f\
+        7f7f7f7f7f7f7f7f7f7f7f7f7f7f7f7f7f7f7f7f7f7f7f7f7f7f7f7f7f7f7f7f7f7f7f7f7f7f7f7f7f7f7f\
+        7f7f7f7f7f7f7f7f7f7f7f7f7f7f7f7f7f7f7f7f7f7f7f7f7f7f7f7f7f7f7f7f7f7f7f7f7f7f7f7f7f7f7f";
+
+/// A hundred digits of a number.
+const NINES: &[u8] =
+    b"9999999999999999999999999999999999999999999999999999999999999999999999999999999999999999999999999999";
+
 /// A collision's strings have at most 129 bytes. A number of a thousand digits is out of range in line 1, and no form in a later line.
+const LONG: [Row; 4] = [
+    Row {
+        pieces: &[NUMBERS, START, b"collision ", MOST, b" 00\n"],
+        told: NO_MOVES,
+    },
+    Row {
+        pieces: &[NUMBERS, START, b"collision ", MOST, b"7f 00\n"],
+        told: BAD_SECOND,
+    },
+    Row {
+        pieces: &[
+            b"refereed provers ",
+            NINES,
+            NINES,
+            NINES,
+            NINES,
+            NINES,
+            NINES,
+            NINES,
+            NINES,
+            NINES,
+            NINES,
+            b" bound 8 patience 0 version 1 fan 2 digest sha256 ",
+            START,
+            END,
+        ],
+        told: HEAD_OUT_OF_RANGE,
+    },
+    Row {
+        pieces: &[
+            NUMBERS,
+            START,
+            b"move 0 0 p",
+            NINES,
+            NINES,
+            NINES,
+            NINES,
+            NINES,
+            NINES,
+            NINES,
+            NINES,
+            NINES,
+            NINES,
+            b" spent\n",
+            END,
+        ],
+        told: BAD_SECOND,
+    },
+];
+
+/// The long rows as a value.
+fn long() -> &'static [Row] {
+    &LONG
+}
+
 #[test]
 fn long_strings_and_numbers_are_read_to_their_end(rt: HostRuntime) -> Result<(), Fail> {
-    let alloc = rt.alloc();
-    let (most, more) = ("7f".repeat(alloc, 129)?, "7f".repeat(alloc, 130)?);
-    let long = "9".repeat(alloc, 1000)?;
-    let (most, more, long) = (most.as_bytes(), more.as_bytes(), long.as_bytes());
-    let behind = b" bound 8 patience 0 version 1 fan 2 digest sha256 ";
-    let read = [
-        read_pieces(alloc, &[NUMBERS, START, b"collision ", most], b" 00\n")?,
-        read_pieces(alloc, &[NUMBERS, START, b"collision ", more], b" 00\n")?,
-        read_pieces(alloc, &[b"refereed provers ", long, behind, START], END)?,
-        read_pieces(
-            alloc,
-            &[NUMBERS, START, b"move 0 0 p", long, b" spent\n"],
-            END,
-        )?,
-    ];
-    assert_eq!(rt; read, [NO_MOVES, BAD_SECOND, HEAD_OUT_OF_RANGE, BAD_SECOND]);
+    assert_eq!(rt; first_other(rt.alloc(), long(), b"")?, None);
     Ok(())
 }
