@@ -1,5 +1,5 @@
 -- What a command that needs no runtime comes to is the outcome of all arguments that name it.
-use Rattle.std.proofs.Common.{◌≡◌, ℕ, ◌<◌, ◌≤◌, List, [], ◌∷◌, length, codes, Bool, true, Option, Result, Ok, Err, Some, refl, sym, ap, subst, ◌∙◌}
+use Rattle.std.proofs.Common.{◌≡◌, ℕ, ◌<◌, ◌≤◌, List, [], ◌∷◌, length, codes, Bool, true, Option, Result, Ok, Err, Some, IfOk, refl, sym, ap, subst, ◌∙◌}
 use Rattle.command_line.specs.Words.{chosen}
 use Rattle.command_line.specs.declared.request.Command.{Command}
 use Rattle.command_line.specs.declared.request.Command.TheVariants as commands
@@ -10,7 +10,10 @@ use Rattle.delegate.specs.Outcome.{bytes_for, carried_out, either_way, outcome}
 use Rattle.delegate.specs.Refusal.{too_long}
 use Rattle.delegate.specs.declared.commands.Alone.{Alone}
 use Rattle.delegate.specs.declared.commands.Alone.TheVariants.{Run, Audit, Listing}
+use Rattle.delegate.specs.Standing.{Stands, IsEitherWay}
 use Rattle.delegate.specs.declared.response.Response.{Response}
+use Rattle.delegate.specs.declared.response.Stop.{Stop}
+use Rattle.rd_base.specs.declared.memory.Memory.{Memory}
 use Rattle.delegate.proofs.KindLemmas.{outcome-own}
 use Rattle.delegate.proofs.OutcomeLemmas.{no_bytes, both_steps, outcome-of, over_limit, under_limit}
 
@@ -24,10 +27,16 @@ pub too_long-alone : (command : Alone) (bytes : List ℕ) (response : Response) 
 too_long-alone command bytes response long is words taken =
     outcome-of words bytes (Err too_long) (no_bytes words bytes (command_of command) too_long taken (reads-them command bytes ∙ over_limit bytes long)) ∙ sym is
 
-pub carried-alone : (command : Alone) (bytes given : List ℕ) (r : Result Response Response) → length bytes ≤ 16777216 → given ≡ bytes → carried_out (command_of command) given ≡ r
+carried-alone : (command : Alone) (bytes given : List ℕ) (r : Result Response Response) → length bytes ≤ 16777216 → given ≡ bytes → carried_out (command_of command) given ≡ r
     → (words : List (List ℕ)) → chosen words ≡ Some (command_of command) → outcome words bytes ≡ either_way r
 carried-alone command bytes given r few is come words taken =
     outcome-of words bytes r (both_steps words bytes given (command_of command) taken (reads-them command bytes ∙ (under_limit bytes few ∙ ap Ok (sym is))) ∙ come)
+
+pub ended-alone : (command : Alone) (bytes given : List ℕ) (carried : Result Response Stop) (answer : Result Response Memory) → length bytes ≤ 16777216 → given ≡ bytes
+    → Stands (λ (done : Response). done) carried (carried_out (command_of command) given) → IfOk answer (IsEitherWay carried) → IfOk answer (IsOutcomeOf command bytes)
+ended-alone command bytes given (Ok done) (Ok response) few same stands is = λ words taken. carried-alone command bytes given (Ok done) few same stands words taken ∙ sym is
+ended-alone command bytes given (Err stop) (Ok response) few same stands is = carried-alone command bytes given (Err response) few same (stands response is)
+ended-alone command bytes given carried (Err e) few same stands is = tt
 
 -- its answer is one of the command, by arguments that name it
 own-by : (words : List (List ℕ)) (command : Alone) (bytes : List ℕ) (response : Response) → chosen words ≡ Some (command_of command) → IsOutcomeOf command bytes response

@@ -1,5 +1,5 @@
 -- Arguments and bytes that are a case or tasks: what the program answers, and that each case is in range.
-use Rattle.std.proofs.Common.{◌≡◌, ℕ, ◌-◌, List, length, nat_lt, Option, Some, None, Result, Ok, Err, Bool, true, false, cond, refl, sym, ap, subst, ◌∙◌, slice_get}
+use Rattle.std.proofs.Common.{◌≡◌, ℕ, ◌-◌, List, length, nat_lt, Option, Some, None, Result, Ok, Err, Bool, true, false, cond, refl, sym, ap, subst, ◌∙◌, slice_get, IfOk}
 use Rattle.std.specs.Option.{option_and_then}
 use Rattle.rd_base.specs.Results.{◌>>=◌}
 use Rattle.rv_step.specs.State.{State}
@@ -22,9 +22,10 @@ use Rattle.delegate.specs.commands.Big.{summing_up, big_response}
 use Rattle.delegate.specs.Outcome.{bytes_for, carried_out, decides, response_to, outcome}
 use Rattle.delegate.specs.Headline.{Headline, AreByteStrings, HeadlineOfCases, AnswersTheCase, KeepsTheTruthful, AnswersTheTasks, AreTasks, KeepsTheTruthfulOfTasks}
 use Rattle.case_match.specs.Match.{record_of_case, verdict_of_record}
-use Rattle.delegate.specs.Standing.{AreAllInRange, AreAllShown, AreAllPlayed, IsPlayed, AreInRange, AreInRangeIfThere, DecidesInRange, CasesAreInRange}
+use Rattle.delegate.specs.Standing.{AreAllInRange, AreAllShown, AreAllPlayed, IsPlayed, AreInRange, AreInRangeIfThere, DecidesInRange, CasesAreInRange, Stands, IsEitherWay}
 use Rattle.delegate.specs.declared.response.Subject.TheVariants.{Whole}
 use Rattle.delegate.specs.declared.response.Response.{Response}
+use Rattle.delegate.specs.declared.response.Stop.{Stop}
 use Rattle.delegate.proofs.OutcomeLemmas.{goes_on, both_steps, of_command, outcome-of}
 use Rattle.delegate.proofs.TaskLemmas.{decided-stands, played-of, played-at}
 
@@ -183,10 +184,18 @@ IsIt words bytes response = (response ≡ outcome words bytes) × CasesAreInRang
 pub refused-is-it : (words : List (List ℕ)) (bytes : List ℕ) (response : Response) → response_to words bytes ≡ Err response → IsIt words bytes response
 refused-is-it words bytes response is = (sym (outcome-of words bytes _ is), refused-in-range words bytes response is)
 
-pub carried-is-it : (words : List (List ℕ)) (bytes given : List ℕ) (command : Command) (response : Response) → chosen words ≡ Some command → bytes_for command bytes ≡ Ok given
+carried-is-it : (words : List (List ℕ)) (bytes given : List ℕ) (command : Command) (response : Response) → chosen words ≡ Some command → bytes_for command bytes ≡ Ok given
     → carried_out command given ≡ Ok response → DecidesInRange command given → IsIt words bytes response
 carried-is-it words bytes given command response taken read is decided_in_range =
     (sym (outcome-of words bytes _ (both_steps words bytes given command taken read ∙ is)), in-range words bytes given command taken read decided_in_range)
+
+pub ended-is-it : (words : List (List ℕ)) (bytes given : List ℕ) (command : Command) (carried : Result Response Stop) (response : Response) → chosen words ≡ Some command
+    → bytes_for command bytes ≡ Ok given → Stands (λ (done : Response). done) carried (carried_out command given) → IfOk carried (λ done. DecidesInRange command given)
+    → IsEitherWay carried response → IsIt words bytes response
+ended-is-it words bytes given command (Ok done) response taken read stands decided_in_range is =
+    subst (IsIt words bytes) (sym is) (carried-is-it words bytes given command done taken read stands decided_in_range)
+ended-is-it words bytes given command (Err stop) response taken read stands decided_in_range is =
+    refused-is-it words bytes response (both_steps words bytes given command taken read ∙ stands response is)
 
 -- what was read, whose machines were made, is in range wherever it is read
 

@@ -31,6 +31,11 @@ abbrev pub Stands : {X Y : Type 0} → (X → Y) → Result X Stop → Result Y 
 Stands view (Ok x) defined = defined ≡ Ok (view x)
 Stands view (Err stop) defined = (response : Response) → stop ≡ Refused response → defined ≡ Err response
 
+-- this is the response to a command that was carried out or refused so
+abbrev pub IsEitherWay : Result Response Stop → Response → Type 0
+IsEitherWay (Ok done) response = response ≡ done
+IsEitherWay (Err stop) response = stop ≡ Refused response
+
 -- a machine without output, whose chain is that of no output by every digest function
 abbrev pub IsFreshStart : Machine → Type 0
 IsFreshStart start = (digest : List ℕ → List ℕ) → IsFresh digest start

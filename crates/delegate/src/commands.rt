@@ -17,7 +17,7 @@ mod run;
 
 use crate::faults;
 use crate::program::MAX_CASE_BYTES;
-use crate::response::{Response, Stop};
+use crate::response::{Response, Stop, either_way};
 use command_line::{Command, Request, plain_words};
 use rd_base::Memory;
 use std::alloc::Global;
@@ -83,11 +83,7 @@ fn respond_alone(alloc: Global, command: Alone, bytes: &[u8]) -> Result<Response
         return Ok(faults::too_long(alloc)?);
     }
     let given = Vec::from_slice(alloc, bytes)?;
-    match carry_out_alone(alloc, command, given) {
-        Ok(response) => Ok(response),
-        Err(Stop::Refused(response)) => Ok(response),
-        Err(Stop::Memory) => Err(Memory),
-    }
+    either_way(carry_out_alone(alloc, command, given))
 }
 
 /// What a command that needs no runtime answers on these bytes: the answer and the text of the program, given these bytes and arguments

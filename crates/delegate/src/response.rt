@@ -1,9 +1,10 @@
 //! What the program answers: how it ended, what is written, and why a command isn't carried out.
-ghost use Rattle.std.specs.Prelude.{◌≡◌, Some, string_bytes};
+ghost use Rattle.std.specs.Prelude.{◌≡◌, Some, IfOk, string_bytes};
 ghost use Rattle.delegate.specs.declared.response.Halt.TheVariants.{Memory as halted};
 ghost use Rattle.delegate.specs.declared.response.Stop.TheVariants.{Memory as stopped};
 ghost use Rattle.delegate.specs.Answered.{status_number, graver};
 ghost use Rattle.delegate.specs.Refusal.{subject_text};
+ghost use Rattle.delegate.specs.Standing.{IsEitherWay};
 
 use rd_base::{Bytes, Memory};
 use std::alloc::{AllocError, AllocFailed};
@@ -139,6 +140,17 @@ impl<T: Drop> From<AllocFailed<T>> for Stop {
 
     fn from(_e: AllocFailed<T>) -> Stop {
         Stop::Memory
+    }
+}
+
+/// The response to a command, whether it was carried out or refused.
+pub fn either_way(carried: Result<Response, Stop>) -> Result<Response, Memory>
+    ensures { IfOk result (IsEitherWay carried) }
+{
+    match carried {
+        Ok(response) => Ok(response),
+        Err(Stop::Refused(response)) => Ok(response),
+        Err(Stop::Memory) => Err(Memory),
     }
 }
 
