@@ -2,6 +2,7 @@
 ghost use Rattle.std.specs.Prelude.{◌≡◌, ◌+◌, ◌≤◌, []};
 
 use crate::registers_and_input_test::{bytes_of_numbers, one_register};
+use crate::trees_test::store_byte;
 use digest_core::{Digester, Sha256};
 use mem_plain::PlainMem;
 use mem_tree::{MemTree, RegTree};
@@ -98,8 +99,7 @@ fn store_all<D: Digester>(
     stores: &[(u32, u32)],
 ) -> Result<(), Memory> {
     for (addr, byte) in stores {
-        mem.store(*addr, 1, *byte)?;
-        tree.touch(*addr / 4096)?;
+        store_byte(mem, tree, *addr, *byte)?;
     }
     tree.refresh(mem)
 }

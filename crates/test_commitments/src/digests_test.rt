@@ -237,9 +237,15 @@ fn sha_256_of_abc_and_of_nothing(rt: HostRuntime) {
     assert!(rt; Sha256.digest(b"abc").0 == *abc && Sha256.digest(b"").0 == *nothing);
 }
 
-/// The first eight bytes of the digest of a string.
-fn eight_of(text: OpenText) -> u64 {
-    first_eight(Sha256.digest(text.as_slice()))
+/// The length of a string, and the first eight bytes of its digest.
+fn length_and_digest(text: OpenText) -> (usize, u64) {
+    let text = text.as_slice();
+    (text.len(), first_eight(Sha256.digest(text)))
+}
+
+/// Whether a string has these bytes.
+fn has_bytes(text: OpenText, bytes: &[u8]) -> bool {
+    text.as_slice() == bytes
 }
 
 /// The digests were computed in Python, with `from hashlib import sha256`:
@@ -251,26 +257,21 @@ fn eight_of(text: OpenText) -> u64 {
 /// ```
 #[test]
 fn a_register_and_a_storage_have_strings_of_their_own(rt: HostRuntime) {
-    let storage = storage_text(&Digest32([1; 32]), 0x0102_0304, &Digest32([2; 32]));
-    assert!(rt;
-        register_text(0x1234_5678).as_slice() == b"\x07\x78\x56\x34\x12".as_slice()
-            && storage.as_slice().len() == 69
-    );
-    let digests = [
-        eight_of(register_text(0)),
-        eight_of(register_text(1)),
-        eight_of(register_text(0x1234_5678)),
-        eight_of(register_text(0xffff_ffff)),
-        eight_of(storage),
+    let of_kinds = [
+        length_and_digest(register_text(0)),
+        length_and_digest(register_text(1)),
+        length_and_digest(register_text(0x1234_5678)),
+        length_and_digest(register_text(0xffff_ffff)),
+        length_and_digest(storage_text(&Digest32([1; 32]), 0x0102_0304, &Digest32([2; 32]))),
     ];
-    assert_eq!(rt;
-        digests,
-        [
-            0xe16a_b60a_a1ee_b707,
-            0xcf8a_902c_6da1_0e1e,
-            0xd10d_8dd4_4c13_c586,
-            0xa748_6cf0_3e73_27c9,
-            0x5656_c63e_0bc0_22bf,
-        ]
+    let wanted = [
+        (5, 0xe16a_b60a_a1ee_b707),
+        (5, 0xcf8a_902c_6da1_0e1e),
+        (5, 0xd10d_8dd4_4c13_c586),
+        (5, 0xa748_6cf0_3e73_27c9),
+        (69, 0x5656_c63e_0bc0_22bf),
+    ];
+    assert!(rt;
+        of_kinds == wanted && has_bytes(register_text(0x1234_5678), b"\x07\x78\x56\x34\x12")
     );
 }

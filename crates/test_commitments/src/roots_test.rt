@@ -5,6 +5,7 @@ use crate::nodes_test::climbs;
 use crate::programs::{DIVIDES, LOOP, OVERWRITES, PUTS, READS, STORES};
 use digest_core::{Sha256, leaf_text, register_text};
 use mem_tree::input_chunk;
+use rd_base::Digest32;
 use state_commit::{Committed, state_root};
 use std::alloc::Global;
 use std::test::Fail;
@@ -288,27 +289,32 @@ const OF_PROGRAMS: [Run; 7] = [
     },
 ];
 
+/// The root of a machine from scratch in a version.
+fn root_from_scratch(kept: &Committed<Sha256>, version: u32) -> Digest32 {
+    state_root(Sha256, version, kept.machine())
+}
+
+/// Whether a machine has this root, kept and from scratch in a version.
+fn has_root(kept: &Committed<Sha256>, version: u32, want: u64) -> bool {
+    let root = kept.root();
+    root.0 == root_from_scratch(kept, version).0 && first_eight(root) == want
+}
+
 /// The first state of a run whose root, kept or from scratch, is another one.
 fn first_other_state<R: Threads + Sync>(
     rt: &R,
     alloc: Global,
     run: Run,
 ) -> Result<Option<usize>, Fail> {
-    let Run {
-        image,
-        version,
-        input,
-        roots,
-    } = run;
-    let mut kept = machine_after(rt, alloc, version, image, input, 0)?;
-    for (state, want) in roots.iter().enumerate() {
-        let root = kept.root();
-        if root.0 != state_root(Sha256, version, kept.machine()).0 || first_eight(root) != *want {
-            return Ok(Some(state));
+    let mut kept = machine_after(rt, alloc, run.version, run.image, run.input, 0)?;
+    let mut other = None;
+    for (state, want) in run.roots.iter().enumerate() {
+        if other.is_none() && !has_root(&kept, run.version, *want) {
+            other = Some(state);
         }
         kept = kept.step()?;
     }
-    Ok(None)
+    Ok(other)
 }
 
 /// The first run that has another root, and its first state that has.
@@ -388,20 +394,25 @@ fn inputs_climb(kept: &Committed<Sha256>, chunks: &[u32]) -> bool {
     true
 }
 
-/// Whether paths of a machine of version 3 climb: of memory, of the registers and of the input.
-fn all_climb(kept: &Committed<Sha256>) -> bool {
-    chunks_climb(kept, &[0, 0x800, 0x1000])
-        && registers_climb(kept, &[0, 6, 31])
-        && inputs_climb(kept, &[0, 1])
+/// Whether the paths of the chunks at 0, at the program, at the byte that `STORES` stores, and at the end of memory climb.
+fn memory_climbs(kept: Committed<Sha256>) -> bool {
+    chunks_climb(&kept, &[0, 0x800, 0x1000, 0x7ff_ffff])
 }
 
-/// After the store of `STORES`: the chunks at 0, at the program, at the byte that was stored, and at the end of memory.
+/// Whether paths of a machine of version 3 climb: of memory, of the registers and of the input.
+fn trees_climb(kept: Committed<Sha256>) -> [bool; 3] {
+    [
+        chunks_climb(&kept, &[0, 0x800, 0x1000]),
+        registers_climb(&kept, &[0, 6, 31]),
+        inputs_climb(&kept, &[0, 1]),
+    ]
+}
+
+/// After the store of `STORES`.
 #[test]
 fn paths_climb_to_the_roots_that_a_version_has(rt: HostRuntime) -> Result<(), Fail> {
-    let first = machine_after(&rt, rt.alloc(), 1, STORES, b"", 3)?;
-    let first_climb = chunks_climb(&first, &[0, 0x800, 0x1000, 0x7ff_ffff]);
-    drop(first);
-    let third = machine_after(&rt, rt.alloc(), 3, STORES, b"input", 3)?;
-    assert!(rt; first_climb && all_climb(&third));
+    let first = memory_climbs(machine_after(&rt, rt.alloc(), 1, STORES, b"", 3)?);
+    let third = trees_climb(machine_after(&rt, rt.alloc(), 3, STORES, b"input", 3)?);
+    assert_eq!(rt; (first, third), (true, [true; 3]));
     Ok(())
 }

@@ -2,7 +2,7 @@
 ghost use Rattle.std.specs.Prelude.{◌≡◌, []};
 
 use crate::nodes_test::climbs;
-use digest_core::{Sha256, leaf_text};
+use digest_core::{Digester, Sha256, leaf_text};
 use mem_plain::PlainMem;
 use mem_tree::MemTree;
 use rd_base::Memory;
@@ -31,21 +31,26 @@ enum Act {
     Climbs(u32),
 }
 
-/// Carries out the store of an act, and touches the page; `false` if it stores nothing.
-fn stores(mem: &mut PlainMem, tree: &mut MemTree<Sha256>, act: Act) -> Result<bool, Memory> {
-    match act {
-        Act::Byte(addr, byte) => {
-            mem.store(addr, 1, byte)?;
-            tree.touch(addr / 4096)?;
-            Ok(true)
-        }
-        Act::Word(addr, value) => {
-            mem.store(4 * (addr / 4), 4, value)?;
-            tree.touch(addr / 4096)?;
-            Ok(true)
-        }
-        _ => Ok(false),
-    }
+/// Stores a byte, and touches its page.
+pub(crate) fn store_byte<D: Digester>(
+    mem: &mut PlainMem,
+    tree: &mut MemTree<D>,
+    addr: u32,
+    byte: u32,
+) -> Result<(), Memory> {
+    mem.store(addr, 1, byte)?;
+    tree.touch(addr / 4096)
+}
+
+/// Stores a word, and touches its page.
+fn store_word(
+    mem: &mut PlainMem,
+    tree: &mut MemTree<Sha256>,
+    addr: u32,
+    value: u32,
+) -> Result<(), Memory> {
+    mem.store(4 * (addr / 4), 4, value)?;
+    tree.touch(addr / 4096)
 }
 
 /// Whether a tree without a touched page is as an act requires.
@@ -67,6 +72,27 @@ fn is_so(mem: &PlainMem, tree: &MemTree<Sha256>, other: &MemTree<Sha256>, act: A
     }
 }
 
+/// Whether a tree and one that is built anew are as an act requires.
+fn are_so(mem: &PlainMem, tree: &MemTree<Sha256>, built: MemTree<Sha256>, act: Act) -> (bool, bool)
+    requires tree { tree.now.touched ≡ [] }
+    requires built { built.touched ≡ [] }
+{
+    (is_so(mem, tree, &built, act), is_so(mem, &built, tree, act))
+}
+
+/// Whether what an act asks is so.
+fn is_held<R: Threads + Sync>(
+    rt: &R,
+    alloc: Global,
+    mem: &PlainMem,
+    tree: &mut MemTree<Sha256>,
+    act: Act,
+) -> Result<bool, Memory> {
+    tree.refresh(mem)?;
+    let both = are_so(mem, tree, MemTree::build(rt, alloc, Sha256, mem)?, act);
+    Ok(both == (true, true))
+}
+
 /// Does an act, and whether what it asks is so.
 fn holds<R: Threads + Sync>(
     rt: &R,
@@ -75,12 +101,12 @@ fn holds<R: Threads + Sync>(
     tree: &mut MemTree<Sha256>,
     act: Act,
 ) -> Result<bool, Memory> {
-    if stores(mem, tree, act)? {
-        return Ok(true);
+    match act {
+        Act::Byte(addr, byte) => store_byte(mem, tree, addr, byte)?,
+        Act::Word(addr, value) => store_word(mem, tree, addr, value)?,
+        _ => return is_held(rt, alloc, mem, tree, act),
     }
-    tree.refresh(mem)?;
-    let built = MemTree::build(rt, alloc, Sha256, mem)?;
-    Ok(is_so(mem, tree, &built, act) && is_so(mem, &built, tree, act))
+    Ok(true)
 }
 
 /// The first of these acts that doesn't hold.
@@ -136,67 +162,75 @@ const EMPTY: u64 = 0x42cf_a9b6_ff39_0040;
 ///     for memory in {}, {0: 1}, {0xffffffff: 0xff}, {0x1000: 7, 0x70000000: 9}:
 ///         print(root(memory).hex()[:16])
 /// ```
-#[test]
-fn the_root_is_that_of_the_definition(rt: HostRuntime) -> Result<(), Fail> {
-    let alloc = rt.alloc();
-    let low = [Act::Byte(0, 1), Act::Root(0x23b1_1f6d_3ba0_f407)];
-    let last = [
+const ROOTS: [&[Act]; 4] = [
+    &[Act::Root(EMPTY)],
+    &[Act::Byte(0, 1), Act::Root(0x23b1_1f6d_3ba0_f407)],
+    &[
         Act::Byte(0xffff_ffff, 0xff),
         Act::Root(0xd234_c9d9_c27f_443f),
-    ];
-    let two = [
+    ],
+    &[
         Act::Byte(0x1000, 7),
         Act::Byte(0x7000_0000, 9),
         Act::Root(0xfa77_0ae9_3af5_19f8),
-    ];
-    let failed = [
-        first_failed(&rt, alloc, &[Act::Root(EMPTY)])?,
-        first_failed(&rt, alloc, &low)?,
-        first_failed(&rt, alloc, &last)?,
-        first_failed(&rt, alloc, &two)?,
-    ];
-    assert_eq!(rt; failed, [None; 4]);
-    Ok(())
-}
+    ],
+];
 
 /// Chunks of pages that are kept, and of such as are not, next to these and far from them.
-#[test]
-fn each_path_climbs_to_the_root(rt: HostRuntime) -> Result<(), Fail> {
-    let acts = [
-        Act::Byte(0x0000_0fe0, 1),
-        Act::Byte(0x7000_0020, 2),
-        Act::Byte(0xffff_ffff, 3),
-        Act::Climbs(0x7f),
-        Act::Climbs(0),
-        Act::Climbs(1),
-        Act::Climbs(0x80),
-        Act::Climbs(0x100),
-        Act::Climbs(0x380_0001),
-        Act::Climbs(0x380_0000),
-        Act::Climbs(0x37f_ffff),
-        Act::Climbs(0x7ff_ffff),
-        Act::Climbs(0x7ff_ff80),
-        Act::Climbs(0x7ff_ff7f),
-        Act::Climbs(0x555_5555),
-    ];
-    assert_eq!(rt; first_failed(&rt, rt.alloc(), &acts)?, None);
-    Ok(())
+const PATHS: [Act; 15] = [
+    Act::Byte(0x0000_0fe0, 1),
+    Act::Byte(0x7000_0020, 2),
+    Act::Byte(0xffff_ffff, 3),
+    Act::Climbs(0x7f),
+    Act::Climbs(0),
+    Act::Climbs(1),
+    Act::Climbs(0x80),
+    Act::Climbs(0x100),
+    Act::Climbs(0x380_0001),
+    Act::Climbs(0x380_0000),
+    Act::Climbs(0x37f_ffff),
+    Act::Climbs(0x7ff_ffff),
+    Act::Climbs(0x7ff_ff80),
+    Act::Climbs(0x7ff_ff7f),
+    Act::Climbs(0x555_5555),
+];
+
+/// A page that is filled with zeros is no longer kept.
+const ZEROS: [Act; 9] = [
+    Act::Word(0x1234_5678, 0x0403_0201),
+    Act::Kept(0x12345),
+    Act::Dropped(0x12344),
+    Act::Word(0x1234_5678, 0),
+    Act::Root(EMPTY),
+    Act::Dropped(0x12345),
+    Act::Word(0x1234_5678, 0x0403_0201),
+    Act::Kept(0x12345),
+    Act::Same,
+];
+
+/// The first of these lists of acts with an act that doesn't hold on an empty memory, and this act.
+fn first_failed_list<R: Threads + Sync>(
+    rt: &R,
+    alloc: Global,
+    lists: &[&[Act]],
+) -> Result<Option<(usize, usize)>, Memory> {
+    for (list, acts) in lists.iter().enumerate() {
+        if let Some(act) = first_failed(rt, alloc, acts)? {
+            return Ok(Some((list, act)));
+        }
+    }
+    Ok(None)
 }
 
 #[test]
-fn a_page_filled_with_zeros_is_no_longer_kept(rt: HostRuntime) -> Result<(), Fail> {
-    let acts = [
-        Act::Word(0x1234_5678, 0x0403_0201),
-        Act::Kept(0x12345),
-        Act::Dropped(0x12344),
-        Act::Word(0x1234_5678, 0),
-        Act::Root(EMPTY),
-        Act::Dropped(0x12345),
-        Act::Word(0x1234_5678, 0x0403_0201),
-        Act::Kept(0x12345),
-        Act::Same,
+fn roots_are_those_of_the_definition_paths_climb_to_them_and_pages_of_zeros_are_not_kept(
+    rt: HostRuntime,
+) -> Result<(), Fail> {
+    let failed = [
+        first_failed_list(&rt, rt.alloc(), &ROOTS)?,
+        first_failed_list(&rt, rt.alloc(), &[&PATHS, &ZEROS])?,
     ];
-    assert_eq!(rt; first_failed(&rt, rt.alloc(), &acts)?, None);
+    assert_eq!(rt; failed, [None; 2]);
     Ok(())
 }
 
@@ -242,7 +276,7 @@ fn first_failed_round_of<R: Threads + Sync>(
     for round in 0..100u32 {
         seed = next(seed);
         let addr = address(seed);
-        stores(mem, tree, Act::Byte(addr, (seed >> 16) % 2))?;
+        store_byte(mem, tree, addr, (seed >> 16) % 2)?;
         if !is_right_after(rt, alloc, mem, tree, round, addr / 32)? {
             return Ok(Some(round));
         }
