@@ -26,10 +26,21 @@ function ownRoots(match, dispute, round) {
   return round.own.map((root, at) => root ?? claimRoot(match, dispute.sides[at]));
 }
 
-/** What the head of a text states, which a reader compares with the case. */
+/** The claimed roots, each once with its provers: those of one root agree, whether they met or not. */
+function factsOfClaims(match, ofTask) {
+  const claimed = new Map();
+  for (const prover of match.claims.keys()) {
+    const root = claimRoot(match, prover);
+    claimed.set(root, [...(claimed.get(root) ?? []), `p${prover}`]);
+  }
+  return [...claimed].map(([root, provers]) => [`claimed by ${provers.join(" ")}${ofTask}`, root, "digest"]);
+}
+
+/** What the head of a text states, which a reader compares with the case, and the roots that are claimed. */
 function factsOfMatch(match, ofTask) {
   const numbers = `${withCommas(match.provers)} provers, bound ${withCommas(match.bound)}, patience ${match.patience}, version ${match.version}, fan ${match.fan}`;
-  return [[`start root${ofTask}`, match.start, "digest"], [`head${ofTask}`, `${numbers.replace(/^1 provers/, "1 prover")}, digest ${match.digest}`]];
+  const head = [`head${ofTask}`, `${numbers.replace(/^1 provers/, "1 prover")}, digest ${match.digest}`];
+  return [[`start root${ofTask}`, match.start, "digest"], head, ...factsOfClaims(match, ofTask)];
 }
 
 /** Facts are pairs of a name and what it is, or triples with a kind: `digest`, or `bytes`. */
