@@ -63,11 +63,11 @@ def is_wire_form(answer):
         return 1 <= answer[1] <= 15 and rest == 32 * answer[1]
     if kind == STEP_1:
         flags = answer[206]
-        return flags <= 3 and rest == CHUNK_OPENING * flags.bit_count()
+        return flags <= 3 and rest == CHUNK_OPENING * bin(flags).count("1")
     flags, count = answer[FIXED[kind] - 2], answer[FIXED[kind] - 1]
     if flags > (3 if kind == STEP_2 else 7) or count > 3:
         return False
-    size = CHUNK_OPENING * (flags & 3).bit_count() + REGISTER_OPENING * count
+    size = CHUNK_OPENING * bin(flags & 3).count("1") + REGISTER_OPENING * count
     return rest == size + (INPUT_OPENING if flags & 4 else 0)
 
 
