@@ -1,5 +1,5 @@
-//! The audit of a full text: whoever holds a text can check its verdict, with one machine step for each proof, without the image,
-//! the input or a prover.
+//! The audit of a full text: whoever holds a text can check its verdict, with at most one machine step for each proof, as the code
+//! shows, and without the image, the input or a prover.
 //!
 //! The layers above may rely on this: `audit` answers what `specs/LineByLine.antt` defines for a text. It plays one match before a judge in
 //! the order of the text, and refuses at the first line that isn't the next legal entry. The laws say that a text is confirmed if and

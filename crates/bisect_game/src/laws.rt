@@ -44,12 +44,12 @@ pub fn the_kept_part_is_the_first_that_differs()
     ensures { KeptPartIsFirstThatDiffers }
 {}
 
-/// A dispute between two runs ends where they part, be they true or not: if each answer of a side is that of its run, the dispute closes at
-/// a step before which the runs have one root and behind which they have two, by their proofs of that step (`ends`). So if one run is
-/// true and the other leaves it at step s, the other side alone is out in the proof of step s - 1, or the dispute closes by a
-/// collision (`lie`). A run that stops early at step s is refuted at step s, or at a later one before which the true run has come back to
-/// the root of step s, or the dispute closes by a collision (`early`). Such a collision is two different strings of one digest, one opened
-/// by each run's proof of the step where the dispute ends.
+/// A dispute between two runs ends where they part, be they true or not: if each answer of a side is that of its run, the dispute closes
+/// at a step before which the runs have one root and behind which they have two, by their proofs of that step (`ends`). So if one run is
+/// true, and the other leaves it at step s behind a true proof of step s - 1 and follows true steps from there, the other side alone is
+/// out in the proof of step s - 1, or the dispute closes by a collision (`lie`). A run that stops early at step s is refuted at step s,
+/// or at a later one before which the true run has come back to the root of step s, or the dispute closes by a collision (`early`). Such
+/// a collision is two different strings of one digest, one opened by each run's proof of the step where the dispute ends.
 pub fn disputes_end_where_runs_part()
     ensures ends { RunsPartWhereTheyEnd }
     ensures lie { LieIsRefutedAtItsStep }

@@ -114,8 +114,9 @@ pub fn tampers_of_cases_are_refuted<D: Digester>()
 }
 
 /// Which provers answer truly in every case, by any digest function: those with an untouched run that answer at once, after no more
-/// passes than the patience, with the sequential run's output, with a forgery that changes nothing, or with noise if no root is
-/// asked (`untouched`); and those with a tape of true answers (`tape`). A prover with the script `{}` is one of the first.
+/// passes than the patience, with the sequential run's output, with a forgery that changes nothing, or with noise in a run of one step,
+/// of which no root is asked (`untouched`); and those with a tape of true answers (`tape`). A prover with the script `{}` is one of the
+/// first.
 pub fn untouched_provers_are_truthful()
     ensures untouched { (digest : List ℕ → List ℕ) → UntouchedProversAreTruthful digest }
     ensures tape { (digest : List ℕ → List ℕ) → TrueTapesAreTruthful digest }

@@ -105,8 +105,8 @@ impl Run {
 }
 
 /// Records the run of a prover from a machine, with this tamper, up to the step `bound`, with a checkpoint at every `every`
-/// steps (at least 1) from step 0 on. It makes no step after the one from which the run stands still. The machine's chain is
-/// that of its output, by the digester `d`, and so are the checkpoints'.
+/// steps (at least 1) from step 0 on. As the code shows, it makes no step after the one from which the run stands still. The machine's
+/// chain is that of its output, by the digester `d`, and so are the checkpoints'.
 pub fn record_run<D: Digester>(
     alloc: Global,
     d: D,

@@ -79,7 +79,7 @@ impl<J: Judge + Drop, P: Provers + Drop> Board<J, P> {
     ///
     /// If the case asks the prover a question of that number, the move is what the prover says to it after some number of
     /// passes. The reply is that of the book if the prover says this move after the passes at that point, and else `Stale`
-    /// with the open question, and nothing changes.
+    /// with the open question, if there is one, and nothing changes.
     pub fn post<R: Wait>(
         &self,
         rt: &R,

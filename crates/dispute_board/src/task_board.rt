@@ -65,7 +65,7 @@ impl<J: Judge + Drop, P: Provers + Drop> TaskBoard<J, P> {
     ///
     /// If the task's case asks the prover a question of that number, the move is what the prover says to it after some number of
     /// passes. The reply is that of the task's book if the prover says this move after the passes at that point, and else
-    /// `Stale` with the open question, and nothing changes. No other task changes.
+    /// `Stale` with the open question, if there is one, and nothing changes. No other task changes.
     pub fn post<R: Wait>(
         &self,
         rt: &R,

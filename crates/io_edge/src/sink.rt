@@ -27,8 +27,8 @@ pub trait Sink {
 
 /// Writes all the bytes. It allocates nothing.
 ///
-/// It fails only if the sink's count of faults rose by one, and then the sink has taken a prefix of them. `Ok`
-/// leaves the count as it was.
+/// It fails only if the sink's count of faults rose by one, or stays at the largest `u64`, and then the sink has taken a prefix of them.
+/// `Ok` leaves the count as it was.
 pub fn write_all<K: Sink>(sink: &mut K, bytes: &[u8]) -> Result<(), Failed>
     ensures ok { OnOk result (Appends (K.held sink.old) (K.held sink.new) bytes.now) }
     ensures failed { OnErr result (AppendsPart (K.held sink.old) (K.held sink.new) bytes.now) }

@@ -48,9 +48,9 @@ pub enum ReadAll {
 /// Reads all that the source has, at most `limit` bytes.
 ///
 /// `Fault` comes only if the source's count of faults rose, and every other answer leaves that count as it was. `TooLong` comes only if the
-/// source had more than `limit` bytes, and `Memory` only if an allocation was refused, which an empty source never needs. After an error
-/// the bytes that were read are gone from the source: at most `limit`, and with `TooLong` at most 4,096 more. Nothing is read after the
-/// end, nor once more than `limit` bytes were seen.
+/// source had more than `limit` bytes. `Memory` comes, as the code shows, only if an allocation was refused; an empty source needs none.
+/// After an error the bytes that were read are gone from the source: at most `limit`, and with `TooLong` at most 4,096 more. Nothing is
+/// read after the end, nor once more than `limit` bytes were seen.
 pub fn read_all<S: Source>(alloc: Global, source: &mut S, limit: usize) -> Result<Vec<u8>, ReadAll>
     ensures all { IfOk result (λ v. Consumes (S.left source.old) (S.left source.new) v.items × IsAtEnd (S.left source.new)) }
     ensures within { IfOk result (λ v. vec_len v ≤ limit) }

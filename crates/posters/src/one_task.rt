@@ -40,9 +40,10 @@ impl<'g, G: Gate> TaskGate for OneGate<'g, G> {
 /// prover, which answers as that prover; answers are made while other posters post.
 ///
 /// A poster ends when the match is over. It ends early when its answerer finds no memory, after 10,000,000 turns in a row in which none of
-/// its provers had anything to do, after a second without news if some poster hasn't begun, and when another ended early; what is left
-/// undone is played alone then. News is each post but a pass that is taken. One with nothing to do sleeps until there is news, for a
-/// tenth of a second at most. In the book that is returned the match is over, whatever the threads did, and its journal begins with the one that the book had.
+/// its provers had anything to do, after 15 of them without news if some poster hasn't begun (they take 0.927 seconds), and when another
+/// ended early; what is left undone is played alone then. News is each post but a pass that is taken. One with nothing to do sleeps until
+/// there is news, for a tenth of a second at most. In the book that is returned the match is over, whatever the threads did, and its
+/// journal begins with the one that the book had.
 pub fn play<
     J: Judge + Drop + Send,
     P: Provers + Drop + Send,

@@ -116,10 +116,10 @@ fn join_posters<J: Judge + Drop, P: Provers + Drop>(
 /// is started. There is one answerer for each prover, which answers as that prover; answers are made while other posters post.
 ///
 /// A poster ends when the matches of all its provers are over. It ends early when its answerer finds no memory, after 10,000,000 turns in
-/// a row in which none of its provers had anything to do, after a second without news if some poster hasn't begun, and when another
-/// ended early; what is left undone is played alone then. News is each post but a pass that is taken. One with nothing to do sleeps until
-/// there is news, for a tenth of a second at most. In the books that are returned each match is over, whatever the threads did, and their journal begins with
-/// the one that they had.
+/// a row in which none of its provers had anything to do, after 15 of them without news if some poster hasn't begun (they take 0.927
+/// seconds), and when another ended early; what is left undone is played alone then. News is each post but a pass that is taken. One with
+/// nothing to do sleeps until there is news, for a tenth of a second at most. In the books that are returned each match is over, whatever
+/// the threads did, and their journal begins with the one that they had.
 pub fn play_tasks<
     J: Judge + Drop + Send,
     P: Provers + Drop + Send,

@@ -4,7 +4,7 @@
 //! room for posts and by `MOST_IDLE_TURNS`. The board's lock isn't held while a poster answers, waits at its gate or sleeps. As long as a
 //! match isn't over it asks one of its provers (`Match::is_never_stuck`), and that prover's poster serves it. Posters wake each other for
 //! speed alone, so that a lost wake costs time.
-ghost use Rattle.std.specs.Prelude.{◌≡◌, ◌≤◌, List, map, slice_get};
+ghost use Rattle.std.specs.Prelude.{◌≡◌, ◌≢◌, ◌↔◌, ◌+◌, ◌<◌, ◌≤◌, ◌^◌, [], true, IsTrue, List, map, min, slice_get};
 ghost use Rattle.std.specs.Thread.{IsSync};
 ghost use Rattle.board_book.specs.declared.book.Opening.{Opening};
 ghost use Rattle.posters.specs.Serving.{kept_of, IsSeatOf, IsProver, MayServe};
@@ -22,7 +22,7 @@ use tournament::{Reply, move_of};
 
 /// After this many idle turns in a row a poster ends early. In an idle turn none of its provers had anything to do.
 ///
-/// It sleeps after each of them, so that they take eleven days if nobody posts. They take three days at least if others post: a post ends
+/// It sleeps after each of them, so that they take eleven days if nobody posts. They take five days at least if others post: a post ends
 /// a sleep and shortens the seven after it, and the matches of eight tasks have room for at most 812,848.
 const MOST_IDLE_TURNS: u32 = 10_000_000;
 
@@ -86,7 +86,8 @@ fn place_at(places: &Vec<Place>, number: u32) -> Option<Place>
 
 /// How long a poster sleeps after an idle turn, in milliseconds, if this many idle turns in a row before it were without news.
 fn sleep_after(quiet: u32) -> u64
-    ensures { result ≤ 100 }
+    ensures some { 0 < result }
+    ensures few { result ≤ 100 }
 {
     if quiet < 7 {
         (1 << quiet).min(LONGEST_SLEEP)
@@ -95,16 +96,49 @@ fn sleep_after(quiet: u32) -> u64
     }
 }
 
+/// Whether a post with this reply is news: any but a pass that is taken, which changes nothing for any other prover.
+fn is_news(is_pass: bool, reply: &Reply) -> bool
+    ensures { IsTrue result ↔ (is_pass ≡ true → reply.now ≢ Reply.Taken) }
+{
+    !(is_pass && matches!(reply, Reply::Taken))
+}
+
+/// Whether this much news tells of a poster that ended early.
+fn is_early_end(news: u64) -> bool
+    ensures { IsTrue result ↔ (2 ^ 63 ≤ news + 1) }
+{
+    news >= ENDED_EARLY
+}
+
+/// How many idle turns in a row were without news, with one before which there were `quiet`, if `news` was `seen` before it and is `now`
+/// after its sleep.
+fn quiet_after(seen: u64, now: u64, quiet: u32) -> u32
+    ensures quiet { now ≡ seen → result ≡ min (quiet + 1) 4294967295 }
+    ensures news { now ≢ seen → result ≡ 0 }
+{
+    if now == seen {
+        quiet.saturating_add(1)
+    } else {
+        0
+    }
+}
+
+/// Whether a poster ends early after this many idle turns in a row without news, of `posters` of which this many have begun.
+fn is_too_long(quiet: u32, begun: u32, posters: u32) -> bool
+    ensures { IsTrue result ↔ (15 ≤ quiet) × (begun < posters) }
+{
+    quiet >= MOST_QUIET_TURNS_BEFORE_ALL_BEGIN && begun < posters
+}
+
 impl<'g, J: Judge + Drop, P: Provers + Drop, G: TaskGate> Hall<'g, J, P, G> {
     /// Whether a poster ended early. The others end then too.
     fn has_ended_early(&self) -> bool {
-        self.news.load(Ordering::SeqCst) >= ENDED_EARLY
+        is_early_end(self.news.load(Ordering::SeqCst))
     }
 
-    /// Counts a post, and wakes the posters that sleep. A pass that is taken isn't counted and wakes nobody: it changes nothing for any
-    /// other prover.
+    /// Counts a post that is news, and wakes the posters that sleep.
     fn note_post(&self, is_pass: bool, reply: &Reply) {
-        if is_pass && matches!(reply, Reply::Taken) {
+        if !is_news(is_pass, reply) {
             return;
         }
         self.news.fetch_add(1, Ordering::SeqCst);
@@ -123,17 +157,12 @@ impl<'g, J: Judge + Drop, P: Provers + Drop, G: TaskGate> Hall<'g, J, P, G> {
         let longest = Duration::from_millis(sleep_after(quiet));
         self.news
             .park_timeout(rt, (seen & 0xffff_ffff) as u32, longest);
-        if self.news.load(Ordering::SeqCst) == seen {
-            quiet.saturating_add(1)
-        } else {
-            0
-        }
+        quiet_after(seen, self.news.load(Ordering::SeqCst), quiet)
     }
 
     /// Whether a poster ends early after this many idle turns in a row without news: some poster hasn't begun, and it waited long.
     fn has_waited_long(&self, quiet: u32) -> bool {
-        quiet >= MOST_QUIET_TURNS_BEFORE_ALL_BEGIN
-            && self.begun.load(Ordering::SeqCst) < self.posters
+        is_too_long(quiet, self.begun.load(Ordering::SeqCst), self.posters)
     }
 
     /// One turn for a prover: it is asked, and what it answers is posted. The answer is made between the two turns at the board.
@@ -170,7 +199,8 @@ impl<'g, J: Judge + Drop, P: Provers + Drop, G: TaskGate> Hall<'g, J, P, G> {
         }
     }
 
-    /// A turn for each prover of these numbers. It is over if each prover's match is, and idle if none had anything to do.
+    /// A turn for each prover of these numbers. It is over if each prover's match is, as it is without provers, and idle if none had
+    /// anything to do.
     fn serve_each<A: Answerer, R: Threads + Wait + Sync>(
         &self,
         rt: &R,
@@ -182,7 +212,11 @@ impl<'g, J: Judge + Drop, P: Provers + Drop, G: TaskGate> Hall<'g, J, P, G> {
         requires seat { MayServe P.says self.now.board self.now.places.items seat.old numbers.now (map A.answers answerers.old) }
         ensures seat { kept_of seat.new ≡ kept_of seat.old }
         ensures answerers { map A.answers answerers.new ≡ map A.answers answerers.old }
+        ensures none { numbers.now ≡ [] → result ≡ Turn.Over }
     {
+        if numbers.is_empty() {
+            return Turn::Over;
+        }
         let mut over = 0;
         let mut has_posted = false;
         let mut i = 0;

@@ -75,7 +75,7 @@ impl<D: Replays> RunAnswerer<D> {
         RunAnswerer::with_input(alloc, d, machine, input, tamper, plan)
     }
 
-    /// `new`, from the tree of the machine's input, so that no part of the input is digested.
+    /// `new`, from the tree of the machine's input, so that, as the code shows, no part of the input is digested.
     pub fn with_input(
         alloc: Global,
         d: D,

@@ -213,8 +213,8 @@ fn put_answerers<D: Replays>(
     put_answerers(alloc, d, rest, start, plan, answerers)
 }
 
-/// The answerers of the provers with these scripts, in their order, whose runs start there and go by this plan. No part of the input is
-/// digested.
+/// The answerers of the provers with these scripts, in their order, whose runs start there and go by this plan. As the code shows, no
+/// part of the input is digested.
 pub fn answerers_with_input<D: Replays>(
     alloc: Global,
     d: D,

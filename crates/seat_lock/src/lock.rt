@@ -1,5 +1,5 @@
 //! The lock and its seats.
-ghost use Rattle.std.specs.Prelude.{◌≡◌, ◌+◌, ◌-◌, ◌*◌, ◌^◌, ◌<◌, [], ◌∷◌, length, min, Some, MatchBool};
+ghost use Rattle.std.specs.Prelude.{◌≡◌, ◌↔◌, ◌+◌, ◌-◌, ◌*◌, ◌^◌, ◌<◌, ◌≤◌, [], ◌∷◌, length, min, Some, IfSome, IsNone, MatchBool};
 ghost use Rattle.std.specs.List.{All};
 ghost use Rattle.seat_lock.specs.History.{History, log_of, Begins, NoneTwice};
 ghost use Rattle.seat_lock.specs.Seats.{IfMade, first_seat, after_split, split_off, after_join};
@@ -105,12 +105,16 @@ fn look_for_turn<T: Logged>(table: &LockTable<T>, seat: &mut TableSeat<T>, ticke
 }
 
 /// For how long a waiter sleeps at a time, in microseconds, by its ticket and the number served: 10 for each turn ahead of its own, and at
-/// most 1,000.
-fn sleep_for(ticket: u64, served: u64) -> u64
-    ensures { result ≡ min (ticket - served) 100 * 10 }
+/// most 1,000. With at most two turns ahead it stays awake, which is `None`.
+fn sleep_for(ticket: u64, served: u64) -> Option<u64>
+    ensures awake { IsNone result ↔ (ticket - served ≤ 2) }
+    ensures asleep { IfSome result (λ time. time ≡ min (ticket - served) 100 * 10) }
 {
     let ahead = ticket.saturating_sub(served);
-    ahead.min(LONGEST_SLEEP / SLEEP_FOR_EACH_TURN) * SLEEP_FOR_EACH_TURN
+    if ahead <= MOST_AWAKE {
+        return None;
+    }
+    Some(ahead.min(LONGEST_SLEEP / SLEEP_FOR_EACH_TURN) * SLEEP_FOR_EACH_TURN)
 }
 
 /// Lets other threads run. With many turns ahead of its ticket the caller sleeps for about as long as they take, so that few threads look
@@ -118,18 +122,18 @@ fn sleep_for(ticket: u64, served: u64) -> u64
 fn stand_back<T: Logged, R: Wait>(rt: &R, table: &LockTable<T>, ticket: u64)
     requires lock { table.now.shared.table_id.words ≡ 2 }
 {
-    let served = table.shared.peek(SERVING);
-    let ahead = ticket.saturating_sub(served);
-    if ahead <= MOST_AWAKE {
-        thread::yield_now();
-    } else {
-        let words = &table.shared;
-        words.park_timeout(
-            rt,
-            SERVING,
-            (served & 0xffff_ffff) as u32,
-            Duration::from_micros(sleep_for(ticket, served)),
-        );
+    let words = &table.shared;
+    let served = words.peek(SERVING);
+    match sleep_for(ticket, served) {
+        Some(time) => {
+            words.park_timeout(
+                rt,
+                SERVING,
+                (served & 0xffff_ffff) as u32,
+                Duration::from_micros(time),
+            );
+        }
+        None => thread::yield_now(),
     }
 }
 

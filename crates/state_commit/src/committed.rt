@@ -111,8 +111,8 @@ impl<D: Digester> Committed<D> {
         Committed::with_input(rt, alloc, d, machine, input)
     }
 
-    /// `new`, from the tree of the machine's input, so that no part of the input is digested. An `Err` is out of memory, and drops the
-    /// machine.
+    /// `new`, from the tree of the machine's input, so that, as the code shows, no part of the input is digested. An `Err` is out of
+    /// memory, and drops the machine.
     pub fn with_input<R: Threads + Sync>(
         rt: &R,
         alloc: Global,
@@ -137,8 +137,8 @@ impl<D: Digester> Committed<D> {
         })
     }
 
-    /// The machine after one more step, with its trees: at most one page, at most one register and no part of the input are digested
-    /// anew. An `Err` is out of memory, and drops all.
+    /// The machine after one more step, with its trees. As the code shows, at most one page, at most one register and no part of the
+    /// input are digested anew. An `Err` is out of memory, and drops all.
     pub fn step(self) -> Result<Self, Memory>
         ensures { IfOk result (λ c. c ≡ step_of self) }
     {

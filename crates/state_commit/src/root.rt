@@ -89,9 +89,9 @@ fn input_part<D: Digester>(d: D, version: u32, input: &[u8]) -> Digest32
     }
 }
 
-/// The root of a machine's state in a version of the commitment, from scratch: it digests each chunk of the pages that hold a byte
-/// other than 0 and the nodes above them, and, as the version has them, the registers' tree and the input's. It takes no memory. The
-/// machine's chain is that of its output, by this digester.
+/// The root of a machine's state in a version of the commitment, from scratch. As the code shows, it digests each chunk of the pages that
+/// hold a byte other than 0 and the nodes above them, and, as the version has them, the registers' tree and the input's, and takes no
+/// memory. The machine's chain is that of its output, by this digester.
 pub fn state_root<D: Digester>(d: D, version: u32, machine: &Machine) -> Digest32
     requires { IsChained D.digest_of machine.now }
     ensures { result.0 ≡ state.root_in D.digest_of version (state_of machine.now) }
@@ -104,8 +104,8 @@ pub fn state_root<D: Digester>(d: D, version: u32, machine: &Machine) -> Digest3
     root_of_parts(d, version, &parts, machine)
 }
 
-/// The root of a machine's state in its own version, from the tree of its input. It is made from scratch but for the input, no part of
-/// which is digested, and takes no memory. The machine's chain is that of its output, by this digester.
+/// The root of a machine's state in its own version, from the tree of its input. As the code shows, it is made from scratch but for the
+/// input, no part of which is digested, and takes no memory. The machine's chain is that of its output, by this digester.
 pub fn state_root_with<D: Digester>(d: D, machine: &Machine, input: &SharedInput<D>) -> Digest32
     requires chained { IsChained D.digest_of machine.now }
     requires input { HasInput D.digest_of (state_of machine.now) input.now }
@@ -180,7 +180,7 @@ fn upper_part<D: Digester>(of: &Source<'_, D>, above: u8, width: u32, k: u32) ->
     of.d.digest(node_text(&left, &right).as_slice())
 }
 
-/// The digest of a memory, from scratch and without memory: each page that holds a byte other than 0 is digested.
+/// The digest of a memory, from scratch and without memory. As the code shows, each page that holds a byte other than 0 is digested.
 fn memory_root<D: Digester>(d: D, mem: &PlainMem) -> Digest32
     ensures { result.0 ≡ memory_node D.digest_of mem.now 27 0 }
 {

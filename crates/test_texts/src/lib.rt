@@ -16,6 +16,8 @@ mod playing;
 #[cfg(test)]
 mod posts_test;
 #[cfg(test)]
+mod reading_heads;
+#[cfg(test)]
 mod reading_test;
 #[cfg(test)]
 mod reports_test;

@@ -44,8 +44,9 @@ pub fn stated_verdicts_are_one_line()
     reading_is_the_inverse_of_writing();
 }
 
-/// The full text of a record and a verdict is read as their parts, if these are within the limits (`records`). Those of a
-/// match are, whatever was posted (`matches`): its answers have wire forms by a clause of `full`.
+/// The full text of a record and a verdict is read as their parts, if these are within the limits (`records`). That of a
+/// match is, whatever was posted, if the head's numbers are within the limits and the two strings of a collision have 1 to 129 bytes each
+/// (`matches`); that its answers have wire forms is a clause of `full`.
 pub fn a_full_text_is_read_back()
     ensures records { ReadsRecordsBack }
     ensures matches { MatchesAreReadBack }
