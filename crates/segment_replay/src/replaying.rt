@@ -16,8 +16,8 @@ use std::thread;
 use std::thread::Threads;
 
 /// What a worker keeps of a run: its cursor, unless it has made no root so far or ran out of memory in its last one; the digests of the
-/// registers that it digested last; and, of the last call that cut steps into several pieces, the roots of its piece, or an `Err` if it
-/// was out of memory or there was no such call since the worker was added.
+/// registers that it digested last; and, of the last call that gave it one of several pieces, the roots of its piece, or an `Err` if it
+/// was out of memory or there was no such call so far.
 #[derive(Drop)]
 pub struct Worker<D: Digester> {
     pub cursor: Option<Cursor<D>>,
@@ -111,17 +111,16 @@ fn add_workers<D: Digester>(
     Ok(())
 }
 
-/// The roots of each worker's piece, made by the workers side by side, in at most `threads` threads.
+/// The roots of each worker's piece, made by the workers side by side, each in a thread if one can be made.
 fn replay_pieces<D: Digester + Send + Sync, R: Threads + Sync>(
     rt: &R,
     alloc: Global,
     replay: &Replay<'_, D>,
     steps: &[u64],
     size: usize,
-    threads: usize,
     workers: &mut [Worker<D>],
 )
-    requires threads { 0 < threads }
+    requires some { 0 < length workers.old }
     requires kept { All (λ w. IsKept D.digest_of replay.now.run.now w) workers.old }
     ensures kept { All (λ w. IsKept D.digest_of replay.now.run.now w) workers.new }
     ensures count { length workers.new ≡ length workers.old }
@@ -132,6 +131,7 @@ fn replay_pieces<D: Digester + Send + Sync, R: Threads + Sync>(
         ensures kept { IsKept D.digest_of replay.entry.now.run.now worker.exit.now }
         ensures made { IfOk worker.exit.now.made (λ v. digests v.items ≡ slice_chunk (map (root_at D.digest_of replay.entry.now.run.now) steps.entry.now) size place) }
     { replay_piece(rt, alloc, replay, steps, size, place, worker) };
+    let threads = workers.len();
     thread::for_each_mut(rt, workers, threads, &work);
 }
 
@@ -186,8 +186,9 @@ pub fn roots_by<D: Digester + Send + Sync, R: Threads + Sync>(
     if pieces == 1 {
         return replayed(rt, alloc, replay, steps, &mut workers[0]);
     }
-    replay_pieces(rt, alloc, replay, steps, size, pieces, workers);
-    joined(alloc, workers)
+    let (busy, _) = workers.split_at_mut(pieces);
+    replay_pieces(rt, alloc, replay, steps, size, busy);
+    joined(alloc, busy)
 }
 
 /// `roots`, from the root of the run's input, which `run_input_root` gives. So it is made once, however often roots are asked of a run, or
