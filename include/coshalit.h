@@ -64,7 +64,7 @@ uint32_t coshalit_check_step(uint32_t version, const uint8_t *root, size_t root_
 /* Audits a full text, as `judge --full` writes it: COSHALIT_DONE and `confirmed VERDICT`, or COSHALIT_AUDIT_REFUSED and where and why it
  * is refused, or COSHALIT_TOO_LONG.
  *
- * Of the answer's text, which ends in a newline and has no zero byte behind it, the first `room_length` bytes are written to `room`, and
+ * Of the answer's text, which is empty or ends in a newline and has no zero byte behind it, the first `room_length` bytes are written to `room`, and
  * nothing behind the text. If `length` is more than `room_length`, the rest is missing: call again with a room of `length` bytes. The status
  * and the text are those of the program's command `audit` on these bytes (proved). */
 CoshalitAnswer coshalit_audit(const uint8_t *text, size_t text_length, uint8_t *room, size_t room_length);

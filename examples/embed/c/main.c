@@ -2,6 +2,8 @@
  *
  *     embed steps              lines VERSION ROOT PROOF, in hexadecimal: a line for each, such as `leads ROOT`
  *     embed audit|run|list     as the commands of refcli, with their statuses
+ *
+ * As refcli's, its status is 5 if standard input can't be read, and 6 if standard output can't be written.
  */
 #include "coshalit.h"
 
@@ -9,6 +11,8 @@
 #include <stdio.h>
 #include <stdlib.h>
 #include <string.h>
+
+enum { READ_FAULT = 5, WRITE_FAULT = 6 };
 
 static void out_of_memory(void) {
     fprintf(stderr, "embed: out of memory\n");
@@ -23,6 +27,10 @@ static unsigned char *read_input(size_t *length) {
     while (bytes != NULL) {
         size_t count = fread(bytes + *length, 1, room - *length, stdin);
         *length += count;
+        if (ferror(stdin)) {
+            fprintf(stderr, "embed: standard input can't be read\n");
+            exit(READ_FAULT);
+        }
         if (count == 0) {
             bytes[*length] = 0;
             return bytes;
@@ -127,5 +135,9 @@ int main(int count, char **words) {
     else if (strcmp(command, "list") == 0) status = answer(coshalit_list, bytes, length);
     else fprintf(stderr, "embed steps|audit|run|list\n");
     free(bytes);
+    if (fflush(stdout) != 0 || ferror(stdout)) {
+        fprintf(stderr, "embed: standard output can't be written\n");
+        return WRITE_FAULT;
+    }
     return status;
 }

@@ -2,6 +2,8 @@
 //
 //	embed steps              lines VERSION ROOT PROOF, in hexadecimal: a line for each, such as `leads ROOT`
 //	embed audit|run|list     as the commands of refcli, with their statuses
+//
+// As refcli's, its status is 5 if standard input can't be read, and 6 if standard output can't be written.
 package main
 
 import (
@@ -37,30 +39,42 @@ func rulingOn(line string) (string, error) {
 	return rulings[ruling], nil
 }
 
-func fail(why ...any) {
+const (
+	usage      = 2
+	readFault  = 5
+	writeFault = 6
+)
+
+func fail(status int, why ...any) {
 	fmt.Fprintln(os.Stderr, append([]any{"embed:"}, why...)...)
-	os.Exit(2)
+	os.Exit(status)
+}
+
+func write(text []byte) {
+	if _, err := os.Stdout.Write(text); err != nil {
+		fail(writeFault, err)
+	}
 }
 
 func main() {
 	commands := map[string]Command{"audit": Audit, "run": Run, "list": List}
 	if len(os.Args) != 2 || (os.Args[1] != "steps" && commands[os.Args[1]] == nil) {
-		fail("steps|audit|run|list")
+		fail(usage, "steps|audit|run|list")
 	}
 	input, err := io.ReadAll(os.Stdin)
 	if err != nil {
-		fail(err)
+		fail(readFault, err)
 	}
 	if command := commands[os.Args[1]]; command != nil {
 		status, text := command(input)
-		os.Stdout.Write(text)
+		write(text)
 		os.Exit(status)
 	}
 	for _, line := range strings.Split(strings.TrimSuffix(string(input), "\n"), "\n") {
 		ruling, err := rulingOn(line)
 		if err != nil {
-			fail("a line is VERSION ROOT PROOF:", err)
+			fail(usage, "a line is VERSION ROOT PROOF:", err)
 		}
-		fmt.Println(ruling)
+		write([]byte(ruling + "\n"))
 	}
 }

@@ -2,12 +2,18 @@
 //!
 //!     embed steps              lines VERSION ROOT PROOF, in hexadecimal: a line for each, such as `leads ROOT`
 //!     embed audit|run|list     as the commands of refcli, with their statuses
+//!
+//! As refcli's, its status is 5 if standard input can't be read, and 6 if standard output can't be written.
 mod coshalit;
 
 use coshalit::{Command, Ruling, answer, check_step};
-use std::fmt::Write as _;
+use std::fmt::{Display, Write as _};
 use std::io::{self, Read, Write};
 use std::process::ExitCode;
+
+const USAGE: u8 = 2;
+const READ_FAULT: u8 = 5;
+const WRITE_FAULT: u8 = 6;
 
 /// The bytes of a word of hexadecimal digits.
 fn bytes_of(word: &str) -> Option<Vec<u8>> {
@@ -37,37 +43,44 @@ fn ruling_on(line: &str) -> Option<String> {
     })
 }
 
-fn steps(input: &[u8]) -> io::Result<u8> {
+fn fail(status: u8, why: impl Display) -> ExitCode {
+    eprintln!("embed: {why}");
+    ExitCode::from(status)
+}
+
+fn steps(input: &[u8]) -> io::Result<ExitCode> {
     for line in String::from_utf8_lossy(input).lines() {
         match ruling_on(line) {
             Some(ruling) => writeln!(io::stdout(), "{ruling}")?,
-            None => {
-                eprintln!("embed: a line is VERSION ROOT PROOF");
-                return Ok(2);
-            }
+            None => return Ok(fail(USAGE, "a line is VERSION ROOT PROOF")),
         }
     }
-    Ok(0)
+    Ok(ExitCode::SUCCESS)
 }
 
-fn main() -> io::Result<ExitCode> {
+fn carry_out(command: Command, input: &[u8]) -> io::Result<ExitCode> {
+    let found = answer(command, input);
+    io::stdout().write_all(&found.text)?;
+    io::stdout().flush()?;
+    Ok(ExitCode::from(found.status as u8))
+}
+
+fn main() -> ExitCode {
     let words: Vec<String> = std::env::args().skip(1).collect();
     let command = match words.iter().map(String::as_str).collect::<Vec<_>>()[..] {
         ["steps"] => None,
         ["audit"] => Some(Command::Audit),
         ["run"] => Some(Command::Run),
         ["list"] => Some(Command::List),
-        _ => {
-            eprintln!("embed steps|audit|run|list");
-            return Ok(ExitCode::from(2));
-        }
+        _ => return fail(USAGE, "steps|audit|run|list"),
     };
     let mut input = Vec::new();
-    io::stdin().read_to_end(&mut input)?;
-    let Some(command) = command else {
-        return Ok(ExitCode::from(steps(&input)?));
+    if let Err(why) = io::stdin().read_to_end(&mut input) {
+        return fail(READ_FAULT, why);
+    }
+    let written = match command {
+        Some(command) => carry_out(command, &input),
+        None => steps(&input),
     };
-    let found = answer(command, &input);
-    io::stdout().write_all(&found.text)?;
-    Ok(ExitCode::from(found.status as u8))
+    written.unwrap_or_else(|why| fail(WRITE_FAULT, why))
 }
