@@ -26,7 +26,9 @@ function ruleOnProofs(match) {
       if (answer.word !== "given") return;
       count += 1;
       const text = new TextEncoder().encode(textOfOneProof(match, dispute, side));
-      answer.isProved = library.answer("audit", text).status === 0;
+      const { status } = library.answer("audit", text);
+      if (status === OUT_OF_MEMORY) throw new NoMemory("out of memory");
+      answer.isProved = status === 0;
       if (match.digest === "sha256") answer.check = referee.check(match.version, step.agreed, answer.wire);
     });
   }
