@@ -88,7 +88,7 @@ fn none_lately(alloc: Global) -> Result<Vec<u64>, Memory>
     ensures places { IfOk result (λ lately. vec_len lately ≡ 256) }
     ensures none { IfOk result (λ lately. (pages : List ℕ) → AreNoted lately.items pages) }
 {
-    Ok(vec![in alloc; 0u64; 256]?)
+    Ok(vec![in alloc; 0u64; PLACES as usize]?)
 }
 
 /// No page is named at any place from now on.

@@ -6,5 +6,6 @@ use rd_base::Listed;
 pub struct Balances {
     /// What each prover has, by number: prover 1 is the first.
     pub of: Listed<u64>,
+    /// What is in the pool.
     pub pool: u64,
 }

@@ -34,22 +34,14 @@ impl Model for Ledger {
 fn stakes(alloc: Global, stake: u64, many: usize) -> Result<Vec<u64>, Memory>
     ensures { IfOk result (λ v. v.items ≡ replicate many stake) }
 {
-    let mut stakes = Vec::with_capacity(alloc, many)?;
-    for _ in 0..many {
-        stakes.push(stake)?;
-    }
-    Ok(stakes)
+    Ok(vec![in alloc; stake; many]?)
 }
 
 /// This many provers of which none is out.
 fn none_out(alloc: Global, many: usize) -> Result<Vec<bool>, Memory>
     ensures { IfOk result (λ v. v.items ≡ replicate many false) }
 {
-    let mut out = Vec::with_capacity(alloc, many)?;
-    for _ in 0..many {
-        out.push(false)?;
-    }
-    Ok(out)
+    Ok(vec![in alloc; false; many]?)
 }
 
 impl Ledger {
@@ -68,7 +60,7 @@ impl Ledger {
         })
     }
 
-    /// A prover is out by its claim: its stake goes to the pool.
+    /// Prover `p`, from 1 to their count and not out so far, is out by its claim: its stake goes to the pool.
     pub fn claim_out(&mut self, p: u32)
         requires { CanTell self.old (ClaimOut p) }
         ensures { self.new ≡ told self.old (ClaimOut p) }
@@ -108,8 +100,9 @@ impl Ledger {
         }
     }
 
-    /// The dispute of the provers `a`, its first side, and `b` closes: the stake of a side that is out goes to the other side if
-    /// that stays live, and to the pool if both are out. A collision moves nothing.
+    /// The dispute of the provers `a`, its first side, and `b` closes. They are two, from 1 to their count, and none that the close puts out
+    /// was out before. The stake of one that it puts out goes to the other side, and to the pool if it puts both out. A collision moves
+    /// nothing.
     pub fn closed(&mut self, a: u32, b: u32, close: &Close)
         requires { CanTell self.old (Closed a b close.now) }
         ensures { self.new ≡ told self.old (Closed a b close.now) }
@@ -120,7 +113,7 @@ impl Ledger {
         }
     }
 
-    /// What a prover has.
+    /// What prover `p`, from 1 to their count, has.
     pub fn balance(&self, p: u32) -> u64
         requires some { 0 < p }
         requires few { p ≤ length self.now.of }
@@ -129,7 +122,7 @@ impl Ledger {
         self.of[p as usize - 1]
     }
 
-    /// Whether a prover is out.
+    /// Whether prover `p`, from 1 to their count, is out.
     pub fn is_out(&self, p: u32) -> bool
         requires some { 0 < p }
         requires few { p ≤ length self.now.of }
@@ -146,7 +139,7 @@ impl Ledger {
     }
 
     /// What each prover has, and the pool. It takes no memory.
-    pub fn into_balances(self) -> Balances
+    pub(crate) fn into_balances(self) -> Balances
         ensures of { result.of ≡ self.of }
         ensures pool { result.pool ≡ self.pool }
     {
