@@ -15,8 +15,9 @@ mod walking;
 use crate::collision::walking::{text_collision, ways_collision};
 use crate::facts::{Facts, HeldInput, HeldRegisters, called_by, facts_of, proofs_are_in_range};
 use crate::ways::ways_of;
-use digest_core::{Digester, control_text, registers_text, state_text, storage_text};
+use digest_core::{Digester, control_text, registers_text, storage_text};
 pub use laws::proofs_from_one_root;
+use out_chain::parts_text;
 use rd_base::{Ctl, Digest32, OpenText, Proof};
 
 /// The digest of what is stored: the root of memory, or the digest of the storage string.
@@ -45,8 +46,7 @@ fn text_before<D: Digester>(d: D, facts: &Facts) -> OpenText
 {
     let storage = storage_held(d, &facts.input_tree, &facts.mem);
     let registers = registers_held(d, &facts.regs);
-    let control = d.digest(control_text(&facts.ctl).as_slice());
-    state_text(&storage, &registers, &control)
+    parts_text(d, storage, registers, &facts.ctl)
 }
 
 /// The state strings of two proofs, if they differ and have one digest.

@@ -13,8 +13,8 @@ pub use laws::{
 pub use ranges::proofs_are_in_range;
 use rd_base::{Ctl, Digest32, InOpening, Opening, Proof, RegOpening, RegOpenings, Regs};
 use rv_decode::Instr;
-use rv_step::{Names, Need, fetch_address, fetched_in, named_by, need};
-use state_commit::{INPUT_TREE, WHOLE_REGISTERS};
+use rv_step::{Names, Need, OFFERING_VERSION, fetch_address, fetched_in, named_by, need};
+use state_commit::WHOLE_REGISTERS;
 
 /// How a proof holds the registers.
 #[derive(Debug, Drop)]
@@ -130,7 +130,7 @@ pub fn offering(tree: &Option<HeldInput>) -> u32
     ensures { result ≡ facts.offering tree.now }
 {
     match tree {
-        Some(_tree) => INPUT_TREE,
+        Some(_tree) => OFFERING_VERSION,
         None => WHOLE_REGISTERS,
     }
 }

@@ -4,7 +4,7 @@ ghost use Rattle.rd_base.specs.declared.digest.Digest32.{Digest32};
 ghost use Rattle.rv_step.specs.Step.{step};
 ghost use Rattle.rv_step.specs.Alike.{named_at};
 ghost use Rattle.rv_step.specs.Named.{AreRegisters};
-ghost use Rattle.state_commit.specs.StateRoot.{ctl_of, root_in, storage_digest};
+ghost use Rattle.state_commit.specs.StateRoot.{ctl_of, root_in};
 ghost use Rattle.open_proof.specs.Conditions.{LeadsFrom};
 ghost use Rattle.open_proof.specs.Facts.{facts_of};
 ghost use Rattle.open_proof.specs.PlainProof as plain;
@@ -15,7 +15,7 @@ ghost use Rattle.open_proof.specs.Shown as shown;
 use crate::facts::{
     HeldInput, address_needed, byte_needed, needed_by, plain_proofs_lead, states_name_registers,
 };
-use digest_core::{Digester, storage_text};
+use digest_core::Digester;
 use mem_plain::PlainMem;
 use mem_tree::input_chunk;
 use rd_base::{
@@ -44,26 +44,9 @@ fn input_len<D: Digester>(committed: &Committed<D>) -> u32
     committed.machine().input.len() as u32
 }
 
-/// The digest of what a state stores, as its version has it.
-fn stored<D: Digester>(d: D, committed: &Committed<D>) -> Digest32
-    ensures { result.0 ≡ storage_digest D.digest_of committed.now.version committed.now }
-{
-    let memory = committed.memory().root();
-    if committed.machine().version == INPUT_TREE {
-        let text = storage_text(&memory, input_len(committed), &committed.input().root());
-        d.digest(text.as_slice())
-    } else {
-        memory
-    }
-}
-
-/// The claim that is true of a machine's state, in its version; `d` is the digester of its trees. The output is at most
-/// 4,294,967,295 bytes long. An `Err` is out of memory.
-pub fn make_claim<D: Digester>(
-    alloc: Global,
-    d: D,
-    committed: &Committed<D>,
-) -> Result<Claim, Memory>
+/// The claim that is true of a machine's state, in its version. The output is at most 4,294,967,295 bytes long. An `Err` is out of
+/// memory.
+pub fn make_claim<D: Digester>(alloc: Global, committed: &Committed<D>) -> Result<Claim, Memory>
     requires { length committed.now.output ≤ 4294967295 }
     ensures { IfOk result (λ c. c ≡ plain_claim D.digest_of committed.now) }
 {
@@ -72,7 +55,7 @@ pub fn make_claim<D: Digester>(
         unreachable!()
     };
     Ok(Claim {
-        mem: stored(d, committed),
+        mem: committed.storage_digest(),
         regs: committed.registers_digest(),
         ctl: ctl_of(committed),
         output,

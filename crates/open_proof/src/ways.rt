@@ -225,7 +225,7 @@ fn with_number(chunk: [u8; 32], at: usize, width: u8, value: u32) -> [u8; 32]
     bytes
 }
 
-/// The way of an opened chunk of memory after a number was stored in it.
+/// The way of an opened chunk of memory after a number was stored in it. `None` if no chunk is there.
 pub fn changed_chunk<'a>(
     root: Digest32,
     chunk: &'a Option<Opening>,
@@ -241,7 +241,7 @@ pub fn changed_chunk<'a>(
     Some(chunk_way(root, &changed, &opening.path.0, addr))
 }
 
-/// The way of the first opened register that a step has changed, after the step.
+/// The way of the first opened register that a step has changed, after the step. `None` if none has changed.
 pub fn changed_register<'a>(
     root: Digest32,
     names: &[u8],

@@ -183,7 +183,7 @@ pub fn plain_answer<D: Replays, R: Threads + Sync>(
         Kind::Claim => {
             let bound = run.run().bound();
             let last = d.committed_of(rt, alloc, run, bound)?;
-            let claim = make_claim(alloc, d, &last)?;
+            let claim = make_claim(alloc, &last)?;
             Ok(Answer::Claim(claim))
         }
         Kind::Proof(step) => {

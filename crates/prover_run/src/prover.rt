@@ -47,9 +47,9 @@ impl<D: Replays> Model for RunAnswerer<D> {
 }
 
 impl<D: Replays> RunAnswerer<D> {
-    /// A prover whose run goes from a machine, with this tamper, up to the step `bound`, below 2^32. Its run is recorded with
-    /// a checkpoint at every `every` steps (at least 1), and the roots that one question asks are made in at most `workers` pieces (at
-    /// least 1), side by side. The machine has no output, and its chain is that of no output by the digester `d`.
+    /// A prover whose run goes from a machine, with this tamper, up to the step `bound`, below 2^32. As the code shows, its run is
+    /// recorded with a checkpoint at every `every` steps (at least 1), and the roots that one question asks are made in at most `workers`
+    /// pieces (at least 1), side by side. The machine has no output, and its chain is that of no output by the digester `d`.
     pub fn new(
         alloc: Global,
         d: D,

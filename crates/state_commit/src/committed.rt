@@ -5,7 +5,7 @@ ghost use Rattle.mem_tree.specs.Tree.{IsTreeOf};
 ghost use Rattle.rv_step.specs.State.{state_of};
 ghost use Rattle.state_commit.specs.Committing.{HasTreeFor, HasRegisters, HasInput};
 
-use crate::root::{Parts, WHOLE_REGISTERS, root_of_parts};
+use crate::root::{Parts, WHOLE_REGISTERS, root_of_parts, storage_digest};
 use crate::shared_input::SharedInput;
 use digest_core::{Digester, registers_text};
 use mem_plain::PlainMem;
@@ -90,7 +90,7 @@ impl<D: Digester> Committed<D> {
     ghost use Rattle.rv_step.specs.State.{state_of, IsChained};
     ghost use Rattle.rv_step.specs.Step.{step as step_of};
     ghost use Rattle.merkle_nodes.specs.Opening.{IsPath};
-    ghost use Rattle.state_commit.specs.StateRoot.{registers_digest, root_in};
+    ghost use Rattle.state_commit.specs.StateRoot.{registers_digest, storage_digest as storage_of_state, root_in};
     ghost use Rattle.mem_tree.specs.Memory.{memory_leaf};
     ghost use Rattle.mem_tree.specs.RegisterTree.{register_leaf};
 
@@ -188,6 +188,20 @@ impl<D: Digester> Committed<D> {
             Some(tree) => tree.root(),
             None => self.d.digest(registers_text(&self.machine.regs).as_slice()),
         }
+    }
+
+    /// The digest of what the machine's state stores, in its version.
+    pub fn storage_digest(&self) -> Digest32
+        ensures { result.0 ≡ storage_of_state D.digest_of self.now.version self.now }
+    {
+        let machine = &self.machine;
+        storage_digest(
+            self.d,
+            machine.version,
+            self.memory.root(),
+            machine.input.len() as u32,
+            self.input.root(),
+        )
     }
 
     /// The tree of the machine's input, which is there in version 3.

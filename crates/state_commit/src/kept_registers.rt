@@ -8,8 +8,8 @@ use mem_tree::RegTree;
 use rd_base::{Digest32, Regs};
 use std::marker::Model;
 
-/// The digest of registers in a version of the commitment. From version 2 on the tree is kept of those for which it was asked last,
-/// so that the next digest takes those leaves alone that differ, and the nodes above them.
+/// The digest of registers in a version of the commitment. As the code shows, from version 2 on the tree is kept of those for which it was
+/// asked last, so that the next digest takes those leaves alone that differ, and the nodes above them.
 ///
 /// Contracts see it as the version.
 #[derive(Drop)]
@@ -49,7 +49,7 @@ impl<D: Digester> KeptRegisters<D> {
         }
     }
 
-    /// The digest of registers. From version 2 on the tree that is kept is theirs from now on.
+    /// The digest of registers. As the code shows, from version 2 on the tree that is kept is theirs from now on.
     pub fn digest(&mut self, regs: &Regs) -> Digest32
         ensures value { result.0 ≡ registers_digest D.digest_of self.old regs.now }
         ensures version { self.new ≡ self.old }

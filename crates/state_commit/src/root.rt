@@ -16,13 +16,13 @@ use mem_tree::{PAGE_LEVEL, RegTree, UPPER_LEVELS, input_root, memory_nodes};
 use merkle_nodes::{fill_empty_nodes, node_equations};
 use out_chain::parts_root;
 use rd_base::{Digest32, Regs};
-use rv_step::Machine;
+use rv_step::{Machine, OFFERING_VERSION};
 
 /// The version of the commitment in which the registers are digested as one string.
 pub const WHOLE_REGISTERS: u32 = 1;
 
 /// The version of the commitment in which the input is a tree.
-pub const INPUT_TREE: u32 = 3;
+pub const INPUT_TREE: u32 = OFFERING_VERSION;
 
 /// The digest of registers in a version of the commitment, from scratch: that of their string in version 1, and from version 2 on
 /// the root of their tree.
@@ -38,7 +38,7 @@ pub fn registers_digest<D: Digester>(d: D, version: u32, regs: &Regs) -> Digest3
 
 /// The digest of what a state stores, from the root of its memory and the length and the root of its input. A version below 3 has
 /// the root of memory alone.
-fn storage_digest<D: Digester>(
+pub(crate) fn storage_digest<D: Digester>(
     d: D,
     version: u32,
     memory: Digest32,

@@ -66,7 +66,7 @@ fn state_of(alloc: Global, committed: &Committed<Sha256>) -> Result<State, Unans
     Ok(State {
         root: committed.root(),
         proof: make_proof(committed),
-        claim: make_claim(alloc, Sha256, committed)?,
+        claim: make_claim(alloc, committed)?,
     })
 }
 

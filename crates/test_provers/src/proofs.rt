@@ -31,7 +31,7 @@ fn claim_made(alloc: Global, committed: &Committed<Sha256>) -> Result<Claim, Una
     if committed.machine().output.len() > 255 {
         return Err(Unanswered::NoRow);
     }
-    Ok(make_claim(alloc, Sha256, committed)?)
+    Ok(make_claim(alloc, committed)?)
 }
 
 /// `wire STEP PLACE`: of the wire form of the step's true proof the first byte, the length, and the two bytes at a place.

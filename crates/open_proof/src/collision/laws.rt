@@ -8,8 +8,9 @@ ghost use Rattle.open_proof.specs.InRange.{is_in_range};
 ghost use Rattle.open_proof.specs.declared.facts.Facts.{Facts};
 ghost use Rattle.open_proof.specs.Collision.{step_collision, IsStepCollision};
 
-/// Two proofs of a version that lead from one root have no collision if and only if they are equal (`equal`, `without`), and so they have
-/// one if they lead to different roots (`apart`). What is called their collision is one (`collision`).
+/// Two proofs of a version, in the ranges of their types, that lead from one root have no collision if and only if they are equal
+/// (`equal`, `without`), and so they have one if they lead to different roots (`apart`). What is called their collision is one
+/// (`collision`).
 pub fn proofs_from_one_root()
     ensures equal { (digest : List ℕ → List ℕ) (version : ℕ) (a : Digest32) (x : Facts) → step_collision digest version a x x ≡ None }
     ensures without { (digest : List ℕ → List ℕ) → ((bytes : List ℕ) → length (digest bytes) ≡ 32) →

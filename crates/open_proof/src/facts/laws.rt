@@ -69,8 +69,8 @@ pub fn plain_proofs_lead()
     laws_below();
 }
 
-/// A proof that leads from the root of a valid state, in the state's version, to a root: this is the root of the next state, or a string
-/// that the proof opens and a different string of the state have one digest.
+/// A proof in the ranges of its types that leads from the root of a valid state, in the state's version, to a root: this is the root of
+/// the next state, or a string that the proof opens and a different string of the state have one digest.
 pub fn proofs_lead_to_the_next_state()
     ensures { (digest : List ℕ → List ℕ) → ((bytes : List ℕ) → length (digest bytes) ≡ 32) →
         (proof : Proof) (s : State) (a b : Digest32) → is_in_range proof ≡ true → IsValid s →
