@@ -133,5 +133,5 @@ pub fn number_at(tree: &Value, key: &str, low: u64, high: u64) -> Option<u64>
 pub fn word_at(tree: &Value, key: &str) -> Option<u32>
     ensures { result ≡ word_at key.now (view tree.now) }
 {
-    Some(number_at(tree, key, 0, 4_294_967_295)? as u32)
+    Some(number_at(tree, key, 0, u64::from(u32::MAX))? as u32)
 }

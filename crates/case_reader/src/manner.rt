@@ -9,7 +9,10 @@ ghost use Rattle.case_reader.specs.Scripts.{number_at, word_at, output_in, forge
 use crate::fault::CaseFault;
 use crate::field::{hex_bytes, number_at, text_at, word_at};
 use crate::tape::tape_of;
-use rd_base::{ClaimOutput, FirstSilentRound, Manner, PassCount, RegisterNumber};
+use rd_base::{
+    ClaimOutput, FirstSilentRound, MAX_FIRST_SILENT_ROUND, MAX_PASSES, Manner, PassCount,
+    RegisterNumber,
+};
 use serde_json::Value;
 use std::alloc::Global;
 
@@ -17,7 +20,7 @@ use std::alloc::Global;
 fn late_of(manner: &Value) -> Option<Manner>
     ensures { result ≡ option_map Late (number_at (codes "passes") 0 1000 (view manner.now)) }
 {
-    let passes = number_at(manner, "passes", 0, 1000)?;
+    let passes = number_at(manner, "passes", 0, u64::from(MAX_PASSES))?;
     Some(Manner::Late(PassCount::new(passes as u32)?))
 }
 
@@ -25,7 +28,7 @@ fn late_of(manner: &Value) -> Option<Manner>
 fn silent_of(manner: &Value) -> Option<Manner>
     ensures { result ≡ option_map Silent (number_at (codes "from") 0 64 (view manner.now)) }
 {
-    let from = number_at(manner, "from", 0, 64)?;
+    let from = number_at(manner, "from", 0, u64::from(MAX_FIRST_SILENT_ROUND))?;
     Some(Manner::Silent(FirstSilentRound::new(from as u32)?))
 }
 

@@ -165,8 +165,9 @@ pub fn tree_of_bytes(alloc: Global, bytes: &[u8]) -> Result<Value, CaseFault>
 ///
 /// What comes back is the case that the bytes hold. A fault is the first rule that is broken: the bytes are a JSON
 /// text (`NotJson`) that is an object (`NotObject`) without the key `tasks` (`OutOfRange`); then of each key in its order that it is
-/// there (`Missing`; `version`, `fan` and `stake` may be missing), has its type (`WrongType`), its hexadecimal digits (`BadHex`) and its
-/// range (`OutOfRange`); and last that each prover is known (`BadProver`, by its number). `Memory` comes if memory ran out.
+/// there (`Missing`; `version`, `fan` and `stake` may be missing), has its type (`WrongType`), its hexadecimal digits (`BadHex`; the
+/// image of an assembly text has none) and its range (`OutOfRange`); and last that each prover is known (`BadProver`, by its number).
+/// `Memory` comes if memory ran out.
 #[tactic(auto, unfolding(crate::specs::Case::case_at))]
 pub fn read_case(alloc: Global, bytes: &[u8]) -> Result<Case, CaseFault>
     ensures { Gives CaseFault.Memory data_of result (case_at bytes.now) }

@@ -1,5 +1,7 @@
 //! The numbers of the wire forms.
 
+use rd_base::MAX_ROOTS;
+
 /// The first byte of a claim.
 pub const CLAIM_TAG: u8 = 1;
 
@@ -70,4 +72,4 @@ pub const MOST_FLAGS_3: u8 = FETCH + OPERAND + INPUT;
 pub const MOST_REGISTERS: u8 = 3;
 
 /// The most roots that an answer has.
-pub const MOST_ROOTS: u8 = 15;
+pub const MOST_ROOTS: u8 = MAX_ROOTS as u8;

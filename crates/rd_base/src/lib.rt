@@ -1,10 +1,10 @@
 //! Plain data that every layer speaks of: register files, statuses, digests, answers, scripts and byte strings.
 //!
 //! The layers above may rely on what the types keep by themselves: a register file never holds anything in `x0`, a claimed output
-//! is never longer than its length field can hold, a tampered register is one of `x1` to `x31`, a late prover passes at most
-//! 1,000 times, a tape has at most 4,096 answers, an answer of several roots has 1 to 15, a proof opens at most three registers,
-//! and a byte string is seen in contracts as the list of its bytes. What more than one layer states of plain data is here too:
-//! `same_digest`, `same_qid` and the laws. Read `regs` first, then `answer`. An `Err` that no comment names is out of memory.
+//! has at most 4,294,967,295 bytes, a tampered register is one of `x1` to `x31`, a late prover passes at most 1,000 times, a tape
+//! has at most 4,096 answers, an answer of several roots has 1 to 15, a proof opens at most three registers, and a byte string is
+//! seen in contracts as the list of its bytes. What more than one layer states of plain data is here too: `same_digest`, `same_qid`
+//! and the laws. Read `regs` first, then `answer`. An `Err` that no comment names is out of memory.
 #![tactic(auto)]
 
 mod answer;
@@ -37,7 +37,7 @@ pub use opened::{InOpening, InPath, Opening, Path, RegOpening, RegOpenings, RegP
 pub use proof::{Proof, StepProof, StepProof2, StepProof3};
 pub use regs::Regs;
 pub use root_list::{MAX_ROOTS, RootList};
-pub use script::{FirstSilentRound, Manner, PassCount, Script};
+pub use script::{FirstSilentRound, MAX_FIRST_SILENT_ROUND, MAX_PASSES, Manner, PassCount, Script};
 pub use status::{Ctl, Status};
 pub use steps::Steps;
 pub use tamper::{RegisterNumber, Tamper};
