@@ -100,7 +100,7 @@ some_share (load ∷ loads) = list_any (share load) loads || some_share loads
 abbrev pub is_empty : ProgramHeader → Bool
 is_empty load = load.p_memsz == 0
 
--- rules 6 to 9, each over all loads before the next ('Program Header', 'Program Loading')
+-- rules 6 to 9, each over all loads before the next (6 and 7: 'Program Header'; 8 and 9 are ours)
 unfoldable pub checked_in : ℕ → List ProgramHeader → Result (Unit {0}) ImageFault
 checked_in file_bytes loads =
     if list_any (is_outside_file file_bytes) loads then Err SegmentOutsideFile

@@ -34,13 +34,13 @@ pub enum ImageFault {
     /// A load has more bytes in the file than in memory ('Program Header').
     #[error("a segment has more bytes in the file than in memory")]
     FileLargerThanMemory,
-    /// A load reaches beyond the last address ('Program Header').
+    /// A load reaches beyond the last address. This rule is ours: loads don't wrap.
     #[error("a segment reaches beyond the last address")]
     SegmentPastEnd,
-    /// Two loads share an address ('Program Loading').
+    /// Two loads share an address. This rule is ours.
     #[error("two segments share an address")]
     SegmentsOverlap,
-    /// The entry isn't a multiple of 4 (`e_entry`, 'ELF Header').
+    /// The entry (`e_entry`) isn't a multiple of 4 (RISC-V Unprivileged ISA 20191213, 2.2).
     #[error("the entry isn't a multiple of 4")]
     EntryMisaligned,
     /// The file has more than `MAX_IMAGE_BYTES` bytes.

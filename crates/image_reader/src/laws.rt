@@ -20,7 +20,8 @@ pub fn sharing_loads()
     ensures { (loads : List ProgramHeader) → (some_share loads ≡ false) ↔ ((a : ℕ) → count_by (λ load. occupies load a) loads ≤ 1) }
 {}
 
-/// Memory has at each address what the loads have there, and that is the byte of whichever load covers the address.
+/// Memory has at each address what the loads have there (`bytes`). If no load has more bytes in the file than in memory and no two share an
+/// address, that is the byte of whichever load covers the address (`whichever`).
 pub fn elf_memory()
     ensures bytes { (file : List ℕ) (loads : List ProgramHeader) (a : ℕ) → a < 2 ^ 32 → byte_at (contents_with (byte_of_loads file loads)) a ≡ byte_of_loads file loads a }
     ensures whichever { (file : List ℕ) (loads : List ProgramHeader) (a i : ℕ) (d : ProgramHeader) → list_any has_larger_file loads ≡ false → some_share loads ≡ false → i < length loads → covers (slice_index_or loads i d) a ≡ true → byte_of_loads file loads a ≡ byte_of_load file (slice_index_or loads i d) a }

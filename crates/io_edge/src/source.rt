@@ -50,7 +50,7 @@ pub enum ReadAll {
 /// `Fault` comes only if the source's count of faults rose, and every other answer leaves that count as it was. `TooLong` comes only if the
 /// source had more than `limit` bytes. `Memory` comes, as the code shows, only if an allocation was refused; an empty source needs none.
 /// After an error the bytes that were read are gone from the source: at most `limit`, and with `TooLong` at most 4,096 more. Nothing is
-/// read after the end, nor once more than `limit` bytes were seen.
+/// read once more than `limit` bytes were seen, nor, as the code shows, after the end.
 pub fn read_all<S: Source>(alloc: Global, source: &mut S, limit: usize) -> Result<Vec<u8>, ReadAll>
     ensures all { IfOk result (λ v. Consumes (S.left source.old) (S.left source.new) v.items × IsAtEnd (S.left source.new)) }
     ensures within { IfOk result (λ v. vec_len v ≤ limit) }

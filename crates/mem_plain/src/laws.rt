@@ -4,7 +4,7 @@ ghost use Rattle.mem_plain.specs.Contents.{Contents, no_bytes, byte_at, laid, nu
 ghost use Rattle.mem_plain.specs.Memory.{IsMemory};
 ghost use Rattle.mem_plain.specs.Page.{number_in, with_number_in};
 
-/// Bytes that are laid from an address on are there, and every other byte stays as it was (`laid`); and so do the
+/// Bytes that are laid from an address on are there, and every other byte stays as it was (`laid`); and so are the
 /// low bytes of a number that is stored, the least first (`stored`). If nothing is kept each byte is 0 (`nothing`).
 pub fn laying_bytes()
     ensures laid { (m : Contents) (a : ℕ) (bytes : List ℕ) (q : ℕ) →

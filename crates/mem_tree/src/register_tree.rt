@@ -148,8 +148,8 @@ impl<D: Digester> RegTree<D> {
         tree
     }
 
-    /// Turns the tree into that of another register file. It compares 32 values, and counts one step for each digest: those of the
-    /// leaves that differ, and of the nodes above them.
+    /// Turns the tree into that of another register file. It counts one step for each digest: those of the leaves that differ, and of the
+    /// nodes above them. As the code shows, it compares 32 values.
     pub fn refresh_counted<L: Ledger>(&mut self, regs: &Regs, steps: &mut Steps<L>)
         ensures tree { self.new ≡ regs.now }
         ensures steps { steps.new ≡ steps.old + register_renewals self.old regs.now }

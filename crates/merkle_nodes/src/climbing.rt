@@ -8,7 +8,7 @@ use rd_base::{Digest32, OpenText, Steps};
 use std::marker::Brand;
 use std::sync::ledger::{Blank, Ledger};
 
-/// The string of the node above a child and its sibling, at a bit of the index.
+/// The string of the node above a child and its sibling, at a bit of the index. The child is on the left if the bit is 0.
 pub fn joined_text(bit: u32, child: &Digest32, sibling: &Digest32) -> OpenText
     ensures { result ≡ joined bit child.now.0 sibling.now.0 }
 {

@@ -49,7 +49,8 @@ pub fn fill_empty_heap(empties: &[Digest32], nodes: &mut [Digest32], levels: u32
 }
 
 /// Digests anew the nodes of a heap that are above marked places, and marks them, with a step for each. Every other node
-/// above the leaves is the digest of the two below it, so that afterwards each node above the leaves is.
+/// above the leaves is the digest of the two below it, so that afterwards each node above the leaves is. `width` is the number of leaves,
+/// and so the place of the first; no place before it is marked.
 pub fn renew_nodes<C: Counted, L: Ledger>(
     c: C,
     nodes: &mut [Digest32],

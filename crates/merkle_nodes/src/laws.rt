@@ -1,11 +1,11 @@
 //! Laws of nodes, paths, heaps and the strings of a tree, each the contract of a function that does nothing.
-ghost use Rattle.std.specs.Prelude.{◌≡◌, ◌≢◌, ◌↔◌, ◌⊎◌, ℕ, suc, ◌+◌, ◌*◌, ◌-◌, ◌/◌, ◌%◌, ◌^◌, ◌<◌, ◌≤◌, ◌||◌, Bool, true, List, length};
+ghost use Rattle.std.specs.Prelude.{◌≡◌, ◌≢◌, ◌↔◌, ◌⊎◌, ℕ, suc, ◌+◌, ◌*◌, ◌-◌, ◌/◌, ◌^◌, ◌<◌, ◌≤◌, ◌||◌, Bool, true, List, length};
 ghost use Rattle.digest_core.specs.Text.{node_text};
 ghost use Rattle.rd_base.specs.declared.digest.Digest32.{Digest32};
 ghost use Rattle.merkle_nodes.specs.Node.{node, empty_node, beside, digest_at};
 ghost use Rattle.merkle_nodes.specs.Heap.{IsHeap};
 ghost use Rattle.merkle_nodes.specs.Renewals.{how_many, is_changed, renewals};
-ghost use Rattle.merkle_nodes.specs.Opening.{joined, Opens, opened, AreSiblings};
+ghost use Rattle.merkle_nodes.specs.Opening.{Opens, opened, AreSiblings};
 ghost use Rattle.merkle_nodes.specs.Split.{IsSplitAt, IsSplit};
 ghost use Rattle.merkle_nodes.specs.TreeStrings.{IsTreeString, TreesSplit};
 
@@ -29,16 +29,6 @@ pub fn nodes_depend_on_leaves_below()
 pub fn nodes_over_one_string_are_empty()
     ensures empty { (digest : List ℕ → List ℕ) (leaf : ℕ → List ℕ) (text : List ℕ) (l k : ℕ) →
         ((j : ℕ) → j / 2 ^ l ≡ k → leaf j ≡ text) → node digest leaf l k ≡ empty_node digest text l }
-{}
-
-/// What the string at a level of a path is; `opened` doesn't compute by itself.
-#[tactic(auto, unfolding(crate::specs::Opening::opened))]
-pub fn opened_equations()
-    ensures lowest { (digest : List ℕ → List ℕ) (leaf : List ℕ) (siblings : ℕ → List ℕ) (k : ℕ) →
-        opened digest leaf siblings 0 k ≡ leaf }
-    ensures above { (digest : List ℕ → List ℕ) (leaf : List ℕ) (siblings : ℕ → List ℕ) (l k : ℕ) →
-        opened digest leaf siblings (suc l) k
-        ≡ joined (k / 2 ^ l % 2) (digest (opened digest leaf siblings l k)) (siblings l) }
 {}
 
 /// A digest opens to a leaf's string if and only if it is the digest to which the path climbs.

@@ -4,6 +4,7 @@ ghost use Rattle.mem_plain.specs.Page.{number_in};
 ghost use Rattle.rv_step.specs.Fetching as fetching;
 ghost use Rattle.rv_step.specs.Named as named;
 
+use crate::effect::{ARGUMENT_REGISTER, CALL_REGISTER};
 use crate::laws::names_are_registers;
 use rd_base::{Ctl, Opening};
 use rv_decode::{Fields, Instr, decode, fields_of};
@@ -50,7 +51,8 @@ pub fn number_shown(chunk: &Option<Opening>, addr: u32, width: u8) -> u32
     }
 }
 
-/// The instruction at an address that is a multiple of 4, in the chunk that holds it.
+/// The instruction at an address that is a multiple of 4, in the chunk that holds it. `None` if the word is no instruction, or no chunk or no
+/// address is there.
 pub fn fetched_in(chunk: &Option<Opening>, address: Option<u32>) -> Option<Instr>
     requires { IfSome address (λ addr. addr % 4 ≡ 0) }
     ensures { result ≡ fetching.fetched_in chunk.now address }
@@ -129,7 +131,7 @@ fn registers_of(instr: &Instr) -> (u8, u8, u8)
         Fields::B(i) => (i.rs1, i.rs2, 0),
         Fields::U(i) => (0, 0, i.rd),
         Fields::J(i) => (0, 0, i.rd),
-        Fields::Call => (17, 10, 10),
+        Fields::Call => (CALL_REGISTER, ARGUMENT_REGISTER, ARGUMENT_REGISTER),
         Fields::Nothing => (0, 0, 0),
     }
 }

@@ -8,7 +8,7 @@ use std::alloc::{AllocError, AllocFailed};
 /// What is wrong with a line.
 #[derive(Clone, Copy, Debug, PartialEq, Eq)]
 pub enum FaultKind {
-    /// The line is neither empty nor a label nor an instruction with its operands.
+    /// Behind its label, if it has one, the line is neither empty nor a mnemonic with operands of its form.
     OtherForm,
     /// No instruction has this mnemonic.
     UnknownMnemonic,
