@@ -78,9 +78,10 @@ fn end<J: Judge + Drop>(played: &Match<J>, line: u64, stated: &Stated) -> Audit
     }
 }
 
-/// Audits a full text before a judge of the version and digest that its head names, by playing its moves in order. It runs no machine
-/// beyond what the judge does for a proof, and keeps one match in memory. The head has 1 to 65,536 provers, a bound of 1 to 4,294,967,295
-/// steps and a fan of 2 to 16, and each move is of one of the provers, as in every text that was read (`a_read_text_may_be_audited`).
+/// Audits a full text before a judge of the version and digest that its head names, by playing its moves in order. By its type it
+/// runs no machine beyond what the judge does for a proof; as the code shows, it keeps one match in memory. The head has 1 to 65,536 provers,
+/// a bound of 1 to 4,294,967,295 steps and a fan of 2 to 16, and each move is of one of the provers, as in every text that was read
+/// (`a_read_text_may_be_audited`).
 ///
 /// `Refused` comes exactly at the first line that isn't the next legal entry, with the number of that line.
 #[tactic(auto, unfolding(crate::specs::LineByLine::audited))]

@@ -2,15 +2,8 @@
 ghost use Rattle.std.specs.Prelude.{◌≡◌, ◌+◌, ◌<◌, ◌^◌, length};
 ghost use Rattle.audit.specs.NextEntry.{next_claim, next_in, next};
 
-use bisect_game::{Dispute, Kind, Question, Settled, Side};
-use rd_base::Qid;
+use bisect_game::{Dispute, Question, Settled, Side};
 use tournament::Record;
-
-/// The number of a claim's question.
-const CLAIM: Qid = Qid {
-    dispute: 0,
-    round: 0,
-};
 
 /// The first prover whose claim is missing, of provers the first of which has this number.
 fn next_claim(p: usize, claims: &[Option<Settled>]) -> Option<usize>
@@ -47,13 +40,7 @@ pub(crate) fn next(played: &Record) -> Option<(usize, Question)>
     ensures { result ≡ next played.now }
 {
     if let Some(p) = next_claim(1, played.claims()) {
-        return Some((
-            p,
-            Question {
-                qid: CLAIM,
-                kind: Kind::Claim,
-            },
-        ));
+        return Some((p, Question::claim()));
     }
     next_in(played.disputes())
 }

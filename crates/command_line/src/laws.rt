@@ -50,7 +50,7 @@ pub fn own_options()
     ensures digest_of_list { (program : List ℕ) → chosen (program ∷ codes "list" ∷ codes "--digest" ∷ codes "sha256" ∷ []) ≡ None }
 {}
 
-/// The seed of `big` is taken at the ends of its range, refused beyond it, and has to be given once.
+/// The seed of `big` is taken at the ends of its range, and refused one above it; it has to be given once.
 #[tactic(auto, using(crate::proofs::WordsLemmas::least_seed_is_taken, crate::proofs::WordsLemmas::most_seed_is_taken, crate::proofs::WordsLemmas::larger_seeds_are_refused, crate::proofs::WordsLemmas::no_seed_is_refused, crate::proofs::WordsLemmas::two_seeds_are_refused))]
 pub fn plain_seeds()
     ensures least { (program : List ℕ) → chosen (program ∷ codes "big" ∷ codes "0" ∷ []) ≡ Some (Command.Big 0) }
@@ -67,7 +67,7 @@ pub fn seeds_are_numbers()
         chosen (program ∷ codes "big" ∷ (digit ∷ rest) ∷ []) ≡ option_map Command.Big (seed_in (digit ∷ rest)) }
 {}
 
-/// `--digest` chooses a digest by its name. Names that no digest has are refused, and so is a name of one in other letters.
+/// `--digest` chooses a digest by its name, as `weak8`. `md5`, which no digest has, is refused, and so are `SHA256`, `WEAK8` and no name.
 #[tactic(auto, using(crate::proofs::WordsLemmas::weak8_is_taken, crate::proofs::WordsLemmas::md5_is_refused, crate::proofs::WordsLemmas::upper_case_is_refused, crate::proofs::WordsLemmas::weak8_in_capitals_is_refused, crate::proofs::WordsLemmas::no_name_is_refused))]
 pub fn digests_by_name()
     ensures weak8 { (program : List ℕ) → chosen (program ∷ codes "judge" ∷ codes "--digest" ∷ codes "weak8" ∷ []) ≡ Some (Command.Judge MatchText.Report Weak8) }

@@ -104,7 +104,8 @@ match_text (summary seed) head settled balances verdict = summary_text seed sett
 match_text report head settled balances verdict = report_text head settled verdict balances
 match_text full head settled balances verdict = full_text head settled verdict
 
--- the text before the verdict's line: the lines of the report or of the full text, or what a summary counts
+-- the whole text that ends in this text of a verdict: before that stand the lines of the report or of the full text, or what a summary
+-- counts
 abbrev pub before_verdict : Written → Head → Record → Option Balances → List ℕ → List ℕ
 before_verdict (summary seed) head settled balances verdict_text =
     workload_text seed (length settled.claims) ++ (counts_text (length settled.disputes) (rounds_in settled.disputes) ++ (codes " " ++ verdict_text))

@@ -58,7 +58,7 @@ impl Answered {
     }
 
     /// The graver of two answers to tasks: a collision, else that nobody is left, else the other one.
-    pub fn or_graver(self, other: Answered) -> Answered
+    pub(crate) fn or_graver(self, other: Answered) -> Answered
         ensures { result ≡ graver self other }
     {
         match self {

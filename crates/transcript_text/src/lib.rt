@@ -14,7 +14,7 @@
 
 mod disputes;
 mod laws;
-pub mod limits;
+mod limits;
 mod lines;
 mod reader;
 mod refereed;
@@ -27,8 +27,7 @@ pub use laws::{
     no_fault_of_a_text_is_out_of_memory, nothing_is_said_against_the_truthful,
     reading_is_the_inverse_of_writing, stated_verdicts_are_one_line,
 };
-pub use limits::Limit;
-pub use lines::{add_root_line, answer_line, root_line, summary};
+pub use lines::{add_root_line, answer_line, summary};
 pub use reader::{TextFault, read_full};
 pub use refereed::full;
 pub use reporting::{claim_lines, head_line, report, stated_line, verdict_line};

@@ -23,7 +23,7 @@ pub fn answer_line(alloc: Global, status: Status, output: &[u8]) -> Result<Vec<u
 }
 
 /// The line of a root, with its number.
-pub fn root_line(alloc: Global, number: u64, root: Digest32) -> Result<String, AllocError>
+fn root_line(alloc: Global, number: u64, root: Digest32) -> Result<String, AllocError>
     ensures { IfOk result (λ text. string_bytes text ≡ root_line number root.0) }
 {
     let digits = hex::encode(alloc, root.0.as_slice())?;
@@ -81,7 +81,7 @@ fn add_counts(text: &mut String, disputes: usize, rounds: u64) -> Result<(), All
 /// The line that sums up the match of the large workload of a seed: how many play, how many disputes and bisection rounds
 /// there were, and the verdict. It ends with a line feed.
 ///
-/// An accepted claim that wasn't given leaves the verdict out.
+/// An accepted claim that wasn't given leaves the verdict out, and with it the line feed.
 pub fn summary(
     alloc: Global,
     seed: u32,

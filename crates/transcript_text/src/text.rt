@@ -51,7 +51,7 @@ pub struct Head {
     pub patience: u32,
     /// The version of the commitments.
     pub version: u32,
-    /// Into how many parts a round cuts its interval.
+    /// Into how many parts a round cuts its interval at most.
     pub fan: u32,
     pub digest: DigestName,
     /// The root of the state at step 0, from which all provers start.
