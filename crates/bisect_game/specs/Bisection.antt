@@ -52,7 +52,8 @@ cuts lo hi parts = cuts_from lo hi parts 1 (parts - 1)
 abbrev pub can_cut : ℕ → ℕ → ℕ → Bool
 can_cut lo hi parts = nat_le 2 parts && (nat_le parts 16 && nat_le parts (hi - lo))
 
--- the steps whose roots a question for this many parts asks: the cuts, or, if there are none, which no match asks, the beginning
+-- the steps whose roots a question for this many parts asks: the cuts, or, if the interval can't be cut in so many, which no match asks,
+-- the beginning
 abbrev pub steps_asked : ℕ → ℕ → ℕ → List ℕ
 steps_asked lo hi parts = if can_cut lo hi parts then cuts lo hi parts else lo ∷ []
 

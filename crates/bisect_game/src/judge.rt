@@ -31,8 +31,8 @@ pub trait Judge {
     fn claim_collision(&self, first: &Claim, second: &Claim) -> Option<(OpenText, OpenText)>
         ensures { result ≡ (ruling (names self.now)).claim_collision first.now second.now };
 
-    /// Two different strings of one digest, the first opened by the first proof, the second by the second, of two proofs
-    /// that both lead from the root `from`.
+    /// Of two proofs that both lead from the root `from`: two different strings of one digest, the first opened by the first proof, the
+    /// second by the second. It isn't `None` if they lead to two roots.
     fn step_collision(
         &self,
         from: Digest32,

@@ -220,7 +220,8 @@ fn can_cut(lo: u64, hi: u64, parts: u32) -> bool
     2 <= parts && (parts <= MOST_PARTS && u64::from(parts) <= hi.saturating_sub(lo))
 }
 
-/// The cuts between the ends of an interval, or its beginning if there are none.
+/// The cuts between the ends of an interval in this many parts, at most 15; its beginning alone if the parts aren't 2 to 16, or are more
+/// than it has steps, which no match asks.
 pub fn steps_asked(alloc: Global, lo: u64, hi: u64, parts: u32) -> Result<Vec<u64>, Memory>
     ensures value { IfOk result (λ v. v.items ≡ steps_asked lo hi parts) }
     ensures some { IfOk result (λ v. 0 < length v.items) }

@@ -59,7 +59,7 @@ pub struct Claimed {
 }
 
 /// The interval of a dispute: two steps, the root on which both sides agree at the lower one, and each side's root at the
-/// upper one. In a dispute they lie within the bound, `lo < hi`, and the two roots at `hi` differ.
+/// upper one. In a dispute the steps lie within the bound, and `lo < hi`; in one of a match the two roots at `hi` differ.
 #[derive(Clone, Copy, Debug)]
 pub struct Interval {
     /// The lower step.

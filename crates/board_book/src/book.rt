@@ -344,7 +344,8 @@ impl<J: Judge + Drop, P: Provers + Drop> Book<J, P> {
     }
 
     /// Plays the match out on one thread, with one answerer for each prover, which answers as that prover. An `Err` comes if an answerer
-    /// found no memory: the book is then a legal one, part played.
+    /// found no memory: the book is then a legal one, part played. In any case the journal begins with the one that it had, and each
+    /// answerer keeps its meaning.
     pub fn finish_alone<R: Threads + Sync, A: Answerer>(
         &mut self,
         rt: &R,

@@ -240,7 +240,7 @@ impl<J: Judge + Drop, P: Provers + Drop> Books<J, P> {
 
     /// Plays all matches out on one thread, task after task, with one answerer for each prover, which answers as that prover. Provers are
     /// numbered through all tasks, in order of the tasks. An `Err` comes if an answerer found no memory: the books are then legal ones,
-    /// part played.
+    /// part played. In any case the journal begins with the one that it had, and each answerer keeps its meaning.
     pub fn finish_alone<R: Threads + Sync, A: Answerer>(
         &mut self,
         rt: &R,

@@ -1,4 +1,4 @@
-//! Laws: each function has an empty body, and its clauses hold of all journals, openings and answerers.
+//! Laws, each the contract of a function that does nothing. Their clauses hold of all journals, openings and answerers.
 ghost use Rattle.board_book.specs.Alone.{TasksAreAlone, OwnEntriesDecide};
 ghost use Rattle.board_book.specs.CaseRecords.{JournalsHaveTheRecordOfTheCase, TasksHaveTheRecordOfTheirCase};
 ghost use Rattle.board_book.specs.Keeping.{AreNumbered, AreToldApart, SayInOrder};

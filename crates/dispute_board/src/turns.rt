@@ -49,6 +49,8 @@ impl<J: Judge + Drop, P: Provers + Drop> Logged for Locked<J, P> {
 /// What the board answers to a post.
 #[derive(Clone, Copy, Debug)]
 pub struct Posted {
+    /// The book's reply if the prover says this move after its passes at that point; else `Stale` with the open question, if there is one,
+    /// which may be the one that the post was on.
     pub reply: Reply,
     /// The place of the entry in the journal of all tasks, from 0; there if and only if the reply isn't `Stale`.
     pub receipt: Option<u64>,

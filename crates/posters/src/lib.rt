@@ -15,5 +15,5 @@ mod round_robin;
 mod serving;
 
 pub use one_task::{Gate, play};
-pub use playing::{OpenGate, Place, TaskGate, play_tasks};
+pub use playing::{OpenGate, TaskGate, play_tasks};
 pub use round_robin::{ClassServer, serve_all};

@@ -35,15 +35,16 @@ impl<'g, G: Gate> TaskGate for OneGate<'g, G> {
     }
 }
 
-/// Plays the match out with this many posters: poster t of them, from 0, serves the provers p with `(p - 1) mod posters = t`, each
-/// poster in a thread of its own if one can be made. With one poster no thread is started. There is one answerer for each
-/// prover, which answers as that prover; answers are made while other posters post.
+/// Plays the match out with this many posters: poster t of them, from 0, serves the provers p with `(p - 1) mod posters = t`. There is one
+/// answerer for each prover, which answers as that prover, and keeps its meaning, also if memory runs out; the book is dropped then. In the
+/// book that is returned the match is over, whatever the threads did. Its opening is that of the book, and its journal begins with the
+/// book's.
 ///
-/// A poster ends when the match is over. It ends early when its answerer finds no memory, after 10,000,000 turns in a row in which none of
-/// its provers had anything to do, after 15 of them without news if some poster hasn't begun (they take 0.927 seconds), and when another
-/// ended early; what is left undone is played alone then. News is each post but a pass that is taken. One with nothing to do sleeps until
-/// there is news, for a tenth of a second at most. In the book that is returned the match is over, whatever the threads did, and its
-/// journal begins with the one that the book had.
+/// As the code shows, each poster has a thread of its own if one can be made, no thread is started with one poster, and answers are made
+/// while other posters post. A poster ends when the match is over. It ends early when its answerer finds no memory, after 10,000,000 turns
+/// in a row in which none of its provers had anything to do, after 15 of them without news if some poster hasn't begun (they take 0.927
+/// seconds), and when another ended early; what is left undone is played alone then. News is each post but a pass that is taken. One with
+/// nothing to do sleeps until there is news, for a tenth of a second at most.
 pub fn play<
     J: Judge + Drop + Send,
     P: Provers + Drop + Send,

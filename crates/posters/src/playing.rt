@@ -112,14 +112,15 @@ fn join_posters<J: Judge + Drop, P: Provers + Drop>(
 }
 
 /// Plays the matches of all tasks out with this many posters. Provers are numbered from 0 through all tasks, in order of the tasks. Poster
-/// i of k serves those whose number modulo k is i, each poster in a thread of its own if one can be made. With one poster no thread
-/// is started. There is one answerer for each prover, which answers as that prover; answers are made while other posters post.
+/// i of k serves those whose number modulo k is i. There is one answerer for each prover, which answers as that prover, and keeps its
+/// meaning, also if memory runs out; the books are dropped then. In the books that are returned each match is over, whatever the threads
+/// did. Their openings are those that they had, and their journal begins with the one that they had.
 ///
-/// A poster ends when the matches of all its provers are over. It ends early when its answerer finds no memory, after 10,000,000 turns in
-/// a row in which none of its provers had anything to do, after 15 of them without news if some poster hasn't begun (they take 0.927
-/// seconds), and when another ended early; what is left undone is played alone then. News is each post but a pass that is taken. One with
-/// nothing to do sleeps until there is news, for a tenth of a second at most. In the books that are returned each match is over, whatever
-/// the threads did, and their journal begins with the one that they had.
+/// As the code shows, each poster has a thread of its own if one can be made, no thread is started with one poster, and answers are made
+/// while other posters post. A poster ends when the matches of all its provers are over. It ends early when its answerer finds no memory,
+/// after 10,000,000 turns in a row in which none of its provers had anything to do, after 15 of them without news if some poster hasn't
+/// begun (they take 0.927 seconds), and when another ended early; what is left undone is played alone then. News is each post but a pass
+/// that is taken. One with nothing to do sleeps until there is news, for a tenth of a second at most.
 pub fn play_tasks<
     J: Judge + Drop + Send,
     P: Provers + Drop + Send,

@@ -217,7 +217,7 @@ impl<T: Logged> SeatLock<T> {
         act_in_turn(&self.table, raw, job)
     }
 
-    /// Splits a seat off the first one, of which fewer than 2^64 - 2 are out. It takes no memory.
+    /// Splits a seat off the first one, of which fewer than 2^64 - 2 are out. It has seen the same, and has no receipts. It takes no memory.
     pub fn split(&self, seat: &mut Seat<T>) -> Seat<T>
         requires lock { seat.old.lock ≡ self.now }
         requires first { seat.old.number ≡ 0 }
@@ -229,7 +229,7 @@ impl<T: Logged> SeatLock<T> {
         Seat { raw }
     }
 
-    /// Joins a seat that was split off into the first one.
+    /// Joins a seat that was split off into the first one, which takes its receipts behind its own.
     pub fn join(&self, seat: &mut Seat<T>, other: Seat<T>)
         requires lock { (seat.old.lock ≡ self.now) × (other.lock ≡ self.now) }
         requires first { seat.old.number ≡ 0 }
@@ -239,7 +239,8 @@ impl<T: Logged> SeatLock<T> {
         self.table.shared.join_seat::<JoinIn>(&mut seat.raw, raw);
     }
 
-    /// The value, once every seat that was split off the first one is joined in again.
+    /// The value, once every seat that was split off the first one is joined in again. Its head is the seat's, and its log begins with all
+    /// that the seat, and each seat joined into it, had seen.
     ///
     /// The seat has the receipts of all seats then. No place is in them twice, and each is a place of the log.
     pub fn close(self, seat: Seat<T>) -> T

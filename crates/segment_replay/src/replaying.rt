@@ -213,9 +213,10 @@ pub fn roots_with_input<D: Digester + Send + Sync, R: Threads + Sync>(
 }
 
 /// The roots of the run's states of some steps, each in the version of the run, in the order asked; a step may be asked more than
-/// once, and above the bound the state of the bound stands for it. The steps are cut into at most `workers` (at least 1) pieces of
-/// consecutive entries. Several pieces are replayed by a thread each, if one can be made, and a single one in the caller's thread. The
-/// chain of each of the run's checkpoints is that of its output by this digester, as `record_run` makes it.
+/// once, and above the bound the state of the bound stands for it. As the code shows, the steps are cut into at most `workers` (at least
+/// 1) pieces of consecutive entries. Several pieces are replayed by a thread each, if one can be made; a single one in the caller's
+/// thread, where other threads help with its first tree. The chain of each of the run's checkpoints is that of its output by this digester,
+/// as `record_run` makes it.
 pub fn roots<D: Digester + Send + Sync, R: Threads + Sync>(
     rt: &R,
     alloc: Global,
