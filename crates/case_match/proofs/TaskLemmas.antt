@@ -1,6 +1,6 @@
 -- Many cases: opened one after another, and how they end.
-use Rattle.std.proofs.Common.{◌≡◌, ℕ, ◌+◌, ◌<◌, List, [], ◌∷◌, ◌++◌, All, map, zip, length, reverse, take, get_or, length-append, Option, Some, refl, sym, ap, ap₂, subst, ◌∙◌, arith, append_assoc}
-use Rattle.std.proofs.lemmas.List.{take_more, map-append, reverse-append, length-map, append-nil}
+use Rattle.std.proofs.Common.{◌≡◌, ℕ, ◌+◌, ◌<◌, List, [], ◌∷◌, ◌++◌, All, map, zip, length, take, get_or, length-append, Option, Some, refl, sym, ap, ap₂, subst, ◌∙◌, arith, append_assoc}
+use Rattle.std.proofs.lemmas.List.{take_more, map-append, length-map, append-nil}
 use Rattle.std.specs.Option.{option_to_list}
 use Rattle.std.proofs.lemmas.List.Elements.{All-nil, All-cons, All-head, All-tail}
 use Rattle.rd_base.specs.declared.answer.Answer.{Answer}
@@ -27,15 +27,7 @@ use Rattle.case_match.specs.declared.referee.Ended.{Ended}
 use Rattle.case_match.specs.Match.{start_root, rules_of_case, says_of_case, ending_of_case, endings_of_cases, AreSettledUp, RecordsOfCasesAreSettledUp}
 use Rattle.case_match.specs.Openings.{IsFresh, ended_alone, ended_of, opening_of_case, opening_of}
 
--- endings, the last first
-
-pub ended_more : {A B : Type 0} (f : A → B) (xs left : List A) (b : A) (ends after all : List B) → xs ≡ left ++ b ∷ [] → after ≡ ends ++ f b ∷ [] → map f xs ++ reverse ends ≡ all
-    → map f left ++ reverse after ≡ all
-ended_more {A} {B} f xs left b ends after all last next so_far =
-    ap (λ (l : List B). map f left ++ reverse l) next
-    ∙ (ap (λ (l : List B). map f left ++ l) (reverse-append ends (f b ∷ []))
-    ∙ (sym (append_assoc (map f left) (f b ∷ []) (reverse ends))
-    ∙ (ap (λ (l : List B). l ++ reverse ends) (sym (ap (map f) last ∙ map-append f left (b ∷ []))) ∙ so_far)))
+-- lists
 
 pub map_twice : {A B C : Type 0} (f : B → C) (g : A → B) (xs : List A) → map (λ (x : A). f (g x)) xs ≡ map f (map g xs)
 map_twice f g [] = refl

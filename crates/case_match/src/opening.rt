@@ -86,8 +86,8 @@ fn plan_for(case: &Case, options: Options) -> Plan
     }
 }
 
-/// Opens the match of a case whose run starts in this machine. Each answerer answers as its prover's script says. In version 3 the tree of
-/// the input is built once, for the root and for all provers.
+/// Opens the match of a case whose run starts in this machine. Each answerer answers as its prover's script says. As the code shows, in
+/// version 3 the tree of the input is built once, for the root and for all provers.
 fn open_match<D: Replays>(
     alloc: Global,
     d: D,

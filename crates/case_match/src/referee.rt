@@ -43,16 +43,15 @@ fn ending_of<J: Judge + Drop, P: Provers + Drop>(book: Book<J, P>) -> Ended
 /// The results of the matches of books that are over, in their order.
 fn endings<J: Judge + Drop, P: Provers + Drop>(
     alloc: Global,
-    mut books: Vec<Book<J, P>>,
+    books: Vec<Book<J, P>>,
 ) -> Result<Vec<Ended>, Memory>
     requires { All (λ b. is_complete b.game.record_ ≡ true) books.items }
     ensures { IfOk result (λ ends. ends.items ≡ map (ended_alone J.ruling P.says) (openings books.items)) }
 {
     let mut ends = Vec::with_capacity(alloc, books.len())?;
-    while let Some(book) = books.pop() {
+    'books: for book in books {
         ends.push(ending_of(book))?;
     }
-    ends.reverse();
     Ok(ends)
 }
 

@@ -23,8 +23,9 @@ use tournament::{Record, Verdict};
 /// The match of a case whose run starts in this machine: what is settled in it, and how it ends. The machine has no
 /// output, and its chain is that of no output by the digester `d`; each option is at least 1, and none changes the answer.
 ///
-/// The root of this state is made once, from scratch. The referee gets that root and decides about claims and proofs of single steps; it
-/// never runs the program. In version 3 the tree of the input is built once, for this root and for all provers.
+/// The referee gets the root of this state, and decides about claims and proofs of single steps; by its type it never runs the program. As
+/// the code shows, that root is made once, from scratch but for the input of version 3, whose tree is built once, for it and for all
+/// provers.
 pub fn verdict_of_case<R: Threads + Wait + Sync, D: Replays>(
     rt: &R,
     alloc: Global,
