@@ -1,5 +1,5 @@
 //! A tamper, carried out on a machine.
-ghost use Rattle.std.specs.Prelude.{◌≡◌, ℕ, ◌+◌, ◌/◌, ◌<◌, ◌≤◌, ◌^◌, ◌∷◌, [], ◌++◌, List, IfOk, IfSome, OnOk, length};
+ghost use Rattle.std.specs.Prelude.{◌≡◌, ℕ, ◌+◌, ◌-◌, ◌/◌, ◌<◌, ◌≤◌, ◌^◌, ◌∷◌, [], ◌++◌, true, false, List, Some, None, IfOk, IfSome, OnOk, length};
 ghost use Rattle.mem_plain.specs.Contents.{byte_at};
 ghost use Rattle.rv_step.specs.State.{state_of, IsChained};
 ghost use Rattle.rv_step.specs.State.{State};
@@ -47,6 +47,9 @@ pub fn tamper_to_come(tamper: &Tamper, bound: u64, i: u64) -> Option<u64>
 /// step before the tamper or before the goal, and else `i`.
 pub fn same_until(tamper: &Tamper, goal: u64, i: u64, machine: &Machine) -> u64
     requires { i < goal }
+    ensures running { ended tamper.now i (state_of machine.now) ≡ false → result ≡ i }
+    ensures up_to_tamper { ended tamper.now i (state_of machine.now) ≡ true → (n : ℕ) → to_come tamper.now goal i ≡ Some n → result ≡ n - 1 }
+    ensures up_to_goal { ended tamper.now i (state_of machine.now) ≡ true → to_come tamper.now goal i ≡ None → result ≡ goal - 1 }
     ensures from { i ≤ result }
     ensures below { result < goal }
     ensures same { (first : State) → run_from tamper.now first i ≡ state_of machine.now → run_from tamper.now first result ≡ state_of machine.now }
