@@ -174,11 +174,11 @@ fn serve_classes<
     );
 }
 
-/// Server t of k serves the items t, t + k, t + 2 k and so on, each server in a thread of its own if one can be made. There are fewer
-/// than 2^32 items and fewer than 2^32 servers.
+/// As the code shows, server t of k serves the items t, t + k, t + 2 k and so on, each server in a thread of its own if one can be made.
+/// There are fewer than 2^32 items and fewer than 2^32 servers.
 ///
 /// Afterwards each item is at its place again, as far as what serving keeps of an item tells them apart. An `Err` is out of
-/// memory; nothing was served then.
+/// memory; as the code shows, nothing was served then.
 pub fn serve_all<
     Board: Sync,
     Item: Send,

@@ -278,8 +278,8 @@ pub struct Rooted<D: Digester> {
     pub root: Digest32,
 }
 
-/// The root of a step, and a cursor for the next one. From version 2 on those leaves alone of the
-/// registers are digested that differ from those of the root before.
+/// The root of a step, and a cursor for the next one. As the code shows, from version 2 on those leaves alone of the registers are
+/// digested that differ from those of the root before.
 pub fn root_of_step<D: Digester + Send + Sync, R: Threads + Sync>(
     rt: &R,
     alloc: Global,
