@@ -6,6 +6,9 @@
  *
  *     cc -Iinclude my.c examples/embed/heap.c crates/coshalit_c/out/libcoshalit_c.a -o my
  *
+ * heap.c says what the three functions must do, for memory of another kind. The library also takes memcpy, memmove, memset, and __udivti3 of
+ * libgcc or compiler-rt, which `cc` links.
+ *
  * Every call:
  * - takes slices as a pointer and a number of bytes. The pointer may be null if the number is 0. A slice that is read may overlap with another
  *   one that is read; the slice that is written (`next`, `room`) overlaps with none.
@@ -37,10 +40,10 @@ extern "C" {
 
 /* The exit statuses of the program, in the answers of coshalit_audit, coshalit_run and coshalit_list. */
 #define COSHALIT_DONE 0           /* the text is confirmed; the case was run; its image was listed */
-#define COSHALIT_BAD_CASE 3       /* the bytes are no case: the text is `fault case R ..`, or the format has no listing */
+#define COSHALIT_BAD_CASE 3       /* the bytes are no case, or one that has no listing: `fault case R ..` (docs/FAULTS.md has the numbers R) */
 #define COSHALIT_BAD_IMAGE 4      /* the image of the case can't be loaded: `fault image R ..` */
 #define COSHALIT_AUDIT_REFUSED 8  /* the text is refused: `refused LINE CAUSE`, or `fault text R ..` if it can't be read */
-#define COSHALIT_OUT_OF_MEMORY 9  /* memory ran out: no text, and nothing is written */
+#define COSHALIT_OUT_OF_MEMORY 9  /* memory ran out: no text, `length` is 0, and nothing is written */
 #define COSHALIT_TOO_LONG 12      /* more than 16,777,216 bytes: `fault too long` */
 
 /* What a command answers, by value: 16 bytes where `size_t` has 8. */
@@ -65,8 +68,8 @@ uint32_t coshalit_check_step(uint32_t version, const uint8_t *root, size_t root_
  * is refused, or COSHALIT_TOO_LONG.
  *
  * Of the answer's text, which is empty or ends in a newline and has no zero byte behind it, the first `room_length` bytes are written to `room`, and
- * nothing behind the text. If `length` is more than `room_length`, the rest is missing: call again with a room of `length` bytes. The status
- * and the text are those of the program's command `audit` on these bytes (proved). */
+ * nothing behind the text. If `length` is more than `room_length`, the rest is missing: call again with a room of `length` bytes, which
+ * does all the work again. The status and the text are those of the program's command `audit` on these bytes (proved). */
 CoshalitAnswer coshalit_audit(const uint8_t *text, size_t text_length, uint8_t *room, size_t room_length);
 
 /* Runs the program of a case, a JSON text: COSHALIT_DONE and the line of its status and output at the bound, or COSHALIT_BAD_CASE,

@@ -8,24 +8,29 @@
 #include "coshalit.h"
 
 #include <errno.h>
+#include <signal.h>
 #include <stdio.h>
 #include <stdlib.h>
 #include <string.h>
 
-enum { READ_FAULT = 5, WRITE_FAULT = 6 };
+enum { USAGE = 2, READ_FAULT = 5, WRITE_FAULT = 6 };
+
+/* One byte more than a command takes shows that there are too many. */
+#define MOST_BYTES 16777217
 
 static void out_of_memory(void) {
     fprintf(stderr, "embed: out of memory\n");
     exit(COSHALIT_OUT_OF_MEMORY);
 }
 
-/* All bytes of standard input, and a zero byte behind them. */
-static unsigned char *read_input(size_t *length) {
+/* The bytes of standard input, `most` of them at most, and a zero byte behind them. */
+static unsigned char *read_input(size_t most, size_t *length) {
     size_t room = 1 << 16;
     unsigned char *bytes = malloc(room + 1);
     *length = 0;
     while (bytes != NULL) {
-        size_t count = fread(bytes + *length, 1, room - *length, stdin);
+        size_t wanted = room < most ? room : most;
+        size_t count = fread(bytes + *length, 1, wanted - *length, stdin);
         *length += count;
         if (ferror(stdin)) {
             fprintf(stderr, "embed: standard input can't be read\n");
@@ -80,7 +85,7 @@ static int rule_on(char *line) {
     long root_length = root != NULL ? bytes_of(root) : -1, proof_length = bytes_of(proof);
     if (!is_version(first, &version) || root_length < 0 || proof_length < 0) {
         fprintf(stderr, "embed: a line is VERSION ROOT PROOF\n");
-        return 2;
+        return USAGE;
     }
     unsigned char next[COSHALIT_ROOT_BYTES];
     switch (coshalit_check_step(version, (unsigned char *)root, (size_t)root_length, (unsigned char *)proof,
@@ -125,15 +130,20 @@ static int answer(Command *command, const unsigned char *bytes, size_t length) {
 }
 
 int main(int count, char **words) {
-    const char *command = count == 2 ? words[1] : "";
+    const char *word = count == 2 ? words[1] : "";
+    Command *command = NULL;
+    if (strcmp(word, "audit") == 0) command = coshalit_audit;
+    if (strcmp(word, "run") == 0) command = coshalit_run;
+    if (strcmp(word, "list") == 0) command = coshalit_list;
+    if (command == NULL && strcmp(word, "steps") != 0) {
+        fprintf(stderr, "embed steps|audit|run|list\n");
+        return USAGE;
+    }
+    /* A reader that has gone makes a write fail, and doesn't end the program. */
+    signal(SIGPIPE, SIG_IGN);
     size_t length;
-    unsigned char *bytes = read_input(&length);
-    int status = 2;
-    if (strcmp(command, "steps") == 0) status = steps((char *)bytes);
-    else if (strcmp(command, "audit") == 0) status = answer(coshalit_audit, bytes, length);
-    else if (strcmp(command, "run") == 0) status = answer(coshalit_run, bytes, length);
-    else if (strcmp(command, "list") == 0) status = answer(coshalit_list, bytes, length);
-    else fprintf(stderr, "embed steps|audit|run|list\n");
+    unsigned char *bytes = read_input(command != NULL ? MOST_BYTES : SIZE_MAX, &length);
+    int status = command != NULL ? answer(command, bytes, length) : steps((char *)bytes);
     free(bytes);
     if (fflush(stdout) != 0 || ferror(stdout)) {
         fprintf(stderr, "embed: standard output can't be written\n");

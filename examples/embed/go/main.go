@@ -11,8 +11,10 @@ import (
 	"fmt"
 	"io"
 	"os"
+	"os/signal"
 	"strconv"
 	"strings"
+	"syscall"
 )
 
 var rulings = map[Ruling]string{NotOpen: "not open", WrongShape: "wrong shape", NoProof: "no proof", WrongLength: "wrong length"}
@@ -43,6 +45,8 @@ const (
 	usage      = 2
 	readFault  = 5
 	writeFault = 6
+	// One byte more than a command takes shows that there are too many.
+	mostBytes = 16777217
 )
 
 func fail(status int, why ...any) {
@@ -61,14 +65,24 @@ func main() {
 	if len(os.Args) != 2 || (os.Args[1] != "steps" && commands[os.Args[1]] == nil) {
 		fail(usage, "steps|audit|run|list")
 	}
-	input, err := io.ReadAll(os.Stdin)
+	// A reader that has gone makes a write fail, and doesn't end the program.
+	signal.Ignore(syscall.SIGPIPE)
+	command := commands[os.Args[1]]
+	var source io.Reader = os.Stdin
+	if command != nil {
+		source = io.LimitReader(os.Stdin, mostBytes)
+	}
+	input, err := io.ReadAll(source)
 	if err != nil {
 		fail(readFault, err)
 	}
-	if command := commands[os.Args[1]]; command != nil {
+	if command != nil {
 		status, text := command(input)
 		write(text)
 		os.Exit(status)
+	}
+	if len(input) == 0 {
+		return
 	}
 	for _, line := range strings.Split(strings.TrimSuffix(string(input), "\n"), "\n") {
 		ruling, err := rulingOn(line)

@@ -3,10 +3,12 @@
 //!     embed steps              lines VERSION ROOT PROOF, in hexadecimal: a line for each, such as `leads ROOT`
 //!     embed audit|run|list     as the commands of refcli, with their statuses
 //!
-//! As refcli's, its status is 5 if standard input can't be read, and 6 if standard output can't be written.
+//! As refcli's, its status is 5 if standard input can't be read, and 6 if standard output can't be written; but Rust takes one that is closed,
+//! or open the wrong way, for an empty input, and for an output that takes everything.
 mod coshalit;
 
 use coshalit::{Command, Ruling, answer, check_step};
+use std::ffi::OsString;
 use std::fmt::{Display, Write as _};
 use std::io::{self, Read, Write};
 use std::process::ExitCode;
@@ -14,6 +16,9 @@ use std::process::ExitCode;
 const USAGE: u8 = 2;
 const READ_FAULT: u8 = 5;
 const WRITE_FAULT: u8 = 6;
+
+/// One byte more than a command takes shows that there are too many.
+const MOST_BYTES: u64 = 16_777_217;
 
 /// The bytes of a word of hexadecimal digits.
 fn bytes_of(word: &str) -> Option<Vec<u8>> {
@@ -66,16 +71,17 @@ fn carry_out(command: Command, input: &[u8]) -> io::Result<ExitCode> {
 }
 
 fn main() -> ExitCode {
-    let words: Vec<String> = std::env::args().skip(1).collect();
-    let command = match words.iter().map(String::as_str).collect::<Vec<_>>()[..] {
-        ["steps"] => None,
-        ["audit"] => Some(Command::Audit),
-        ["run"] => Some(Command::Run),
-        ["list"] => Some(Command::List),
+    let words: Vec<OsString> = std::env::args_os().skip(1).collect();
+    let command = match words.iter().map(|word| word.to_str()).collect::<Vec<_>>()[..] {
+        [Some("steps")] => None,
+        [Some("audit")] => Some(Command::Audit),
+        [Some("run")] => Some(Command::Run),
+        [Some("list")] => Some(Command::List),
         _ => return fail(USAGE, "steps|audit|run|list"),
     };
     let mut input = Vec::new();
-    if let Err(why) = io::stdin().read_to_end(&mut input) {
+    let most = command.map_or(u64::MAX, |_| MOST_BYTES);
+    if let Err(why) = io::stdin().take(most).read_to_end(&mut input) {
         return fail(READ_FAULT, why);
     }
     let written = match command {
