@@ -17,10 +17,7 @@ mod prover;
 mod tape;
 mod tasks;
 
-pub use case::{
-    Case, Format, MAX_BOUND, MAX_FAN, MAX_PATIENCE, MAX_PROVERS, MAX_STAKE, MAX_TASKS, MAX_VERSION,
-    MIN_FAN, MIN_VERSION, Tasks,
-};
+pub use case::{Case, Format, Tasks};
 pub use fault::{CaseFault, Key, TaskFault};
 pub use laws::{
     cases_are_read_as_one_task, no_fault_of_a_case_is_out_of_memory,

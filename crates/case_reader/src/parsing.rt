@@ -7,14 +7,14 @@ ghost use Rattle.case_reader.specs.Fields.{has_tasks, text_in, format_in, image_
 ghost use Rattle.case_reader.specs.Case.{case_of, case_at, tree_of, data_of};
 ghost use Rattle.case_reader.specs.declared.fault.CaseFault.TheVariants.{NotJson};
 
-use crate::case::{
-    Case, Format, MAX_BOUND, MAX_FAN, MAX_PATIENCE, MAX_PROVERS, MAX_STAKE, MAX_VERSION, MIN_FAN,
-    MIN_VERSION,
-};
+use crate::case::{Case, Format};
 use crate::fault::{CaseFault, Key};
 use crate::field::{array_of, bytes_of, number_of, optional_number_of, text_of};
 use crate::prover::scripts_of;
-use rd_base::{Bytes, MAX_INPUT_BYTES};
+use rd_base::{
+    Bytes, MAX_BOUND, MAX_FAN, MAX_INPUT_BYTES, MAX_PATIENCE, MAX_PROVERS, MAX_STAKE, MAX_VERSION,
+    MIN_FAN, MIN_VERSION,
+};
 use serde_json::Value;
 use std::alloc::Global;
 

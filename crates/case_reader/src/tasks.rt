@@ -6,10 +6,11 @@ ghost use Rattle.case_reader.specs.Case.{case_of, data_of};
 ghost use Rattle.case_reader.specs.Tasks.{tasks_in, cases_in, many_of, one_of, tasks_at, tasks_data, AreFew};
 ghost use Rattle.case_reader.specs.declared.fault.TaskFault.TheVariants.{Task};
 
-use crate::case::{Case, MAX_TASKS, Tasks};
+use crate::case::{Case, Tasks};
 use crate::fault::{CaseFault, Key, TaskFault};
 use crate::field::array_of;
 use crate::parsing::{case_of_tree, has_tasks, tree_of_bytes};
+use rd_base::MAX_TASKS;
 use serde_json::Value;
 use std::alloc::Global;
 

@@ -3,6 +3,9 @@ use Rattle.std.proofs.Common.{◌≡◌, ◌≢◌, ℕ, zero, suc, ◌+◌, ◌
 use Rattle.std.specs.Prelude.{slice_index_or}
 use Rattle.std.proofs.lemmas.Bool.{eqb-true, cases_lt, lt-ltb, le-ltb}
 use Rattle.rd_base.specs.Status.{is_running}
+use Rattle.rd_base.specs.Scheme.{scheme_of}
+use Rattle.rd_base.specs.declared.scheme.InputScheme.{InputScheme}
+use Rattle.rd_base.specs.declared.scheme.InputScheme.TheVariants as input
 use Rattle.rd_base.specs.declared.status.Ctl.{Ctl}
 use Rattle.rd_base.specs.declared.opened.Opening.{Opening}
 use Rattle.rd_base.specs.declared.opened.InOpening.{InOpening}
@@ -16,7 +19,7 @@ use Rattle.merkle_nodes.specs.Opening.{opened}
 use Rattle.mem_tree.specs.Memory.{memory_node}
 use Rattle.rv_step.specs.State.{State}
 use Rattle.rv_step.specs.Effect.{effect_with}
-use Rattle.rv_step.specs.Offer.{byte_or_ones}
+use Rattle.rv_step.specs.Offer.{byte_or_ones, offered}
 use Rattle.rv_step.specs.Step.{step, after_effect, after_word as state_after_word, effect_at}
 use Rattle.rv_step.specs.Parts.{needed_in, finished, Finishes, KeepsMemory, IsAccess, IsAligned}
 use Rattle.rv_step.specs.declared.effect.Effect.{Effect}
@@ -30,7 +33,7 @@ use Rattle.open_proof.specs.Called.{address_needed}
 use Rattle.open_proof.specs.OpenedChunk.{IsShown, IsShownAt, fetched_at, fetch_of_state}
 use Rattle.open_proof.specs.Facts.{needed_by, byte_needed, byte_in, byte_shown, offer_shown}
 use Rattle.open_proof.specs.Next.{after_word, step_held}
-use Rattle.open_proof.specs.Shown.{tree_of, ShowsInput}
+use Rattle.open_proof.specs.Shown.{tree_by, tree_of, ShowsInput}
 use Rattle.open_proof.specs.LawsBelow.{StepLaws}
 use Rattle.open_proof.specs.declared.facts.HeldInput.{HeldInput}
 
@@ -160,26 +163,23 @@ module _ (laws : StepLaws) (digest : List ℕ → List ℕ) where
   held-instr : (operand : Option Opening) (chunk : Option InOpening) (s : State) (i : Instr) → IsShownAt digest s.memory operand (address_needed (needed_by (tree_of digest s) s.regs (Some i)))
       → ShowsInput digest s.input chunk (byte_needed (tree_of digest s) (needed_by (tree_of digest s) s.regs (Some i)))
       → held_after digest operand (held_of digest s) (effect_with (offer_shown (tree_of digest s) chunk) s.regs s.pc (number_shown operand) i) ≡ held_of digest (after_effect s (effect_at s i))
-  held-instr operand chunk s i = go (eqb s.version 3)
+  held-instr operand chunk s i = go (scheme_of s.version).input
     where
       read : ℕ → ℕ → ℕ
       read addr width = number_at s.memory addr width
 
-      tree : Bool → Option HeldInput
-      tree b = cond b (Some (record { len = length s.input; root = record { 0 = input_root digest s.input } })) None
-
-      go : (b : Bool) → IsShownAt digest s.memory operand (address_needed (needed_by (tree b) s.regs (Some i))) → ShowsInput digest s.input chunk (byte_needed (tree b) (needed_by (tree b) s.regs (Some i)))
-          → held_after digest operand (held_of digest s) (effect_with (offer_shown (tree b) chunk) s.regs s.pc (number_shown operand) i)
-          ≡ held_of digest (after_effect s (effect_with (cond b (Some (byte_or_ones s.input)) None) s.regs s.pc read i))
-      go true shown shows =
+      go : (held : InputScheme) → IsShownAt digest s.memory operand (address_needed (needed_by (tree_by digest held s.input) s.regs (Some i))) → ShowsInput digest s.input chunk (byte_needed (tree_by digest held s.input) (needed_by (tree_by digest held s.input) s.regs (Some i)))
+          → held_after digest operand (held_of digest s) (effect_with (offer_shown (tree_by digest held s.input) chunk) s.regs s.pc (number_shown operand) i)
+          ≡ held_of digest (after_effect s (effect_with (offered held (byte_or_ones s.input)) s.regs s.pc read i))
+      go input.Tree shown shows =
           let t : HeldInput = record { len = length s.input; root = record { 0 = input_root digest s.input } } in
-          held-met operand s _ _ (λ loaded. finished s.regs s.pc loaded i) read (byte_or_ones s.input) (byte_shown (Some t) chunk) (needed_in 3 s.regs i) (λ addr width. refl) (laws.aligned 3 s.regs i) shown
+          held-met operand s _ _ (λ loaded. finished s.regs s.pc loaded i) read (byte_or_ones s.input) (byte_shown (Some t) chunk) (needed_in input.Tree s.regs i) (λ addr width. refl) (laws.aligned input.Tree s.regs i) shown
           (λ k is. shown-byte s.input t chunk k refl (subst (λ n. ShowsInput digest s.input chunk (byte_needed (Some t) n)) is shows))
-          (laws.any_offer 3 (byte_or_ones s.input) s.regs s.pc read i) (laws.any_offer 3 (byte_shown (Some t) chunk) s.regs s.pc (number_shown operand) i)
-      go false shown shows =
-          held-met operand s _ _ (λ loaded. finished s.regs s.pc loaded i) read (byte_shown None chunk) (byte_shown None chunk) (needed_in 1 s.regs i) (λ addr width. refl) (laws.aligned 1 s.regs i) shown
+          (laws.any_offer input.Tree (byte_or_ones s.input) s.regs s.pc read i) (laws.any_offer input.Tree (byte_shown (Some t) chunk) s.regs s.pc (number_shown operand) i)
+      go input.InMemory shown shows =
+          held-met operand s _ _ (λ loaded. finished s.regs s.pc loaded i) read (byte_shown None chunk) (byte_shown None chunk) (needed_in input.InMemory s.regs i) (λ addr width. refl) (laws.aligned input.InMemory s.regs i) shown
           (λ k is. refl)
-          (laws.any_offer 1 (byte_shown None chunk) s.regs s.pc read i) (laws.any_offer 1 (byte_shown None chunk) s.regs s.pc (number_shown operand) i)
+          (laws.any_offer input.InMemory (byte_shown None chunk) s.regs s.pc read i) (laws.any_offer input.InMemory (byte_shown None chunk) s.regs s.pc (number_shown operand) i)
 
   held-word : (operand : Option Opening) (chunk : Option InOpening) (s : State) (o : Option Instr) → IsShownAt digest s.memory operand (address_needed (needed_by (tree_of digest s) s.regs o))
       → ShowsInput digest s.input chunk (byte_needed (tree_of digest s) (needed_by (tree_of digest s) s.regs o))

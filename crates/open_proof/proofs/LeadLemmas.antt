@@ -1,8 +1,11 @@
 -- The step on what is shown of a state leads to the root of the next state: where registers are opened, by the step from the state
 -- whose unnamed registers are 0.
-use Rattle.std.proofs.Common.{◌≡◌, ◌≢◌, ℕ, ◌%◌, List, [], map, length, Option, Some, None, eqb, cond, Bool, true, false, ◌&&◌, refl, sym, ap, subst, ◌∙◌}
-use Rattle.std.proofs.lemmas.Bool.{eq-eqb, ne_eqb}
+use Rattle.std.proofs.Common.{◌≡◌, ℕ, ◌%◌, List, [], map, length, Option, Some, None, eqb, cond, Bool, true, false, ◌&&◌, refl, sym, ap, subst, ◌∙◌}
 use Rattle.rd_base.specs.Status.{is_running}
+use Rattle.rd_base.specs.Scheme.{scheme_of}
+use Rattle.rd_base.specs.declared.scheme.InputScheme.{InputScheme}
+use Rattle.rd_base.specs.declared.scheme.InputScheme.TheVariants as input
+use Rattle.rd_base.specs.declared.scheme.RegisterScheme.TheVariants as registers
 use Rattle.rd_base.specs.declared.digest.Digest32.{Digest32}
 use Rattle.rd_base.specs.declared.opened.RegOpening.{RegOpening}
 use Rattle.rv_decode.specs.Reading.{reading_of}
@@ -19,7 +22,7 @@ use Rattle.rv_step.specs.State.{State}
 use Rattle.rv_step.specs.Step.{step}
 use Rattle.rv_step.specs.Valid.{IsValid}
 use Rattle.rv_step.specs.Fetching.{fetch_address, fetched_in}
-use Rattle.state_commit.specs.StateRoot.{ctl_of, memory_digest, storage_digest, root_in}
+use Rattle.state_commit.specs.StateRoot.{ctl_of, memory_digest, registers_by, storage_by, storage_digest, root_in}
 use Rattle.mem_tree.specs.InputTree.{input_root}
 use Rattle.mem_tree.specs.RegisterTree.{registers_root}
 use Rattle.open_proof.specs.Held.{held_of}
@@ -27,7 +30,7 @@ use Rattle.open_proof.specs.Called.{address_needed}
 use Rattle.open_proof.specs.OpenedChunk.{IsShownAt, fetched_at, fetch_of_state}
 use Rattle.open_proof.specs.Facts.{fetched, named_called, file_of, values_of, file_shown, file_of_facts, needed_by, byte_needed, offer_shown}
 use Rattle.open_proof.specs.Next.{step_held, storage_held, root_changed, held_shown, held_next, root_of_next, root_next}
-use Rattle.open_proof.specs.Shown.{tree_of, word_of_state, needed_of_state, AreShown, ShowsRegisters, ShowsInput, ShowsState}
+use Rattle.open_proof.specs.Shown.{tree_by, tree_of, word_of_state, needed_of_state, AreShown, ShowsRegisters, ShowsInput, ShowsState}
 use Rattle.open_proof.specs.LawsBelow.{StepLaws, RegisterLaws, TreeLaws}
 use Rattle.open_proof.specs.declared.facts.Facts.{Facts}
 use Rattle.open_proof.specs.declared.facts.HeldInput.{HeldInput}
@@ -48,17 +51,16 @@ named-fetched digest s = go (is_running s.status) (eqb (s.pc % 4) 0)
 -- what an instruction needs depends on the registers that it names alone
 need-alike : RegisterLaws → (tree : Option HeldInput) (xs ys : List ℕ) (o : Option Instr) → x xs 0 ≡ x ys 0 → map (x xs) (named_by o) ≡ map (x ys) (named_by o) → needed_by tree xs o ≡ needed_by tree ys o
 need-alike laws tree xs ys None zeros same = refl
-need-alike laws (Some t) xs ys (Some i) zeros same = laws.needed 3 xs ys i zeros same
-need-alike laws None xs ys (Some i) zeros same = laws.needed 1 xs ys i zeros same
+need-alike laws (Some t) xs ys (Some i) zeros same = laws.needed input.Tree xs ys i zeros same
+need-alike laws None xs ys (Some i) zeros same = laws.needed input.InMemory xs ys i zeros same
 
 -- what is stored, where the input is held as the state has it
 pub storage-same : (digest : List ℕ → List ℕ) (s t : State) → t.input ≡ s.input → storage_held digest (tree_of digest s) (memory_digest digest t) ≡ storage_digest digest s.version t
-storage-same digest s t input = go (eqb s.version 3)
+storage-same digest s t same = go (scheme_of s.version).input
   where
-    go : (b : Bool) → storage_held digest (cond b (Some (record { len = length s.input; root = record { 0 = input_root digest s.input } })) None) (memory_digest digest t)
-        ≡ cond b (digest (storage_text (memory_digest digest t) (length t.input) (input_root digest t.input))) (memory_digest digest t)
-    go true = ap (λ xs. digest (storage_text (memory_digest digest t) (length xs) (input_root digest xs))) (sym input)
-    go false = refl
+    go : (held : InputScheme) → storage_held digest (tree_by digest held s.input) (memory_digest digest t) ≡ storage_by digest held (memory_digest digest t) (length t.input) (input_root digest t.input)
+    go input.Tree = ap (λ xs. digest (storage_text (memory_digest digest t) (length xs) (input_root digest xs))) (sym same)
+    go input.InMemory = refl
 
 -- what a proof shows is a state's: first the instruction, then the file
 module _ (steps : StepLaws) (laws : RegisterLaws) (trees : TreeLaws) (digest : List ℕ → List ℕ) (s : State) (valid : IsValid s) where
@@ -91,7 +93,7 @@ module _ (steps : StepLaws) (laws : RegisterLaws) (trees : TreeLaws) (digest : L
     need-shown = need-alike laws (tree_of digest s) file s.regs (word_of_state digest s) zeros (subst (λ l. map (x file) l ≡ map (x s.regs) l) (sym (named-fetched digest s)) named-same)
 
   -- the root after the step, where all registers are held
-  whole-leads : (facts : Facts) → ShowsState digest facts s → (xs : List ℕ) → facts.regs ≡ Whole xs → s.version ≡ 1 → xs ≡ s.regs → root_next digest facts ≡ root_in digest s.version (step s)
+  whole-leads : (facts : Facts) → ShowsState digest facts s → (xs : List ℕ) → facts.regs ≡ Whole xs → (scheme_of s.version).registers ≡ registers.Whole → xs ≡ s.regs → root_next digest facts ≡ root_in digest s.version (step s)
   whole-leads facts shows xs whole version same =
       let names = named_called facts in
       let file : file_of_facts facts ≡ s.regs = ap (file_shown names) whole ∙ same in
@@ -104,10 +106,10 @@ module _ (steps : StepLaws) (laws : RegisterLaws) (trees : TreeLaws) (digest : L
       ∙ (ap (λ (t : Option HeldInput). root_of_next digest t names facts.regs (file_of_facts facts) (held_of digest (step s))) shows.tree
       ∙ (ap (λ (r : HeldRegisters). root_of_next digest (tree_of digest s) names r (file_of_facts facts) (held_of digest (step s))) whole
       ∙ (ap (λ m. digest (parts_text digest m (digest (registers_text (step s).regs)) (ctl_of digest (step s)))) (storage-same digest s (step s) (laws.input s))
-      ∙ ap (λ b. digest (parts_text digest (storage_digest digest s.version (step s)) (cond b (digest (registers_text (step s).regs)) (registers_root digest (step s).regs)) (ctl_of digest (step s)))) (sym (eq-eqb s.version 1 version)))))
+      ∙ ap (λ h. digest (parts_text digest (storage_digest digest s.version (step s)) (registers_by digest h (step s).regs) (ctl_of digest (step s)))) (sym version))))
 
   -- and where they are opened
-  opened-leads : (facts : Facts) → ShowsState digest facts s → (root : Digest32) (os : List RegOpening) → facts.regs ≡ Opened root os → s.version ≢ 1 → root.0 ≡ registers_root digest s.regs → AreShown digest s.regs (named_at s) os
+  opened-leads : (facts : Facts) → ShowsState digest facts s → (root : Digest32) (os : List RegOpening) → facts.regs ≡ Opened root os → (scheme_of s.version).registers ≡ registers.Tree → root.0 ≡ registers_root digest s.regs → AreShown digest s.regs (named_at s) os
       → root_next digest facts ≡ root_in digest s.version (step s)
   opened-leads facts shows root os opened version is_root shown =
       let rs = named_at s in
@@ -139,7 +141,7 @@ module _ (steps : StepLaws) (laws : RegisterLaws) (trees : TreeLaws) (digest : L
       ∙ (ap (λ m. digest (parts_text digest (storage_held digest (tree_of digest s) (node digest (memory_leaf m) 27 0)) (registers_root digest (step s).regs) (ctl_of digest (step s')))) t.memory
       ∙ (ap (λ m. digest (parts_text digest m (registers_root digest (step s).regs) (ctl_of digest (step s')))) (storage-same digest s (step s) (laws.input s))
       ∙ (ap (λ c. digest (parts_text digest (storage_digest digest s.version (step s)) (registers_root digest (step s).regs) c)) ctl
-      ∙ ap (λ b. digest (parts_text digest (storage_digest digest s.version (step s)) (cond b (digest (registers_text (step s).regs)) (registers_root digest (step s).regs)) (ctl_of digest (step s)))) (sym (ne_eqb s.version 1 version))))))))))
+      ∙ ap (λ h. digest (parts_text digest (storage_digest digest s.version (step s)) (registers_by digest h (step s).regs) (ctl_of digest (step s)))) (sym version)))))))))
 
   pub shown-leads : (facts : Facts) → ShowsState digest facts s → root_next digest facts ≡ root_in digest s.version (step s)
   shown-leads facts shows = go facts.regs refl shows.regs

@@ -1,9 +1,14 @@
 -- A proof that leads from the root of a state shows the state, or a string that it opens and a different string of the state have one
 -- digest; and the plain proof shows the state.
-use Rattle.std.proofs.Common.{◌≡◌, ◌≢◌, ℕ, ◌/◌, ◌^◌, ◌<◌, ◌≤◌, ◌⊎◌, inl, inr, List, [], ◌∷◌, map, length, Option, Some, None, is_some, eqb, ltb, cond, Bool, true, false, Contains, refl, sym, ap, subst, ◌∙◌, arith, ⊎_elim}
+use Rattle.std.proofs.Common.{◌≡◌, ◌≢◌, ℕ, zero, suc, ◌/◌, ◌^◌, ◌<◌, ◌≤◌, ◌⊎◌, inl, inr, List, [], ◌∷◌, map, length, Option, Some, None, is_some, eqb, ltb, cond, Bool, true, false, Contains, refl, sym, ap, subst, ◌∙◌, arith, ⊎_elim}
 use Rattle.std.proofs.lemmas.Bool.{cases_eq, eq-eqb, ne_eqb, eqb-true, eqb-false, ltb-true}
 use Rattle.std.proofs.lemmas.List.Elements.{Contains-append_left, Contains-append_right}
 use Rattle.std.proofs.lemmas.List.FromFn.{get_or-map-range_with_len}
+use Rattle.rd_base.specs.Scheme.{scheme_of}
+use Rattle.rd_base.specs.declared.scheme.InputScheme.{InputScheme}
+use Rattle.rd_base.specs.declared.scheme.InputScheme.TheVariants as input
+use Rattle.rd_base.specs.declared.scheme.RegisterScheme.{RegisterScheme}
+use Rattle.rd_base.specs.declared.scheme.RegisterScheme.TheVariants as registers
 use Rattle.rd_base.specs.declared.status.Ctl.{Ctl}
 use Rattle.rd_base.specs.declared.digest.Digest32.{Digest32}
 use Rattle.rd_base.specs.declared.proof.Proof.{Proof}
@@ -23,11 +28,12 @@ use Rattle.rv_step.specs.Named.{named_by}
 use Rattle.rv_step.specs.Parts.{needed_in, IsAligned}
 use Rattle.rv_step.specs.State.{State}
 use Rattle.rv_step.specs.Step.{step}
-use Rattle.rv_step.specs.Valid.{IsValid, HasWordCode}
+use Rattle.rd_base.specs.Status.{HasWordCode}
+use Rattle.rv_step.specs.Valid.{IsValid}
 use Rattle.rv_step.specs.declared.asked.Need.{Need}
 use Rattle.rv_step.specs.declared.asked.Need.TheVariants as need
 use Rattle.rv_step.specs.Fetching.{fetch_address}
-use Rattle.state_commit.specs.StateRoot.{ctl_of, memory_digest, registers_digest, storage_of, storage_digest, state_text_in, root_in}
+use Rattle.state_commit.specs.StateRoot.{ctl_of, memory_digest, registers_by, registers_digest, storage_of, storage_by, storage_digest, state_text_in, root_in}
 use Rattle.state_commit.specs.Strings.{IsStringIn}
 use Rattle.state_commit.specs.Strings.IsStringIn.{is_state, is_control, is_memory, is_registers, is_register, is_storage, is_input}
 use Rattle.mem_tree.specs.RegisterTree.{register_leaf, register_node, registers_root}
@@ -35,13 +41,13 @@ use Rattle.mem_tree.specs.InputTree.{input_node, input_root}
 use Rattle.open_proof.specs.Called.{address_needed}
 use Rattle.open_proof.specs.OpenedChunk.{IsShownAt, opening_at, siblings_of, fetch_of_state}
 use Rattle.open_proof.specs.Conditions.{AllHold, LeadsFrom, conditions}
-use Rattle.open_proof.specs.Facts.{facts_of, fetched, named_called, values_of, file_of, file_shown, file_of_facts, needed_by, needed_of, operand_called, byte_needed, input_called, offering}
+use Rattle.open_proof.specs.Facts.{facts_of, proof_of, fetched, named_called, values_of, file_of, file_shown, file_of_facts, needed_by, needed_of, operand_called, byte_needed, input_called, offering}
 use Rattle.open_proof.specs.InRange.{is_in_range}
 use Rattle.open_proof.specs.Next.{storage_texts, storage_held, registers_held, text_before, root_before}
 use Rattle.open_proof.specs.Openings.{AreCounted, fetch_ways, named_ways, operand_ways, read_ways, register_ways, input_ways}
-use Rattle.open_proof.specs.PlainProof.{register_siblings, register_opening, input_siblings, input_opening_at, plain_proof, plain_proof_1, plain_proof_2, plain_proof_3}
+use Rattle.open_proof.specs.PlainProof.{register_siblings, register_opening, input_siblings, input_opening_at, registers_opened, plain_facts, plain_proof}
 use Rattle.open_proof.specs.RangeLaws.{FactsRange, TreeRange, RegistersRange, facts-range}
-use Rattle.open_proof.specs.Shown.{tree_of, word_of_state, needed_of_state, operand_of_state, input_of_state, AreShown, ShowsRegisters, ShowsInput, ShowsState}
+use Rattle.open_proof.specs.Shown.{tree_by, tree_of, word_of_state, needed_of_state, operand_of_state, input_of_state, AreShown, ShowsRegisters, ShowsInput, ShowsState}
 use Rattle.open_proof.specs.StateCollision.{IsStateCollision}
 use Rattle.open_proof.specs.Strings.{registers_texts, part_texts, opened_by_facts}
 use Rattle.open_proof.specs.Ways.{WaysOpen, ways_texts}
@@ -56,17 +62,17 @@ use Rattle.open_proof.proofs.WayLemmas.{IsLowAt, same-or-split, node-size, chunk
 
 -- a proof holds registers and input as its version has them
 abbrev HeldAs : ℕ → HeldRegisters → Type 0
-HeldAs version (Whole xs) = version ≡ 1
-HeldAs version (Opened root named) = version ≢ 1
+HeldAs version (Whole xs) = (scheme_of version).registers ≡ registers.Whole
+HeldAs version (Opened root named) = (scheme_of version).registers ≡ registers.Tree
 
 abbrev TreeAs : ℕ → Option HeldInput → Type 0
-TreeAs version (Some t) = version ≡ 3
-TreeAs version None = version ≢ 3
+TreeAs version (Some t) = (scheme_of version).input ≡ input.Tree
+TreeAs version None = (scheme_of version).input ≡ input.InMemory
 
 held-as : (proof : Proof) → HeldAs (facts_of proof).version (facts_of proof).regs × TreeAs (facts_of proof).version (facts_of proof).input_tree
-held-as (V1 p) = (refl, λ e. absurd (omega arith))
-held-as (V2 p) = (λ e. absurd (omega arith), λ e. absurd (omega arith))
-held-as (V3 p) = (λ e. absurd (omega arith), refl)
+held-as (V1 p) = (refl, refl)
+held-as (V2 p) = (refl, refl)
+held-as (V3 p) = (refl, refl)
 
 -- what is needed is below 2^32, and a byte that is needed one of the input's
 low-needed : (n : Need) → IsAligned n → IsLowAt (2 ^ 32) (address_needed n)
@@ -106,13 +112,13 @@ code-of (Trapped code) word = word
 
 -- the tree of a state, as its version has it
 tree-is : (digest : List ℕ → List ℕ) (s : State) (t : HeldInput) → tree_of digest s ≡ Some t → (t.len ≡ length s.input) × (t.root.0 ≡ input_root digest s.input)
-tree-is digest s t = go (eqb s.version 3)
+tree-is digest s t = go (scheme_of s.version).input
   where
-    go : (b : Bool) → cond b (Some (record { len = length s.input; root = record { 0 = input_root digest s.input } })) None ≡ Some t → (t.len ≡ length s.input) × (t.root.0 ≡ input_root digest s.input)
-    go true is =
+    go : (held : InputScheme) → tree_by digest held s.input ≡ Some t → (t.len ≡ length s.input) × (t.root.0 ≡ input_root digest s.input)
+    go input.Tree is =
         let same : record { len = length s.input; root = record { 0 = input_root digest s.input } } ≡ t = cc in
         (ap (λ (h : HeldInput). h.len) (sym same), ap (λ (h : HeldInput). h.root.0) (sym same))
-    go false is = absurd cc
+    go input.InMemory is = absurd cc
 
 -- the strings of the parts are among those that are opened
 module _ (digest : List ℕ → List ℕ) (f : Facts) (x : List ℕ) where
@@ -147,8 +153,20 @@ module _ (digest : List ℕ → List ℕ) (f : Facts) (x : List ℕ) where
   among-control : Contains (control_text_of f.ctl ∷ []) x → Contains (opened_by_facts digest f) x
   among-control among = among-part (contains-tail x (text_before digest f) _ (Contains-append_right (storage_texts f.input_tree f.mem.0) _ x (Contains-append_right (registers_texts f.regs) _ x among)))
 
-two-left : (v : ℕ) → 1 ≤ v → v ≤ 3 → v ≢ 1 → v ≢ 3 → 2 ≡ v
-two-left v low high not apart = ⊎_elim (λ one. absurd (not one)) (λ more. ⊎_elim (λ three. absurd (apart three)) (λ other. omega arith) (cases_eq v 3)) (cases_eq v 1)
+-- the proof that has a state's parts holds them
+pub plain-holds : (digest : List ℕ → List ℕ) (s : State) → IsValid s → facts_of (plain_proof digest s) ≡ plain_facts digest s
+unfolding plain_proof
+plain-holds digest s valid = go s.version valid.version.0 valid.version.1
+  where
+    by : ℕ → Facts
+    by v = plain_facts digest (record s { version = v })
+
+    go : (v : ℕ) → 1 ≤ v → v ≤ 3 → facts_of (proof_of (by v)) ≡ by v
+    go zero low high = absurd (omega arith)
+    go (suc zero) low high = refl
+    go (suc (suc zero)) low high = refl
+    go (suc (suc (suc zero))) low high = refl
+    go (suc (suc (suc (suc v)))) low high = absurd (omega arith)
 
 module _ (steps : StepLaws) (laws : RegisterLaws) (trees : TreeLaws) (digest : List ℕ → List ℕ) (s : State) (valid : IsValid s) where
   -- what the instruction needs is what the state's needs
@@ -179,8 +197,8 @@ module _ (steps : StepLaws) (laws : RegisterLaws) (trees : TreeLaws) (digest : L
     pub input : is_some f.input ≡ is_some (input_of_state digest s)
 
   registers-shown : (regs : HeldRegisters) → ShowsRegisters digest s regs → registers_held digest regs ≡ registers_digest digest s.version s.regs
-  registers-shown (Whole xs) shows = ap (λ l. digest (registers_text l)) shows.1 ∙ ap (λ b. cond b (digest (registers_text s.regs)) (registers_root digest s.regs)) (sym (eq-eqb s.version 1 shows.0))
-  registers-shown (Opened root os) shows = shows.1 ∙ ap (λ b. cond b (digest (registers_text s.regs)) (registers_root digest s.regs)) (sym (ne_eqb s.version 1 shows.0))
+  registers-shown (Whole xs) shows = ap (λ l. digest (registers_text l)) shows.1 ∙ ap (λ h. registers_by digest h s.regs) (sym shows.0)
+  registers-shown (Opened root os) shows = shows.1 ∙ ap (λ h. registers_by digest h s.regs) (sym shows.0)
 
   named-open : (names : List ℕ) (regs : HeldRegisters) → names ≡ named_at s → ShowsRegisters digest s regs → WaysOpen digest (register_ways names regs)
   named-open names (Whole xs) is shows = tt
@@ -275,51 +293,36 @@ module _ (steps : StepLaws) (laws : RegisterLaws) (trees : TreeLaws) (digest : L
   input-shape (Some k) = refl
   input-shape None = refl
 
-  -- a version below 3 reads no byte of the input
-  no-tree : s.version ≢ 3 → None ≡ tree_of digest s
-  no-tree apart = ap (λ b. cond b (Some (record { len = length s.input; root = record { 0 = input_root digest s.input } })) None) (sym (ne_eqb s.version 3 apart))
+  plain-registers : (held : RegisterScheme) → (scheme_of s.version).registers ≡ held → ShowsRegisters digest s (registers_opened digest held s.regs (named_at s))
+  plain-registers registers.Whole is = (is, refl)
+  plain-registers registers.Tree is = (is, refl, plain-named (named_at s))
 
-  no-byte : s.version ≢ 3 → input_of_state digest s ≡ None
-  no-byte apart = ap (λ (t : Option HeldInput). byte_needed t (needed_of_state digest s)) (sym (no-tree apart))
+  registers-shape : (held : RegisterScheme) → AreCounted (named_at s) (registers_opened digest held s.regs (named_at s))
+  registers-shape registers.Whole = tt
+  registers-shape registers.Tree = plain-count (named_at s)
 
-  the-tree : s.version ≡ 3 → Some (record { len = length s.input; root = record { 0 = input_root digest s.input } }) ≡ tree_of digest s
-  the-tree is = ap (λ b. cond b (Some (record { len = length s.input; root = record { 0 = input_root digest s.input } })) None) (sym (eq-eqb s.version 3 is))
-
-  abbrev IsPlain : Proof → Type 0
-  IsPlain proof = ShowsState digest (facts_of proof) s × IsShaped (facts_of proof)
+  facts-show : ShowsState digest (plain_facts digest s) s × IsShaped (plain_facts digest s)
+  facts-show = (
+    record {
+      mem = refl;
+      tree = refl;
+      ctl = refl;
+      fetch = plain-chunk (fetch_of_state digest s);
+      regs = plain-registers (scheme_of s.version).registers refl;
+      operand = plain-chunk (operand_of_state digest s);
+      input = plain-input (input_of_state digest s);
+    },
+    record {
+      version = refl;
+      fetch = chunk-shape (fetch_of_state digest s);
+      counted = registers-shape (scheme_of s.version).registers;
+      operand = chunk-shape (operand_of_state digest s);
+      input = input-shape (input_of_state digest s);
+    },
+  )
 
   pub plain-shows : ShowsState digest (facts_of (plain_proof digest s)) s × IsShaped (facts_of (plain_proof digest s))
-  unfolding plain_proof
-  plain-shows = go (eqb s.version 1) (eqb s.version 3) refl refl
-    where
-      first : s.version ≡ 1 → IsPlain (V1 (plain_proof_1 digest s))
-      first is =
-          let apart : s.version ≢ 3 = λ e. absurd (omega arith) in (
-            record { mem = refl; tree = no-tree apart; ctl = refl; fetch = plain-chunk (fetch_of_state digest s); regs = (is, refl); operand = plain-chunk (operand_of_state digest s); input = subst (ShowsInput digest s.input None) (sym (no-byte apart)) tt },
-            record { version = sym is; fetch = chunk-shape (fetch_of_state digest s); counted = tt; operand = chunk-shape (operand_of_state digest s); input = ap is_some (sym (no-byte apart)) },
-          )
-
-      second : s.version ≢ 1 → s.version ≢ 3 → IsPlain (V2 (plain_proof_2 digest s))
-      second not apart =
-          let version = valid.version in
-          let low = version.0 in
-          let high = version.1 in
-          let two : 2 ≡ s.version = two-left s.version low high not apart in (
-            record { mem = refl; tree = no-tree apart; ctl = refl; fetch = plain-chunk (fetch_of_state digest s); regs = (not, refl, plain-named (named_at s)); operand = plain-chunk (operand_of_state digest s); input = subst (ShowsInput digest s.input None) (sym (no-byte apart)) tt },
-            record { version = two; fetch = chunk-shape (fetch_of_state digest s); counted = plain-count (named_at s); operand = chunk-shape (operand_of_state digest s); input = ap is_some (sym (no-byte apart)) },
-          )
-
-      third : s.version ≡ 3 → IsPlain (V3 (plain_proof_3 digest s))
-      third is =
-          let not : s.version ≢ 1 = λ e. absurd (omega arith) in (
-            record { mem = refl; tree = the-tree is; ctl = refl; fetch = plain-chunk (fetch_of_state digest s); regs = (not, refl, plain-named (named_at s)); operand = plain-chunk (operand_of_state digest s); input = plain-input (input_of_state digest s) },
-            record { version = sym is; fetch = chunk-shape (fetch_of_state digest s); counted = plain-count (named_at s); operand = chunk-shape (operand_of_state digest s); input = input-shape (input_of_state digest s) },
-          )
-
-      go : (one three : Bool) → eqb s.version 1 ≡ one → eqb s.version 3 ≡ three → IsPlain (cond one (V1 (plain_proof_1 digest s)) (cond three (V3 (plain_proof_3 digest s)) (V2 (plain_proof_2 digest s))))
-      go true three one_is three_is = first (eqb-true s.version 1 one_is)
-      go false true one_is three_is = third (eqb-true s.version 3 three_is)
-      go false false one_is three_is = second (eqb-false s.version 1 one_is) (eqb-false s.version 3 three_is)
+  plain-shows = subst (λ (f : Facts). ShowsState digest f s × IsShaped f) (sym (plain-holds digest s valid)) facts-show
 
   pub plain-leads : (a b : Digest32) → a.0 ≡ root_in digest s.version s → b.0 ≡ root_in digest s.version (step s) → LeadsFrom digest s.version a (facts_of (plain_proof digest s)) b
   plain-leads a b start end =
@@ -337,17 +340,13 @@ module _ (steps : StepLaws) (laws : RegisterLaws) (trees : TreeLaws) (digest : L
   memory-size : length (memory_digest digest s) ≡ 32
   memory-size = node-size trees digest is_digest (memory_leaf s.memory) 27 0
 
-  storage-size : (version : ℕ) → length (storage_digest digest version s) ≡ 32
-  storage-size version = elim (eqb version 3) as (λ b. length (cond b (digest (storage_of digest s)) (memory_digest digest s)) ≡ 32) [
-    | true ↦ is_digest _
-    | false ↦ memory-size
-  ]
+  storage-size : (held : InputScheme) → length (storage_by digest held (memory_digest digest s) (length s.input) (input_root digest s.input)) ≡ 32
+  storage-size input.Tree = is_digest _
+  storage-size input.InMemory = memory-size
 
-  registers-size : (version : ℕ) → length (registers_digest digest version s.regs) ≡ 32
-  registers-size version = elim (eqb version 1) as (λ b. length (cond b (digest (registers_text s.regs)) (registers_root digest s.regs)) ≡ 32) [
-    | true ↦ is_digest _
-    | false ↦ node-size trees digest is_digest (register_leaf s.regs) 5 0
-  ]
+  registers-size : (held : RegisterScheme) → length (registers_by digest held s.regs) ≡ 32
+  registers-size registers.Whole = is_digest _
+  registers-size registers.Tree = node-size trees digest is_digest (register_leaf s.regs) 5 0
 
   held-storage-size : (tree : Option HeldInput) (mem : List ℕ) → length mem ≡ 32 → length (storage_held digest tree mem) ≡ 32
   held-storage-size (Some t) mem size = is_digest _
@@ -359,16 +358,16 @@ module _ (steps : StepLaws) (laws : RegisterLaws) (trees : TreeLaws) (digest : L
 
   -- the registers, as the parts decide them
   abbrev HasRegisters : HeldRegisters → Type 0
-  HasRegisters (Whole xs) = (s.version ≡ 1) × (xs ≡ s.regs)
-  HasRegisters (Opened root named) = (s.version ≢ 1) × (root.0 ≡ registers_root digest s.regs)
+  HasRegisters (Whole xs) = ((scheme_of s.version).registers ≡ registers.Whole) × (xs ≡ s.regs)
+  HasRegisters (Opened root named) = ((scheme_of s.version).registers ≡ registers.Tree) × (root.0 ≡ registers_root digest s.regs)
 
   registers-or-split : (f : Facts) (regs : HeldRegisters) → f.regs ≡ regs → HeldAs s.version regs → RegistersRange regs → registers_held digest regs ≡ registers_digest digest s.version s.regs → HasRegisters regs ⊎ Collides f
   registers-or-split f (Whole xs) is version range same = ⊎_elim
       (λ text. inl (version, registers_text_same xs s.regs range valid.regs.words text))
       (λ split. inr (collision f _ _ split (among-registers digest f _ (subst (λ (r : HeldRegisters). Contains (registers_texts r) (registers_text xs)) (sym is) (contains-head _ []))) (is_registers version refl)))
-      (same-or-split digest (registers_text xs) (registers_text s.regs) (same ∙ ap (λ b. cond b (digest (registers_text s.regs)) (registers_root digest s.regs)) (eq-eqb s.version 1 version)))
+      (same-or-split digest (registers_text xs) (registers_text s.regs) (same ∙ ap (λ h. registers_by digest h s.regs) version))
   registers-or-split f (Opened root named) is version range same =
-      inl (version, same ∙ ap (λ b. cond b (digest (registers_text s.regs)) (registers_root digest s.regs)) (ne_eqb s.version 1 version))
+      inl (version, same ∙ ap (λ h. registers_by digest h s.regs) version)
 
   -- and what is stored
   abbrev HasStorage : Option HeldInput → List ℕ → Type 0
@@ -386,11 +385,11 @@ module _ (steps : StepLaws) (laws : RegisterLaws) (trees : TreeLaws) (digest : L
       let len = parts.1 in
       let root = parts.2 in
       let one : t ≡ the_tree = λ i. record { len = len i; root = record { 0 = root i } } in
-      inl (parts.0, ap Some one ∙ ap (λ b. cond b (Some the_tree) None) (sym (eq-eqb s.version 3 version))))
+      inl (parts.0, ap Some one ∙ ap (λ h. tree_by digest h s.input) (sym version)))
       (λ split. inr (collision f _ _ split (among-storage digest f _ (subst (λ (o : Option HeldInput). Contains (storage_texts o f.mem.0) (storage_text f.mem.0 t.len t.root.0)) (sym is) (contains-head _ []))) (is_storage version refl)))
-      (same-or-split digest (storage_text f.mem.0 t.len t.root.0) (storage_of digest s) (same ∙ ap (λ b. cond b (digest (storage_of digest s)) (memory_digest digest s)) (eq-eqb s.version 3 version)))
+      (same-or-split digest (storage_text f.mem.0 t.len t.root.0) (storage_of digest s) (same ∙ ap (λ h. storage_by digest h (memory_digest digest s) (length s.input) (input_root digest s.input)) version))
   storage-or-split f None is version range size same =
-      inl (same ∙ ap (λ b. cond b (digest (storage_of digest s)) (memory_digest digest s)) (ne_eqb s.version 3 version), ap (λ b. cond b (Some the_tree) None) (sym (ne_eqb s.version 3 version)))
+      inl (same ∙ ap (λ h. storage_by digest h (memory_digest digest s) (length s.input) (input_root digest s.input)) version, ap (λ h. tree_by digest h s.input) (sym version))
 
   ctl-same : (c d : Ctl) → c.pc ≡ d.pc → c.status ≡ d.status → c.out_len ≡ d.out_len → c.chain.0 ≡ d.chain.0 → c ≡ d
   ctl-same c d pc status out_len chain = λ i. record { pc = pc i; status = status i; out_len = out_len i; chain = record { 0 = chain i } }
@@ -416,7 +415,7 @@ module _ (steps : StepLaws) (laws : RegisterLaws) (trees : TreeLaws) (digest : L
   parts-or-found f held tree range roots = ⊎_elim
       (λ text.
       let parts = state_text_same (storage_held digest f.input_tree f.mem.0) (registers_held digest f.regs) (digest (control_text_of f.ctl)) (storage_digest digest s.version s) (registers_digest digest s.version s.regs) (digest (control_text_of (ctl_of digest s)))
-      (held-storage-size f.input_tree f.mem.0 range.mem ∙ sym (storage-size s.version)) (held-registers-size f.regs range.regs ∙ sym (registers-size s.version)) (cons_parts 4 4 _ _ text).1 in
+      (held-storage-size f.input_tree f.mem.0 range.mem ∙ sym (storage-size (scheme_of s.version).input)) (held-registers-size f.regs range.regs ∙ sym (registers-size (scheme_of s.version).registers)) (cons_parts 4 4 _ _ text).1 in
       ⊎_elim
       (λ storage. ⊎_elim
       (λ registers. ⊎_elim
@@ -447,7 +446,7 @@ module _ (steps : StepLaws) (laws : RegisterLaws) (trees : TreeLaws) (digest : L
   has-tree : (f : Facts) (x : List ℕ) → Contains (ways_texts digest (read_ways f)) x → f.input_tree ≢ None
   has-tree f x among none = in-nothing x (subst (λ (t : Option HeldInput). Contains (ways_texts digest (input_ways t f.input (input_called f))) x) none among)
 
-  version-of : (tree : Option HeldInput) → TreeAs s.version tree → tree ≢ None → s.version ≡ 3
+  version-of : (tree : Option HeldInput) → TreeAs s.version tree → tree ≢ None → (scheme_of s.version).input ≡ input.Tree
   version-of (Some t) held some = held
   version-of None held some = absurd (some refl)
 

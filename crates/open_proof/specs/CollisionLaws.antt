@@ -24,7 +24,7 @@ use Rattle.out_chain.specs.ClaimLaws.{collision-none, collision_of_same, first-c
 use Rattle.rv_step.specs.Fetching.{fetch_address}
 use Rattle.open_proof.specs.Opened.{texts_from}
 use Rattle.open_proof.specs.Conditions.{LeadsFrom}
-use Rattle.open_proof.specs.Facts.{facts_of, named_called, needed_of, operand_called, byte_needed, input_called}
+use Rattle.open_proof.specs.Facts.{facts_of, proof_of, named_called, needed_of, operand_called, byte_needed, input_called}
 use Rattle.open_proof.specs.InRange.{is_in_range}
 use Rattle.open_proof.specs.Next.{storage_texts, storage_held, registers_held, text_before, root_before, root_next}
 use Rattle.open_proof.specs.Openings.{chunk_way, chunk_ways, register_way, each_way, input_way, input_ways, fetch_ways, named_ways, operand_ways, read_ways, AreCounted}
@@ -302,40 +302,14 @@ alike-of (V2 x) (V3 y) same = absurd (omega arith)
 alike-of (V3 x) (V1 y) same = absurd (omega arith)
 alike-of (V3 x) (V2 y) same = absurd (omega arith)
 
--- what is read off a proof
-whole_in : HeldRegisters → List ℕ
-whole_in (Whole xs) = xs
-whole_in (Opened root named) = []
-
-root_in : HeldRegisters → Digest32
-root_in (Whole xs) = record { 0 = [] }
-root_in (Opened root named) = root
-
-named_in : HeldRegisters → List RegOpening
-named_in (Whole xs) = []
-named_in (Opened root named) = named
-
-tree_in : Option HeldInput → HeldInput
-tree_in (Some t) = t
-tree_in None = record { len = 0; root = record { 0 = [] } }
+-- a proof is the one that holds what it holds
+held-again : (x : Proof) → proof_of (facts_of x) ≡ x
+held-again (V1 x) = refl
+held-again (V2 x) = refl
+held-again (V3 x) = refl
 
 proof-same : (x y : Proof) → facts_of x ≡ facts_of y → x ≡ y
-unfolding whole_in root_in named_in tree_in
-proof-same (V1 x) (V1 y) same =
-    let one : x ≡ y = λ i. record { mem = (same i).mem; regs = whole_in (same i).regs; ctl = (same i).ctl; fetch = (same i).fetch; operand = (same i).operand } in
-    ap V1 one
-proof-same (V2 x) (V2 y) same =
-    let one : x ≡ y = λ i. record { mem = (same i).mem; regs = root_in (same i).regs; ctl = (same i).ctl; fetch = (same i).fetch; named = named_in (same i).regs; operand = (same i).operand } in
-    ap V2 one
-proof-same (V3 x) (V3 y) same =
-    let one : x ≡ y = λ i. record { mem = (same i).mem; input_len = (tree_in (same i).input_tree).len; input_root = (tree_in (same i).input_tree).root; regs = root_in (same i).regs; ctl = (same i).ctl; fetch = (same i).fetch; named = named_in (same i).regs; operand = (same i).operand; input = (same i).input } in
-    ap V3 one
-proof-same (V1 x) (V2 y) same = absurd (let version = ap (λ (f : Facts). f.version) same in omega arith)
-proof-same (V1 x) (V3 y) same = absurd (let version = ap (λ (f : Facts). f.version) same in omega arith)
-proof-same (V2 x) (V1 y) same = absurd (let version = ap (λ (f : Facts). f.version) same in omega arith)
-proof-same (V2 x) (V3 y) same = absurd (let version = ap (λ (f : Facts). f.version) same in omega arith)
-proof-same (V3 x) (V1 y) same = absurd (let version = ap (λ (f : Facts). f.version) same in omega arith)
-proof-same (V3 x) (V2 y) same = absurd (let version = ap (λ (f : Facts). f.version) same in omega arith)
+proof-same x y same = sym (held-again x) ∙ (ap proof_of same ∙ held-again y)
 
 opens-true : (digest : List ℕ → List ℕ) (version : ℕ) (a b : Digest32) (f : Facts) → LeadsFrom digest version a f b → opens_in digest version a f ≡ true
 opens-true digest version a b f leads =

@@ -2,6 +2,8 @@
 -- know no version: a version adds how the registers and the input are held.
 use Rattle.std.specs.Prelude.{ℕ, ◌%◌, ◌^◌, ◌-◌, nat_lt, List, ◌∷◌, map, slice_index, Option, Some, None, if◌then◌else◌}
 use Rattle.rd_base.specs.Regs.{no_registers_set, with_register}
+use Rattle.rd_base.specs.declared.scheme.InputScheme.{InputScheme}
+use Rattle.rd_base.specs.declared.scheme.InputScheme.TheVariants as input
 use Rattle.rd_base.specs.declared.opened.InOpening.{InOpening}
 use Rattle.rd_base.specs.declared.opened.RegOpening.{RegOpening}
 use Rattle.rd_base.specs.declared.proof.Proof.{Proof}
@@ -34,6 +36,25 @@ facts_of (V3 p) = record {
   input = p.input;
 }
 
+-- the proof that holds this: by what it holds of registers and input it is of one version
+abbrev pub proof_by : Facts → HeldRegisters → Option HeldInput → Proof
+proof_by f (Whole xs) tree = V1 (record { mem = f.mem; regs = xs; ctl = f.ctl; fetch = f.fetch; operand = f.operand })
+proof_by f (Opened root named) None = V2 (record { mem = f.mem; regs = root; ctl = f.ctl; fetch = f.fetch; named = named; operand = f.operand })
+proof_by f (Opened root named) (Some t) = V3 (record {
+  mem = f.mem;
+  input_len = t.len;
+  input_root = t.root;
+  regs = root;
+  ctl = f.ctl;
+  fetch = f.fetch;
+  named = named;
+  operand = f.operand;
+  input = f.input;
+})
+
+abbrev pub proof_of : Facts → Proof
+proof_of f = proof_by f f.regs f.input_tree
+
 -- the instruction that is fetched, and the registers that it names
 abbrev pub fetched : Facts → Option Instr
 fetched facts = fetched_in facts.fetch (fetch_address facts.ctl)
@@ -57,10 +78,10 @@ file_shown rs (Opened root named) = file_of rs (values_of named)
 abbrev pub file_of_facts : Facts → List ℕ
 file_of_facts facts = file_shown (named_called facts) facts.regs
 
--- the input is offered to the step if it is a tree, as in version 3, and else it isn't, as in version 1
-abbrev pub offering : Option HeldInput → ℕ
-offering (Some t) = 3
-offering None = 1
+-- how the input is held
+abbrev pub offering : Option HeldInput → InputScheme
+offering (Some t) = input.Tree
+offering None = input.InMemory
 
 -- what the instruction needs of memory or of the input
 abbrev pub needed_by : Option HeldInput → List ℕ → Option Instr → Need

@@ -1,5 +1,6 @@
 -- Derived: what the laws of the crates below say of a step, of registers and of trees, gathered for the proofs of this crate.
 use Rattle.std.specs.Prelude.{◌≡◌, ◌≢◌, ℕ, ◌+◌, ◌*◌, ◌/◌, ◌^◌, ◌<◌, ◌≤◌, List, [], ◌∷◌, ◌++◌, map, slice_index, Option}
+use Rattle.rd_base.specs.declared.scheme.InputScheme.{InputScheme}
 use Rattle.rv_decode.specs.declared.instr.Instr.{Instr}
 use Rattle.mem_plain.specs.Contents.{Contents, chunk_at, number_at, with_number}
 use Rattle.mem_plain.specs.Page.{number_in, with_number_in}
@@ -20,9 +21,9 @@ use Rattle.mem_tree.specs.InputTree.{input_chunk}
 
 -- what a step rests on
 pub record StepLaws : Type 0 where
-  pub any_offer : (version : ℕ) (byte : ℕ → ℕ) (xs : List ℕ) (pc : ℕ) (read : ℕ → ℕ → ℕ) (i : Instr)
-      → Finishes (effect_with (offered version byte) xs pc read i) (λ loaded. finished xs pc loaded i) read byte (needed_in version xs i)
-  pub aligned : (version : ℕ) (xs : List ℕ) (i : Instr) → IsAligned (needed_in version xs i)
+  pub any_offer : (input : InputScheme) (byte : ℕ → ℕ) (xs : List ℕ) (pc : ℕ) (read : ℕ → ℕ → ℕ) (i : Instr)
+      → Finishes (effect_with (offered input byte) xs pc read i) (λ loaded. finished xs pc loaded i) read byte (needed_in input xs i)
+  pub aligned : (input : InputScheme) (xs : List ℕ) (i : Instr) → IsAligned (needed_in input xs i)
   pub read : (m : Contents) (index place width : ℕ) → place + width ≤ 32 → number_in (chunk_at m index) place width ≡ number_at m (32 * index + place) width
   pub stored : (m : Contents) (index place width value : ℕ) → place + width ≤ 32
       → with_number_in (chunk_at m index) place width value ≡ chunk_at (with_number m (32 * index + place) width value) index
@@ -38,8 +39,8 @@ pub record StepLaws : Type 0 where
 pub record RegisterLaws : Type 0 where
   pub alike : (xs : List ℕ) (s : State) → Shows xs s → StepAlike xs s (step (with_registers xs s)) (step s)
   pub changes : (s : State) → ChangesNamed s
-  pub needed : (version : ℕ) (xs ys : List ℕ) (i : Instr) → slice_index xs 0 ≡ slice_index ys 0
-      → map (λ r. slice_index xs r) (named i) ≡ map (λ r. slice_index ys r) (named i) → needed_in version xs i ≡ needed_in version ys i
+  pub needed : (input : InputScheme) (xs ys : List ℕ) (i : Instr) → slice_index xs 0 ≡ slice_index ys 0
+      → map (λ r. slice_index xs r) (named i) ≡ map (λ r. slice_index ys r) (named i) → needed_in input xs i ≡ needed_in input ys i
   pub registers : (o : Option Instr) → AreRegisters (named_by o)
   pub version : (s : State) → (step s).version ≡ s.version
   pub input : (s : State) → (step s).input ≡ s.input

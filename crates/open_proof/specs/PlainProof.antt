@@ -1,14 +1,13 @@
 -- To believe: the plain proof of a step in each version, which is the true answer to the question for it.
-use Rattle.std.specs.Prelude.{ℕ, ◌/◌, ◌^◌, ◌==◌, List, map, length, slice_index, Option, Some, None, if◌then◌else◌}
+use Rattle.std.specs.Prelude.{ℕ, ◌/◌, ◌^◌, List, map, slice_index, Option, Some, None}
 use Rattle.std.specs.List.{range_with_len}
 use Rattle.rd_base.specs.declared.digest.Digest32.{Digest32}
+use Rattle.rd_base.specs.Scheme.{scheme_of}
+use Rattle.rd_base.specs.declared.scheme.RegisterScheme.{RegisterScheme}
+use Rattle.rd_base.specs.declared.scheme.RegisterScheme.TheVariants as registers
 use Rattle.rd_base.specs.declared.opened.InOpening.{InOpening}
 use Rattle.rd_base.specs.declared.opened.RegOpening.{RegOpening}
 use Rattle.rd_base.specs.declared.proof.Proof.{Proof}
-use Rattle.rd_base.specs.declared.proof.Proof.TheVariants.{V1, V2, V3}
-use Rattle.rd_base.specs.declared.proof.StepProof.{StepProof}
-use Rattle.rd_base.specs.declared.proof.StepProof2.{StepProof2}
-use Rattle.rd_base.specs.declared.proof.StepProof3.{StepProof3}
 use Rattle.merkle_nodes.specs.Node.{beside}
 use Rattle.rv_step.specs.Alike.{named_at}
 use Rattle.rv_step.specs.State.{State}
@@ -16,7 +15,11 @@ use Rattle.state_commit.specs.StateRoot.{ctl_of, memory_digest}
 use Rattle.mem_tree.specs.RegisterTree.{register_node, registers_root}
 use Rattle.mem_tree.specs.InputTree.{input_chunk, input_node, input_root}
 use Rattle.open_proof.specs.OpenedChunk.{opening_at, fetch_of_state}
-use Rattle.open_proof.specs.Shown.{operand_of_state, input_of_state}
+use Rattle.open_proof.specs.Facts.{proof_of}
+use Rattle.open_proof.specs.Shown.{tree_of, operand_of_state, input_of_state}
+use Rattle.open_proof.specs.declared.facts.Facts.{Facts}
+use Rattle.open_proof.specs.declared.facts.HeldRegisters.{HeldRegisters}
+use Rattle.open_proof.specs.declared.facts.HeldRegisters.TheVariants.{Whole, Opened}
 
 -- the path of a register: the node beside it at each of the levels 0 to 4
 unfoldable pub register_siblings : (List ℕ → List ℕ) → List ℕ → ℕ → List Digest32
@@ -38,41 +41,24 @@ abbrev pub input_opening_at : (List ℕ → List ℕ) → List ℕ → Option �
 input_opening_at digest input (Some k) = Some (input_opening_of digest input k)
 input_opening_at digest input None = None
 
--- the proof that has a state's parts as its version has them, and with their paths exactly the openings that they call for
-abbrev pub plain_proof_1 : (List ℕ → List ℕ) → State → StepProof
-plain_proof_1 digest s = record {
-  mem = record { 0 = memory_digest digest s };
-  regs = s.regs;
-  ctl = ctl_of digest s;
-  fetch = opening_at digest s.memory (fetch_of_state digest s);
-  operand = opening_at digest s.memory (operand_of_state digest s);
-}
+-- the registers as a version holds them, with those opened that are named
+abbrev pub registers_opened : (List ℕ → List ℕ) → RegisterScheme → List ℕ → List ℕ → HeldRegisters
+registers_opened digest registers.Whole xs names = Whole xs
+registers_opened digest registers.Tree xs names = Opened (record { 0 = registers_root digest xs }) (map (register_opening digest xs) names)
 
-abbrev pub plain_proof_2 : (List ℕ → List ℕ) → State → StepProof2
-plain_proof_2 digest s = record {
+-- a state's parts as its version has them, and with their paths exactly the openings that they call for
+abbrev pub plain_facts : (List ℕ → List ℕ) → State → Facts
+plain_facts digest s = record {
+  version = s.version;
   mem = record { 0 = memory_digest digest s };
-  regs = record { 0 = registers_root digest s.regs };
+  input_tree = tree_of digest s;
+  regs = registers_opened digest (scheme_of s.version).registers s.regs (named_at s);
   ctl = ctl_of digest s;
   fetch = opening_at digest s.memory (fetch_of_state digest s);
-  named = map (register_opening digest s.regs) (named_at s);
-  operand = opening_at digest s.memory (operand_of_state digest s);
-}
-
-abbrev pub plain_proof_3 : (List ℕ → List ℕ) → State → StepProof3
-plain_proof_3 digest s = record {
-  mem = record { 0 = memory_digest digest s };
-  input_len = length s.input;
-  input_root = record { 0 = input_root digest s.input };
-  regs = record { 0 = registers_root digest s.regs };
-  ctl = ctl_of digest s;
-  fetch = opening_at digest s.memory (fetch_of_state digest s);
-  named = map (register_opening digest s.regs) (named_at s);
   operand = opening_at digest s.memory (operand_of_state digest s);
   input = input_opening_at digest s.input (input_of_state digest s);
 }
 
+-- the proof that has them
 unfoldable pub plain_proof : (List ℕ → List ℕ) → State → Proof
-plain_proof digest s =
-    if s.version == 1 then V1 (plain_proof_1 digest s)
-    else if s.version == 3 then V3 (plain_proof_3 digest s)
-    else V2 (plain_proof_2 digest s)
+plain_proof digest s = proof_of (plain_facts digest s)

@@ -1,5 +1,9 @@
 -- To believe: when what a proof holds is a state's, as far as it goes.
-use Rattle.std.specs.Prelude.{◌≡◌, ◌≢◌, ℕ, ◌/◌, ◌==◌, List, [], ◌∷◌, length, slice_index, Option, Some, None, if◌then◌else◌}
+use Rattle.std.specs.Prelude.{◌≡◌, ℕ, ◌/◌, List, [], ◌∷◌, length, slice_index, Option, Some, None}
+use Rattle.rd_base.specs.Scheme.{scheme_of}
+use Rattle.rd_base.specs.declared.scheme.InputScheme.{InputScheme}
+use Rattle.rd_base.specs.declared.scheme.InputScheme.TheVariants as input
+use Rattle.rd_base.specs.declared.scheme.RegisterScheme.TheVariants as registers
 use Rattle.rd_base.specs.declared.opened.InOpening.{InOpening}
 use Rattle.rd_base.specs.declared.opened.RegOpening.{RegOpening}
 use Rattle.rv_decode.specs.declared.instr.Instr.{Instr}
@@ -19,9 +23,13 @@ use Rattle.open_proof.specs.declared.facts.HeldInput.{HeldInput}
 use Rattle.open_proof.specs.declared.facts.HeldRegisters.{HeldRegisters}
 use Rattle.open_proof.specs.declared.facts.HeldRegisters.TheVariants.{Whole, Opened}
 
--- what a state has of the input as a tree: its length and its root, in version 3
+-- what a state has of the input as a tree: its length and its root, if the version holds it as one
+abbrev pub tree_by : (List ℕ → List ℕ) → InputScheme → List ℕ → Option HeldInput
+tree_by digest input.Tree xs = Some (record { len = length xs; root = record { 0 = input_root digest xs } })
+tree_by digest input.InMemory xs = None
+
 abbrev pub tree_of : (List ℕ → List ℕ) → State → Option HeldInput
-tree_of digest s = if s.version == 3 then Some (record { len = length s.input; root = record { 0 = input_root digest s.input } }) else None
+tree_of digest s = tree_by digest (scheme_of s.version).input s.input
 
 -- the instruction that a state fetches, what that needs, and the addresses of its data and of its byte of the input
 abbrev pub word_of_state : (List ℕ → List ℕ) → State → Option Instr
@@ -45,14 +53,14 @@ AreShown digest xs rs os = ⊥
 
 -- the registers are held as the state's version holds them, and those that its instruction names are shown
 abbrev pub ShowsRegisters : (List ℕ → List ℕ) → State → HeldRegisters → Type 0
-ShowsRegisters digest s (Whole xs) = (s.version ≡ 1) × (xs ≡ s.regs)
-ShowsRegisters digest s (Opened root named) = (s.version ≢ 1) × (root.0 ≡ registers_root digest s.regs) × AreShown digest s.regs (named_at s) named
+ShowsRegisters digest s (Whole xs) = ((scheme_of s.version).registers ≡ registers.Whole) × (xs ≡ s.regs)
+ShowsRegisters digest s (Opened root named) = ((scheme_of s.version).registers ≡ registers.Tree) × (root.0 ≡ registers_root digest s.regs) × AreShown digest s.regs (named_at s) named
 
 -- an opened chunk of the input is the one that holds a byte, with its path, if one is called for
 abbrev pub ShowsInput : (List ℕ → List ℕ) → List ℕ → Option InOpening → Option ℕ → Type 0
-ShowsInput digest input (Some o) (Some k) = (o.chunk ≡ input_chunk input (k / 32)) × IsPath digest (input_leaf input) 15 (k / 32) o.path.0
-ShowsInput digest input None (Some k) = ⊥
-ShowsInput digest input chunk None = Unit {0}
+ShowsInput digest xs (Some o) (Some k) = (o.chunk ≡ input_chunk xs (k / 32)) × IsPath digest (input_leaf xs) 15 (k / 32) o.path.0
+ShowsInput digest xs None (Some k) = ⊥
+ShowsInput digest xs chunk None = Unit {0}
 
 -- what a proof holds is a state's, and what it opens is what the state calls for
 pub record ShowsState (digest : List ℕ → List ℕ) (facts : Facts) (s : State) : Type 0 where

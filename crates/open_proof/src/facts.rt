@@ -8,13 +8,15 @@ mod laws;
 mod ranges;
 
 pub use laws::{
-    plain_proofs_lead, proofs_lead_to_the_next_state, shown_states_lead, states_name_registers,
+    plain_proofs_hold_the_parts, plain_proofs_lead, proofs_lead_to_the_next_state, shown_states_lead, states_name_registers,
 };
 pub use ranges::proofs_are_in_range;
-use rd_base::{Ctl, Digest32, InOpening, Opening, Proof, RegOpening, RegOpenings, Regs};
+use rd_base::{
+    Ctl, Digest32, InOpening, InputScheme, Opening, Proof, RegOpening, RegOpenings, Regs, StepProof,
+    StepProof2, StepProof3,
+};
 use rv_decode::Instr;
-use rv_step::{Names, Need, OFFERING_VERSION, fetch_address, fetched_in, named_by, need};
-use state_commit::WHOLE_REGISTERS;
+use rv_step::{Names, Need, fetch_address, fetched_in, named_by, need_by};
 
 /// How a proof holds the registers.
 #[derive(Debug, Drop)]
@@ -96,6 +98,52 @@ pub fn facts_of(proof: &Proof) -> Facts
     }
 }
 
+/// The proof that holds this: by what it holds of registers and input it is of one version. It takes no memory.
+pub fn proof_of(held: Facts) -> Proof
+    ensures { result ≡ facts.proof_of held }
+{
+    let Facts {
+        version: _,
+        mem,
+        input_tree,
+        regs,
+        ctl,
+        fetch,
+        operand,
+        input,
+    } = held;
+    match regs {
+        HeldRegisters::Whole(regs) => Proof::V1(StepProof {
+            mem,
+            regs,
+            ctl,
+            fetch,
+            operand,
+        }),
+        HeldRegisters::Opened(regs, named) => match input_tree {
+            None => Proof::V2(StepProof2 {
+                mem,
+                regs,
+                ctl,
+                fetch,
+                named,
+                operand,
+            }),
+            Some(tree) => Proof::V3(StepProof3 {
+                mem,
+                input_len: tree.len,
+                input_root: tree.root,
+                regs,
+                ctl,
+                fetch,
+                named,
+                operand,
+                input,
+            }),
+        },
+    }
+}
+
 /// The register file in which these registers hold what is opened, and all others 0.
 fn file_of(names: &[u8], opened: &[RegOpening]) -> Regs
     requires { AreRegisters names.now }
@@ -125,22 +173,22 @@ pub fn file_shown(names: &[u8], regs: &HeldRegisters) -> Regs
     }
 }
 
-/// The version whose needs an instruction has: 3 if the input is a tree, and else one that offers no input.
-pub fn offering(tree: &Option<HeldInput>) -> u32
+/// How the input is held.
+pub fn offering(tree: &Option<HeldInput>) -> InputScheme
     ensures { result ≡ facts.offering tree.now }
 {
     match tree {
-        Some(_tree) => OFFERING_VERSION,
-        None => WHOLE_REGISTERS,
+        Some(_tree) => InputScheme::Tree,
+        None => InputScheme::InMemory,
     }
 }
 
 /// What an instruction needs of memory or of the input, if one is fetched, from the register file that is shown.
-pub fn needed_by(tree: &Option<HeldInput>, file: &Regs, pc: u32, instr: &Option<Instr>) -> Need
+pub fn needed_by(tree: &Option<HeldInput>, file: &Regs, instr: &Option<Instr>) -> Need
     ensures { result ≡ facts.needed_by tree.now file.now instr.now }
 {
     match instr {
-        Some(instr) => need(offering(tree), file, pc, instr),
+        Some(instr) => need_by(offering(tree), file, instr),
         None => Need::Nothing,
     }
 }
@@ -194,7 +242,7 @@ pub fn called_by(proof: &Facts) -> Called
     let instr = fetched_in(&proof.fetch, fetch_address(&proof.ctl));
     let names = named_by(&instr);
     let file = file_shown(names.as_slice(), &proof.regs);
-    let needed = needed_by(&proof.input_tree, &file, proof.ctl.pc, &instr);
+    let needed = needed_by(&proof.input_tree, &file, &instr);
     Called {
         names,
         operand: address_needed(needed),

@@ -1,6 +1,9 @@
 //! The two answers that are true of a state, its claim and the plain proof of its step, and the openings of that proof.
-ghost use Rattle.std.specs.Prelude.{◌≡◌, ◌≢◌, ◌+◌, ◌<◌, ◌≤◌, ◌%◌, ◌++◌, map, length, IfOk, IfSome};
+ghost use Rattle.std.specs.Prelude.{◌≡◌, ◌+◌, ◌<◌, ◌≤◌, ◌%◌, ◌++◌, map, length, IfOk, IfSome};
+ghost use Rattle.rd_base.specs.Scheme.{scheme_of};
 ghost use Rattle.rd_base.specs.declared.digest.Digest32.{Digest32};
+ghost use Rattle.rd_base.specs.declared.scheme.InputScheme.TheVariants as InputScheme;
+ghost use Rattle.rd_base.specs.declared.scheme.RegisterScheme.TheVariants as RegisterScheme;
 ghost use Rattle.rv_step.specs.Step.{step};
 ghost use Rattle.rv_step.specs.Alike.{named_at};
 ghost use Rattle.rv_step.specs.Named.{AreRegisters};
@@ -13,19 +16,20 @@ ghost use Rattle.open_proof.specs.OpenedChunk as openings;
 ghost use Rattle.open_proof.specs.Shown as shown;
 
 use crate::facts::{
-    HeldInput, address_needed, byte_needed, needed_by, plain_proofs_lead, states_name_registers,
+    Facts, HeldInput, HeldRegisters, address_needed, byte_needed, needed_by, plain_proofs_lead, proof_of,
+    states_name_registers,
 };
 use digest_core::Digester;
 use mem_plain::PlainMem;
 use mem_tree::input_chunk;
 use rd_base::{
-    Claim, ClaimOutput, Ctl, Digest32, InOpening, Memory, Opening, Proof, RegOpening, RegOpenings,
-    StepProof, StepProof2, StepProof3, paths_have_5_levels, paths_have_15_levels,
+    Claim, ClaimOutput, Ctl, Digest32, InOpening, InputScheme, Memory, Opening, Proof, RegOpening,
+    RegOpenings, RegisterScheme, Scheme, paths_have_5_levels, paths_have_15_levels,
     paths_have_27_levels,
 };
 use rv_decode::{Instr, decode};
 use rv_step::{Names, fetch_address, machines_are_valid, named_by};
-use state_commit::{Committed, INPUT_TREE, WHOLE_REGISTERS};
+use state_commit::Committed;
 use std::alloc::Global;
 
 /// The control fields of a machine's state.
@@ -35,13 +39,6 @@ fn ctl_of<D: Digester>(committed: &Committed<D>) -> Ctl
     let machine = committed.machine();
     let _out_len = machine.ctl.out_len;
     machine.ctl
-}
-
-/// How many bytes a machine's input has.
-fn input_len<D: Digester>(committed: &Committed<D>) -> u32
-    ensures { result ≡ length committed.now.input }
-{
-    committed.machine().input.len() as u32
 }
 
 /// The claim that is true of a machine's state, in its version. The output is at most 4,294,967,295 bytes long. An `Err` is out of
@@ -62,50 +59,34 @@ pub fn make_claim<D: Digester>(alloc: Global, committed: &Committed<D>) -> Resul
     })
 }
 
-/// The plain proof that has all registers.
-fn proof_1<D: Digester>(committed: &Committed<D>) -> StepProof
-    ensures { result ≡ plain.plain_proof_1 D.digest_of committed.now }
+/// The registers as a machine's version holds them, with those opened that are named.
+fn registers_opened<D: Digester>(committed: &Committed<D>, names: &[u8]) -> HeldRegisters
+    requires registers { AreRegisters names.now }
+    requires few { length names.now ≤ 3 }
+    ensures { result ≡ plain.registers_opened D.digest_of (scheme_of committed.now.version).registers committed.now.regs names.now }
 {
-    let called = called_by_state(committed);
-    StepProof {
-        mem: committed.memory().root(),
-        regs: committed.machine().regs,
-        ctl: ctl_of(committed),
-        fetch: opening_at(committed, called.fetch),
-        operand: opening_at(committed, called.operand),
+    let machine = committed.machine();
+    match Scheme::of(machine.version).registers {
+        RegisterScheme::Whole => HeldRegisters::Whole(machine.regs),
+        RegisterScheme::Tree => HeldRegisters::Opened(
+            committed.registers_digest(),
+            named_openings(committed, names),
+        ),
     }
 }
 
-/// The plain proof that opens the registers that the instruction names.
-fn proof_2<D: Digester>(committed: &Committed<D>) -> StepProof2
-    requires { committed.now.version ≡ 2 }
-    ensures { result ≡ plain.plain_proof_2 D.digest_of committed.now }
+/// A state's parts as its version has them, with the openings that they call for.
+fn plain_facts<D: Digester>(committed: &Committed<D>) -> Facts
+    ensures { result ≡ plain.plain_facts D.digest_of committed.now }
 {
     let called = called_by_state(committed);
-    StepProof2 {
+    Facts {
+        version: committed.machine().version,
         mem: committed.memory().root(),
-        regs: committed.registers_digest(),
+        input_tree: tree_of(committed),
+        regs: registers_opened(committed, called.names.as_slice()),
         ctl: ctl_of(committed),
         fetch: opening_at(committed, called.fetch),
-        named: named_openings(committed, called.names.as_slice()),
-        operand: opening_at(committed, called.operand),
-    }
-}
-
-/// The plain proof that opens a chunk of the input besides.
-fn proof_3<D: Digester>(committed: &Committed<D>) -> StepProof3
-    requires { committed.now.version ≡ 3 }
-    ensures { result ≡ plain.plain_proof_3 D.digest_of committed.now }
-{
-    let called = called_by_state(committed);
-    StepProof3 {
-        mem: committed.memory().root(),
-        input_len: input_len(committed),
-        input_root: committed.input().root(),
-        regs: committed.registers_digest(),
-        ctl: ctl_of(committed),
-        fetch: opening_at(committed, called.fetch),
-        named: named_openings(committed, called.names.as_slice()),
         operand: opening_at(committed, called.operand),
         input: input_opening_at(committed, called.input),
     }
@@ -115,7 +96,7 @@ fn proof_3<D: Digester>(committed: &Committed<D>) -> StepProof3
 /// `pc` if the machine is running and `pc` is a multiple of 4; from version 2 on the registers that the instruction names, in
 /// their order; the chunk of its data if it is an aligned load or store; and in version 3 the chunk of the input's byte that it
 /// reads. It leads from the root of this state to the root of the next. It takes no memory.
-#[tactic(auto, using(crate::proofs::WholeLemmas::plain_1, crate::proofs::WholeLemmas::plain_2, crate::proofs::WholeLemmas::plain_3))]
+#[tactic(auto, unfolding(crate::specs::PlainProof::plain_proof))]
 pub fn make_proof<D: Digester>(committed: &Committed<D>) -> Proof
     ensures plain { result ≡ plain.plain_proof D.digest_of committed.now }
     ensures leads { (a b : Digest32) → a.0 ≡ root_in D.digest_of committed.now.version committed.now →
@@ -125,13 +106,7 @@ pub fn make_proof<D: Digester>(committed: &Committed<D>) -> Proof
     plain_proofs_lead();
     let machine = committed.machine();
     machines_are_valid(machine);
-    if machine.version == WHOLE_REGISTERS {
-        return Proof::V1(proof_1(committed));
-    }
-    if machine.version == INPUT_TREE {
-        return Proof::V3(proof_3(committed));
-    }
-    Proof::V2(proof_2(committed))
+    proof_of(plain_facts(committed))
 }
 
 /// The instruction at an address that is a multiple of 4, in memory.
@@ -151,13 +126,12 @@ fn tree_of<D: Digester>(committed: &Committed<D>) -> Option<HeldInput>
     ensures short { IfSome result (λ t. t.len ≤ 1048576) }
 {
     let machine = committed.machine();
-    if machine.version == INPUT_TREE {
-        Some(HeldInput {
+    match Scheme::of(machine.version).input {
+        InputScheme::Tree => Some(HeldInput {
             len: machine.input.len() as u32,
             root: committed.input().root(),
-        })
-    } else {
-        None
+        }),
+        InputScheme::InMemory => None,
     }
 }
 
@@ -182,13 +156,14 @@ fn called_by_state<D: Digester>(committed: &Committed<D>) -> CalledByState
     ensures operand { result.operand ≡ shown.operand_of_state D.digest_of committed.now }
     ensures input { result.input ≡ shown.input_of_state D.digest_of committed.now }
     ensures inside { IfSome result.input (λ k. k < 1048576) }
+    ensures offered { IfSome result.input (λ _. (scheme_of committed.now.version).input ≡ InputScheme.Tree) }
 {
     states_name_registers();
     let machine = committed.machine();
     let fetch = fetch_address(&machine.ctl);
     let word = fetched_at(&machine.mem, fetch);
     let tree = tree_of(committed);
-    let need = needed_by(&tree, &machine.regs, machine.ctl.pc, &word);
+    let need = needed_by(&tree, &machine.regs, &word);
     CalledByState {
         fetch,
         names: named_by(&word),
@@ -221,7 +196,7 @@ fn opening_at<D: Digester>(committed: &Committed<D>, address: Option<u32>) -> Op
 /// A register, with its path.
 fn register_opening<D: Digester>(committed: &Committed<D>, reg: u8) -> RegOpening
     requires reg { reg < 32 }
-    requires version { committed.now.version ≢ 1 }
+    requires version { (scheme_of committed.now.version).registers ≡ RegisterScheme.Tree }
     ensures { result ≡ plain.register_opening D.digest_of committed.now.regs reg }
 {
     let value = committed.machine().regs.get(reg);
@@ -233,7 +208,7 @@ fn register_opening<D: Digester>(committed: &Committed<D>, reg: u8) -> RegOpenin
 /// Puts registers behind others, with their paths: at most three altogether.
 fn put_openings<D: Digester>(committed: &Committed<D>, names: &[u8], opened: &mut RegOpenings)
     requires registers { AreRegisters names.now }
-    requires version { committed.now.version ≢ 1 }
+    requires version { (scheme_of committed.now.version).registers ≡ RegisterScheme.Tree }
     requires few { length opened.old + length names.now ≤ 3 }
     ensures { opened.new ≡ opened.old ++ map (plain.register_opening D.digest_of committed.now.regs) names.now }
 {
@@ -249,7 +224,7 @@ fn put_openings<D: Digester>(committed: &Committed<D>, names: &[u8], opened: &mu
 /// The registers of these numbers, with their paths.
 fn named_openings<D: Digester>(committed: &Committed<D>, names: &[u8]) -> RegOpenings
     requires registers { AreRegisters names.now }
-    requires version { committed.now.version ≢ 1 }
+    requires version { (scheme_of committed.now.version).registers ≡ RegisterScheme.Tree }
     requires few { length names.now ≤ 3 }
     ensures { result ≡ map (plain.register_opening D.digest_of committed.now.regs) names.now }
 {
@@ -261,7 +236,7 @@ fn named_openings<D: Digester>(committed: &Committed<D>, names: &[u8]) -> RegOpe
 /// The chunk of the input that holds a byte, with its path.
 fn input_opening_of<D: Digester>(committed: &Committed<D>, byte: u32) -> InOpening
     requires byte { byte < 1048576 }
-    requires version { committed.now.version ≡ 3 }
+    requires version { (scheme_of committed.now.version).input ≡ InputScheme.Tree }
     ensures { result ≡ plain.input_opening_of D.digest_of committed.now.input byte }
 {
     let index = byte / 32;
@@ -274,7 +249,7 @@ fn input_opening_of<D: Digester>(committed: &Committed<D>, byte: u32) -> InOpeni
 /// The chunk of the input that holds a byte, with its path, if one is called for.
 fn input_opening_at<D: Digester>(committed: &Committed<D>, byte: Option<u32>) -> Option<InOpening>
     requires byte { IfSome byte (λ k. k < 1048576) }
-    requires version { committed.now.version ≡ 3 }
+    requires version { IfSome byte (λ _. (scheme_of committed.now.version).input ≡ InputScheme.Tree) }
     ensures { result ≡ plain.input_opening_at D.digest_of committed.now.input byte }
 {
     match byte {

@@ -1,10 +1,14 @@
 -- What an untouched prover says, in the words of the machine's own run.
-use Rattle.std.proofs.Common.{◌≡◌, ℕ, ◌+◌, ◌*◌, ◌/◌, ◌%◌, ◌≤◌, ◌==◌, ◌&&◌, Bool, true, false, cond, if◌then◌else◌, List, [], ◌∷◌, map, min, slice_index, slice_set, Some, None, refl, sym, ap, ap₂, ◌∙◌, arith}
+use Rattle.std.proofs.Common.{◌≡◌, ℕ, ◌+◌, ◌*◌, ◌/◌, ◌%◌, ◌≤◌, ◌==◌, ◌&&◌, Bool, true, false, cond, if◌then◌else◌, List, [], ◌∷◌, map, min, slice_index, slice_set, Option, Some, None, refl, sym, ap, ap₂, ◌∙◌, arith}
 use Rattle.std.proofs.lemmas.Bool.Decides.{nat_tests}
 use Rattle.std.proofs.lemmas.List.{set-get_or}
 use Rattle.rd_base.specs.declared.proof.Proof.{Proof}
 use Rattle.rd_base.specs.declared.proof.StepProof.{StepProof}
-use Rattle.rd_base.specs.declared.proof.Proof.TheVariants.{V1, V2, V3}
+use Rattle.rd_base.specs.Scheme.{scheme_of}
+use Rattle.rd_base.specs.declared.scheme.InputScheme.{InputScheme}
+use Rattle.rd_base.specs.declared.scheme.RegisterScheme.{RegisterScheme}
+use Rattle.rd_base.specs.declared.scheme.RegisterScheme.TheVariants as registers
+use Rattle.rd_base.specs.declared.proof.Proof.TheVariants.{V1}
 use Rattle.rd_base.specs.declared.opened.RegOpening.{RegOpening}
 use Rattle.rd_base.specs.declared.answer.Answer.{Answer}
 use Rattle.rd_base.specs.declared.tamper.Tamper.TheVariants.{Untouched}
@@ -25,8 +29,12 @@ use Rattle.rv_step.specs.Alike.{named_at}
 use Rattle.rv_step.specs.Named.{named_by}
 use Rattle.rv_step.specs.Fetching.{fetched_in}
 use Rattle.open_proof.specs.OpenedChunk.{opening_at, fetched_at, fetch_of_state}
-use Rattle.open_proof.specs.PlainProof.{register_opening, plain_proof, plain_proof_1, plain_proof_2, plain_proof_3}
-use Rattle.open_proof.specs.Shown.{word_of_state}
+use Rattle.open_proof.specs.PlainProof.{register_opening, registers_opened, plain_facts, plain_proof}
+use Rattle.open_proof.specs.Facts.{proof_by}
+use Rattle.open_proof.specs.Shown.{tree_by, word_of_state}
+use Rattle.open_proof.specs.declared.facts.HeldRegisters.TheVariants.{Opened}
+use Rattle.open_proof.specs.declared.facts.HeldInput.{HeldInput}
+use Rattle.open_proof.specs.declared.facts.HeldRegisters.{HeldRegisters}
 use Rattle.checkpoint_run.specs.TamperedRun.{run_at}
 use Rattle.prover_script.specs.Manners.{with_opened, with_shown, with_forgery, with_roots, noise, asks_roots}
 use Rattle.prover_run.specs.CaseScripts.{script_says}
@@ -95,23 +103,24 @@ module _ (lie : LieInChunks) (name : NameRegisters) (digest : List ℕ → List 
       ap (λ (rs : List ℕ). with_opened reg value (map (register_opening digest s.regs) (named_at s)) rs) (ap named_by (word-shown lie digest s) ∙ name digest s)
       ∙ kept-opened digest s.regs reg value holds (named_at s)
 
-  same-2 : with_shown reg value (V2 (plain_proof_2 digest s)) ≡ V2 (plain_proof_2 digest s)
-  same-2 = ap (λ (os : List RegOpening). V2 (record (plain_proof_2 digest s) { named = os })) named-same
+  abbrev by_scheme : RegisterScheme → InputScheme → Proof
+  by_scheme r t = proof_by (plain_facts digest s) (registers_opened digest r s.regs (named_at s)) (tree_by digest t s.input)
 
-  same-3 : with_shown reg value (V3 (plain_proof_3 digest s)) ≡ V3 (plain_proof_3 digest s)
-  same-3 = ap (λ (os : List RegOpening). V3 (record (plain_proof_3 digest s) { named = os })) named-same
+  opened-shown : (root : Digest32) (tree : Option HeldInput) →
+      let opened : HeldRegisters = Opened root (map (register_opening digest s.regs) (named_at s)) in
+      with_shown reg value (proof_by (plain_facts digest s) opened tree) ≡ proof_by (plain_facts digest s) opened tree
+  opened-shown root None = ap (λ (os : List RegOpening). proof_by (plain_facts digest s) (Opened root os) None) named-same
+  opened-shown root (Some t) = ap (λ (os : List RegOpening). proof_by (plain_facts digest s) (Opened root os) (Some t)) named-same
 
-  abbrev by_version : Bool → Bool → Proof
-  by_version one three = if one then V1 (plain_proof_1 digest s) else if three then V3 (plain_proof_3 digest s) else V2 (plain_proof_2 digest s)
-
-  by-version-same : (one three : Bool) → with_shown reg value (by_version one three) ≡ by_version one three
-  by-version-same true three = kept-shown (plain_proof_1 digest s) reg value holds
-  by-version-same false true = same-3
-  by-version-same false false = same-2
+  by-scheme-same : (r : RegisterScheme) (t : InputScheme) → with_shown reg value (by_scheme r t) ≡ by_scheme r t
+  by-scheme-same registers.Whole t =
+      let f = plain_facts digest s in
+      kept-shown (record { mem = f.mem; regs = s.regs; ctl = f.ctl; fetch = f.fetch; operand = f.operand }) reg value holds
+  by-scheme-same registers.Tree t = opened-shown _ (tree_by digest t s.input)
 
   shown-same : with_shown reg value (plain_proof digest s) ≡ plain_proof digest s
   unfolding plain_proof
-  shown-same = by-version-same (s.version == 1) (s.version == 3)
+  shown-same = by-scheme-same (scheme_of s.version).registers (scheme_of s.version).input
 
 at-its-step : (b : Bool) (forged proof : Proof) → (b ≡ true → forged ≡ proof) → answer.Step (if b then forged else proof) ≡ answer.Step proof
 at-its-step true forged proof same = ap answer.Step (same refl)

@@ -19,6 +19,7 @@ mod opened;
 mod proof;
 mod regs;
 mod root_list;
+mod scheme;
 mod script;
 mod status;
 mod steps;
@@ -29,7 +30,10 @@ pub use answer::{Answer, Qid, same_qid};
 pub use claim::{Claim, ClaimOutput, MAX_OUTPUT_BYTES};
 pub use digest::{Digest32, same_digest};
 pub use laws::{paths_have_5_levels, paths_have_15_levels, paths_have_27_levels, registers_are_32};
-pub use limits::MAX_INPUT_BYTES;
+pub use limits::{
+    MAX_BOUND, MAX_FAN, MAX_INPUT_BYTES, MAX_PATIENCE, MAX_PROVERS, MAX_STAKE, MAX_TASKS,
+    MAX_VERSION, MIN_FAN, MIN_VERSION,
+};
 pub use listed::{Boxed, Bytes, Listed};
 pub use memory::Memory;
 pub use open_text::{MAX_TEXT_BYTES, OpenText};
@@ -37,6 +41,7 @@ pub use opened::{InOpening, InPath, Opening, Path, RegOpening, RegOpenings, RegP
 pub use proof::{Proof, StepProof, StepProof2, StepProof3};
 pub use regs::Regs;
 pub use root_list::{MAX_ROOTS, RootList};
+pub use scheme::{InputScheme, RegisterScheme, Scheme};
 pub use script::{FirstSilentRound, MAX_FIRST_SILENT_ROUND, MAX_PASSES, Manner, PassCount, Script};
 pub use status::{Ctl, Status};
 pub use steps::Steps;

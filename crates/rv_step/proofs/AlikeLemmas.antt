@@ -2,6 +2,7 @@
 use Rattle.std.proofs.Common.{◌≡◌, ◌≢◌, ℕ, ◌%◌, List, [], ◌++◌, map, length, set, slice_index, Option, Some, None, eqb, cond, Bool, true, false, true≢false, not, ◌&&◌, refl, sym, ap, subst, ◌∙◌, arith, ⊎_elim, get_or-set_same, get_or-set_other}
 use Rattle.std.proofs.lemmas.Bool.{cases_eq, cases_lt, eq-eqb, ne_eqb, or_parts, eqb-false}
 use Rattle.std.proofs.lemmas.List.{set_past}
+use Rattle.rd_base.specs.Scheme.{scheme_of}
 use Rattle.rd_base.specs.Regs.{with_register}
 use Rattle.rd_base.specs.Status.{is_running}
 use Rattle.rv_decode.specs.Reading.{reading_of}
@@ -52,7 +53,7 @@ module _ (xs : List ℕ) (s : State) (size : length xs ≡ length s.regs) where
   word-alike None zeros same = effect-alike (Trap 2)
   word-alike (Some i) zeros same =
       subst (λ (e : Effect). StepAlike xs s (after_effect (with_registers xs s) e) (after_effect s (effect_at s i)))
-      (sym (named-effect xs s.regs zeros (offered s.version (byte_or_ones s.input)) s.pc (λ addr width. number_at s.memory addr width) i same)) (effect-alike (effect_at s i))
+      (sym (named-effect xs s.regs zeros (offered (scheme_of s.version).input (byte_or_ones s.input)) s.pc (λ addr width. number_at s.memory addr width) i same)) (effect-alike (effect_at s i))
 
 pub steps-alike : (xs : List ℕ) (s : State) → Shows xs s → StepAlike xs s (step (with_registers xs s)) (step s)
 unfolding step
@@ -113,7 +114,7 @@ word-changes s None = (λ r out. refl, λ r q changed apart. refl)
 word-changes s (Some i) =
     let e = effect_at s i in
     let d = destination i in
-    let only = effect-writes (offered s.version (byte_or_ones s.input)) s.regs s.pc (λ addr width. number_at s.memory addr width) i in (
+    let only = effect-writes (offered (scheme_of s.version).input (byte_or_ones s.input)) s.regs s.pc (λ addr width. number_at s.memory addr width) i in (
       λ r out. ⊎_elim
           (λ here. effect-zero s.regs s.pc d e only (last-among (first_source i) (second_source i) d (subst (λ k. is_among (once (first_source i) (second_source i) d) k ≡ false) here out)) r)
           (λ other. effect-elsewhere s.regs s.pc d e only r other)

@@ -2,6 +2,7 @@
 use Rattle.std.proofs.Common.{◌≡◌, ℕ, ◌-◌, ◌%◌, ◌<◌, List, ◌++◌, map, Option, Some, None, eqb, cond, Bool, true, false, true≢false, not, ◌&&◌, refl, sym, ap, ◌∙◌, arith, ⊎_elim}
 use Rattle.std.specs.Prelude.{bit_and, bit_or, bit_xor}
 use Rattle.std.proofs.lemmas.Bool.{cases_eq, ne_eqb}
+use Rattle.rd_base.specs.declared.scheme.InputScheme.{InputScheme}
 use Rattle.rv_decode.specs.declared.instr.RType.{RType}
 use Rattle.rv_decode.specs.declared.instr.IType.{IType}
 use Rattle.rv_decode.specs.declared.instr.ShiftType.{ShiftType}
@@ -99,18 +100,18 @@ module _ (offer : Option (ℕ → ℕ)) (xs ys : List ℕ) (pc : ℕ) (read : �
       ap (λ a. cond (eqb (at_offset a s.imm % width) 0) (need.Store (at_offset a s.imm) width (x xs s.rs2)) (need.Trap 6)) first
       ∙ ap (λ b. cond (eqb (at_offset (x ys s.rs1) s.imm % width) 0) (need.Store (at_offset (x ys s.rs1) s.imm) width b) (need.Trap 6)) second
 
-  pub needed-reads : (version : ℕ) (i : Instr) → x xs (first_source i) ≡ x ys (first_source i) → x xs (second_source i) ≡ x ys (second_source i) → needed_in version xs i ≡ needed_in version ys i
+  pub needed-reads : (input : InputScheme) (i : Instr) → x xs (first_source i) ≡ x ys (first_source i) → x xs (second_source i) ≡ x ys (second_source i) → needed_in input xs i ≡ needed_in input ys i
   unfolding needed_in fields_of first_source second_source
-  needed-reads version (Lb i) first second = load_need-same 1 i first
-  needed-reads version (Lh i) first second = load_need-same 2 i first
-  needed-reads version (Lw i) first second = load_need-same 4 i first
-  needed-reads version (Lbu i) first second = load_need-same 1 i first
-  needed-reads version (Lhu i) first second = load_need-same 2 i first
-  needed-reads version (Sb s) first second = store_need-same 1 s first second
-  needed-reads version (Sh s) first second = store_need-same 2 s first second
-  needed-reads version (Sw s) first second = store_need-same 4 s first second
-  needed-reads version Ecall first second = ap (λ number. call_needed version number (x xs 10)) first ∙ ap (call_needed version (x ys 17)) second
-  needed-reads version i first second = refl
+  needed-reads input (Lb i) first second = load_need-same 1 i first
+  needed-reads input (Lh i) first second = load_need-same 2 i first
+  needed-reads input (Lw i) first second = load_need-same 4 i first
+  needed-reads input (Lbu i) first second = load_need-same 1 i first
+  needed-reads input (Lhu i) first second = load_need-same 2 i first
+  needed-reads input (Sb s) first second = store_need-same 1 s first second
+  needed-reads input (Sh s) first second = store_need-same 2 s first second
+  needed-reads input (Sw s) first second = store_need-same 4 s first second
+  needed-reads input Ecall first second = ap (λ number. call_needed input number (x xs 10)) first ∙ ap (call_needed input (x ys 17)) second
+  needed-reads input i first second = refl
 
 -- three registers without x0, each at its first place
 module _ (f g : ℕ → ℕ) (zeros : f 0 ≡ g 0) where
@@ -146,11 +147,11 @@ module _ (xs ys : List ℕ) (zeros : x xs 0 ≡ x ys 0) where
       let all = once-same (x xs) (x ys) zeros (first_source i) (second_source i) (destination i) same in
       effect-reads offer xs ys pc read i all.0 all.1
 
-  pub named-needed : (version : ℕ) (i : Instr) → map (x xs) (named i) ≡ map (x ys) (named i) → needed_in version xs i ≡ needed_in version ys i
+  pub named-needed : (input : InputScheme) (i : Instr) → map (x xs) (named i) ≡ map (x ys) (named i) → needed_in input xs i ≡ needed_in input ys i
   unfolding named
-  named-needed version i same =
+  named-needed input i same =
       let all = once-same (x xs) (x ys) zeros (first_source i) (second_source i) (destination i) same in
-      needed-reads None xs ys 0 (λ _ _. 0) version i all.0 all.1
+      needed-reads None xs ys 0 (λ _ _. 0) input i all.0 all.1
 
 -- what is written
 either-writes : (r : ℕ) (b : Bool) (p q : Effect) → WritesOnly r p → WritesOnly r q → WritesOnly r (cond b p q)

@@ -8,6 +8,9 @@ use Rattle.std.proofs.lemmas.Bool.Decides.{nat_tests}
 use Rattle.std.proofs.lemmas.Int.{ints, unsigned_abs-mul}
 use Rattle.std.proofs.lemmas.List.{set_past}
 use Rattle.std.proofs.lemmas.Nat.{and_le_l, or_of_32, xor_of_32}
+use Rattle.rd_base.specs.Scheme.{scheme_of}
+use Rattle.rd_base.specs.declared.scheme.InputScheme.{InputScheme}
+use Rattle.rd_base.specs.declared.scheme.InputScheme.TheVariants.{InMemory, Tree}
 use Rattle.rd_base.specs.Regs.{with_register}
 use Rattle.rd_base.specs.declared.status.Status.{Status}
 use Rattle.rv_decode.specs.declared.instr.IType.{IType}
@@ -24,7 +27,8 @@ use Rattle.rv_step.specs.Offer.{byte_or_ones, offered}
 use Rattle.rv_step.specs.State.{State}
 use Rattle.rv_step.specs.Parts.{IsAccess}
 use Rattle.rv_step.specs.Step.{step, effect_at, regs_after, pc_after, memory_after, status_after, output_after, after_effect, following}
-use Rattle.rv_step.specs.Valid.{IsRegisterFile, HasWordCode, IsValid}
+use Rattle.rd_base.specs.Status.{HasWordCode}
+use Rattle.rv_step.specs.Valid.{IsRegisterFile, IsValid}
 use Rattle.rv_step.specs.declared.effect.Effect.{Effect}
 use Rattle.rv_step.specs.declared.effect.Effect.TheVariants.{Write, Jump, Branch, Next, Store, Put, Exit, Trap}
 use Rattle.rv_step.proofs.PartsLemmas.{StoresAligned, effect_aligned}
@@ -339,14 +343,15 @@ input_words [] bytes k = omega arith
 input_words (b ∷ input) bytes zero = omega (arith, bytes 0)
 input_words (b ∷ input) bytes (suc k) = input_words input (λ j. bytes (suc j)) k
 
-offered_words : (version : ℕ) (byte : ℕ → ℕ) → ((k : ℕ) → IsWord (byte k)) → OffersWords (offered version byte)
-offered_words version byte words = elim (eqb version 3) as (λ offers. OffersWords (cond offers (Some byte) None)) [ true ↦ words | false ↦ tt ]
+offered_words : (input : InputScheme) (byte : ℕ → ℕ) → ((k : ℕ) → IsWord (byte k)) → OffersWords (offered input byte)
+offered_words Tree byte words = words
+offered_words InMemory byte words = tt
 
 pub step_valid : StaysMemory → (s : State) → IsValid s → IsValid (step s)
 step_valid stays s valid = by_effect (λ t _. IsValid t) s
     (λ i.
     let read = λ (addr width : ℕ). number_at s.memory addr width in
-    let given = offered_words s.version (byte_or_ones s.input) (input_words s.input valid.input) in
-    after_valid stays s (effect_at s i) valid (effect_fits s.regs valid.regs.words (offered s.version (byte_or_ones s.input)) given s.pc read i (effect_aligned s i)))
+    let given = offered_words (scheme_of s.version).input (byte_or_ones s.input) (input_words s.input valid.input) in
+    after_valid stays s (effect_at s i) valid (effect_fits s.regs valid.regs.words (offered (scheme_of s.version).input (byte_or_ones s.input)) given s.pc read i (effect_aligned s i)))
     (λ code small. after_valid stays s (Trap code) valid small)
     valid

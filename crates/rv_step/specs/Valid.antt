@@ -1,7 +1,6 @@
 -- To believe: the valid states, which are those of machines.
 use Rattle.std.specs.Prelude.{◌≡◌, ℕ, ◌^◌, ◌<◌, ◌≤◌, List, length, slice_index}
-use Rattle.rd_base.specs.declared.status.Status.{Status}
-use Rattle.rd_base.specs.declared.status.Status.TheVariants.{Running, Exited, Trapped}
+use Rattle.rd_base.specs.Status.{HasWordCode}
 use Rattle.mem_plain.specs.Memory.{IsMemory}
 use Rattle.rv_step.specs.State.{State}
 
@@ -10,12 +9,6 @@ pub record IsRegisterFile (xs : List ℕ) : Type 0 where
   pub thirty_two : length xs ≡ 32
   pub words : (r : ℕ) → slice_index xs r < 2 ^ 32
   pub zero_first : slice_index xs 0 ≡ 0
-
--- the code of an exit or a trap is a word
-abbrev pub HasWordCode : Status → Type 0
-HasWordCode Running = Unit {0}
-HasWordCode (Exited code) = code < 2 ^ 32
-HasWordCode (Trapped code) = code < 2 ^ 32
 
 -- registers, pc and code are words, and memory, output and input have bytes; the version is 1, 2 or 3, and the input not
 -- longer than an input may be

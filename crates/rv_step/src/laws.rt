@@ -1,11 +1,13 @@
 //! Laws of the definitions, each the contract of a function that changes nothing.
 ghost use Rattle.std.specs.Prelude.{◌≡◌, ◌≢◌, ℕ, ◌++◌, ◌/◌, ◌<◌, ◌^◌, List, map, slice_index, Option, Some, None, false};
-ghost use Rattle.rd_base.specs.Status.{is_running};
+ghost use Rattle.rd_base.specs.Status.{is_running, HasWordCode};
 ghost use Rattle.rv_decode.specs.declared.instr.Instr.{Instr};
 ghost use Rattle.mem_plain.specs.Contents.{byte_at};
 ghost use Rattle.rv_step.specs.State.{State, state_of};
-ghost use Rattle.rv_step.specs.Valid.{IsValid, HasWordCode};
+ghost use Rattle.rv_step.specs.Valid.{IsValid};
 ghost use Rattle.rv_step.specs.Effect.{effect, effect_with};
+ghost use Rattle.rd_base.specs.Scheme.{scheme_of};
+ghost use Rattle.rd_base.specs.declared.scheme.InputScheme.{InputScheme};
 ghost use Rattle.rv_step.specs.Offer.{offered};
 ghost use Rattle.rv_step.specs.Step.{step, state_at, after_word};
 ghost use Rattle.rv_step.specs.Parts.{needed, needed_in, by_parts, finished, Meets, Finishes, ReadsAsNeeded, AsksAsNeeded, IsAligned};
@@ -23,24 +25,24 @@ use rd_base::{Status, registers_are_32};
 /// The same for whoever reads memory in another way, if no input is offered (`any_reader`): by what is needed, the effect
 /// of an instruction reads nothing or that one number and leaves memory as it is, or it is that store, or that trap. What is
 /// read or written is 1, 2 or 4 bytes at a multiple of their number (`aligned`). And for whoever reads memory and offers the
-/// input in another way, in each version (`any_offer`): the effect is what `finish` makes of the number that is needed.
+/// input in another way, however it is held (`any_offer`): the effect is what `finish` makes of the number that is needed.
 pub fn two_parts_are_the_step()
-    ensures step { (s : State) (i : Instr) (any : ℕ) → by_parts s i any (needed_in s.version s.regs i) ≡ after_word s (Some i) }
+    ensures step { (s : State) (i : Instr) (any : ℕ) → by_parts s i any (needed_in (scheme_of s.version).input s.regs i) ≡ after_word s (Some i) }
     ensures any_reader { (xs : List ℕ) (pc : ℕ) (read : ℕ → ℕ → ℕ) (i : Instr) →
         Meets (λ memory. effect xs pc memory i) read (needed xs i) }
-    ensures any_offer { (version : ℕ) (byte : ℕ → ℕ) (xs : List ℕ) (pc : ℕ) (read : ℕ → ℕ → ℕ) (i : Instr) →
-        Finishes (effect_with (offered version byte) xs pc read i) (λ loaded. finished xs pc loaded i) read byte (needed_in version xs i) }
-    ensures aligned { (version : ℕ) (xs : List ℕ) (i : Instr) → IsAligned (needed_in version xs i) }
+    ensures any_offer { (input : InputScheme) (byte : ℕ → ℕ) (xs : List ℕ) (pc : ℕ) (read : ℕ → ℕ → ℕ) (i : Instr) →
+        Finishes (effect_with (offered input byte) xs pc read i) (λ loaded. finished xs pc loaded i) read byte (needed_in input xs i) }
+    ensures aligned { (input : InputScheme) (xs : List ℕ) (i : Instr) → IsAligned (needed_in input xs i) }
 {}
 
 /// What is needed is what an effect depends on. If a load is named, the effect depends on what memory gives, and if none is named it
 /// doesn't (`memory`). If a byte of the input is named, the effect depends on what is offered of the input, and if none is named it
 /// doesn't (`input`).
 pub fn needs_tell_what_is_read()
-    ensures memory { (version : ℕ) (byte : ℕ → ℕ) (xs : List ℕ) (pc : ℕ) (i : Instr) →
-        ReadsAsNeeded (λ memory. effect_with (offered version byte) xs pc memory i) (needed_in version xs i) }
-    ensures input { (version : ℕ) (xs : List ℕ) (pc : ℕ) (read : ℕ → ℕ → ℕ) (i : Instr) →
-        AsksAsNeeded (λ byte. effect_with (offered version byte) xs pc read i) (needed_in version xs i) }
+    ensures memory { (input : InputScheme) (byte : ℕ → ℕ) (xs : List ℕ) (pc : ℕ) (i : Instr) →
+        ReadsAsNeeded (λ memory. effect_with (offered input byte) xs pc memory i) (needed_in input xs i) }
+    ensures input { (input : InputScheme) (xs : List ℕ) (pc : ℕ) (read : ℕ → ℕ → ℕ) (i : Instr) →
+        AsksAsNeeded (λ byte. effect_with (offered input byte) xs pc read i) (needed_in input xs i) }
 {}
 
 /// What an instruction does and what it needs depends on the registers that it names alone: two register files in which these
@@ -49,8 +51,8 @@ pub fn needs_tell_what_is_read()
 pub fn effects_read_named_registers()
     ensures effect { (offer : Option (ℕ → ℕ)) (xs ys : List ℕ) (pc : ℕ) (read : ℕ → ℕ → ℕ) (i : Instr) → slice_index xs 0 ≡ slice_index ys 0 →
         map (λ r. slice_index xs r) (named i) ≡ map (λ r. slice_index ys r) (named i) → effect_with offer xs pc read i ≡ effect_with offer ys pc read i }
-    ensures needed { (version : ℕ) (xs ys : List ℕ) (i : Instr) → slice_index xs 0 ≡ slice_index ys 0 →
-        map (λ r. slice_index xs r) (named i) ≡ map (λ r. slice_index ys r) (named i) → needed_in version xs i ≡ needed_in version ys i }
+    ensures needed { (input : InputScheme) (xs ys : List ℕ) (i : Instr) → slice_index xs 0 ≡ slice_index ys 0 →
+        map (λ r. slice_index xs r) (named i) ≡ map (λ r. slice_index ys r) (named i) → needed_in input xs i ≡ needed_in input ys i }
     ensures writes { (offer : Option (ℕ → ℕ)) (xs : List ℕ) (pc : ℕ) (read : ℕ → ℕ → ℕ) (i : Instr) → WritesOnly (destination i) (effect_with offer xs pc read i) }
 {}
 

@@ -44,7 +44,7 @@ pub use laws::{
     one_page_changes, output_only_grows, runs_keep_the_input, steps_keep_valid_states,
     steps_read_named_registers, stopped_states_stay, two_parts_are_the_step,
 };
-pub use machine::{INPUT_BASE, Machine, OFFERING_VERSION};
-pub use parts::{finish, need};
+pub use machine::{INPUT_BASE, Machine};
+pub use parts::{finish, need, need_by};
 pub use stepping::{advance, step};
 pub use touching::touches;

@@ -1,5 +1,7 @@
 -- To believe: the roots of a run.
 use Rattle.std.specs.Prelude.{◌≡◌, ℕ, List, map, min}
+use Rattle.rd_base.specs.Scheme.{scheme_of}
+use Rattle.rd_base.specs.declared.scheme.InputScheme.TheVariants as input
 use Rattle.rd_base.specs.declared.digest.Digest32.{Digest32}
 use Rattle.rv_step.specs.State.{State}
 use Rattle.state_commit.specs.StateRoot.{root_in}
@@ -16,7 +18,7 @@ root_at digest r i = own_root digest (state_of_step r (min i r.bound))
 
 -- these are the bytes of the root of a run's input, if the run's version has one
 abbrev pub IsInputRoot : (List ℕ → List ℕ) → Recorded → List ℕ → Type 0
-IsInputRoot digest r root = r.first.version ≡ 3 → root ≡ input_root digest r.first.input
+IsInputRoot digest r root = (scheme_of r.first.version).input ≡ input.Tree → root ≡ input_root digest r.first.input
 
 -- the bytes of digests
 abbrev pub digests : List Digest32 → List (List ℕ)

@@ -1,6 +1,8 @@
 //! A run that is replayed, and a worker's cursor: a machine of it, moved from step to step with the tree of its memory.
 ghost use Rattle.std.proofs.Props.{props};
-ghost use Rattle.std.specs.Prelude.{◌≡◌, ◌≢◌, replicate, ℕ, ◌+◌, ◌<◌, ◌≤◌, ◌∷◌, [], true, false, IfOk, OnOk, IfSome, min};
+ghost use Rattle.std.specs.Prelude.{◌≡◌, replicate, ℕ, ◌+◌, ◌<◌, ◌≤◌, ◌∷◌, [], true, false, IfOk, OnOk, IfSome, min};
+ghost use Rattle.rd_base.specs.Scheme.{scheme_of};
+ghost use Rattle.rd_base.specs.declared.scheme.InputScheme.TheVariants as InputScheme;
 ghost use Rattle.mem_plain.specs.Contents.{Contents};
 ghost use Rattle.mem_tree.specs.Tree.{IsTreeOf, is_among};
 ghost use Rattle.checkpoint_run.specs.NamedPages.{IsNamed, ArePages};
@@ -14,9 +16,9 @@ use checkpoint_run::{
 use digest_core::Digester;
 use mem_plain::PlainMem;
 use mem_tree::{MemTree, input_root};
-use rd_base::{Digest32, Memory};
+use rd_base::{Digest32, InputScheme, Memory, Scheme};
 use rv_step::Machine;
-use state_commit::{INPUT_TREE, KeptRegisters, Parts, root_of_parts};
+use state_commit::{KeptRegisters, Parts, root_of_parts};
 use std::alloc::Global;
 use std::thread::Threads;
 
@@ -258,16 +260,15 @@ fn cursor_at<D: Digester + Send + Sync, R: Threads + Sync>(
     })
 }
 
-/// The root of the run's input if the run's version is 3, and else 32 zeros. The runs of one machine have the same, whatever is
+/// The root of the run's input if the run's version holds it as a tree, and else 32 zeros. The runs of one machine have the same, whatever is
 /// tampered with.
 pub fn run_input_root<D: Digester>(d: D, run: &Run) -> Digest32
     ensures root { IsInputRoot D.digest_of run.now result.0 }
-    ensures zeros { run.now.first.version ≢ 3 → result.0 ≡ replicate 32 0 }
+    ensures zeros { (scheme_of run.now.first.version).input ≡ InputScheme.InMemory → result.0 ≡ replicate 32 0 }
 {
-    if run.version() == INPUT_TREE {
-        input_root(d, run.input())
-    } else {
-        Digest32::ZERO
+    match Scheme::of(run.version()).input {
+        InputScheme::Tree => input_root(d, run.input()),
+        InputScheme::InMemory => Digest32::ZERO,
     }
 }
 

@@ -1,12 +1,17 @@
 -- Two valid states with one root are the same in all that it commits to, or two different strings of them have one digest.
-use Rattle.std.proofs.Common.{◌≡◌, ◌≢◌, ℕ, zero, suc, ◌+◌, ◌*◌, ◌/◌, ◌%◌, ◌^◌, ◌<◌, ◌≤◌, ◌⊎◌, inl, inr, List, [], ◌∷◌, length, slice_index, Bool, true, false, eqb, cond, refl, sym, ap, ◌∙◌, arith, ⊎_elim}
-use Rattle.std.proofs.lemmas.Bool.{cases_eq, eq-eqb, ne_eqb}
+use Rattle.std.proofs.Common.{◌≡◌, ℕ, zero, suc, ◌+◌, ◌*◌, ◌/◌, ◌%◌, ◌^◌, ◌<◌, ◌≤◌, ◌⊎◌, inl, inr, List, [], ◌∷◌, length, slice_index, refl, sym, ap, ◌∙◌, arith, ⊎_elim}
 use Rattle.std.proofs.lemmas.List.FromFn.{get_or-map-range_with_len}
 use Rattle.mem_plain.specs.Contents.{Contents, byte_at, chunk_at, with_byte, tabulated}
 use Rattle.mem_plain.specs.Memory.{IsMemory}
 use Rattle.digest_core.specs.Text.{status_code, registers_text}
 use Rattle.digest_core.specs.TextLaws.{cons_parts, control_text_same, registers_text_same, register_text_same, state_text_same, storage_text_same}
 use Rattle.digest_core.specs.Chain.{chain_of}
+use Rattle.rd_base.specs.Scheme.{scheme_of}
+use Rattle.rd_base.specs.declared.scheme.InputScheme.{InputScheme}
+use Rattle.rd_base.specs.declared.scheme.InputScheme.TheVariants as input
+use Rattle.rd_base.specs.declared.scheme.RegisterScheme.{RegisterScheme}
+use Rattle.rd_base.specs.declared.scheme.RegisterScheme.TheVariants as registers
+use Rattle.rd_base.specs.declared.scheme.Scheme.{Scheme}
 use Rattle.rd_base.specs.declared.status.Status.{Status}
 use Rattle.rd_base.specs.declared.status.Status.TheVariants.{Running, Exited, Trapped}
 use Rattle.merkle_nodes.specs.Node.{node}
@@ -14,12 +19,14 @@ use Rattle.merkle_nodes.specs.Split.{IsSplit}
 use Rattle.merkle_nodes.specs.TreeStrings.{TreesSplit}
 use Rattle.out_chain.specs.Root.{control_text_of}
 use Rattle.out_chain.specs.Collision.{LinksSplit}
+use Rattle.rv_step.specs.Loaded.{beside_memory}
 use Rattle.rv_step.specs.State.{State}
-use Rattle.rv_step.specs.Valid.{IsValid, HasWordCode}
+use Rattle.rd_base.specs.Status.{HasWordCode}
+use Rattle.rv_step.specs.Valid.{IsValid}
 use Rattle.mem_tree.specs.Memory.{memory_leaf}
 use Rattle.mem_tree.specs.RegisterTree.{register_leaf, registers_root}
-use Rattle.mem_tree.specs.InputTree.{input_chunk, input_leaf}
-use Rattle.state_commit.specs.StateRoot.{ctl_of, memory_digest, registers_digest, storage_of, storage_digest, state_text_in, root_in}
+use Rattle.mem_tree.specs.InputTree.{input_chunk, input_leaf, input_root}
+use Rattle.state_commit.specs.StateRoot.{ctl_of, memory_digest, registers_by, registers_digest, storage_of, storage_by, storage_digest, state_text_in, root_in}
 use Rattle.state_commit.specs.Strings.{IsStringIn}
 use Rattle.state_commit.specs.Strings.IsStringIn.{is_state, is_control, is_memory, is_link, is_registers, is_register, is_storage, is_input}
 use Rattle.state_commit.specs.Binding.{committed_part, StatesSplit}
@@ -100,28 +107,20 @@ module _ (digest : List ℕ → List ℕ) (is_digest : (bytes : List ℕ) → le
   node-size leaf zero k = is_digest _
   node-size leaf (suc l) k = is_digest _
 
-  either-size : (b : Bool) (x y : List ℕ) → length x ≡ 32 → length y ≡ 32 → length (cond b x y) ≡ 32
-  either-size true x y first second = first
-  either-size false x y first second = second
-
-  registers-size : (version : ℕ) (xs : List ℕ) → length (registers_digest digest version xs) ≡ 32
-  registers-size version xs = either-size (eqb version 1) (digest (registers_text xs)) (registers_root digest xs) (is_digest _) (node-size (register_leaf xs) 5 0)
+  registers-size : (held : RegisterScheme) (xs : List ℕ) → length (registers_by digest held xs) ≡ 32
+  registers-size registers.Whole xs = is_digest _
+  registers-size registers.Tree xs = node-size (register_leaf xs) 5 0
 
   memory-size : (s : State) → length (memory_digest digest s) ≡ 32
   memory-size s = node-size (memory_leaf s.memory) 27 0
 
-  storage-size : (version : ℕ) (s : State) → length (storage_digest digest version s) ≡ 32
-  storage-size version s = either-size (eqb version 3) (digest (storage_of digest s)) (memory_digest digest s) (is_digest _) (memory-size s)
+  storage-size : (held : InputScheme) (s : State) → length (storage_by digest held (memory_digest digest s) (length s.input) (input_root digest s.input)) ≡ 32
+  storage-size input.InMemory s = memory-size s
+  storage-size input.Tree s = is_digest _
 
 -- one of two, and what follows from it, or a split
 and-then : {A B C : Type 0} → A ⊎ C → (A → B ⊎ C) → B ⊎ C
 and-then first next = ⊎_elim next (λ split. inr split) first
-
-picked : {A : Type 0} (b : Bool) (x y : A) → b ≡ true → cond b x y ≡ x
-picked {A} b x y is = ap (λ t. cond t x y) is
-
-dropped : {A : Type 0} (b : Bool) (x y : A) → b ≡ false → cond b x y ≡ y
-dropped {A} b x y is = ap (λ t. cond t x y) is
 
 module _ (trees : TreeLaw) (strings : StringLaw) (chains : ChainLaw) (digest : List ℕ → List ℕ) (is_digest : (bytes : List ℕ) → length (digest bytes) ≡ 32)
     (s t : State) (s_valid : IsValid s) (t_valid : IsValid t) (one_version : s.version ≡ t.version) (s_short : length s.output < 2 ^ 64) (t_short : length t.output < 2 ^ 64) where
@@ -153,60 +152,31 @@ module _ (trees : TreeLaw) (strings : StringLaw) (chains : ChainLaw) (digest : L
       (trees-bind (memory_leaf s.memory) (memory_leaf t.memory) 27 (λ split. (is_memory split.of_first, is_memory split.of_second)) one)
       (λ leaves. inl (memory-same s.memory t.memory s_valid.memory t_valid.memory leaves))
 
-  registers-bound : registers_digest digest s.version s.regs ≡ registers_digest digest t.version t.regs → (s.regs ≡ t.regs) ⊎ StatesSplit digest s t
-  registers-bound one = ⊎_elim whole tree (cases_eq s.version 1)
-    where
-      whole : s.version ≡ 1 → (s.regs ≡ t.regs) ⊎ StatesSplit digest s t
-      whole is =
-          let other : t.version ≡ 1 = sym one_version ∙ is in
-          let roots = sym (picked (eqb s.version 1) (digest (registers_text s.regs)) (registers_root digest s.regs) (eq-eqb s.version 1 is)) ∙ (one
-          ∙ picked (eqb t.version 1) (digest (registers_text t.regs)) (registers_root digest t.regs) (eq-eqb t.version 1 other)) in
-          and-then
-          (strings-bind (registers_text s.regs) (registers_text t.regs) (is_registers is refl) (is_registers other refl) roots)
-          (λ same. inl (registers_text_same s.regs t.regs s_valid.regs.words t_valid.regs.words same))
+  registers-bound : (held : RegisterScheme) → (scheme_of s.version).registers ≡ held → (scheme_of t.version).registers ≡ held
+      → registers_by digest held s.regs ≡ registers_by digest held t.regs → (s.regs ≡ t.regs) ⊎ StatesSplit digest s t
+  registers-bound registers.Whole is other one = and-then
+      (strings-bind (registers_text s.regs) (registers_text t.regs) (is_registers is refl) (is_registers other refl) one)
+      (λ same. inl (registers_text_same s.regs t.regs s_valid.regs.words t_valid.regs.words same))
+  registers-bound registers.Tree is other one = and-then
+      (trees-bind (register_leaf s.regs) (register_leaf t.regs) 5 (λ split. (is_register is split.of_first, is_register other split.of_second)) one)
+      (λ leaves. inl (registers-same s.regs t.regs s_valid.regs.thirty_two t_valid.regs.thirty_two s_valid.regs.words t_valid.regs.words leaves))
 
-      tree : s.version ≢ 1 → (s.regs ≡ t.regs) ⊎ StatesSplit digest s t
-      tree is =
-          let other : t.version ≢ 1 = λ e. is (one_version ∙ e) in
-          let roots = sym (dropped (eqb s.version 1) (digest (registers_text s.regs)) (registers_root digest s.regs) (ne_eqb s.version 1 is)) ∙ (one
-          ∙ dropped (eqb t.version 1) (digest (registers_text t.regs)) (registers_root digest t.regs) (ne_eqb t.version 1 other)) in
-          and-then
-          (trees-bind (register_leaf s.regs) (register_leaf t.regs) 5 (λ split. (is_register is split.of_first, is_register other split.of_second)) roots)
-          (λ leaves. inl (registers-same s.regs t.regs s_valid.regs.thirty_two t_valid.regs.thirty_two s_valid.regs.words t_valid.regs.words leaves))
-
-  -- memory, and the input as far as a root commits to it
-  storage-bound : storage_digest digest s.version s ≡ storage_digest digest t.version t
-      → ((s.memory ≡ t.memory) × (cond (eqb s.version 3) s.input [] ≡ cond (eqb t.version 3) t.input [])) ⊎ StatesSplit digest s t
-  storage-bound one = ⊎_elim kept unkept (cases_eq s.version 3)
-    where
-      kept : s.version ≡ 3 → ((s.memory ≡ t.memory) × (cond (eqb s.version 3) s.input [] ≡ cond (eqb t.version 3) t.input [])) ⊎ StatesSplit digest s t
-      kept is =
-          let other : t.version ≡ 3 = sym one_version ∙ is in
-          let roots = sym (picked (eqb s.version 3) (digest (storage_of digest s)) (memory_digest digest s) (eq-eqb s.version 3 is)) ∙ (one
-          ∙ picked (eqb t.version 3) (digest (storage_of digest t)) (memory_digest digest t) (eq-eqb t.version 3 other)) in
-          and-then
-          (strings-bind (storage_of digest s) (storage_of digest t) (is_storage is refl) (is_storage other refl) roots)
-          (λ same.
-          let s_length = s_valid.short in
-          let t_length = t_valid.short in
-          let parts = storage_text_same (memory_digest digest s) (memory_digest digest t) _ _ (length s.input) (length t.input)
-          (memory-size digest is_digest s ∙ sym (memory-size digest is_digest t)) (omega arith) (omega arith) same in
-          and-then (memory-bound parts.0) (λ memory.
-          and-then
-          (trees-bind (input_leaf s.input) (input_leaf t.input) 15 (λ split. (is_input is split.of_first, is_input other split.of_second)) parts.2)
-          (λ leaves. inl (
-            memory,
-            picked (eqb s.version 3) s.input [] (eq-eqb s.version 3 is)
-                ∙ (input-same s.input t.input s_valid.short parts.1 leaves ∙ sym (picked (eqb t.version 3) t.input [] (eq-eqb t.version 3 other))),
-          ))))
-
-      unkept : s.version ≢ 3 → ((s.memory ≡ t.memory) × (cond (eqb s.version 3) s.input [] ≡ cond (eqb t.version 3) t.input [])) ⊎ StatesSplit digest s t
-      unkept is =
-          let other : t.version ≢ 3 = λ e. is (one_version ∙ e) in
-          let roots = sym (dropped (eqb s.version 3) (digest (storage_of digest s)) (memory_digest digest s) (ne_eqb s.version 3 is)) ∙ (one
-          ∙ dropped (eqb t.version 3) (digest (storage_of digest t)) (memory_digest digest t) (ne_eqb t.version 3 other)) in
-          and-then (memory-bound roots) (λ memory.
-          inl (memory, dropped (eqb s.version 3) s.input [] (ne_eqb s.version 3 is) ∙ sym (dropped (eqb t.version 3) t.input [] (ne_eqb t.version 3 other))))
+  -- memory, and of the input what is beside it
+  storage-bound : (held : InputScheme) → (scheme_of s.version).input ≡ held → (scheme_of t.version).input ≡ held
+      → storage_by digest held (memory_digest digest s) (length s.input) (input_root digest s.input) ≡ storage_by digest held (memory_digest digest t) (length t.input) (input_root digest t.input)
+      → ((s.memory ≡ t.memory) × (beside_memory held s.input ≡ beside_memory held t.input)) ⊎ StatesSplit digest s t
+  storage-bound input.InMemory is other one = and-then (memory-bound one) (λ memory. inl (memory, refl))
+  storage-bound input.Tree is other one = and-then
+      (strings-bind (storage_of digest s) (storage_of digest t) (is_storage is refl) (is_storage other refl) one)
+      (λ same.
+      let s_length = s_valid.short in
+      let t_length = t_valid.short in
+      let parts = storage_text_same (memory_digest digest s) (memory_digest digest t) _ _ (length s.input) (length t.input)
+      (memory-size digest is_digest s ∙ sym (memory-size digest is_digest t)) (omega arith) (omega arith) same in
+      and-then (memory-bound parts.0) (λ memory.
+      and-then
+      (trees-bind (input_leaf s.input) (input_leaf t.input) 15 (λ split. (is_input is split.of_first, is_input other split.of_second)) parts.2)
+      (λ leaves. inl (memory, input-same s.input t.input s_valid.short parts.1 leaves))))
 
   control-bound : digest (control_text_of (ctl_of digest s)) ≡ digest (control_text_of (ctl_of digest t))
       → ((s.pc ≡ t.pc) × (s.status ≡ t.status) × (length s.output ≡ length t.output) × (chain_of digest s.output ≡ chain_of digest t.output)) ⊎ StatesSplit digest s t
@@ -220,12 +190,16 @@ module _ (trees : TreeLaw) (strings : StringLaw) (chains : ChainLaw) (digest : L
 
   pub bound : root_in digest s.version s ≡ root_in digest t.version t → (committed_part s ≡ committed_part t) ⊎ StatesSplit digest s t
   bound one = and-then (strings-bind (state_text_in digest s.version s) (state_text_in digest t.version t) (is_state refl) (is_state refl) one) (λ texts.
+      let held = ap scheme_of (sym one_version) in
+      let input_held = ap (λ (v : Scheme). v.input) held in
+      let registers_held = ap (λ (v : Scheme). v.registers) held in
       let parts = state_text_same (storage_digest digest s.version s) (registers_digest digest s.version s.regs) (digest (control_text_of (ctl_of digest s)))
       (storage_digest digest t.version t) (registers_digest digest t.version t.regs) (digest (control_text_of (ctl_of digest t)))
-      (storage-size digest is_digest s.version s ∙ sym (storage-size digest is_digest t.version t))
-      (registers-size digest is_digest s.version s.regs ∙ sym (registers-size digest is_digest t.version t.regs)) (cons_parts 4 4 _ _ texts).1 in
-      and-then (storage-bound parts.0) (λ (memory, input).
-      and-then (registers-bound parts.1) (λ regs.
+      (storage-size digest is_digest (scheme_of s.version).input s ∙ sym (storage-size digest is_digest (scheme_of t.version).input t))
+      (registers-size digest is_digest (scheme_of s.version).registers s.regs ∙ sym (registers-size digest is_digest (scheme_of t.version).registers t.regs)) (cons_parts 4 4 _ _ texts).1 in
+      and-then (storage-bound (scheme_of s.version).input refl input_held (parts.0 ∙ ap (λ v. storage_by digest v (memory_digest digest t) (length t.input) (input_root digest t.input)) input_held)) (λ (memory, input).
+      and-then (registers-bound (scheme_of s.version).registers refl registers_held (parts.1 ∙ ap (λ v. registers_by digest v t.regs) registers_held)) (λ regs.
       and-then (control-bound parts.2) (λ (pc, status, size, chain).
       and-then (output-bound size chain) (λ output.
-      inl (λ i. record { regs = regs i; pc = pc i; memory = memory i; status = status i; output = output i; version = one_version i; input = input i }))))))
+      let beside = input ∙ ap (λ v. beside_memory v t.input) (sym input_held) in
+      inl (λ i. record { regs = regs i; pc = pc i; memory = memory i; status = status i; output = output i; version = one_version i; input = beside i }))))))

@@ -1,10 +1,12 @@
 -- To believe: what the root of a state commits to, and when strings of two states have one digest.
-use Rattle.std.specs.Prelude.{ℕ, ◌==◌, List, [], if◌then◌else◌}
+use Rattle.std.specs.Prelude.{ℕ, List}
+use Rattle.rd_base.specs.Scheme.{scheme_of}
 use Rattle.merkle_nodes.specs.Split.{IsSplit}
+use Rattle.rv_step.specs.Loaded.{beside_memory}
 use Rattle.rv_step.specs.State.{State}
 use Rattle.state_commit.specs.Strings.{IsStringIn}
 
--- what a root commits to of a state: all of it; but the input in version 3 alone, since in versions 1 and 2 it lies in memory
+-- what a root commits to of a state: all of it; of the input what is beside memory
 abbrev pub committed_part : State → State
 committed_part s = record {
   regs = s.regs;
@@ -13,7 +15,7 @@ committed_part s = record {
   status = s.status;
   output = s.output;
   version = s.version;
-  input = if s.version == 3 then s.input else [];
+  input = beside_memory (scheme_of s.version).input s.input;
 }
 
 -- a string of one state and a different string of another one have one digest, each in its state's version

@@ -1,7 +1,11 @@
--- To believe: the root of a state, which commits to all of it, in each version of the commitment. In version 1 the registers are digested
--- as one string; from version 2 on they are a tree; and in version 3 the input is a tree, too, whose root and length are beside the root of
--- memory in the storage string.
-use Rattle.std.specs.Prelude.{ℕ, ◌%◌, ◌^◌, ◌==◌, List, length, if◌then◌else◌}
+-- To believe: the root of a state, which commits to all of it, in each version of the commitment, by how the version holds the registers and
+-- the input (`rd_base`, `Scheme`).
+use Rattle.std.specs.Prelude.{ℕ, ◌%◌, ◌^◌, List, length}
+use Rattle.rd_base.specs.Scheme.{scheme_of}
+use Rattle.rd_base.specs.declared.scheme.InputScheme.{InputScheme}
+use Rattle.rd_base.specs.declared.scheme.InputScheme.TheVariants as input
+use Rattle.rd_base.specs.declared.scheme.RegisterScheme.{RegisterScheme}
+use Rattle.rd_base.specs.declared.scheme.RegisterScheme.TheVariants as registers
 use Rattle.rd_base.specs.declared.status.Ctl.{Ctl}
 use Rattle.digest_core.specs.Text.{registers_text, storage_text}
 use Rattle.digest_core.specs.Chain.{chain_of}
@@ -19,17 +23,26 @@ ctl_of digest s = record { pc = s.pc; status = s.status; out_len = length s.outp
 abbrev pub memory_digest : (List ℕ → List ℕ) → State → List ℕ
 memory_digest digest s = memory_node digest s.memory 27 0
 
--- the digest of the registers: of their string in version 1, and from version 2 on the root of their tree
+-- the digest of the registers: of their string, or the root of their tree
+abbrev pub registers_by : (List ℕ → List ℕ) → RegisterScheme → List ℕ → List ℕ
+registers_by digest registers.Whole xs = digest (registers_text xs)
+registers_by digest registers.Tree xs = registers_root digest xs
+
 abbrev pub registers_digest : (List ℕ → List ℕ) → ℕ → List ℕ → List ℕ
-registers_digest digest version xs = if version == 1 then digest (registers_text xs) else registers_root digest xs
+registers_digest digest version xs = registers_by digest (scheme_of version).registers xs
 
 -- the storage string of a state: the root of its memory, and the length and the root of its input
 abbrev pub storage_of : (List ℕ → List ℕ) → State → List ℕ
 storage_of digest s = storage_text (memory_digest digest s) (length s.input) (input_root digest s.input)
 
--- the digest of what a state stores: the root of its memory, and in version 3 the digest of its storage string
+-- the digest of what is stored: the root of memory, or, if the input is a tree, the digest of the storage string, which has the input's
+-- length and root beside it
+abbrev pub storage_by : (List ℕ → List ℕ) → InputScheme → List ℕ → ℕ → List ℕ → List ℕ
+storage_by digest input.InMemory memory len root = memory
+storage_by digest input.Tree memory len root = digest (storage_text memory len root)
+
 abbrev pub storage_digest : (List ℕ → List ℕ) → ℕ → State → List ℕ
-storage_digest digest version s = if version == 3 then digest (storage_of digest s) else memory_digest digest s
+storage_digest digest version s = storage_by digest (scheme_of version).input (memory_digest digest s) (length s.input) (input_root digest s.input)
 
 -- the state string of a state, in a version
 abbrev pub state_text_in : (List ℕ → List ℕ) → ℕ → State → List ℕ

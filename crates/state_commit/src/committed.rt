@@ -5,12 +5,12 @@ ghost use Rattle.mem_tree.specs.Tree.{IsTreeOf};
 ghost use Rattle.rv_step.specs.State.{state_of};
 ghost use Rattle.state_commit.specs.Committing.{HasTreeFor, HasRegisters, HasInput};
 
-use crate::root::{Parts, WHOLE_REGISTERS, root_of_parts, storage_digest};
+use crate::root::{Parts, root_of_parts, storage_digest};
 use crate::shared_input::SharedInput;
 use digest_core::{Digester, registers_text};
 use mem_plain::PlainMem;
 use mem_tree::{MemTree, RegTree};
-use rd_base::{Digest32, Memory, Path, RegPath};
+use rd_base::{Digest32, Memory, Path, RegPath, RegisterScheme, Scheme};
 use rv_step::{Machine, one_page_changes, runs_keep_the_input, step, touches};
 use std::alloc::Global;
 use std::marker::Model;
@@ -38,10 +38,9 @@ fn follow<D: Digester>(
 fn registers_of<D: Digester>(d: D, machine: &Machine) -> Option<RegTree<D>>
     ensures { HasRegisters (state_of machine.now) result }
 {
-    if machine.version == WHOLE_REGISTERS {
-        None
-    } else {
-        Some(RegTree::new(d, &machine.regs))
+    match Scheme::of(machine.version).registers {
+        RegisterScheme::Whole => None,
+        RegisterScheme::Tree => Some(RegTree::new(d, &machine.regs)),
     }
 }
 
@@ -93,6 +92,8 @@ impl<D: Digester> Committed<D> {
     ghost use Rattle.state_commit.specs.StateRoot.{registers_digest, storage_digest as storage_of_state, root_in};
     ghost use Rattle.mem_tree.specs.Memory.{memory_leaf};
     ghost use Rattle.mem_tree.specs.RegisterTree.{register_leaf};
+    ghost use Rattle.rd_base.specs.Scheme.{scheme_of};
+    ghost use Rattle.rd_base.specs.declared.scheme.RegisterScheme.TheVariants as RegisterScheme;
 
     /// A machine with the trees of its version, which are built from scratch. The machine's chain is that of its output, by this
     /// digester. An `Err` is out of memory, and drops the machine.
@@ -232,10 +233,10 @@ impl<D: Digester> Committed<D> {
         self.memory.path(chunk)
     }
 
-    /// The path of a register, from `x0` to `x31`, if the version is above 1.
+    /// The path of a register, from `x0` to `x31`, if the version holds them as a tree.
     pub fn register_path(&self, reg: u8) -> RegPath
         requires reg { reg < 32 }
-        requires version { self.now.version ≢ 1 }
+        requires version { (scheme_of self.now.version).registers ≡ RegisterScheme.Tree }
         ensures { IsPath D.digest_of (register_leaf self.now.regs) 5 reg result.0 }
     {
         match &self.regs {

@@ -2,10 +2,9 @@
 ghost use Rattle.std.specs.Prelude.{◌≡◌};
 ghost use Rattle.state_commit.specs.StateRoot.{registers_digest};
 
-use crate::root::WHOLE_REGISTERS;
 use digest_core::{Digester, registers_text};
 use mem_tree::RegTree;
-use rd_base::{Digest32, Regs};
+use rd_base::{Digest32, RegisterScheme, Regs, Scheme};
 use std::marker::Model;
 
 /// The digest of registers in a version of the commitment. As the code shows, from version 2 on the tree is kept of those for which it was
@@ -35,18 +34,11 @@ impl<D: Digester> KeptRegisters<D> {
     pub fn new(d: D, version: u32, regs: &Regs) -> Self
         ensures { result ≡ version }
     {
-        if version == WHOLE_REGISTERS {
-            return KeptRegisters {
-                d,
-                version,
-                tree: None,
-            };
-        }
-        KeptRegisters {
-            d,
-            version,
-            tree: Some(RegTree::new(d, regs)),
-        }
+        let tree = match Scheme::of(version).registers {
+            RegisterScheme::Whole => None,
+            RegisterScheme::Tree => Some(RegTree::new(d, regs)),
+        };
+        KeptRegisters { d, version, tree }
     }
 
     /// The digest of registers. As the code shows, from version 2 on the tree that is kept is theirs from now on.

@@ -21,7 +21,7 @@ pub use committed::Committed;
 pub use kept_registers::KeptRegisters;
 pub use laws::a_root_binds;
 pub use root::{
-    INPUT_TREE, Parts, WHOLE_REGISTERS, registers_digest, root_of_parts, state_root,
+    Parts, registers_digest, root_of_parts, state_root,
     state_root_with,
 };
 pub use shared_input::{SharedInput, one_input_has_one_tree};

@@ -1,6 +1,7 @@
 //! The root of a machine's state in each version of the commitment, from scratch or from its parts, and that of a memory from scratch.
-ghost use Rattle.std.specs.Prelude.{◌≡◌, ◌==◌, ℕ, ◌+◌, ◌-◌, ◌<◌, ◌≤◌, ◌^◌, if◌then◌else◌, length, replicate, false};
-ghost use Rattle.digest_core.specs.Text.{storage_text as text_of_storage};
+ghost use Rattle.std.specs.Prelude.{◌≡◌, ℕ, ◌+◌, ◌-◌, ◌<◌, ◌≤◌, ◌^◌, length, false};
+ghost use Rattle.rd_base.specs.Scheme.{scheme_of};
+ghost use Rattle.rd_base.specs.declared.scheme.InputScheme.TheVariants as InputScheme;
 ghost use Rattle.rv_step.specs.State.{state_of, IsChained};
 ghost use Rattle.state_commit.specs.StateRoot as state;
 ghost use Rattle.state_commit.specs.Committing.{HasInput};
@@ -15,29 +16,20 @@ use mem_plain::{PAGES, PlainMem};
 use mem_tree::{PAGE_LEVEL, RegTree, UPPER_LEVELS, input_root, memory_nodes};
 use merkle_nodes::{fill_empty_nodes, node_equations};
 use out_chain::parts_root;
-use rd_base::{Digest32, Regs};
-use rv_step::{Machine, OFFERING_VERSION};
+use rd_base::{Digest32, InputScheme, RegisterScheme, Regs, Scheme};
+use rv_step::Machine;
 
-/// The version of the commitment in which the registers are digested as one string.
-pub const WHOLE_REGISTERS: u32 = 1;
-
-/// The version of the commitment in which the input is a tree.
-pub const INPUT_TREE: u32 = OFFERING_VERSION;
-
-/// The digest of registers in a version of the commitment, from scratch: that of their string in version 1, and from version 2 on
-/// the root of their tree.
+/// The digest of registers in a version of the commitment, from scratch: that of their string, or the root of their tree.
 pub fn registers_digest<D: Digester>(d: D, version: u32, regs: &Regs) -> Digest32
     ensures { result.0 ≡ state.registers_digest D.digest_of version regs.now }
 {
-    if version == WHOLE_REGISTERS {
-        d.digest(registers_text(regs).as_slice())
-    } else {
-        RegTree::new(d, regs).root()
+    match Scheme::of(version).registers {
+        RegisterScheme::Whole => d.digest(registers_text(regs).as_slice()),
+        RegisterScheme::Tree => RegTree::new(d, regs).root(),
     }
 }
 
-/// The digest of what a state stores, from the root of its memory and the length and the root of its input. A version below 3 has
-/// the root of memory alone.
+/// The digest of what a state stores, from the root of its memory and the length and the root of its input.
 pub(crate) fn storage_digest<D: Digester>(
     d: D,
     version: u32,
@@ -45,17 +37,16 @@ pub(crate) fn storage_digest<D: Digester>(
     input_len: u32,
     input: Digest32,
 ) -> Digest32
-    ensures { result.0 ≡ (if version == 3 then D.digest_of (text_of_storage memory.0 input_len input.0) else memory.0) }
+    ensures { result.0 ≡ state.storage_by D.digest_of (scheme_of version).input memory.0 input_len input.0 }
 {
-    if version == INPUT_TREE {
-        d.digest(storage_text(&memory, input_len, &input).as_slice())
-    } else {
-        memory
+    match Scheme::of(version).input {
+        InputScheme::Tree => d.digest(storage_text(&memory, input_len, &input).as_slice()),
+        InputScheme::InMemory => memory,
     }
 }
 
 /// The digests of a state's parts in a version of the commitment: the root of its memory, the digest of its registers in this version,
-/// and the root of its input, which only version 3 needs.
+/// and the root of its input, which is needed only if it is a tree.
 #[derive(Clone, Copy)]
 pub struct Parts {
     pub memory: Digest32,
@@ -64,12 +55,12 @@ pub struct Parts {
 }
 
 /// The root of a machine's state in a version of the commitment, from the digests of its parts. The machine's chain is that of its
-/// output, by this digester. As the code shows it takes two digests, and in version 3 three.
+/// output, by this digester. As the code shows it takes two digests, and three if the input is a tree.
 pub fn root_of_parts<D: Digester>(d: D, version: u32, parts: &Parts, machine: &Machine) -> Digest32
     requires chained { IsChained D.digest_of machine.now }
     requires memory { parts.now.memory.0 ≡ state.memory_digest D.digest_of (state_of machine.now) }
     requires registers { parts.now.registers.0 ≡ state.registers_digest D.digest_of version machine.now.regs }
-    requires input { version ≡ 3 → parts.now.input.0 ≡ inputs.input_root D.digest_of machine.now.input.items }
+    requires input { (scheme_of version).input ≡ InputScheme.Tree → parts.now.input.0 ≡ inputs.input_root D.digest_of machine.now.input.items }
     ensures { result.0 ≡ state.root_in D.digest_of version (state_of machine.now) }
 {
     let _out_len = machine.ctl.out_len;
@@ -80,12 +71,11 @@ pub fn root_of_parts<D: Digester>(d: D, version: u32, parts: &Parts, machine: &M
 
 /// The root of the input that a state's root has in a version of the commitment: 32 zeros in a version that has none.
 fn input_part<D: Digester>(d: D, version: u32, input: &[u8]) -> Digest32
-    ensures { result.0 ≡ (if version == 3 then inputs.input_root D.digest_of input.now else replicate 32 0) }
+    ensures { (scheme_of version).input ≡ InputScheme.Tree → result.0 ≡ inputs.input_root D.digest_of input.now }
 {
-    if version == INPUT_TREE {
-        input_root(d, input)
-    } else {
-        Digest32::ZERO
+    match Scheme::of(version).input {
+        InputScheme::Tree => input_root(d, input),
+        InputScheme::InMemory => Digest32::ZERO,
     }
 }
 

@@ -1,13 +1,12 @@
 //! The tree of an input, which is built once and shared.
-ghost use Rattle.std.specs.Prelude.{◌≡◌, ◌≢◌, ◌<◌, ◌^◌, ℕ, List, Option, replicate, IfOk};
+ghost use Rattle.std.specs.Prelude.{◌≡◌, ◌<◌, ◌^◌, ℕ, List, Option, replicate, IfOk};
 ghost use Rattle.rd_base.specs.declared.digest.Digest32.{Digest32};
 ghost use Rattle.rv_step.specs.State.{State, state_of};
 ghost use Rattle.state_commit.specs.Committing.{HasInput};
 
-use crate::root::INPUT_TREE;
 use digest_core::Digester;
 use mem_tree::InputTree;
-use rd_base::{Digest32, InPath, Memory};
+use rd_base::{Digest32, InPath, InputScheme, Memory, Scheme};
 use rv_step::Machine;
 use std::alloc::Global;
 use std::marker::Model;
@@ -33,6 +32,8 @@ impl<D: Digester> Model for SharedInput<D> {
 }
 
 impl<D: Digester> SharedInput<D> {
+    ghost use Rattle.rd_base.specs.Scheme.{scheme_of};
+    ghost use Rattle.rd_base.specs.declared.scheme.InputScheme.TheVariants as InputScheme;
     ghost use Rattle.merkle_nodes.specs.Opening.{IsPath};
     ghost use Rattle.mem_tree.specs.InputTree.{input_leaf, input_root};
 
@@ -40,13 +41,15 @@ impl<D: Digester> SharedInput<D> {
     pub fn of(alloc: Global, d: D, machine: &Machine) -> Result<Self, Memory>
         ensures { IfOk result (HasInput D.digest_of (state_of machine.now)) }
     {
-        if machine.version != INPUT_TREE {
-            return Ok(SharedInput { tree: None });
+        match Scheme::of(machine.version).input {
+            InputScheme::InMemory => Ok(SharedInput { tree: None }),
+            InputScheme::Tree => {
+                let tree = InputTree::build(alloc, d, &machine.input)?;
+                Ok(SharedInput {
+                    tree: Some(Arc::new(alloc, tree)?),
+                })
+            }
         }
-        let tree = InputTree::build(alloc, d, &machine.input)?;
-        Ok(SharedInput {
-            tree: Some(Arc::new(alloc, tree)?),
-        })
     }
 
     /// Another handle to the same tree. It takes no memory. An `Err` is that of `Arc::try_clone`.
@@ -63,8 +66,8 @@ impl<D: Digester> SharedInput<D> {
 
     /// The root of the input in version 3, and 32 zeros below version 3.
     pub fn root(&self) -> Digest32
-        ensures root { (s : State) → HasInput D.digest_of s self.now → s.version ≡ 3 → result.0 ≡ input_root D.digest_of s.input }
-        ensures zeros { (s : State) → HasInput D.digest_of s self.now → s.version ≢ 3 → result.0 ≡ replicate 32 0 }
+        ensures root { (s : State) → HasInput D.digest_of s self.now → (scheme_of s.version).input ≡ InputScheme.Tree → result.0 ≡ input_root D.digest_of s.input }
+        ensures zeros { (s : State) → HasInput D.digest_of s self.now → (scheme_of s.version).input ≡ InputScheme.InMemory → result.0 ≡ replicate 32 0 }
     {
         match &self.tree {
             Some(tree) => tree.root(),
@@ -75,7 +78,7 @@ impl<D: Digester> SharedInput<D> {
     /// The path of a chunk of the input, by the chunk's index below 2^15, if the version is 3.
     pub fn path(&self, chunk: u32) -> InPath
         requires { chunk < 2 ^ 15 }
-        ensures { (s : State) → HasInput D.digest_of s self.now → s.version ≡ 3 → IsPath D.digest_of (input_leaf s.input) 15 chunk result.0 }
+        ensures { (s : State) → HasInput D.digest_of s self.now → (scheme_of s.version).input ≡ InputScheme.Tree → IsPath D.digest_of (input_leaf s.input) 15 chunk result.0 }
     {
         match &self.tree {
             Some(tree) => tree.path(chunk),

@@ -8,13 +8,15 @@ use Rattle.rd_base.specs.declared.opened.InOpening.{InOpening}
 use Rattle.rd_base.specs.declared.opened.RegOpening.{RegOpening}
 use Rattle.rd_base.specs.declared.proof.Proof.{Proof}
 use Rattle.rd_base.specs.declared.proof.Proof.TheVariants.{V1, V2, V3}
+use Rattle.rd_base.specs.declared.scheme.InputScheme.{InputScheme}
+use Rattle.rd_base.specs.declared.scheme.InputScheme.TheVariants as input
 use Rattle.rv_decode.specs.Reading.{reading_of}
 use Rattle.rv_decode.specs.Fields.{fields_of}
 use Rattle.rv_decode.specs.declared.instr.Instr.{Instr}
 use Rattle.rv_decode.specs.declared.instr.Instr.TheVariants.{Lb, Lh, Lw, Lbu, Lhu, Sb, Sh, Sw, Ecall}
 use Rattle.rv_step.specs.Effect.{effect_with, x}
 use Rattle.rv_step.specs.Named.{first_source, second_source, destination, kept, once, named, named_by}
-use Rattle.rv_step.specs.Parts.{needed_in}
+use Rattle.rv_step.specs.Parts.{byte_called, call_needed, needed_in}
 use Rattle.rv_step.specs.Step.{regs_after}
 use Rattle.rv_step.specs.declared.asked.Need.TheVariants as need
 use Rattle.rv_step.specs.declared.effect.Effect.{Effect}
@@ -158,26 +160,26 @@ named-few None = omega arith
 named-few (Some i) = once-length (first_source i) (second_source i) (destination i)
 
 -- an instruction that reads or writes memory names two
-call-address : (version number argument : ℕ) → address_needed (cond (eqb number 2) (cond (eqb version 3) (need.Input argument) (need.Trap 8)) need.Nothing) ≡ None
-call-address version number argument = go (eqb number 2) (eqb version 3)
+call-address : (held : InputScheme) (number argument : ℕ) → address_needed (call_needed held number argument) ≡ None
+call-address held number argument = go (eqb number 2) held
   where
-    go : (a b : Bool) → address_needed (cond a (cond b (need.Input argument) (need.Trap 8)) need.Nothing) ≡ None
-    go true true = refl
-    go true false = refl
-    go false b = refl
+    go : (a : Bool) (held : InputScheme) → address_needed (cond a (byte_called held argument) need.Nothing) ≡ None
+    go true input.Tree = refl
+    go true input.InMemory = refl
+    go false held = refl
 
-access-two : (version : ℕ) (xs : List ℕ) (i : Instr) → is_some (address_needed (needed_in version xs i)) ≡ true → length (named i) ≤ 2
+access-two : (held : InputScheme) (xs : List ℕ) (i : Instr) → is_some (address_needed (needed_in held xs i)) ≡ true → length (named i) ≤ 2
 unfolding named needed_in fields_of first_source second_source destination
-access-two version xs (Lb i) called = once-second i.rs1 i.rd
-access-two version xs (Lh i) called = once-second i.rs1 i.rd
-access-two version xs (Lw i) called = once-second i.rs1 i.rd
-access-two version xs (Lbu i) called = once-second i.rs1 i.rd
-access-two version xs (Lhu i) called = once-second i.rs1 i.rd
-access-two version xs (Sb i) called = once-last i.rs1 i.rs2
-access-two version xs (Sh i) called = once-last i.rs1 i.rs2
-access-two version xs (Sw i) called = once-last i.rs1 i.rs2
-access-two version xs Ecall called = absurd (true≢false (sym called ∙ ap is_some (call-address version (x xs 17) (x xs 10))))
-access-two version xs i called = absurd (true≢false (sym called))
+access-two held xs (Lb i) called = once-second i.rs1 i.rd
+access-two held xs (Lh i) called = once-second i.rs1 i.rd
+access-two held xs (Lw i) called = once-second i.rs1 i.rd
+access-two held xs (Lbu i) called = once-second i.rs1 i.rd
+access-two held xs (Lhu i) called = once-second i.rs1 i.rd
+access-two held xs (Sb i) called = once-last i.rs1 i.rs2
+access-two held xs (Sh i) called = once-last i.rs1 i.rs2
+access-two held xs (Sw i) called = once-last i.rs1 i.rs2
+access-two held xs Ecall called = absurd (true≢false (sym called ∙ ap is_some (call-address held (x xs 17) (x xs 10))))
+access-two held xs i called = absurd (true≢false (sym called))
 
 operand-two : (tree : Option HeldInput) (xs : List ℕ) (o : Option Instr) → is_some (address_needed (needed_by tree xs o)) ≡ true → length (named_by o) ≤ 2
 operand-two tree xs None called = absurd (true≢false (sym called))
@@ -195,7 +197,7 @@ store-reads-none t false addr width value code = refl
 none-called : {A : Type 0} (o : Option ℕ) → o ≡ None → is_some o ≡ true → A
 none-called o none called = absurd (true≢false (sym called ∙ ap is_some none))
 
-read-two : (t : HeldInput) (xs : List ℕ) (i : Instr) → is_some (byte_needed (Some t) (needed_in 3 xs i)) ≡ true → (length (named i) ≤ 2) × (address_needed (needed_in 3 xs i) ≡ None)
+read-two : (t : HeldInput) (xs : List ℕ) (i : Instr) → is_some (byte_needed (Some t) (needed_in input.Tree xs i)) ≡ true → (length (named i) ≤ 2) × (address_needed (needed_in input.Tree xs i) ≡ None)
 unfolding named needed_in fields_of first_source second_source destination
 read-two t xs (Lb i) called = none-called _ (load-reads-none t _ _ _ _) called
 read-two t xs (Lh i) called = none-called _ (load-reads-none t _ _ _ _) called
@@ -205,7 +207,7 @@ read-two t xs (Lhu i) called = none-called _ (load-reads-none t _ _ _ _) called
 read-two t xs (Sb i) called = none-called _ (store-reads-none t _ _ _ _ _) called
 read-two t xs (Sh i) called = none-called _ (store-reads-none t _ _ _ _ _) called
 read-two t xs (Sw i) called = none-called _ (store-reads-none t _ _ _ _ _) called
-read-two t xs Ecall called = (omega arith, call-address 3 (x xs 17) (x xs 10))
+read-two t xs Ecall called = (omega arith, call-address input.Tree (x xs 17) (x xs 10))
 read-two t xs i called = absurd (true≢false (sym called))
 
 input-two : (tree : Option HeldInput) (xs : List ℕ) (o : Option Instr) → is_some (byte_needed tree (needed_by tree xs o)) ≡ true → (length (named_by o) ≤ 2) × (address_needed (needed_by tree xs o) ≡ None)

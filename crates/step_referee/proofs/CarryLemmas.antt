@@ -2,6 +2,7 @@
 use Rattle.std.proofs.Common.{◌≡◌, ℕ, ◌*◌, List, Option, Some, None, refl, sym, ap, ◌∙◌, subst}
 use Rattle.rd_base.specs.declared.opened.Opening.{Opening}
 use Rattle.rd_base.specs.declared.opened.InOpening.{InOpening}
+use Rattle.rd_base.specs.declared.scheme.InputScheme.{InputScheme}
 use Rattle.rv_decode.specs.declared.instr.Instr.{Instr}
 use Rattle.rv_step.specs.Effect.{effect_with}
 use Rattle.rv_step.specs.Offer.{offered}
@@ -47,8 +48,8 @@ held-stored digest operand p mem addr width value is = ap (λ m. record (held_af
 
 -- the law of what an instruction does by what it needs, as `rv_step` states it
 abbrev pub AnyOffer : Type 0
-AnyOffer = (version : ℕ) (byte : ℕ → ℕ) (xs : List ℕ) (pc : ℕ) (read : ℕ → ℕ → ℕ) (i : Instr)
-    → Finishes (effect_with (offered version byte) xs pc read i) (λ loaded. finished xs pc loaded i) read byte (needed_in version xs i)
+AnyOffer = (offers : InputScheme) (byte : ℕ → ℕ) (xs : List ℕ) (pc : ℕ) (read : ℕ → ℕ → ℕ) (i : Instr)
+    → Finishes (effect_with (offered offers byte) xs pc read i) (λ loaded. finished xs pc loaded i) read byte (needed_in offers xs i)
 
 module _ (law : AnyOffer) (tree : Option HeldInput) (input : Option InOpening) (operand : Option Opening) (p : Held) (i : Instr) where
   abbrev pub finished-by : ℕ → Effect

@@ -7,7 +7,11 @@ use Rattle.std.specs.List.{range_with_len}
 use Rattle.rd_base.specs.declared.digest.Digest32.{Digest32}
 use Rattle.rd_base.specs.declared.status.Status.{Status}
 use Rattle.rd_base.specs.declared.status.Status.TheVariants.{Running, Exited, Trapped}
-use Rattle.rd_base.specs.declared.proof.Proof.TheVariants.{V1, V2, V3}
+use Rattle.rd_base.specs.Scheme.{scheme_of}
+use Rattle.rd_base.specs.declared.scheme.InputScheme.{InputScheme}
+use Rattle.rd_base.specs.declared.scheme.InputScheme.TheVariants as input
+use Rattle.rd_base.specs.declared.scheme.RegisterScheme.{RegisterScheme}
+use Rattle.rd_base.specs.declared.scheme.RegisterScheme.TheVariants as registers
 use Rattle.digest_core.specs.Chain.{chain_of}
 use Rattle.digest_core.specs.Text.{status_code}
 use Rattle.mem_plain.specs.Contents.{Contents, byte_at, chunk_at}
@@ -15,7 +19,8 @@ use Rattle.merkle_nodes.specs.Node.{node, beside, digest_at}
 use Rattle.mem_tree.specs.Memory.{memory_node}
 use Rattle.rv_step.specs.Alike.{named_at}
 use Rattle.rv_step.specs.State.{State}
-use Rattle.rv_step.specs.Valid.{IsValid, HasWordCode}
+use Rattle.rd_base.specs.Status.{HasWordCode}
+use Rattle.rv_step.specs.Valid.{IsValid}
 use Rattle.state_commit.specs.StateRoot.{ctl_of, memory_digest}
 use Rattle.mem_tree.specs.RegisterTree.{register_node, registers_root}
 use Rattle.mem_tree.specs.InputTree.{input_chunk, input_node, input_root}
@@ -23,8 +28,8 @@ use Rattle.open_proof.specs.InRange.{are_digests, are_words, is_opening_in_range
 use Rattle.open_proof.specs.OpenedChunk.{siblings_of, opening_at, fetch_of_state}
 use Rattle.open_proof.specs.RangeLaws.{words_are, digests_are}
 use Rattle.open_proof.specs.Facts.{facts_of}
-use Rattle.open_proof.specs.PlainProof.{register_siblings, register_opening, input_siblings, input_opening_at, plain_proof, plain_proof_1, plain_proof_2, plain_proof_3}
-use Rattle.open_proof.specs.Shown.{operand_of_state, input_of_state}
+use Rattle.open_proof.specs.PlainProof.{register_siblings, register_opening, input_siblings, input_opening_at, registers_opened, plain_facts, plain_proof}
+use Rattle.open_proof.specs.Shown.{tree_by, operand_of_state, input_of_state}
 use Rattle.open_proof.specs.declared.facts.Facts.{Facts}
 
 is-true : (x y : ℕ) → x ≡ y → eqb x y ≡ true
@@ -111,13 +116,13 @@ module _ (digest : List ℕ → List ℕ) (is_digest : (bytes : List ℕ) → le
   unfolding input_chunk
   input-chunk-size input k = length-map-range_with_len (λ i. slice_index input (32 * k + i)) 0 32
 
-  input-range : (input : List ℕ) (byte : Option ℕ) → is_input_in_range (input_opening_at digest input byte) ≡ true
-  input-range input None = refl
-  input-range input (Some b) =
+  input-range : (xs : List ℕ) (byte : Option ℕ) → is_input_in_range (input_opening_at digest xs byte) ≡ true
+  input-range xs None = refl
+  input-range xs (Some b) =
       let k = b / 32 in
-      let path = input-path input k in
-      and_from (eqb (length (input_chunk input k)) 32 && eqb (length (input_siblings digest input k)) 15) (are_digests (input_siblings digest input k))
-      (and_from (eqb (length (input_chunk input k)) 32) (eqb (length (input_siblings digest input k)) 15) (is-true _ 32 (input-chunk-size input k)) (is-true _ 15 path.0)) path.1
+      let path = input-path xs k in
+      and_from (eqb (length (input_chunk xs k)) 32 && eqb (length (input_siblings digest xs k)) 15) (are_digests (input_siblings digest xs k))
+      (and_from (eqb (length (input_chunk xs k)) 32) (eqb (length (input_siblings digest xs k)) 15) (is-true _ 32 (input-chunk-size xs k)) (is-true _ 15 path.0)) path.1
 
   module _ (chained : (output : List ℕ) → length (chain_of digest output) ≡ 32) (s : State) (valid : IsValid s) where
     ctl-range : is_ctl_in_range (ctl_of digest s) ≡ true
@@ -125,31 +130,19 @@ module _ (digest : List ℕ → List ℕ) (is_digest : (bytes : List ℕ) → le
         and_from _ _ (and_from _ _ (and_from _ _ ((Decides-ltb s.pc (2 ^ 32)).1 valid.pc) ((Decides-ltb (status_code s.status) (2 ^ 32)).1 (code-fits s.status valid.status)))
         ((Decides-ltb (ctl_of digest s).out_len (2 ^ 64)).1 (length-fits s.output))) (is-true (length (chain_of digest s.output)) 32 (chained s.output))
 
-    opened-range : (eqb (length (registers_root digest s.regs)) 32 && are_openings_in_range (map (register_opening digest s.regs) (named_at s))) ≡ true
-    opened-range = and_from _ _ (is-true _ 32 (registers-size s.regs)) (each-range s.regs valid.regs.words (named_at s))
+    registers-range : (held : RegisterScheme) → are_registers_in_range (registers_opened digest held s.regs (named_at s)) ≡ true
+    registers-range registers.Whole = and_from _ _ (is-true (length s.regs) 32 valid.regs.thirty_two) (words_are s.regs valid.regs.words)
+    registers-range registers.Tree = and_from _ _ (is-true _ 32 (registers-size s.regs)) (each-range s.regs valid.regs.words (named_at s))
 
-    first : is_in_range (V1 (plain_proof_1 digest s)) ≡ true
-    first = parts-true (facts_of (V1 (plain_proof_1 digest s))) (memory-size s) refl
-        (and_from _ _ (is-true (length s.regs) 32 valid.regs.thirty_two) (words_are s.regs valid.regs.words)) ctl-range
-        (chunk-range s.memory (fetch_of_state digest s)) (chunk-range s.memory (operand_of_state digest s)) refl
-
-    second : is_in_range (V2 (plain_proof_2 digest s)) ≡ true
-    second = parts-true (facts_of (V2 (plain_proof_2 digest s))) (memory-size s) refl opened-range ctl-range
-        (chunk-range s.memory (fetch_of_state digest s)) (chunk-range s.memory (operand_of_state digest s)) refl
-
-    third : is_in_range (V3 (plain_proof_3 digest s)) ≡ true
-    third =
+    tree-range : (held : InputScheme) → is_tree_in_range (tree_by digest held s.input) ≡ true
+    tree-range input.InMemory = refl
+    tree-range input.Tree =
         let short = valid.short in
         let fits : length s.input < 2 ^ 32 = omega (arith, short) in
-        parts-true (facts_of (V3 (plain_proof_3 digest s))) (memory-size s)
-        (and_from _ _ ((Decides-ltb (length s.input) (2 ^ 32)).1 fits) (is-true _ 32 (input-size s.input))) opened-range ctl-range
-        (chunk-range s.memory (fetch_of_state digest s)) (chunk-range s.memory (operand_of_state digest s)) (input-range s.input (input_of_state digest s))
+        and_from _ _ ((Decides-ltb (length s.input) (2 ^ 32)).1 fits) (is-true _ 32 (input-size s.input))
 
-    pub plain-in-range : is_in_range (plain_proof digest s) ≡ true
-    unfolding plain_proof
-    plain-in-range = go (eqb s.version 1) (eqb s.version 3)
-      where
-        go : (one three : Bool) → is_in_range (cond one (V1 (plain_proof_1 digest s)) (cond three (V3 (plain_proof_3 digest s)) (V2 (plain_proof_2 digest s)))) ≡ true
-        go true three = first
-        go false true = third
-        go false false = second
+    pub plain-in-range : facts_of (plain_proof digest s) ≡ plain_facts digest s → is_in_range (plain_proof digest s) ≡ true
+    plain-in-range holds =
+        ap are_facts_in_range holds
+        ∙ parts-true (plain_facts digest s) (memory-size s) (tree-range (scheme_of s.version).input) (registers-range (scheme_of s.version).registers) ctl-range
+        (chunk-range s.memory (fetch_of_state digest s)) (chunk-range s.memory (operand_of_state digest s)) (input-range s.input (input_of_state digest s))

@@ -5,11 +5,16 @@ use Rattle.std.proofs.lemmas.Bool.{and_from}
 use Rattle.std.proofs.lemmas.Bool.Decides.{Decides-eqb, Decides-ltb}
 use Rattle.std.proofs.lemmas.Slice.Eq.{bytes_eq-Decides}
 use Rattle.rd_base.specs.Status.{is_running}
+use Rattle.rd_base.specs.Scheme.{scheme_of}
+use Rattle.rd_base.specs.declared.scheme.InputScheme.{InputScheme}
+use Rattle.rd_base.specs.declared.scheme.InputScheme.TheVariants as input
+use Rattle.rd_base.specs.declared.scheme.RegisterScheme.{RegisterScheme}
+use Rattle.rd_base.specs.declared.scheme.RegisterScheme.TheVariants as registers
 use Rattle.rd_base.specs.declared.digest.Digest32.{Digest32}
 use Rattle.rv_decode.specs.Reading.{reading_of}
 use Rattle.rv_decode.specs.declared.instr.Instr.{Instr}
 use Rattle.digest_core.specs.Chain.{chain_of}
-use Rattle.digest_core.specs.Text.{status_code, registers_text}
+use Rattle.digest_core.specs.Text.{status_code}
 use Rattle.mem_plain.specs.Contents.{number_at}
 use Rattle.out_chain.specs.Soundness.{is_sound, says_sound, claim_check}
 use Rattle.out_chain.specs.declared.checking.ClaimCheck.TheVariants.{Sound, WrongLength, WrongChain}
@@ -18,11 +23,11 @@ use Rattle.rv_step.specs.Step.{step, state_at, after_word, after_effect, output_
 use Rattle.rv_step.specs.Valid.{IsValid}
 use Rattle.rv_step.specs.declared.effect.Effect.{Effect}
 use Rattle.rv_step.specs.declared.effect.Effect.TheVariants.{Write, Jump, Branch, Next, Store, Put, Exit, Trap}
-use Rattle.state_commit.specs.StateRoot.{ctl_of, memory_digest, registers_digest, storage_of, storage_digest, root_in}
-use Rattle.mem_tree.specs.RegisterTree.{registers_root}
+use Rattle.state_commit.specs.StateRoot.{ctl_of, memory_digest, registers_by, registers_digest, storage_by, storage_digest, root_in}
+use Rattle.mem_tree.specs.InputTree.{input_root}
 use Rattle.open_proof.specs.Conditions.{LeadsFrom}
 use Rattle.open_proof.specs.Facts.{facts_of}
-use Rattle.open_proof.specs.PlainProof.{plain_proof}
+use Rattle.open_proof.specs.PlainProof.{plain_facts, plain_proof}
 use Rattle.open_proof.specs.PlainClaim.{plain_claim}
 use Rattle.bisect_game.specs.Ruling.{Ruling}
 use Rattle.bisect_game.specs.Rules.{Rules}
@@ -71,6 +76,7 @@ pub record RunLaws (digest : List ℕ → List ℕ) : Type 0 where
   pub version : (s : State) (n : ℕ) → (state_at s n).version ≡ s.version
   pub leads : (s : State) (a b : Digest32) → IsValid s → a.0 ≡ root_in digest s.version s → b.0 ≡ root_in digest s.version (step s)
       → LeadsFrom digest s.version a (facts_of (plain_proof digest s)) b
+  pub holds : (s : State) → IsValid s → facts_of (plain_proof digest s) ≡ plain_facts digest s
 
 module _ (digest : List ℕ → List ℕ) (laws : RunLaws digest) where
   valid-at : (s : State) (i : ℕ) → IsValid s → IsValid (state_at s i)
@@ -84,22 +90,22 @@ module _ (digest : List ℕ → List ℕ) (laws : RunLaws digest) where
   plain-leads s valid =
       let next : root_in digest (step s).version (step s) ≡ root_in digest s.version (step s) = ap (λ v. root_in digest v (step s)) (laws.version s 1) in
       (leads-exactly digest s.version (root-at s) (root-at (step s)) (plain_proof digest s)).1
-      (plain-in-range digest laws.is_digest laws.chained s valid, laws.leads s (root-at s) (root-at (step s)) valid refl next)
+      (plain-in-range digest laws.is_digest laws.chained s valid (laws.holds s valid), laws.leads s (root-at s) (root-at (step s)) valid refl next)
 
   -- the plain claim is sound
   storage-size : (s : State) → length (storage_digest digest s.version s) ≡ 32
-  storage-size s = go (eqb s.version 3)
+  storage-size s = go (scheme_of s.version).input
     where
-      go : (three : Bool) → length (if three then digest (storage_of digest s) else memory_digest digest s) ≡ 32
-      go true = laws.is_digest _
-      go false = memory-size digest laws.is_digest s
+      go : (held : InputScheme) → length (storage_by digest held (memory_digest digest s) (length s.input) (input_root digest s.input)) ≡ 32
+      go input.Tree = laws.is_digest _
+      go input.InMemory = memory-size digest laws.is_digest s
 
   registers-held : (s : State) → length (registers_digest digest s.version s.regs) ≡ 32
-  registers-held s = go (eqb s.version 1)
+  registers-held s = go (scheme_of s.version).registers
     where
-      go : (one : Bool) → length (if one then digest (registers_text s.regs) else registers_root digest s.regs) ≡ 32
-      go true = laws.is_digest _
-      go false = registers-size digest laws.is_digest s.regs
+      go : (held : RegisterScheme) → length (registers_by digest held s.regs) ≡ 32
+      go registers.Whole = laws.is_digest _
+      go registers.Tree = registers-size digest laws.is_digest s.regs
 
   plain-checked : (s : State) → length s.output < 2 ^ 64 → says_sound (claim_check digest (plain_claim digest s)) ≡ true
   plain-checked s low =

@@ -14,7 +14,7 @@ ghost use Rattle.step_referee.specs.MachineRuling.{leads_in, machine_ruling};
 ghost use Rattle.step_referee.specs.MachineTruth.{machine_truth};
 
 use digest_core::{Digester, chain_grows};
-use open_proof::plain_proofs_lead;
+use open_proof::{plain_proofs_hold_the_parts, plain_proofs_lead};
 use rv_step::{runs_keep_the_input, steps_keep_valid_states};
 
 /// By the judge of a version a proof leads from a root to another if and only if it is in the ranges of its types, as each proof that a
@@ -36,4 +36,5 @@ pub fn machine_runs_are_true<D: Digester>()
     steps_keep_valid_states();
     runs_keep_the_input();
     plain_proofs_lead();
+    plain_proofs_hold_the_parts();
 }

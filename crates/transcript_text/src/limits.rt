@@ -2,6 +2,8 @@
 ghost use Rattle.std.specs.Prelude.{◌≡◌};
 ghost use Rattle.transcript_text.specs.Limits.{is_in_limit};
 
+use rd_base::{MAX_BOUND, MAX_FAN, MAX_PATIENCE, MAX_PROVERS, MAX_VERSION, MIN_FAN, MIN_VERSION};
+
 /// The least and the most that a number may be.
 #[derive(Clone, Copy, Debug, PartialEq, Eq)]
 pub struct Limit {
@@ -19,18 +21,27 @@ impl Limit {
 }
 
 /// How many provers may play.
-pub const PROVERS: Limit = Limit { least: 1, most: 16 };
+pub const PROVERS: Limit = Limit {
+    least: 1,
+    most: MAX_PROVERS as u64,
+};
 /// How many steps a run may have.
 pub const BOUND: Limit = Limit {
     least: 1,
-    most: 4_294_967_295,
+    most: MAX_BOUND,
 };
 /// How many passes a question may allow.
 pub const PATIENCE: Limit = Limit {
     least: 0,
-    most: 100,
+    most: MAX_PATIENCE,
 };
 /// Which versions of the commitments there are.
-pub const VERSION: Limit = Limit { least: 1, most: 3 };
+pub const VERSION: Limit = Limit {
+    least: MIN_VERSION as u64,
+    most: MAX_VERSION as u64,
+};
 /// Into how many parts a round may cut its interval.
-pub const FAN: Limit = Limit { least: 2, most: 16 };
+pub const FAN: Limit = Limit {
+    least: MIN_FAN as u64,
+    most: MAX_FAN as u64,
+};

@@ -13,7 +13,7 @@ ghost use Rattle.open_proof.specs.Facts.{facts_of};
 ghost use Rattle.open_proof.specs.InRange.{is_in_range};
 ghost use Rattle.open_proof.specs.LawsBelow.{StepLaws, RegisterLaws, TreeLaws};
 ghost use Rattle.open_proof.specs.Next.{root_next};
-ghost use Rattle.open_proof.specs.PlainProof.{plain_proof};
+ghost use Rattle.open_proof.specs.PlainProof.{plain_facts, plain_proof};
 ghost use Rattle.open_proof.specs.Shown.{ShowsState, word_of_state};
 ghost use Rattle.open_proof.specs.StateCollision.{IsStateCollision};
 ghost use Rattle.open_proof.specs.declared.facts.Facts.{Facts};
@@ -59,6 +59,11 @@ pub fn shown_states_lead()
 {
     laws_below();
 }
+
+/// The plain proof of a valid state holds exactly the parts of the state.
+pub fn plain_proofs_hold_the_parts()
+    ensures { (digest : List ℕ → List ℕ) (s : State) → IsValid s → facts_of (plain_proof digest s) ≡ plain_facts digest s }
+{}
 
 /// The plain proof of a valid state, in the state's version, leads from the state's root to the root of the next state.
 pub fn plain_proofs_lead()

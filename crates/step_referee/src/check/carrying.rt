@@ -16,7 +16,7 @@ use open_proof::{Facts, HeldInput, changed_chunk, offering, root_after};
 use rd_base::{Ctl, Digest32, InOpening, Regs, Status, Steps};
 use rv_decode::{Instr, decode};
 use rv_step::{
-    ILLEGAL_INSTRUCTION, MISALIGNED_JUMP, Need, Outcome, finish, need, number_shown,
+    ILLEGAL_INSTRUCTION, MISALIGNED_JUMP, Need, Outcome, finish, need_by, number_shown,
     two_parts_are_the_step,
 };
 use std::sync::ledger::Ledger;
@@ -115,12 +115,7 @@ fn carry_out<C: Counted, L: Ledger>(
         + digests_of_effect facts.now.operand (effect_with (facts_of_proof.offer_shown facts.now.input_tree facts.now.input) parts.regs parts.ctl.pc (shown facts.now.operand) instr.now) }
 {
     two_parts_are_the_step();
-    match need(
-        offering(&facts.input_tree),
-        &parts.regs,
-        parts.ctl.pc,
-        instr,
-    ) {
+    match need_by(offering(&facts.input_tree), &parts.regs, instr) {
         Need::Nothing => finish_on(c, parts, instr, 0, steps),
         Need::Load { addr, width } => {
             let loaded = number_shown(&facts.operand, addr, width);

@@ -3,7 +3,7 @@ use Rattle.std.proofs.Common.{◌≡◌, ℕ, ◌+◌, ◌<◌, ◌≤◌, nat_l
 use Rattle.std.specs.Prelude.{codes, decimal}
 use Rattle.std.proofs.lemmas.Bool.Decides.{nat_tests}
 use Rattle.hex.specs.Hex.{encode_lower}
-use Rattle.rd_base.specs.Status.{status_text}
+use Rattle.rd_base.specs.Status.{HasWordCode, status_text}
 use Rattle.rd_base.specs.declared.answer.Answer.{Answer}
 use Rattle.rd_base.specs.declared.status.Status.{Status}
 use Rattle.rd_base.specs.declared.status.Status.TheVariants.{Running, Exited, Trapped}
@@ -30,7 +30,7 @@ use Rattle.transcript_text.specs.reader.Entries.{head_in, settlement_in, move_in
 use Rattle.transcript_text.specs.reader.ReadText.{is_prover, are_in_limits, head_with, line_read, later, text_in_lines, read_text}
 use Rattle.transcript_text.specs.Limits.{is_in_limit, provers_limit, bound_limit, patience_limit, version_limit, fan_limit}
 use Rattle.transcript_text.specs.declared.limits.Limit.{Limit}
-use Rattle.transcript_text.specs.reader.InLimits.{AreBytes, IsWithin, IsHeadInLimits, IsMoveInLimits, AreMovesInLimits, IsStatusInLimits, IsString, IsStatedInLimits, IsInLimits}
+use Rattle.transcript_text.specs.reader.InLimits.{AreBytes, IsWithin, IsHeadInLimits, IsMoveInLimits, AreMovesInLimits, IsString, IsStatedInLimits, IsInLimits}
 use Rattle.transcript_text.specs.reader.Laws.{stated_text, IsOfBytes, StatedVerdictsAreOneLine}
 use Rattle.transcript_text.proofs.read_back.FieldLemmas.{number-back, small-back, hex-back, some-hex-back, Without, without-none, without-both, cut-back, line-back, decimal-without, encoded-without}
 
@@ -127,7 +127,7 @@ stated-line (stated.Accept status output) = refl
 stated-line stated.NoneLeft = refl
 stated-line (stated.Collision x y) = ap (λ (xs : List ℕ). codes "collision " ++ xs) (sym (append_assoc (encode_lower x) (codes " " ++ encode_lower y) (codes "\n")))
 
-status-back : (status : Status) (rest : List ℕ) → IsStatusInLimits status → status_at (status_text status ++ (codes " output" ++ rest)) ≡ Ok (status, codes " output" ++ rest)
+status-back : (status : Status) (rest : List ℕ) → HasWordCode status → status_at (status_text status ++ (codes " output" ++ rest)) ≡ Ok (status, codes " output" ++ rest)
 unfolding status_at
 status-back Running rest i = refl
 status-back (Exited code) rest i = rw (small-back code (codes " output" ++ rest) i refl) refl
@@ -138,7 +138,7 @@ unfolding output_in
 output-back [] bytes = refl
 output-back (b ∷ bs) bytes = some-hex-back (b ∷ bs) (omega arith) bytes
 
-accepted-back : (status : Status) (output : List ℕ) → IsStatusInLimits status → AreBytes output → accepted_in (status_and_output status output) ≡ Ok (stated.Accept status output)
+accepted-back : (status : Status) (output : List ℕ) → HasWordCode status → AreBytes output → accepted_in (status_and_output status output) ≡ Ok (stated.Accept status output)
 unfolding accepted_in
 accepted-back status output i bytes =
     rw (append_assoc (status_text status) (codes " output") (output_text output), status-back status (output_text output) i, output-back output bytes) refl
@@ -161,7 +161,7 @@ entry-of-verdict (stated.Accept status output) i = rw (accepted-back status outp
 entry-of-verdict stated.NoneLeft i = refl
 entry-of-verdict (stated.Collision x y) i = rw (collided-back x y i.0 i.1) refl
 
-without-status : (status : Status) → IsStatusInLimits status → Without 10 (status_text status)
+without-status : (status : Status) → HasWordCode status → Without 10 (status_text status)
 without-status Running i = without-literal 10 (codes "running") refl
 without-status (Exited code) i = without-both 10 (codes "exited ") (decimal code) (without-literal 10 (codes "exited ") refl) (decimal-without 10 code (omega arith) (omega (arith, i)))
 without-status (Trapped code) i = without-both 10 (codes "trapped ") (decimal code) (without-literal 10 (codes "trapped ") refl) (decimal-without 10 code (omega arith) (omega (arith, i)))

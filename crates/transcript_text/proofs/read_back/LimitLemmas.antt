@@ -30,7 +30,8 @@ use Rattle.transcript_text.specs.reader.TextLines.{Lines, tail, line, lines_of, 
 use Rattle.transcript_text.specs.reader.Fields.{behind_word, skip_word, small_number_at, number_after, bytes_in_hex, some_bytes_in_hex, digest_in_hex, answer_in_hex, name_at}
 use Rattle.transcript_text.specs.reader.Entries.{head_in, faulty_or_spent, given_or_not, settlement_in, move_in, coded, trapped_or_not, exited_or_not, running_or_not, status_at, output_in, accepted_in, string_in, collided_in, collided_or_none, accepted_or_not, verdict_in, move_or_verdict, entry_in}
 use Rattle.transcript_text.specs.reader.ReadText.{is_prover, are_in_limits, head_of_numbers, head_with, after_verdict, line_read, later, rest_with, text_in_lines, read_text}
-use Rattle.transcript_text.specs.reader.InLimits.{AreBytes, IsWithin, IsHeadInLimits, IsMoveInLimits, AreMovesInLimits, IsStatusInLimits, IsString, IsStatedInLimits, IsInLimits}
+use Rattle.rd_base.specs.Status.{HasWordCode}
+use Rattle.transcript_text.specs.reader.InLimits.{AreBytes, IsWithin, IsHeadInLimits, IsMoveInLimits, AreMovesInLimits, IsString, IsStatedInLimits, IsInLimits}
 use Rattle.transcript_text.specs.FullLines.{HasWireForm}
 use Rattle.transcript_text.proofs.read_back.SpellLemmas.{bind-ok, okay, ok-same, or-ok, small-is, hex-is, some-hex-is, WireSpells}
 use Rattle.transcript_text.proofs.read_back.TextSpellLemmas.{AreWithin, are-within, pair-same, head-same, text-same}
@@ -84,27 +85,27 @@ move-read wire bytes m e =
 
 -- the verdict
 
-coded-small : (code rest : List ℕ) (call : ℕ → Status) (status : Status) → ((n : ℕ) → n < 4294967296 → IsStatusInLimits (call n)) → (small_number_at code >>= coded call) ≡ Ok (status, rest) → IsStatusInLimits status
+coded-small : (code rest : List ℕ) (call : ℕ → Status) (status : Status) → ((n : ℕ) → n < 4294967296 → HasWordCode (call n)) → (small_number_at code >>= coded call) ≡ Ok (status, rest) → HasWordCode status
 coded-small code rest call status fit e =
     let b = bind-ok (small_number_at code) (coded call) (status, rest) e in
     let p : (call (b.0).0, (b.0).1) ≡ (status, rest) = ok-same (call (b.0).0, (b.0).1) (status, rest) b.2 in
-    subst IsStatusInLimits (ap (λ (x : Status × List ℕ). x.0) p) (fit (b.0).0 (small-is (b.0).0 code (b.0).1 b.1).few)
+    subst HasWordCode (ap (λ (x : Status × List ℕ). x.0) p) (fit (b.0).0 (small-is (b.0).0 code (b.0).1 b.1).few)
 
-trapped-small : (rest : List ℕ) (status : Status) (o : Option (List ℕ)) → trapped_or_not o ≡ Ok (status, rest) → IsStatusInLimits status
+trapped-small : (rest : List ℕ) (status : Status) (o : Option (List ℕ)) → trapped_or_not o ≡ Ok (status, rest) → HasWordCode status
 trapped-small rest status (Some code) e = coded-small code rest Trapped status (λ n few. few) e
 trapped-small rest status None e = absurd (cc)
 
-exited-small : (bytes rest : List ℕ) (status : Status) (o : Option (List ℕ)) → exited_or_not bytes o ≡ Ok (status, rest) → IsStatusInLimits status
+exited-small : (bytes rest : List ℕ) (status : Status) (o : Option (List ℕ)) → exited_or_not bytes o ≡ Ok (status, rest) → HasWordCode status
 exited-small bytes rest status (Some code) e = coded-small code rest Exited status (λ n few. few) e
 exited-small bytes rest status None e = trapped-small rest status (behind_word (codes "trapped ") bytes) e
 
-running-small : (bytes rest : List ℕ) (status : Status) (o : Option (List ℕ)) → running_or_not bytes o ≡ Ok (status, rest) → IsStatusInLimits status
+running-small : (bytes rest : List ℕ) (status : Status) (o : Option (List ℕ)) → running_or_not bytes o ≡ Ok (status, rest) → HasWordCode status
 running-small bytes rest status (Some left) e =
     let p : (Running, left) ≡ (status, rest) = ok-same (Running, left) (status, rest) e in
-    subst IsStatusInLimits (ap (λ (x : Status × List ℕ). x.0) p) tt
+    subst HasWordCode (ap (λ (x : Status × List ℕ). x.0) p) tt
 running-small bytes rest status None e = exited-small bytes rest status (behind_word (codes "exited ") bytes) e
 
-status-small : (bytes rest : List ℕ) (status : Status) → status_at bytes ≡ Ok (status, rest) → IsStatusInLimits status
+status-small : (bytes rest : List ℕ) (status : Status) → status_at bytes ≡ Ok (status, rest) → HasWordCode status
 unfolding status_at
 status-small bytes rest status e = running-small bytes rest status (behind_word (codes "running") bytes) e
 

@@ -30,7 +30,8 @@ use Rattle.tournament.specs.Numbers.{IsProver, AreNumbered, IsOfProvers, Records
 use Rattle.transcript_text.specs.StatedVerdict.{settled_at, given_claim, stated_claim, stated_of, VerdictsAreStated}
 use Rattle.transcript_text.specs.FullLines.{HasWireForm, AreWritten}
 use Rattle.transcript_text.specs.Laws.{text_parts}
-use Rattle.transcript_text.specs.reader.InLimits.{AreBytes, IsHeadInLimits, IsMoveInLimits, AreMovesInLimits, IsStatusInLimits, IsStatedInLimits, IsInLimits}
+use Rattle.rd_base.specs.Status.{HasWordCode}
+use Rattle.transcript_text.specs.reader.InLimits.{AreBytes, IsHeadInLimits, IsMoveInLimits, AreMovesInLimits, IsStatedInLimits, IsInLimits}
 use Rattle.transcript_text.specs.reader.Laws.{IsHeadOf, HasStrings, IsReadBack, ReadsRecordsBack, MatchesAreReadBack}
 use Rattle.transcript_text.proofs.read_back.LimitLemmas.{moves-both}
 
@@ -113,7 +114,7 @@ disputes-moves rules n (d ∷ ds) low high short few is are w =
 
 -- what is stated
 
-status-limits : (s : Status) → (status_form s).fits → IsStatusInLimits s
+status-limits : (s : Status) → (status_form s).fits → HasWordCode s
 status-limits Running f = tt
 status-limits (Exited code) f = f.1
 status-limits (Trapped code) f = f.1

@@ -1,7 +1,6 @@
 -- To believe. Which full texts there are: the limits of their parts.
 use Rattle.std.specs.Prelude.{◌≡◌, ℕ, ◌^◌, ◌<◌, ◌≤◌, List, [], ◌∷◌, length, slice_index}
-use Rattle.rd_base.specs.declared.status.Status.{Status}
-use Rattle.rd_base.specs.declared.status.Status.TheVariants.{Running, Exited, Trapped}
+use Rattle.rd_base.specs.Status.{HasWordCode}
 use Rattle.transcript_text.specs.FullLines.{HasWireForm}
 use Rattle.transcript_text.specs.declared.limits.Limit.{Limit}
 use Rattle.transcript_text.specs.declared.text.Head.{Head}
@@ -38,17 +37,12 @@ abbrev pub AreMovesInLimits : ℕ → List TextMove → Type 0
 AreMovesInLimits provers [] = Unit {0}
 AreMovesInLimits provers (m ∷ ms) = IsMoveInLimits provers m × AreMovesInLimits provers ms
 
-abbrev pub IsStatusInLimits : Status → Type 0
-IsStatusInLimits Running = Unit {0}
-IsStatusInLimits (Exited code) = code < 2 ^ 32
-IsStatusInLimits (Trapped code) = code < 2 ^ 32
-
 -- a string of a collision
 abbrev pub IsString : List ℕ → Type 0
 IsString xs = (0 < length xs) × (length xs ≤ 129) × AreBytes xs
 
 abbrev pub IsStatedInLimits : Stated → Type 0
-IsStatedInLimits (stated.Accept status output) = IsStatusInLimits status × AreBytes output
+IsStatedInLimits (stated.Accept status output) = HasWordCode status × AreBytes output
 IsStatedInLimits stated.NoneLeft = Unit {0}
 IsStatedInLimits (stated.Collision x y) = IsString x × IsString y
 

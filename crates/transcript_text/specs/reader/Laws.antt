@@ -16,7 +16,8 @@ use Rattle.transcript_text.specs.Lines.{line_of_stated}
 use Rattle.transcript_text.specs.Report.{answer_text, line_text}
 use Rattle.transcript_text.specs.FullLines.{full_text, text_of, AreWritten}
 use Rattle.transcript_text.specs.Laws.{text_parts}
-use Rattle.transcript_text.specs.reader.InLimits.{AreBytes, IsHeadInLimits, IsStatusInLimits, IsString, IsInLimits}
+use Rattle.rd_base.specs.Status.{HasWordCode}
+use Rattle.transcript_text.specs.reader.InLimits.{AreBytes, IsHeadInLimits, IsString, IsInLimits}
 use Rattle.transcript_text.specs.reader.ReadText.{read_text}
 
 -- bytes are read as a text if and only if it is within the limits and they are its bytes
@@ -40,7 +41,7 @@ pub record IsOneLine (s : Stated) : Type 0 where
 
 -- the status has a number of 32 bits, and outputs and strings are bytes
 abbrev pub IsOfBytes : Stated → Type 0
-IsOfBytes (Accept status output) = IsStatusInLimits status × AreBytes output
+IsOfBytes (Accept status output) = HasWordCode status × AreBytes output
 IsOfBytes NoneLeft = Unit {0}
 IsOfBytes (Collision x y) = AreBytes x × AreBytes y
 

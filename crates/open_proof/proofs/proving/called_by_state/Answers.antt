@@ -1,4 +1,6 @@
-use Rattle.std.proofs.Common.{◌<◌, ℕ, Option, IfSome, ap, ◌∙◌, sym, subst}
+use Rattle.std.proofs.Common.{◌≡◌, ◌<◌, ℕ, Option, IfSome, ap, ◌∙◌, sym, subst}
+use Rattle.rd_base.specs.Scheme.{scheme_of}
+use Rattle.rd_base.specs.declared.scheme.InputScheme.TheVariants as input
 use Rattle.rv_step.specs.Named.{named_by}
 use Rattle.rv_step.specs.State.{state_of}
 use Rattle.open_proof.specs.Called.{address_needed}
@@ -6,7 +8,7 @@ use Rattle.open_proof.specs.Facts.{byte_needed}
 use Rattle.open_proof.specs.Shown.{tree_of}
 use Rattle.open_proof.specs.declared.facts.HeldInput.{HeldInput}
 use Rattle.open_proof.proofs.CalledLemmas.{fetch-is, need-is, word-is}
-use Rattle.open_proof.proofs.WholeLemmas.{byte-within}
+use Rattle.open_proof.proofs.WholeLemmas.{byte-offered, byte-within}
 use Rattle.open_proof.proofs.proving.called_by_state.Goals as goal
 
 pub returns-clause-fetch : goal.returns-clause-fetch
@@ -39,3 +41,11 @@ returns-clause-input g c =
 pub returns-clause-inside : goal.returns-clause-inside
 returns-clause-inside g c =
     subst (λ (o : Option ℕ). IfSome o (λ k. k < 1048576)) (sym c.byte_needed.ensures) (byte-within c.tree_of-tree.result c.needed_by-need.result c.tree_of-tree.ensures.short)
+
+pub returns-clause-offered : goal.returns-clause-offered
+returns-clause-offered g c =
+    let digest = g.D.Digester.digest_of in
+    let s = c.args.committed.now in
+    subst (λ (o : Option ℕ). IfSome o (λ _. (scheme_of s.version).input ≡ input.Tree))
+    (sym (c.byte_needed.ensures ∙ ap (λ (t : Option HeldInput). byte_needed t c.needed_by-need.result) c.tree_of-tree.ensures.value))
+    (byte-offered digest s.input (scheme_of s.version).input c.needed_by-need.result)

@@ -1,5 +1,6 @@
 use Rattle.std.proofs.Common.{◌≡◌, ℕ, Option, None, Result, Ok, Err, IfOk, OnErr, refl, subst, sym, ap, ◌∙◌}
 use Rattle.std.proofs.lemmas.Result.{on_ok_weaker, on_err_weaker, IfOk-weaker}
+use Rattle.rd_base.specs.Scheme.{scheme_of}
 use Rattle.mem_plain.specs.Contents.{Contents, number_at}
 use Rattle.rv_step.specs.Offer.{byte_or_ones}
 use Rattle.rv_step.specs.State.{State, state_of}
@@ -17,14 +18,14 @@ use Rattle.rv_step.proofs.PageLemmas.{needed_page, page_needed, not_stored}
 use Rattle.rv_step.proofs.stepping.carry_out.Goals as goal
 
 -- what is met, by the need that is at hand
-met : (s : State) (i : Instr) (n : Need) → n ≡ needed_in s.version s.regs i
+met : (s : State) (i : Instr) (n : Need) → n ≡ needed_in (scheme_of s.version).input s.regs i
     → Finishes (effect_at s i) (λ loaded. finished s.regs s.pc loaded i) (λ addr width. number_at s.memory addr width) (byte_or_ones s.input) n
 met s i n is = subst (Finishes (effect_at s i) (λ loaded. finished s.regs s.pc loaded i) (λ addr width. number_at s.memory addr width) (byte_or_ones s.input)) (sym is) (at_finishes s i)
 
 -- the page that is told, by the need that is at hand
-told : {E : Type 0} (r : Result (Option ℕ) E) (s : State) (i : Instr) (n : Need) → n ≡ needed_in s.version s.regs i → IfOk r (λ page. page ≡ needed_page n) → IfOk r (λ page. page ≡ stored_page (effect_at s i))
+told : {E : Type 0} (r : Result (Option ℕ) E) (s : State) (i : Instr) (n : Need) → n ≡ needed_in (scheme_of s.version).input s.regs i → IfOk r (λ page. page ≡ needed_page n) → IfOk r (λ page. page ≡ stored_page (effect_at s i))
 told r s i n is = IfOk-weaker r (λ page. page ≡ needed_page n) (λ page. page ≡ stored_page (effect_at s i)) (λ page same.
-    same ∙ (ap needed_page is ∙ page_needed s.version (byte_or_ones s.input) s.regs s.pc (λ addr width. number_at s.memory addr width) i))
+    same ∙ (ap needed_page is ∙ page_needed (scheme_of s.version).input (byte_or_ones s.input) s.regs s.pc (λ addr width. number_at s.memory addr width) i))
 
 -- the state after a store, of which the number that it would load doesn't matter
 stored : (s : State) (m n : Contents) (pc addr width value : ℕ) (e : Effect) → pc ≡ following s.pc → m ≡ n → e ≡ Store addr width value
@@ -57,12 +58,12 @@ returns-in-Trap-clause-ok g c =
 pub returns-in_ok-store-in-Store-clause-page : goal.returns-in_ok-store-in-Store-clause-page
 returns-in_ok-store-in-Store-clause-page g c =
     let s = state_of c.args.machine.now in
-    ap needed_page c.in-Store.ensures.value ∙ page_needed s.version (byte_or_ones s.input) s.regs s.pc (λ addr width. number_at s.memory addr width) c.args.instr.now
+    ap needed_page c.in-Store.ensures.value ∙ page_needed (scheme_of s.version).input (byte_or_ones s.input) s.regs s.pc (λ addr width. number_at s.memory addr width) c.args.instr.now
 
 pub returns-in-Trap-clause-page : goal.returns-in-Trap-clause-page
 returns-in-Trap-clause-page g c =
     let s = state_of c.args.machine.now in
-    ap needed_page c.in-Trap.ensures.value ∙ page_needed s.version (byte_or_ones s.input) s.regs s.pc (λ addr width. number_at s.memory addr width) c.args.instr.now
+    ap needed_page c.in-Trap.ensures.value ∙ page_needed (scheme_of s.version).input (byte_or_ones s.input) s.regs s.pc (λ addr width. number_at s.memory addr width) c.args.instr.now
 
 pub returns-in_err-store-in-Store-clause-needs : goal.returns-in_err-store-in-Store-clause-needs
 returns-in_err-store-in-Store-clause-needs g c =

@@ -11,5 +11,6 @@ returns g c =
       valid = c.steps_keep_valid_states.ensures;
       version = c.runs_keep_the_input.ensures.version;
       leads = c.plain_proofs_lead.ensures digest;
+      holds = c.plain_proofs_hold_the_parts.ensures digest;
     } in
     machine-runs digest laws
