@@ -239,11 +239,11 @@ is-prover rules p q t some a e = prover-by rules p q t (claim_missing (slice_get
 
 -- the open question stays while another prover is settled
 
-first-waits : (ruling : Ruling) (s : Settled) (d : Bisection) → d.by_second ≡ None → settle_first ruling s d ≡ record d { by_first = Some s }
+pub first-waits : (ruling : Ruling) (s : Settled) (d : Bisection) → d.by_second ≡ None → settle_first ruling s d ≡ record d { by_first = Some s }
 unfolding settle_first
 first-waits ruling s d e = ap (λ (o : Option Settled). advanced ruling (record d { by_first = Some s }) (Some s) o) e
 
-second-waits : (ruling : Ruling) (s : Settled) (d : Bisection) → d.by_first ≡ None → settle_second ruling s d ≡ record d { by_second = Some s }
+pub second-waits : (ruling : Ruling) (s : Settled) (d : Bisection) → d.by_first ≡ None → settle_second ruling s d ≡ record d { by_second = Some s }
 unfolding settle_second
 second-waits ruling s d e = ap (λ (o : Option Settled). advanced ruling (record d { by_second = Some s }) o (Some s)) e
 

@@ -4,4 +4,9 @@ pub mod NeverLemmas
 pub mod SpentLemmas
 pub mod SumLemmas
 pub mod StageCountLemmas
+pub mod LowestLemmas
+pub mod DelayLemmas
+pub mod ProgressLemmas
+pub mod ServedLemmas
+pub mod PeriodLemmas
 pub mod SpareLemmas

@@ -4,3 +4,4 @@ pub mod BracketLemmas
 pub mod StagedLemmas
 pub mod AskedLemmas
 pub mod SoFarLemmas
+pub mod OfCasesLemmas

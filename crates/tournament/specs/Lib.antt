@@ -9,8 +9,12 @@ pub mod Theorem
 pub mod Asked
 pub mod OpenDisputes
 pub mod SoFar
+pub mod OfCases
 pub mod Length
 pub mod FewPosts
+pub mod Stages
+pub mod Delay
+pub mod Periods
 pub mod Undecided
 pub mod Survivors
 pub mod Lies

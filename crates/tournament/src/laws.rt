@@ -6,7 +6,11 @@ ghost use Rattle.tournament.specs.Theorem.{TruthfulStay, VerdictIsRight, FewDisp
 ghost use Rattle.tournament.specs.Journals.{OrderDoesNotMatter, RecordOfCase, LegalListsArePosts};
 ghost use Rattle.tournament.specs.OpenDisputes.{OpenDisputesShareNoProver, SidesAreTwoProvers};
 ghost use Rattle.tournament.specs.SoFar.{RecordIsBracket};
+ghost use Rattle.tournament.specs.OfCases.{EndedMatchesAreOfCases};
 ghost use Rattle.tournament.specs.FewPosts.{FewQuestions, QuestionsCost, PostsByQuestions, FewPostsOfEach, FewPosts, FewStages, NeverStuck, OpenIsNotStale, FullIsOver};
+ghost use Rattle.tournament.specs.Stages.{LowestIsNeverIdle, LowestPlaysAll, FirstPlaysAll, StagesHaveDisputes};
+ghost use Rattle.tournament.specs.Delay.{FewRoundsInSequence};
+ghost use Rattle.tournament.specs.Periods.{PeriodsAreFew};
 ghost use Rattle.tournament.specs.Undecided.{DisputesPutOutOrCollide, CollisionsPutOutNobody, OneIsUndecided};
 ghost use Rattle.tournament.specs.Survivors.{SurvivorsAgree, SidesHaveTwoRoots, OneRootNeverMeets, TruthfulNeverMeet};
 ghost use Rattle.tournament.specs.Lies.{PostsOfARun, ScriptsOfARun, DisputesEndWhereRunsPart, LiesAreFound, LiesOfScriptsAreFound};
@@ -103,6 +107,13 @@ pub fn one_record_of_a_case()
 /// Whatever was posted, the record is the bracket over the answers that it holds: what is settled so far fixes it.
 pub fn a_record_is_the_bracket_over_its_answers()
     ensures { RecordIsBracket }
+{
+    bisection_laws();
+}
+
+/// Whatever was posted, a match that is over is that of a case: of the provers that say what its record holds.
+pub fn ended_matches_are_of_cases()
+    ensures { EndedMatchesAreOfCases }
 {
     bisection_laws();
 }
@@ -208,6 +219,38 @@ pub fn stages_are_few()
 {
     a_match_has_few_disputes_and_rounds();
 }
+
+/// Few rounds come one after another, whatever was posted: in a match of m provers at most `1 + (m - 1) * (k + 1)`, for a most number k of
+/// bisection rounds, and at most `1 + s * (k + 1)` in s stages.
+pub fn few_rounds_come_in_sequence()
+    ensures { FewRoundsInSequence }
+{
+    stages_are_few();
+    a_match_has_few_disputes_and_rounds();
+}
+
+/// Served matches end: if in each period of a clock everybody that is asked when it begins posts, or somebody posts a pass for it, a match of m
+/// provers with the patience P is over after `(P + 1) * (1 + (m - 1) * (k + 1))` periods, for a most number k of bisection rounds, whatever else is
+/// posted.
+pub fn served_matches_end()
+    ensures { PeriodsAreFew }
+{
+    bisection_laws();
+    nobody_asked_means_over();
+    a_match_has_few_disputes_and_rounds();
+    a_record_is_of_its_provers();
+    open_disputes_share_no_prover();
+}
+
+/// The lowest is never idle: in each stage the lowest prover that lives when it begins is a side of one dispute, whatever was posted
+/// (`stage`). So the lowest prover that gave a claim, and whom no dispute has eliminated, has a dispute in each stage (`all`), and prover 1
+/// above all (`first`). No match has more stages than disputes (`disputes`).
+pub fn the_lowest_is_never_idle()
+    ensures stage { LowestIsNeverIdle }
+    ensures all { LowestPlaysAll }
+    ensures first { FirstPlaysAll }
+    ensures disputes { StagesHaveDisputes }
+{}
 
 /// Never stuck: in a match that isn't over somebody has an open question (`asked`), and no post on an open question is stale, be it a
 /// pass or any answer (`open_`).

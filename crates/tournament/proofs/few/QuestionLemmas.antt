@@ -111,10 +111,10 @@ room rules p q t e = room-put p q t (claim_missing (slice_get t.claims (p - 1)))
 
 -- AN ANSWER of a side is one more of its, and takes nothing from the other
 
-record Grows (d e : Bisection) (more_first more_second : ℕ) : Type 0 where
-  first : settled_by_first d + more_first ≡ settled_by_first e
-  second : settled_by_second d + more_second ≡ settled_by_second e
-  past : length d.past ≤ length e.past
+pub record Grows (d e : Bisection) (more_first more_second : ℕ) : Type 0 where
+  pub first : settled_by_first d + more_first ≡ settled_by_first e
+  pub second : settled_by_second d + more_second ≡ settled_by_second e
+  pub past : length d.past ≤ length e.past
 
 grows-by : (ruling : Ruling) (d : Bisection) (a b : Settled) (o : Option Close) → d.by_first ≡ Some a → d.by_second ≡ Some b → Grows d (closed_or d (went_on d a b) o) 0 0
 grows-by ruling d a b (Some c) ea eb = record { first = omega arith; second = omega arith; past = omega arith }
@@ -130,14 +130,14 @@ grows-advanced ruling d (Some a) (Some b) ex ey = grows-by ruling d a b (close_o
 grows-advanced ruling d (Some a) None ex ey = record { first = omega arith; second = omega arith; past = omega arith }
 grows-advanced ruling d None y ex ey = record { first = omega arith; second = omega arith; past = omega arith }
 
-grows-first : (ruling : Ruling) (s : Settled) (d : Bisection) → d.by_first ≡ None → Grows d (settle_first ruling s d) 1 0
+pub grows-first : (ruling : Ruling) (s : Settled) (d : Bisection) → d.by_first ≡ None → Grows d (settle_first ruling s d) 1 0
 unfolding settle_first
 grows-first ruling s d e =
     let none : one_if (is_some d.by_first) ≡ 0 = rw e refl in
     let g : Grows (record d { by_first = Some s }) (advanced ruling (record d { by_first = Some s }) (Some s) d.by_second) 0 0 = grows-advanced ruling (record d { by_first = Some s }) (Some s) d.by_second refl refl in
     record { first = omega (arith, none, g.first); second = omega (arith, g.second); past = g.past }
 
-grows-second : (ruling : Ruling) (s : Settled) (d : Bisection) → d.by_second ≡ None → Grows d (settle_second ruling s d) 0 1
+pub grows-second : (ruling : Ruling) (s : Settled) (d : Bisection) → d.by_second ≡ None → Grows d (settle_second ruling s d) 0 1
 unfolding settle_second
 grows-second ruling s d e =
     let none : one_if (is_some d.by_second) ≡ 0 = rw e refl in

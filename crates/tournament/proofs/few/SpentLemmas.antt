@@ -69,12 +69,12 @@ is-prover of_provers rules p q st some i e =
 
 -- THE PASSES
 
-at-set : (xs : List ℕ) (k v : ℕ) → k < length xs → slice_index (slice_set xs k v) k ≡ v
+pub at-set : (xs : List ℕ) (k v : ℕ) → k < length xs → slice_index (slice_set xs k v) k ≡ v
 at-set [] k v lt = absurd (omega arith)
 at-set (x ∷ xs) zero v lt = refl
 at-set (x ∷ xs) (suc k) v lt = at-set xs k v (omega arith)
 
-at-other : (xs : List ℕ) (k j v : ℕ) → k ≢ j → slice_index (slice_set xs k v) j ≡ slice_index xs j
+pub at-other : (xs : List ℕ) (k j v : ℕ) → k ≢ j → slice_index (slice_set xs k v) j ≡ slice_index xs j
 at-other [] k j v ne = refl
 at-other (x ∷ xs) zero zero v ne = absurd (ne refl)
 at-other (x ∷ xs) zero (suc j) v ne = refl
@@ -233,7 +233,7 @@ count-length : (n : ℕ) → let none : List ℕ = replicate n 0 in length none 
 count-length zero = refl
 count-length (suc n) = ap suc (count-length n)
 
-kept-begun : (rules : Rules) (p : ℕ) → IsKept rules p 0 (begun rules)
+pub kept-begun : (rules : Rules) (p : ℕ) → IsKept rules p 0 (begun rules)
 kept-begun rules p = record {
   after_ = record { posts = []; comes = refl };
   known = count-length rules.setup.provers;

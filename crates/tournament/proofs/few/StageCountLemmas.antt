@@ -14,7 +14,7 @@ use Rattle.tournament.proofs.OpenedLemmas.{opened-not, opened-due}
 use Rattle.tournament.proofs.PostLemmas.{posts_settle}
 use Rattle.tournament.proofs.keeping.KeepingLemmas.{stages-append, stage-settled, many-settled}
 
-abbrev IsCounted : List Bisection → Type 0
+abbrev pub IsCounted : List Bisection → Type 0
 IsCounted ds = last_stage ds ≤ length ds
 
 one-stage : (rules : Rules) (g n : ℕ) (ps : List ((ℕ × Claim) × (ℕ × Claim))) → last_stage (disputes_of rules g n ps) ≤ g
@@ -45,7 +45,7 @@ counted-put : (rules : Rules) (who : ℕ) (s : Settled) (r : Record) (b : Bool) 
 counted-put rules who s r true few = few
 counted-put rules who s r false few = omega (arith, few, stage-settled rules who s r.disputes, many-settled rules who s r.disputes)
 
-counted-after : (rules : Rules) (es : List (ℕ × Settled)) (r : Record) → IsCounted r.disputes → IsCounted (after rules es r).disputes
+pub counted-after : (rules : Rules) (es : List (ℕ × Settled)) (r : Record) → IsCounted r.disputes → IsCounted (after rules es r).disputes
 unfolding settle
 counted-after rules [] r few = few
 counted-after rules (e ∷ es) r few =

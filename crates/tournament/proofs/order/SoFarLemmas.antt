@@ -36,14 +36,14 @@ use Rattle.tournament.proofs.ReachLemmas.{reach_back}
 use Rattle.tournament.proofs.SidesLemmas.{SameSides, sides-first, sides-second}
 use Rattle.tournament.proofs.StageLemmas.{IsPlayed, Ends, played-settle, played-nothing, steps-settle}
 
-abbrev AllHold : List Bisection → List Bisection → Type 0
+abbrev pub AllHold : List Bisection → List Bisection → Type 0
 AllHold [] es = Unit {0}
 AllHold (d ∷ ds) [] = ⊥
 AllHold (d ∷ ds) (e ∷ es) = HoldsOn d e × AllHold ds es
 
-record Holds (t u : Record) : Type 0 where
-  claims : (k : ℕ) (s : Settled) → claim_at (slice_get t.claims k) ≡ Some s → claim_at (slice_get u.claims k) ≡ Some s
-  disputes : AllHold t.disputes u.disputes
+pub record Holds (t u : Record) : Type 0 where
+  pub claims : (k : ℕ) (s : Settled) → claim_at (slice_get t.claims k) ≡ Some s → claim_at (slice_get u.claims k) ≡ Some s
+  pub disputes : AllHold t.disputes u.disputes
 
 -- each side's answer, by these answers, is what is settled of the last round
 abbrev AllOwn : Answers → List Bisection → Type 0
@@ -51,10 +51,10 @@ AllOwn f [] = Unit {0}
 AllOwn f (d ∷ ds) = (f d.first (question_of d) ≡ d.by_first) × (f d.second (question_of d) ≡ d.by_second) × AllOwn f ds
 
 -- what every record of a match keeps
-record IsApartIn (rules : Rules) (t : Record) : Type 0 where
-  apart : AllApart t.disputes
-  numbered : Numbered 1 t.disputes
-  played : IsPlayed rules t
+pub record IsApartIn (rules : Rules) (t : Record) : Type 0 where
+  pub apart : AllApart t.disputes
+  pub numbered : Numbered 1 t.disputes
+  pub played : IsPlayed rules t
 
 module _ (laws : BisectionLaws) where
   -- disputes and records
@@ -114,7 +114,7 @@ module _ (laws : BisectionLaws) where
   unfolding settle
   holds-settle rules p s t = holds-further t (put rules p s t) _ (holds-put rules p s t (claim_missing (slice_get t.claims (p - 1))) refl) (holds-opened rules (put rules p s t))
 
-  holds-after : (rules : Rules) (es : List (ℕ × Settled)) (t : Record) → Holds t (after rules es t)
+  pub holds-after : (rules : Rules) (es : List (ℕ × Settled)) (t : Record) → Holds t (after rules es t)
   holds-after rules [] t = record { claims = λ k s e. e; disputes = all-same t.disputes }
   holds-after rules (e ∷ es) t = holds-further t (settle rules e.0 e.1 t) _ (holds-settle rules e.0 e.1 t) (holds-after rules es (settle rules e.0 e.1 t))
 
@@ -146,7 +146,7 @@ module _ (laws : BisectionLaws) where
   held-by t u p q s true h e = h.claims (p - 1) s e
   held-by t u p q s false h e = among-held p q.qid t.disputes u.disputes s h.disputes e
 
-  held : (t u : Record) (p : ℕ) (q : Question) (s : Settled) → Holds t u → answers_in t p q ≡ Some s → answers_in u p q ≡ Some s
+  pub held : (t u : Record) (p : ℕ) (q : Question) (s : Settled) → Holds t u → answers_in t p q ≡ Some s → answers_in u p q ≡ Some s
   held t u p q s h e = held-by t u p q s (q.qid.dispute == 0) h e
 
   -- what was just settled is what the record holds of its question
@@ -215,7 +215,7 @@ module _ (laws : BisectionLaws) where
       let no_claim : (q.qid.dispute == 0) ≡ false = not-eqb q.qid.dispute 0 (λ z. omega (arith, i.from)) in
       rw no_claim i.is
 
-  answer-settled : (rules : Rules) (p : ℕ) (s : Settled) (q : Question) (t : Record) → Numbered 1 t.disputes → AllApart t.disputes → open_question rules t p ≡ Some q → answers_in (settle rules p s t) p q ≡ Some s
+  pub answer-settled : (rules : Rules) (p : ℕ) (s : Settled) (q : Question) (t : Record) → Numbered 1 t.disputes → AllApart t.disputes → open_question rules t p ≡ Some q → answers_in (settle rules p s t) p q ≡ Some s
   unfolding settle
   answer-settled rules p s q t num apart e =
       held (put rules p s t) (stage_opened rules (put rules p s t)) p q s (holds-opened rules (put rules p s t))
@@ -326,7 +326,7 @@ module _ (laws : BisectionLaws) where
   unfolding settle
   apart-settle rules p s t a = apart-opened rules (put rules p s t) (apart-put rules p s t (claim_missing (slice_get t.claims (p - 1))) a)
 
-  kept-settle : (rules : Rules) (p : ℕ) (s : Settled) (t : Record) → 1 < rules.setup.fan → 0 < rules.setup.bound → IsApartIn rules t → IsApartIn rules (settle rules p s t)
+  pub kept-settle : (rules : Rules) (p : ℕ) (s : Settled) (t : Record) → 1 < rules.setup.fan → 0 < rules.setup.bound → IsApartIn rules t → IsApartIn rules (settle rules p s t)
   kept-settle rules p s t more long i = record {
     apart = apart-settle rules p s t i.apart;
     numbered = (numbered-settle laws) rules p s t i.numbered;
