@@ -21,15 +21,15 @@ pub outs-append : (es fs : List Event) (p : ℕ) → outs (es ++ fs) p ≡ outs 
 outs-append [] fs p = omega arith
 outs-append (e ∷ es) fs p = omega (arith, outs-append es fs p)
 
-wins-append : (es fs : List Event) (p : ℕ) → wins (es ++ fs) p ≡ wins es p + wins fs p
+pub wins-append : (es fs : List Event) (p : ℕ) → wins (es ++ fs) p ≡ wins es p + wins fs p
 wins-append [] fs p = omega arith
 wins-append (e ∷ es) fs p = omega (arith, wins-append es fs p)
 
-spent-append : (es fs : List Event) → spent (es ++ fs) ≡ spent es + spent fs
+pub spent-append : (es fs : List Event) → spent (es ++ fs) ≡ spent es + spent fs
 spent-append [] fs = omega arith
 spent-append (e ∷ es) fs = omega (arith, spent-append es fs)
 
-all-append : (n : ℕ) (es fs : List Event) → AllEventsOf n es → AllEventsOf n fs → AllEventsOf n (es ++ fs)
+pub all-append : (n : ℕ) (es fs : List Event) → AllEventsOf n es → AllEventsOf n fs → AllEventsOf n (es ++ fs)
 all-append n [] fs i j = j
 all-append n (e ∷ es) fs i j = (i.0, all-append n es fs i.1 j)
 
@@ -57,7 +57,7 @@ claims-outs p q (suc k) (s ∷ ss) same = by (is_out_by_claim (Some s)) (claims-
     by true h = rw (other-test q p (λ e. omega (arith, e, same))) (omega (arith, h))
     by false h = h
 
-claims-wins : (p q : ℕ) (ss : List (Option Settled)) → wins (claim_events q ss) p ≡ 0
+pub claims-wins : (p q : ℕ) (ss : List (Option Settled)) → wins (claim_events q ss) p ≡ 0
 claims-wins p q [] = refl
 claims-wins p q (s ∷ ss) = by (is_out_by_claim (Some s)) (claims-wins p (q + 1) ss)
   where
@@ -65,7 +65,7 @@ claims-wins p q (s ∷ ss) = by (is_out_by_claim (Some s)) (claims-wins p (q + 1
     by true h = omega (arith, h)
     by false h = h
 
-claims-spent : (q : ℕ) (ss : List (Option Settled)) → spent (claim_events q ss) ≡ claims_out ss
+pub claims-spent : (q : ℕ) (ss : List (Option Settled)) → spent (claim_events q ss) ≡ claims_out ss
 claims-spent q [] = refl
 claims-spent q (s ∷ ss) = by (is_out_by_claim (Some s)) (claims-spent (q + 1) ss)
   where
@@ -73,7 +73,7 @@ claims-spent q (s ∷ ss) = by (is_out_by_claim (Some s)) (claims-spent (q + 1) 
     by true h = omega (arith, h)
     by false h = omega (arith, h)
 
-claims-events : (n q : ℕ) (ss : List (Option Settled)) → 0 < q → q + length ss ≤ n + 1 → AllEventsOf n (claim_events q ss)
+pub claims-events : (n q : ℕ) (ss : List (Option Settled)) → 0 < q → q + length ss ≤ n + 1 → AllEventsOf n (claim_events q ss)
 claims-events n q [] some few = tt
 claims-events n q (s ∷ ss) some few = by (is_out_by_claim (Some s)) (claims-events n (q + 1) ss (omega arith) (omega (arith, few)))
   where
@@ -197,7 +197,7 @@ claims-can s n r i = (can-both (claim_events 1 r.claims) (dispute_events r.dispu
 pub disputes-can : (s n : ℕ) (r : Record) → IsSettledUp n r → CanTellAll (dispute_events r.disputes) (after (claim_events 1 r.claims) (opened s n))
 disputes-can s n r i = (can-both (claim_events 1 r.claims) (dispute_events r.disputes) (opened s n) (record-told s n r i).can).1
 
-balances-same : (xs ys : List ℕ) (m n : ℕ) → xs ≡ ys → m ≡ n → let a : Balances = record { of = xs; pool = m } in let b : Balances = record { of = ys; pool = n } in a ≡ b
+pub balances-same : (xs ys : List ℕ) (m n : ℕ) → xs ≡ ys → m ≡ n → let a : Balances = record { of = xs; pool = m } in let b : Balances = record { of = ys; pool = n } in a ≡ b
 balances-same xs ys m n e f = cc
 
 pub balances-told : (s n : ℕ) (r : Record) (a : Accounts) (b : Balances) → IsSettledUp n r → a ≡ after (dispute_events r.disputes) (after (claim_events 1 r.claims) (opened s n)) →

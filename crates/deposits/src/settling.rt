@@ -3,10 +3,11 @@ ghost use Rattle.std.specs.Prelude.{◌≡◌, ◌+◌, ◌<◌, ◌≤◌, ◌^
 ghost use Rattle.deposits.specs.Events.{claim_events, dispute_events};
 ghost use Rattle.deposits.specs.Accounts.{after, CanTellAll};
 ghost use Rattle.deposits.specs.Balances.{balances_of, IsSettledUp};
+ghost use Rattle.deposits.specs.Burning.{burn_events, balances_if_burned};
 
 use crate::amounts::Balances;
 use crate::ledger::Ledger;
-use bisect_game::{Dispute, Settled, Side};
+use bisect_game::{Close, Dispute, Settled, Side};
 use rd_base::Memory;
 use std::alloc::Global;
 use tournament::Record;
@@ -67,5 +68,45 @@ pub fn balances(
     let mut ledger = Ledger::new(alloc, provers, stake)?;
     tell_claims(&mut ledger, 1, record.claims());
     tell_disputes(&mut ledger, record.disputes());
+    Ok(ledger.into_balances())
+}
+
+/// Applies to a ledger that each side that these disputes eliminated is out, as by its claim: nobody wins its stake.
+fn tell_burned(ledger: &mut Ledger, disputes: &[Dispute])
+    requires { CanTellAll (burn_events disputes.now) ledger.old }
+    ensures { ledger.new ≡ after (burn_events disputes.now) ledger.old }
+{
+    match disputes {
+        [] => {}
+        [dispute, rest @ ..] => {
+            if let Some(Close::Out { first, second }) = dispute.closed() {
+                if first {
+                    ledger.claim_out(dispute.prover(Side::First));
+                }
+                if second {
+                    ledger.claim_out(dispute.prover(Side::Second));
+                }
+            }
+            tell_burned(ledger, rest);
+        }
+    }
+}
+
+/// What each prover keeps once a match has ended, if nobody wins the stake of a prover that is out, and, in the place of the pool, what is
+/// burned: each live prover keeps its stake, and every other stake is burned. Also a coalition that fights itself pays so: a match without
+/// a collision of a dispute burns a stake at least for each of its stages (`stages_burn_stakes`).
+///
+/// The conditions are those of `balances`: each of 1 to 16 provers has put down a stake of at most 1,000,000,000, and the record is that of
+/// a match that has ended.
+pub fn burned(alloc: Global, stake: u64, provers: u32, record: &Record) -> Result<Balances, Memory>
+    requires small { stake ≤ 1000000000 }
+    requires some { 0 < provers }
+    requires few { provers ≤ 16 }
+    requires settled_up { IsSettledUp provers «record».now }
+    ensures { IfOk result (λ b. b ≡ balances_if_burned stake provers «record».now) }
+{
+    let mut ledger = Ledger::new(alloc, provers, stake)?;
+    tell_claims(&mut ledger, 1, record.claims());
+    tell_burned(&mut ledger, record.disputes());
     Ok(ledger.into_balances())
 }
