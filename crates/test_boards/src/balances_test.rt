@@ -3,7 +3,7 @@ ghost use Rattle.std.specs.Prelude.{◌<◌, ◌≤◌};
 
 use crate::casts::{NEVER, cast_of, played};
 use crate::players::{FALLS_SILENT, FORGER, LIAR_FALLS_SILENT};
-use deposits::{Balances, a_match_that_has_ended_is_settled_up, balances};
+use deposits::{Balances, a_match_that_has_ended_is_settled_up, balances, burned};
 use posters::OpenGate;
 use rd_base::Memory;
 use std::alloc::Global;
@@ -13,26 +13,93 @@ use std::thread::Threads;
 use tournament::Match;
 use toy_game::{Cast, HONEST, LIAR, Player, SILENT, ToyJudge};
 
-/// The players of a match in which each stakes 10, how many there are, what each has at its end, and what is in the pool.
-type Row = ([Player; 3], u32, &'static [u64], u64);
+/// A match in which each player stakes 10. Its last two players may be missing.
+struct Row {
+    players: [Player; 3],
+    count: u32,
+    /// What each has at its end if the other side wins the stake of a prover that is out, and what is in the pool.
+    won: &'static [u64],
+    pool: u64,
+    /// What each keeps if nobody wins it, and what is burned.
+    kept: &'static [u64],
+    burned: u64,
+}
 
-const MATCHES: [Row; 6] = [
+const MATCHES: [Row; 7] = [
     // one alone
-    ([HONEST, SILENT, SILENT], 1, &[10], 0),
+    Row {
+        players: [HONEST, SILENT, SILENT],
+        count: 1,
+        won: &[10],
+        pool: 0,
+        kept: &[10],
+        burned: 0,
+    },
     // two liars and an honest one
-    ([LIAR, LIAR, HONEST], 3, &[0, 0, 30], 0),
+    Row {
+        players: [LIAR, LIAR, HONEST],
+        count: 3,
+        won: &[0, 0, 30],
+        pool: 0,
+        kept: &[0, 0, 10],
+        burned: 20,
+    },
     // one never claims
-    ([SILENT, LIAR, HONEST], 3, &[0, 0, 20], 10),
+    Row {
+        players: [SILENT, LIAR, HONEST],
+        count: 3,
+        won: &[0, 0, 20],
+        pool: 10,
+        kept: &[0, 0, 10],
+        burned: 20,
+    },
     // both fall silent
-    ([FALLS_SILENT, LIAR_FALLS_SILENT, SILENT], 2, &[0, 0], 20),
+    Row {
+        players: [FALLS_SILENT, LIAR_FALLS_SILENT, SILENT],
+        count: 2,
+        won: &[0, 0],
+        pool: 20,
+        kept: &[0, 0],
+        burned: 20,
+    },
+    // the liar keeps what it won in stage 1
+    Row {
+        players: [LIAR, FALLS_SILENT, HONEST],
+        count: 3,
+        won: &[10, 0, 20],
+        pool: 0,
+        kept: &[0, 0, 10],
+        burned: 20,
+    },
     // liars with one claim
-    ([LIAR, LIAR, SILENT], 2, &[10, 10], 0),
+    Row {
+        players: [LIAR, LIAR, SILENT],
+        count: 2,
+        won: &[10, 10],
+        pool: 0,
+        kept: &[10, 10],
+        burned: 0,
+    },
     // both prove, and collide
-    ([HONEST, FORGER, SILENT], 2, &[10, 10], 0),
+    Row {
+        players: [HONEST, FORGER, SILENT],
+        count: 2,
+        won: &[10, 10],
+        pool: 0,
+        kept: &[10, 10],
+        burned: 0,
+    },
 ];
 
+/// A match by both settlements.
+#[derive(Drop)]
+struct Settlements {
+    won: Balances,
+    kept: Balances,
+}
+
 /// What each prover of a match has at its end with a stake of 10. `None` if it isn't over, or has more than 16 provers.
-fn paid(alloc: Global, game: &Match<ToyJudge>) -> Result<Option<Balances>, Memory> {
+fn paid(alloc: Global, game: &Match<ToyJudge>) -> Result<Option<Settlements>, Memory> {
     let setup = game.setup();
     let provers = setup.provers();
     if provers > 16 || !game.is_over() {
@@ -40,7 +107,9 @@ fn paid(alloc: Global, game: &Match<ToyJudge>) -> Result<Option<Balances>, Memor
     }
     game.is_after_posts();
     a_match_that_has_ended_is_settled_up();
-    Ok(Some(balances(alloc, 10, provers, game.record())?))
+    let won = balances(alloc, 10, provers, game.record())?;
+    let kept = burned(alloc, 10, provers, game.record())?;
+    Ok(Some(Settlements { won, kept }))
 }
 
 /// What the players of a cast have at the end of their match, in which they have no patience.
@@ -48,7 +117,7 @@ fn paid_to<R: Threads + Wait + Sync>(
     rt: &R,
     alloc: Global,
     cast: Cast,
-) -> Result<Option<Balances>, Memory>
+) -> Result<Option<Settlements>, Memory>
     requires some { 0 < cast.count }
     requires few { cast.count ≤ 16 }
 {
@@ -56,14 +125,30 @@ fn paid_to<R: Threads + Wait + Sync>(
     paid(alloc, book.game())
 }
 
-/// At the end of a match a prover that is out has lost its stake to the one that eliminated it, or to the pool.
+/// At the end of a match a prover that is out has lost its stake: by `balances` to the one that eliminated it, or to the pool, and by
+/// `burned` to nobody.
 #[test]
 fn each_match_pays_its_provers(rt: HostRuntime) -> Result<(), Fail> {
-    for (place, (players, count, amounts, pool)) in MATCHES.iter().enumerate() {
+    for (
+        place,
+        Row {
+            players,
+            count,
+            won,
+            pool,
+            kept,
+            burned,
+        },
+    ) in MATCHES.iter().enumerate() {
         assert!(rt; *count >= 1 && *count <= 3);
         let paid = paid_to(&rt, rt.alloc(), cast_of(*players, *count))?;
         let is_right = match &paid {
-            Some(paid) => paid.of.as_slice() == *amounts && paid.pool == *pool,
+            Some(paid) => {
+                paid.won.of.as_slice() == *won
+                    && paid.won.pool == *pool
+                    && paid.kept.of.as_slice() == *kept
+                    && paid.kept.pool == *burned
+            }
             None => false,
         };
         assert!(rt; is_right, "row {place}");
