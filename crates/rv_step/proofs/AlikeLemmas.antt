@@ -11,7 +11,8 @@ use Rattle.mem_plain.specs.Contents.{number_at}
 use Rattle.rv_step.specs.Effect.{x}
 use Rattle.rv_step.specs.Offer.{byte_or_ones, offered}
 use Rattle.rv_step.specs.State.{State}
-use Rattle.rv_step.specs.Step.{step, after_word, after_effect, effect_at, regs_after}
+use Rattle.rv_step.specs.NextEffect.{seen_of, effect_at, effect_of_word, next_effect}
+use Rattle.rv_step.specs.Step.{step, after_next, after_effect, regs_after}
 use Rattle.rv_step.specs.declared.effect.Effect.{Effect}
 use Rattle.rv_step.specs.declared.effect.Effect.TheVariants.{Write, Jump, Branch, Next, Store, Put, Exit, Trap}
 use Rattle.rv_step.specs.Named.{first_source, second_source, destination, kept, once, named, named_by, WritesOnly}
@@ -49,19 +50,19 @@ module _ (xs : List ℕ) (s : State) (size : length xs ≡ length s.regs) where
   effect-alike (Trap code) = record { pc = refl; memory = refl; status = refl; output = refl; version = refl; input = refl; regs = λ r same. same }
 
   word-alike : (o : Option Instr) → x xs 0 ≡ x s.regs 0 → map (x xs) (named_by o) ≡ map (x s.regs) (named_by o)
-      → StepAlike xs s (after_word (with_registers xs s) o) (after_word s o)
+      → StepAlike xs s (after_effect (with_registers xs s) (effect_of_word (seen_of (with_registers xs s)) o)) (after_effect s (effect_of_word (seen_of s) o))
   word-alike None zeros same = effect-alike (Trap 2)
   word-alike (Some i) zeros same =
       subst (λ (e : Effect). StepAlike xs s (after_effect (with_registers xs s) e) (after_effect s (effect_at s i)))
       (sym (named-effect xs s.regs zeros (offered (scheme_of s.version).input (byte_or_ones s.input)) s.pc (λ addr width. number_at s.memory addr width) i same)) (effect-alike (effect_at s i))
 
 pub steps-alike : (xs : List ℕ) (s : State) → Shows xs s → StepAlike xs s (step (with_registers xs s)) (step s)
-unfolding step
+unfolding step next_effect
 steps-alike xs s shows = go (is_running s.status) (eqb (s.pc % 4) 0) (reading_of (number_at s.memory s.pc 4)) shows.named
   where
     go : (r b : Bool) (o : Option Instr) → map (x xs) (cond r (cond b (named_by o) []) []) ≡ map (x s.regs) (cond r (cond b (named_by o) []) [])
-        → StepAlike xs s (cond r (cond b (after_word (with_registers xs s) o) (after_effect (with_registers xs s) (Trap 0))) (with_registers xs s))
-        (cond r (cond b (after_word s o) (after_effect s (Trap 0))) s)
+        → StepAlike xs s (after_next (with_registers xs s) (cond r (Some (cond b (effect_of_word (seen_of (with_registers xs s)) o) (Trap 0))) None))
+        (after_next s (cond r (Some (cond b (effect_of_word (seen_of s) o) (Trap 0))) None))
     go true true o same = word-alike xs s shows.size o shows.zero_first same
     go true false o same = effect-alike xs s shows.size (Trap 0)
     go false b o same = record { pc = refl; memory = refl; status = refl; output = refl; version = refl; input = refl; regs = λ r alike. alike }
@@ -108,7 +109,7 @@ last-among a b c out = ⊎_elim (λ zero. zero) (λ some. absurd (never some)) (
 abbrev Changes : State → List ℕ → List ℕ → Type 0
 Changes s rs after = ((r : ℕ) → is_among rs r ≡ false → x after r ≡ x s.regs r) × ((r q : ℕ) → x after r ≢ x s.regs r → q ≢ r → x after q ≡ x s.regs q)
 
-word-changes : (s : State) (o : Option Instr) → Changes s (named_by o) (after_word s o).regs
+word-changes : (s : State) (o : Option Instr) → Changes s (named_by o) (after_effect s (effect_of_word (seen_of s) o)).regs
 unfolding named
 word-changes s None = (λ r out. refl, λ r q changed apart. refl)
 word-changes s (Some i) =
@@ -126,12 +127,12 @@ word-changes s (Some i) =
     )
 
 pub step-changes : (s : State) → ChangesNamed s
-unfolding step
+unfolding step next_effect
 step-changes s =
     let both = go (is_running s.status) (eqb (s.pc % 4) 0) (reading_of (number_at s.memory s.pc 4)) in
     record { elsewhere = both.0; one = both.1 }
   where
-    go : (r b : Bool) (o : Option Instr) → Changes s (cond r (cond b (named_by o) []) []) (cond r (cond b (after_word s o) (after_effect s (Trap 0))) s).regs
+    go : (r b : Bool) (o : Option Instr) → Changes s (cond r (cond b (named_by o) []) []) (after_next s (cond r (Some (cond b (effect_of_word (seen_of s) o) (Trap 0))) None)).regs
     go true true o = word-changes s o
     go true false o = (λ r out. refl, λ r q changed apart. refl)
     go false b o = (λ r out. refl, λ r q changed apart. refl)

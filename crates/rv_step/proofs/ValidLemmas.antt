@@ -26,12 +26,14 @@ use Rattle.rv_step.specs.Effect.{effect_with, jumps, branches, loads, stores, gi
 use Rattle.rv_step.specs.Offer.{byte_or_ones, offered}
 use Rattle.rv_step.specs.State.{State}
 use Rattle.rv_step.specs.Parts.{IsAccess}
-use Rattle.rv_step.specs.Step.{step, effect_at, regs_after, pc_after, memory_after, status_after, output_after, after_effect, following}
+use Rattle.rv_step.specs.Step.{step, regs_after, pc_after, memory_after, status_after, output_after, after_effect, following}
+use Rattle.rv_step.specs.NextEffect.{effect_at}
 use Rattle.rd_base.specs.Status.{HasWordCode}
 use Rattle.rv_step.specs.Valid.{IsRegisterFile, IsValid}
 use Rattle.rv_step.specs.declared.effect.Effect.{Effect}
 use Rattle.rv_step.specs.declared.effect.Effect.TheVariants.{Write, Jump, Branch, Next, Store, Put, Exit, Trap}
-use Rattle.rv_step.proofs.PartsLemmas.{StoresAligned, effect_aligned}
+use Rattle.rv_step.specs.Stores.{StoresAligned}
+use Rattle.rv_step.proofs.PartsLemmas.{effect_aligned}
 use Rattle.rv_step.proofs.StepLemmas.{by_effect}
 
 abbrev pub IsWord : ℕ → Type 0

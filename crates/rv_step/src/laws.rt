@@ -9,7 +9,8 @@ ghost use Rattle.rv_step.specs.Effect.{effect, effect_with};
 ghost use Rattle.rd_base.specs.Scheme.{scheme_of};
 ghost use Rattle.rd_base.specs.declared.scheme.InputScheme.{InputScheme};
 ghost use Rattle.rv_step.specs.Offer.{offered};
-ghost use Rattle.rv_step.specs.Step.{step, state_at, after_word};
+ghost use Rattle.rv_step.specs.NextEffect.{effect_at};
+ghost use Rattle.rv_step.specs.Step.{step, state_at, after_effect};
 ghost use Rattle.rv_step.specs.Parts.{needed, needed_in, by_parts, finished, Meets, Finishes, ReadsAsNeeded, AsksAsNeeded, IsAligned};
 ghost use Rattle.rv_step.specs.Touched.{touched};
 ghost use Rattle.rv_step.specs.Named.{named, named_by, destination, AreRegisters, WritesOnly};
@@ -27,7 +28,7 @@ use rd_base::{Status, registers_are_32};
 /// read or written is 1, 2 or 4 bytes at a multiple of their number (`aligned`). And for whoever reads memory and offers the
 /// input in another way, however it is held (`any_offer`): the effect is what `finish` makes of the number that is needed.
 pub fn two_parts_are_the_step()
-    ensures step { (s : State) (i : Instr) (any : ℕ) → by_parts s i any (needed_in (scheme_of s.version).input s.regs i) ≡ after_word s (Some i) }
+    ensures step { (s : State) (i : Instr) (any : ℕ) → by_parts s i any (needed_in (scheme_of s.version).input s.regs i) ≡ after_effect s (effect_at s i) }
     ensures any_reader { (xs : List ℕ) (pc : ℕ) (read : ℕ → ℕ → ℕ) (i : Instr) →
         Meets (λ memory. effect xs pc memory i) read (needed xs i) }
     ensures any_offer { (input : InputScheme) (byte : ℕ → ℕ) (xs : List ℕ) (pc : ℕ) (read : ℕ → ℕ → ℕ) (i : Instr) →

@@ -3,11 +3,22 @@
 //!
 //! The layers above may rely on this: `step` is the definition of the step, and returns the page that it stored to; `advance` makes as
 //! many of them as are asked, or fewer if it runs out of memory. Both keep the output's chain by the digester that is handed to them, and
-//! `Machine::new` begins it for every digester. `need` finds from registers alone the one number of memory that an instruction reads or
-//! writes, or the byte of the input that it reads. `finish` changes registers and pc, and returns what is left to do. Both together are
-//! the step, whoever holds memory and the input (`two_parts_are_the_step`), and nothing else is read (`needs_tell_what_is_read`).
-//! `touches` gives the page that the next step stores to. `fetched_in` reads the instruction out of an opened chunk, and `named_by` gives
-//! the registers that it names.
+//! `Machine::new` begins it for every digester. `touches` gives the page that the next step stores to.
+//!
+//! `next_effect` is the one function that fetches, decodes and computes: it finds what the next step of a state does, and changes
+//! nothing. It sees the state through the trait `StateAccess`, so whoever holds a state has its step by this very function: a machine
+//! its memory and its input, a referee the opened parts of a proof. `apply` is the other half that they share: it changes registers, pc
+//! and status by an effect. What is left to each of them is a store and a byte of output.
+//!
+//! `need` and `finish` are the same step, cut in another place. `need` finds from registers alone the one number of memory that an
+//! instruction reads or writes, or the byte of the input that it reads. `finish` changes registers and pc, and returns what is left to do.
+//! Both together are the step, whoever holds memory and the input (`two_parts_are_the_step`), and nothing else is read
+//! (`needs_tell_what_is_read`). `need_by` is `need` by how the input is held.
+//!
+//! The program runs `step`, in it `next_effect`, `need_by` and `apply`, and for a tree of memory `touches`. It calls neither `need` nor
+//! `finish`: they are there for a caller who fetches the needed number between the two.
+//!
+//! For proofs of a step, `fetched_in` reads the instruction out of an opened chunk, and `named_by` gives the registers that it names.
 //!
 //! A machine has a version, that of the commitment to its states. In versions 1 and 2 its input lies in memory; in version 3
 //! it is offered to a call, byte by byte.
@@ -17,10 +28,11 @@
 //! that each machine's state is valid and steps keep it so. `arithmetic_laws` has the manual's sentences on arithmetic, of all words:
 //! sums, products, divisions, shifts, extensions, and that what was stored is loaded.
 //!
-//! Read `specs/Effect.antt` first, which defines what each instruction does, and `specs/Step.antt`, which makes a step of
-//! that. Then read `stepping`.
+//! Read `specs/Effect.antt` first, which defines what each instruction does, `specs/NextEffect.antt`, which says what a step sees of a
+//! state and which effect it has, and `specs/Step.antt`, which makes a step of that. Then read `stepping`.
 #![tactic(auto)]
 
+mod access;
 mod arithmetic;
 mod arithmetic_laws;
 mod asked;
@@ -32,12 +44,13 @@ mod parts;
 mod stepping;
 mod touching;
 
+pub use access::StateAccess;
 pub use arithmetic_laws::{
     dividends_come_back, extensions_keep_bits, products_have_two_words, shifts_move_bits,
     stores_are_loaded, sums_are_of_values, words_are_their_bits,
 };
 pub use asked::{Need, Outcome};
-pub use effect::{ILLEGAL_INSTRUCTION, MISALIGNED_JUMP};
+pub use effect::{Effect, ILLEGAL_INSTRUCTION, MISALIGNED_JUMP};
 pub use fetching::{Names, fetch_address, fetched_in, named_by, number_shown};
 pub use laws::{
     effects_read_named_registers, machines_are_valid, names_are_registers, needs_tell_what_is_read,
@@ -46,5 +59,5 @@ pub use laws::{
 };
 pub use machine::{INPUT_BASE, Machine};
 pub use parts::{finish, need, need_by};
-pub use stepping::{advance, step};
+pub use stepping::{advance, apply, next_effect, step};
 pub use touching::touches;

@@ -1,126 +1,138 @@
 //! One step, and many.
-ghost use Rattle.std.specs.Prelude.{◌≡◌, ◌%◌, ◌⊎◌, ℕ, ◌<◌, ◌^◌, IfOk, IfSome, OnOk, OnErr};
-ghost use Rattle.mem_plain.specs.Contents.{number_at};
-ghost use Rattle.rv_step.specs.Offer.{byte_or_ones};
+ghost use Rattle.std.specs.Prelude.{◌≡◌, ◌++◌, [], ◌∷◌, ℕ, ◌<◌, ◌^◌, Some, IfOk, IfSome, OnOk, OnErr};
+ghost use Rattle.rv_step.specs.Naming.{NamesRegister};
+ghost use Rattle.rv_step.specs.NextEffect.{effect_of_word, next_effect as effect_seen};
 ghost use Rattle.rv_step.specs.State.{state_of, IsChained};
-ghost use Rattle.rv_step.specs.Step.{step as step_of, after_word, effect_at, state_at};
-ghost use Rattle.rv_step.specs.Parts.{after_finish, finished, IsAligned};
-ghost use Rattle.rv_step.specs.NumberRead.{read_for};
+ghost use Rattle.rv_step.specs.Step.{step as step_of, after_effect, pc_after, regs_after, state_at, status_after};
+ghost use Rattle.rv_step.specs.Parts.{IsAligned};
+ghost use Rattle.rv_step.specs.Stores.{StoresAligned, read_by};
 ghost use Rattle.rv_step.specs.Touched.{stored_page, touched};
-ghost use Rattle.rv_step.specs.OutOfMemory.{Puts, NeedsMemory, StepNeedsMemory};
+ghost use Rattle.rv_step.specs.OutOfMemory.{NeedsMemory, StepNeedsMemory};
 
-use crate::asked::{Need, Outcome};
-use crate::effect::{ILLEGAL_INSTRUCTION, MISALIGNED_JUMP};
+use crate::access::StateAccess;
+use crate::asked::Need;
+use crate::effect::{Effect, ILLEGAL_INSTRUCTION, MISALIGNED_JUMP, effect_of};
 use crate::machine::Machine;
-use crate::parts::{finish, need, next};
+use crate::parts::{change, need_by};
 use digest_core::{Digester, chain_grows, link};
-use mem_plain::{PAGE_BYTES, PlainMem};
-use rd_base::{Memory, Status};
+use mem_plain::PAGE_BYTES;
+use rd_base::{Ctl, Memory, Regs, Status};
 use rv_decode::{Instr, decode};
 
-/// The number of `width` bytes (1, 2 or 4) at an address that is a multiple of the width.
-fn number(mem: &PlainMem, addr: u32, width: u8) -> u32
-    requires width { (width ≡ 1) ⊎ (width ≡ 2) ⊎ (width ≡ 4) }
-    requires aligned { addr % width ≡ 0 }
-    ensures { result ≡ number_at mem.now addr width }
-{
-    match width {
-        1 => u32::from(mem.byte(addr)),
-        2 => mem.half(addr),
-        _ => mem.word(addr),
-    }
-}
-
-/// The byte of an input with a number, and `ffffffff` if it has no such byte.
-fn input_byte(input: &[u8], index: u32) -> u32
-    ensures { result ≡ byte_or_ones input.now index }
-{
-    match input.get(index as usize) {
-        Some(byte) => u32::from(*byte),
-        None => u32::MAX,
-    }
-}
-
-/// The number that is read for what an instruction needs, of memory or of the input; 0 if it reads nothing.
+/// The number that an instruction reads of memory or of the input; 0 if it reads nothing.
 #[inline(always)]
-fn number_for(asked: &Need, mem: &PlainMem, input: &[u8]) -> u32
+fn number_for<A: StateAccess>(state: &A, asked: &Need) -> u32
     requires { IsAligned asked.now }
-    ensures { result ≡ read_for mem.now input.now asked.now }
+    ensures { result ≡ read_by (A.seen state.now) asked.now }
 {
     match asked {
-        Need::Load { addr, width } => number(mem, *addr, *width),
-        Need::Input { index } => input_byte(input, *index),
+        Need::Load { addr, width } => state.load(*addr, *width),
+        Need::Input { index } => state.input_byte(*index),
         Need::Nothing | Need::Store { .. } | Need::Trap(_) => 0,
     }
 }
 
-/// Finishes an instruction that stores nothing, with the number that was read for it. So the result names no page. An `Err` is out of
-/// memory, and changes nothing.
-#[inline(always)]
-fn finish_on<D: Digester>(
-    machine: &mut Machine,
-    d: &D,
-    instr: &Instr,
-    loaded: u32,
-) -> Result<Option<u32>, Memory>
-    requires { IsChained D.digest_of machine.old }
-    ensures puts { OnErr result (Puts (finished machine.old.regs machine.old.ctl.pc loaded instr.now)) }
-    ensures ok { OnOk result (state_of machine.new ≡ after_finish (state_of machine.old) (finished machine.old.regs machine.old.ctl.pc loaded instr.now)) }
-    ensures page { IfOk result (λ page. page ≡ None) }
-    ensures err { OnErr result (state_of machine.new ≡ state_of machine.old) }
-    ensures chained { IsChained D.digest_of machine.new }
-{
-    let pc = machine.ctl.pc;
-    match finish(&mut machine.regs, &mut machine.ctl.pc, instr, loaded) {
-        Outcome::Next => {}
-        Outcome::Put(byte) => {
-            if machine.output.push(byte).is_err() {
-                machine.ctl.pc = pc;
-                return Err(Memory);
-            }
-            machine.ctl.out_len += 1;
-            chain_grows();
-            machine.ctl.chain = link(*d, machine.ctl.chain, byte);
-        }
-        Outcome::Exit(code) => machine.ctl.status = Status::Exited(code),
-        Outcome::Trap(code) => machine.ctl.status = Status::Trapped(code),
-    }
-    Ok(None)
-}
-
-/// Carries out an instruction that is at `pc`. The result is the page that it stores to. An `Err` is out of memory, and changes nothing.
+/// The effect of an instruction that is at `pc`: what it needs is read, unless that is known to be a trap before.
 ///
 /// It is inlined with `decode`, so that the instruction isn't written to memory field by field and read back.
 #[inline(always)]
-fn carry_out<D: Digester>(
-    machine: &mut Machine,
-    d: &D,
-    instr: &Instr,
-) -> Result<Option<u32>, Memory>
-    requires { IsChained D.digest_of machine.old }
-    ensures ok { OnOk result (state_of machine.new ≡ after_word (state_of machine.old) (Some instr.now)) }
-    ensures page { IfOk result (λ page. page ≡ stored_page (effect_at (state_of machine.old) instr.now)) }
-    ensures below { IfOk result (λ page. IfSome page (λ p. p < 2 ^ 20)) }
-    ensures err { OnErr result (state_of machine.new ≡ state_of machine.old) }
-    ensures needs { OnErr result (NeedsMemory machine.old.mem (effect_at (state_of machine.old) instr.now)) }
-    ensures chained { IsChained D.digest_of machine.new }
+fn effect_by<A: StateAccess>(state: &A, instr: &Instr) -> Effect
+    ensures value { result ≡ effect_of_word (A.seen state.now) (Some instr.now) }
+    ensures register { NamesRegister result }
+    ensures aligned { StoresAligned result }
 {
-    let asked = need(machine.version, &machine.regs, machine.ctl.pc, instr);
+    let asked = need_by(state.input_scheme(), state.registers(), instr);
     match asked {
-        Need::Store { addr, width, value } => {
-            machine.mem.store(addr, width, value)?;
-            machine.ctl.pc = next(machine.ctl.pc);
-            Ok(Some(addr / PAGE_BYTES))
-        }
-        Need::Trap(code) => {
-            machine.ctl.status = Status::Trapped(code);
-            Ok(None)
-        }
+        Need::Trap(code) => Effect::Trap(code),
         _ => {
-            let loaded = number_for(&asked, &machine.mem, &machine.input);
-            finish_on(machine, d, instr, loaded)
+            let loaded = number_for(state, &asked);
+            effect_of(state.registers(), state.pc(), instr, loaded)
         }
     }
+}
+
+/// The effect of the next step of a state, whoever holds the state: that of the instruction at `pc`. It is a trap if `pc` isn't a
+/// multiple of 4, if the word at `pc` is no instruction, or if the instruction can't be carried out. `None` comes if and only if the
+/// state has stopped. Nothing is changed. A register that the effect names is below 32, and a store lies at a multiple of its width.
+#[inline(always)]
+pub fn next_effect<A: StateAccess>(state: &A) -> Option<Effect>
+    ensures value { result ≡ effect_seen (A.seen state.now) }
+    ensures register { IfSome result NamesRegister }
+    ensures aligned { IfSome result StoresAligned }
+{
+    if !state.status().is_running() {
+        return None;
+    }
+    if state.pc() % 4 != 0 {
+        return Some(Effect::Trap(MISALIGNED_JUMP));
+    }
+    match decode(state.fetch(state.pc())) {
+        Some(instr) => Some(effect_by(state, &instr)),
+        None => Some(Effect::Trap(ILLEGAL_INSTRUCTION)),
+    }
+}
+
+/// Changes registers, `pc` and status by an effect. Memory, and the length and commitment of the output, are the caller's part of a step.
+#[inline(always)]
+pub fn apply(regs: &mut Regs, ctl: &mut Ctl, effect: &Effect)
+    requires { NamesRegister effect.now }
+    ensures regs { regs.new ≡ regs_after regs.old ctl.old.pc effect.now }
+    ensures ctl { ctl.new ≡ record ctl.old { pc = pc_after ctl.old.pc effect.now; status = status_after ctl.old.status effect.now } }
+{
+    change(regs, &mut ctl.pc, effect);
+    match effect {
+        Effect::Exit(code) => ctl.status = Status::Exited(*code),
+        Effect::Trap(code) => ctl.status = Status::Trapped(*code),
+        _ => {}
+    }
+}
+
+/// The page that an effect stores to.
+#[inline(always)]
+pub(crate) fn page_of(effect: &Effect) -> Option<u32>
+    requires { StoresAligned effect.now }
+    ensures page { result ≡ stored_page effect.now }
+    ensures below { IfSome result (λ page. page < 2 ^ 20) }
+{
+    match effect {
+        Effect::Store { addr, .. } => Some(*addr / PAGE_BYTES),
+        _ => None,
+    }
+}
+
+/// Puts a byte of output, with its link of the chain. An `Err` is out of memory, and changes nothing.
+fn put<D: Digester>(machine: &mut Machine, d: &D, byte: u8) -> Result<(), Memory>
+    requires { IsChained D.digest_of machine.old }
+    ensures ok { OnOk result (state_of machine.new ≡ record (state_of machine.old) { output = (state_of machine.new).output }) }
+    ensures output { OnOk result (machine.new.output.items ≡ machine.old.output.items ++ byte ∷ []) }
+    ensures err { OnErr result (state_of machine.new ≡ state_of machine.old) }
+    ensures chained { IsChained D.digest_of machine.new }
+{
+    machine.output.push(byte)?;
+    machine.ctl.out_len += 1;
+    chain_grows();
+    machine.ctl.chain = link(*d, machine.ctl.chain, byte);
+    Ok(())
+}
+
+/// Carries out the effect of a machine's step. An `Err` is out of memory, and changes nothing.
+#[inline(always)]
+fn carry_out<D: Digester>(machine: &mut Machine, d: &D, effect: &Effect) -> Result<(), Memory>
+    requires chained { IsChained D.digest_of machine.old }
+    requires register { NamesRegister effect.now }
+    requires aligned { StoresAligned effect.now }
+    ensures ok { OnOk result (state_of machine.new ≡ after_effect (state_of machine.old) effect.now) }
+    ensures err { OnErr result (state_of machine.new ≡ state_of machine.old) }
+    ensures needs { OnErr result (NeedsMemory machine.old.mem effect.now) }
+    ensures chained { IsChained D.digest_of machine.new }
+{
+    match effect {
+        Effect::Store { addr, width, value } => machine.mem.store(*addr, *width, *value)?,
+        Effect::Put(byte) => put(machine, d, *byte)?,
+        _ => {}
+    }
+    apply(&mut machine.regs, &mut machine.ctl, effect);
+    Ok(())
 }
 
 /// One step: carries out the word at `pc`. The result is the page that it stored to, which is the store's address / 4,096, as
@@ -129,6 +141,7 @@ fn carry_out<D: Digester>(
 /// alone. The machine's chain is its output's by the digester `d`, before and after. An `Err` is out of memory, and
 /// changes nothing; it comes only if the step stores to a page in which every byte is 0, or writes a byte of output.
 #[inline(always)]
+#[tactic(auto, unfolding(crate::specs::Step::step, crate::specs::Touched::touched))]
 pub fn step<D: Digester>(machine: &mut Machine, d: &D) -> Result<Option<u32>, Memory>
     requires { IsChained D.digest_of machine.old }
     ensures ok { OnOk result (state_of machine.new ≡ step_of (state_of machine.old)) }
@@ -138,19 +151,12 @@ pub fn step<D: Digester>(machine: &mut Machine, d: &D) -> Result<Option<u32>, Me
     ensures needs { OnErr result (StepNeedsMemory (state_of machine.old)) }
     ensures chained { IsChained D.digest_of machine.new }
 {
-    if !machine.ctl.status.is_running() {
-        return Ok(None);
-    }
-    if machine.ctl.pc % 4 != 0 {
-        machine.ctl.status = Status::Trapped(MISALIGNED_JUMP);
-        return Ok(None);
-    }
-    match decode(machine.mem.word(machine.ctl.pc)) {
-        Some(instr) => carry_out(machine, d, &instr),
-        None => {
-            machine.ctl.status = Status::Trapped(ILLEGAL_INSTRUCTION);
-            Ok(None)
+    match next_effect(machine) {
+        Some(effect) => {
+            carry_out(machine, d, &effect)?;
+            Ok(page_of(&effect))
         }
+        None => Ok(None),
     }
 }
 
