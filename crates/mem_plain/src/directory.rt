@@ -1,8 +1,8 @@
 //! The pages that are kept, found by two array accesses: a table by the high ten bits of a page's number, and the page
 //! in it by the low ten.
-ghost use Rattle.std.specs.Prelude.{◌≡◌, ◌≢◌, ◌⊎◌, ℕ, ◌+◌, ◌/◌, ◌<◌, ◌≤◌, ◌^◌, [], IfOk, OnOk, OnErr, Some, None, is_some, replicate, slice_index_or, option_copied, vec_len};
+ghost use Rattle.std.specs.Prelude.{◌≡◌, ◌≢◌, ◌⊎◌, ℕ, ◌+◌, ◌/◌, ◌<◌, ◌≤◌, ◌^◌, [], IfOk, OnOk, OnErr, Some, None, is_some, replicate, slice_index_or, option_copied, vec_len, length};
 ghost use Rattle.mem_plain.specs.Pages.{page_in};
-ghost use Rattle.mem_plain.specs.Kept.{IsWritten, IsCopied};
+ghost use Rattle.mem_plain.specs.Kept.{AreBoth, Written, Laid, IsCopied};
 
 use crate::page::Page;
 use crate::table::Table;
@@ -70,7 +70,7 @@ impl Directory {
         requires width { (width ≡ 1) ⊎ (width ≡ 2) ⊎ (width ≡ 4) }
         requires within { at + width ≤ 4096 }
         ensures there { result ≡ is_some (page_in self.old.tables.items number) }
-        ensures here { IsWritten (page_in self.old.tables.items number) (page_in self.new.tables.items number) at width value }
+        ensures here { AreBoth (Written at width value) (page_in self.old.tables.items number) (page_in self.new.tables.items number) }
         ensures elsewhere { (q : ℕ) → q ≢ number → page_in self.new.tables.items q ≡ page_in self.old.tables.items q }
     {
         let high = (number / TABLE_PAGES) as usize;
@@ -81,6 +81,29 @@ impl Directory {
             Some(table) => match &mut table.pages[(number % TABLE_PAGES) as usize] {
                 Some(page) => {
                     page.write(at, width, value);
+                    true
+                }
+                None => false,
+            },
+            None => false,
+        }
+    }
+
+    /// Lays bytes over those of the page with a number, from a place on, if the page is kept. The result is whether it is.
+    pub fn lay(&mut self, number: u32, at: usize, bytes: &[u8]) -> bool
+        requires { at + length bytes.now ≤ 4096 }
+        ensures there { result ≡ is_some (page_in self.old.tables.items number) }
+        ensures here { AreBoth (Laid at bytes.now) (page_in self.old.tables.items number) (page_in self.new.tables.items number) }
+        ensures elsewhere { (q : ℕ) → q ≢ number → page_in self.new.tables.items q ≡ page_in self.old.tables.items q }
+    {
+        let high = (number / TABLE_PAGES) as usize;
+        if high >= self.tables.len() {
+            return false;
+        }
+        match &mut self.tables[high] {
+            Some(table) => match &mut table.pages[(number % TABLE_PAGES) as usize] {
+                Some(page) => {
+                    page.lay(at, bytes);
                     true
                 }
                 None => false,

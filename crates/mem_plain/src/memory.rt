@@ -1,7 +1,8 @@
 //! The memory of a machine.
 ghost use Rattle.std.specs.Prelude.{◌≡◌, ◌⊎◌, ℕ, ◌+◌, ◌*◌, ◌/◌, ◌%◌, ◌^◌, ◌<◌, ◌≤◌, length, slice_index, if◌then◌else◌, ◌==◌, IfOk, IfSome, IsTrue, ◌↔◌, OnOk, OnErr};
 ghost use Rattle.mem_plain.specs.Memory.{IsMemory};
-ghost use Rattle.mem_plain.specs.Contents.{no_bytes, byte_at, number_at, with_number, laid, chunk_at, IsUsed, IsNextUsed};
+ghost use Rattle.mem_plain.specs.Kept.{AreZeros};
+ghost use Rattle.mem_plain.specs.Contents.{no_bytes, byte_at, number_at, with_number, laid, chunk_at, IsUsed, IsNextUsed, IsNextUsedBelow};
 
 use crate::directory::{Directory, TABLE_PAGES};
 use crate::page::{PAGE_BYTES, Page};
@@ -97,8 +98,19 @@ impl PlainMem {
         ensures next { IsNextUsed self.now from result }
         ensures below { IfSome result (λ page. page < 2 ^ 20) }
     {
+        self.is_memory();
+        self.next_page_below(from, PAGES)
+    }
+
+    /// The least page at or after `from` and before `end` with a byte that isn't 0, or `None` if there is no such page.
+    /// As the code shows it looks at no page from `end` on. Both may be any numbers.
+    pub fn next_page_below(&self, from: u32, end: u32) -> Option<u32>
+        ensures next { IsNextUsedBelow self.now from end result }
+        ensures below { IfSome result (λ page. page < 2 ^ 20) }
+    {
+        let end = end.min(PAGES);
         let mut number = from;
-        'pages: while number < PAGES {
+        'pages: while number < end {
             let next = self.past_empty_table(number);
             if next > number {
                 number = next;
@@ -127,8 +139,8 @@ impl PlainMem {
         }
     }
 
-    /// Whether the page with a number below 2^20 has a byte that isn't 0.
-    fn is_used(&self, number: u32) -> bool
+    /// Whether the page with a number below 2^20 has a byte that isn't 0. As the code shows it looks at no other page.
+    pub fn is_used(&self, number: u32) -> bool
         requires { number < 2 ^ 20 }
         ensures { IsTrue result ↔ IsUsed self.now number }
     {
@@ -179,7 +191,7 @@ impl PlainMem {
 
     /// Stores the low `width` bytes of `value` at an address, the least byte first. The width is 1, 2 or 4,
     /// and the address a multiple of it. An `Err` is out of memory for a page in which every byte is 0, and changes
-    /// nothing.
+    /// nothing. As the code shows, zeros that are stored to a page that isn't kept take no memory, since they change no byte.
     pub fn store(&mut self, addr: u32, width: u8, value: u32) -> Result<(), Memory>
         requires width { (width ≡ 1) ⊎ (width ≡ 2) ⊎ (width ≡ 4) }
         requires aligned { addr % width ≡ 0 }
@@ -189,6 +201,9 @@ impl PlainMem {
     {
         let at = (addr % PAGE_BYTES) as usize;
         if self.pages.write(addr / PAGE_BYTES, at, width, value) {
+            return Ok(());
+        }
+        if are_zeros(width, value) {
             return Ok(());
         }
         let mut page = Page::zeros(self.alloc)?;
@@ -216,17 +231,32 @@ impl PlainMem {
         Ok(mem)
     }
 
-    /// Lays bytes that lie in one page.
+    /// Lays bytes that lie in one page, in place if it is kept.
     fn lay_piece(&mut self, addr: u32, piece: &[u8]) -> Result<(), Memory>
         requires { addr % 4096 + length piece.now ≤ 4096 }
         ensures { OnOk result (self.new ≡ laid self.old addr piece.now) }
     {
-        self.is_memory();
         let number = addr / PAGE_BYTES;
-        let mut page = self.page(number)?;
-        page.lay((addr % PAGE_BYTES) as usize, piece);
+        let at = (addr % PAGE_BYTES) as usize;
+        if self.pages.lay(number, at, piece) {
+            return Ok(());
+        }
+        let mut page = Page::zeros(self.alloc)?;
+        page.lay(at, piece);
         self.put_page(number, page)?;
         self.is_memory();
         Ok(())
+    }
+}
+
+/// Whether the low `width` bytes of a value are 0. The width is 1, 2 or 4.
+fn are_zeros(width: u8, value: u32) -> bool
+    requires { (width ≡ 1) ⊎ (width ≡ 2) ⊎ (width ≡ 4) }
+    ensures { IsTrue result → AreZeros width value }
+{
+    match width {
+        1 => value % 256 == 0,
+        2 => value % 65536 == 0,
+        _ => value == 0,
     }
 }

@@ -1,28 +1,14 @@
-use Rattle.std.proofs.Common.{◌≡◌, ◌+◌, true≢false, sym, subst, ◌∙◌, ⊎_elim, arith}
+use Rattle.std.proofs.Common.{◌^◌, ℕ, Option, Some, None, ⊎_elim}
 use Rattle.std.proofs.lemmas.Bool.{cases_lt}
-use Rattle.mem_plain.specs.Contents.{IsUsed}
-use Rattle.mem_plain.proofs.UsedLemmas.{none_beyond, unused_further}
+use Rattle.mem_plain.specs.Contents.{Contents, IsNextUsed, IsNextUsedBelow}
+use Rattle.mem_plain.specs.Memory.{IsMemory}
+use Rattle.mem_plain.proofs.UsedLemmas.{none_beyond}
 use Rattle.mem_plain.proofs.memory.PlainMem.next_page.Goals as goal
 
-pub pages-preserved-then-next-number : goal.pages-preserved-then-next-number
-pages-preserved-then-next-number c = record {
-  further = omega (arith, c.pages.invariant.further, c.past_empty_table-next.ensures.further);
-  unused = unused_further c.args.self.now c.args.from c.pages.number c.past_empty_table-next.result c.pages.invariant.unused c.past_empty_table-next.ensures.unused;
-}
-
-pub pages-preserved : goal.pages-preserved
-pages-preserved c =
-    let m = c.args.self.now in
-    let n = c.pages.number in
-    record {
-      further = omega (arith, c.pages.invariant.further);
-      unused = unused_further m c.args.from n (n + 1) c.pages.invariant.unused (λ q after before.
-          let here : n ≡ q = omega arith in
-          subst (λ k. ¬ IsUsed m k) here (λ used. true≢false (sym (c.is_used.ensures.1 used) ∙ c.if-is_used.false)));
-    }
+-- beyond the last page none is used
+of-all : (m : Contents) (from : ℕ) (o : Option ℕ) → IsMemory m → IsNextUsedBelow m from (2 ^ 20) o → IsNextUsed m from o
+of-all m from (Some page) memory is = is.0
+of-all m from None memory is = λ q after. ⊎_elim (λ below. is q after below) (λ beyond. none_beyond m memory q beyond) (cases_lt q (2 ^ 20))
 
 pub returns-clause-next : goal.returns-clause-next
-returns-clause-next c q after = ⊎_elim
-    (λ before. c.pages.invariant.unused q after before)
-    (λ beyond. none_beyond c.args.self.now c.is_memory.ensures q (omega (arith, c.pages-test.false)))
-    (cases_lt q c.pages.number)
+returns-clause-next c = of-all c.args.self.now c.args.from c.next_page_below.result c.is_memory.ensures c.next_page_below.ensures.next
