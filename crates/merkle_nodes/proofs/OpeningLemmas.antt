@@ -1,11 +1,9 @@
 -- A path from a leaf climbs to a node.
-use Rattle.std.proofs.Common.{◌≡◌, ◌≢◌, ℕ, zero, suc, ◌+◌, ◌*◌, ◌-◌, ◌/◌, ◌%◌, ◌^◌, ◌<◌, ◌≤◌, ◌⊎◌, List, length, cond, refl, sym, ap, ◌∙◌, arith, ⊎_elim, add-one}
+use Rattle.std.proofs.Common.{◌≡◌, ◌≢◌, ℕ, zero, suc, ◌+◌, ◌*◌, ◌-◌, ◌/◌, ◌%◌, ◌^◌, List, cond, refl, sym, ap, ◌∙◌, arith, ⊎_elim, add-one}
 use Rattle.std.proofs.lemmas.Bool.{eq-eqb, ne_eqb, cases_eq}
 use Rattle.digest_core.specs.Text.{node_text}
 use Rattle.merkle_nodes.specs.Node.{node, beside}
 use Rattle.merkle_nodes.specs.Opening.{joined, opened, AreSiblings}
-use Rattle.merkle_nodes.specs.Split.{IsSplitAt}
-use Rattle.merkle_nodes.specs.PathLaws.{one_opening}
 use Rattle.merkle_nodes.proofs.NodeLemmas.{div-level, div-ground, node-zero, node-suc, node-same}
 
 -- one level further up
@@ -60,16 +58,3 @@ opened-from digest leaf siblings l k q d x other climbed at beside text =
 
 pub place-next : (k l q : ℕ) → q ≡ k / 2 ^ l → q / 2 ≡ k / 2 ^ (l + 1)
 place-next k l q at = ap (λ i. i / 2) at ∙ rw add-one (sym (div-level k l))
-
--- a path that climbs to a node of a tree is the tree's, or splits from it
-node-size : (digest : List ℕ → List ℕ) → ((bytes : List ℕ) → length (digest bytes) ≡ 32) → (leaf : ℕ → List ℕ) (l k : ℕ) → length (node digest leaf l k) ≡ 32
-node-size digest is_digest leaf zero k = ap length (node-zero digest leaf k) ∙ is_digest (leaf k)
-node-size digest is_digest leaf (suc l) k = ap length (node-suc digest leaf l k) ∙ is_digest _
-
-pub tree_or_split : (digest : List ℕ → List ℕ) → ((bytes : List ℕ) → length (digest bytes) ≡ 32)
-    → (leaf : ℕ → List ℕ) (a : List ℕ) (s : ℕ → List ℕ) (n k : ℕ) → ((l : ℕ) → l < n → length (s l) ≡ 32) → digest (opened digest a s n k) ≡ node digest leaf n (k / 2 ^ n)
-    → ((a ≡ leaf k) × AreSiblings digest leaf n k s) ⊎ ((l : ℕ) × (l ≤ n) × IsSplitAt digest a s (leaf k) (λ i. node digest leaf i (beside (k / 2 ^ i))) k l)
-tree_or_split digest is_digest leaf a s n k sizes climbs =
-    let along : ℕ → List ℕ = λ i. node digest leaf i (beside (k / 2 ^ i)) in
-    one_opening digest is_digest a (leaf k) s along k n (λ l low. sizes l low ∙ sym (node-size digest is_digest leaf l (beside (k / 2 ^ l))))
-    (climbs ∙ sym (climb-node digest leaf along n k (λ l low. refl)))

@@ -83,8 +83,7 @@ pub fn renew_nodes<C: Counted, L: Ledger>(
 }
 
 /// The place of the other node below the same parent.
-fn beside(place: usize) -> usize
-    requires { place < 4294967296 }
+pub fn beside(place: u32) -> u32
     ensures { result ≡ place_beside place }
 {
     if place % 2 == 0 { place + 1 } else { place - 1 }
@@ -100,9 +99,9 @@ pub fn fill_heap_path(nodes: &[Digest32], siblings: &mut [Digest32], index: u32)
         IsPath digest leaf (length siblings.old) index siblings.new }
 {
     let mut width = nodes.len() / 2;
-    let mut k = index as usize;
+    let mut k = index;
     'levels: for level in 0..siblings.len() {
-        siblings[level] = nodes[width + beside(k)];
+        siblings[level] = nodes[width + beside(k) as usize];
         width /= 2;
         k /= 2;
     }

@@ -2,7 +2,7 @@
 ghost use Rattle.std.specs.Prelude.{◌≡◌, ◌≢◌, ◌↔◌, ◌⊎◌, ℕ, suc, ◌+◌, ◌*◌, ◌-◌, ◌/◌, ◌^◌, ◌<◌, ◌≤◌, ◌||◌, Bool, true, List, length};
 ghost use Rattle.digest_core.specs.Text.{node_text};
 ghost use Rattle.rd_base.specs.declared.digest.Digest32.{Digest32};
-ghost use Rattle.merkle_nodes.specs.Node.{node, empty_node, beside, digest_at};
+ghost use Rattle.merkle_nodes.specs.Node.{node, empty_node, digest_at};
 ghost use Rattle.merkle_nodes.specs.Heap.{IsHeap};
 ghost use Rattle.merkle_nodes.specs.Renewals.{how_many, is_changed, renewals};
 ghost use Rattle.merkle_nodes.specs.Opening.{Opens, opened, AreSiblings};
@@ -59,16 +59,6 @@ pub fn two_paths_agree_or_split()
         digest (opened digest a s n k) ≡ digest (opened digest b t n k) →
         ((a ≡ b) × ((l : ℕ) → l < n → s l ≡ t l))
         ⊎ ((l : ℕ) × (l ≤ n) × IsSplitAt digest a s b t k l) }
-{}
-
-/// A path that climbs to a node of a tree shows the leaf's string and the siblings of the tree, or at some level a string that is
-/// not the tree's with one digest as the tree's.
-pub fn paths_show_the_tree_or_split()
-    ensures paths { (digest : List ℕ → List ℕ) → ((bytes : List ℕ) → length (digest bytes) ≡ 32) →
-        (leaf : ℕ → List ℕ) (a : List ℕ) (s : ℕ → List ℕ) (n k : ℕ) → ((l : ℕ) → l < n → length (s l) ≡ 32) →
-        digest (opened digest a s n k) ≡ node digest leaf n (k / 2 ^ n) →
-        ((a ≡ leaf k) × AreSiblings digest leaf n k s)
-        ⊎ ((l : ℕ) × (l ≤ n) × IsSplitAt digest a s (leaf k) (λ i. node digest leaf i (beside (k / 2 ^ i))) k l) }
 {}
 
 /// A heap is the tree over its leaves: node k of a level below m others is at place 2^m + k.

@@ -12,10 +12,10 @@ mod heap;
 mod laws;
 
 pub use climbing::{climb, climb_counted, joined_text};
-pub use heap::{fill_empty_heap, fill_empty_nodes, fill_heap_path, renew_nodes};
+pub use heap::{beside, fill_empty_heap, fill_empty_nodes, fill_heap_path, renew_nodes};
 pub use laws::{
     changed_leaves_climb_with_old_siblings, climbing_is_opening, heaps_are_trees, node_equations,
     nodes_depend_on_leaves_below, nodes_over_one_string_are_empty, paths_climb_to_nodes,
-    paths_open_strings_of_the_tree, paths_show_the_tree_or_split, renewals_are_few,
-    renewals_are_marked, roots_bind_trees, two_paths_agree_or_split,
+    paths_open_strings_of_the_tree, renewals_are_few, renewals_are_marked, roots_bind_trees,
+    two_paths_agree_or_split,
 };
