@@ -4,7 +4,7 @@ use Rattle.std.specs.Prelude.{bytes_eq}
 use Rattle.std.proofs.lemmas.Slice.Eq.{bytes_eq-Decides}
 use Rattle.mem_plain.specs.Contents.{Contents}
 use Rattle.merkle_nodes.specs.Renewals.{how_many, is_changed, renewals}
-use Rattle.mem_tree.specs.Costs.{are_different, differs, has_changed, is_filled, page_renewals, page_needs}
+use Rattle.mem_tree.specs.Costs.{are_different}
 use Rattle.mem_tree.specs.declared.kept.PageTree.{PageTree}
 
 pub many-same : (f h : ℕ → Bool) (n : ℕ) → ((k : ℕ) → k < n → f k ≡ h k) → how_many f n ≡ how_many h n
@@ -53,28 +53,3 @@ SomeLaw = (changed : ℕ → Bool) (n : ℕ) → is_changed changed n 0 ≡ true
 
 pub none-changed : SomeLaw → (f : ℕ → Bool) → ((j : ℕ) → j < 128 → f j ≡ false) → is_changed f 7 0 ≡ false
 none-changed law f none = not-true (is_changed f 7 0) (λ is. let some : 0 < how_many f 128 = law f 7 is in let zero' = many-none f 128 none in absurd (omega arith))
-
-module _ (tree : Option PageTree) (m : Contents) (page : ℕ) where
-  abbrev if_filled : Bool → ℕ
-  if_filled b = cond b (renewals (differs tree m page) 7) 0
-
-  abbrev if_both : Bool → Bool → ℕ
-  if_both a b = cond (a && b) (renewals (differs tree m page) 7 + 20) 0
-
-  both-most : (a b : Bool) → if_both a b ≤ if_filled a + 20
-  both-most true true = omega arith
-  both-most true false = omega arith
-  both-most false b = omega arith
-
-  both-unchanged : (a : Bool) → if_both a false ≡ 0
-  both-unchanged true = refl
-  both-unchanged false = refl
-
-  pub needs-most : page_needs tree m page ≤ page_renewals tree m page + 20
-  needs-most = both-most (is_filled m page) (has_changed tree m page)
-
-  pub needs-none : has_changed tree m page ≡ false → page_needs tree m page ≡ 0
-  needs-none is = ap (if_both (is_filled m page)) is ∙ both-unchanged (is_filled m page)
-
-  pub needs-empty : is_filled m page ≡ false → page_needs tree m page ≡ 0
-  needs-empty is = ap (λ a. if_both a (has_changed tree m page)) is

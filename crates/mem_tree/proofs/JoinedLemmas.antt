@@ -28,21 +28,6 @@ module _ (digest : List ℕ → List ℕ) (t t' : Kept) (page : ℕ) (empties : 
       (upper_kept n (2 * k) (inr (λ e. other (omega arith)))) (upper_kept n (2 * k + 1) (inr (λ e. other (omega arith))))
       (ap (λ es. digest_at es (7 + n)) empties) (ap (λ es. digest_at es (7 + (n + 1))) empties) is
 
-  -- they are joined anew
-  pub raised-joined : (stale left : List ℕ) → IsRoot (upper_at t' 0 page) (page_at t' page) → ((n : ℕ) → n < 20 → IsJoinedAbove digest t' n (page / 2 ^ (n + 1)))
-      → IsJoinedBut digest t stale → ((p : ℕ) → p ≢ page → is_among left p ≡ false → is_among stale p ≡ false) → IsJoinedBut digest t' left
-  raised-joined stale left root joined before tells = record {
-    roots = λ p fresh. ⊎_elim
-        (λ same. subst (λ q. IsRoot (upper_at t' 0 q) (page_at t' q)) (sym same) root)
-        (λ other. root-kept p other (before.roots p (tells p other fresh)))
-        (cases_eq p page);
-    above = λ n k low fresh. ⊎_elim
-        (λ same. subst (IsJoinedAbove digest t' n) (sym same) (joined n low))
-        (λ other. above-kept n k other (before.above n k low (λ p at. tells p (λ e. other (sym at ∙ ap (λ x. x / 2 ^ (n + 1)) e)) (fresh p at))))
-        (cases_eq k (page / 2 ^ (n + 1)));
-    top = λ n k high. upper_kept n k (inl high) ∙ before.top n k high;
-  }
-
   -- what is written in and above a stale page isn't seen
   pub stays-joined : (stale : List ℕ) → IsJoinedBut digest t stale → is_among stale page ≡ true → IsJoinedBut digest t' stale
   stays-joined stale before is = record {
@@ -64,23 +49,6 @@ joined-fewer digest t stale more tells is = record {
   roots = λ p fresh. is.roots p (tells p fresh);
   above = λ n k low fresh. is.above n k low (λ p at. tells p (fresh p at));
   top = is.top;
-}
-
--- a page whose root and heap are alike is put back
-pub back-joined : (digest : List ℕ → List ℕ) (t t' : Kept) (page : ℕ) → t'.empties ≡ t.empties → ((n k : ℕ) → upper_at t' n k ≡ upper_at t n k)
-    → ((p : ℕ) → p ≢ page → page_at t' p ≡ page_at t p) → ((empty : List ℕ) → heap_node (page_at t' page) 1 empty ≡ heap_node (page_at t page) 1 empty)
-    → is_some (page_at t' page) ≡ is_some (page_at t page) → IsJoinedBut digest t [] → IsJoinedBut digest t' []
-back-joined digest t t' page empties upper pages node there is = record {
-  roots = λ p fresh. ⊎_elim
-      (λ same. subst (λ q. IsRoot (upper_at t' 0 q) (page_at t' q)) (sym same) (subst (λ o. IsRoot o (page_at t' page)) (sym (upper 0 page)) (record {
-        digest_is = λ empty. (is.roots page refl).digest_is empty ∙ sym (node empty);
-        kept = (is.roots page refl).kept ∙ sym there;
-      })))
-      (λ other. subst (λ o. IsRoot o (page_at t' p)) (sym (upper 0 p)) (subst (IsRoot (upper_at t 0 p)) (sym (pages p other)) (is.roots p refl)))
-      (cases_eq p page);
-  above = λ n k low fresh. of-two digest _ _ _ _ _ _ _ _ _ _ (upper (n + 1) k) (upper n (2 * k)) (upper n (2 * k + 1))
-      (ap (λ es. digest_at es (7 + n)) empties) (ap (λ es. digest_at es (7 + (n + 1))) empties) (is.above n k low (λ p at. refl));
-  top = λ n k high. upper n k ∙ is.top n k high;
 }
 
 -- nothing is kept

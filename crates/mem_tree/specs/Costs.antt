@@ -1,5 +1,5 @@
 -- To believe. How many digests a refresh makes: those of the chunks that differ from what is kept, and of the nodes above them.
-use Rattle.std.specs.Prelude.{ℕ, ◌+◌, Bool, ◌&&◌, not, List, [], ◌∷◌, Option, None, bytes_eq, if◌then◌else◌}
+use Rattle.std.specs.Prelude.{ℕ, ◌+◌, Bool, not, List, [], ◌∷◌, Option, None, bytes_eq, if◌then◌else◌}
 use Rattle.mem_plain.specs.Contents.{Contents}
 use Rattle.merkle_nodes.specs.Renewals.{how_many, is_changed, renewals}
 use Rattle.mem_tree.specs.Page.{page_chunk, kept_chunk}
@@ -25,15 +25,6 @@ is_filled m page = has_changed None m page
 -- how many digests the subtree of a page takes: none if all bytes of the page are 0
 abbrev pub page_renewals : Option PageTree → Contents → ℕ → ℕ
 page_renewals tree m page = if is_filled m page then renewals (differs tree m page) 7 else 0
-
--- how many a page takes at least: if it has changed and isn't empty, those of its subtree and the 20 above it
-abbrev pub page_needs : Option PageTree → Contents → ℕ → ℕ
-page_needs tree m page = if is_filled m page && has_changed tree m page then renewals (differs tree m page) 7 + 20 else 0
-
--- how many some pages take at least
-abbrev pub needs : Kept → Contents → List ℕ → ℕ
-needs t m [] = 0
-needs t m (page ∷ rest) = page_needs (page_at t page) m page + needs t m rest
 
 -- how many chunks of a page differ, and of some pages
 abbrev pub page_changes : Option PageTree → Contents → ℕ → ℕ

@@ -67,12 +67,6 @@ pub record IsRoot (node : Option Digest32) (tree : Option PageTree) : Type 0 whe
   pub digest_is : (empty : List ℕ) → kept_or node empty ≡ heap_node tree 1 empty
   pub kept : is_some node ≡ is_some tree
 
--- from a page's root up to level 7 + top, each node above the page is the digest of two
-pub record IsRaised (digest : List ℕ → List ℕ) (t : Kept) (page : ℕ) (root : Option Digest32) (top : ℕ) : Type 0 where
-  pub lowest : upper_at t 0 page ≡ root
-  pub joined : (n : ℕ) → n < top → IsJoinedAbove digest t n (page / 2 ^ (n + 1))
-  pub kept : is_some root ≡ true → is_some (upper_at t top (page / 2 ^ top)) ≡ true
-
 -- each node that is neither at nor above a stale page is the root of its page, or the digest of the two below it; and none is
 -- kept above level 27. So nothing is kept above pages but over pages that are kept, or stale
 pub record IsJoinedBut (digest : List ℕ → List ℕ) (t : Kept) (stale : List ℕ) : Type 0 where
@@ -97,6 +91,10 @@ IsTreeOf digest t m = IsOver digest t.nodes t.touched m
 -- a page holds a byte other than 0, or was touched since the last refresh
 abbrev pub IsUsedOrTouched : Tree → Contents → ℕ → Type 0
 IsUsedOrTouched t m p = IsUsed m p ⊎ (is_among t.touched p ≡ true)
+
+-- each page that a memory has in use is touched
+abbrev pub HasTouched : Tree → Contents → Type 0
+HasTouched tree m = (p : ℕ) → IsUsed m p → is_among tree.touched p ≡ true
 
 -- two memories are alike outside these pages
 abbrev pub SameBut : List ℕ → Contents → Contents → Type 0

@@ -1,7 +1,7 @@
 //! The nodes of a memory, from scratch.
 ghost use Rattle.std.specs.Prelude.{◌≡◌, ◌<◌, ◌^◌, ℕ, [], length, IfOk, All, true};
 ghost use Rattle.std.specs.List.{AllZip};
-ghost use Rattle.mem_plain.specs.Contents.{IsUsed};
+ghost use Rattle.mem_plain.specs.Contents.{IsUsed, no_bytes};
 ghost use Rattle.mem_tree.specs.Page.{AreEmpty, IsPageOf, IsPageTree};
 ghost use Rattle.mem_tree.specs.Tree.{kept_of, page_at, AllMade, IsJoinedBut, is_among};
 
@@ -109,6 +109,16 @@ fn no_nodes<D: Digester>(alloc: Global, d: D) -> Nodes
     }
 }
 
+/// The nodes of a memory in which every byte is 0.
+pub(crate) fn nodes_of_zeros<D: Digester>(alloc: Global, d: D) -> Nodes
+    ensures pages { (p : ℕ) → IsPageOf (page_at (kept_of result) p) no_bytes p }
+    ensures made { AllMade D.digest_of (kept_of result) }
+    ensures joined { IsJoinedBut D.digest_of (kept_of result) [] }
+    ensures empty { AreEmpty D.digest_of result.empties }
+{
+    no_nodes(alloc, d)
+}
+
 /// The nodes of a memory, whose pages' subtrees are computed side by side, with a counter of its own.
 pub(crate) fn nodes_in<R: Threads + Sync, D: Digester + Send + Sync, L: Ledger>(
     rt: &R,
@@ -129,11 +139,14 @@ pub(crate) fn nodes_in<R: Threads + Sync, D: Digester + Send + Sync, L: Ledger>(
     let mut left = used_pages(alloc, mem)?;
     let mut nodes = no_nodes(alloc, d);
     let mut trees = trees_of(rt, alloc, d, &nodes.empties, mem, &left)?;
+    let mut placed = Vec::new(alloc);
     'pages: while let Some(page) = left.pop() {
         let Some(tree) = trees.pop() else {
             unreachable!()
         };
-        nodes.place(d, page, tree?, &mut steps)?;
+        nodes.set_page(d, page, tree?)?;
+        placed.push(page)?;
     }
+    nodes.raise_all(d, alloc, placed, &mut steps)?;
     Ok(nodes)
 }

@@ -1,10 +1,11 @@
 //! The nodes of a tree that are kept, and how they are brought up to a memory.
-ghost use Rattle.std.specs.Prelude.{◌≡◌, ◌≢◌, ◌⊎◌, ◌+◌, ◌-◌, ◌*◌, ◌/◌, ◌≤◌, ◌<◌, ◌^◌, ◌||◌, ℕ, List, [], length, OnOk, OnErr, None, is_some, false, true};
+ghost use Rattle.std.specs.Prelude.{◌≡◌, ◌≢◌, ◌⊎◌, ◌+◌, ◌-◌, ◌*◌, ◌/◌, ◌≤◌, ◌<◌, ◌^◌, ◌||◌, ◌++◌, ◌∷◌, ℕ, List, [], length, IfOk, OnOk, OnErr, None, is_some, false, true};
 ghost use Rattle.digest_core.specs.Text.{node_text as node_string};
 ghost use Rattle.merkle_nodes.specs.Node.{digest_at};
 ghost use Rattle.mem_tree.specs.Page.{AreEmpty, IsMadeTree, IsPageOf, kept_or};
-ghost use Rattle.mem_tree.specs.Tree.{kept_of, page_at, page_node as node_in_page, upper_at, upper_node as node_above, AllMade, IsJoinedBut, IsRaised, is_among};
-ghost use Rattle.mem_tree.specs.Costs.{changed_chunks, needs, page_changes, page_needs};
+ghost use Rattle.mem_tree.specs.Tree.{kept_of, page_at, page_node as node_in_page, upper_at, upper_node as node_above, AllMade, IsJoinedBut, IsRoot, is_among};
+ghost use Rattle.mem_tree.specs.Costs.{changed_chunks, page_changes};
+ghost use Rattle.mem_tree.specs.Levels.{IsJoinedFrom, as_number};
 
 use crate::kept::{Nodes, PageTree};
 use crate::page::{PageOf, page_tree_after, root_of};
@@ -27,14 +28,16 @@ fn page_width(level: u8) -> u32
     requires { level < 7 }
     ensures { result ≡ 2 ^ (7 - level) }
 {
-    match level {
-        0 => 128,
-        1 => 64,
-        2 => 32,
-        3 => 16,
-        4 => 8,
-        5 => 4,
-        _ => 2,
+    2u32.pow(u32::from(PAGE_LEVEL - level))
+}
+
+/// A node, or the empty one of its level if it isn't kept.
+fn or_empty(node: Option<Digest32>, empty: Digest32) -> Digest32
+    ensures { result.0 ≡ kept_or node empty.0 }
+{
+    match node {
+        Some(node) => node,
+        None => empty,
     }
 }
 
@@ -43,6 +46,17 @@ fn page_width(level: u8) -> u32
 pub(crate) struct Touched<'a> {
     pub(crate) pages: &'a BTreeSet<u32>,
     pub(crate) failed: bool,
+}
+
+/// Adds a page to others, or not. An `Err` is out of memory.
+fn add_if(pages: &mut Vec<u32>, page: u32, is_one: bool) -> Result<(), Memory>
+    ensures added { OnOk result (is_one ≡ true → pages.new.items ≡ pages.old.items ++ page ∷ []) }
+    ensures kept { is_one ≡ false → pages.new.items ≡ pages.old.items }
+{
+    if is_one {
+        pages.push(page)?;
+    }
+    Ok(())
 }
 
 impl Nodes {
@@ -58,15 +72,22 @@ impl Nodes {
         }
     }
 
+    /// The node this many levels above the pages' roots, if it is kept.
+    fn kept_upper(&self, above: u8, k: u32) -> Option<Digest32>
+        ensures { result ≡ upper_at (kept_of self.now) above k }
+    {
+        self.upper.get(&(above, k)).copied()
+    }
+
     /// The node this many levels above the pages' roots.
     pub(crate) fn upper_node(&self, above: u8, k: u32) -> Digest32
         requires { above ≤ 20 }
         ensures { result.0 ≡ node_above (kept_of self.now) above k }
     {
-        match self.upper.get(&(above, k)) {
-            Some(node) => *node,
-            None => self.empties[(PAGE_LEVEL + above) as usize],
-        }
+        or_empty(
+            self.kept_upper(above, k),
+            self.empties[(PAGE_LEVEL + above) as usize],
+        )
     }
 
     /// Takes a page's subtree out, if one is kept.
@@ -101,7 +122,12 @@ impl Nodes {
     }
 
     /// Keeps a node above the pages' roots, or none if it is the empty one. An `Err` is out of memory, and changes nothing.
-    fn put_upper(&mut self, above: u8, k: u32, node: Option<Digest32>) -> Result<(), Memory>
+    pub(crate) fn put_upper(
+        &mut self,
+        above: u8,
+        k: u32,
+        node: Option<Digest32>,
+    ) -> Result<(), Memory>
         ensures here { OnOk result (upper_at (kept_of self.new) above k ≡ node) }
         ensures err { OnErr result (upper_at (kept_of self.new) above k ≡ upper_at (kept_of self.old) above k) }
         ensures elsewhere { (n q : ℕ) → (n ≢ above) ⊎ (q ≢ k) → upper_at (kept_of self.new) n q ≡ upper_at (kept_of self.old) n q }
@@ -121,7 +147,7 @@ impl Nodes {
     }
 
     /// The node over nodes 2 * k and 2 * k + 1 of a level, with a step for its digest; or `None`, with none, if neither is kept.
-    fn joined<C: Counted, L: Ledger>(
+    pub(crate) fn joined<C: Counted, L: Ledger>(
         &self,
         c: C,
         above: u8,
@@ -139,77 +165,40 @@ impl Nodes {
         ensures steps { steps.new ≤ steps.old + 1 }
         ensures more { steps.old ≤ steps.new }
     {
-        let is_left_kept = self.upper.contains_key(&(above, 2 * k));
-        let is_right_kept = self.upper.contains_key(&(above, 2 * k + 1));
-        if !is_left_kept && !is_right_kept {
+        let left = self.kept_upper(above, 2 * k);
+        let right = self.kept_upper(above, 2 * k + 1);
+        if left.is_none() && right.is_none() {
             return None;
         }
-        let left = self.upper_node(above, 2 * k);
-        let right = self.upper_node(above, 2 * k + 1);
-        Some(c.digest(&node_text(&left, &right), steps))
+        let empty = self.empties[(PAGE_LEVEL + above) as usize];
+        let text = node_text(&or_empty(left, empty), &or_empty(right, empty));
+        Some(c.digest(&text, steps))
     }
 
-    /// Puts a page's root into its place and joins the nodes above it anew, with a step for each: 20 if there is a root. An
-    /// `Err` is out of memory, and leaves all nodes that aren't above the page.
-    fn raise<C: Counted, L: Ledger>(
+    /// Puts a page's subtree and its root into their places; the nodes above it stay. An `Err` is out of memory, and leaves all other pages and
+    /// nodes.
+    pub(crate) fn set_page<C: Counted>(
         &mut self,
-        c: C,
-        page: u32,
-        root: Option<Digest32>,
-        steps: &mut Steps<L>,
-    ) -> Result<(), Memory>
-        requires page { page < 2 ^ 20 }
-        requires empty { AreEmpty C.digest_of self.old.empties }
-        ensures raised { OnOk result (IsRaised C.digest_of (kept_of self.new) page root 20) }
-        ensures elsewhere { (n k : ℕ) → (20 < n) ⊎ (k ≢ page / 2 ^ n) → upper_at (kept_of self.new) n k ≡ upper_at (kept_of self.old) n k }
-        ensures pages { self.new.pages ≡ self.old.pages }
-        ensures empties { self.new.empties ≡ self.old.empties }
-        ensures counted { OnOk result (is_some root ≡ true → steps.new ≡ steps.old + 20) }
-        ensures steps { steps.new ≤ steps.old + 20 }
-        ensures more { steps.old ≤ steps.new }
-    {
-        self.put_upper(0, page, root)?;
-        let mut k = page;
-        'levels: for above in 0..UPPER_LEVELS {
-            k /= 2;
-            let node = self.joined(c, above, k, steps);
-            self.put_upper(above + 1, k, node)?;
-        }
-        Ok(())
-    }
-
-    /// Puts a page's subtree into its place, with a step for each node above it that is joined anew. An `Err` is out of
-    /// memory, and leaves all nodes that are neither in nor above the page.
-    pub(crate) fn place<C: Counted, L: Ledger>(
-        &mut self,
-        c: C,
+        _c: C,
         page: u32,
         tree: Option<PageTree>,
-        steps: &mut Steps<L>,
     ) -> Result<(), Memory>
-        requires page { page < 2 ^ 20 }
-        requires empty { AreEmpty C.digest_of self.old.empties }
-        ensures joined { OnOk result ((stale left : List ℕ) → IsJoinedBut C.digest_of (kept_of self.old) stale →
-            ((p : ℕ) → p ≢ page → is_among left p ≡ false → is_among stale p ≡ false) →
-            IsJoinedBut C.digest_of (kept_of self.new) left) }
-        ensures kept { (stale : List ℕ) → IsJoinedBut C.digest_of (kept_of self.old) stale →
-            is_among stale page ≡ true → IsJoinedBut C.digest_of (kept_of self.new) stale }
         ensures here { OnOk result (page_at (kept_of self.new) page ≡ tree) }
+        ensures root { OnOk result (IsRoot (upper_at (kept_of self.new) 0 page) tree) }
         ensures elsewhere { (p : ℕ) → p ≢ page → page_at (kept_of self.new) p ≡ page_at (kept_of self.old) p }
+        ensures upper { (n k : ℕ) → (n ≢ 0) ⊎ (k ≢ page) → upper_at (kept_of self.new) n k ≡ upper_at (kept_of self.old) n k }
         ensures made { AllMade C.digest_of (kept_of self.old) → IsMadeTree C.digest_of tree → AllMade C.digest_of (kept_of self.new) }
         ensures empties { self.new.empties ≡ self.old.empties }
-        ensures counted { OnOk result (is_some tree ≡ true → steps.new ≡ steps.old + 20) }
-        ensures steps { steps.new ≤ steps.old + 20 }
-        ensures more { steps.old ≤ steps.new }
     {
         let root = root_of(&tree);
         self.put_page(page, tree)?;
-        self.raise(c, page, root, steps)?;
+        self.put_upper(0, page, root)?;
         Ok(())
     }
 
-    /// Makes a page and the nodes above it those of a memory, with a step for each digest; a page that hasn't changed takes none,
-    /// unless an earlier refresh failed. An `Err` is out of memory, and leaves all nodes that are neither in nor above the page.
+    /// Makes a page that of a memory, and puts its root into its place, with a step for each digest; a page that hasn't changed takes none.
+    /// The result is whether the nodes above it are to be joined anew: if the page has changed, or an earlier refresh failed. An `Err` is
+    /// out of memory, and leaves all nodes but the page's.
     fn renew_page<C: Counted, L: Ledger>(
         &mut self,
         c: C,
@@ -217,33 +206,70 @@ impl Nodes {
         of: &PageOf<'_>,
         failed: bool,
         steps: &mut Steps<L>,
-    ) -> Result<(), Memory>
+    ) -> Result<bool, Memory>
         requires empty { AreEmpty C.digest_of self.old.empties }
         requires made { AllMade C.digest_of (kept_of self.old) }
-        ensures page { OnOk result (IsPageOf (page_at (kept_of self.new) of.now.page) of.now.mem.now of.now.page) }
+        ensures page { IfOk result (λ stale. IsPageOf (page_at (kept_of self.new) of.now.page) of.now.mem.now of.now.page) }
         ensures elsewhere { (p : ℕ) → p ≢ of.now.page → page_at (kept_of self.new) p ≡ page_at (kept_of self.old) p }
         ensures made { AllMade C.digest_of (kept_of self.new) }
-        ensures whole { OnOk result (IsJoinedBut C.digest_of (kept_of self.old) [] → IsJoinedBut C.digest_of (kept_of self.new) []) }
-        ensures fresh { OnOk result (failed ≡ true → (stale left : List ℕ) → IsJoinedBut C.digest_of (kept_of self.old) stale →
-            ((p : ℕ) → p ≢ of.now.page → is_among left p ≡ false → is_among stale p ≡ false) →
-            IsJoinedBut C.digest_of (kept_of self.new) left) }
-        ensures kept { (stale : List ℕ) → IsJoinedBut C.digest_of (kept_of self.old) stale →
-            is_among stale of.now.page ≡ true → IsJoinedBut C.digest_of (kept_of self.new) stale }
+        ensures upper { (n k : ℕ) → (n ≢ 0) ⊎ (k ≢ of.now.page) → upper_at (kept_of self.new) n k ≡ upper_at (kept_of self.old) n k }
+        ensures stale { IfOk result (λ stale. stale ≡ true → IsRoot (upper_at (kept_of self.new) 0 of.now.page) (page_at (kept_of self.new) of.now.page)) }
+        ensures fresh { IfOk result (λ stale. stale ≡ false → failed ≡ false × (IsRoot (upper_at (kept_of self.old) 0 of.now.page) (page_at (kept_of self.old) of.now.page) →
+            IsRoot (upper_at (kept_of self.new) 0 of.now.page) (page_at (kept_of self.new) of.now.page)) × (upper_at (kept_of self.new) 0 of.now.page ≡ upper_at (kept_of self.old) 0 of.now.page)) }
         ensures empties { self.new.empties ≡ self.old.empties }
-        ensures steps { steps.new ≤ steps.old + 275 }
-        ensures few { failed ≡ false → steps.new ≤ steps.old + 28 * page_changes (page_at (kept_of self.old) of.now.page) of.now.mem.now of.now.page }
-        ensures least { OnOk result (steps.old + page_needs (page_at (kept_of self.old) of.now.page) of.now.mem.now of.now.page ≤ steps.new) }
+        ensures steps { steps.new ≤ steps.old + 255 }
+        ensures few { failed ≡ false → IfOk result (λ stale. steps.new + 20 * as_number stale ≤ steps.old + 28 * page_changes (page_at (kept_of self.old) of.now.page) of.now.mem.now of.now.page) }
+        ensures few_in_all { failed ≡ false → steps.new ≤ steps.old + 28 * page_changes (page_at (kept_of self.old) of.now.page) of.now.mem.now of.now.page }
         ensures more { steps.old ≤ steps.new }
     {
         renewals_are_few();
         let before = self.take_page(of.page);
         let renewed = page_tree_after(c, alloc, &self.empties, before, of, steps)?;
         if renewed.changed || failed {
-            self.place(c, of.page, renewed.tree, steps)?;
-            return Ok(());
+            self.set_page(c, of.page, renewed.tree)?;
+            return Ok(true);
         }
         self.put_page(of.page, renewed.tree)?;
-        Ok(())
+        Ok(false)
+    }
+
+    /// Makes the touched pages those of a memory, and puts their roots into their places, with a step for each digest. The result is the pages
+    /// above which the nodes are to be joined anew. An `Err` is out of memory, and leaves all nodes but those of touched pages.
+    fn renew_pages<C: Counted, L: Ledger>(
+        &mut self,
+        c: C,
+        alloc: Global,
+        touched: &Touched<'_>,
+        mem: &PlainMem,
+        steps: &mut Steps<L>,
+    ) -> Result<Vec<u32>, Memory>
+        requires pages { (p : ℕ) → is_among touched.now.pages.now.keys p ≡ true → p < 2 ^ 20 }
+        requires empty { AreEmpty C.digest_of self.old.empties }
+        requires made { AllMade C.digest_of (kept_of self.old) }
+        requires joined { IsJoinedBut C.digest_of (kept_of self.old) touched.now.pages.now.keys }
+        requires whole { touched.now.failed ≡ false → IsJoinedBut C.digest_of (kept_of self.old) [] }
+        ensures pages { IfOk result (λ stale. ((p : ℕ) → is_among touched.now.pages.now.keys p ≡ false → IsPageOf (page_at (kept_of self.old) p) mem.now p) →
+            (p : ℕ) → IsPageOf (page_at (kept_of self.new) p) mem.now p) }
+        ensures others { (p : ℕ) → is_among touched.now.pages.now.keys p ≡ false → page_at (kept_of self.new) p ≡ page_at (kept_of self.old) p }
+        ensures made { AllMade C.digest_of (kept_of self.new) }
+        ensures joined { IsJoinedBut C.digest_of (kept_of self.new) touched.now.pages.now.keys }
+        ensures stale { IfOk result (λ stale. IsJoinedFrom C.digest_of (kept_of self.new) 0 stale.items) }
+        ensures among { IfOk result (λ stale. (p : ℕ) → is_among stale.items p ≡ true → is_among touched.now.pages.now.keys p ≡ true) }
+        ensures empties { self.new.empties ≡ self.old.empties }
+        ensures count { IfOk result (λ stale. length stale.items ≤ length touched.now.pages.now.keys) }
+        ensures steps { steps.new ≤ steps.old + 255 * length touched.now.pages.now.keys }
+        ensures few { touched.now.failed ≡ false → IfOk result (λ stale. steps.new + 20 * length stale.items ≤ steps.old + 28 * changed_chunks (kept_of self.old) mem.now touched.now.pages.now.keys) }
+        ensures few_in_all { touched.now.failed ≡ false → steps.new ≤ steps.old + 28 * changed_chunks (kept_of self.old) mem.now touched.now.pages.now.keys }
+        ensures more { steps.old ≤ steps.new }
+        ensures some { OnErr result (0 < length touched.now.pages.now.keys) }
+    {
+        let mut stale = Vec::new(alloc);
+        'pages: for page in touched.pages.iter() {
+            let of = PageOf { mem, page: *page };
+            let is_stale = self.renew_page(c, alloc, &of, touched.failed, steps)?;
+            add_if(&mut stale, *page, is_stale)?;
+        }
+        Ok(stale)
     }
 
     /// Makes the touched pages and the nodes above them those of a memory, with a step for each digest. Each page that hasn't changed takes
@@ -271,19 +297,11 @@ impl Nodes {
         ensures empties { self.new.empties ≡ self.old.empties }
         ensures steps { steps.new ≤ steps.old + 275 * length touched.now.pages.now.keys }
         ensures few { touched.now.failed ≡ false → steps.new ≤ steps.old + 28 * changed_chunks (kept_of self.old) mem.now touched.now.pages.now.keys }
-        ensures least { OnOk result (steps.old + needs (kept_of self.old) mem.now touched.now.pages.now.keys ≤ steps.new) }
         ensures more { steps.old ≤ steps.new }
         ensures some { OnErr result (0 < length touched.now.pages.now.keys) }
     {
-        'pages: for page in touched.pages.iter() {
-            self.renew_page(
-                c,
-                alloc,
-                &PageOf { mem, page: *page },
-                touched.failed,
-                steps,
-            )?;
-        }
+        let stale = self.renew_pages(c, alloc, touched, mem, steps)?;
+        self.raise_all(c, alloc, stale, steps)?;
         Ok(())
     }
 }

@@ -1,6 +1,5 @@
 //! The subtree of a page.
 ghost use Rattle.std.specs.Prelude.{◌≡◌, ◌↔◌, ◌+◌, ◌<◌, ◌^◌, ℕ, List, Some, length, vec_len, is_some, false, IfOk, OnErr, OnOk, IsTrue};
-ghost use Rattle.mem_plain.specs.Contents.{IsUsed};
 ghost use Rattle.merkle_nodes.specs.Node.{digest_at};
 ghost use Rattle.merkle_nodes.specs.Heap.{HasLeaves, IsHeap, is_marked};
 ghost use Rattle.merkle_nodes.specs.Renewals.{how_many, is_changed, renewals};
@@ -31,16 +30,6 @@ pub(crate) struct PageOf<'a> {
     pub(crate) mem: &'a PlainMem,
     pub(crate) page: u32,
     ghost below: { page < 2 ^ 20 },
-}
-
-/// Whether some byte of a page isn't 0.
-fn is_used(of: &PageOf<'_>) -> bool
-    ensures { IsTrue result ↔ IsUsed of.now.mem.now of.now.page }
-{
-    match of.mem.next_page(of.page) {
-        Some(next) => next == of.page,
-        None => false,
-    }
 }
 
 /// A chunk of a page, by its place from 0 to 127.
@@ -186,7 +175,7 @@ pub(crate) fn page_tree_after<C: Counted, L: Ledger>(
     ensures fresh { OnErr result (is_some before ≡ false) }
 {
     renewals_are_few();
-    if !is_used(of) {
+    if !of.mem.is_used(of.page) {
         return Ok(Renewed {
             tree: None,
             changed: before.is_some(),

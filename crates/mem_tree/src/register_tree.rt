@@ -154,14 +154,12 @@ impl<D: Digester> RegTree<D> {
         ensures tree { self.new ≡ regs.now }
         ensures steps { steps.new ≡ steps.old + register_renewals self.old regs.now }
     {
-        let mut nodes = self.nodes;
         let change = Change {
             before: &self.regs,
             after: regs,
         };
-        renew(self.d, &mut nodes, &change, steps);
+        renew(self.d, &mut self.nodes, &change, steps);
         self.regs = *regs;
-        self.nodes = nodes;
     }
 
     fn refresh_in<L: Ledger>(&mut self, regs: &Regs, blank: Blank)

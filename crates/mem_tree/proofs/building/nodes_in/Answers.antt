@@ -1,12 +1,14 @@
-use Rattle.std.proofs.Common.{◌≡◌, ◌<◌, ℕ, [], ◌∷◌, ◌++◌, All, IfOk, Option, Result, false, true≢false, refl, ◌∙◌, sym, subst, arith, ⊎_elim}
+use Rattle.std.proofs.Common.{◌≡◌, ◌<◌, ℕ, [], ◌∷◌, ◌++◌, All, IfOk, Option, Result, false, true, true≢false, refl, ◌∙◌, sym, ap, subst, arith, ⊎_elim}
 use Rattle.std.specs.List.{AllZip}
 use Rattle.std.proofs.lemmas.Bool.{cases_eq}
 use Rattle.rd_base.specs.declared.memory.Memory.{Memory}
 use Rattle.mem_tree.specs.Page.{AreEmpty, IsMadeTree, IsPageOf, IsPageTree}
-use Rattle.mem_tree.specs.Tree.{kept_of, page_at, is_among}
+use Rattle.mem_tree.specs.Tree.{kept_of, page_at, is_among, upper_at, IsRoot}
+use Rattle.mem_tree.specs.Levels.{IsJoinedOver}
+use Rattle.mem_tree.proofs.StaleLemmas.{over-first, over-last, over-more, among-one}
 use Rattle.mem_tree.specs.declared.kept.PageTree.{PageTree}
 use Rattle.mem_tree.proofs.AmongLemmas.{among-but_last, zip-last, zip-none, no-items, all-front, all-last}
-use Rattle.mem_tree.proofs.JoinedLemmas.{nothing-joined, nothing-at}
+use Rattle.mem_tree.proofs.JoinedLemmas.{nothing-joined, nothing-at, page-same}
 use Rattle.mem_tree.proofs.PageLemmas.{unused-page}
 use Rattle.mem_tree.proofs.building.nodes_in.Goals as goal
 
@@ -22,7 +24,9 @@ pages-init g c =
       trees = subst (λ xs. AllZip (λ page tree. IfOk tree (λ t. IsPageTree digest t m page)) xs c.in_ok-trees.trees.items) c.deref.ensures.value c.in_ok-trees.ensures;
       empty = c.no_nodes-nodes.ensures.empty;
       made = λ p. subst (IsMadeTree digest) (sym (none p)) tt;
-      joined = nothing-joined digest (kept_of nodes) c.no_nodes-nodes.ensures.pages c.no_nodes-nodes.ensures.upper c.no_nodes-nodes.ensures.empty;
+      joined = subst (λ xs. IsJoinedOver digest (kept_of nodes) xs []) (sym c.new-placed.ensures.items)
+          (over-first digest (kept_of nodes) [] (nothing-joined digest (kept_of nodes) c.no_nodes-nodes.ensures.pages c.no_nodes-nodes.ensures.upper c.no_nodes-nodes.ensures.empty));
+      low = λ p is. absurd (true≢false (sym is ∙ ap (λ xs. is_among xs p) c.new-placed.ensures.items));
       are = λ p fresh. subst (λ (o : Option PageTree). IsPageOf o m p) (sym (none p)) (unused-page m p (λ used. true≢false (sym (c.in_ok-left.ensures.used p used) ∙ fresh)));
     }
 
@@ -31,9 +35,6 @@ unreachable-requires g c =
     let R = λ (page : ℕ) (tree : Result (Option PageTree) Memory). IfOk tree (λ t. IsPageTree g.D.Digester.digest_of t c.args.mem.now page) in
     zip-none R c.pop.new.self.items c.in-Some.page
     (subst (λ ys. AllZip R (c.pop.new.self.items ++ c.in-Some.page ∷ []) ys) (no-items c.pages.trees.items (omega (arith, c.pages.trees.ok.0, c.in_default-pop.ensures.cases.0))) (subst (λ xs. AllZip R xs c.pages.trees.items) c.in-Some.ensures.items c.pages.invariant.trees))
-
-pub place-requires-clause-page : goal.place-requires-clause-page
-place-requires-clause-page g c = all-last (λ p. p < 1048576) c.pop.new.self.items c.in-Some.page (subst (λ xs. All (λ p. p < 1048576) xs) c.in-Some.ensures.items c.pages.invariant.pages)
 
 pub pages-preserved : goal.pages-preserved
 pages-preserved g c =
@@ -50,12 +51,28 @@ pages-preserved g c =
     record {
       pages = all-front (λ p. p < 1048576) left page (subst (λ xs. All (λ p. p < 1048576) xs) popped c.pages.invariant.pages);
       trees = zips.0;
-      empty = subst (AreEmpty digest) (sym c.place.ensures.empties) c.pages.invariant.empty;
-      made = c.place.ensures.made c.pages.invariant.made tree.made;
-      joined = c.in_ok-place.ensures.joined [] [] c.pages.invariant.joined (λ p apart fresh. refl);
+      empty = subst (AreEmpty digest) (sym c.set_page.ensures.empties) c.pages.invariant.empty;
+      made = c.set_page.ensures.made c.pages.invariant.made tree.made;
+      joined = subst (λ xs. IsJoinedOver digest (kept_of c.set_page.new.self) xs []) (sym c.in_ok-push.ensures.items)
+          (over-more digest (kept_of c.pages.nodes) (kept_of c.set_page.new.self) page c.set_page.ensures.empties c.set_page.ensures.elsewhere c.set_page.ensures.upper c.pages.placed.items [] []
+          (subst (λ (o : Option PageTree). IsRoot (upper_at (kept_of c.set_page.new.self) 0 page) o) (sym c.in_ok-set_page.ensures.here) c.in_ok-set_page.ensures.root) (λ p other not. refl) c.pages.invariant.joined);
+      low = λ p is. ⊎_elim
+          (λ same. subst (λ q. q < 1048576) (sym same) (all-last (λ p. p < 1048576) left page (subst (λ xs. All (λ p. p < 1048576) xs) popped c.pages.invariant.pages)))
+          (λ held. c.pages.invariant.low p held)
+          (among-one c.pages.placed.items page p (subst (λ xs. is_among xs p ≡ true) c.in_ok-push.ensures.items is));
       are = λ p fresh. ⊎_elim
-          (λ same. subst (λ q. IsPageOf (page_at (kept_of c.place.new.self) q) m q) (sym same) (subst (λ (o : Option PageTree). IsPageOf o m page) (sym c.in_ok-place.ensures.here) tree.page_of))
-          (λ other. subst (λ (o : Option PageTree). IsPageOf o m p) (sym (c.place.ensures.elsewhere p other))
+          (λ same. subst (λ q. IsPageOf (page_at (kept_of c.set_page.new.self) q) m q) (sym same) (subst (λ (o : Option PageTree). IsPageOf o m page) (sym c.in_ok-set_page.ensures.here) tree.page_of))
+          (λ other. subst (λ (o : Option PageTree). IsPageOf o m p) (sym (c.set_page.ensures.elsewhere p other))
           (c.pages.invariant.are p (subst (λ l. is_among l p ≡ false) (sym popped) (among-but_last left page p other fresh))))
           (cases_eq p page);
     }
+
+pub returns-clause-pages : goal.returns-clause-pages
+returns-clause-pages g c = λ p. subst (λ (o : Option PageTree). IsPageOf o c.args.mem.now p) (sym (page-same c.raise_all.new.self c.pages.nodes c.raise_all.ensures.pages p))
+    (c.pages.invariant.are p (ap (λ xs. is_among xs p) (no-items c.pages.left.items (omega (arith, c.pages.left.ok.0, c.in_default.ensures.cases.0)))))
+
+pub returns-clause-made : goal.returns-clause-made
+returns-clause-made g c = λ p. subst (IsMadeTree g.D.Digester.digest_of) (sym (page-same c.raise_all.new.self c.pages.nodes c.raise_all.ensures.pages p)) (c.pages.invariant.made p)
+
+pub returns-clause-joined : goal.returns-clause-joined
+returns-clause-joined g c = c.in_ok-raise_all.ensures.joined (over-last g.D.Digester.digest_of (kept_of c.pages.nodes) c.pages.placed.items c.pages.invariant.joined)

@@ -1,7 +1,8 @@
-use Rattle.std.proofs.Common.{◌≡◌, ◌<◌, ◌^◌, ℕ, [], false, All, length, IfOk}
+use Rattle.std.proofs.Common.{◌≡◌, ◌<◌, ◌^◌, ℕ, [], true, false, All, length, IfOk}
 use Rattle.std.specs.List.{AllZip}
 use Rattle.mem_tree.specs.Page.{AreEmpty, IsPageOf, IsPageTree}
-use Rattle.mem_tree.specs.Tree.{kept_of, page_at, AllMade, IsJoinedBut, is_among}
+use Rattle.mem_tree.specs.Tree.{kept_of, page_at, AllMade, is_among}
+use Rattle.mem_tree.specs.Levels.{IsJoinedOver}
 use Rattle.mem_tree.proofs.building.nodes_in.Given as goal
 
 abbrev pub invariant-pages : goal.invariant-pages
@@ -10,7 +11,8 @@ invariant-pages g l = record {
   trees : AllZip (λ page tree. IfOk tree (λ t. IsPageTree g.D.Digester.digest_of t l.mem page)) l.left.items l.trees.items;
   empty : AreEmpty g.D.Digester.digest_of l.nodes.empties;
   made : AllMade g.D.Digester.digest_of (kept_of l.nodes);
-  joined : IsJoinedBut g.D.Digester.digest_of (kept_of l.nodes) [];
+  joined : IsJoinedOver g.D.Digester.digest_of (kept_of l.nodes) l.placed.items [];
+  low : (p : ℕ) → is_among l.placed.items p ≡ true → p < 2 ^ 20;
   are : (p : ℕ) → is_among l.left.items p ≡ false → IsPageOf (page_at (kept_of l.nodes) p) l.mem p;
 }
 

@@ -3,8 +3,9 @@ use Rattle.std.specs.Ordering.{nat_cmp}
 use Rattle.std.specs.List.Sorted.{IsStrictlySortedBy}
 use Rattle.mem_tree.specs.Page.{IsPageOf}
 use Rattle.mem_tree.specs.Tree.{kept_of, page_at, AllMade, IsJoinedBut, is_among}
-use Rattle.mem_tree.specs.Costs.{changed_chunks, needs}
-use Rattle.mem_tree.proofs.kept.Nodes.refresh.Given as goal
+use Rattle.mem_tree.specs.Costs.{changed_chunks}
+use Rattle.mem_tree.specs.Levels.{IsJoinedOver}
+use Rattle.mem_tree.proofs.kept.Nodes.renew_pages.Given as goal
 
 -- what is left to do follows from the pages that the iterator still has
 abbrev pub invariant-pages : goal.invariant-pages
@@ -18,11 +19,12 @@ invariant-pages g l = record {
   left : (p : ℕ) → is_among l.page-iterator p ≡ true → page_at (kept_of l.self) p ≡ page_at (kept_of l.fn.self) p;
   made : AllMade g.C.Counted.digest_of (kept_of l.self);
   joined : IsJoinedBut g.C.Counted.digest_of (kept_of l.self) l.touched.pages.now.keys;
-  fresh : l.touched.failed ≡ true → IsJoinedBut g.C.Counted.digest_of (kept_of l.self) l.page-iterator;
-  whole : l.touched.failed ≡ false → IsJoinedBut g.C.Counted.digest_of (kept_of l.self) [];
+  fresh : l.touched.failed ≡ true → IsJoinedOver g.C.Counted.digest_of (kept_of l.self) l.stale.items l.page-iterator;
+  whole : l.touched.failed ≡ false → IsJoinedOver g.C.Counted.digest_of (kept_of l.self) l.stale.items [];
+  of : (p : ℕ) → is_among l.stale.items p ≡ true → is_among l.touched.pages.now.keys p ≡ true;
   empties : l.self.empties ≡ l.fn.self.empties;
-  steps : l.steps + 275 * length l.page-iterator ≤ l.initial.steps + 275 * length l.touched.pages.now.keys;
-  few : l.touched.failed ≡ false → l.steps + 28 * changed_chunks (kept_of l.fn.self) l.mem l.page-iterator ≤ l.initial.steps + 28 * changed_chunks (kept_of l.fn.self) l.mem l.touched.pages.now.keys;
-  least : l.initial.steps + needs (kept_of l.fn.self) l.mem l.touched.pages.now.keys ≤ l.steps + needs (kept_of l.fn.self) l.mem l.page-iterator;
+  count : length l.stale.items + length l.page-iterator ≤ length l.touched.pages.now.keys;
+  steps : l.steps + 255 * length l.page-iterator ≤ l.initial.steps + 255 * length l.touched.pages.now.keys;
+  few : l.touched.failed ≡ false → l.steps + 20 * length l.stale.items + 28 * changed_chunks (kept_of l.fn.self) l.mem l.page-iterator ≤ l.initial.steps + 28 * changed_chunks (kept_of l.fn.self) l.mem l.touched.pages.now.keys;
   more : l.initial.steps ≤ l.steps;
 }

@@ -1,0 +1,53 @@
+use Rattle.std.proofs.Common.{◌≡◌, ◌≢◌, ◌⊎◌, inl, inr, ◌+◌, ℕ, List, length, take, get_or, false, sym, ap, ◌∙◌, subst, arith, ⊎_elim}
+use Rattle.std.proofs.lemmas.Bool.{cases_eq}
+use Rattle.std.proofs.lemmas.List.{take_all}
+use Rattle.merkle_nodes.specs.Node.{digest_at}
+use Rattle.mem_tree.specs.Tree.{kept_of, upper_at, IsJoinedAbove, is_among}
+use Rattle.mem_tree.proofs.LevelLemmas.{among-place, among-more, not-more, not-all, not-first, join-more, join-here}
+use Rattle.mem_tree.proofs.kept.Nodes.join_places.Goals as goal
+
+pub joined-node-requires-clause-place : goal.joined-node-requires-clause-place
+joined-node-requires-clause-place g c = c.requires.places (get_or c.args.places.now c.places.i 0) (among-place c.args.places.now c.places.i 0 c.places-test.true)
+
+pub returns-in_err-put_upper-clause-elsewhere : goal.returns-in_err-put_upper-clause-elsewhere
+returns-in_err-put_upper-clause-elsewhere g c = λ n k apart.
+    let xs = c.args.places.now in
+    let i = c.places.i in
+    c.put_upper.ensures.elsewhere n k (⊎_elim
+    (λ level. inl level)
+    (λ none. inr (λ same. not-all xs i k c.places-test.true none same))
+    apart)
+    ∙ c.places.invariant.elsewhere n k (⊎_elim (λ level. inl level) (λ none. inr (not-first xs i k none)) apart)
+
+pub places-preserved : goal.places-preserved
+places-preserved g c =
+    let digest = g.C.Counted.digest_of in
+    let xs = c.args.places.now in
+    let i = c.places.i in
+    let place = get_or xs i 0 in
+    let before = kept_of c.places.self in
+    let after = kept_of c.put_upper.new.self in
+    let inv = c.places.invariant in
+    let inside = c.places-test.true in
+    record {
+      joined = λ k is. ⊎_elim
+          (λ same. subst (IsJoinedAbove digest after c.args.above) (sym same)
+          (join-here digest before after c.args.above place c.joined-node.result c.put_upper.ensures.empties c.put_upper.ensures.elsewhere c.in_ok-put_upper.ensures.here c.joined-node.ensures.node c.joined-node.ensures.kept))
+          (λ earlier. ⊎_elim
+          (λ same. subst (IsJoinedAbove digest after c.args.above) (sym same)
+          (join-here digest before after c.args.above place c.joined-node.result c.put_upper.ensures.empties c.put_upper.ensures.elsewhere c.in_ok-put_upper.ensures.here c.joined-node.ensures.node c.joined-node.ensures.kept))
+          (λ other. join-more digest before after c.args.above place c.put_upper.ensures.empties c.put_upper.ensures.elsewhere k other (inv.joined k earlier))
+          (cases_eq k place))
+          (among-more xs i 0 k inside is);
+      elsewhere = λ n k apart. ⊎_elim
+          (λ level. c.put_upper.ensures.elsewhere n k (inl level) ∙ inv.elsewhere n k (inl level))
+          (λ none. let apart' = not-more xs i 0 k inside none in c.put_upper.ensures.elsewhere n k (inr apart'.0) ∙ inv.elsewhere n k (inr apart'.1))
+          apart;
+      pages = c.put_upper.ensures.pages ∙ inv.pages;
+      empties = c.put_upper.ensures.empties ∙ inv.empties;
+      steps = omega (arith, c.joined-node.ensures.steps, inv.steps);
+      more = omega (arith, c.joined-node.ensures.more, inv.more);
+    }
+
+pub returns-clause-elsewhere : goal.returns-clause-elsewhere
+returns-clause-elsewhere g c = λ n k apart. c.places.invariant.elsewhere n k (⊎_elim (λ level. inl level) (λ none. inr (not-first c.args.places.now c.places.i k none)) apart)

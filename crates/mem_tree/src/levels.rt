@@ -1,0 +1,94 @@
+//! The nodes above changed pages, renewed level by level, each once.
+ghost use Rattle.std.specs.Prelude.{◌≡◌, ◌≢◌, ◌⊎◌, ◌+◌, ◌*◌, ◌/◌, ◌≤◌, ◌<◌, ◌^◌, ℕ, List, [], length, OnOk, OnErr, IfOk, IsTrue, false, true};
+ghost use Rattle.mem_tree.specs.Page.{AreEmpty};
+ghost use Rattle.mem_tree.specs.Tree.{kept_of, upper_at, IsJoinedAbove, IsJoinedBut, is_among};
+ghost use Rattle.mem_tree.specs.Levels.{IsJoinedFrom};
+
+use crate::kept::Nodes;
+use crate::nodes::UPPER_LEVELS;
+use digest_core::Counted;
+use rd_base::{Memory, Steps};
+use std::alloc::Global;
+use std::sync::ledger::Ledger;
+
+/// Whether a place is the last of some.
+fn is_last(places: &[u32], place: u32) -> bool
+    ensures { IsTrue result → is_among places.now place ≡ true }
+{
+    let count = places.len();
+    count > 0 && places[count - 1] == place
+}
+
+/// The places of the nodes above nodes of a level, each once if the places are in order. An `Err` is out of memory.
+fn parents(alloc: Global, places: &[u32]) -> Result<Vec<u32>, Memory>
+    ensures above { IfOk result (λ v. (q : ℕ) → is_among places.now q ≡ true → is_among v.items (q / 2) ≡ true) }
+    ensures below { IfOk result (λ v. (h : ℕ) → is_among v.items h ≡ true → (q : ℕ) × (is_among places.now q ≡ true) × (q / 2 ≡ h)) }
+    ensures few { IfOk result (λ v. length v.items ≤ length places.now) }
+    ensures some { OnErr result (0 < length places.now) }
+{
+    let mut above = Vec::new(alloc);
+    'places: for i in 0..places.len() {
+        let parent = places[i] / 2;
+        if !is_last(&above, parent) {
+            above.push(parent)?;
+        }
+    }
+    Ok(above)
+}
+
+impl Nodes {
+    /// Joins the nodes at these places of a level anew, from the two below each, with a step for each digest. An `Err` is out of memory, and
+    /// leaves all nodes at other places.
+    fn join_places<C: Counted, L: Ledger>(
+        &mut self,
+        c: C,
+        above: u8,
+        places: &[u32],
+        steps: &mut Steps<L>,
+    ) -> Result<(), Memory>
+        requires level { above < 20 }
+        requires places { (k : ℕ) → is_among places.now k ≡ true → k < 2 ^ 20 }
+        requires empty { AreEmpty C.digest_of self.old.empties }
+        ensures joined { OnOk result ((k : ℕ) → is_among places.now k ≡ true → IsJoinedAbove C.digest_of (kept_of self.new) above k) }
+        ensures elsewhere { (n k : ℕ) → (n ≢ above + 1) ⊎ (is_among places.now k ≡ false) → upper_at (kept_of self.new) n k ≡ upper_at (kept_of self.old) n k }
+        ensures pages { self.new.pages ≡ self.old.pages }
+        ensures empties { self.new.empties ≡ self.old.empties }
+        ensures some { OnErr result (0 < length places.now) }
+        ensures steps { steps.new ≤ steps.old + length places.now }
+        ensures more { steps.old ≤ steps.new }
+    {
+        'places: for i in 0..places.len() {
+            let node = self.joined(c, above, places[i], steps);
+            self.put_upper(above + 1, places[i], node)?;
+        }
+        Ok(())
+    }
+
+    /// Joins the nodes above pages anew, whose roots stand in their places: level by level, each node once, with a step for each digest, so
+    /// that pages beside each other share them. An `Err` is out of memory, and leaves all nodes that are above none of the pages.
+    pub(crate) fn raise_all<C: Counted, L: Ledger>(
+        &mut self,
+        c: C,
+        alloc: Global,
+        pages: Vec<u32>,
+        steps: &mut Steps<L>,
+    ) -> Result<(), Memory>
+        requires pages { (p : ℕ) → is_among pages.items p ≡ true → p < 2 ^ 20 }
+        requires empty { AreEmpty C.digest_of self.old.empties }
+        ensures joined { OnOk result (IsJoinedFrom C.digest_of (kept_of self.old) 0 pages.items → IsJoinedBut C.digest_of (kept_of self.new) []) }
+        ensures elsewhere { (n k : ℕ) → ((p : ℕ) → is_among pages.items p ≡ true → p / 2 ^ n ≢ k) → upper_at (kept_of self.new) n k ≡ upper_at (kept_of self.old) n k }
+        ensures top { (n k : ℕ) → 20 < n → upper_at (kept_of self.new) n k ≡ upper_at (kept_of self.old) n k }
+        ensures pages { self.new.pages ≡ self.old.pages }
+        ensures empties { self.new.empties ≡ self.old.empties }
+        ensures some { OnErr result (0 < length pages.items) }
+        ensures steps { steps.new ≤ steps.old + 20 * length pages.items }
+        ensures more { steps.old ≤ steps.new }
+    {
+        let mut places = pages;
+        'levels: for above in 0..UPPER_LEVELS {
+            places = parents(alloc, &places)?;
+            self.join_places(c, above, &places, steps)?;
+        }
+        Ok(())
+    }
+}
