@@ -1,5 +1,5 @@
 //! The first two different strings with one digest that two claims open.
-ghost use Rattle.std.specs.Prelude.{◌≡◌, ◌≢◌, ◌↔◌, ◌⊎◌, ◌&&◌, ◌∷◌, not, true, None, bytes_eq};
+ghost use Rattle.std.specs.Prelude.{◌≡◌, ◌≢◌, ◌↔◌, ◌⊎◌, ◌&&◌, ◌∷◌, not, true, None, IfSome, bytes_eq};
 ghost use Rattle.out_chain.specs.Root.{control_text_of, root_of_claim};
 ghost use Rattle.out_chain.specs.Soundness.{is_sound};
 ghost use Rattle.out_chain.specs.Collision as collision;
@@ -78,14 +78,15 @@ fn opened_collision<D: Digester>(
 }
 
 /// The collision of two claims of one root: the first two different strings with one digest that they open, their state strings first.
-/// For sound claims it is `None` if and only if their roots differ or the claims are equal. The first string is opened by the first
-/// claim, the second by the second. It takes no memory.
+/// What it gives is a collision: two different strings of one digest, the first opened by the first claim and the second by the second
+/// (`pair`). For sound claims it is `None` if and only if their roots differ or the claims are equal. It takes no memory.
 pub fn claim_collision<D: Digester>(
     d: D,
     first: &Claim,
     second: &Claim,
 ) -> Option<(OpenText, OpenText)>
     ensures value { result ≡ collision.claim_collision D.digest_of first.now second.now }
+    ensures pair { IfSome result (λ pair. collision.IsClaimCollision D.digest_of first.now second.now pair) }
     ensures none { is_sound D.digest_of first.now ≡ true → is_sound D.digest_of second.now ≡ true →
         (result ≡ None) ↔ ((root_of_claim D.digest_of first.now ≢ root_of_claim D.digest_of second.now) ⊎ (first.now ≡ second.now)) }
 {
