@@ -20,7 +20,8 @@ use Rattle.mem_tree.specs.Memory.{memory_node}
 use Rattle.rv_step.specs.State.{State}
 use Rattle.rv_step.specs.Effect.{effect_with}
 use Rattle.rv_step.specs.Offer.{byte_or_ones, offered}
-use Rattle.rv_step.specs.Step.{step, after_effect, after_word as state_after_word, effect_at}
+use Rattle.rv_step.specs.NextEffect.{Seen, seen_of, effect_at, effect_of_word, next_effect}
+use Rattle.rv_step.specs.Step.{step, after_effect, after_next}
 use Rattle.rv_step.specs.Parts.{needed_in, finished, Finishes, KeepsMemory, IsAccess, IsAligned}
 use Rattle.rv_step.specs.declared.effect.Effect.{Effect}
 use Rattle.rv_step.specs.declared.effect.Effect.TheVariants.{Write, Jump, Branch, Next, Store, Put, Exit, Trap}
@@ -31,8 +32,8 @@ use Rattle.mem_tree.specs.InputTree.{input_root}
 use Rattle.open_proof.specs.Held.{held_of, held_after, path_text, chunk_with}
 use Rattle.open_proof.specs.Called.{address_needed}
 use Rattle.open_proof.specs.OpenedChunk.{IsShown, IsShownAt, fetched_at, fetch_of_state}
-use Rattle.open_proof.specs.Facts.{needed_by, byte_needed, byte_in, byte_shown, offer_shown}
-use Rattle.open_proof.specs.Next.{after_word, step_held}
+use Rattle.open_proof.specs.Facts.{needed_by, byte_needed, byte_in, byte_shown, offering}
+use Rattle.open_proof.specs.Next.{seen_held, held_by, step_held}
 use Rattle.open_proof.specs.Shown.{tree_by, tree_of, ShowsInput}
 use Rattle.open_proof.specs.LawsBelow.{StepLaws}
 use Rattle.open_proof.specs.declared.facts.HeldInput.{HeldInput}
@@ -162,14 +163,14 @@ module _ (laws : StepLaws) (digest : List ℕ → List ℕ) where
   -- what is held after an instruction
   held-instr : (operand : Option Opening) (chunk : Option InOpening) (s : State) (i : Instr) → IsShownAt digest s.memory operand (address_needed (needed_by (tree_of digest s) s.regs (Some i)))
       → ShowsInput digest s.input chunk (byte_needed (tree_of digest s) (needed_by (tree_of digest s) s.regs (Some i)))
-      → held_after digest operand (held_of digest s) (effect_with (offer_shown (tree_of digest s) chunk) s.regs s.pc (number_shown operand) i) ≡ held_of digest (after_effect s (effect_at s i))
+      → held_after digest operand (held_of digest s) (effect_with (offered (offering (tree_of digest s)) (byte_shown (tree_of digest s) chunk)) s.regs s.pc (number_shown operand) i) ≡ held_of digest (after_effect s (effect_at s i))
   held-instr operand chunk s i = go (scheme_of s.version).input
     where
       read : ℕ → ℕ → ℕ
       read addr width = number_at s.memory addr width
 
       go : (held : InputScheme) → IsShownAt digest s.memory operand (address_needed (needed_by (tree_by digest held s.input) s.regs (Some i))) → ShowsInput digest s.input chunk (byte_needed (tree_by digest held s.input) (needed_by (tree_by digest held s.input) s.regs (Some i)))
-          → held_after digest operand (held_of digest s) (effect_with (offer_shown (tree_by digest held s.input) chunk) s.regs s.pc (number_shown operand) i)
+          → held_after digest operand (held_of digest s) (effect_with (offered (offering (tree_by digest held s.input)) (byte_shown (tree_by digest held s.input) chunk)) s.regs s.pc (number_shown operand) i)
           ≡ held_of digest (after_effect s (effect_with (offered held (byte_or_ones s.input)) s.regs s.pc read i))
       go input.Tree shown shows =
           let t : HeldInput = record { len = length s.input; root = record { 0 = input_root digest s.input } } in
@@ -181,32 +182,35 @@ module _ (laws : StepLaws) (digest : List ℕ → List ℕ) where
           (λ k is. refl)
           (laws.any_offer input.InMemory (byte_shown None chunk) s.regs s.pc read i) (laws.any_offer input.InMemory (byte_shown None chunk) s.regs s.pc (number_shown operand) i)
 
-  held-word : (operand : Option Opening) (chunk : Option InOpening) (s : State) (o : Option Instr) → IsShownAt digest s.memory operand (address_needed (needed_by (tree_of digest s) s.regs o))
+  held-word : (fetch operand : Option Opening) (chunk : Option InOpening) (s : State) (o : Option Instr) → IsShownAt digest s.memory operand (address_needed (needed_by (tree_of digest s) s.regs o))
       → ShowsInput digest s.input chunk (byte_needed (tree_of digest s) (needed_by (tree_of digest s) s.regs o))
-      → after_word digest operand (offer_shown (tree_of digest s) chunk) (held_of digest s) o ≡ held_of digest (state_after_word s o)
-  held-word operand chunk s None shown shows = held-kept operand s (Trap 2) tt
-  held-word operand chunk s (Some i) shown shows = held-instr operand chunk s i shown shows
+      → held_after digest operand (held_of digest s) (effect_of_word (seen_held fetch operand (tree_of digest s) chunk (held_of digest s)) o) ≡ held_of digest (after_effect s (effect_of_word (seen_of s) o))
+  held-word fetch operand chunk s None shown shows = held-kept operand s (Trap 2) tt
+  held-word fetch operand chunk s (Some i) shown shows = held-instr operand chunk s i shown shows
 
   -- what is held after a step is the step on what is held
   pub held-step : (fetch operand : Option Opening) (chunk : Option InOpening) (s : State) → IsShownAt digest s.memory fetch (fetch_of_state digest s)
       → IsShownAt digest s.memory operand (address_needed (needed_by (tree_of digest s) s.regs (fetched_at s.memory (fetch_of_state digest s))))
       → ShowsInput digest s.input chunk (byte_needed (tree_of digest s) (needed_by (tree_of digest s) s.regs (fetched_at s.memory (fetch_of_state digest s))))
-      → step_held digest fetch operand (offer_shown (tree_of digest s) chunk) (held_of digest s) ≡ held_of digest (step s)
-  unfolding step_held step
+      → step_held digest fetch operand (tree_of digest s) chunk (held_of digest s) ≡ held_of digest (step s)
+  unfolding step next_effect
   held-step fetch operand chunk s = go (is_running s.status) (eqb (s.pc % 4) 0) fetch refl
     where
       need_of : Option ℕ → Need
       need_of address = needed_by (tree_of digest s) s.regs (fetched_at s.memory address)
 
+      seen : Option Opening → Seen
+      seen f = seen_held f operand (tree_of digest s) chunk (held_of digest s)
+
       go : (r b : Bool) (f : Option Opening) → eqb (s.pc % 4) 0 ≡ b → IsShownAt digest s.memory f (cond (r && b) (Some s.pc) None)
           → IsShownAt digest s.memory operand (address_needed (need_of (cond (r && b) (Some s.pc) None)))
           → ShowsInput digest s.input chunk (byte_needed (tree_of digest s) (need_of (cond (r && b) (Some s.pc) None)))
-          → cond r (cond b (after_word digest operand (offer_shown (tree_of digest s) chunk) (held_of digest s) (reading_of (number_shown f s.pc 4))) (held_after digest operand (held_of digest s) (Trap 0))) (held_of digest s)
-          ≡ held_of digest (cond r (cond b (state_after_word s (reading_of (number_at s.memory s.pc 4))) (after_effect s (Trap 0))) s)
+          → held_by digest operand (held_of digest s) (cond r (Some (cond b (effect_of_word (seen f) (reading_of (number_shown f s.pc 4))) (Trap 0))) None)
+          ≡ held_of digest (after_next s (cond r (Some (cond b (effect_of_word (seen_of s) (reading_of (number_at s.memory s.pc 4))) (Trap 0))) None))
       go true true (Some f) test fetched shown shows =
           let multiple : s.pc % 4 ≡ 0 = eqb-true (s.pc % 4) 0 test in
-          ap (λ n. after_word digest operand (offer_shown (tree_of digest s) chunk) (held_of digest s) (reading_of n)) (shown-number s.memory f s.pc 4 fetched (omega arith))
-          ∙ held-word operand chunk s (reading_of (number_at s.memory s.pc 4)) shown shows
+          ap (λ n. held_after digest operand (held_of digest s) (effect_of_word (seen (Some f)) (reading_of n))) (shown-number s.memory f s.pc 4 fetched (omega arith))
+          ∙ held-word (Some f) operand chunk s (reading_of (number_at s.memory s.pc 4)) shown shows
       go true true None test fetched shown shows = absurd fetched
       go true false f test fetched shown shows = held-kept operand s (Trap 0) tt
       go false b f test fetched shown shows = refl

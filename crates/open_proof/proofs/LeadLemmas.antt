@@ -28,7 +28,7 @@ use Rattle.mem_tree.specs.RegisterTree.{registers_root}
 use Rattle.open_proof.specs.Held.{held_of}
 use Rattle.open_proof.specs.Called.{address_needed}
 use Rattle.open_proof.specs.OpenedChunk.{IsShownAt, fetched_at, fetch_of_state}
-use Rattle.open_proof.specs.Facts.{fetched, named_called, file_of, values_of, file_shown, file_of_facts, needed_by, byte_needed, offer_shown}
+use Rattle.open_proof.specs.Facts.{fetched, named_called, file_of, values_of, file_shown, file_of_facts, needed_by, byte_needed}
 use Rattle.open_proof.specs.Next.{step_held, storage_held, root_changed, held_shown, held_next, root_of_next, root_next}
 use Rattle.open_proof.specs.Shown.{tree_by, tree_of, word_of_state, needed_of_state, AreShown, ShowsRegisters, ShowsInput, ShowsState}
 use Rattle.open_proof.specs.LawsBelow.{StepLaws, RegisterLaws, TreeLaws}
@@ -99,8 +99,8 @@ module _ (steps : StepLaws) (laws : RegisterLaws) (trees : TreeLaws) (digest : L
       let file : file_of_facts facts ≡ s.regs = ap (file_shown names) whole ∙ same in
       let held : held_shown facts ≡ held_of digest s = λ i. record { mem = shows.mem i; regs = file i; ctl = shows.ctl i } in
       let next : held_next digest facts ≡ held_of digest (step s) =
-      ap (λ (t : Option HeldInput). step_held digest facts.fetch facts.operand (offer_shown t facts.input) (held_shown facts)) shows.tree
-      ∙ (ap (step_held digest facts.fetch facts.operand (offer_shown (tree_of digest s) facts.input)) held
+      ap (λ (t : Option HeldInput). step_held digest facts.fetch facts.operand t facts.input (held_shown facts)) shows.tree
+      ∙ (ap (step_held digest facts.fetch facts.operand (tree_of digest s) facts.input) held
       ∙ held-step steps digest facts.fetch facts.operand facts.input s shows.fetch shows.operand shows.input) in
       ap (λ p. root_of_next digest facts.input_tree names facts.regs (file_of_facts facts) p) next
       ∙ (ap (λ (t : Option HeldInput). root_of_next digest t names facts.regs (file_of_facts facts) (held_of digest (step s))) shows.tree
@@ -125,8 +125,8 @@ module _ (steps : StepLaws) (laws : RegisterLaws) (trees : TreeLaws) (digest : L
       (subst (λ n. IsShownAt digest s.memory facts.operand (address_needed n)) (sym needed) shows.operand)
       (subst (λ n. ShowsInput digest s.input facts.input (byte_needed (tree_of digest s) n)) (sym needed) shows.input) in
       let next : held_next digest facts ≡ held_of digest (step s') =
-      ap (λ (t : Option HeldInput). step_held digest facts.fetch facts.operand (offer_shown t facts.input) (held_shown facts)) shows.tree
-      ∙ (ap (step_held digest facts.fetch facts.operand (offer_shown (tree_of digest s) facts.input)) held ∙ step') in
+      ap (λ (t : Option HeldInput). step_held digest facts.fetch facts.operand t facts.input (held_shown facts)) shows.tree
+      ∙ (ap (step_held digest facts.fetch facts.operand (tree_of digest s) facts.input) held ∙ step') in
       let tree : root_changed digest root.0 rs os f (step s').regs ≡ registers_root digest (step s).regs =
       ap (λ r. root_changed digest r rs os f (step s').regs) is_root
       ∙ tree-follows trees digest s.regs (step s).regs f (step s').regs t.regs u.one rs os names-low shown (agree os shown) u.elsewhere in

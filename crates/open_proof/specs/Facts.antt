@@ -10,7 +10,6 @@ use Rattle.rd_base.specs.declared.proof.Proof.{Proof}
 use Rattle.rd_base.specs.declared.proof.Proof.TheVariants.{V1, V2, V3}
 use Rattle.rv_decode.specs.declared.instr.Instr.{Instr}
 use Rattle.rv_step.specs.Named.{named_by}
-use Rattle.rv_step.specs.Offer.{offered}
 use Rattle.rv_step.specs.Parts.{needed_in}
 use Rattle.rv_step.specs.declared.asked.Need.{Need}
 use Rattle.rv_step.specs.declared.asked.Need.TheVariants as need
@@ -110,7 +109,3 @@ byte_in None k = 0
 abbrev pub byte_shown : Option HeldInput → Option InOpening → ℕ → ℕ
 byte_shown (Some t) input k = if nat_lt k t.len then byte_in input k else 2 ^ 32 - 1
 byte_shown None input k = 2 ^ 32 - 1
-
--- what is offered of it to the step
-abbrev pub offer_shown : Option HeldInput → Option InOpening → Option (ℕ → ℕ)
-offer_shown tree input = offered (offering tree) (byte_shown tree input)

@@ -1,41 +1,45 @@
--- To believe: the root that a proof's parts make, and the root that they make after the step. The step is one for all versions, on
--- the register file that is shown; a version adds how the digests of registers and storage are made. The law
--- `shown_states_lead` ties it to the step of the machine.
-use Rattle.std.specs.Prelude.{ℕ, ◌%◌, ◌==◌, List, [], ◌∷◌, slice_index, Option, Some, None, if◌then◌else◌}
-use Rattle.rd_base.specs.Status.{is_running}
+-- To believe: the root that a proof's parts make, and the root that they make after the step. The step is the machine's own
+-- (`next_effect`), by what it sees of the opened parts, and one for all versions; a version adds how the digests of registers and storage
+-- are made. The law `shown_states_lead` ties it to the step of the state.
+use Rattle.std.specs.Prelude.{ℕ, ◌==◌, List, [], ◌∷◌, slice_index, Option, Some, None, if◌then◌else◌}
+use Rattle.rd_base.specs.declared.opened.InOpening.{InOpening}
 use Rattle.rd_base.specs.declared.opened.Opening.{Opening}
 use Rattle.rd_base.specs.declared.opened.RegOpening.{RegOpening}
-use Rattle.rv_decode.specs.Reading.{reading_of}
-use Rattle.rv_decode.specs.declared.instr.Instr.{Instr}
 use Rattle.digest_core.specs.Text.{register_text, registers_text, storage_text}
 use Rattle.merkle_nodes.specs.Node.{digest_at}
 use Rattle.merkle_nodes.specs.Opening.{opened}
 use Rattle.out_chain.specs.Root.{parts_text}
-use Rattle.rv_step.specs.Effect.{effect_with}
-use Rattle.rv_step.specs.Codes.{misaligned_jump, illegal_instruction}
-use Rattle.rv_step.specs.declared.effect.Effect.TheVariants.{Trap}
+use Rattle.rv_step.specs.NextEffect.{Seen, next_effect}
+use Rattle.rv_step.specs.declared.effect.Effect.{Effect}
 use Rattle.rv_step.specs.Fetching.{number_shown}
 use Rattle.open_proof.specs.Held.{Held, held_after}
-use Rattle.open_proof.specs.Facts.{named_called, file_of_facts, offer_shown}
+use Rattle.open_proof.specs.Facts.{named_called, file_of_facts, offering, byte_shown}
 use Rattle.open_proof.specs.declared.facts.Facts.{Facts}
 use Rattle.open_proof.specs.declared.facts.HeldInput.{HeldInput}
 use Rattle.open_proof.specs.declared.facts.HeldRegisters.{HeldRegisters}
 use Rattle.open_proof.specs.declared.facts.HeldRegisters.TheVariants.{Whole, Opened}
 
--- what is held after the instruction that a word is, or after a word that is none, with what is offered of the input
-abbrev pub after_word : (List ℕ → List ℕ) → Option Opening → Option (ℕ → ℕ) → Held → Option Instr → Held
-after_word digest operand offer p (Some i) = held_after digest operand p (effect_with offer p.regs p.ctl.pc (number_shown operand) i)
-after_word digest operand offer p None = held_after digest operand p (Trap illegal_instruction)
+-- what a step sees of what is held: the word at pc in the fetched chunk, numbers of memory in the chunk of data, and the input as far as
+-- it is shown
+abbrev pub seen_held : Option Opening → Option Opening → Option HeldInput → Option InOpening → Held → Seen
+seen_held fetch operand tree input p = record {
+  status = p.ctl.status;
+  pc = p.ctl.pc;
+  regs = p.regs;
+  word = λ addr. number_shown fetch addr 4;
+  number = λ addr width. number_shown operand addr width;
+  input_scheme = offering tree;
+  byte = λ k. byte_shown tree input k;
+}
 
--- the step on what is held, from the chunk that holds the word at pc, the chunk that the instruction reads or writes, and what is
--- offered of the input
-unfoldable pub step_held : (List ℕ → List ℕ) → Option Opening → Option Opening → Option (ℕ → ℕ) → Held → Held
-step_held digest fetch operand offer p =
-    if is_running p.ctl.status
-    then (if p.ctl.pc % 4 == 0
-    then after_word digest operand offer p (reading_of (number_shown fetch p.ctl.pc 4))
-    else held_after digest operand p (Trap misaligned_jump))
-    else p
+-- what is held after the effect of a step; of a state that has stopped there is none, and it stays
+abbrev pub held_by : (List ℕ → List ℕ) → Option Opening → Held → Option Effect → Held
+held_by digest operand p (Some e) = held_after digest operand p e
+held_by digest operand p None = p
+
+-- the step on what is held
+abbrev pub step_held : (List ℕ → List ℕ) → Option Opening → Option Opening → Option HeldInput → Option InOpening → Held → Held
+step_held digest fetch operand tree input p = held_by digest operand p (next_effect (seen_held fetch operand tree input p))
 
 -- the storage string if the input is a tree, and the digest of what is stored
 abbrev pub storage_texts : Option HeldInput → List ℕ → List (List ℕ)
@@ -75,7 +79,7 @@ abbrev pub held_shown : Facts → Held
 held_shown facts = record { mem = facts.mem.0; regs = file_of_facts facts; ctl = facts.ctl }
 
 abbrev pub held_next : (List ℕ → List ℕ) → Facts → Held
-held_next digest facts = step_held digest facts.fetch facts.operand (offer_shown facts.input_tree facts.input) (held_shown facts)
+held_next digest facts = step_held digest facts.fetch facts.operand facts.input_tree facts.input (held_shown facts)
 
 -- the root of a state after a step, from what is held then
 abbrev pub root_of_next : (List ℕ → List ℕ) → Option HeldInput → List ℕ → HeldRegisters → List ℕ → Held → List ℕ

@@ -13,7 +13,7 @@ use Rattle.rv_step.specs.Alike.{named_at}
 use Rattle.rv_step.specs.State.{State}
 use Rattle.state_commit.specs.StateRoot.{ctl_of, memory_digest}
 use Rattle.mem_tree.specs.RegisterTree.{register_node, registers_root}
-use Rattle.mem_tree.specs.InputTree.{input_chunk, input_node, input_root}
+use Rattle.mem_tree.specs.InputTree.{input_chunk, input_node}
 use Rattle.open_proof.specs.OpenedChunk.{opening_at, fetch_of_state}
 use Rattle.open_proof.specs.Facts.{proof_of}
 use Rattle.open_proof.specs.Shown.{tree_of, operand_of_state, input_of_state}

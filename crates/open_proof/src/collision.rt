@@ -1,5 +1,5 @@
 //! Collisions of two proofs of one step: two different strings of one digest, one opened by each.
-ghost use Rattle.std.specs.Prelude.{◌≡◌, ◌↔◌, [], ◌∷◌, None};
+ghost use Rattle.std.specs.Prelude.{◌≡◌, ◌↔◌, [], ◌∷◌, None, IfSome};
 ghost use Rattle.rd_base.specs.declared.digest.Digest32.{Digest32};
 ghost use Rattle.out_chain.specs.Root.{control_text_of};
 ghost use Rattle.out_chain.specs.Collision.{first_collision};
@@ -165,8 +165,8 @@ fn collision_between<D: Digester>(
 /// open the root `a`: the first such pair in the order state string, storage string, registers string, control string, then the strings of
 /// the fetched chunk, of the opened registers, of the chunk of data and of the chunk of the input, each from the leaf string up.
 ///
-/// `None` if a proof is of another version or doesn't open `a`. For two proofs that lead from `a` it is `None` if and only if the proofs
-/// are equal.
+/// What it gives is a collision, whatever the proofs are (`pair`). `None` if a proof is of another version or doesn't open `a`. For two
+/// proofs that lead from `a` it is `None` if and only if the proofs are equal.
 pub fn step_collision<D: Digester>(
     d: D,
     version: u32,
@@ -175,6 +175,7 @@ pub fn step_collision<D: Digester>(
     second: &Proof,
 ) -> Option<(OpenText, OpenText)>
     ensures value { result ≡ collision.step_collision D.digest_of version a (facts.facts_of first.now) (facts.facts_of second.now) }
+    ensures pair { IfSome result (λ pair. collision.IsStepCollision D.digest_of (facts.facts_of first.now) (facts.facts_of second.now) pair) }
     ensures none { (b c : Digest32) → LeadsFrom D.digest_of version a (facts.facts_of first.now) b →
         LeadsFrom D.digest_of version a (facts.facts_of second.now) c → (result ≡ None) ↔ (first.now ≡ second.now) }
 {

@@ -2,18 +2,20 @@
 ghost use Rattle.std.specs.Prelude.{◌≡◌};
 ghost use Rattle.open_proof.specs.Facts as facts;
 ghost use Rattle.open_proof.specs.Called as chunks;
+ghost use Rattle.rv_step.specs.Fetching.{fetch_address as fetch_of};
 ghost use Rattle.rv_step.specs.Named.{AreRegisters};
 
 mod laws;
 mod ranges;
 
 pub use laws::{
-    plain_proofs_hold_the_parts, plain_proofs_lead, proofs_lead_to_the_next_state, shown_states_lead, states_name_registers,
+    plain_proofs_hold_the_parts, plain_proofs_lead, proofs_lead_to_the_next_state,
+    shown_states_lead, states_name_registers,
 };
 pub use ranges::proofs_are_in_range;
 use rd_base::{
-    Ctl, Digest32, InOpening, InputScheme, Opening, Proof, RegOpening, RegOpenings, Regs, StepProof,
-    StepProof2, StepProof3,
+    Ctl, Digest32, InOpening, InputScheme, Opening, Proof, RegOpening, RegOpenings, Regs,
+    StepProof, StepProof2, StepProof3,
 };
 use rv_decode::Instr;
 use rv_step::{Names, Need, fetch_address, fetched_in, named_by, need_by};
@@ -163,7 +165,7 @@ fn file_of(names: &[u8], opened: &[RegOpening]) -> Regs
 }
 
 /// The register file that is shown: all registers, or those that are opened, by their names, and 0 for all others.
-pub fn file_shown(names: &[u8], regs: &HeldRegisters) -> Regs
+fn file_shown(names: &[u8], regs: &HeldRegisters) -> Regs
     requires { AreRegisters names.now }
     ensures { result ≡ facts.file_shown names.now regs.now }
 {
@@ -184,7 +186,7 @@ pub fn offering(tree: &Option<HeldInput>) -> InputScheme
 }
 
 /// What an instruction needs of memory or of the input, if one is fetched, from the register file that is shown.
-pub fn needed_by(tree: &Option<HeldInput>, file: &Regs, instr: &Option<Instr>) -> Need
+fn needed_by(tree: &Option<HeldInput>, file: &Regs, instr: &Option<Instr>) -> Need
     ensures { result ≡ facts.needed_by tree.now file.now instr.now }
 {
     match instr {
@@ -194,7 +196,7 @@ pub fn needed_by(tree: &Option<HeldInput>, file: &Regs, instr: &Option<Instr>) -
 }
 
 /// The address of the data that is needed.
-pub fn address_needed(need: Need) -> Option<u32>
+fn address_needed(need: Need) -> Option<u32>
     ensures { result ≡ chunks.address_needed need }
 {
     match need {
@@ -207,7 +209,7 @@ pub fn address_needed(need: Need) -> Option<u32>
 }
 
 /// The number of the input's byte that is needed, if the input has it.
-pub fn byte_needed(tree: &Option<HeldInput>, need: Need) -> Option<u32>
+fn byte_needed(tree: &Option<HeldInput>, need: Need) -> Option<u32>
     ensures { result ≡ facts.byte_needed tree.now need }
 {
     match tree {
@@ -222,30 +224,56 @@ pub fn byte_needed(tree: &Option<HeldInput>, need: Need) -> Option<u32>
     }
 }
 
-/// For which openings the parts of a state call, beside the fetched chunk.
+/// For which openings a state calls, and the registers by which it does.
 #[derive(Debug, Drop)]
 pub struct Called {
-    /// The registers that the instruction names.
+    /// The address of the word that it fetches.
+    pub fetch: Option<u32>,
+    /// The registers that its instruction names.
     pub names: Names,
-    /// The address of its data.
+    /// The register file: that of the state, or that which a proof shows.
+    pub file: Regs,
+    /// The address of the instruction's data.
     pub operand: Option<u32>,
-    /// The number of the input's byte that it reads.
+    /// The number of the input's byte that the instruction reads.
     pub input: Option<u32>,
+}
+
+/// For which openings an instruction calls, by the registers that it names and the register file.
+pub(crate) fn called_for(
+    fetch: Option<u32>,
+    instr: &Option<Instr>,
+    names: Names,
+    file: Regs,
+    tree: &Option<HeldInput>,
+) -> Called
+    ensures fetch { result.fetch ≡ fetch }
+    ensures names { result.names ≡ names }
+    ensures file { result.file ≡ file }
+    ensures operand { result.operand ≡ chunks.address_needed (facts.needed_by tree.now file instr.now) }
+    ensures input { result.input ≡ facts.byte_needed tree.now (facts.needed_by tree.now file instr.now) }
+{
+    let needed = needed_by(tree, &file, instr);
+    Called {
+        fetch,
+        names,
+        file,
+        operand: address_needed(needed),
+        input: byte_needed(tree, needed),
+    }
 }
 
 /// For which openings a proof's parts call, by the chunk that it fetches and the registers that it shows.
 pub fn called_by(proof: &Facts) -> Called
+    ensures fetch { result.fetch ≡ fetch_of proof.now.ctl }
     ensures names { result.names ≡ facts.named_called proof.now }
+    ensures file { result.file ≡ facts.file_of_facts proof.now }
     ensures operand { result.operand ≡ facts.operand_called proof.now }
     ensures input { result.input ≡ facts.input_called proof.now }
 {
-    let instr = fetched_in(&proof.fetch, fetch_address(&proof.ctl));
+    let fetch = fetch_address(&proof.ctl);
+    let instr = fetched_in(&proof.fetch, fetch);
     let names = named_by(&instr);
     let file = file_shown(names.as_slice(), &proof.regs);
-    let needed = needed_by(&proof.input_tree, &file, &instr);
-    Called {
-        names,
-        operand: address_needed(needed),
-        input: byte_needed(&proof.input_tree, needed),
-    }
+    called_for(fetch, &instr, names, file, &proof.input_tree)
 }

@@ -23,8 +23,8 @@ mod ways;
 
 pub use collision::{proofs_from_one_root, step_collision};
 pub use facts::{
-    Called, Facts, HeldInput, HeldRegisters, address_needed, byte_needed, called_by, facts_of,
-    file_shown, needed_by, offering, plain_proofs_hold_the_parts, plain_proofs_lead, proof_of, proofs_are_in_range,
+    Called, Facts, HeldInput, HeldRegisters, called_by, facts_of, offering,
+    plain_proofs_hold_the_parts, plain_proofs_lead, proof_of, proofs_are_in_range,
     proofs_lead_to_the_next_state, shown_states_lead, states_name_registers,
 };
 pub use proving::{make_claim, make_proof};

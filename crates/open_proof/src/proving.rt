@@ -16,7 +16,7 @@ ghost use Rattle.open_proof.specs.OpenedChunk as openings;
 ghost use Rattle.open_proof.specs.Shown as shown;
 
 use crate::facts::{
-    Facts, HeldInput, HeldRegisters, address_needed, byte_needed, needed_by, plain_proofs_lead, proof_of,
+    Called, Facts, HeldInput, HeldRegisters, called_for, plain_proofs_lead, proof_of,
     states_name_registers,
 };
 use digest_core::Digester;
@@ -28,7 +28,7 @@ use rd_base::{
     paths_have_27_levels,
 };
 use rv_decode::{Instr, decode};
-use rv_step::{Names, fetch_address, machines_are_valid, named_by};
+use rv_step::{fetch_address, machines_are_valid, named_by};
 use state_commit::Committed;
 use std::alloc::Global;
 
@@ -135,21 +135,8 @@ fn tree_of<D: Digester>(committed: &Committed<D>) -> Option<HeldInput>
     }
 }
 
-/// For which openings a state calls.
-#[derive(Debug, Drop)]
-struct CalledByState {
-    /// The address of the word that it fetches.
-    fetch: Option<u32>,
-    /// The registers that its instruction names.
-    names: Names,
-    /// The address of the instruction's data.
-    operand: Option<u32>,
-    /// The number of the input's byte that the instruction reads.
-    input: Option<u32>,
-}
-
 /// For which openings a machine's state calls.
-fn called_by_state<D: Digester>(committed: &Committed<D>) -> CalledByState
+fn called_by_state<D: Digester>(committed: &Committed<D>) -> Called
     ensures fetch { result.fetch ≡ openings.fetch_of_state D.digest_of committed.now }
     ensures names { result.names ≡ named_at committed.now }
     ensures registers { AreRegisters result.names }
@@ -163,13 +150,7 @@ fn called_by_state<D: Digester>(committed: &Committed<D>) -> CalledByState
     let fetch = fetch_address(&machine.ctl);
     let word = fetched_at(&machine.mem, fetch);
     let tree = tree_of(committed);
-    let need = needed_by(&tree, &machine.regs, &word);
-    CalledByState {
-        fetch,
-        names: named_by(&word),
-        operand: address_needed(need),
-        input: byte_needed(&tree, need),
-    }
+    called_for(fetch, &word, named_by(&word), machine.regs, &tree)
 }
 
 /// The chunk of memory that holds an address, with its path.

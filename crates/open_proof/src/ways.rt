@@ -4,6 +4,7 @@ ghost use Rattle.digest_core.specs.Text.{leaf_text as text_of_leaf};
 ghost use Rattle.mem_plain.specs.Page.{with_number_in};
 ghost use Rattle.merkle_nodes.specs.Node.{digest_at};
 ghost use Rattle.merkle_nodes.specs.Opening.{Opens};
+ghost use Rattle.rv_step.specs.Fetching.{fetch_address as fetch_address_of};
 ghost use Rattle.rv_step.specs.Named.{AreRegisters};
 ghost use Rattle.open_proof.specs.Facts as facts_of_proof;
 ghost use Rattle.open_proof.specs.Openings as openings;
@@ -18,7 +19,6 @@ use rd_base::{
     Digest32, InOpening, OpenText, Opening, Path, RegOpening, Regs, Steps, paths_have_27_levels,
     same_digest,
 };
-use rv_step::fetch_address;
 use std::marker::Model;
 use std::sync::ledger::Ledger;
 
@@ -190,6 +190,7 @@ fn named_way<'a>(names: &[u8], regs: &'a HeldRegisters, k: usize) -> Option<Way<
 /// data and the chunk of the input. No digest is made.
 #[tactic(auto, using(crate::proofs::SlotLemmas::first_three, crate::proofs::SlotLemmas::named_few, crate::proofs::SlotLemmas::chunk_alone, crate::proofs::SlotLemmas::input_alone))]
 pub fn ways_of<'a>(facts: &'a Facts, called: &Called) -> [Option<Way<'a>>; 6]
+    requires fetch { called.now.fetch ≡ fetch_address_of facts.now.ctl }
     requires names { called.now.names ≡ facts_of_proof.named_called facts.now }
     requires operand { called.now.operand ≡ facts_of_proof.operand_called facts.now }
     requires input { called.now.input ≡ facts_of_proof.input_called facts.now }
@@ -202,7 +203,7 @@ pub fn ways_of<'a>(facts: &'a Facts, called: &Called) -> [Option<Way<'a>>; 6]
 {
     let names = called.names.as_slice();
     [
-        memory_way(facts.mem, &facts.fetch, fetch_address(&facts.ctl)),
+        memory_way(facts.mem, &facts.fetch, called.fetch),
         named_way(names, &facts.regs, 0),
         named_way(names, &facts.regs, 1),
         named_way(names, &facts.regs, 2),
