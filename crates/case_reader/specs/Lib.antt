@@ -7,3 +7,4 @@ pub mod Provers
 pub mod Case
 pub mod Tasks
 pub mod ReadTampers
+pub mod ReadInputs

@@ -3,6 +3,7 @@ ghost use Rattle.std.specs.Prelude.{◌≡◌, ℕ, List, Err};
 ghost use Rattle.case_reader.specs.Case.{case_at};
 ghost use Rattle.case_reader.specs.Tasks.{tasks_at, CasesAreTasks};
 ghost use Rattle.case_reader.specs.ReadTampers.{TampersAreRead};
+ghost use Rattle.case_reader.specs.ReadInputs.{InputsAreRead, InputsOfTasksAreRead};
 
 use crate::fault::{CaseFault, TaskFault};
 
@@ -28,4 +29,10 @@ pub fn cases_are_read_as_one_task()
 /// byte, and a register is one of x1 to x31.
 pub fn tampers_are_read_in_range()
     ensures { TampersAreRead }
+{}
+
+/// The input of each case that is read has at most 1,048,576 bytes, each below 256 (`case`), and so has that of each task (`tasks`).
+pub fn inputs_are_read_in_range()
+    ensures case { InputsAreRead }
+    ensures tasks { InputsOfTasksAreRead }
 {}

@@ -20,7 +20,7 @@ mod tasks;
 pub use case::{Case, Format, Tasks};
 pub use fault::{CaseFault, Key, TaskFault};
 pub use laws::{
-    cases_are_read_as_one_task, no_fault_of_a_case_is_out_of_memory,
+    cases_are_read_as_one_task, inputs_are_read_in_range, no_fault_of_a_case_is_out_of_memory,
     no_fault_of_tasks_is_out_of_memory, tampers_are_read_in_range,
 };
 pub use parsing::read_case;
