@@ -5,3 +5,4 @@ pub mod Chain
 pub mod Sha256Bytes
 pub mod Weak8
 pub mod Weak8Bytes
+pub mod Name

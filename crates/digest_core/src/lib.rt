@@ -9,11 +9,13 @@
 //! The layers above may rely on this: each kind of string has one definition in `specs/Text.antt` and one function
 //! here that makes it, without memory; each kind has its length, no string is of two kinds (`specs/Kinds.antt`), and a string
 //! determines its parts, which are in the ranges of their types (`laws`). The chain of an output is defined in
-//! `specs/Chain.antt`, and `link` adds a byte to it. Read those two definitions first, then `digester`, then `text`.
+//! `specs/Chain.antt`, and `link` adds a byte to it. The digests that a match may be played by have names, a table
+//! (`specs/Name.antt`, `DigestName::ALL`). Read `specs/Text.antt` and `specs/Chain.antt` first, then `digester`, `text`, `name`.
 #![tactic(auto)]
 
 mod digester;
 mod laws;
+mod name;
 mod text;
 
 pub use digester::{Counted, Digester, Sha256, Weak8};
@@ -21,6 +23,7 @@ pub use laws::{
     chain_grows, codes_fit, digests_are_32_bytes, kinds_have_lengths,
     sha256_has_the_digests_of_the_standard, texts_determine_their_parts,
 };
+pub use name::DigestName;
 pub use text::{
     control_text, leaf_text, link, link_text, node_text, noise_text, register_text, registers_text,
     state_text, storage_text,
