@@ -1,7 +1,6 @@
 -- How often a check ticks at most.
-use Rattle.std.proofs.Common.{◌≡◌, ℕ, ◌+◌, ◌*◌, ◌%◌, ◌≤◌, List, [], ◌∷◌, ◌++◌, length, Option, Some, None, is_some, eqb, cond, Bool, true, false, true≢false, not, ◌&&◌, refl, sym, ap, ◌∙◌, arith, length-append}
+use Rattle.std.proofs.Common.{◌≡◌, ℕ, ◌+◌, ◌*◌, ◌≤◌, List, [], ◌∷◌, ◌++◌, length, Option, Some, None, is_some, eqb, cond, Bool, true, false, true≢false, not, ◌&&◌, refl, sym, ap, ◌∙◌, arith, length-append}
 use Rattle.std.proofs.lemmas.Bool.{eq-eqb}
-use Rattle.rd_base.specs.Status.{is_running}
 use Rattle.rd_base.specs.declared.digest.Digest32.{Digest32}
 use Rattle.rd_base.specs.declared.opened.Opening.{Opening}
 use Rattle.rd_base.specs.declared.opened.InOpening.{InOpening}
@@ -10,27 +9,27 @@ use Rattle.rd_base.specs.declared.proof.Proof.{Proof}
 use Rattle.rd_base.specs.declared.proof.Proof.TheVariants.{V1, V2, V3}
 use Rattle.rd_base.specs.declared.scheme.InputScheme.{InputScheme}
 use Rattle.rd_base.specs.declared.scheme.InputScheme.TheVariants as input
-use Rattle.rv_decode.specs.Reading.{reading_of}
 use Rattle.rv_decode.specs.Fields.{fields_of}
 use Rattle.rv_decode.specs.declared.instr.Instr.{Instr}
 use Rattle.rv_decode.specs.declared.instr.Instr.TheVariants.{Lb, Lh, Lw, Lbu, Lhu, Sb, Sh, Sw, Ecall}
-use Rattle.rv_step.specs.Effect.{effect_with, x}
+use Rattle.rv_step.specs.Effect.{x}
 use Rattle.rv_step.specs.Named.{first_source, second_source, destination, kept, once, named, named_by}
 use Rattle.rv_step.specs.Parts.{byte_called, call_needed, needed_in}
 use Rattle.rv_step.specs.Step.{regs_after}
 use Rattle.rv_step.specs.declared.asked.Need.TheVariants as need
 use Rattle.rv_step.specs.declared.effect.Effect.{Effect}
 use Rattle.rv_step.specs.declared.effect.Effect.TheVariants.{Write, Jump, Branch, Next, Store, Put, Exit, Trap}
-use Rattle.rv_step.specs.Fetching.{number_shown, fetch_address}
-use Rattle.open_proof.specs.Held.{Held, held_after}
+use Rattle.rv_step.specs.Fetching.{fetch_address}
+use Rattle.open_proof.specs.Held.{Held}
 use Rattle.open_proof.specs.Called.{address_needed}
-use Rattle.open_proof.specs.Facts.{facts_of, fetched, named_called, file_of_facts, needed_by, operand_called, byte_needed, input_called, offering, offer_shown}
-use Rattle.open_proof.specs.Next.{after_word, step_held, held_shown}
+use Rattle.open_proof.specs.Facts.{facts_of, fetched, named_called, file_of_facts, needed_by, operand_called, byte_needed, input_called, offering}
+use Rattle.rv_step.specs.NextEffect.{next_effect}
+use Rattle.open_proof.specs.Next.{seen_held, held_by, held_shown}
 use Rattle.open_proof.specs.Openings.{chunk_ways, each_way, input_ways}
 use Rattle.open_proof.specs.Ways.{ways_digests}
 use Rattle.open_proof.specs.declared.facts.Facts.{Facts}
 use Rattle.open_proof.specs.declared.facts.HeldInput.{HeldInput}
-use Rattle.step_referee.specs.Ticks.{chunk_count, digests_of_effect, digests_of_word, digests_on, changed_digests, opening_digests, ticks_of, most_ticks, most_alone}
+use Rattle.step_referee.specs.Ticks.{chunk_count, digests_of_effect, digests_by, changed_digests, opening_digests, ticks_of, most_ticks, most_alone}
 use Rattle.step_referee.specs.declared.check.StepCheck.{StepCheck}
 use Rattle.step_referee.specs.declared.check.StepCheck.TheVariants as check
 
@@ -86,7 +85,7 @@ changed-none [] os xs = refl
 changed-none (r ∷ rs) [] xs = refl
 changed-none (r ∷ rs) (o ∷ os) xs = rw (eq-eqb (x xs r) (x xs r) refl) (changed-none rs os xs)
 
-module _ (digest : List ℕ → List ℕ) (operand : Option Opening) (offer : Option (ℕ → ℕ)) (rs : List ℕ) (os : List RegOpening) where
+module _ (digest : List ℕ → List ℕ) (operand : Option Opening) (rs : List ℕ) (os : List RegOpening) where
   -- a step stores, or puts a byte, or changes a register
   effect-cost : (xs : List ℕ) (pc : ℕ) (e : Effect) → digests_of_effect operand e + changed_digests rs os xs (regs_after xs pc e) ≤ 6 + 22 * chunk_count operand
   effect-cost xs pc (Write rd value) = let few = changed-few rs os xs (regs_after xs pc (Write rd value)) in omega arith
@@ -98,16 +97,9 @@ module _ (digest : List ℕ → List ℕ) (operand : Option Opening) (offer : Op
   effect-cost xs pc (Exit code) = let none = changed-none rs os xs in omega arith
   effect-cost xs pc (Trap code) = let none = changed-none rs os xs in omega arith
 
-  step-cost : (fetch : Option Opening) (p : Held) → digests_on fetch operand offer p + changed_digests rs os p.regs (step_held digest fetch operand offer p).regs ≤ 6 + 22 * chunk_count operand
-  unfolding digests_on step_held
-  step-cost fetch p = go (is_running p.ctl.status) (eqb (p.ctl.pc % 4) 0) (reading_of (number_shown fetch p.ctl.pc 4))
-    where
-      go : (r b : Bool) (o : Option Instr) → cond r (cond b (digests_of_word operand offer p o) 0) 0
-          + changed_digests rs os p.regs (cond r (cond b (after_word digest operand offer p o) (held_after digest operand p (Trap 0))) p).regs ≤ 6 + 22 * chunk_count operand
-      go true true (Some i) = effect-cost p.regs p.ctl.pc (effect_with offer p.regs p.ctl.pc (number_shown operand) i)
-      go true true None = let none = changed-none rs os p.regs in omega arith
-      go true false o = let none = changed-none rs os p.regs in omega arith
-      go false b o = let none = changed-none rs os p.regs in omega arith
+  step-cost : (p : Held) (next : Option Effect) → digests_by operand next + changed_digests rs os p.regs (held_by digest operand p next).regs ≤ 6 + 22 * chunk_count operand
+  step-cost p (Some e) = effect-cost p.regs p.ctl.pc e
+  step-cost p None = let none = changed-none rs os p.regs in omega arith
 
 -- the step alone
 effect-digests : (operand : Option Opening) (e : Effect) → digests_of_effect operand e ≤ 1 + 27 * chunk_count operand
@@ -115,15 +107,9 @@ effect-digests operand (Store addr width value) = let one = one-chunk operand in
 effect-digests operand (Put byte) = omega arith
 effect-digests operand e = omega arith
 
-step-digests : (fetch operand : Option Opening) (offer : Option (ℕ → ℕ)) (p : Held) → digests_on fetch operand offer p ≤ 1 + 27 * chunk_count operand
-unfolding digests_on
-step-digests fetch operand offer p = go (is_running p.ctl.status) (eqb (p.ctl.pc % 4) 0) (reading_of (number_shown fetch p.ctl.pc 4))
-  where
-    go : (r b : Bool) (o : Option Instr) → cond r (cond b (digests_of_word operand offer p o) 0) 0 ≤ 1 + 27 * chunk_count operand
-    go true true (Some i) = effect-digests operand (effect_with offer p.regs p.ctl.pc (number_shown operand) i)
-    go true true None = omega arith
-    go true false o = omega arith
-    go false b o = omega arith
+step-digests : (operand : Option Opening) (next : Option Effect) → digests_by operand next ≤ 1 + 27 * chunk_count operand
+step-digests operand (Some e) = effect-digests operand e
+step-digests operand None = omega arith
 
 -- how many registers are named
 kept-length : (t : Bool) (r : ℕ) → length (kept t r) ≤ 1
@@ -248,7 +234,7 @@ module _ (digest : List ℕ → List ℕ) where
       let one = one-chunk facts.fetch in
       let operand = chunk-few facts.mem.0 facts.operand (operand_called facts) in
       let most = one-chunk facts.operand in
-      let step = step-digests facts.fetch facts.operand (offer_shown facts.input_tree facts.input) (held_shown facts) in
+      let step = step-digests facts.operand (next_effect (seen_held facts.fetch facts.operand facts.input_tree facts.input (held_shown facts))) in
       (omega arith, λ gone. let none = no-chunk facts.operand gone in omega arith)
   ticks-few (V2 p) shaped =
       let facts = facts_of (V2 p) in
@@ -259,7 +245,7 @@ module _ (digest : List ℕ → List ℕ) where
       let most = one-chunk facts.operand in
       let registers = each-few p.regs.0 rs p.named in
       let names = names-chunk facts.input_tree (file_of_facts facts) (fetched facts) facts.operand shaped.0 in
-      let step = step-cost digest facts.operand (offer_shown facts.input_tree facts.input) rs p.named facts.fetch (held_shown facts) in
+      let step = step-cost digest facts.operand rs p.named (held_shown facts) (next_effect (seen_held facts.fetch facts.operand facts.input_tree facts.input (held_shown facts))) in
       (omega arith, λ gone. let none = no-chunk facts.operand gone in omega arith)
   ticks-few (V3 p) shaped =
       let facts = facts_of (V3 p) in
@@ -274,7 +260,7 @@ module _ (digest : List ℕ → List ℕ) where
       let inputs = names-input facts.input_tree (file_of_facts facts) (fetched facts) facts.operand facts.input shaped.0 shaped.1 in
       let left = inputs.0 in
       let apart = inputs.1 in
-      let step = step-cost digest facts.operand (offer_shown facts.input_tree facts.input) rs p.named facts.fetch (held_shown facts) in
+      let step = step-cost digest facts.operand rs p.named (held_shown facts) (next_effect (seen_held facts.fetch facts.operand facts.input_tree facts.input (held_shown facts))) in
       (omega arith, λ gone. let none = no-chunk facts.operand gone in omega arith)
 
   -- of one that is refused

@@ -1,5 +1,5 @@
 -- The plain proof of a valid state is in the ranges of its types, in each version.
-use Rattle.std.proofs.Common.{◌≡◌, ℕ, zero, suc, ◌+◌, ◌*◌, ◌/◌, ◌%◌, ◌^◌, ◌<◌, eqb, ltb, cond, List, [], ◌∷◌, map, length, slice_index, Option, Some, None, Bool, true, false, ◌&&◌, refl, ap, ◌∙◌, subst, arith}
+use Rattle.std.proofs.Common.{◌≡◌, ℕ, zero, suc, ◌+◌, ◌*◌, ◌/◌, ◌%◌, ◌^◌, ◌<◌, eqb, ltb, List, [], ◌∷◌, map, length, slice_index, Option, Some, None, true, ◌&&◌, refl, ap, ◌∙◌, subst, arith}
 use Rattle.std.proofs.lemmas.Bool.{and_from}
 use Rattle.std.proofs.lemmas.Bool.Decides.{Decides-eqb, Decides-ltb}
 use Rattle.std.proofs.lemmas.List.FromFn.{length-map-range_with_len, get_or-map-range_with_len}
@@ -15,7 +15,7 @@ use Rattle.rd_base.specs.declared.scheme.RegisterScheme.TheVariants as registers
 use Rattle.digest_core.specs.Chain.{chain_of}
 use Rattle.digest_core.specs.Text.{status_code}
 use Rattle.mem_plain.specs.Contents.{Contents, byte_at, chunk_at}
-use Rattle.merkle_nodes.specs.Node.{node, beside, digest_at}
+use Rattle.merkle_nodes.specs.Node.{node, beside}
 use Rattle.mem_tree.specs.Memory.{memory_node}
 use Rattle.rv_step.specs.Alike.{named_at}
 use Rattle.rv_step.specs.State.{State}
@@ -24,7 +24,7 @@ use Rattle.rv_step.specs.Valid.{IsValid}
 use Rattle.state_commit.specs.StateRoot.{ctl_of, memory_digest}
 use Rattle.mem_tree.specs.RegisterTree.{register_node, registers_root}
 use Rattle.mem_tree.specs.InputTree.{input_chunk, input_node, input_root}
-use Rattle.open_proof.specs.InRange.{are_digests, are_words, is_opening_in_range, is_ctl_in_range, is_input_in_range, are_openings_in_range, are_registers_in_range, is_tree_in_range, are_facts_in_range, is_in_range}
+use Rattle.open_proof.specs.InRange.{are_digests, is_opening_in_range, is_ctl_in_range, is_input_in_range, are_openings_in_range, are_registers_in_range, is_tree_in_range, are_facts_in_range, is_in_range}
 use Rattle.open_proof.specs.OpenedChunk.{siblings_of, opening_at, fetch_of_state}
 use Rattle.open_proof.specs.RangeLaws.{words_are, digests_are}
 use Rattle.open_proof.specs.Facts.{facts_of}

@@ -1,25 +1,22 @@
 -- A run of the machine is a true run for the game.
-use Rattle.std.proofs.Common.{◌≡◌, ℕ, zero, suc, ◌+◌, ◌%◌, ◌^◌, ◌<◌, ◌≤◌, eqb, cond, List, length, Option, Some, None, Bool, true, false, refl, sym, ap, ◌∙◌, subst, arith, add-one, length-append, []}
+use Rattle.std.proofs.Common.{◌≡◌, ℕ, zero, suc, ◌+◌, ◌%◌, ◌^◌, ◌<◌, ◌≤◌, List, length, Option, Some, None, true, refl, sym, ap, ◌∙◌, subst, arith, add-one, length-append, []}
 use Rattle.std.specs.Prelude.{bytes_eq, if◌then◌else◌, ◌∷◌}
 use Rattle.std.proofs.lemmas.Bool.{and_from}
 use Rattle.std.proofs.lemmas.Bool.Decides.{Decides-eqb, Decides-ltb}
 use Rattle.std.proofs.lemmas.Slice.Eq.{bytes_eq-Decides}
-use Rattle.rd_base.specs.Status.{is_running}
 use Rattle.rd_base.specs.Scheme.{scheme_of}
 use Rattle.rd_base.specs.declared.scheme.InputScheme.{InputScheme}
 use Rattle.rd_base.specs.declared.scheme.InputScheme.TheVariants as input
 use Rattle.rd_base.specs.declared.scheme.RegisterScheme.{RegisterScheme}
 use Rattle.rd_base.specs.declared.scheme.RegisterScheme.TheVariants as registers
 use Rattle.rd_base.specs.declared.digest.Digest32.{Digest32}
-use Rattle.rv_decode.specs.Reading.{reading_of}
-use Rattle.rv_decode.specs.declared.instr.Instr.{Instr}
 use Rattle.digest_core.specs.Chain.{chain_of}
 use Rattle.digest_core.specs.Text.{status_code}
-use Rattle.mem_plain.specs.Contents.{number_at}
 use Rattle.out_chain.specs.Soundness.{is_sound, says_sound, claim_check}
 use Rattle.out_chain.specs.declared.checking.ClaimCheck.TheVariants.{Sound, WrongLength, WrongChain}
 use Rattle.rv_step.specs.State.{State}
-use Rattle.rv_step.specs.Step.{step, state_at, after_word, after_effect, output_after}
+use Rattle.rv_step.specs.NextEffect.{seen_of, next_effect}
+use Rattle.rv_step.specs.Step.{step, state_at, after_next, output_after}
 use Rattle.rv_step.specs.Valid.{IsValid}
 use Rattle.rv_step.specs.declared.effect.Effect.{Effect}
 use Rattle.rv_step.specs.declared.effect.Effect.TheVariants.{Write, Jump, Branch, Next, Store, Put, Exit, Trap}
@@ -48,18 +45,13 @@ effect-adds xs (Put byte) = let longer = length-append xs (byte ∷ []) in omega
 effect-adds xs (Exit code) = omega arith
 effect-adds xs (Trap code) = omega arith
 
-word-adds : (s : State) (o : Option Instr) → length (after_word s o).output ≤ length s.output + 1
-word-adds s (Some i) = effect-adds s.output _
-word-adds s None = omega arith
+next-adds : (s : State) (next : Option Effect) → length (after_next s next).output ≤ length s.output + 1
+next-adds s (Some e) = effect-adds s.output e
+next-adds s None = omega arith
 
 step-adds : (s : State) → length (step s).output ≤ length s.output + 1
 unfolding step
-step-adds s = go (is_running s.status) (eqb (s.pc % 4) 0)
-  where
-    go : (r b : Bool) → length (cond r (cond b (after_word s (reading_of (number_at s.memory s.pc 4))) (after_effect s (Trap 0))) s).output ≤ length s.output + 1
-    go true true = word-adds s (reading_of (number_at s.memory s.pc 4))
-    go true false = omega arith
-    go false b = omega arith
+step-adds s = next-adds s (next_effect (seen_of s))
 
 output-at : (s : State) (i : ℕ) → length (state_at s i).output ≤ length s.output + i
 output-at s zero = omega arith

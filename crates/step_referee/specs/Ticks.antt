@@ -1,20 +1,15 @@
 -- To believe, for how often the counter ticks: how many digests a proof takes to open, condition by condition, and its step to make.
-use Rattle.std.specs.Prelude.{◌≡◌, ◌⊎◌, ℕ, ◌+◌, ◌*◌, ◌%◌, ◌==◌, List, [], ◌∷◌, slice_index, Option, Some, None, if◌then◌else◌}
-use Rattle.rd_base.specs.Status.{is_running}
+use Rattle.std.specs.Prelude.{◌≡◌, ◌⊎◌, ℕ, ◌+◌, ◌*◌, ◌==◌, List, [], ◌∷◌, slice_index, Option, Some, None, if◌then◌else◌}
 use Rattle.rd_base.specs.declared.opened.Opening.{Opening}
 use Rattle.rd_base.specs.declared.opened.RegOpening.{RegOpening}
 use Rattle.rd_base.specs.declared.proof.Proof.{Proof}
 use Rattle.rd_base.specs.declared.proof.Proof.TheVariants.{V1, V2, V3}
-use Rattle.rv_decode.specs.Reading.{reading_of}
-use Rattle.rv_decode.specs.declared.instr.Instr.{Instr}
-use Rattle.rv_step.specs.Effect.{effect_with}
+use Rattle.rv_step.specs.NextEffect.{next_effect}
 use Rattle.rv_step.specs.declared.effect.Effect.{Effect}
 use Rattle.rv_step.specs.declared.effect.Effect.TheVariants.{Store, Put}
-use Rattle.rv_step.specs.Fetching.{number_shown}
-use Rattle.open_proof.specs.Held.{Held}
 use Rattle.open_proof.specs.Conditions.{Condition}
-use Rattle.open_proof.specs.Facts.{named_called, file_of_facts, offer_shown}
-use Rattle.open_proof.specs.Next.{held_shown, held_next}
+use Rattle.open_proof.specs.Facts.{named_called, file_of_facts}
+use Rattle.open_proof.specs.Next.{seen_held, held_shown, held_next}
 use Rattle.open_proof.specs.Openings.{fetch_ways, named_ways, operand_ways, read_ways}
 use Rattle.open_proof.specs.Ways.{ways_digests}
 use Rattle.open_proof.specs.declared.facts.Facts.{Facts}
@@ -32,18 +27,10 @@ digests_of_effect operand (Store addr width value) = 28 * chunk_count operand
 digests_of_effect operand (Put byte) = 1
 digests_of_effect operand e = 0
 
-abbrev pub digests_of_word : Option Opening → Option (ℕ → ℕ) → Held → Option Instr → ℕ
-digests_of_word operand offer p (Some i) = digests_of_effect operand (effect_with offer p.regs p.ctl.pc (number_shown operand) i)
-digests_of_word operand offer p None = 0
-
--- the digests of the step on what is held, from what is opened
-unfoldable pub digests_on : Option Opening → Option Opening → Option (ℕ → ℕ) → Held → ℕ
-digests_on fetch operand offer p =
-    if is_running p.ctl.status
-    then (if p.ctl.pc % 4 == 0
-    then digests_of_word operand offer p (reading_of (number_shown fetch p.ctl.pc 4))
-    else 0)
-    else 0
+-- those of the effect of a step, if it has one
+abbrev pub digests_by : Option Opening → Option Effect → ℕ
+digests_by operand (Some e) = digests_of_effect operand e
+digests_by operand None = 0
 
 -- one digest for the storage string, and one for the registers string; a root that a proof holds takes none
 abbrev pub storage_digests : Option HeldInput → ℕ
@@ -98,7 +85,7 @@ TicksUntil cs ns more old new = ⊥
 -- the digests of the step, what it has changed of the registers, and the strings of the parts after it
 abbrev pub next_digests : (List ℕ → List ℕ) → Facts → ℕ
 next_digests digest facts =
-    digests_on facts.fetch facts.operand (offer_shown facts.input_tree facts.input) (held_shown facts)
+    digests_by facts.operand (next_effect (seen_held facts.fetch facts.operand facts.input_tree facts.input (held_shown facts)))
     + registers_changed_digests (named_called facts) facts.regs (file_of_facts facts) (held_next digest facts).regs
     + storage_digests facts.input_tree + 2
 

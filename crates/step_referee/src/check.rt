@@ -1,5 +1,5 @@
 //! The check of one proof: which of its conditions fails first, or to which root it leads. Each digest is counted.
-ghost use Rattle.std.specs.Prelude.{◌≡◌, ◌↔◌, ◌+◌, ◌≤◌, bytes_eq, false, is_some};
+ghost use Rattle.std.specs.Prelude.{◌≡◌, ◌↔◌, ◌⊎◌, ◌+◌, ◌≤◌, ℕ, List, bytes_eq, false, is_some};
 ghost use Rattle.rd_base.specs.declared.digest.Digest32.{Digest32};
 ghost use Rattle.open_proof.specs.Conditions.{FirstFails, LeadsFrom, conditions};
 ghost use Rattle.open_proof.specs.Conditions.Refusal.{opening, shape};
@@ -11,19 +11,24 @@ ghost use Rattle.step_referee.specs.Tests.{checked, checked_ticks};
 ghost use Rattle.step_referee.specs.Ticks.{TicksUntil, condition_digests, step_ticks, most_alone, most_ticks, opening_digests, registers_changed_digests, registers_digests, storage_digests, ticks_of};
 ghost use Rattle.out_chain.specs.Root as roots;
 ghost use Rattle.rv_step.specs.Named.{AreRegisters};
+ghost use Rattle.rv_step.specs.State.{State};
+ghost use Rattle.rv_step.specs.Step.{step};
+ghost use Rattle.rv_step.specs.Valid.{IsValid};
+ghost use Rattle.state_commit.specs.StateRoot.{root_in};
+ghost use Rattle.open_proof.specs.StateCollision.{IsStateCollision};
 
 mod carrying;
 mod laws;
 
-use crate::check::carrying::{Parts, step_on};
+use crate::check::carrying::{ShownState, step_on};
 use digest_core::{Counted, Digester, control_text, registers_text, state_text, storage_text};
 pub use laws::leading_is_decided;
 use open_proof::{
-    Facts, HeldInput, HeldRegisters, called_by, changed_register, facts_of, file_shown, root_after,
-    ways_climb, ways_of,
+    Called, Facts, HeldInput, HeldRegisters, called_by, changed_register, facts_of,
+    proofs_are_in_range, proofs_lead_to_the_next_state, root_after, ways_climb, ways_of,
 };
 use rd_base::{Ctl, Digest32, Proof, Regs, Steps, same_digest};
-use rv_step::{fetch_address, names_are_registers};
+use rv_step::names_are_registers;
 use std::sync::ledger::Ledger;
 
 /// The result of the check of a proof of one step.
@@ -60,25 +65,23 @@ fn parts_open<C: Counted, L: Ledger>(
     same_digest(a, &root_before(c, facts, steps))
 }
 
-/// The root that a proof's parts make after the step, by the registers that the instruction names.
+/// The root that a proof's parts make after the step, by the registers that the instruction names and the register file that is shown.
 fn root_next<C: Counted, L: Ledger>(
     c: C,
     facts: &Facts,
-    names: &[u8],
+    called: &Called,
     steps: &mut Steps<L>,
 ) -> Digest32
-    requires { names.now ≡ facts_of_proof.named_called facts.now }
+    requires names { called.now.names ≡ facts_of_proof.named_called facts.now }
+    requires file { called.now.file ≡ facts_of_proof.file_of_facts facts.now }
     ensures digest { result.0 ≡ next.root_next C.digest_of facts.now }
     ensures steps { steps.new ≡ steps.old + step_ticks C.digest_of facts.now }
 {
     names_are_registers();
-    let parts = Parts {
-        mem: facts.mem,
-        regs: file_shown(names, &facts.regs),
-        ctl: facts.ctl,
-    };
-    let after = step_on(c, parts, facts, steps);
-    let regs = registers_changed(c, names, &facts.regs, &after.regs, steps);
+    let names = called.names.as_slice();
+    let regs = called.file;
+    let after = step_on(c, &ShownState { facts, regs }, steps);
+    let regs = registers_changed(c, names, &facts.regs, &called.file, &after.regs, steps);
     let storage = storage_held(c, &facts.input_tree, &after.mem, steps);
     root_of(c, &storage, &regs, &after.ctl, steps)
 }
@@ -122,7 +125,7 @@ fn check_facts<C: Counted, L: Ledger>(
     if facts.version != version {
         return StepCheck::WrongShape;
     }
-    if !is_called(&facts.fetch, fetch_address(&facts.ctl)) {
+    if !is_called(&facts.fetch, called.fetch) {
         return StepCheck::WrongShape;
     }
     if !parts_open(c, &a, facts, steps) {
@@ -149,7 +152,7 @@ fn check_facts<C: Counted, L: Ledger>(
     if !ways_climb(c, &ways[5..6], steps) {
         return StepCheck::NotOpen;
     }
-    StepCheck::Leads(root_next(c, facts, names, steps))
+    StepCheck::Leads(root_next(c, facts, &called, steps))
 }
 
 /// The root to which a proof leads from the root `a`, for a referee of a version: `Leads` if and only if its conditions hold, and then to
@@ -161,6 +164,9 @@ fn check_facts<C: Counted, L: Ledger>(
 /// `NotOpen` if one of them doesn't open the root of the registers; `WrongShape` if the data chunk is left out though the instruction
 /// calls for it, or there though it doesn't; `NotOpen` if that doesn't open the root of memory; and the same for the chunk of the input
 /// (`not_open`, `wrong_shape`).
+///
+/// For every state with the root `a`, `Leads(b)` means that `b` is the root of the state after it, or that a string opened in the proof
+/// and a different string of the state have one digest (`next`).
 ///
 /// `steps` ticks once for each digest that the answer depends on (by their type the functions that it calls make none of `d` without a
 /// counter, `Counted`), and once for the step of the machine: at most 91, 101 or 103 times, by the version (`few`), and at most 36, 57 or
@@ -182,7 +188,11 @@ pub fn check_step<D: Digester, L: Ledger>(
         (step_ticks D.digest_of (facts_of_proof.facts_of proof.now)) steps.old steps.new }
     ensures few { steps.new ≤ steps.old + most_ticks proof.now }
     ensures alone { is_some (facts_of_proof.facts_of proof.now).operand ≡ false → steps.new ≤ steps.old + most_alone proof.now }
+    ensures next { (s : State) (b : Digest32) → IsValid s → s.version ≡ version → a.0 ≡ root_in D.digest_of version s → result ≡ StepCheck.Leads b →
+        (b.0 ≡ root_in D.digest_of version (step s)) ⊎ ((pair : List ℕ × List ℕ) × IsStateCollision D.digest_of (facts_of_proof.facts_of proof.now) s pair) }
 {
+    proofs_lead_to_the_next_state();
+    proofs_are_in_range(proof);
     let facts = facts_of(proof);
     check_facts(d, version, a, &facts, steps)
 }
@@ -225,18 +235,18 @@ fn registers_changed<C: Counted, L: Ledger>(
     c: C,
     names: &[u8],
     regs: &HeldRegisters,
+    before: &Regs,
     after: &Regs,
     steps: &mut Steps<L>,
 ) -> Digest32
     requires { AreRegisters names.now }
-    ensures digest { result.0 ≡ next.registers_changed C.digest_of names.now regs.now (facts_of_proof.file_shown names.now regs.now) after.now }
-    ensures steps { steps.new ≡ steps.old + registers_changed_digests names.now regs.now (facts_of_proof.file_shown names.now regs.now) after.now }
+    ensures digest { result.0 ≡ next.registers_changed C.digest_of names.now regs.now before.now after.now }
+    ensures steps { steps.new ≡ steps.old + registers_changed_digests names.now regs.now before.now after.now }
 {
     match regs {
         HeldRegisters::Whole(_regs) => c.digest(&registers_text(after), steps),
         HeldRegisters::Opened(root, named) => {
-            let before = file_shown(names, regs);
-            let changed = changed_register(*root, names, named.as_slice(), &before, after);
+            let changed = changed_register(*root, names, named.as_slice(), before, after);
             root_after(c, *root, &changed, steps)
         }
     }

@@ -1,24 +1,20 @@
-//! The step on the parts that a proof opens.
-ghost use Rattle.std.specs.Prelude.{◌≡◌, ◌+◌, ◌*◌, ◌%◌, ◌≤◌, ℕ, List, Option, None};
-ghost use Rattle.rd_base.specs.declared.opened.Opening.{Opening};
-ghost use Rattle.rv_step.specs.Effect.{effect_with};
-ghost use Rattle.rv_step.specs.Parts.{finished};
-ghost use Rattle.rv_step.specs.declared.effect.Effect.TheVariants as effects;
-ghost use Rattle.rv_step.specs.Fetching.{number_shown as shown};
+//! The step on the opened parts of a proof: the machine's own `next_effect` and `apply`, over what the proof shows. Only a store and a
+//! byte of output are carried out otherwise than by the machine: a store climbs to the root of memory again, and a byte makes a digest.
+ghost use Rattle.std.specs.Prelude.{◌≡◌, ◌+◌, ◌%◌, ℕ, List};
+ghost use Rattle.rv_step.specs.NextEffect.{next_effect as effect_seen};
+ghost use Rattle.rv_step.specs.Naming.{NamesRegister};
+ghost use Rattle.rv_step.specs.Step.{pc_after, regs_after, status_after};
+ghost use Rattle.rv_step.specs.Stores.{StoresAligned};
 ghost use Rattle.open_proof.specs.Held.{held_after};
 ghost use Rattle.open_proof.specs.Facts as facts_of_proof;
-ghost use Rattle.open_proof.specs.Next.{step_held};
-ghost use Rattle.step_referee.specs.HeldParts.{held_in, links_of_effect};
-ghost use Rattle.step_referee.specs.Ticks.{digests_of_effect, digests_on};
+ghost use Rattle.open_proof.specs.Next.{held_by};
+ghost use Rattle.step_referee.specs.HeldParts.{held_in, held_with, seen_shown};
+ghost use Rattle.step_referee.specs.Ticks.{digests_by, digests_of_effect};
 
 use digest_core::{Counted, link_text};
 use open_proof::{Facts, HeldInput, changed_chunk, offering, root_after};
-use rd_base::{Ctl, Digest32, InOpening, Regs, Status, Steps};
-use rv_decode::{Instr, decode};
-use rv_step::{
-    ILLEGAL_INSTRUCTION, MISALIGNED_JUMP, Need, Outcome, finish, need_by, number_shown,
-    two_parts_are_the_step,
-};
+use rd_base::{Ctl, Digest32, InOpening, InputScheme, Opening, Regs, Status, Steps};
+use rv_step::{Effect, StateAccess, apply, next_effect, number_shown};
 use std::sync::ledger::Ledger;
 
 /// What a proof holds of a state: the root of memory, the registers as far as they are shown, and the control fields.
@@ -29,49 +25,13 @@ pub(crate) struct Parts {
     pub ctl: Ctl,
 }
 
-/// The parts after a trap with this code.
-fn trapped(parts: Parts, code: u32) -> Parts
-    ensures { (digest : List ℕ → List ℕ) (operand : Option Opening) →
-        held_in result ≡ held_after digest operand (held_in parts) (effects.Trap code) }
-{
-    let mut ctl = parts.ctl;
-    ctl.status = Status::Trapped(code);
-    Parts {
-        mem: parts.mem,
-        regs: parts.regs,
-        ctl,
-    }
-}
-
-/// Finishes an instruction for which memory has been read and written, with the number that was read. A byte that is put
-/// costs one digest.
-fn finish_on<C: Counted, L: Ledger>(
-    c: C,
-    parts: Parts,
-    instr: &Instr,
-    loaded: u32,
-    steps: &mut Steps<L>,
-) -> Parts
-    ensures held { held_in result ≡ held_after C.digest_of None (held_in parts)
-        (finished parts.regs parts.ctl.pc loaded instr.now) }
-    ensures steps { steps.new ≡ steps.old + links_of_effect (finished parts.regs parts.ctl.pc loaded instr.now) }
-{
-    let mut regs = parts.regs;
-    let mut ctl = parts.ctl;
-    match finish(&mut regs, &mut ctl.pc, instr, loaded) {
-        Outcome::Next => {}
-        Outcome::Put(byte) => {
-            ctl.out_len = ctl.out_len.wrapping_add(1);
-            ctl.chain = c.digest(&link_text(&ctl.chain, byte), steps);
-        }
-        Outcome::Exit(code) => ctl.status = Status::Exited(code),
-        Outcome::Trap(code) => ctl.status = Status::Trapped(code),
-    }
-    Parts {
-        mem: parts.mem,
-        regs,
-        ctl,
-    }
+/// A state as far as a proof shows it. It answers to a step as a machine does: where a chunk isn't shown it reads 0.
+#[derive(Drop)]
+pub(crate) struct ShownState<'a> {
+    /// What the proof holds.
+    pub facts: &'a Facts,
+    /// The register file that the proof shows.
+    pub regs: Regs,
 }
 
 /// A byte of the opened chunk of the input, and 0 if none is there.
@@ -100,66 +60,101 @@ fn byte_shown(tree: &Option<HeldInput>, input: &Option<InOpening>, k: u32) -> u3
     }
 }
 
-/// Carries an instruction out, with the chunk of memory that it reads or writes and the chunk of the input that it reads a byte of, as
-/// a proof opens them.
-fn carry_out<C: Counted, L: Ledger>(
-    c: C,
-    parts: Parts,
-    instr: &Instr,
-    facts: &Facts,
-    steps: &mut Steps<L>,
-) -> Parts
-    ensures held { held_in result ≡ held_after C.digest_of facts.now.operand (held_in parts)
-        (effect_with (facts_of_proof.offer_shown facts.now.input_tree facts.now.input) parts.regs parts.ctl.pc (shown facts.now.operand) instr.now) }
-    ensures steps { steps.new ≡ steps.old
-        + digests_of_effect facts.now.operand (effect_with (facts_of_proof.offer_shown facts.now.input_tree facts.now.input) parts.regs parts.ctl.pc (shown facts.now.operand) instr.now) }
-{
-    two_parts_are_the_step();
-    match need_by(offering(&facts.input_tree), &parts.regs, instr) {
-        Need::Nothing => finish_on(c, parts, instr, 0, steps),
-        Need::Load { addr, width } => {
-            let loaded = number_shown(&facts.operand, addr, width);
-            finish_on(c, parts, instr, loaded, steps)
-        }
-        Need::Store { addr, width, value } => {
-            let changed = changed_chunk(parts.mem, &facts.operand, addr, width, value);
-            let mem = root_after(c, parts.mem, &changed, steps);
-            let after = Parts {
-                mem,
-                regs: parts.regs,
-                ctl: parts.ctl,
-            };
-            finish_on(c, after, instr, 0, steps)
-        }
-        Need::Input { index } => {
-            let loaded = byte_shown(&facts.input_tree, &facts.input, index);
-            finish_on(c, parts, instr, loaded, steps)
-        }
-        Need::Trap(code) => trapped(parts, code),
+impl<'a> StateAccess for ShownState<'a> {
+    ghost seen = { λ s. seen_shown s.facts.now s.regs };
+
+    fn status(&self) -> Status {
+        self.facts.ctl.status
+    }
+
+    fn pc(&self) -> u32 {
+        self.facts.ctl.pc
+    }
+
+    fn registers(&self) -> &Regs {
+        &self.regs
+    }
+
+    fn input_scheme(&self) -> InputScheme {
+        offering(&self.facts.input_tree)
+    }
+
+    fn fetch(&self, addr: u32) -> u32 {
+        number_shown(&self.facts.fetch, addr, 4)
+    }
+
+    fn load(&self, addr: u32, width: u8) -> u32 {
+        number_shown(&self.facts.operand, addr, width)
+    }
+
+    fn input_byte(&self, index: u32) -> u32 {
+        byte_shown(&self.facts.input_tree, &self.facts.input, index)
     }
 }
 
-/// The step, from the chunks that a proof opens: the one with the word at `pc`, the one that the instruction reads or writes, and the
-/// one of the input that it reads a byte of. It ticks once for the step, and for its digests.
-#[tactic(auto, unfolding(open_proof::specs::Next::step_held, crate::specs::Ticks::digests_on))]
-pub(crate) fn step_on<C: Counted, L: Ledger>(
+/// The parts with what an effect changes of registers, `pc` and status.
+fn applied(parts: Parts, effect: &Effect) -> Parts
+    requires { NamesRegister effect.now }
+    ensures { result ≡ record {
+      mem = parts.mem;
+      regs = regs_after parts.regs parts.ctl.pc effect.now;
+      ctl = record parts.ctl { pc = pc_after parts.ctl.pc effect.now; status = status_after parts.ctl.status effect.now };
+    } }
+{
+    let mut parts = parts;
+    apply(&mut parts.regs, &mut parts.ctl, effect);
+    parts
+}
+
+/// The parts after an effect, with the chunk of memory that it stores to if it stores. A store takes the 28 digests from that chunk to
+/// the root of memory, and a byte of output takes one.
+fn carry_out<C: Counted, L: Ledger>(
     c: C,
     parts: Parts,
-    facts: &Facts,
+    effect: &Effect,
+    operand: &Option<Opening>,
     steps: &mut Steps<L>,
 ) -> Parts
-    ensures held { held_in result ≡ step_held C.digest_of facts.now.fetch facts.now.operand (facts_of_proof.offer_shown facts.now.input_tree facts.now.input) (held_in parts) }
-    ensures steps { steps.new ≡ steps.old + 1 + digests_on facts.now.fetch facts.now.operand (facts_of_proof.offer_shown facts.now.input_tree facts.now.input) (held_in parts) }
+    requires register { NamesRegister effect.now }
+    requires aligned { StoresAligned effect.now }
+    ensures held { held_in result ≡ held_after C.digest_of operand.now (held_in parts) effect.now }
+    ensures steps { steps.new ≡ steps.old + digests_of_effect operand.now effect.now }
+{
+    match effect {
+        Effect::Store { addr, width, value } => {
+            let changed = changed_chunk(parts.mem, operand, *addr, *width, *value);
+            let mem = root_after(c, parts.mem, &changed, steps);
+            applied(Parts { mem, ..parts }, effect)
+        }
+        Effect::Put(byte) => {
+            let mut ctl = parts.ctl;
+            ctl.out_len = ctl.out_len.wrapping_add(1);
+            ctl.chain = c.digest(&link_text(&ctl.chain, *byte), steps);
+            applied(Parts { ctl, ..parts }, effect)
+        }
+        _ => applied(parts, effect),
+    }
+}
+
+/// The step, from what a proof shows: the effect that the machine's own step has, carried out on the parts. It ticks once for the step, and
+/// once for each of its digests.
+pub(crate) fn step_on<C: Counted, L: Ledger>(
+    c: C,
+    state: &ShownState<'_>,
+    steps: &mut Steps<L>,
+) -> Parts
+    ensures held { held_in result ≡ held_by C.digest_of state.now.facts.now.operand (held_with state.now.facts.now state.now.regs)
+        (effect_seen (seen_shown state.now.facts.now state.now.regs)) }
+    ensures steps { steps.new ≡ steps.old + 1 + digests_by state.now.facts.now.operand (effect_seen (seen_shown state.now.facts.now state.now.regs)) }
 {
     steps.tick();
-    if !parts.ctl.status.is_running() {
-        return parts;
-    }
-    if parts.ctl.pc % 4 != 0 {
-        return trapped(parts, MISALIGNED_JUMP);
-    }
-    match decode(number_shown(&facts.fetch, parts.ctl.pc, 4)) {
-        Some(instr) => carry_out(c, parts, &instr, facts, steps),
-        None => trapped(parts, ILLEGAL_INSTRUCTION),
+    let parts = Parts {
+        mem: state.facts.mem,
+        regs: state.regs,
+        ctl: state.facts.ctl,
+    };
+    match next_effect(state) {
+        Some(effect) => carry_out(c, parts, &effect, &state.facts.operand, steps),
+        None => parts,
     }
 }

@@ -1,10 +1,13 @@
-use Rattle.std.proofs.Common.{◌≡◌, ◌↔◌, ℕ, ◌+◌, ◌≤◌, List, sym, ap, subst, ◌∙◌}
+use Rattle.std.proofs.Common.{◌≡◌, ◌⊎◌, ◌↔◌, ℕ, ◌+◌, ◌≤◌, List, sym, ap, subst, ◌∙◌}
 use Rattle.rd_base.specs.declared.digest.Digest32.{Digest32}
 use Rattle.rd_base.specs.declared.proof.Proof.{Proof}
 use Rattle.open_proof.specs.Conditions.{AllHold, FirstFails, LeadsFrom, conditions}
 use Rattle.open_proof.specs.Conditions.Refusal.{opening, shape}
 use Rattle.open_proof.specs.Facts.{facts_of}
 use Rattle.open_proof.specs.declared.facts.Facts.{Facts}
+use Rattle.open_proof.specs.StateCollision.{IsStateCollision}
+use Rattle.rv_step.specs.Step.{step}
+use Rattle.state_commit.specs.StateRoot.{root_in}
 use Rattle.step_referee.specs.Tests.{checked, checked_ticks}
 use Rattle.step_referee.specs.Ticks.{TicksUntil, condition_digests, opening_digests, step_ticks, ticks_of}
 use Rattle.step_referee.specs.declared.check.StepCheck.{StepCheck}
@@ -74,3 +77,13 @@ returns-clause-alone g c =
     (both digest c.args.version c.args.a c.args.proof.now c.facts_of-facts.result c.check_facts.result old new same c.check_facts.ensures.value c.check_facts.ensures.exactly c.check_facts.ensures.not_open c.check_facts.ensures.wrong_shape)
     (λ is. subst (λ (f : Facts). new ≤ old + opening_digests f) same (c.check_facts.ensures.not_open is))
     (λ is. subst (λ (f : Facts). new ≤ old + opening_digests f) same (c.check_facts.ensures.wrong_shape is))).1
+
+pub returns-clause-next : goal.returns-clause-next
+returns-clause-next g c = λ s b valid version root leads.
+    let digest = g.D.Digester.digest_of in
+    let proof = c.args.proof.now in
+    let value = c.check_facts.ensures.value ∙ ap (checked digest c.args.version c.args.a) c.facts_of-facts.ensures in
+    let holds = (checked-leads digest c.args.version c.args.a (facts_of proof) b).0 (sym value ∙ leads) in
+    let led = c.proofs_lead_to_the_next_state.ensures digest g.met.D.Digester.is_digest proof s c.args.a b c.proofs_are_in_range.ensures valid
+    (root ∙ ap (λ v. root_in digest v s) (sym version)) (subst (λ v. LeadsFrom digest v c.args.a (facts_of proof) b) (sym version) holds) in
+    subst (λ v. (b.0 ≡ root_in digest v (step s)) ⊎ ((pair : List ℕ × List ℕ) × IsStateCollision digest (facts_of proof) s pair)) version led
