@@ -1,15 +1,11 @@
 -- A run puts out one byte a step at most.
 use Rattle.std.proofs.Common.{◌≡◌, ℕ, zero, suc, ◌+◌, ◌≤◌, ◌%◌, List, [], ◌∷◌, length, Bool, true, false, Option, Some, None, refl, ap, arith, length-append}
 use Rattle.std.specs.Prelude.{◌==◌, nat_lt, if◌then◌else◌}
-use Rattle.rd_base.specs.Status.{is_running}
 use Rattle.rd_base.specs.declared.tamper.Tamper.{Tamper}
 use Rattle.rd_base.specs.declared.tamper.Tamper.TheVariants.{Untouched, Flip, Register, Early}
-use Rattle.rv_decode.specs.Reading.{reading_of}
-use Rattle.rv_decode.specs.declared.instr.Instr.{Instr}
-use Rattle.mem_plain.specs.Contents.{number_at}
 use Rattle.rv_step.specs.State.{State}
-use Rattle.rv_step.specs.Codes.{misaligned_jump, illegal_instruction}
-use Rattle.rv_step.specs.Step.{step, effect_at, output_after, after_effect, after_word}
+use Rattle.rv_step.specs.NextEffect.{seen_of, next_effect}
+use Rattle.rv_step.specs.Step.{step, output_after, after_next}
 use Rattle.rv_step.specs.declared.effect.Effect.{Effect}
 use Rattle.rv_step.specs.declared.effect.Effect.TheVariants.{Write, Jump, Branch, Store, Put, Exit, Trap, Next}
 use Rattle.checkpoint_run.specs.TamperedRun.{tampered, followed, flipped, with_value, run_from}
@@ -25,19 +21,13 @@ effect_grows output (Exit code) = omega arith
 effect_grows output (Trap code) = omega arith
 effect_grows output Next = omega arith
 
-word_grows : (s : State) (o : Option Instr) → length (after_word s o).output ≤ length s.output + 1
-word_grows s (Some i) = effect_grows s.output (effect_at s i)
-word_grows s None = effect_grows s.output (Trap illegal_instruction)
-
-tests_grow : (s : State) (running aligned : Bool) (o : Option Instr)
-    → length (if running then (if aligned then after_word s o else after_effect s (Trap misaligned_jump)) else s).output ≤ length s.output + 1
-tests_grow s true true o = word_grows s o
-tests_grow s true false o = effect_grows s.output (Trap misaligned_jump)
-tests_grow s false aligned o = omega arith
+next_grows : (s : State) (next : Option Effect) → length (after_next s next).output ≤ length s.output + 1
+next_grows s (Some e) = effect_grows s.output e
+next_grows s None = omega arith
 
 step_grows : (s : State) → length (step s).output ≤ length s.output + 1
 unfolding step
-step_grows s = tests_grow s (is_running s.status) (s.pc % 4 == 0) (reading_of (number_at s.memory s.pc 4))
+step_grows s = next_grows s (next_effect (seen_of s))
 
 followed_grows : (t : Tamper) (i : ℕ) (s : State) → length (followed t i s).output ≤ length s.output + 1
 followed_grows Untouched i s = step_grows s
