@@ -2,7 +2,6 @@ pub use Rattle.rd_base.specs.Status
 pub use Rattle.hex.specs.Hex
 pub use Rattle.proof_wire.specs.Wire
 pub use Rattle.proof_wire.specs.Reading
-pub mod Digest
 pub mod Limits
 pub mod MoveLists
 pub mod StatedVerdict
@@ -13,4 +12,5 @@ pub mod Report
 pub mod FullLines
 pub mod Summary
 pub mod Roots
+pub mod TaskParts
 pub mod reader

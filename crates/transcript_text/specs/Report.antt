@@ -9,7 +9,7 @@ use Rattle.tournament.specs.declared.reading.Verdict.{Verdict}
 use Rattle.tournament.specs.Bracket.{Record}
 use Rattle.transcript_text.specs.Words.{word_text}
 use Rattle.transcript_text.specs.Lines.{Said, Parted, Line, claim_line, out_line, stage_line, dispute_line, compared_line, round_line, kept_line, parts_line, step_line, balance_line, pool_line, accept_line, none_left_line, collision_line, lines_of_record, lines_of_balances, line_of_verdict}
-use Rattle.transcript_text.specs.Digest.{digest_text}
+use Rattle.digest_core.specs.Name.{digest_text}
 use Rattle.transcript_text.specs.declared.text.Head.{Head}
 
 -- a space and the bytes, if there are any

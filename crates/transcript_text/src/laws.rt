@@ -1,6 +1,7 @@
 //! Laws of the texts and of reading them, each the contract of a function that does nothing.
 ghost use Rattle.std.specs.Prelude.{◌≡◌, ℕ, List, Err};
 ghost use Rattle.transcript_text.specs.StatedVerdict.{VerdictsAreStated};
+ghost use Rattle.transcript_text.specs.TaskParts.{TextsAreTaskParts};
 ghost use Rattle.transcript_text.specs.Laws.{NothingIsSaidAgainstTheTruthful, FullTextIsThatOfItsParts};
 ghost use Rattle.transcript_text.specs.reader.Laws.{ReadsExactly, AlikeIsEqual, StatedVerdictsAreOneLine, ReadVerdictsAreOneLine, ReadsRecordsBack, MatchesAreReadBack};
 ghost use Rattle.transcript_text.specs.reader.ReadText.{read_text};
@@ -18,6 +19,13 @@ pub fn nothing_is_said_against_the_truthful()
 /// The full text of a record is that of its head, its moves and what is stated of the verdict.
 pub fn a_full_text_is_that_of_its_parts()
     ensures { FullTextIsThatOfItsParts }
+{}
+
+/// Each report and each full text ends its last line, and none of its lines begins with `task `: so texts that stand one below the other,
+/// each under a line `task K`, can be told apart.
+#[tactic(auto, using(crate::proofs::TaskPartLemmas::texts_are_task_parts))]
+pub fn texts_are_task_parts()
+    ensures { TextsAreTaskParts }
 {}
 
 /// Each verdict of a record is stated: an accepted claim is one that was given.

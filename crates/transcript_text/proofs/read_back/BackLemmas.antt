@@ -11,9 +11,9 @@ use Rattle.bisect_game.specs.declared.settled.Settled.{Settled}
 use Rattle.bisect_game.specs.declared.settled.Settled.TheVariants.{Given, Faulty, Spent}
 use Rattle.proof_wire.specs.Wire.{wire_form, Spells}
 use Rattle.proof_wire.specs.Reading.{answer_in}
-use Rattle.transcript_text.specs.Digest.{digest_text}
-use Rattle.transcript_text.specs.declared.text.DigestName.{DigestName}
-use Rattle.transcript_text.specs.declared.text.DigestName.TheVariants.{Sha256, Weak8}
+use Rattle.digest_core.specs.Name.{digest_text}
+use Rattle.digest_core.specs.declared.name.DigestName.{DigestName}
+use Rattle.digest_core.specs.declared.name.DigestName.TheVariants.{Sha256, Weak8}
 use Rattle.transcript_text.specs.Report.{played_text, patience_text, committed_text, output_text, answer_text as status_and_output, line_text}
 use Rattle.transcript_text.specs.declared.text.Head.{Head}
 use Rattle.transcript_text.specs.declared.text.TextMove.{TextMove}

@@ -7,8 +7,8 @@ use Rattle.std.proofs.lemmas.Slice.Eq.{bytes_eq-Decides}
 use Rattle.std.proofs.lemmas.Bool.{and_parts}
 use Rattle.hex.specs.Hex.{encode_lower}
 use Rattle.rd_base.specs.Status.{status_text}
-use Rattle.transcript_text.specs.Digest.{digest_text, digest_names}
-use Rattle.transcript_text.specs.declared.text.DigestName.{DigestName}
+use Rattle.digest_core.specs.Name.{digest_text, digest_names}
+use Rattle.digest_core.specs.declared.name.DigestName.{DigestName}
 use Rattle.transcript_text.specs.Report.{output_text}
 use Rattle.transcript_text.specs.declared.reader.fault.LineFault.{LineFault}
 use Rattle.transcript_text.specs.declared.reader.fault.LineFault.TheVariants.{NoForm}

@@ -6,8 +6,8 @@ use Rattle.rd_base.specs.declared.answer.Answer.{Answer}
 use Rattle.rd_base.specs.declared.digest.Digest32.{Digest32}
 use Rattle.rd_base.specs.Results.{◌>>=◌}
 use Rattle.proof_wire.specs.Reading.{answer_in}
-use Rattle.transcript_text.specs.declared.text.DigestName.{DigestName}
-use Rattle.transcript_text.specs.Digest.{digest_text, digest_names}
+use Rattle.digest_core.specs.declared.name.DigestName.{DigestName}
+use Rattle.digest_core.specs.Name.{digest_text, digest_names}
 use Rattle.transcript_text.specs.declared.reader.fault.LineFault.{LineFault}
 use Rattle.transcript_text.specs.declared.reader.fault.LineFault.TheVariants.{NoForm}
 

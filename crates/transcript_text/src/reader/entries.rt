@@ -10,8 +10,9 @@ use crate::reader::fields::{
     behind_word, cut_at, read_answer, read_digest, read_name, read_number_after, read_small_number,
     read_some_hex, skip_word,
 };
-use crate::text::{DigestName, Head, Stated, TextMove};
+use crate::text::{Head, Stated, TextMove};
 use bisect_game::Settled;
+use digest_core::DigestName;
 use rd_base::{Bytes, Digest32, MAX_TEXT_BYTES, OpenText, Qid, Status};
 use std::alloc::Global;
 

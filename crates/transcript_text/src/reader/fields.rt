@@ -6,7 +6,7 @@ ghost use Rattle.transcript_text.specs.reader.Fields.{behind_word, skip_word, di
 ghost use Rattle.transcript_text.specs.reader.TextLines.{cut_at};
 
 use crate::reader::fault::LineFault;
-use crate::text::DigestName;
+use digest_core::DigestName;
 use hex::FromHexError;
 use proof_wire::{WireFault, decode};
 use rd_base::{Answer, Digest32};
