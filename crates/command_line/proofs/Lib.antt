@@ -3,3 +3,4 @@ pub mod NumberLemmas
 pub mod OptionLemmas
 pub mod TakenLemmas
 pub mod BigLemmas
+pub mod PlainLemmas

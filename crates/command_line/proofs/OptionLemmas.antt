@@ -17,9 +17,9 @@ use Rattle.clap.specs.declared.builder.value_parser.ValueParser.TheVariants as v
 use Rattle.clap.specs.declared.parser.matches.ValueSource.TheVariants.{CommandLine, DefaultValue}
 use Rattle.clap.specs.declared.error.kind.ErrorKind.TheVariants.{ArgumentConflict, ValueValidation}
 use Rattle.clap.proofs.OnLiterals.{clap_on_literals}
-use Rattle.transcript_text.specs.Digest.{digest_text}
-use Rattle.transcript_text.specs.declared.text.DigestName.{DigestName}
-use Rattle.transcript_text.specs.declared.text.DigestName.TheVariants.{Sha256, Weak8}
+use Rattle.digest_core.specs.Name.{digest_text}
+use Rattle.digest_core.specs.declared.name.DigestName.{DigestName}
+use Rattle.digest_core.specs.declared.name.DigestName.TheVariants.{Sha256, Weak8}
 use Rattle.command_line.specs.Words.{judge_line, big_line, is_faultless}
 use Rattle.command_line.specs.Options.{OptionName, workers, posters, every, Given, number, full, digest, name_of, most_of, option_word, words_of, begins_with_digit, IsOfJudge, IsOfBig, is_fine, given_by, are_taken_after}
 use Rattle.command_line.proofs.NumberLemmas.{each_digit, unsigned}

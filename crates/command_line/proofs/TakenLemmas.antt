@@ -9,9 +9,10 @@ use Rattle.clap.specs.Simple.{App, Shape, built, names_of, entered}
 use Rattle.clap.specs.Faults.{fault_of, level_fault, entered_fault, walk_fault, settle_fault, default_fault, given_default_fault, defaults_fault, check_fault}
 use Rattle.clap.specs.Kinds.{Kinds, or_else}
 use Rattle.clap.proofs.OnLiterals.{clap_on_literals}
-use Rattle.transcript_text.specs.declared.text.DigestName.{DigestName}
-use Rattle.transcript_text.specs.declared.text.DigestName.TheVariants.{Sha256, Weak8}
-use Rattle.command_line.specs.Words.{command_line, is_taken, command_entered, command_in_words, chosen, match_text_in, digest_in, judge_in}
+use Rattle.digest_core.specs.Name.{digest_named}
+use Rattle.digest_core.specs.declared.name.DigestName.{DigestName}
+use Rattle.digest_core.specs.declared.name.DigestName.TheVariants.{Sha256, Weak8}
+use Rattle.command_line.specs.Words.{command_line, is_taken, command_entered, command_in_words, chosen, match_text_in, judge_in}
 use Rattle.command_line.specs.Options.{Given, number, full, digest, workers, posters, every, name_of, words_of, IsOfJudge, given_by, are_taken, text_asked, digest_or, digest_asked, judge_of}
 use Rattle.command_line.specs.declared.request.Command.TheVariants.{Judge}
 use Rattle.command_line.specs.declared.request.MatchText.{MatchText}
@@ -111,14 +112,14 @@ asks-full gs =
     by (Some (number every text)) named = absurd (cc (named _ refl))
     by (Some (digest name)) named = absurd (cc (named _ refl))
 
-asks-digest : (gs : List Given) → option_and_then digest_in (first_of (codes "digest") (fold with_default (map row_of gs) (rules false))) ≡ Some (digest_asked gs)
+asks-digest : (gs : List Given) → option_and_then digest_named (first_of (codes "digest") (fold with_default (map row_of gs) (rules false))) ≡ Some (digest_asked gs)
 unfolding clap_on_literals
 asks-digest gs =
-    ap (λ (found : Option Row). option_and_then digest_in (option_and_then (λ r. slice_get r.values 0) found)) (row-finished (codes "digest") (rules false) (map row_of gs) ∙ ap (defaulted (codes "digest") (rules false)) (row-given (codes "digest") gs))
+    ap (λ (found : Option Row). option_and_then digest_named (option_and_then (λ r. slice_get r.values 0) found)) (row-finished (codes "digest") (rules false) (map row_of gs) ∙ ap (defaulted (codes "digest") (rules false)) (row-given (codes "digest") gs))
     ∙ by (given_by (codes "digest") gs) (name-given (codes "digest") gs)
   where
     by : (found : Option Given) → ((g : Given) → found ≡ Some g → bytes_eq (name_of g) (codes "digest") ≡ true)
-        → option_and_then digest_in (option_and_then (λ r. slice_get r.values 0) (defaulted (codes "digest") (rules false) (option_map row_of found))) ≡ Some (digest_or found)
+        → option_and_then digest_named (option_and_then (λ r. slice_get r.values 0) (defaulted (codes "digest") (rules false) (option_map row_of found))) ≡ Some (digest_or found)
     by None named = refl
     by (Some (digest Sha256)) named = refl
     by (Some (digest Weak8)) named = refl

@@ -22,7 +22,7 @@ use Rattle.clap.specs.declared.parser.matches.ArgMatches.{ArgMatches}
 use Rattle.clap.proofs.OnLiterals.{clap_on_literals}
 use Rattle.command_line.specs.Words.{command_line, is_faultless, is_taken, command_in_words, command_entered, match_text_in, seed_in, chosen, rows_given, given_options, IsNumberOf}
 use Rattle.command_line.specs.Options.{help_words, plain_commands, is_refused}
-use Rattle.transcript_text.specs.declared.text.DigestName.TheVariants.{Sha256, Weak8}
+use Rattle.digest_core.specs.declared.name.DigestName.TheVariants.{Sha256, Weak8}
 use Rattle.command_line.specs.declared.request.MatchText.TheVariants.{Report, Full}
 use Rattle.command_line.specs.declared.request.Command.{Command}
 use Rattle.command_line.specs.declared.request.Command.TheVariants.{Judge, Run, Roots, Audit, Listing, Big}

@@ -12,16 +12,16 @@ use Rattle.clap.specs.Simple.{App, Shape, new_app, new_rule, new_shape, on_top, 
 use Rattle.clap.specs.Faults.{fault_of}
 use Rattle.clap.specs.declared.builder.action.ArgAction.TheVariants.{SetTrue}
 use Rattle.clap.specs.declared.builder.value_parser.ValueParser.TheVariants as vp
-use Rattle.transcript_text.specs.Digest.{digest_text, digest_names}
-use Rattle.transcript_text.specs.declared.text.DigestName.{DigestName}
+use Rattle.digest_core.specs.Name.{digest_named}
+use Rattle.digest_core.specs.declared.name.DigestName.{DigestName}
 use Rattle.command_line.specs.declared.request.MatchText.{MatchText}
 use Rattle.command_line.specs.declared.request.MatchText.TheVariants.{Report, Full}
 use Rattle.command_line.specs.declared.request.Command.{Command}
 use Rattle.command_line.specs.declared.request.Command.TheVariants.{Judge, Run, Roots, Audit, Listing, Big}
-use Rattle.command_line.specs.declared.request.Options.{Options}
+use Rattle.command_line.specs.declared.request.OptionNumbers.{OptionNumbers}
 
 -- arguments as their bytes
-abbrev pub texts : List (String Global) → List Text
+abbrev pub texts : List (String Global) → List (List ℕ)
 texts words = map string_bytes words
 
 abbrev pub with_required_subcommand : Shape → Shape
@@ -41,7 +41,7 @@ with_match_options app =
 abbrev pub full_option : Rule
 full_option = record (new_rule (codes "full")) { long = Some (codes "full"); action = Some SetTrue }
 
--- `--digest NAME`. The names are those of `digest_in`.
+-- `--digest NAME`. The names are those of `digest_named`.
 abbrev pub digest_option : Rule
 digest_option = record (new_rule (codes "digest")) { long = Some (codes "digest"); defaults = codes "sha256" ∷ [] }
 
@@ -68,7 +68,7 @@ abbrev pub is_faultless : Kinds → Bool
 is_faultless [] = true
 is_faultless (kind ∷ kinds) = false
 
--- arguments in which `clap` finds no fault, the first being the program's name. It is `clap`'s part alone: `digest_in` tests the name of
+-- arguments in which `clap` finds no fault, the first being the program's name. It is `clap`'s part alone: `digest_named` tests the name of
 -- `--digest`.
 unfoldable pub is_taken : List Text → Bool
 is_taken words = is_faultless (fault_of command_line words)
@@ -82,13 +82,9 @@ abbrev pub match_text_in : Option Text → MatchText
 match_text_in None = Report
 match_text_in (Some text) = if bytes_eq text (codes "true") then Full else Report
 
--- the digest of a name
-abbrev pub digest_in : Text → Option DigestName
-digest_in text = find (λ name. bytes_eq text (digest_text name)) digest_names
-
 -- `judge`, by what was given to it
 abbrev pub judge_in : List Row → Option Command
-judge_in rows = option_map (Judge (match_text_in (one_of (codes "full") rows))) (option_and_then digest_in (first_of (codes "digest") rows))
+judge_in rows = option_map (Judge (match_text_in (one_of (codes "full") rows))) (option_and_then digest_named (first_of (codes "digest") rows))
 
 -- the command of a name, by what was given to it
 abbrev pub command_of_name : Text → List Row → Option Command
@@ -125,13 +121,13 @@ IsNumberOf (Some text) default n = IsUnsignedIn 1 4294967295 text → n ≡ digi
 IsNumberOf None default n = n ≡ default
 
 -- the numbers of the options
-pub record AreGiven (rows : List Row) (options : Options) : Type 0 where
+pub record AreGiven (rows : List Row) (options : OptionNumbers) : Type 0 where
   pub workers : IsNumberOf (one_of (codes "workers") rows) 1 options.workers
   pub posters : IsNumberOf (one_of (codes "posters") rows) 1 options.posters
   pub every : IsNumberOf (one_of (codes "every") rows) 1024 options.every
 
--- each option is at least 1
-pub record AreAtLeastOne (options : Options) : Type 0 where
+-- each of them is at least 1
+pub record ArePositive (options : OptionNumbers) : Type 0 where
   pub workers : 0 < options.workers
   pub posters : 0 < options.posters
   pub every : 0 < options.every

@@ -1,9 +1,9 @@
 //! Which arguments name a command.
 ghost use Rattle.std.specs.Prelude.{◌≡◌, ◌≤◌, ℕ, List, [], ◌∷◌, ◌++◌, All, true, Some, None, codes, option_map, if◌then◌else◌};
 ghost use Rattle.std.specs.List.{list_all};
-ghost use Rattle.transcript_text.specs.declared.text.DigestName.TheVariants.{Sha256, Weak8};
+ghost use Rattle.digest_core.specs.declared.name.DigestName.TheVariants.{Sha256, Weak8};
 ghost use Rattle.command_line.specs.Words.{chosen, seed_in};
-ghost use Rattle.command_line.specs.Options.{Given, IsOfJudge, IsOfBig, begins_with_digit, words_of, are_taken, judge_of, help_words, plain_commands, is_refused};
+ghost use Rattle.command_line.specs.Options.{Given, IsOfJudge, IsOfBig, begins_with_digit, words_of, are_taken, judge_of, ArePlain, help_words, plain_commands, is_refused};
 
 use crate::request::{Command, MatchText};
 
@@ -87,3 +87,11 @@ pub fn options_are_taken()
     ensures big { (program seed : List ℕ) (given : List Given) → begins_with_digit seed ≡ true → All IsOfBig given →
         chosen (program ∷ codes "big" ∷ seed ∷ words_of given) ≡ (if are_taken given then option_map Command.Big (seed_in seed) else None) }
 {}
+
+/// Options of `judge` that are plainly written, each at most once, in any order, choose the text and the digest that they ask for: the
+/// report and SHA-256, if they ask for no other.
+pub fn plain_options_are_taken()
+    ensures { (program : List ℕ) (given : List Given) → ArePlain given → chosen (program ∷ codes "judge" ∷ words_of given) ≡ Some (judge_of given) }
+{
+    options_are_taken();
+}

@@ -15,6 +15,6 @@ mod request;
 
 pub use laws::{
     a_command_is_required, digests_by_name, help_is_refused, options_are_taken, own_options,
-    plain_seeds, plain_words, seeds_are_numbers,
+    plain_options_are_taken, plain_seeds, plain_words, seeds_are_numbers,
 };
-pub use request::{Command, MatchText, Options, Request, command_given};
+pub use request::{Command, MatchText, OptionNumbers, Request, command_given};

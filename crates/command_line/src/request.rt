@@ -1,18 +1,18 @@
 //! What the program is asked to do, by what was given to the command line.
-ghost use Rattle.std.specs.Prelude.{◌≡◌, ◌<◌, bytes_eq, codes, find, IfOk, IfSome, option_map, option_and_then, if◌then◌else◌};
+ghost use Rattle.std.specs.Prelude.{◌≡◌, ◌<◌, codes, IfOk, IfSome, option_map, option_and_then, if◌then◌else◌};
 ghost use Rattle.clap.specs.Matches.{found_of};
 ghost use Rattle.clap.specs.Walk.{first_of, one_of, rows_of};
 ghost use Rattle.clap.specs.Simple.{subcommand_rows_of};
-ghost use Rattle.transcript_text.specs.Digest.{digest_text};
+ghost use Rattle.digest_core.specs.Name.{digest_named};
 ghost use Rattle.command_line.specs.declared.request.MatchText.TheVariants.{Report, Full};
-ghost use Rattle.command_line.specs.Words.{texts, command_of_name, command_entered, chosen, match_text_in, digest_in, judge_in, seed_in, rows_given, given_options, IsNumberOf, AreAtLeastOne, AreGiven};
+ghost use Rattle.command_line.specs.Words.{texts, command_of_name, command_entered, chosen, match_text_in, judge_in, seed_in, rows_given, given_options, IsNumberOf, ArePositive, AreGiven};
 
 use crate::parser::command_line;
 use clap::ArgMatches;
 use clap::error::ErrorKind;
+use digest_core::DigestName;
 use rd_base::Memory;
 use std::alloc::Global;
-use transcript_text::DigestName;
 
 /// Which text of a match is written.
 #[derive(Clone, Copy, Debug, PartialEq, Eq)]
@@ -40,14 +40,15 @@ pub enum Command {
     Big(u32),
 }
 
-/// How a match is played. No option changes what is answered.
+/// The numbers of the options of a match, each that of its word, or its default if no word was given for it. No option changes what is
+/// answered.
 #[derive(Clone, Copy, Debug, PartialEq, Eq)]
-pub struct Options {
-    /// In how many pieces at most a prover makes, side by side, the roots that one question asks; at least 1.
+pub struct OptionNumbers {
+    /// That of `--workers`, at least 1.
     pub workers: u32,
-    /// How many threads post the provers' answers, at least 1.
+    /// That of `--posters`, at least 1.
     pub posters: u32,
-    /// How many steps lie between two checkpoints of a prover's run, at least 1.
+    /// That of `--every`, at least 1.
     pub every: u32,
 }
 
@@ -55,7 +56,7 @@ pub struct Options {
 #[derive(Clone, Copy, Debug, PartialEq, Eq)]
 pub struct Request {
     pub command: Command,
-    pub options: Options,
+    pub options: OptionNumbers,
 }
 
 /// The seed that was given.
@@ -83,30 +84,11 @@ fn text_given(given: &ArgMatches<'_>) -> MatchText
     text_where(given.get_one("full").unwrap_or(false))
 }
 
-/// The first of these digests with this name.
-fn digest_among(digests: &[DigestName], name: &str) -> Option<DigestName>
-    ensures { result ≡ find (λ digest. bytes_eq name.now (digest_text digest)) digests.now }
-{
-    'digests: for digest in digests {
-        if name == digest.text() {
-            return Some(*digest);
-        }
-    }
-    None
-}
-
-/// The digest of a name.
-fn digest_in(name: &str) -> Option<DigestName>
-    ensures { result ≡ digest_in name.now }
-{
-    digest_among(&DigestName::ALL, name)
-}
-
 /// The digest that was asked for.
 fn digest_given(given: &ArgMatches<'_>) -> Option<DigestName>
-    ensures { result ≡ option_and_then digest_in (first_of (codes "digest") (rows_of (found_of given.now))) }
+    ensures { result ≡ option_and_then digest_named (first_of (codes "digest") (rows_of (found_of given.now))) }
 {
-    digest_in(given.get_str("digest")?)
+    DigestName::named(given.get_str("digest")?)
 }
 
 /// `judge`, by what was given to it.
@@ -145,11 +127,11 @@ fn number(given: &ArgMatches<'_>, name: &str, default: u32) -> u32
 }
 
 /// The numbers of the options.
-fn options_in(given: &ArgMatches<'_>) -> Options
-    ensures counts { AreAtLeastOne result }
+fn options_in(given: &ArgMatches<'_>) -> OptionNumbers
+    ensures counts { ArePositive result }
     ensures given { AreGiven (rows_of (found_of given.now)) result }
 {
-    Options {
+    OptionNumbers {
         workers: number(given, "workers", 1),
         posters: number(given, "posters", 1),
         every: number(given, "every", 1_024),
@@ -159,7 +141,7 @@ fn options_in(given: &ArgMatches<'_>) -> Options
 /// The command that was parsed, with its options.
 fn request_in(matches: &ArgMatches<'_>) -> Option<Request>
     ensures command { option_map (λ request. request.command) result ≡ command_entered (subcommand_rows_of matches.now) }
-    ensures counts { IfSome result (λ request. AreAtLeastOne request.options) }
+    ensures counts { IfSome result (λ request. ArePositive request.options) }
     ensures given { IfSome result (λ request. AreGiven (rows_given (subcommand_rows_of matches.now)) request.options) }
 {
     let (name, given) = matches.subcommand()?;
@@ -171,7 +153,7 @@ fn request_in(matches: &ArgMatches<'_>) -> Option<Request>
 /// The command that the arguments name, of which the first is the program's name, and its options; `None` if they name none.
 pub fn command_given(alloc: Global, words: &[String]) -> Result<Option<Request>, Memory>
     ensures command { IfOk result (λ given. option_map (λ request. request.command) given ≡ chosen (texts words.now)) }
-    ensures counts { IfOk result (λ given. IfSome given (λ request. AreAtLeastOne request.options)) }
+    ensures counts { IfOk result (λ given. IfSome given (λ request. ArePositive request.options)) }
     ensures options { IfOk result (λ given. IfSome given (λ request. AreGiven (given_options (texts words.now)) request.options)) }
 {
     match command_line(alloc)?.try_get_matches_from(words) {
