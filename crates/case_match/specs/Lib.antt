@@ -1,7 +1,7 @@
 pub use Rattle.rv_step.specs.State
 pub use Rattle.case_reader.specs.Case
-pub use Rattle.command_line.specs.Words
 pub use Rattle.deposits.specs.Balances
+pub mod Options
 pub mod Match
 pub mod Ended
 pub mod Openings

@@ -15,6 +15,7 @@
 
 mod laws;
 mod opening;
+mod options;
 mod referee;
 mod verdict;
 
@@ -25,5 +26,6 @@ pub use laws::{
     who_lives_in_a_case_wins_all,
 };
 pub use opening::{LoadedCase, ended_one, ended_tasks, loaded_cases};
+pub use options::Options;
 pub use referee::Ended;
 pub use verdict::{verdict_of_case, verdict_of_tasks};

@@ -6,16 +6,16 @@ ghost use Rattle.rv_step.specs.State.{state_of, IsChained};
 ghost use Rattle.board_book.specs.Tasks.{openings, sayings};
 ghost use Rattle.prover_run.specs.CaseScripts.{case_says};
 ghost use Rattle.case_reader.specs.Case.{data_of};
-ghost use Rattle.command_line.specs.Words.{AreAtLeastOne};
+ghost use Rattle.case_match.specs.Options.{AreAtLeastOne};
 ghost use Rattle.case_match.specs.Openings.{IsFresh, opening_of_case, opening_of, ended_of};
 ghost use Rattle.deposits.specs.Balances.{IsSettledUp};
 
 use crate::laws::records_of_cases_are_settled_up;
+use crate::options::Options;
 use crate::referee::{Ended, decide};
 use bisect_game::{Answerer, Provers};
 use board_book::{Book, answerers_say_in_order};
 use case_reader::Case;
-use command_line::Options;
 use prover_run::{CaseProvers, Plan, RunAnswerer, Start, answerers_with_input};
 use prover_script::Scripted;
 use rd_base::Memory;

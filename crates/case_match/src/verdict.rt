@@ -3,15 +3,15 @@ ghost use Rattle.std.specs.Prelude.{◌≡◌, ◌<◌, ◌≤◌, [], map, leng
 ghost use Rattle.std.specs.List.{All};
 ghost use Rattle.rv_step.specs.State.{state_of, IsChained};
 ghost use Rattle.case_reader.specs.Case.{data_of};
-ghost use Rattle.command_line.specs.Words.{AreAtLeastOne};
+ghost use Rattle.case_match.specs.Options.{AreAtLeastOne};
 ghost use Rattle.deposits.specs.Balances.{IsSettledUp};
 ghost use Rattle.case_match.specs.Match.{record_of_case, verdict_of_record, endings_of_cases, AreSettledUp};
 
 use crate::laws::records_of_cases_are_settled_up;
 use crate::opening::{LoadedCase, ended_one, ended_tasks, loaded_cases};
+use crate::options::Options;
 use crate::referee::Ended;
 use case_reader::Case;
-use command_line::Options;
 use rd_base::Memory;
 use rv_step::Machine;
 use segment_replay::Replays;
