@@ -17,8 +17,8 @@ use Rattle.step_referee.specs.MachineRuling.{machine_ruling}
 use Rattle.transcript_text.specs.declared.text.Head.{Head}
 use Rattle.transcript_text.specs.declared.text.FullText.{FullText}
 use Rattle.transcript_text.specs.declared.text.Stated.{Stated}
-use Rattle.transcript_text.specs.declared.text.DigestName.{DigestName}
-use Rattle.transcript_text.specs.declared.text.DigestName.TheVariants.{Sha256, Weak8}
+use Rattle.digest_core.specs.declared.name.DigestName.{DigestName}
+use Rattle.digest_core.specs.declared.name.DigestName.TheVariants.{Sha256, Weak8}
 use Rattle.transcript_text.specs.MoveLists.{moves_of}
 use Rattle.transcript_text.specs.StatedVerdict.{stated_of, VerdictsAreStated}
 use Rattle.transcript_text.specs.FullLines.{full_text, AreWritten}
@@ -38,7 +38,8 @@ use Rattle.command_line.specs.declared.request.MatchText.TheVariants.{Report, Fu
 use Rattle.command_line.specs.declared.request.Command.TheVariants.{Audit as AuditOf}
 use Rattle.case_match.specs.Match.{start_root, rules_of_case, setup_of, says_of_case, record_of_case, verdict_of_record}
 use Rattle.case_match.specs.TruthfulInCase.{IsInRange}
-use Rattle.delegate.specs.Decided.{digest_of, written_as, match_head, balances_in, before_verdict, response_to_case}
+use Rattle.digest_core.specs.Name.{digest_of}
+use Rattle.delegate.specs.Decided.{written_as, match_head, balances_in, before_verdict, response_to_case}
 use Rattle.delegate.specs.Loading.{image_in, start_in}
 use Rattle.delegate.specs.Refusal.{or_refusal}
 use Rattle.delegate.specs.commands.Judge.{judging}
@@ -185,7 +186,7 @@ outcome-task-auditable confirmed words bytes in_range name cs starts t auditing 
     let own = start-at 1 cs starts (t - 1) c is.loads at.1 in
     let played : IsPlayed m c own.start = task-played words bytes in_range m cs starts t c own.start is at.1 own.there in
     record {
-      part = response_to_case m c own.start;
+      part = (response_to_case m c own.start).text;
       stands = task-stands words bytes m cs starts t c own.start is at.1 own.there;
       confirmed = λ short. confirmed name c own.start auditing played.range (start-version own.subject c own.start own.loads) (played.written refl) short asked;
     }

@@ -9,7 +9,7 @@ use Rattle.rv_step.specs.Step.{state_at}
 use Rattle.image_reader.specs.Image.{flat_at}
 use Rattle.case_reader.specs.Tasks.{One, CasesAreTasks}
 use Rattle.transcript_text.specs.declared.text.Head.{Head}
-use Rattle.transcript_text.specs.declared.text.DigestName.TheVariants.{Sha256}
+use Rattle.digest_core.specs.declared.name.DigestName.TheVariants.{Sha256}
 use Rattle.tournament.specs.Bracket.{Record}
 use Rattle.deposits.specs.declared.amounts.Balances.{Balances}
 use Rattle.transcript_text.specs.Summary.{workload_text, counts_text, rounds_in}
@@ -21,7 +21,8 @@ use Rattle.command_line.specs.declared.request.Command.TheVariants.{Big}
 use Rattle.case_match.specs.Match.{start_root, record_of_case}
 use Rattle.case_match.specs.HonestScripts.{UntouchedProversAreTruthful}
 use Rattle.delegate.specs.Answered.{status_number}
-use Rattle.delegate.specs.Decided.{digest_of, summary, before_verdict, match_head, balances_in, response_to_case, case_for}
+use Rattle.digest_core.specs.Name.{digest_of}
+use Rattle.delegate.specs.Decided.{summary, before_verdict, match_head, balances_in, response_to_case, case_for}
 use Rattle.delegate.specs.Loading.{start_in}
 use Rattle.delegate.specs.commands.Big.{summing_up}
 use Rattle.delegate.specs.Headline.{HeadlineOfCases, AcceptsTheRun, ShowsCollision, IsCase}

@@ -7,7 +7,7 @@ use Rattle.case_reader.specs.Case.{CaseData, case_at}
 use Rattle.case_reader.specs.Tasks.{TasksData, One, Many, CasesAreTasks}
 use Rattle.case_reader.specs.declared.fault.CaseFault.{CaseFault}
 use Rattle.workload.specs.Workload.{big_data}
-use Rattle.transcript_text.specs.declared.text.DigestName.{DigestName}
+use Rattle.digest_core.specs.declared.name.DigestName.{DigestName}
 use Rattle.command_line.specs.Words.{chosen}
 use Rattle.command_line.specs.declared.request.MatchText.{MatchText}
 use Rattle.command_line.specs.declared.request.MatchText.TheVariants.{Report, Full}
@@ -16,7 +16,8 @@ use Rattle.command_line.specs.declared.request.Command.TheVariants.{Judge, Run, 
 use Rattle.case_match.specs.TruthfulInCase.{IsInRange}
 use Rattle.delegate.specs.Refusal.{too_long, case_refusal, task_refusal, or_refusal}
 use Rattle.delegate.specs.Loading.{within_limit, case_in, tasks_in, start_in, starts_in}
-use Rattle.delegate.specs.Decided.{digest_of, Written, report, full, summary, Deciding, written_as, case_for, tasks_within_limit, tasks_for, response_to_case, together, responses_to_cases, StandsUnder}
+use Rattle.digest_core.specs.Name.{digest_of}
+use Rattle.delegate.specs.Decided.{Written, report, full, summary, Deciding, written_as, case_for, tasks_within_limit, tasks_for, response_to_case, together, responses_to_cases, StandsUnder}
 use Rattle.delegate.specs.commands.Judge.{judging, response_to_tasks, judge_response}
 use Rattle.delegate.specs.commands.Big.{summing_up, big_response}
 use Rattle.delegate.specs.Outcome.{bytes_for, carried_out, decides, response_to, outcome}
@@ -123,9 +124,9 @@ outcome-headline law headline words bytes in_range m c start p is truthful =
 -- the text of a task stands under its line, and what its run shows
 
 pub task-stands : (words : List (List ℕ)) (bytes : List ℕ) (m : Deciding) (cs : List CaseData) (starts : List State) (t : ℕ) (c : CaseData) (start : State) → AreTasks words bytes m cs starts
-    → slice_get cs (t - 1) ≡ Some c → slice_get starts (t - 1) ≡ Some start → StandsUnder (length cs) t (response_to_case m c start) (outcome words bytes).text
+    → slice_get cs (t - 1) ≡ Some c → slice_get starts (t - 1) ≡ Some start → StandsUnder (length cs) t (response_to_case m c start).text (outcome words bytes).text
 task-stands words bytes m cs starts t c start is at from =
-    subst (λ (r : Response). StandsUnder (length cs) t (response_to_case m c start) r.text) (sym (outcome-tasks words bytes m cs starts is)) (decided-stands m cs starts t c start is.loads at from)
+    subst (λ (r : Response). StandsUnder (length cs) t (response_to_case m c start).text r.text) (sym (outcome-tasks words bytes m cs starts is)) (decided-stands m cs starts t c start is.loads at from)
 
 pub task-played : (words : List (List ℕ)) (bytes : List ℕ) → CasesAreInRange words bytes → (m : Deciding) (cs : List CaseData) (starts : List State) (t : ℕ) (c : CaseData) (start : State)
     → AreTasks words bytes m cs starts → slice_get cs (t - 1) ≡ Some c → slice_get starts (t - 1) ≡ Some start → IsPlayed m c start

@@ -1,7 +1,7 @@
 -- All is done for `audit` only where the bytes are confirmed, and then the machine's law holds of the text.
 use Rattle.std.proofs.Common.{◌≡◌, ℕ, ◌≤◌, List, length, nat_lt, Result, Ok, Err, Bool, true, false, cond, refl, sym, subst, arith}
 use Rattle.rd_base.specs.Results.{◌>>=◌}
-use Rattle.transcript_text.specs.declared.text.DigestName.{DigestName}
+use Rattle.digest_core.specs.declared.name.DigestName.{DigestName}
 use Rattle.transcript_text.specs.declared.text.FullText.{FullText}
 use Rattle.transcript_text.specs.declared.reader.fault.TextFault.{TextFault}
 use Rattle.transcript_text.specs.reader.ReadText.{read_text}
@@ -12,7 +12,7 @@ use Rattle.audit.specs.declared.finding.Audit.TheVariants.{Confirmed, Refused}
 use Rattle.audit.specs.LineByLine.{audited}
 use Rattle.machine_audit.specs.MachineAudit.{ConfirmedCasesAreRight}
 use Rattle.command_line.specs.declared.request.Command.TheVariants.{Audit as AuditOf}
-use Rattle.delegate.specs.Decided.{digest_of}
+use Rattle.digest_core.specs.Name.{digest_of}
 use Rattle.delegate.specs.Refusal.{too_long, or_refusal}
 use Rattle.delegate.specs.Outcome.{either_way}
 use Rattle.delegate.specs.commands.Audit.{text_refusal, ruling_of_text, response_to_finding, audit_response}

@@ -14,8 +14,8 @@ use Rattle.tournament.specs.Theorem.{HasTrueClaim, IsRightVerdict}
 use Rattle.deposits.specs.declared.amounts.Balances.{Balances}
 use Rattle.rv_step.specs.State.{State}
 use Rattle.case_reader.specs.Case.{CaseData}
-use Rattle.transcript_text.specs.declared.text.DigestName.{DigestName}
-use Rattle.transcript_text.specs.declared.text.DigestName.TheVariants.{Sha256, Weak8}
+use Rattle.digest_core.specs.declared.name.DigestName.{DigestName}
+use Rattle.digest_core.specs.declared.name.DigestName.TheVariants.{Sha256, Weak8}
 use Rattle.transcript_text.specs.Lines.{accept_line, line_of_accepted, line_of_verdict}
 use Rattle.transcript_text.specs.Report.{text_if_there}
 use Rattle.transcript_text.specs.Laws.{NothingIsSaidAgainstTheTruthful}
@@ -24,7 +24,8 @@ use Rattle.case_match.specs.Match.{start_root, rules_of_case, says_of_case, reco
 use Rattle.case_match.specs.TruthfulInCase.{IsSafeInCase, TruthfulProversOfCasesAreSafe}
 use Rattle.command_line.specs.declared.request.MatchText.{MatchText}
 use Rattle.command_line.specs.declared.request.MatchText.TheVariants.{Report, Full}
-use Rattle.delegate.specs.Decided.{digest_of, Written, report, full, summary, written_as, Deciding, match_text, answered_by, match_head, balances_in, before_verdict, answered_for, response_to_case}
+use Rattle.digest_core.specs.Name.{digest_of}
+use Rattle.delegate.specs.Decided.{Written, report, full, summary, written_as, Deciding, match_text, answered_by, match_head, balances_in, before_verdict, answered_for, response_to_case}
 use Rattle.transcript_text.specs.declared.text.Head.{Head}
 use Rattle.delegate.specs.declared.response.Answered.TheVariants.{Done}
 use Rattle.delegate.specs.Headline.{AcceptsTheRun, ShowsCollision, AreByteStrings, HeadlineOfCases}

@@ -10,7 +10,7 @@ use Rattle.rv_step.specs.State.{State}
 use Rattle.rv_step.specs.Step.{state_at}
 use Rattle.case_reader.specs.Case.{CaseData, case_at}
 use Rattle.case_reader.specs.Tasks.{One, CasesAreTasks}
-use Rattle.transcript_text.specs.declared.text.DigestName.{DigestName}
+use Rattle.digest_core.specs.declared.name.DigestName.{DigestName}
 use Rattle.transcript_text.specs.declared.text.Head.{Head}
 use Rattle.transcript_text.specs.declared.text.TextMove.{TextMove}
 use Rattle.transcript_text.specs.MoveLists.{moves_of}
@@ -29,13 +29,15 @@ use Rattle.case_match.specs.Match.{start_root, record_of_case}
 use Rattle.case_match.specs.TruthfulInCase.{IsInRange, IsTruthfulInCase}
 use Rattle.case_match.specs.HonestScripts.{UntouchedProversAreTruthful}
 use Rattle.delegate.specs.Answered.{status_number}
-use Rattle.delegate.specs.Decided.{digest_of, written_as, before_verdict, answered_for, match_head, balances_in, response_to_case, case_for}
+use Rattle.digest_core.specs.Name.{digest_of}
+use Rattle.delegate.specs.Decided.{written_as, before_verdict, answered_for, match_head, balances_in, response_to_case, case_for}
 use Rattle.delegate.specs.Loading.{start_in}
 use Rattle.delegate.specs.Refusal.{or_refusal, case_refusal}
 use Rattle.delegate.specs.commands.Judge.{judging}
 use Rattle.delegate.specs.commands.Run.{run_response, answer_of_run}
 use Rattle.delegate.specs.Headline.{HeadlineOfCases, AcceptsTheRun, ShowsCollision, IsCase}
-use Rattle.delegate.specs.InShort.{IsStartOf, IsCaseOf, honest, HasLastLine, accepting, colliding, Collides, AcceptsOrCollides, Answers, SaysInShort, IsWrittenOf}
+use Rattle.transcript_text.specs.TaskParts.{TextsAreTaskParts}
+use Rattle.delegate.specs.InShort.{AskForTheMatch, AskForTheRun, IsImageOf, IsStartOf, IsCaseOf, honest, HasLastLine, accepting, colliding, Collides, AcceptsOrCollides, Answers, SaysInShort, IsWrittenOf}
 use Rattle.delegate.specs.InShortLaw.{HeadlineInShort, JudgeAcceptsWhatRunPrints}
 use Rattle.delegate.specs.Outcome.{decides, outcome}
 use Rattle.delegate.specs.Standing.{IsPlayed, CasesAreInRange}
@@ -173,44 +175,45 @@ unfolding case_for
 case-is Report bytes c is = goes_on _ _ _ (under_limit bytes is.short) ∙ ap (or_refusal (case_refusal Whole)) is.reads
 case-is Full bytes c is = goes_on _ _ _ (under_limit bytes is.short) ∙ ap (or_refusal (case_refusal Whole)) is.reads
 
-asked-is : (words : List (List ℕ)) (bytes : List ℕ) (asked : MatchText) (name : DigestName) (c : CaseData) (start : State) → chosen words ≡ Some (Judge asked name)
-    → IsCaseOf bytes c → IsStartOf c start → IsCase words bytes (judging asked name) c start
-asked-is words bytes asked name c start chosen_is reads starts =
-    record { asked = ap (option_and_then decides) chosen_is; reads = case-is asked bytes c reads; loads = start-is Whole c start starts }
+asked-is : (words : List (List ℕ)) (bytes : List ℕ) (name : DigestName) (c : CaseData) (start : State) → (asks : AskForTheMatch words name)
+    → IsCaseOf bytes c → IsStartOf IsImageOf c start → IsCase words bytes (judging asks.text name) c start
+asked-is words bytes name c start asks reads starts =
+    record { asked = ap (option_and_then decides) asks.chosen_is; reads = case-is asks.text bytes c reads; loads = start-is Whole c start starts }
 
-judge-in-short : CasesAreTasks → HeadlineInShort → (words : List (List ℕ)) (bytes : List ℕ) → CasesAreInRange words bytes → (asked : MatchText) (name : DigestName) (c : CaseData) (start : State)
-    → chosen words ≡ Some (Judge asked name) → IsCaseOf bytes c → IsStartOf c start → Contains c.provers honest
+judge-in-short : CasesAreTasks → HeadlineInShort → (words : List (List ℕ)) (bytes : List ℕ) → CasesAreInRange words bytes → (name : DigestName) (c : CaseData) (start : State)
+    → AskForTheMatch words name → IsCaseOf bytes c → IsStartOf IsImageOf c start → Contains c.provers honest
     → AcceptsOrCollides name (state_at start c.bound) (status_number (outcome words bytes).answered) (outcome words bytes).text
-judge-in-short law short words bytes in_range asked name c start chosen_is reads starts contains =
-    let is = asked-is words bytes asked name c start chosen_is reads starts in
-    let played : IsPlayed (judging asked name) c start = in_range (judging asked name) is.asked (One c) (one-case law (written_as asked) bytes c is.reads) start is.loads in
-    subst (λ (r : Response). AcceptsOrCollides name (state_at start c.bound) (status_number r.answered) r.text) (sym (outcome-case law words bytes (judging asked name) c start is))
-    (short asked name c start played.range played.strings contains)
+judge-in-short law short words bytes in_range name c start asks reads starts contains =
+    let m = judging asks.text name in
+    let is = asked-is words bytes name c start asks reads starts in
+    let played : IsPlayed m c start = in_range m is.asked (One c) (one-case law (written_as asks.text) bytes c is.reads) start is.loads in
+    subst (λ (r : Response). AcceptsOrCollides name (state_at start c.bound) (status_number r.answered) r.text) (sym (outcome-case law words bytes m c start is))
+    (short asks.text name c start played.range played.strings contains)
 
 run-is : (bytes : List ℕ) (c : CaseData) (start : State) → case_at bytes ≡ Ok c → start_in Whole c ≡ Ok start → run_response bytes ≡ Ok (answer_of_run c start)
 unfolding run_response
 run-is bytes c start reads loads = goes_on _ _ _ (ap (or_refusal (case_refusal Whole)) reads) ∙ goes_on _ _ _ loads
 
-run-in-short : (words : List (List ℕ)) (bytes : List ℕ) (c : CaseData) (start : State) → chosen words ≡ Some Run → IsCaseOf bytes c → IsStartOf c start
+run-in-short : (words : List (List ℕ)) (bytes : List ℕ) (c : CaseData) (start : State) → AskForTheRun words → IsCaseOf bytes c → IsStartOf IsImageOf c start
     → Answers (state_at start c.bound) (status_number (outcome words bytes).answered) (outcome words bytes).text
 run-in-short words bytes c start chosen_is reads starts =
     let is : outcome words bytes ≡ answer_of_run c start = outcome-of words bytes _ (of_command words bytes Run chosen_is ∙ (goes_on _ _ _ (under_limit bytes reads.short) ∙ run-is bytes c start reads.reads (start-is Whole c start starts))) in
     subst (λ (r : Response). Answers (state_at start c.bound) (status_number r.answered) r.text) (sym is) (record { done = refl; line = refl })
 
-pub outcome-in-short : CasesAreTasks → HeadlineInShort → (words : List (List ℕ)) (bytes : List ℕ) → CasesAreInRange words bytes
+pub outcome-in-short : CasesAreTasks → TextsAreTaskParts → HeadlineInShort → (words : List (List ℕ)) (bytes : List ℕ) → CasesAreInRange words bytes
     → SaysInShort words bytes (status_number (outcome words bytes).answered) (outcome words bytes).text
-outcome-in-short law short words bytes in_range =
-    record { judge = judge-in-short law short words bytes in_range; judge_tasks = tasks-in-short short words bytes in_range; run = run-in-short words bytes }
+outcome-in-short law parts short words bytes in_range =
+    record { judge = judge-in-short law short words bytes in_range; judge_tasks = tasks-in-short parts short words bytes in_range; run = run-in-short words bytes }
 
 pub judge_accepts : JudgeAcceptsWhatRunPrints
-judge_accepts judging running bytes judge_status judge_text run_status run_text judged ran asked name c start judge_is run_is reads starts contains =
+judge_accepts judging running bytes judge_status judge_text run_status run_text judged ran name c start asks runs_it reads starts contains =
     let final = state_at start c.bound in
-    let runs = ran.run c start run_is reads starts in
+    let runs = ran.run c start runs_it reads starts in
     record {
       answer = answer_text final.status final.output;
       run_done = runs.done;
       printed = runs.line;
-      judged = by (judged.judge asked name c start judge_is reads starts contains);
+      judged = by (judged.judge name c start asks reads starts contains);
     }
   where
     by : AcceptsOrCollides name (state_at start c.bound) judge_status judge_text
@@ -232,11 +235,11 @@ written-of left words response before now P appended holds read =
       says = subst (λ (r : Response). P bytes (status_number r.answered) r.text) (sym its.0) (holds bytes its.1);
     }) read
 
-pub short_written : CasesAreTasks → HeadlineInShort → (left : Option (List ℕ)) (words : List (List ℕ)) (response : Response) (before now : Option (List ℕ))
+pub short_written : CasesAreTasks → TextsAreTaskParts → HeadlineInShort → (left : Option (List ℕ)) (words : List (List ℕ)) (response : Response) (before now : Option (List ℕ))
     → Appends before now response.text → ForItsBytes left (λ bytes. (response ≡ outcome words bytes) × CasesAreInRange words bytes)
     → ForItsBytes left (λ bytes. IsWrittenOf (SaysInShort words bytes (status_number response.answered)) before now)
-short_written law short left words response before now appended read =
-    written-of left words response before now (SaysInShort words) appended (outcome-in-short law short words) read
+short_written law parts short left words response before now appended read =
+    written-of left words response before now (SaysInShort words) appended (outcome-in-short law parts short words) read
 
 -- the same of a process: its words as they were given, and its status
 pub short-by : (left : Option (List ℕ)) (P : List (List ℕ) → List ℕ → ℕ → List ℕ → Type 0) (words other : List (List ℕ)) (number status : ℕ) (before now : Option (List ℕ))

@@ -16,7 +16,8 @@ use Rattle.command_line.specs.declared.request.Command.{Command}
 use Rattle.command_line.specs.declared.request.Command.TheVariants.{Judge, Run, Roots, Listing, Big, Audit as AuditOf}
 use Rattle.delegate.specs.Answered.{is_outcome, is_of_case, is_of_match, is_of_text, is_done, is_answer_of, is_answer_to}
 use Rattle.delegate.specs.Refusal.{usage, task_refusal}
-use Rattle.delegate.specs.Decided.{digest_of, written_as, answered_for, responses_to_cases}
+use Rattle.digest_core.specs.Name.{digest_of}
+use Rattle.delegate.specs.Decided.{written_as, answered_for, responses_to_cases}
 use Rattle.delegate.specs.commands.Judge.{judging}
 use Rattle.delegate.specs.commands.Audit.{response_to_finding}
 use Rattle.delegate.specs.Outcome.{outcome}

@@ -17,8 +17,8 @@ use Rattle.image_reader.specs.Elf.{elf_at}
 use Rattle.image_reader.specs.declared.fault.ImageFault.{ImageFault}
 use Rattle.delegate.specs.AsmImage.{words_at, asm_words, asm_at}
 use Rattle.delegate.specs.declared.loading.AsmImageFault.{AsmImageFault}
-use Rattle.transcript_text.specs.declared.text.DigestName.{DigestName}
-use Rattle.transcript_text.specs.declared.text.DigestName.TheVariants.{Sha256}
+use Rattle.digest_core.specs.declared.name.DigestName.{DigestName}
+use Rattle.digest_core.specs.declared.name.DigestName.TheVariants.{Sha256}
 use Rattle.transcript_text.specs.declared.text.FullText.{FullText}
 use Rattle.transcript_text.specs.declared.text.Stated.{Stated}
 use Rattle.transcript_text.specs.declared.reader.fault.TextFault.{TextFault}
@@ -31,7 +31,8 @@ use Rattle.command_line.specs.declared.request.MatchText.{MatchText}
 use Rattle.command_line.specs.declared.request.Command.{Command}
 use Rattle.command_line.specs.declared.request.Command.TheVariants.{Judge, Run, Roots, Listing, Big, Audit as AuditOf}
 use Rattle.delegate.specs.Refusal.{too_long, case_refusal, task_refusal, image_refusal, asm_refusal, or_refusal}
-use Rattle.delegate.specs.Decided.{digest_of, Deciding, response_to_case, together, responses_to_cases}
+use Rattle.digest_core.specs.Name.{digest_of}
+use Rattle.delegate.specs.Decided.{Deciding, response_to_case, together, responses_to_cases}
 use Rattle.delegate.specs.Loading.{within_limit, case_in, image_by, start_in, starts_in}
 use Rattle.delegate.specs.commands.Judge.{judging, response_to_tasks, judge_response}
 use Rattle.delegate.specs.commands.Run.{run_response}

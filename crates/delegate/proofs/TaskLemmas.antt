@@ -2,7 +2,7 @@
 use Rattle.std.proofs.Common.{◌≡◌, ℕ, zero, suc, ◌+◌, ◌-◌, ◌<◌, ◌≤◌, List, [], ◌∷◌, ◌++◌, All, map, length, slice_get, take, drop, Bool, Some, Result, Ok, Err, refl, sym, ap, ap₂, subst, ◌∙◌, arith, append_assoc}
 use Rattle.std.specs.Prelude.{slice_index_or}
 use Rattle.std.proofs.Math.Seq.{take-length}
-use Rattle.std.proofs.lemmas.List.{append-nil}
+use Rattle.std.proofs.lemmas.List.{append-nil, length-map}
 use Rattle.std.proofs.lemmas.List.Elements.{All-nil, All-cons, All-weaker}
 use Rattle.std.proofs.lemmas.Option.{same_Some, none-some}
 use Rattle.rd_base.specs.Results.{◌>>=◌}
@@ -17,7 +17,8 @@ use Rattle.case_match.specs.declared.referee.Ended.{Ended}
 use Rattle.case_match.specs.Match.{rules_of_case, says_of_case, RecordsOfCasesAreSettledUp}
 use Rattle.case_match.specs.Openings.{ended_of}
 use Rattle.delegate.specs.Answered.{graver}
-use Rattle.delegate.specs.Decided.{digest_of, Deciding, response_to_case, response_by, task_texts, gravest, together, responses_by, responses_to_cases, StandsUnder}
+use Rattle.digest_core.specs.Name.{digest_of}
+use Rattle.delegate.specs.Decided.{Deciding, response_to_case, response_by, task_texts, gravest, together, responses_by, responses_to_cases, StandsUnder}
 use Rattle.delegate.specs.Standing.{IsFreshStart, responses, CanBePaid, AreAllInRange, AreAllPlayed, AreAllShown, EndsAreShown, IsPlayed, AreStarted, AddsStarts}
 use Rattle.delegate.specs.Loading.{start_in, starts_in}
 use Rattle.delegate.specs.declared.response.Subject.{Subject}
@@ -143,7 +144,7 @@ pub record FirstStarts (number : ℕ) (c : CaseData) (cs : List CaseData) (start
   pub starts_later : starts_in (number + 1) cs ≡ Ok later
   pub are : starts ≡ first ∷ later
 
-first-starts : (number : ℕ) (c : CaseData) (cs : List CaseData) (starts : List State) → starts_in number (c ∷ cs) ≡ Ok starts → FirstStarts number c cs starts
+pub first-starts : (number : ℕ) (c : CaseData) (cs : List CaseData) (starts : List State) → starts_in number (c ∷ cs) ≡ Ok starts → FirstStarts number c cs starts
 unfolding starts_in
 first-starts number c cs starts is = by (start_in (Task number) c) (starts_in (number + 1) cs) refl refl is
   where
@@ -165,27 +166,37 @@ start-at number (d ∷ cs) starts (suc i) c is at =
 
 -- there is one for each
 
-starts-count : (number : ℕ) (cs : List CaseData) (starts : List State) → starts_in number cs ≡ Ok starts → length starts ≡ length cs
+pub starts-count : (number : ℕ) (cs : List CaseData) (starts : List State) → starts_in number cs ≡ Ok starts → length starts ≡ length cs
 unfolding starts_in
 starts-count number [] starts is = (let none : [] ≡ starts = cc is in ap length (sym none))
 starts-count number (c ∷ cs) starts is =
     let all = first-starts number c cs starts is in
     ap length all.are ∙ ap suc (starts-count (number + 1) cs all.later all.starts_later)
 
-told-count : (digest : List ℕ → List ℕ) (m : Deciding) (cs : List CaseData) (starts : List State) → length starts ≡ length cs → length (responses_by digest m cs starts) ≡ length cs
+pub told-count : (digest : List ℕ → List ℕ) (m : Deciding) (cs : List CaseData) (starts : List State) → length starts ≡ length cs → length (responses_by digest m cs starts) ≡ length cs
 told-count digest m [] [] same = refl
 told-count digest m [] (s ∷ starts) same = absurd (omega (arith, same))
 told-count digest m (c ∷ cs) [] same = absurd (omega (arith, same))
 told-count digest m (c ∷ cs) (s ∷ starts) same = ap suc (told-count digest m cs starts (omega (arith, same)))
 
+-- their texts
+
+abbrev pub texts_in : List Response → List (List ℕ)
+texts_in rs = map (λ (r : Response). r.text) rs
+
+text-at : (rs : List Response) (i : ℕ) (r : Response) → slice_get rs i ≡ Some r → slice_get (texts_in rs) i ≡ Some r.text
+text-at [] i r at = absurd (none-some r at)
+text-at (q ∷ rs) zero r at = ap (λ (x : Response). Some x.text) (same_Some q r at)
+text-at (q ∷ rs) (suc i) r at = text-at rs i r at
+
 -- so a text of tasks has a part for each, and that of a task stands under its line
 pub decided-stands : (m : Deciding) (cs : List CaseData) (starts : List State) (t : ℕ) (c : CaseData) (start : State) → starts_in 1 cs ≡ Ok starts
-    → slice_get cs (t - 1) ≡ Some c → slice_get starts (t - 1) ≡ Some start → StandsUnder (length cs) t (response_to_case m c start) (together (responses_to_cases m cs starts)).text
+    → slice_get cs (t - 1) ≡ Some c → slice_get starts (t - 1) ≡ Some start → StandsUnder (length cs) t (response_to_case m c start).text (together (responses_to_cases m cs starts)).text
 decided-stands m cs starts t c start loads at from = record {
-  parts = responses_to_cases m cs starts;
-  all = told-count (digest_of m.digest) m cs starts (starts-count 1 cs starts loads);
+  parts = texts_in (responses_to_cases m cs starts);
+  all = length-map (responses_to_cases m cs starts) (λ (r : Response). r.text) ∙ told-count (digest_of m.digest) m cs starts (starts-count 1 cs starts loads);
   whole = refl;
-  here = told-at (digest_of m.digest) m cs starts (t - 1) c start at from;
+  here = text-at (responses_to_cases m cs starts) (t - 1) (response_to_case m c start) (told-at (digest_of m.digest) m cs starts (t - 1) c start at from);
 }
 
 -- the machines of tasks, one after another
@@ -251,10 +262,10 @@ adds-first-refused number cs c later response are refused = subst (λ (l : List 
 
 pub told-together : (digest : List ℕ → List ℕ) (m : Deciding) (ls : List LoadedCase) (cs : List CaseData) (starts : List Machine) (own_ends ends : List Ended) (answered : Answered) (before out text : List ℕ)
     → map (λ (l : LoadedCase). data_of l.case.now) ls ≡ cs → map (λ (l : LoadedCase). l.start) ls ≡ starts → own_ends ≡ map (ended_of digest) ls → ends ≡ own_ends → before ≡ []
-    → out ≡ before ++ task_texts 1 (responses m cs ends) → answered ≡ gravest (responses m cs ends) → text ≡ out
+    → out ≡ before ++ task_texts 1 (texts_in (responses m cs ends)) → answered ≡ gravest (responses m cs ends) → text ≡ out
     → record { answered = answered; text = text } ≡ together (responses_by digest m cs (map state_of starts))
 told-together digest m ls cs starts own_ends ends answered before out text cases_are starts_are own_are ends_are none written gravest_is text_is =
     let all : responses m cs ends ≡ responses_by digest m cs (map state_of starts) =
     ap₂ (responses m) (sym cases_are) (ends_are ∙ own_are) ∙ (same-responses digest m ls ∙ ap₂ (λ (ds : List CaseData) (ms : List Machine). responses_by digest m ds (map state_of ms)) cases_are starts_are) in
     ap₂ (λ (a : Answered) (t : List ℕ). record { answered = a; text = t }) (gravest_is ∙ ap gravest all)
-    (text_is ∙ (written ∙ (ap (λ (l : List ℕ). l ++ task_texts 1 (responses m cs ends)) none ∙ ap (task_texts 1) all)))
+    (text_is ∙ (written ∙ (ap (λ (l : List ℕ). l ++ task_texts 1 (texts_in (responses m cs ends))) none ∙ ap (λ (rs : List Response). task_texts 1 (texts_in rs)) all)))

@@ -1,8 +1,9 @@
 -- The sentence in short, of tasks.
-use Rattle.std.proofs.Common.{◌≡◌, ℕ, ◌+◌, ◌-◌, ◌<◌, List, [], ◌∷◌, length, ◌⊎◌, inl, inr, Option, Some, None, Result, Ok, Bool, true, slice_get, refl, sym, ap, ◌∙◌}
-use Rattle.std.specs.Prelude.{Contains, All, option_map, is_some, if◌then◌else◌}
+use Rattle.std.proofs.Common.{◌≡◌, ℕ, ◌+◌, List, [], ◌∷◌, length, ◌⊎◌, inl, inr, Option, Some, None, Result, Ok, Bool, true, map, refl, sym, ap, subst, ◌∙◌}
+use Rattle.std.specs.Prelude.{Contains, All, zip, option_map, is_some, if◌then◌else◌}
 use Rattle.std.specs.Option.{ok_or, option_and_then}
-use Rattle.std.proofs.lemmas.List.Elements.{All-head, All-tail}
+use Rattle.std.proofs.lemmas.List.{length-map}
+use Rattle.std.proofs.lemmas.List.Elements.{All-head, All-tail, All-nil, All-cons}
 use Rattle.rd_base.specs.Results.{◌>>=◌, map_fault}
 use Rattle.rv_step.specs.State.{State}
 use Rattle.rv_step.specs.Step.{state_at}
@@ -15,25 +16,28 @@ use Rattle.case_reader.specs.Tasks.{TasksData, Many, tasks_in, many_of, one_of, 
 use Rattle.case_reader.specs.declared.fault.CaseFault.TheVariants.{NotJson}
 use Rattle.case_reader.specs.declared.fault.TaskFault.{TaskFault}
 use Rattle.case_reader.specs.declared.fault.TaskFault.TheVariants as fault
-use Rattle.transcript_text.specs.declared.text.DigestName.{DigestName}
-use Rattle.command_line.specs.Words.{chosen}
+use Rattle.digest_core.specs.declared.name.DigestName.{DigestName}
 use Rattle.command_line.specs.declared.request.MatchText.{MatchText}
-use Rattle.command_line.specs.declared.request.Command.TheVariants.{Judge}
+use Rattle.command_line.specs.declared.request.MatchText.TheVariants.{Report, Full}
+use Rattle.transcript_text.specs.TaskParts.{IsTaskPart, TextsAreTaskParts}
+use Rattle.digest_core.specs.Name.{digest_of}
 use Rattle.delegate.specs.Answered.{status_number}
-use Rattle.delegate.specs.Decided.{written_as, tasks_for, response_to_case}
+use Rattle.case_match.specs.Match.{start_root, record_of_case, verdict_of_record}
+use Rattle.delegate.specs.Decided.{written_as, tasks_for, match_head, balances_in, response_to_case, responses_to_cases}
 use Rattle.delegate.specs.Loading.{image_by, start_in, starts_in}
 use Rattle.delegate.specs.Refusal.{or_refusal, task_refusal, image_refusal, asm_refusal}
 use Rattle.delegate.specs.commands.Judge.{judging}
 use Rattle.delegate.specs.Headline.{AreTasks}
-use Rattle.delegate.specs.InShort.{IsImageOf, IsStartOf, AreTasksOf, honest, HasLastLine, accepting, ShowsTwoStrings, AcceptsOrCollides, TaskEnds}
+use Rattle.delegate.specs.InShort.{IsImageOf, IsStartOf, AreTasksOf, honest, HasLastLine, accepting, ShowsTwoStrings, AcceptsOrCollides, TaskEnds, TasksEnd, AskForTheMatch}
 use Rattle.delegate.specs.InShortLaw.{HeadlineInShort}
 use Rattle.delegate.specs.Outcome.{decides, outcome}
-use Rattle.delegate.specs.Standing.{IsPlayed, CasesAreInRange}
+use Rattle.delegate.specs.Standing.{IsPlayed, AreAllPlayed, CasesAreInRange}
+use Rattle.delegate.specs.declared.response.Response.{Response}
 use Rattle.delegate.specs.declared.response.Subject.{Subject}
 use Rattle.delegate.specs.declared.response.Subject.TheVariants.{Task}
 use Rattle.delegate.proofs.OutcomeLemmas.{goes_on, under_limit}
-use Rattle.delegate.proofs.TaskLemmas.{start-at}
-use Rattle.delegate.proofs.CaseLemmas.{tasks-read, same-ok, task-stands, task-played}
+use Rattle.delegate.proofs.TaskLemmas.{texts_in, first-starts, starts-count, told-count}
+use Rattle.delegate.proofs.CaseLemmas.{tasks-read, same-ok, outcome-tasks}
 
 -- THE IMAGE OF A CASE IS LOADED
 
@@ -42,7 +46,7 @@ image-is subject Flat file image is = ap (or_refusal (image_refusal subject)) is
 image-is subject Elf file image is = ap (or_refusal (image_refusal subject)) is
 image-is subject Asm file image is = ap (or_refusal (asm_refusal subject)) is
 
-pub start-is : (subject : Subject) (c : CaseData) (start : State) → IsStartOf c start → start_in subject c ≡ Ok start
+pub start-is : (subject : Subject) (c : CaseData) (start : State) → IsStartOf IsImageOf c start → start_in subject c ≡ Ok start
 unfolding start_in
 start-is subject c start is = goes_on _ _ _ (image-is subject c.format c.image is.image is.loads) ∙ ap Ok (sym is.is)
 
@@ -66,11 +70,11 @@ tasks-at : (bytes : List ℕ) (cs : List CaseData) → option_map many_of (tree_
 unfolding tasks_at many_of tasks_in array_in
 tasks-at bytes cs is = tree-tasks many_of one_of has_tasks cs (λ d reads. there _ _ _ _ _ _ _ reads) (tree_of bytes) is
 
-tasks-are : (asked : MatchText) (bytes : List ℕ) (cs : List CaseData) → AreTasksOf bytes cs → tasks_for (written_as asked) bytes ≡ Ok (Many cs)
+tasks-are : (asked : MatchText) (bytes : List ℕ) (cs : List CaseData) → AreTasksOf IsImageOf bytes cs → tasks_for (written_as asked) bytes ≡ Ok (Many cs)
 tasks-are asked bytes cs are = tasks-read asked bytes ∙ (goes_on _ _ _ (under_limit bytes are.short) ∙ ap (or_refusal task_refusal) (tasks-at bytes cs are.reads))
 
 abbrev Loads : CaseData → Type 0
-Loads c = (start : State) × IsStartOf c start
+Loads c = (start : State) × IsStartOf IsImageOf c start
 
 -- their images load, so that their runs start
 pub record AllStart (number : ℕ) (cs : List CaseData) : Type 0 where
@@ -85,25 +89,60 @@ starts-are number (c ∷ cs) load =
     let more = starts-are (number + 1) cs (All-tail Loads c cs load) in
     record { starts = one.0 ∷ more.starts; are = goes_on _ _ _ (start-is (Task number) c one.0 one.1) ∙ goes_on _ _ _ more.are }
 
--- THE PART UNDER THE LINE OF A TASK
+-- THE TEXT UNDER THE LINE OF A TASK
 
 part-ends : (name : DigestName) (final : State) (status : ℕ) (text : List ℕ) → AcceptsOrCollides name final status text → HasLastLine (accepting final) text ⊎ ShowsTwoStrings name text
 part-ends name final status text (inl accepts) = inl accepts.last
 part-ends name final status text (inr collides) = inr collides.shows
 
-pub tasks-in-short : HeadlineInShort → (words : List (List ℕ)) (bytes : List ℕ) → CasesAreInRange words bytes → (asked : MatchText) (name : DigestName) (cs : List CaseData) (t : ℕ) (c : CaseData) (start : State)
-    → chosen words ≡ Some (Judge asked name) → AreTasksOf bytes cs → 0 < t → slice_get cs (t - 1) ≡ Some c → IsStartOf c start → Contains c.provers honest
-    → TaskEnds name (state_at start c.bound) (length cs) t (outcome words bytes).text
-tasks-in-short short words bytes in_range asked name cs t c start chosen_is are some at starts contains =
-    let m = judging asked name in
+-- that of one task, whose run starts in the state that was loaded
+one-ends : HeadlineInShort → (asked : MatchText) (name : DigestName) (subject : Subject) (c : CaseData) (s : State) → start_in subject c ≡ Ok s → IsPlayed (judging asked name) c s
+    → TaskEnds IsImageOf name (c, (response_to_case (judging asked name) c s).text)
+one-ends short asked name subject c s loads played start starts contains =
+    let same : s ≡ start = same-ok (start_in subject c) s start loads (start-is subject c start starts) in
+    subst (λ (x : State). HasLastLine (accepting (state_at x c.bound)) (response_to_case (judging asked name) c s).text ⊎ ShowsTwoStrings name (response_to_case (judging asked name) c s).text) same
+    (part-ends name (state_at s c.bound) (status_number (response_to_case (judging asked name) c s).answered) (response_to_case (judging asked name) c s).text
+    (short asked name c s played.range played.strings contains))
+
+all-end : HeadlineInShort → (asked : MatchText) (name : DigestName) (number : ℕ) (cs : List CaseData) (starts : List State) → starts_in number cs ≡ Ok starts
+    → AreAllPlayed (judging asked name) cs starts → All (TaskEnds IsImageOf name) (zip cs (texts_in (responses_to_cases (judging asked name) cs starts)))
+all-end short asked name number [] starts loads played = All-nil (TaskEnds IsImageOf name)
+all-end short asked name number (c ∷ cs) starts loads played =
+    let all = first-starts number c cs starts loads in
+    subst (λ (ss : List State). All (TaskEnds IsImageOf name) (zip (c ∷ cs) (texts_in (responses_to_cases (judging asked name) (c ∷ cs) ss)))) (sym all.are)
+    (let here : AreAllPlayed (judging asked name) (c ∷ cs) (all.first ∷ all.later) = subst (AreAllPlayed (judging asked name) (c ∷ cs)) all.are played in
+    All-cons (TaskEnds IsImageOf name) (c, (response_to_case (judging asked name) c all.first).text) (zip cs (texts_in (responses_to_cases (judging asked name) cs all.later)))
+    (one-ends short asked name (Task number) c all.first all.loads here.0)
+    (all-end short asked name (number + 1) cs all.later all.starts_later here.1))
+
+-- no line of such a text is like that of a task
+
+one-apart : TextsAreTaskParts → (asked : MatchText) (name : DigestName) (c : CaseData) (s : State) → IsTaskPart (response_to_case (judging asked name) c s).text
+one-apart law Report name c s =
+    let digest = digest_of name in
+    let settled = record_of_case digest c s in
+    law.report (match_head name c (start_root digest s)) settled (verdict_of_record digest c s settled) (balances_in c settled)
+one-apart law Full name c s =
+    let digest = digest_of name in
+    let settled = record_of_case digest c s in
+    law.full (match_head name c (start_root digest s)) settled (verdict_of_record digest c s settled)
+
+all-apart : TextsAreTaskParts → (asked : MatchText) (name : DigestName) (cs : List CaseData) (starts : List State) → All IsTaskPart (texts_in (responses_to_cases (judging asked name) cs starts))
+all-apart law asked name [] starts = All-nil IsTaskPart
+all-apart law asked name (c ∷ cs) [] = All-nil IsTaskPart
+all-apart law asked name (c ∷ cs) (s ∷ starts) =
+    All-cons IsTaskPart (response_to_case (judging asked name) c s).text (texts_in (responses_to_cases (judging asked name) cs starts)) (one-apart law asked name c s) (all-apart law asked name cs starts)
+
+pub tasks-in-short : TextsAreTaskParts → HeadlineInShort → (words : List (List ℕ)) (bytes : List ℕ) → CasesAreInRange words bytes → (name : DigestName) (cs : List CaseData)
+    → AskForTheMatch words name → AreTasksOf IsImageOf bytes cs → TasksEnd IsImageOf name cs (outcome words bytes).text
+tasks-in-short law short words bytes in_range name cs asks are =
+    let m = judging asks.text name in
     let all = starts-are 1 cs are.load in
-    let is : AreTasks words bytes m cs all.starts = record { asked = ap (option_and_then decides) chosen_is; reads = tasks-are asked bytes cs are; loads = all.are } in
-    let own = start-at 1 cs all.starts (t - 1) c all.are at in
-    let same : own.start ≡ start = same-ok (start_in own.subject c) own.start start own.loads (start-is own.subject c start starts) in
-    let from : slice_get all.starts (t - 1) ≡ Some start = own.there ∙ ap Some same in
-    let played : IsPlayed m c start = task-played words bytes in_range m cs all.starts t c start is at from in
+    let is : AreTasks words bytes m cs all.starts = record { asked = ap (option_and_then decides) asks.chosen_is; reads = tasks-are asks.text bytes cs are; loads = all.are } in
     record {
-      part = response_to_case m c start;
-      stands = task-stands words bytes m cs all.starts t c start is at from;
-      ends = part-ends name (state_at start c.bound) (status_number (response_to_case m c start).answered) (response_to_case m c start).text (short asked name c start played.range played.strings contains);
+      parts = texts_in (responses_to_cases m cs all.starts);
+      count = length-map (responses_to_cases m cs all.starts) (λ (r : Response). r.text) ∙ told-count (digest_of name) m cs all.starts (starts-count 1 cs all.starts all.are);
+      apart = all-apart law asks.text name cs all.starts;
+      whole = ap (λ (r : Response). r.text) (outcome-tasks words bytes m cs all.starts is);
+      each = all-end short asks.text name 1 cs all.starts all.are (in_range m is.asked (Many cs) is.reads all.starts is.loads);
     }

@@ -32,7 +32,8 @@ use Rattle.command_line.specs.declared.request.Command.TheVariants.{Judge, Run, 
 use Rattle.case_match.specs.Match.{record_of_case, verdict_of_record}
 use Rattle.delegate.specs.Answered.{is_refusal}
 use Rattle.delegate.specs.Refusal.{case_fault_text, task_refusal, rule_text, asm_fault_text}
-use Rattle.delegate.specs.Decided.{digest_of, written_as, answered_for, responses_to_cases}
+use Rattle.digest_core.specs.Name.{digest_of}
+use Rattle.delegate.specs.Decided.{written_as, answered_for, responses_to_cases}
 use Rattle.delegate.specs.commands.Judge.{judging}
 use Rattle.delegate.specs.commands.Audit.{text_fault_text, response_to_finding}
 use Rattle.delegate.specs.Outcome.{outcome}

@@ -4,14 +4,15 @@ use Rattle.std.specs.Prelude.{◌≡◌, ◌<◌, ◌≤◌, ℕ, List, Contains
 use Rattle.rv_step.specs.State.{State}
 use Rattle.case_reader.specs.Case.{CaseData}
 use Rattle.transcript_text.specs.MoveLists.{moves_of}
-use Rattle.transcript_text.specs.declared.text.DigestName.{DigestName}
+use Rattle.digest_core.specs.declared.name.DigestName.{DigestName}
 use Rattle.transcript_text.specs.FullLines.{AreWritten}
 use Rattle.command_line.specs.Words.{chosen}
 use Rattle.command_line.specs.declared.request.MatchText.TheVariants.{Report, Full}
 use Rattle.command_line.specs.declared.request.Command.TheVariants.{Audit}
 use Rattle.case_match.specs.Match.{record_of_case}
 use Rattle.case_match.specs.TruthfulInCase.{IsInRange}
-use Rattle.delegate.specs.Decided.{digest_of, response_to_case, StandsUnder}
+use Rattle.digest_core.specs.Name.{digest_of}
+use Rattle.delegate.specs.Decided.{response_to_case, StandsUnder}
 use Rattle.delegate.specs.commands.Judge.{judging}
 use Rattle.delegate.specs.Headline.{IsCase, AreTasks}
 use Rattle.delegate.specs.InShort.{HasLastLine}
@@ -34,9 +35,9 @@ IsAuditable words bytes response =
 
 -- the text is one of parts, each under the line of its task, and that of task t is confirmed so if it isn't longer than what `audit` reads
 pub record IsPartAuditable (auditing : List (List ℕ)) (tasks t : ℕ) (text : List ℕ) : Type 0 where
-  pub part : Response
+  pub part : List ℕ
   pub stands : StandsUnder tasks t part text
-  pub confirmed : length part.text ≤ 16777216 → IsConfirmedByItsLine auditing part.text
+  pub confirmed : length part ≤ 16777216 → IsConfirmedByItsLine auditing part
 
 -- of what `judge --full` writes of tasks `audit` confirms each part, however its match ends
 abbrev pub AreAuditable : List (List ℕ) → List ℕ → Response → Type 0

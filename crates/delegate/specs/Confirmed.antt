@@ -8,7 +8,7 @@ use Rattle.transcript_text.specs.reader.ReadText.{read_text}
 use Rattle.machine_audit.specs.MachineAudit.{IsStatedStart, AreTrueOfRun, IsAnswerOrCollision}
 use Rattle.command_line.specs.Words.{chosen}
 use Rattle.command_line.specs.declared.request.Command.TheVariants.{Audit}
-use Rattle.delegate.specs.Decided.{digest_of}
+use Rattle.digest_core.specs.Name.{digest_of}
 use Rattle.delegate.specs.Outcome.{outcome}
 use Rattle.delegate.specs.declared.response.Response.{Response}
 use Rattle.delegate.specs.declared.response.Answered.TheVariants.{Done}

@@ -12,7 +12,7 @@ use Rattle.deposits.specs.Balances.{balances_of}
 use Rattle.case_reader.specs.Case.{CaseData}
 use Rattle.case_reader.specs.Tasks.{TasksData, One}
 use Rattle.transcript_text.specs.declared.text.Head.{Head}
-use Rattle.transcript_text.specs.declared.text.DigestName.{DigestName}
+use Rattle.digest_core.specs.declared.name.DigestName.{DigestName}
 use Rattle.transcript_text.specs.MoveLists.{moves_of}
 use Rattle.transcript_text.specs.Lines.{lines_of_record, lines_of_balances}
 use Rattle.transcript_text.specs.Report.{report_text, head_line, lines_text}
@@ -26,15 +26,8 @@ use Rattle.delegate.specs.Loading.{within_limit, case_in, tasks_in}
 use Rattle.delegate.specs.declared.response.Response.{Response}
 use Rattle.delegate.specs.declared.response.Answered.{Answered}
 use Rattle.delegate.specs.declared.response.Answered.TheVariants as answered
-use Rattle.sha2.specs.Sha256.{sha256}
-use Rattle.digest_core.specs.Weak8.{weak8}
-use Rattle.transcript_text.specs.declared.text.DigestName.TheVariants.{Sha256, Weak8}
+use Rattle.digest_core.specs.Name.{digest_of}
 use Rattle.delegate.specs.Answered.{graver}
-
--- the digest functions, each by its name. Everything that is said of a match speaks of the function of a name.
-abbrev pub digest_of : DigestName → List ℕ → List ℕ
-digest_of Sha256 = sha256
-digest_of Weak8 = weak8
 
 -- which text is written
 pub data Written : Type 0 where
@@ -133,10 +126,10 @@ response_to_case m c start = response_by (digest_of m.digest) m c start
 abbrev pub task_line : ℕ → List ℕ
 task_line t = codes "task " ++ (decimal t ++ codes "\n")
 
--- the texts of tasks, the first of which has this number
-abbrev pub task_texts : ℕ → List Response → List ℕ
+-- the texts of tasks, the first of which has this number, each under its line
+abbrev pub task_texts : ℕ → List (List ℕ) → List ℕ
 task_texts t [] = []
-task_texts t (r ∷ rs) = task_line t ++ (r.text ++ task_texts (t + 1) rs)
+task_texts t (text ∷ texts) = task_line t ++ (text ++ task_texts (t + 1) texts)
 
 -- a collision if one of these answers is that, else that nobody is left if one is that, else that all is done
 abbrev pub gravest : List Response → Answered
@@ -145,7 +138,7 @@ gravest (r ∷ rs) = graver r.answered (gravest rs)
 
 -- the response to tasks, of those to each
 abbrev pub together : List Response → Response
-together rs = record { answered = gravest rs; text = task_texts 1 rs }
+together rs = record { answered = gravest rs; text = task_texts 1 (map (λ (r : Response). r.text) rs) }
 
 -- the responses to tasks whose runs start in these states, by a digest function, each as to its case alone
 abbrev pub responses_by : (List ℕ → List ℕ) → Deciding → List CaseData → List State → List Response
@@ -156,8 +149,8 @@ abbrev pub responses_to_cases : Deciding → List CaseData → List State → Li
 responses_to_cases m cs starts = responses_by (digest_of m.digest) m cs starts
 
 -- a text of nothing but parts, one for each of so many tasks, each under its task's line; and this is the part of task t
-pub record StandsUnder (tasks t : ℕ) (part : Response) (text : List ℕ) : Type 0 where
-  pub parts : List Response
+pub record StandsUnder (tasks t : ℕ) (part text : List ℕ) : Type 0 where
+  pub parts : List (List ℕ)
   pub all : length parts ≡ tasks
   pub whole : text ≡ task_texts 1 parts
   pub here : slice_get parts (t - 1) ≡ Some part

@@ -12,7 +12,7 @@ use Rattle.tournament.specs.FewPosts.{disputes_played}
 use Rattle.tournament.specs.Theorem.{AreTrue, Stays, IsCollisionIn}
 use Rattle.deposits.specs.Balances.{balance}
 use Rattle.deposits.specs.ExactBalance.{collisions_of}
-use Rattle.transcript_text.specs.declared.text.DigestName.{DigestName}
+use Rattle.digest_core.specs.declared.name.DigestName.{DigestName}
 use Rattle.transcript_text.specs.MoveLists.{moves_of}
 use Rattle.transcript_text.specs.Lines.{accept_line, collision_line, lines_of_record, are_against}
 use Rattle.transcript_text.specs.Report.{line_text}
@@ -20,7 +20,8 @@ use Rattle.transcript_text.specs.reader.InLimits.{AreBytes}
 use Rattle.command_line.specs.Words.{chosen}
 use Rattle.case_match.specs.Match.{start_root, rules_of_case, record_of_case, verdict_of_record, truth_of_case, final_state}
 use Rattle.case_match.specs.TruthfulInCase.{IsTruthfulInCase, IsInRange}
-use Rattle.delegate.specs.Decided.{digest_of, Deciding, case_for, tasks_for, answered_for, match_head, balances_in, before_verdict, response_to_case, together, responses_to_cases, StandsUnder}
+use Rattle.digest_core.specs.Name.{digest_of}
+use Rattle.delegate.specs.Decided.{Deciding, case_for, tasks_for, answered_for, match_head, balances_in, before_verdict, response_to_case, together, responses_to_cases, StandsUnder}
 use Rattle.delegate.specs.Loading.{start_in, starts_in}
 use Rattle.delegate.specs.Outcome.{decides}
 use Rattle.delegate.specs.declared.response.Subject.TheVariants.{Whole}
@@ -122,7 +123,7 @@ AnswersTheTasks words bytes response =
 -- the text is one of parts, each under the line of its task, and the headline holds of that of task t
 pub record HeadlineOfTask (m : Deciding) (response : Response) (tasks t : ℕ) (c : CaseData) (start : State) (p : ℕ) : Type 0 where
   pub part : Response
-  pub stands : StandsUnder tasks t part response.text
+  pub stands : StandsUnder tasks t part.text response.text
   pub keeps : Headline m part c start p
 
 -- THE HEADLINE FOR TASKS: a truthful prover of one task is kept in its part of the text, whatever the provers of other tasks do

@@ -1,8 +1,8 @@
 -- To believe. THE SENTENCE IN SHORT: if a prover of the case is `{}`, the last line that is written accepts what the machine's definition
--- computes, or shows two different strings of one digest; of tasks, the part of each that has such a prover. What is named is how
+-- computes, or shows two different strings of one digest; of tasks, the text of each that has such a prover. What is named is how
 -- arguments, a case and its image are read, the machine, and two lines of text: of the provers only that one of them is `{}`, and nothing
 -- of how a match is played, committed or judged.
-use Rattle.std.specs.Prelude.{◌≡◌, ◌≢◌, ◌<◌, ◌≤◌, slice_get, ◌⊎◌, ℕ, ◌-◌, List, Contains, All, length, codes, ◌++◌, Option, option_map, Some, Ok}
+use Rattle.std.specs.Prelude.{◌≡◌, ◌≢◌, ◌≤◌, ◌⊎◌, ℕ, List, Contains, All, length, zip, codes, ◌++◌, Option, option_map, Some, Ok}
 use Rattle.std.specs.Io.KnownBytes.{Appends}
 use Rattle.hex.specs.Hex.{encode_lower}
 use Rattle.rd_base.specs.declared.script.Script.{Script}
@@ -19,8 +19,8 @@ use Rattle.case_reader.specs.declared.case.Format.TheVariants.{Flat, Elf, Asm}
 use Rattle.image_reader.specs.Image.{Image, flat_at}
 use Rattle.image_reader.specs.Elf.{elf_at}
 use Rattle.delegate.specs.AsmImage.{asm_at}
-use Rattle.transcript_text.specs.declared.text.DigestName.{DigestName}
-use Rattle.transcript_text.specs.declared.text.DigestName.TheVariants.{Sha256}
+use Rattle.digest_core.specs.declared.name.DigestName.{DigestName}
+use Rattle.digest_core.specs.declared.name.DigestName.TheVariants.{Sha256}
 use Rattle.transcript_text.specs.Report.{answer_text}
 use Rattle.transcript_text.specs.reader.InLimits.{AreBytes}
 use Rattle.workload.specs.Workload.{input_of}
@@ -28,21 +28,32 @@ use Rattle.workload.specs.Program.{program}
 use Rattle.command_line.specs.Words.{chosen}
 use Rattle.command_line.specs.declared.request.MatchText.{MatchText}
 use Rattle.command_line.specs.declared.request.Command.TheVariants.{Judge, Run, Big}
-use Rattle.delegate.specs.Decided.{digest_of, StandsUnder}
-use Rattle.delegate.specs.declared.response.Response.{Response}
+use Rattle.digest_core.specs.Name.{digest_of}
+use Rattle.transcript_text.specs.TaskParts.{IsTaskPart}
+use Rattle.delegate.specs.Decided.{task_texts}
 
 -- THE CASE
 
--- the image of a file by its format
-abbrev pub IsImageOf : Format → List ℕ → Image → Type 0
+-- how the image of a file is read, by its format
+abbrev pub ImageRule : Type 1
+ImageRule = Format → List ℕ → Image → Type 0
+
+-- files of bytes, as they are in memory or as ELF; no text of instructions
+abbrev pub IsBinaryImageOf : ImageRule
+IsBinaryImageOf Flat file image = flat_at file ≡ Ok image
+IsBinaryImageOf Elf file image = elf_at file ≡ Ok image
+IsBinaryImageOf Asm text image = ⊥
+
+-- files of each format
+abbrev pub IsImageOf : ImageRule
 IsImageOf Flat file image = flat_at file ≡ Ok image
 IsImageOf Elf file image = elf_at file ≡ Ok image
 IsImageOf Asm text image = asm_at text ≡ Ok image
 
--- the run of a case starts in this state
-pub record IsStartOf (c : CaseData) (start : State) : Type 0 where
+-- the run of a case starts in this state, its image being read so
+pub record IsStartOf (IsImage : ImageRule) (c : CaseData) (start : State) : Type 0 where
   pub image : Image
-  pub loads : IsImageOf c.format c.image image
+  pub loads : IsImage c.format c.image image
   pub is : start ≡ started c.version image.memory image.entry c.input
 
 -- the bytes are not too many, and they are this case
@@ -51,10 +62,10 @@ pub record IsCaseOf (bytes : List ℕ) (c : CaseData) : Type 0 where
   pub reads : case_at bytes ≡ Ok c
 
 -- the bytes are not too many, and they are these tasks, 1 to 8 cases under the key `tasks`, whose images load
-pub record AreTasksOf (bytes : List ℕ) (cs : List CaseData) : Type 0 where
+pub record AreTasksOf (IsImage : ImageRule) (bytes : List ℕ) (cs : List CaseData) : Type 0 where
   pub short : length bytes ≤ 16777216
   pub reads : option_map many_of (tree_of bytes) ≡ Some (Ok (Many cs))
-  pub load : All (λ (c : CaseData). (start : State) × IsStartOf c start) cs
+  pub load : All (λ (c : CaseData). (start : State) × IsStartOf IsImage c start) cs
 
 -- the script `{}`, of a prover whose run is untouched and that answers at once
 abbrev pub honest : Script
@@ -105,23 +116,41 @@ pub record Answers (final : State) (status : ℕ) (text : List ℕ) : Type 0 whe
 abbrev pub AcceptsOrCollides : DigestName → State → ℕ → List ℕ → Type 0
 AcceptsOrCollides name final status text = Accepts final status text ⊎ Collides name status text
 
--- tasks: the part of the text under the line of task t ends so, by its last line. The status is one of all tasks
-pub record TaskEnds (name : DigestName) (final : State) (tasks t : ℕ) (text : List ℕ) : Type 0 where
-  pub part : Response
-  pub stands : StandsUnder tasks t part text
-  pub ends : HasLastLine (accepting final) part.text ⊎ ShowsTwoStrings name part.text
+-- TASKS
 
--- THE SENTENCE, of arguments, bytes, status and text: `judge` ends so if one prover is `{}`, whatever the others say; of tasks each part
--- ends so whose task has such a prover; and `run` writes that answer
-pub record SaysInShort (words : List (List ℕ)) (bytes : List ℕ) (status : ℕ) (text : List ℕ) : Type 0 where
-  pub judge : (asked : MatchText) (name : DigestName) (c : CaseData) (start : State) → chosen words ≡ Some (Judge asked name) →
-      IsCaseOf bytes c → IsStartOf c start → Contains c.provers honest →
+-- the text under the line of a task ends so by its last line, if one prover of its case is `{}`
+abbrev pub TaskEnds : ImageRule → DigestName → CaseData × List ℕ → Type 0
+TaskEnds IsImage name task = (start : State) → IsStartOf IsImage task.0 start → Contains task.0.provers honest →
+    HasLastLine (accepting (state_at start task.0.bound)) task.1 ⊎ ShowsTwoStrings name task.1
+
+-- there is a text for each task, they stand each under its line and are all that is written, and each ends so. As no line of theirs begins
+-- with `task `, what is written can be cut into them in no other way
+pub record TasksEnd (IsImage : ImageRule) (name : DigestName) (cs : List CaseData) (text : List ℕ) : Type 0 where
+  pub parts : List (List ℕ)
+  pub count : length parts ≡ length cs
+  pub apart : All IsTaskPart parts
+  pub whole : text ≡ task_texts 1 parts
+  pub each : All (TaskEnds IsImage name) (zip cs parts)
+
+-- THE SENTENCE, of what is asked for, bytes, status and text: if the arguments ask for the match by a digest, `judge` ends so if one prover
+-- is `{}`, whatever the others say, and so does the text of each task that has such a prover; and if they ask for the run, it is answered
+pub record Sentence (IsImage : ImageRule) (judges : DigestName → Type 0) (runs : Type 0) (bytes : List ℕ) (status : ℕ) (text : List ℕ) : Type 0 where
+  pub judge : (name : DigestName) (c : CaseData) (start : State) → judges name → IsCaseOf bytes c → IsStartOf IsImage c start → Contains c.provers honest →
       AcceptsOrCollides name (state_at start c.bound) status text
-  pub judge_tasks : (asked : MatchText) (name : DigestName) (cs : List CaseData) (t : ℕ) (c : CaseData) (start : State) → chosen words ≡ Some (Judge asked name) →
-      AreTasksOf bytes cs → 0 < t → slice_get cs (t - 1) ≡ Some c → IsStartOf c start → Contains c.provers honest →
-      TaskEnds name (state_at start c.bound) (length cs) t text
-  pub run : (c : CaseData) (start : State) → chosen words ≡ Some Run → IsCaseOf bytes c → IsStartOf c start →
-      Answers (state_at start c.bound) status text
+  pub judge_tasks : (name : DigestName) (cs : List CaseData) → judges name → AreTasksOf IsImage bytes cs → TasksEnd IsImage name cs text
+  pub run : (c : CaseData) (start : State) → runs → IsCaseOf bytes c → IsStartOf IsImage c start → Answers (state_at start c.bound) status text
+
+-- the arguments, as `clap` takes them, ask for the match by a digest, and for either of its texts
+pub record AskForTheMatch (words : List (List ℕ)) (name : DigestName) : Type 0 where
+  pub text : MatchText
+  pub chosen_is : chosen words ≡ Some (Judge text name)
+
+abbrev pub AskForTheRun : List (List ℕ) → Type 0
+AskForTheRun words = chosen words ≡ Some Run
+
+-- of all arguments, and of images of each format
+abbrev pub SaysInShort : List (List ℕ) → List ℕ → ℕ → List ℕ → Type 0
+SaysInShort words bytes status text = Sentence IsImageOf (AskForTheMatch words) (AskForTheRun words) bytes status text
 
 -- and of `big`, whose case always has such a prover: its line ends so
 abbrev pub big_start : ℕ → State

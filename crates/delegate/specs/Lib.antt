@@ -30,6 +30,7 @@ pub mod Answering
 pub mod Writing
 pub mod Headline
 pub mod InShort
+pub mod Plainly
 pub mod Auditable
 pub mod Keeps
 pub mod Sharing

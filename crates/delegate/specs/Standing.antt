@@ -14,7 +14,8 @@ use Rattle.case_match.specs.Match.{record_of_case, verdict_of_record}
 use Rattle.case_match.specs.Openings.{IsFresh}
 use Rattle.transcript_text.specs.MoveLists.{moves_of}
 use Rattle.transcript_text.specs.FullLines.{AreWritten}
-use Rattle.delegate.specs.Decided.{digest_of, full, Deciding, tasks_for, response_of}
+use Rattle.digest_core.specs.Name.{digest_of}
+use Rattle.delegate.specs.Decided.{full, Deciding, tasks_for, response_of}
 use Rattle.delegate.specs.Outcome.{decides}
 use Rattle.delegate.specs.declared.response.Subject.TheVariants.{Whole}
 use Rattle.delegate.specs.declared.response.Response.{Response}

@@ -1,7 +1,8 @@
 //! The commands, each in a module of its own or beside one like it, and which one is carried out; and those that need no runtime, for
 //! callers that have bytes in memory. An `Err` is a refusal, with the response to it, or out of memory.
 ghost use Rattle.std.specs.Prelude.{◌≡◌, ℕ, List, IfOk, true};
-ghost use Rattle.command_line.specs.Words.{AreAtLeastOne};
+ghost use Rattle.case_match.specs.Options.{AreAtLeastOne};
+ghost use Rattle.command_line.specs.Words.{ArePositive};
 ghost use Rattle.delegate.specs.declared.commands.Alone as commands;
 ghost use Rattle.delegate.specs.declared.response.Response as responses;
 ghost use Rattle.delegate.specs.Alone.{command_of, IsOutcomeOf};
@@ -18,7 +19,8 @@ mod run;
 use crate::faults;
 use crate::program::MAX_CASE_BYTES;
 use crate::response::{Response, Stop, either_way};
-use command_line::{Command, Request, plain_words};
+use case_match::Options;
+use command_line::{Command, OptionNumbers, Request, plain_words};
 use rd_base::Memory;
 use std::alloc::Global;
 use std::sync::Wait;
@@ -35,6 +37,18 @@ pub enum Alone {
     Listing,
 }
 
+/// How a match is played by the numbers that were given to its options.
+fn options_of(numbers: OptionNumbers) -> Options
+    requires { ArePositive numbers }
+    ensures { AreAtLeastOne result }
+{
+    Options {
+        workers: numbers.workers,
+        posters: numbers.posters,
+        every: numbers.every,
+    }
+}
+
 /// Carries out a command on the bytes that were read for it. `run`, `roots`, `audit` and `list` wait for nobody.
 pub fn carry_out<R: Threads + Wait + Sync>(
     rt: &R,
@@ -42,17 +56,18 @@ pub fn carry_out<R: Threads + Wait + Sync>(
     request: Request,
     bytes: Vec<u8>,
 ) -> Result<Response, Stop>
-    requires { AreAtLeastOne request.options }
+    requires { ArePositive request.options }
     ensures stands { Stands (λ response. response) result (carried_out request.command bytes.items) }
     ensures in_range { IfOk result (λ response. DecidesInRange request.command bytes.items) }
 {
+    let options = options_of(request.options);
     match request.command {
-        Command::Judge(text, name) => judge::judge(rt, alloc, text, name, request.options, bytes),
+        Command::Judge(text, name) => judge::judge(rt, alloc, text, name, options, bytes),
         Command::Run => carry_out_alone(alloc, Alone::Run, bytes),
         Command::Roots => run::roots(rt, alloc, bytes),
         Command::Audit => carry_out_alone(alloc, Alone::Audit, bytes),
         Command::Listing => carry_out_alone(alloc, Alone::Listing, bytes),
-        Command::Big(seed) => big::big(rt, alloc, seed, request.options),
+        Command::Big(seed) => big::big(rt, alloc, seed, options),
     }
 }
 

@@ -11,14 +11,14 @@ ghost use Rattle.delegate.specs.Confirmed.{ConfirmedTextsAreRight};
 ghost use Rattle.delegate.specs.Headline.{HeadlineOfCases};
 ghost use Rattle.delegate.specs.Sharing.{OutcomesAreOfTheCommand, JudgingIsSharedOut, BigIsSharedOut};
 ghost use Rattle.delegate.specs.Auditable.{WrittenTextsAreConfirmed, JudgesEndAlike};
-ghost use Rattle.delegate.specs.InShortLaw.{HeadlineInShort, JudgeAcceptsWhatRunPrints, BigInShort};
+ghost use Rattle.delegate.specs.InShortLaw.{HeadlineInShort, JudgeAcceptsWhatRunPrints, InShortSaysPlainly, BigInShort};
 
 use case_match::{
     truthful_provers_of_cases_are_safe, untouched_provers_are_truthful,
     who_lives_in_a_case_wins_all,
 };
 use case_reader::{no_fault_of_a_case_is_out_of_memory, no_fault_of_tasks_is_out_of_memory};
-use command_line::options_are_taken;
+use command_line::{options_are_taken, plain_options_are_taken, plain_words};
 use digest_core::{Sha256, Weak8};
 use machine_audit::{confirmed_cases_are_right, written_cases_are_confirmed};
 use mem_plain::contents_of_a_function;
@@ -51,6 +51,15 @@ pub fn the_headline_in_short()
 {
     the_headline();
     untouched_provers_are_truthful();
+}
+
+/// What the sentence in short says of all arguments, it says of plain words: of `PROGRAM judge` with its options, each at most once and its
+/// number in decimal, and of `PROGRAM run`.
+pub fn in_short_is_said_plainly()
+    ensures { InShortSaysPlainly }
+{
+    plain_options_are_taken();
+    plain_words();
 }
 
 /// `judge` accepts what `run` prints of the same bytes, if one prover is `{}`, or it shows two different strings of one digest.

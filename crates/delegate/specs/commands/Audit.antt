@@ -15,7 +15,7 @@ use Rattle.audit.specs.declared.finding.Cause.TheVariants.{NotAsked, OtherReply,
 use Rattle.audit.specs.declared.finding.Audit.{Audit}
 use Rattle.audit.specs.declared.finding.Audit.TheVariants.{Confirmed, Refused}
 use Rattle.audit.specs.LineByLine.{audited}
-use Rattle.delegate.specs.Decided.{digest_of}
+use Rattle.digest_core.specs.Name.{digest_of}
 use Rattle.delegate.specs.Refusal.{or_refusal}
 use Rattle.delegate.specs.declared.response.Response.{Response}
 use Rattle.delegate.specs.declared.response.Answered.TheVariants.{Done, AuditRefused}

@@ -1,7 +1,7 @@
 -- To believe. `big`: the match of the large workload of a seed, decided, and its summary. It reads nothing.
 use Rattle.std.specs.Prelude.{ℕ, Result, Ok}
 use Rattle.rd_base.specs.Results.{◌>>=◌}
-use Rattle.transcript_text.specs.declared.text.DigestName.TheVariants.{Sha256}
+use Rattle.digest_core.specs.declared.name.DigestName.TheVariants.{Sha256}
 use Rattle.workload.specs.Workload.{big_data}
 use Rattle.delegate.specs.Loading.{start_in}
 use Rattle.delegate.specs.Decided.{Deciding, summary, response_to_case}

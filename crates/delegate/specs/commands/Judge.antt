@@ -3,7 +3,7 @@
 use Rattle.std.specs.Prelude.{ℕ, List, Result, Ok}
 use Rattle.rd_base.specs.Results.{◌>>=◌}
 use Rattle.case_reader.specs.Tasks.{TasksData, One, Many}
-use Rattle.transcript_text.specs.declared.text.DigestName.{DigestName}
+use Rattle.digest_core.specs.declared.name.DigestName.{DigestName}
 use Rattle.command_line.specs.declared.request.MatchText.{MatchText}
 use Rattle.delegate.specs.Loading.{tasks_in, start_in, starts_in}
 use Rattle.delegate.specs.Decided.{Deciding, written_as, response_to_case, together, responses_to_cases}

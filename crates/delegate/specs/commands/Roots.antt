@@ -6,9 +6,9 @@ use Rattle.rv_step.specs.State.{State}
 use Rattle.rv_step.specs.Step.{state_at}
 use Rattle.segment_replay.specs.Roots.{own_root}
 use Rattle.case_reader.specs.Case.{CaseData}
-use Rattle.transcript_text.specs.declared.text.DigestName.TheVariants.{Sha256}
+use Rattle.digest_core.specs.declared.name.DigestName.TheVariants.{Sha256}
 use Rattle.transcript_text.specs.Roots.{root_lines}
-use Rattle.delegate.specs.Decided.{digest_of}
+use Rattle.digest_core.specs.Name.{digest_of}
 use Rattle.delegate.specs.Loading.{case_in, start_in}
 use Rattle.delegate.specs.Refusal.{bound_refusal}
 use Rattle.delegate.specs.declared.response.Subject.TheVariants.{Whole}

@@ -9,11 +9,11 @@ ghost use Rattle.delegate.specs.Standing.{Stands};
 
 use crate::response::{Answered, Response, Stop, text_response};
 use audit::{Audit, Cause, a_read_text_may_be_audited, audit};
-use digest_core::{Sha256, Weak8};
+use digest_core::{DigestName, Sha256, Weak8};
 use rd_base::Memory;
 use std::alloc::{AllocError, Global};
 use step_referee::MachineJudge;
-use transcript_text::{DigestName, FullText, Stated, TextFault, read_full, stated_line};
+use transcript_text::{FullText, Stated, TextFault, read_full, stated_line};
 
 /// The response to a fault of a text. Its text is empty if the fault is `Memory`.
 fn text_refusal(alloc: Global, fault: TextFault) -> Result<Response, AllocError>

@@ -4,7 +4,7 @@ ghost use Rattle.std.specs.List.{All};
 ghost use Rattle.rv_step.specs.State.{state_of};
 ghost use Rattle.case_reader.specs.Case.{data_of};
 ghost use Rattle.case_reader.specs.Tasks.{tasks_data, AreFew};
-ghost use Rattle.command_line.specs.Words.{AreAtLeastOne};
+ghost use Rattle.case_match.specs.Options.{AreAtLeastOne};
 ghost use Rattle.deposits.specs.Balances.{IsSettledUp};
 ghost use Rattle.transcript_text.specs.Report.{report_text};
 ghost use Rattle.transcript_text.specs.MoveLists.{moves_of};
@@ -12,7 +12,8 @@ ghost use Rattle.transcript_text.specs.FullLines.{AreWritten};
 ghost use Rattle.transcript_text.specs.reader.InLimits.{AreBytes};
 ghost use Rattle.case_match.specs.Match.{record_of_case, verdict_of_record};
 ghost use Rattle.case_match.specs.Openings.{IsFresh, ended_of};
-ghost use Rattle.delegate.specs.Decided.{digest_of, written_as, tasks_for, balances_in, match_text, response_of, response_to_case, match_head, answered_by, task_line, task_texts, gravest, together, responses_to_cases};
+ghost use Rattle.digest_core.specs.Name.{digest_of};
+ghost use Rattle.delegate.specs.Decided.{written_as, tasks_for, balances_in, match_text, response_of, response_to_case, match_head, answered_by, task_line, task_texts, gravest, together, responses_to_cases};
 ghost use Rattle.delegate.specs.Headline.{AreByteStrings};
 ghost use Rattle.delegate.specs.Standing.{Stands, AreInRange, AreInRangeIfThere, IsFreshStart, IsShown, EndsAreShown, AreAllShown, CanBePaid, responses};
 ghost use Rattle.delegate.specs.commands.Judge.{judging, response_to_tasks, judge_response};
@@ -20,19 +21,20 @@ ghost use Rattle.delegate.specs.commands.Judge.{judging, response_to_tasks, judg
 use crate::loading::{start_in, starts_in, tasks_in};
 use crate::response::{Answered, Response, Stop, Subject};
 use case_match::{
-    Ended, LoadedCase, ended_one, ended_tasks, loaded_cases, records_of_cases_are_settled_up,
+    Ended, LoadedCase, Options, ended_one, ended_tasks, loaded_cases,
+    records_of_cases_are_settled_up,
 };
 use case_reader::{Case, Tasks};
-use command_line::{MatchText, Options};
+use command_line::MatchText;
 use deposits::balances;
-use digest_core::{Sha256, Weak8};
+use digest_core::{DigestName, Sha256, Weak8};
 use rd_base::{Bytes, Digest32, Memory};
 use rv_step::Machine;
 use std::alloc::Global;
 use std::sync::Wait;
 use std::thread::Threads;
 use tournament::{Record, Verdict};
-use transcript_text::{DigestName, Head};
+use transcript_text::Head;
 
 /// What `judge` is asked for: the digest of the match's commitments, by its name, and the text.
 #[derive(Clone, Copy, Debug)]
@@ -228,7 +230,7 @@ fn add_texts(
 ) -> Result<Answered, Memory>
     requires few { number + length cases.now ≤ 9 }
     requires settled_up { CanBePaid (map data_of cases.now) ends.now }
-    ensures texts { OnOk result (out.new.items ≡ out.old.items ++ task_texts number (responses (judging asked.text asked.name) (map data_of cases.now) ends.now)) }
+    ensures texts { OnOk result (out.new.items ≡ out.old.items ++ task_texts number (map (λ response. response.text) (responses (judging asked.text asked.name) (map data_of cases.now) ends.now))) }
     ensures answered { IfOk result (λ answered. answered ≡ gravest (responses (judging asked.text asked.name) (map data_of cases.now) ends.now)) }
     ensures shown { IfOk result (λ answered. EndsAreShown (judging asked.text asked.name) (map data_of cases.now) ends.now) }
 {

@@ -5,6 +5,7 @@ use Rattle.delegate.specs.Keeps.{Keeps}
 use Rattle.delegate.specs.Writing.{words_given}
 use Rattle.delegate.specs.Answered.{status_number}
 use Rattle.delegate.specs.InShort.{SaysInShort}
+use Rattle.delegate.specs.Plainly.{SaysPlainly}
 use Rattle.delegate.proofs.InShortLemmas.{short-by}
 use Rattle.delegate.proofs.BigLemmas.{big-by}
 use Rattle.delegate.proofs.ProcessLemmas.{promised-by, whole-by, same-words, status-2, of-command-by, usage-by}
@@ -16,6 +17,13 @@ returns-in-Some-clause-keeps g c = λ words is wholly.
     (g.K.Sink.held c.args.sink.now) (g.K.Sink.held c.run.new.sink)
     (ap texts c.as_slice.ensures.value ∙ same-words (words_given c.args.arguments) (texts c.in-Some.words.items) words c.in-Some.ensures is) c.exit_code.ensures
     (c.run.ensures.keeps (whole-by c.run.result (exit_status c.exit_code.result) c.exit_code.ensures wholly))
+
+pub returns-in-Some-clause-plainly : goal.returns-in-Some-clause-plainly
+returns-in-Some-clause-plainly g c = λ words is wholly.
+    short-by (g.S.Source.left c.args.source.now) SaysPlainly (texts c.as_slice.result.now) words (status_number c.run.result) (exit_status c.exit_code.result)
+    (g.K.Sink.held c.args.sink.now) (g.K.Sink.held c.run.new.sink)
+    (ap texts c.as_slice.ensures.value ∙ same-words (words_given c.args.arguments) (texts c.in-Some.words.items) words c.in-Some.ensures is) c.exit_code.ensures
+    (c.run.ensures.plainly (whole-by c.run.result (exit_status c.exit_code.result) c.exit_code.ensures wholly))
 
 pub returns-in-Some-clause-in_short : goal.returns-in-Some-clause-in_short
 returns-in-Some-clause-in_short g c = λ words is wholly.

@@ -2,7 +2,7 @@ use Rattle.std.proofs.Common.{◌∙◌, All, map, ap, sym, subst}
 use Rattle.std.proofs.lemmas.Result.{IfOk-weaker}
 use Rattle.case_match.specs.declared.opening.LoadedCase.{LoadedCase}
 use Rattle.case_match.specs.Openings.{IsFresh, ended_of}
-use Rattle.delegate.specs.Decided.{digest_of}
+use Rattle.digest_core.specs.Name.{digest_of}
 use Rattle.delegate.proofs.commands.judge.ended_by.Goals as goal
 
 pub ended_tasks-requires-clause-fresh : goal.ended_tasks-requires-clause-fresh

@@ -1,7 +1,7 @@
 use Rattle.std.proofs.Common.{◌∙◌, ap, sym, subst}
 use Rattle.std.proofs.lemmas.Result.{IfOk-weaker}
 use Rattle.case_match.specs.Openings.{IsFresh, ended_of}
-use Rattle.delegate.specs.Decided.{digest_of}
+use Rattle.digest_core.specs.Name.{digest_of}
 use Rattle.delegate.proofs.commands.judge.ended_one_by.Goals as goal
 
 pub ended_one-requires-clause-fresh : goal.ended_one-requires-clause-fresh

@@ -1,4 +1,4 @@
-use Rattle.delegate.specs.Decided.{digest_of}
+use Rattle.digest_core.specs.Name.{digest_of}
 use Rattle.delegate.proofs.commands.judge.judge_case.Goals as goal
 
 pub ended_one_by-requires-clause-fresh : goal.ended_one_by-requires-clause-fresh

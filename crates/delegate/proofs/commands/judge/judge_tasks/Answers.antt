@@ -3,7 +3,7 @@ use Rattle.std.proofs.lemmas.List.{length-map}
 use Rattle.case_reader.specs.Case.{data_of}
 use Rattle.case_match.specs.declared.opening.LoadedCase.{LoadedCase}
 use Rattle.delegate.specs.commands.Judge.{judging}
-use Rattle.delegate.specs.Decided.{digest_of}
+use Rattle.digest_core.specs.Name.{digest_of}
 use Rattle.delegate.proofs.TaskLemmas.{all-chained, all-silent, all-settled, all-shown, told-together}
 use Rattle.delegate.proofs.commands.judge.judge_tasks.Goals as goal
 

@@ -2,7 +2,7 @@ use Rattle.std.proofs.Common.{◌≡◌, map, sym, subst, Ok}
 use Rattle.rv_step.specs.State.{state_of}
 use Rattle.case_reader.specs.Case.{data_of}
 use Rattle.case_reader.specs.Tasks.{tasks_data}
-use Rattle.delegate.specs.Decided.{digest_of}
+use Rattle.digest_core.specs.Name.{digest_of}
 use Rattle.delegate.specs.Loading.{starts_in}
 use Rattle.delegate.specs.commands.Judge.{judging}
 use Rattle.delegate.specs.Standing.{AreAllInRange, AreAllShown, AreInRange}
