@@ -31,6 +31,7 @@ pub mod Writing
 pub mod Headline
 pub mod InShort
 pub mod Plainly
+pub mod Guests
 pub mod Auditable
 pub mod Keeps
 pub mod Sharing

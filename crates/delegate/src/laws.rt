@@ -1,8 +1,13 @@
 //! Laws of the definitions, each the contract of a function that does nothing.
-ghost use Rattle.std.specs.Prelude.{◌≡◌, ◌<◌, ◌≤◌, ℕ, List, length, slice_index};
+ghost use Rattle.std.specs.Prelude.{◌≡◌, ◌<◌, ◌≤◌, ◌++◌, ℕ, List, codes, length, slice_index};
 ghost use Rattle.rd_base.specs.Results.{map_fault};
 ghost use Rattle.image_reader.specs.Image.{flat_at};
 ghost use Rattle.rv_text.specs.Listing.{listing};
+ghost use Rattle.rv_step.specs.Step.{state_at};
+ghost use Rattle.workload.specs.Workload.{input_of};
+ghost use Rattle.guests.specs.Sum.{sum_of};
+ghost use Rattle.delegate.specs.InShort.{accepting, big_start, big_bound};
+ghost use Rattle.delegate.specs.Guests.{exited_with, ChecksumsAreAccepted};
 ghost use Rattle.delegate.specs.AsmImage.{asm_at};
 ghost use Rattle.delegate.specs.declared.loading.AsmImageFault.TheVariants as fault;
 ghost use Rattle.delegate.specs.commands.List.{words_in_file};
@@ -17,9 +22,13 @@ use case_match::{
     truthful_provers_of_cases_are_safe, untouched_provers_are_truthful,
     who_lives_in_a_case_wins_all,
 };
-use case_reader::{no_fault_of_a_case_is_out_of_memory, no_fault_of_tasks_is_out_of_memory};
+use case_reader::{
+    inputs_are_read_in_range, no_fault_of_a_case_is_out_of_memory,
+    no_fault_of_tasks_is_out_of_memory,
+};
 use command_line::{options_are_taken, plain_options_are_taken, plain_words};
 use digest_core::{Sha256, Weak8};
+use guests::{adler32_is_computed, workload_adds_up_its_input};
 use machine_audit::{confirmed_cases_are_right, written_cases_are_confirmed};
 use mem_plain::contents_of_a_function;
 use rv_text::listing_is_read_back;
@@ -60,6 +69,23 @@ pub fn in_short_is_said_plainly()
 {
     plain_options_are_taken();
     plain_words();
+}
+
+/// What is accepted of the large workload's run is the sum of its input's bytes: exit status 0, and the sum's two low bytes, the lowest first.
+pub fn big_accepts_the_sum()
+    ensures { (seed : ℕ) → accepting (state_at (big_start seed) big_bound) ≡ codes "accept " ++ exited_with (sum_of (input_of seed)) }
+{
+    workload_adds_up_its_input();
+}
+
+/// Of a case of the file `guest/adler32/program.elf`, with any input and with a bound that its run doesn't reach, the sentence in short
+/// says a checksum: if one prover is `{}`, the last line that `judge` writes accepts the Adler-32 of the input, or shows two different
+/// strings of one digest; and `run` answers with it.
+pub fn checksums_are_accepted()
+    ensures { ChecksumsAreAccepted }
+{
+    adler32_is_computed();
+    inputs_are_read_in_range();
 }
 
 /// `judge` accepts what `run` prints of the same bytes, if one prover is `{}`, or it shows two different strings of one digest.

@@ -8,6 +8,7 @@ use Rattle.delegate.specs.InShort.{SaysInShort}
 use Rattle.delegate.specs.Plainly.{SaysPlainly}
 use Rattle.delegate.proofs.InShortLemmas.{short-by}
 use Rattle.delegate.proofs.BigLemmas.{big-by}
+use Rattle.delegate.proofs.GuestLemmas.{sum-by}
 use Rattle.delegate.proofs.ProcessLemmas.{promised-by, whole-by, same-words, status-2, of-command-by, usage-by}
 use Rattle.delegate.proofs.program.run_process.Goals as goal
 
@@ -38,6 +39,13 @@ returns-in-Some-clause-big g c = λ words is wholly.
     (g.K.Sink.held c.args.sink.now) (g.K.Sink.held c.run.new.sink)
     (ap texts c.as_slice.ensures.value ∙ same-words (words_given c.args.arguments) (texts c.in-Some.words.items) words c.in-Some.ensures is) c.exit_code.ensures
     (c.run.ensures.big (whole-by c.run.result (exit_status c.exit_code.result) c.exit_code.ensures wholly))
+
+pub returns-in-Some-clause-sum : goal.returns-in-Some-clause-sum
+returns-in-Some-clause-sum g c = λ words is wholly.
+    sum-by (texts c.as_slice.result.now) words (status_number c.run.result) (exit_status c.exit_code.result)
+    (g.K.Sink.held c.args.sink.now) (g.K.Sink.held c.run.new.sink)
+    (ap texts c.as_slice.ensures.value ∙ same-words (words_given c.args.arguments) (texts c.in-Some.words.items) words c.in-Some.ensures is) c.exit_code.ensures
+    (c.run.ensures.sum (whole-by c.run.result (exit_status c.exit_code.result) c.exit_code.ensures wholly))
 
 pub returns-in-Some-clause-of_its_command : goal.returns-in-Some-clause-of_its_command
 returns-in-Some-clause-of_its_command g c = λ words is wholly.
