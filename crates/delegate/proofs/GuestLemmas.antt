@@ -16,7 +16,7 @@ use Rattle.digest_core.specs.declared.name.DigestName.{DigestName}
 use Rattle.digest_core.specs.declared.name.DigestName.TheVariants.{Sha256}
 use Rattle.workload.specs.Workload.{input_of}
 use Rattle.guests.specs.Guest.{HasPutOut}
-use Rattle.guests.specs.Sum.{total, sum_of, SeedsAreSummed}
+use Rattle.guests.specs.Sum.{total, summed_bytes, SeedsAreSummed}
 use Rattle.guests.specs.Adler32.{adler32_of}
 use Rattle.guests.specs.Adler32File.{adler32_file, FileLoads, FileComputesAdler32}
 use Rattle.delegate.specs.InShort.{accepting, HasLastLine, Accepts, Answers, Collides, EndsWith, EndsWithTwoStrings, IsCaseOf, IsImageOf, IsStartOf, big_start, big_bound, SaysInShort, SaysOfBig, IsWrittenOf}
@@ -33,13 +33,13 @@ long-enough : 32781 ≤ big_bound
 unfolding big_bound
 long-enough = omega arith
 
-pub accepts-sum : SeedsAreSummed → (seed : ℕ) → accepting (state_at (big_start seed) big_bound) ≡ codes "accept " ++ exited_with (sum_of (input_of seed))
+pub accepts-sum : SeedsAreSummed → (seed : ℕ) → accepting (state_at (big_start seed) big_bound) ≡ codes "accept " ++ exited_with (summed_bytes (input_of seed))
 accepts-sum law seed =
     let summed = law seed big_bound long-enough in
     ap (λ (text : List ℕ). codes "accept " ++ text) (put-out-text _ _ (total (input_of seed) % 256) (total (input_of seed) / 256 % 256 ∷ []) summed.exited summed.output)
 
 abbrev pub AcceptsSum : Type 0
-AcceptsSum = (seed : ℕ) → accepting (state_at (big_start seed) big_bound) ≡ codes "accept " ++ exited_with (sum_of (input_of seed))
+AcceptsSum = (seed : ℕ) → accepting (state_at (big_start seed) big_bound) ≡ codes "accept " ++ exited_with (summed_bytes (input_of seed))
 
 says-sum : AcceptsSum → (words : List (List ℕ)) (status : ℕ) (text : List ℕ) → SaysOfBig words status text → SaysTheSum words status text
 says-sum law words status text says seed chosen_is =

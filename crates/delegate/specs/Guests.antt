@@ -7,7 +7,7 @@ use Rattle.case_reader.specs.declared.case.Format.TheVariants.{Elf}
 use Rattle.digest_core.specs.declared.name.DigestName.{DigestName}
 use Rattle.digest_core.specs.declared.name.DigestName.TheVariants.{Sha256}
 use Rattle.workload.specs.Workload.{input_of}
-use Rattle.guests.specs.Sum.{sum_of}
+use Rattle.guests.specs.Sum.{summed_bytes}
 use Rattle.guests.specs.Adler32.{adler32_of}
 use Rattle.guests.specs.Adler32File.{adler32_file}
 use Rattle.command_line.specs.Words.{chosen}
@@ -22,7 +22,7 @@ exited_with output = codes "exited 0 output " ++ encode_lower output
 -- `big`: the status is 0, and its line ends by accepting the sum of the input's bytes, or by two strings of one digest
 abbrev pub SaysTheSum : List (List ℕ) → ℕ → List ℕ → Type 0
 SaysTheSum words status text = (seed : ℕ) → chosen words ≡ Some (Big seed) →
-    (status ≡ 0) × (EndsWith (codes "accept " ++ exited_with (sum_of (input_of seed))) text ⊎ EndsWithTwoStrings Sha256 text)
+    (status ≡ 0) × (EndsWith (codes "accept " ++ exited_with (summed_bytes (input_of seed))) text ⊎ EndsWithTwoStrings Sha256 text)
 
 -- a case of the file, with any input and any provers, and with a bound that the run doesn't reach
 pub record IsChecksumCase (c : CaseData) : Type 0 where

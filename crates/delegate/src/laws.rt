@@ -5,7 +5,7 @@ ghost use Rattle.image_reader.specs.Image.{flat_at};
 ghost use Rattle.rv_text.specs.Listing.{listing};
 ghost use Rattle.rv_step.specs.Step.{state_at};
 ghost use Rattle.workload.specs.Workload.{input_of};
-ghost use Rattle.guests.specs.Sum.{sum_of};
+ghost use Rattle.guests.specs.Sum.{summed_bytes};
 ghost use Rattle.delegate.specs.InShort.{accepting, big_start, big_bound};
 ghost use Rattle.delegate.specs.Guests.{exited_with, ChecksumsAreAccepted};
 ghost use Rattle.delegate.specs.AsmImage.{asm_at};
@@ -73,7 +73,7 @@ pub fn in_short_is_said_plainly()
 
 /// What is accepted of the large workload's run is the sum of its input's bytes: exit status 0, and the sum's two low bytes, the lowest first.
 pub fn big_accepts_the_sum()
-    ensures { (seed : ℕ) → accepting (state_at (big_start seed) big_bound) ≡ codes "accept " ++ exited_with (sum_of (input_of seed)) }
+    ensures { (seed : ℕ) → accepting (state_at (big_start seed) big_bound) ≡ codes "accept " ++ exited_with (summed_bytes (input_of seed)) }
 {
     workload_adds_up_its_input();
 }

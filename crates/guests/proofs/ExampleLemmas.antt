@@ -1,6 +1,6 @@
 -- Worked examples of the definitions to believe, with values from outside: the test vectors of zlib's `adler32`, and sums.
 use Rattle.std.proofs.Common.{◌≡◌, ℕ, List, [], ◌∷◌, codes, refl}
-use Rattle.guests.specs.Sum.{sum_of}
+use Rattle.guests.specs.Sum.{summed_bytes}
 use Rattle.guests.specs.Adler32.{low_after, high_after, adler32_of}
 
 adler32-empty : adler32_of [] ≡ 0 ∷ 0 ∷ 0 ∷ 1 ∷ []
@@ -19,8 +19,8 @@ adler32-of-the-greatest-bytes : adler32_of (0xff ∷ 0xff ∷ 0xff ∷ 0xff ∷ 
 unfolding low_after high_after
 adler32-of-the-greatest-bytes = refl
 
-sum-of-three : sum_of (1 ∷ 2 ∷ 3 ∷ []) ≡ 6 ∷ 0 ∷ []
+sum-of-three : summed_bytes (1 ∷ 2 ∷ 3 ∷ []) ≡ 6 ∷ 0 ∷ []
 sum-of-three = refl
 
-sum-of-the-greatest-bytes : sum_of (0xff ∷ 0xff ∷ 0xff ∷ 0xff ∷ []) ≡ 0xfc ∷ 0x03 ∷ []
+sum-of-the-greatest-bytes : summed_bytes (0xff ∷ 0xff ∷ 0xff ∷ 0xff ∷ []) ≡ 0xfc ∷ 0x03 ∷ []
 sum-of-the-greatest-bytes = refl

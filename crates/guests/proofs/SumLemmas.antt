@@ -13,7 +13,7 @@ use Rattle.rv_step.specs.declared.effect.Effect.TheVariants.{Write, Next, Store,
 use Rattle.workload.specs.Program.{program}
 use Rattle.workload.specs.Workload.{input_of}
 use Rattle.guests.specs.Guest.{HasBytes, HasPutOut}
-use Rattle.guests.specs.Sum.{total, sum_of, summing, InputsAreSummed, SeedsAreSummed}
+use Rattle.guests.specs.Sum.{byte_total, summed_bytes, summing, InputsAreSummed, SeedsAreSummed}
 use Rattle.guests.proofs.RunLemmas.{stepped, then_runs, stays}
 use Rattle.guests.proofs.BytesLemmas.{StoredLaw, MemoryLaws, number-there, stored-keeps, laid-keeps, laid-there, laid-leaves, number-same}
 use Rattle.guests.proofs.BlockLemmas.{block, carried, are_quiet}
@@ -96,7 +96,7 @@ so_far-cons b bytes (suc k) =
     let before = so_far-cons b bytes k in
     omega arith
 
-so_far-total : (bytes : List ℕ) → so_far bytes (length bytes) ≡ total bytes
+so_far-total : (bytes : List ℕ) → so_far bytes (length bytes) ≡ byte_total bytes
 unfolding so_far
 so_far-total [] = refl
 so_far-total (b ∷ bytes) = so_far-cons b bytes (length bytes) ∙ ap (λ n. b + n) (so_far-total bytes)
@@ -226,7 +226,7 @@ ends input m x8 is =
     ap (λ x6. state_at (at 0x10014 (registers (0x40000004 + n) x6 (0x20000 + 4 * n) x8 (so_far input n) 0) m []) 8) none
     ∙ closing m is.code (0x40000004 + n) (0x20000 + 4 * n) x8 (so_far input n)
 
-ended-sums : (input : List ℕ) (m : Contents) (x8 : ℕ) → HasPutOut (sum_of input) (ended input m x8)
+ended-sums : (input : List ℕ) (m : Contents) (x8 : ℕ) → HasPutOut (summed_bytes input) (ended input m x8)
 ended-sums input m x8 = record {
   exited = refl;
   output = ap (λ sum. sum % 256 ∷ sum / 256 % 256 ∷ []) (so_far-total input);
@@ -240,7 +240,7 @@ inputs_summed laws input short small steps enough =
     let last = turned laws input short small n (omega arith) in
     let final = ended input last.memory last.x8 in
     let there = then_runs (summing input) (turning input last.memory n last.x8) final (5 + 8 * n) 8 (13 + 8 * n) (omega arith) last.is (ends input last.memory last.x8 last.has) in
-    subst (HasPutOut (sum_of input)) (sym (stays (summing input) final (13 + 8 * n) steps there refl enough)) (ended-sums input last.memory last.x8)
+    subst (HasPutOut (summed_bytes input)) (sym (stays (summing input) final (13 + 8 * n) steps there refl enough)) (ended-sums input last.memory last.x8)
 
 -- the input of a seed is short, and of bytes, as `workload` states it
 pub seeds_summed : InputsAreSummed → ((seed : ℕ) → length (input_of seed) ≡ 4096) → ((seed k : ℕ) → slice_index (input_of seed) k < 256) → SeedsAreSummed
