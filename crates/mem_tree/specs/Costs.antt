@@ -1,9 +1,9 @@
 -- To believe. How many digests a refresh makes: those of the chunks that differ from what is kept, and of the nodes above them.
-use Rattle.std.specs.Prelude.{ℕ, ◌+◌, Bool, not, List, [], ◌∷◌, Option, None, bytes_eq, if◌then◌else◌}
+use Rattle.std.specs.Prelude.{ℕ, zero, suc, ◌+◌, ◌/◌, ◌==◌, Bool, ◌||◌, not, List, [], ◌∷◌, Option, None, is_some, bytes_eq, if◌then◌else◌}
 use Rattle.mem_plain.specs.Contents.{Contents}
 use Rattle.merkle_nodes.specs.Renewals.{how_many, is_changed, renewals}
 use Rattle.mem_tree.specs.Page.{page_chunk, kept_chunk}
-use Rattle.mem_tree.specs.Tree.{Kept, page_at}
+use Rattle.mem_tree.specs.Tree.{Kept, page_at, upper_at}
 use Rattle.mem_tree.specs.declared.kept.PageTree.{PageTree}
 
 -- two chunks are different
@@ -33,3 +33,39 @@ page_changes tree m page = how_many (differs tree m page) 128
 abbrev pub changed_chunks : Kept → Contents → List ℕ → ℕ
 changed_chunks t m [] = 0
 changed_chunks t m (page ∷ rest) = page_changes (page_at t page) m page + changed_chunks t m rest
+
+-- how many digests the subtrees of some pages take
+abbrev pub page_digests : Kept → Contents → List ℕ → ℕ
+page_digests t m [] = 0
+page_digests t m (page ∷ rest) = page_renewals (page_at t page) m page + page_digests t m rest
+
+-- those of some pages above which the nodes are joined anew: the pages that have changed, and all of them if the refresh before failed
+abbrev pub stale_pages : Bool → Kept → Contents → List ℕ → List ℕ
+stale_pages failed t m [] = []
+stale_pages failed t m (page ∷ rest) =
+    if has_changed (page_at t page) m page || failed then page ∷ stale_pages failed t m rest else stale_pages failed t m rest
+
+-- a place before others, unless it is the first of them
+abbrev pub before_others : ℕ → List ℕ → List ℕ
+before_others k [] = k ∷ []
+before_others k (first ∷ rest) = if k == first then first ∷ rest else k ∷ first ∷ rest
+
+-- the places of the nodes above the nodes at places of a level: each once, if the places are in order
+abbrev pub parents : List ℕ → List ℕ
+parents [] = []
+parents (k ∷ rest) = before_others (k / 2) (parents rest)
+
+-- the places of the nodes this many levels above some pages' roots
+unfoldable pub ancestors : ℕ → List ℕ → List ℕ
+ancestors zero pages = pages
+ancestors (suc n) pages = parents (ancestors n pages)
+
+-- how many of the nodes at these places of level 7 + n are kept
+abbrev pub kept_among : Kept → ℕ → List ℕ → ℕ
+kept_among t n [] = 0
+kept_among t n (k ∷ rest) = (if is_some (upper_at t n k) then 1 else 0) + kept_among t n rest
+
+-- how many nodes are kept above some pages' roots, on the n levels from these on
+unfoldable pub kept_above : Kept → ℕ → List ℕ → ℕ
+kept_above t zero pages = 0
+kept_above t (suc n) pages = kept_above t n pages + kept_among t (suc n) (ancestors (suc n) pages)

@@ -1,8 +1,9 @@
 //! The nodes above changed pages, renewed level by level, each once.
-ghost use Rattle.std.specs.Prelude.{◌≡◌, ◌≢◌, ◌⊎◌, ◌+◌, ◌*◌, ◌/◌, ◌≤◌, ◌<◌, ◌^◌, ℕ, List, [], length, OnOk, OnErr, IfOk, IsTrue, false, true};
+ghost use Rattle.std.specs.Prelude.{◌≡◌, ◌≢◌, ◌⊎◌, ◌+◌, ◌*◌, ◌/◌, ◌≤◌, ◌<◌, ◌^◌, ℕ, List, [], length, OnOk, OnErr, IfOk, false, true};
 ghost use Rattle.mem_tree.specs.Page.{AreEmpty};
 ghost use Rattle.mem_tree.specs.Tree.{kept_of, upper_at, IsJoinedAbove, IsJoinedBut, is_among};
-ghost use Rattle.mem_tree.specs.Levels.{IsJoinedFrom};
+ghost use Rattle.mem_tree.specs.Levels.{IsJoinedFrom, others_before};
+ghost use Rattle.mem_tree.specs.Costs.{kept_above, kept_among, parents as parents_of};
 
 use crate::kept::Nodes;
 use crate::nodes::UPPER_LEVELS;
@@ -11,16 +12,21 @@ use rd_base::{Memory, Steps};
 use std::alloc::Global;
 use std::sync::ledger::Ledger;
 
-/// Whether a place is the last of some.
-fn is_last(places: &[u32], place: u32) -> bool
-    ensures { IsTrue result → is_among places.now place ≡ true }
+/// Adds a place to others, unless it is the last of them. An `Err` is out of memory.
+fn add_once(places: &mut Vec<u32>, place: u32) -> Result<(), Memory>
+    ensures { OnOk result (places.new.items ≡ others_before places.old.items place) }
 {
     let count = places.len();
-    count > 0 && places[count - 1] == place
+    if count > 0 && places[count - 1] == place {
+        return Ok(());
+    }
+    places.push(place)?;
+    Ok(())
 }
 
 /// The places of the nodes above nodes of a level, each once if the places are in order. An `Err` is out of memory.
 fn parents(alloc: Global, places: &[u32]) -> Result<Vec<u32>, Memory>
+    ensures exactly { IfOk result (λ v. v.items ≡ parents_of places.now) }
     ensures above { IfOk result (λ v. (q : ℕ) → is_among places.now q ≡ true → is_among v.items (q / 2) ≡ true) }
     ensures below { IfOk result (λ v. (h : ℕ) → is_among v.items h ≡ true → (q : ℕ) × (is_among places.now q ≡ true) × (q / 2 ≡ h)) }
     ensures few { IfOk result (λ v. length v.items ≤ length places.now) }
@@ -28,10 +34,7 @@ fn parents(alloc: Global, places: &[u32]) -> Result<Vec<u32>, Memory>
 {
     let mut above = Vec::new(alloc);
     'places: for i in 0..places.len() {
-        let parent = places[i] / 2;
-        if !is_last(&above, parent) {
-            above.push(parent)?;
-        }
+        add_once(&mut above, places[i] / 2)?;
     }
     Ok(above)
 }
@@ -54,6 +57,7 @@ impl Nodes {
         ensures pages { self.new.pages ≡ self.old.pages }
         ensures empties { self.new.empties ≡ self.old.empties }
         ensures some { OnErr result (0 < length places.now) }
+        ensures exactly { OnOk result (steps.new ≡ steps.old + kept_among (kept_of self.new) (above + 1) places.now) }
         ensures steps { steps.new ≤ steps.old + length places.now }
         ensures more { steps.old ≤ steps.new }
     {
@@ -81,6 +85,7 @@ impl Nodes {
         ensures pages { self.new.pages ≡ self.old.pages }
         ensures empties { self.new.empties ≡ self.old.empties }
         ensures some { OnErr result (0 < length pages.items) }
+        ensures exactly { OnOk result (steps.new ≡ steps.old + kept_above (kept_of self.new) 20 pages.items) }
         ensures steps { steps.new ≤ steps.old + 20 * length pages.items }
         ensures more { steps.old ≤ steps.new }
     {

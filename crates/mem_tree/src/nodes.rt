@@ -4,7 +4,7 @@ ghost use Rattle.digest_core.specs.Text.{node_text as node_string};
 ghost use Rattle.merkle_nodes.specs.Node.{digest_at};
 ghost use Rattle.mem_tree.specs.Page.{AreEmpty, IsMadeTree, IsPageOf, kept_or};
 ghost use Rattle.mem_tree.specs.Tree.{kept_of, page_at, page_node as node_in_page, upper_at, upper_node as node_above, AllMade, IsJoinedBut, IsRoot, is_among};
-ghost use Rattle.mem_tree.specs.Costs.{changed_chunks, page_changes};
+ghost use Rattle.mem_tree.specs.Costs.{changed_chunks, has_changed, kept_above, page_changes, page_digests, page_renewals, stale_pages};
 ghost use Rattle.mem_tree.specs.Levels.{IsJoinedFrom, as_number};
 
 use crate::kept::{Nodes, PageTree};
@@ -217,6 +217,8 @@ impl Nodes {
         ensures fresh { IfOk result (λ stale. stale ≡ false → failed ≡ false × (IsRoot (upper_at (kept_of self.old) 0 of.now.page) (page_at (kept_of self.old) of.now.page) →
             IsRoot (upper_at (kept_of self.new) 0 of.now.page) (page_at (kept_of self.new) of.now.page)) × (upper_at (kept_of self.new) 0 of.now.page ≡ upper_at (kept_of self.old) 0 of.now.page)) }
         ensures empties { self.new.empties ≡ self.old.empties }
+        ensures choice { IfOk result (λ stale. stale ≡ (has_changed (page_at (kept_of self.old) of.now.page) of.now.mem.now of.now.page || failed)) }
+        ensures exactly { OnOk result (steps.new ≡ steps.old + page_renewals (page_at (kept_of self.old) of.now.page) of.now.mem.now of.now.page) }
         ensures steps { steps.new ≤ steps.old + 255 }
         ensures few { failed ≡ false → IfOk result (λ stale. steps.new + 20 * as_number stale ≤ steps.old + 28 * page_changes (page_at (kept_of self.old) of.now.page) of.now.mem.now of.now.page) }
         ensures few_in_all { failed ≡ false → steps.new ≤ steps.old + 28 * page_changes (page_at (kept_of self.old) of.now.page) of.now.mem.now of.now.page }
@@ -257,6 +259,8 @@ impl Nodes {
         ensures among { IfOk result (λ stale. (p : ℕ) → is_among stale.items p ≡ true → is_among touched.now.pages.now.keys p ≡ true) }
         ensures empties { self.new.empties ≡ self.old.empties }
         ensures count { IfOk result (λ stale. length stale.items ≤ length touched.now.pages.now.keys) }
+        ensures choice { IfOk result (λ stale. stale.items ≡ stale_pages touched.now.failed (kept_of self.old) mem.now touched.now.pages.now.keys) }
+        ensures exactly { OnOk result (steps.new ≡ steps.old + page_digests (kept_of self.old) mem.now touched.now.pages.now.keys) }
         ensures steps { steps.new ≤ steps.old + 255 * length touched.now.pages.now.keys }
         ensures few { touched.now.failed ≡ false → IfOk result (λ stale. steps.new + 20 * length stale.items ≤ steps.old + 28 * changed_chunks (kept_of self.old) mem.now touched.now.pages.now.keys) }
         ensures few_in_all { touched.now.failed ≡ false → steps.new ≤ steps.old + 28 * changed_chunks (kept_of self.old) mem.now touched.now.pages.now.keys }
@@ -295,6 +299,8 @@ impl Nodes {
         ensures joined { IsJoinedBut C.digest_of (kept_of self.new) touched.now.pages.now.keys }
         ensures whole { OnOk result (IsJoinedBut C.digest_of (kept_of self.new) []) }
         ensures empties { self.new.empties ≡ self.old.empties }
+        ensures exactly { OnOk result (steps.new ≡ steps.old + page_digests (kept_of self.old) mem.now touched.now.pages.now.keys
+            + kept_above (kept_of self.new) 20 (stale_pages touched.now.failed (kept_of self.old) mem.now touched.now.pages.now.keys)) }
         ensures steps { steps.new ≤ steps.old + 275 * length touched.now.pages.now.keys }
         ensures few { touched.now.failed ≡ false → steps.new ≤ steps.old + 28 * changed_chunks (kept_of self.old) mem.now touched.now.pages.now.keys }
         ensures more { steps.old ≤ steps.new }

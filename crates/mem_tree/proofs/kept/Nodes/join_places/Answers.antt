@@ -1,8 +1,11 @@
-use Rattle.std.proofs.Common.{◌≡◌, ◌≢◌, ◌⊎◌, inl, inr, ◌+◌, ℕ, List, length, take, get_or, false, sym, ap, ◌∙◌, subst, arith, ⊎_elim}
+use Rattle.std.proofs.Common.{◌≡◌, ◌≢◌, ◌⊎◌, inl, inr, ◌+◌, ◌*◌, ◌||◌, ℕ, List, is_some, length, take, get_or, false, sym, ap, ◌∙◌, subst, arith, ⊎_elim}
 use Rattle.std.proofs.lemmas.Bool.{cases_eq}
-use Rattle.std.proofs.lemmas.List.{take_all}
+use Rattle.std.proofs.lemmas.List.{take_all, take_more}
 use Rattle.merkle_nodes.specs.Node.{digest_at}
 use Rattle.mem_tree.specs.Tree.{kept_of, upper_at, IsJoinedAbove, is_among}
+use Rattle.mem_tree.specs.Costs.{kept_among}
+use Rattle.mem_tree.specs.Levels.{joined_among}
+use Rattle.mem_tree.proofs.ParentLemmas.{joined-last, kept-is-joined, one-more}
 use Rattle.mem_tree.proofs.LevelLemmas.{among-place, among-more, not-more, not-all, not-first, join-more, join-here}
 use Rattle.mem_tree.proofs.kept.Nodes.join_places.Goals as goal
 
@@ -45,9 +48,29 @@ places-preserved g c =
           apart;
       pages = c.put_upper.ensures.pages ∙ inv.pages;
       empties = c.put_upper.ensures.empties ∙ inv.empties;
+      exact =
+          let first = kept_of c.args.self.now in
+          let level : (q : ℕ) → upper_at before c.args.above q ≡ upper_at first c.args.above q = λ q. inv.elsewhere c.args.above q (inl (λ e. absurd (omega (arith, e)))) in
+          let some : is_some c.joined-node.result ≡ (is_some (upper_at first c.args.above (2 * place)) || is_some (upper_at first c.args.above (2 * place + 1))) =
+          c.joined-node.ensures.kept ∙ (ap (λ o. is_some o || is_some (upper_at before c.args.above (2 * place + 1))) (level (2 * place)) ∙ ap (λ o. is_some (upper_at first c.args.above (2 * place)) || is_some o) (level (2 * place + 1))) in
+          let one = one-more (is_some c.joined-node.result) _ c.places.steps _ some c.joined-node.ensures.counted c.joined-node.ensures.none in
+          let more = ap (joined_among first c.args.above) (take_more xs i 0 inside) ∙ joined-last first c.args.above (take i xs) place in
+          omega (arith, one, more, inv.exact);
       steps = omega (arith, c.joined-node.ensures.steps, inv.steps);
       more = omega (arith, c.joined-node.ensures.more, inv.more);
     }
 
 pub returns-clause-elsewhere : goal.returns-clause-elsewhere
 returns-clause-elsewhere g c = λ n k apart. c.places.invariant.elsewhere n k (⊎_elim (λ level. inl level) (λ none. inr (not-first c.args.places.now c.places.i k none)) apart)
+
+pub returns-clause-exactly : goal.returns-clause-exactly
+returns-clause-exactly g c =
+    let inv = c.places.invariant in
+    let xs = c.args.places.now in
+    let first = kept_of c.args.self.now in
+    let after = kept_of c.places.self in
+    let level : (q : ℕ) → upper_at after c.args.above q ≡ upper_at first c.args.above q = λ q. inv.elsewhere c.args.above q (inl (λ e. absurd (omega (arith, e)))) in
+    let counted = kept-is-joined first after c.args.above (take c.places.i xs) (λ k is.
+    (inv.joined k is).kept ∙ (ap (λ o. is_some o || is_some (upper_at after c.args.above (2 * k + 1))) (level (2 * k)) ∙ ap (λ o. is_some (upper_at first c.args.above (2 * k)) || is_some o) (level (2 * k + 1)))) in
+    let all = ap (kept_among after (c.args.above + 1)) (take_all c.places.i xs (omega (arith, c.places-test.false))) in
+    omega (arith, inv.exact, counted, all)

@@ -1,8 +1,11 @@
-use Rattle.std.proofs.Common.{◌≡◌, ◌≢◌, inl, inr, ◌+◌, ◌*◌, ◌/◌, ◌^◌, ℕ, length, true, false, true≢false, sym, ap, ◌∙◌, arith, ⊎_elim, subst}
+use Rattle.std.proofs.Common.{◌≡◌, ◌≢◌, inl, inr, ◌+◌, ◌*◌, ◌/◌, ◌^◌, ℕ, length, true, false, true≢false, refl, sym, ap, ◌∙◌, arith, ⊎_elim, subst}
+use Rattle.std.proofs.Math.Nat.{div-one}
 use Rattle.std.proofs.lemmas.Bool.{cases_eq, cases_Bool}
 use Rattle.mem_tree.specs.Tree.{kept_of, upper_at, is_among}
 use Rattle.mem_tree.specs.Levels.{IsJoinedFrom}
+use Rattle.mem_tree.specs.Costs.{ancestors, kept_above, kept_among, parents}
 use Rattle.mem_tree.proofs.JoinedLemmas.{page-same}
+use Rattle.mem_tree.proofs.ParentLemmas.{ancestors-first, ancestors-next, kept-first, kept-next, kept-same}
 use Rattle.mem_tree.proofs.LevelLemmas.{joined-level, all-joined, below-next, apart-from, times-next}
 use Rattle.mem_tree.proofs.kept.Nodes.raise_all.Goals as goal
 
@@ -30,6 +33,7 @@ levels-preserved g c =
     let below : (h : ℕ) → is_among places h ≡ true → (p : ℕ) × (is_among pages p ≡ true) × (p / 2 ^ (c.levels.above + 1) ≡ h) =
     λ h is. let q = c.in_ok-places.ensures.below h is in below-next pages c.levels.above q.0 h (inv.below q.0 (subst (λ xs. is_among xs q.0 ≡ true) value q.1)) q.2 in
     let n = length pages in
+    let are : places ≡ ancestors (c.levels.above + 1) pages = c.in_ok-places.ensures.exactly ∙ (ap parents (value ∙ inv.are) ∙ sym (ancestors-next c.levels.above pages)) in
     record {
       low = λ h is. let q = c.in_ok-places.ensures.below h is in let less = inv.low q.0 (subst (λ xs. is_among xs q.0 ≡ true) value q.1) in omega (arith, less, q.2);
       below = below;
@@ -45,6 +49,12 @@ levels-preserved g c =
       pages = c.join_places.ensures.pages ∙ inv.pages;
       empties = c.join_places.ensures.empties ∙ inv.empties;
       few = omega (arith, c.in_ok-places.ensures.few, inv.few, ap length value);
+      are = are;
+      exact =
+          let next = kept-next after c.levels.above pages in
+          let same = kept-same before after c.levels.above pages (λ i k low. c.join_places.ensures.elsewhere i k (inl (λ e. absurd (omega (arith, e, low))))) in
+          let here = ap (kept_among after (c.levels.above + 1)) (value' ∙ are) in
+          omega (arith, c.in_ok-join_places.ensures.exactly, inv.exact, next, same, here);
       steps = omega (arith, c.join_places.ensures.steps, inv.steps, c.in_ok-places.ensures.few, inv.few, ap length value, ap length value', times-next c.levels.above n);
       more = omega (arith, c.join_places.ensures.more, inv.more);
     }
@@ -53,3 +63,25 @@ pub returns-clause-joined : goal.returns-clause-joined
 returns-clause-joined g c = λ first.
     let last : c.levels.above ≡ 20 = omega (arith, c.levels-test.false, c.levels.auto.above-end) in
     all-joined g.C.Counted.digest_of (kept_of c.levels.self) c.levels.places.items (subst (λ n. IsJoinedFrom g.C.Counted.digest_of (kept_of c.levels.self) n c.levels.places.items) last (c.levels.invariant.joined first))
+
+pub levels-init : goal.levels-init
+levels-init g c = record {
+  low = c.requires.pages;
+  below = λ q is. (q, is, div-one q);
+  joined = λ first. first;
+  elsewhere = λ n k apart. refl;
+  top = λ n k high. refl;
+  pages = refl;
+  empties = refl;
+  few = omega arith;
+  are = sym (ancestors-first c.args.pages.items);
+  exact = let none = kept-first (kept_of c.args.self.now) c.args.pages.items in omega (arith, none);
+  steps = omega arith;
+  more = omega arith;
+}
+
+pub returns-clause-exactly : goal.returns-clause-exactly
+returns-clause-exactly g c =
+    let last : c.levels.above ≡ 20 = omega (arith, c.levels-test.false, c.levels.auto.above-end) in
+    let all = ap (λ n. kept_above (kept_of c.levels.self) n c.args.pages.items) last in
+    omega (arith, c.levels.invariant.exact, all)

@@ -1,6 +1,7 @@
 use Rattle.std.proofs.Common.{◌≡◌, ◌≢◌, ◌+◌, ◌*◌, ◌/◌, ◌^◌, ◌<◌, ◌≤◌, ℕ, length, true}
 use Rattle.mem_tree.specs.Tree.{kept_of, upper_at, is_among}
 use Rattle.mem_tree.specs.Levels.{IsJoinedFrom}
+use Rattle.mem_tree.specs.Costs.{ancestors, kept_above}
 use Rattle.mem_tree.proofs.kept.Nodes.raise_all.Given as goal
 
 abbrev pub invariant-levels : goal.invariant-levels
@@ -13,6 +14,8 @@ invariant-levels g l = record {
   pages : l.self.pages ≡ l.fn.self.pages;
   empties : l.self.empties ≡ l.fn.self.empties;
   few : length l.places.items ≤ length l.fn.pages.items;
+  are : l.places.items ≡ ancestors l.above l.fn.pages.items;
+  exact : l.steps ≡ l.initial.steps + kept_above (kept_of l.self) l.above l.fn.pages.items;
   steps : l.steps ≤ l.initial.steps + l.above * length l.fn.pages.items;
   more : l.initial.steps ≤ l.steps;
 }

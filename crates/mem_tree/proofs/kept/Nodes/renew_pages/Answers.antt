@@ -1,11 +1,12 @@
-use Rattle.std.proofs.Common.{◌≡◌, ◌+◌, ◌∷◌, ◌++◌, [], ℕ, List, refl, Option, true, false, true≢false, length, length-append, ap, ◌∙◌, sym, subst, arith, ⊎_elim}
+use Rattle.std.proofs.Common.{◌≡◌, ◌+◌, ◌∷◌, ◌++◌, ◌||◌, cond, [], ℕ, List, refl, Option, true, false, true≢false, length, length-append, ap, ◌∙◌, sym, subst, arith, ⊎_elim}
 use Rattle.std.specs.Ordering.{nat_cmp}
 use Rattle.std.specs.List.Sorted.{IsStrictlySortedBy}
 use Rattle.std.proofs.lemmas.Bool.{cases_eq, cases_Bool}
 use Rattle.std.proofs.lemmas.Map.Keys.{sorted_tail}
+use Rattle.std.proofs.lemmas.List.{append_assoc, append-nil}
 use Rattle.mem_tree.specs.Page.{AreEmpty, IsPageOf}
 use Rattle.mem_tree.specs.Tree.{kept_of, page_at, IsJoinedBut, is_among}
-use Rattle.mem_tree.specs.Costs.{changed_chunks, page_changes}
+use Rattle.mem_tree.specs.Costs.{changed_chunks, has_changed, page_changes, page_digests, page_renewals, stale_pages}
 use Rattle.mem_tree.specs.Levels.{IsJoinedOver, as_number}
 use Rattle.mem_tree.specs.declared.kept.PageTree.{PageTree}
 use Rattle.mem_tree.proofs.AmongLemmas.{among-head, among-tail, among-other, sorted-apart}
@@ -97,6 +98,8 @@ pages-init g c =
       of = λ p is. absurd (true≢false (sym is ∙ ap (λ xs. is_among xs p) none));
       empties = refl;
       count = omega (arith, ap length none, ap length eq);
+      choice = ap (λ xs. xs ++ stale_pages c.args.touched.now.failed nodes m c.into_iter-page-iterator.result) none ∙ ap (stale_pages c.args.touched.now.failed nodes m) eq;
+      exact = let digests = ap (page_digests nodes m) eq in omega (arith, digests);
       steps = omega (arith, ap length eq);
       few = λ failed. omega (arith, changes, ap length none);
       more = omega arith;
@@ -157,6 +160,20 @@ pages-preserved g c =
           either;
       empties = done.empties ∙ inv.empties;
       count = ⊎_elim (λ e. omega (arith, one e, inv.count, long)) (λ e. omega (arith, same e, inv.count, long)) either;
+      choice =
+          let failed = c.args.touched.now.failed in
+          let left = stale_pages failed first m rest in
+          let chosen : (has_changed (page_at first page) m page || failed) ≡ c.in_ok-is_stale.is_stale = sym (ok.choice ∙ ap (λ (o : Option PageTree). has_changed o m page || failed) was) in
+          let next : stale_pages failed first m c.pages.page-iterator ≡ cond c.in_ok-is_stale.is_stale (page ∷ left) left = ap (stale_pages failed first m) step ∙ ap (λ b. cond b (page ∷ left) left) chosen in
+          ⊎_elim
+          (λ e. ap (λ xs. xs ++ left) (added e) ∙ (append_assoc old (page ∷ []) left ∙ (ap (λ xs. old ++ xs) (sym (next ∙ ap (λ b. cond b (page ∷ left) left) e)) ∙ inv.choice)))
+          (λ e. ap (λ xs. xs ++ left) (kept e) ∙ (ap (λ xs. old ++ xs) (sym (next ∙ ap (λ b. cond b (page ∷ left) left) e)) ∙ inv.choice))
+          either;
+      exact =
+          let here = ok.exactly in
+          let digests : page_digests first m c.pages.page-iterator ≡ page_renewals (page_at first page) m page + page_digests first m rest = ap (page_digests first m) step in
+          let digests' : page_renewals (page_at before page) m page ≡ page_renewals (page_at first page) m page = ap (λ (o : Option PageTree). page_renewals o m page) was in
+          omega (arith, here, inv.exact, digests, digests');
       steps = omega (arith, inv.steps, long, done.steps);
       few = λ failed. let so_far = inv.few failed in let here = ok.few failed in ⊎_elim
           (λ e. let number : as_number c.in_ok-is_stale.is_stale ≡ 1 = ap as_number e in omega (arith, so_far, here, number, one e, changes, changes'))
@@ -176,3 +193,13 @@ returns-clause-stale g c =
     (λ failed. over-last digest (kept_of c.pages.self) stale (subst (λ w. IsJoinedOver digest (kept_of c.pages.self) stale w) c.in-None.ensures.steps.0 (c.pages.invariant.fresh failed)))
     (λ whole. over-last digest (kept_of c.pages.self) stale (c.pages.invariant.whole whole))
     (cases_Bool c.args.touched.now.failed)
+
+pub returns-clause-choice : goal.returns-clause-choice
+returns-clause-choice g c =
+    let none = ap (stale_pages c.args.touched.now.failed (kept_of c.args.self.now) c.args.mem.now) c.in-None.ensures.steps.0 in
+    sym (append-nil c.pages.stale.items) ∙ (ap (λ xs. c.pages.stale.items ++ xs) (sym none) ∙ c.pages.invariant.choice)
+
+pub returns-clause-exactly : goal.returns-clause-exactly
+returns-clause-exactly g c =
+    let none = ap (page_digests (kept_of c.args.self.now) c.args.mem.now) c.in-None.ensures.steps.0 in
+    omega (arith, none, c.pages.invariant.exact)

@@ -1,9 +1,9 @@
-use Rattle.std.proofs.Common.{◌≡◌, ◌+◌, ◌*◌, ◌≤◌, ℕ, [], length, true, false}
+use Rattle.std.proofs.Common.{◌≡◌, ◌+◌, ◌*◌, ◌≤◌, ◌++◌, ℕ, [], length, true, false}
 use Rattle.std.specs.Ordering.{nat_cmp}
 use Rattle.std.specs.List.Sorted.{IsStrictlySortedBy}
 use Rattle.mem_tree.specs.Page.{IsPageOf}
 use Rattle.mem_tree.specs.Tree.{kept_of, page_at, AllMade, IsJoinedBut, is_among}
-use Rattle.mem_tree.specs.Costs.{changed_chunks}
+use Rattle.mem_tree.specs.Costs.{changed_chunks, page_digests, stale_pages}
 use Rattle.mem_tree.specs.Levels.{IsJoinedOver}
 use Rattle.mem_tree.proofs.kept.Nodes.renew_pages.Given as goal
 
@@ -24,6 +24,8 @@ invariant-pages g l = record {
   of : (p : ℕ) → is_among l.stale.items p ≡ true → is_among l.touched.pages.now.keys p ≡ true;
   empties : l.self.empties ≡ l.fn.self.empties;
   count : length l.stale.items + length l.page-iterator ≤ length l.touched.pages.now.keys;
+  choice : l.stale.items ++ stale_pages l.touched.failed (kept_of l.fn.self) l.mem l.page-iterator ≡ stale_pages l.touched.failed (kept_of l.fn.self) l.mem l.touched.pages.now.keys;
+  exact : l.steps + page_digests (kept_of l.fn.self) l.mem l.page-iterator ≡ l.initial.steps + page_digests (kept_of l.fn.self) l.mem l.touched.pages.now.keys;
   steps : l.steps + 255 * length l.page-iterator ≤ l.initial.steps + 255 * length l.touched.pages.now.keys;
   few : l.touched.failed ≡ false → l.steps + 20 * length l.stale.items + 28 * changed_chunks (kept_of l.fn.self) l.mem l.page-iterator ≤ l.initial.steps + 28 * changed_chunks (kept_of l.fn.self) l.mem l.touched.pages.now.keys;
   more : l.initial.steps ≤ l.steps;
