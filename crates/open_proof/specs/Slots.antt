@@ -1,5 +1,5 @@
--- Derived: the ways of a proof as the code has them, in six slots that may be empty, one level of a way after another, and the way of
--- what a step has changed.
+-- Derived: the ways of a proof as the code has them, in slots that may be empty, one level of a way after another, and the way of what a
+-- step has changed.
 use Rattle.std.specs.Prelude.{ℕ, ◌+◌, ◌/◌, ◌%◌, ◌==◌, List, [], ◌∷◌, length, slice_get, slice_index, Option, Some, None, if◌then◌else◌}
 use Rattle.std.specs.Option.{option_or}
 use Rattle.rd_base.specs.declared.digest.Digest32.{Digest32}
@@ -8,9 +8,8 @@ use Rattle.rd_base.specs.declared.opened.RegOpening.{RegOpening}
 use Rattle.merkle_nodes.specs.Opening.{joined}
 use Rattle.out_chain.specs.Collision.{first_collision}
 use Rattle.open_proof.specs.Held.{chunk_with}
-use Rattle.open_proof.specs.Openings.{chunk_way, register_way, fetch_ways, named_ways, operand_ways, read_ways}
+use Rattle.open_proof.specs.Openings.{chunk_way, register_way}
 use Rattle.open_proof.specs.Ways.{Way, way_text, way_texts}
-use Rattle.open_proof.specs.declared.facts.Facts.{Facts}
 
 -- those that are there
 abbrev pub there : List (Option Way) → List Way
@@ -18,14 +17,9 @@ there [] = []
 there (Some w ∷ ws) = w ∷ there ws
 there (None ∷ ws) = there ws
 
--- the slots of a proof: the fetched chunk, at most three registers, the chunk of data and the chunk of the input
-abbrev pub slots : Facts → List (Option Way)
-slots facts =
-    slice_get (fetch_ways facts) 0
-    ∷ slice_get (named_ways facts) 0 ∷ slice_get (named_ways facts) 1 ∷ slice_get (named_ways facts) 2
-    ∷ slice_get (operand_ways facts) 0
-    ∷ slice_get (read_ways facts) 0
-    ∷ []
+-- three slots, which some ways fill from the first on
+abbrev pub first_three : List Way → List (Option Way)
+first_three ws = slice_get ws 0 ∷ slice_get ws 1 ∷ slice_get ws 2 ∷ []
 
 -- the rest of a way above its string, by the digest of the string; none at the root
 abbrev pub above_with : ℕ → List ℕ → List ℕ → List Digest32 → Option Way

@@ -12,9 +12,9 @@ ghost use Rattle.open_proof.specs.Conditions.{LeadsFrom};
 mod laws;
 mod walking;
 
-use crate::collision::walking::{text_collision, ways_collision};
+use crate::collision::walking::{slot_collision, slots_collision, text_collision};
 use crate::facts::{Facts, HeldInput, HeldRegisters, called_by, facts_of, proofs_are_in_range};
-use crate::ways::ways_of;
+use crate::ways::{fetch_way, named_ways, operand_way, read_way};
 use digest_core::{Digester, control_text, registers_text, storage_text};
 pub use laws::proofs_from_one_root;
 use out_chain::parts_text;
@@ -124,6 +124,27 @@ fn part_collision<D: Digester>(d: D, x: &Facts, y: &Facts) -> Option<(OpenText, 
     control_collision(d, &x.ctl, &y.ctl)
 }
 
+/// The first two different strings of one digest on the ways of two proofs, in their order.
+fn ways_collision<D: Digester>(d: D, x: &Facts, y: &Facts) -> Option<(OpenText, OpenText)>
+    ensures { result ≡ collision.all_ways_collision D.digest_of x.now y.now }
+{
+    let of_x = called_by(x);
+    let of_y = called_by(y);
+    let fetch = slot_collision(d, &fetch_way(x, &of_x), &fetch_way(y, &of_y));
+    if fetch.is_some() {
+        return fetch;
+    }
+    let named = slots_collision(d, &named_ways(x, &of_x), &named_ways(y, &of_y));
+    if named.is_some() {
+        return named;
+    }
+    let operand = slot_collision(d, &operand_way(x, &of_x), &operand_way(y, &of_y));
+    if operand.is_some() {
+        return operand;
+    }
+    slot_collision(d, &read_way(x, &of_x), &read_way(y, &of_y))
+}
+
 /// The first two different strings of one digest that two proofs open.
 fn opened_collision<D: Digester>(d: D, x: &Facts, y: &Facts) -> Option<(OpenText, OpenText)>
     ensures { result ≡ collision.opened_collision D.digest_of x.now y.now }
@@ -132,7 +153,7 @@ fn opened_collision<D: Digester>(d: D, x: &Facts, y: &Facts) -> Option<(OpenText
     if parts.is_some() {
         return parts;
     }
-    ways_collision(d, &ways_of(x, &called_by(x)), &ways_of(y, &called_by(y)))
+    ways_collision(d, x, y)
 }
 
 /// Whether a proof is of a version and its parts open a root.

@@ -28,4 +28,7 @@ pub use facts::{
     proofs_lead_to_the_next_state, shown_states_lead, states_name_registers,
 };
 pub use proving::{make_claim, make_proof};
-pub use ways::{Way, changed_chunk, changed_register, climb, root_after, ways_climb, ways_of};
+pub use ways::{
+    Way, changed_chunk, changed_register, climb, fetch_way, named_ways, operand_way, read_way,
+    root_after, ways_climb,
+};

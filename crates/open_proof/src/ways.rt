@@ -1,5 +1,5 @@
-//! Ways: opened leaves of any tree, up to the roots that they are to open. They are made without a digest, in six slots of a proof.
-ghost use Rattle.std.specs.Prelude.{◌≡◌, ◌↔◌, ◌+◌, ◌%◌, ◌/◌, ◌≤◌, ℕ, List, [], ◌∷◌, length, slice_get, slice_range};
+//! Ways: opened leaves of any tree, up to the roots that they are to open. They are made without a digest.
+ghost use Rattle.std.specs.Prelude.{◌≡◌, ◌↔◌, ◌+◌, ◌%◌, ◌/◌, ◌≤◌, ℕ, List, [], ◌∷◌, length, slice_get};
 ghost use Rattle.digest_core.specs.Text.{leaf_text as text_of_leaf};
 ghost use Rattle.mem_plain.specs.Page.{with_number_in};
 ghost use Rattle.merkle_nodes.specs.Node.{digest_at};
@@ -186,30 +186,47 @@ fn named_way<'a>(names: &[u8], regs: &'a HeldRegisters, k: usize) -> Option<Way<
     }
 }
 
-/// The ways of what a proof opens, in six slots by what its parts call for: the fetched chunk, at most three registers, the chunk of
-/// data and the chunk of the input. No digest is made.
-#[tactic(auto, using(crate::proofs::SlotLemmas::first_three, crate::proofs::SlotLemmas::named_few, crate::proofs::SlotLemmas::chunk_alone, crate::proofs::SlotLemmas::input_alone))]
-pub fn ways_of<'a>(facts: &'a Facts, called: &Called) -> [Option<Way<'a>>; 6]
-    requires fetch { called.now.fetch ≡ fetch_address_of facts.now.ctl }
-    requires names { called.now.names ≡ facts_of_proof.named_called facts.now }
-    requires operand { called.now.operand ≡ facts_of_proof.operand_called facts.now }
-    requires input { called.now.input ≡ facts_of_proof.input_called facts.now }
-    ensures slots { result ≡ slots.slots facts.now }
+/// The way of the fetched chunk of a proof, if it is there and called for. No digest is made.
+#[tactic(auto, using(crate::proofs::SlotLemmas::chunk_alone))]
+pub fn fetch_way<'a>(facts: &'a Facts, called: &Called) -> Option<Way<'a>>
+    requires { called.now.fetch ≡ fetch_address_of facts.now.ctl }
+    ensures { there (result ∷ []) ≡ openings.fetch_ways facts.now }
+{
+    memory_way(facts.mem, &facts.fetch, called.fetch)
+}
+
+/// The ways of the registers that a proof opens, from the first place on: at most three. No digest is made.
+#[tactic(auto, using(crate::proofs::SlotLemmas::three_there, crate::proofs::SlotLemmas::named_few))]
+pub fn named_ways<'a>(facts: &'a Facts, called: &Called) -> [Option<Way<'a>>; 3]
+    requires { called.now.names ≡ facts_of_proof.named_called facts.now }
+    ensures named { there result ≡ openings.named_ways facts.now }
+    ensures places { result ≡ slots.first_three (openings.named_ways facts.now) }
     ensures few { length (openings.named_ways facts.now) ≤ 3 }
-    ensures fetch { there (slice_range result 0 1) ≡ openings.fetch_ways facts.now }
-    ensures named { there (slice_range result 1 4) ≡ openings.named_ways facts.now }
-    ensures operand { there (slice_range result 4 5) ≡ openings.operand_ways facts.now }
-    ensures read { there (slice_range result 5 6) ≡ openings.read_ways facts.now }
 {
     let names = called.names.as_slice();
     [
-        memory_way(facts.mem, &facts.fetch, called.fetch),
         named_way(names, &facts.regs, 0),
         named_way(names, &facts.regs, 1),
         named_way(names, &facts.regs, 2),
-        memory_way(facts.mem, &facts.operand, called.operand),
-        input_way(&facts.input_tree, &facts.input, called.input),
     ]
+}
+
+/// The way of the chunk of data of a proof, if it is there and called for. No digest is made.
+#[tactic(auto, using(crate::proofs::SlotLemmas::chunk_alone))]
+pub fn operand_way<'a>(facts: &'a Facts, called: &Called) -> Option<Way<'a>>
+    requires { called.now.operand ≡ facts_of_proof.operand_called facts.now }
+    ensures { there (result ∷ []) ≡ openings.operand_ways facts.now }
+{
+    memory_way(facts.mem, &facts.operand, called.operand)
+}
+
+/// The way of the chunk of the input of a proof, if it is there and called for. No digest is made.
+#[tactic(auto, using(crate::proofs::SlotLemmas::input_alone))]
+pub fn read_way<'a>(facts: &'a Facts, called: &Called) -> Option<Way<'a>>
+    requires { called.now.input ≡ facts_of_proof.input_called facts.now }
+    ensures { there (result ∷ []) ≡ openings.read_ways facts.now }
+{
+    input_way(&facts.input_tree, &facts.input, called.input)
 }
 
 /// The chunk with the low `width` bytes of a value from a place on, the least byte first.

@@ -24,11 +24,13 @@ use crate::check::carrying::{ShownState, step_on};
 use digest_core::{Counted, Digester, control_text, registers_text, state_text, storage_text};
 pub use laws::leading_is_decided;
 use open_proof::{
-    Called, Facts, HeldInput, HeldRegisters, called_by, changed_register, facts_of,
-    proofs_are_in_range, proofs_lead_to_the_next_state, root_after, ways_climb, ways_of,
+    Called, Facts, HeldInput, HeldRegisters, called_by, changed_register, facts_of, fetch_way,
+    named_ways, operand_way, proofs_are_in_range, proofs_lead_to_the_next_state, read_way,
+    root_after, ways_climb,
 };
 use rd_base::{Ctl, Digest32, Proof, Regs, Steps, same_digest};
 use rv_step::names_are_registers;
+use std::slice;
 use std::sync::ledger::Ledger;
 
 /// The result of the check of a proof of one step.
@@ -120,8 +122,6 @@ fn check_facts<C: Counted, L: Ledger>(
 {
     let called = called_by(facts);
     let names = called.names.as_slice();
-    let ways = ways_of(facts, &called);
-    let ways = &ways[..];
     if facts.version != version {
         return StepCheck::WrongShape;
     }
@@ -131,25 +131,25 @@ fn check_facts<C: Counted, L: Ledger>(
     if !parts_open(c, &a, facts, steps) {
         return StepCheck::NotOpen;
     }
-    if !ways_climb(c, &ways[0..1], steps) {
+    if !ways_climb(c, slice::from_ref(&fetch_way(facts, &called)), steps) {
         return StepCheck::NotOpen;
     }
     if !is_counted(names, &facts.regs) {
         return StepCheck::WrongShape;
     }
-    if !ways_climb(c, &ways[1..4], steps) {
+    if !ways_climb(c, &named_ways(facts, &called), steps) {
         return StepCheck::NotOpen;
     }
     if !is_called(&facts.operand, called.operand) {
         return StepCheck::WrongShape;
     }
-    if !ways_climb(c, &ways[4..5], steps) {
+    if !ways_climb(c, slice::from_ref(&operand_way(facts, &called)), steps) {
         return StepCheck::NotOpen;
     }
     if !is_called(&facts.input, called.input) {
         return StepCheck::WrongShape;
     }
-    if !ways_climb(c, &ways[5..6], steps) {
+    if !ways_climb(c, slice::from_ref(&read_way(facts, &called)), steps) {
         return StepCheck::NotOpen;
     }
     StepCheck::Leads(root_next(c, facts, &called, steps))

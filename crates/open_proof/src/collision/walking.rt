@@ -1,8 +1,8 @@
-//! The first collision of two strings, of two ways of any tree, and of two proofs' ways, slot by slot.
+//! The first collision of two strings, of two ways of any tree, and of ways in slots.
 ghost use Rattle.std.specs.Prelude.{◌≡◌, [], ◌∷◌};
 ghost use Rattle.out_chain.specs.Collision.{first_collision};
 ghost use Rattle.open_proof.specs.Ways.{way_texts};
-ghost use Rattle.open_proof.specs.Slots.{slot_collision as collision_of_slot, slots_collision};
+ghost use Rattle.open_proof.specs.Slots.{slot_collision as collision_of_slot, slots_collision as collision_of_slots};
 
 use crate::ways::Way;
 use digest_core::Digester;
@@ -44,7 +44,7 @@ fn way_collision<D: Digester>(d: D, x: &Way, y: &Way) -> Option<(OpenText, OpenT
 }
 
 /// The same of two slots; `None` if one of them is empty.
-fn slot_collision<D: Digester>(
+pub(crate) fn slot_collision<D: Digester>(
     d: D,
     x: &Option<Way>,
     y: &Option<Way>,
@@ -60,13 +60,13 @@ fn slot_collision<D: Digester>(
     }
 }
 
-/// The first two different strings of one digest on the ways of two lists of slots, slot by slot.
-pub(crate) fn ways_collision<D: Digester>(
+/// The same of two lists of slots, slot by slot.
+pub(crate) fn slots_collision<D: Digester>(
     d: D,
     xs: &[Option<Way>],
     ys: &[Option<Way>],
 ) -> Option<(OpenText, OpenText)>
-    ensures { result ≡ slots_collision D.digest_of xs.now ys.now }
+    ensures { result ≡ collision_of_slots D.digest_of xs.now ys.now }
 {
     match xs {
         [] => None,
@@ -74,7 +74,7 @@ pub(crate) fn ways_collision<D: Digester>(
             [] => None,
             [y, others @ ..] => match slot_collision(d, x, y) {
                 Some(pair) => Some(pair),
-                None => ways_collision(d, more, others),
+                None => slots_collision(d, more, others),
             },
         },
     }
