@@ -1,5 +1,5 @@
 -- Worked examples of the definitions to believe, with values from outside: the test vectors of zlib's `adler32`, and sums.
-use Rattle.std.proofs.Common.{◌≡◌, ℕ, List, [], ◌∷◌, codes, refl}
+use Rattle.std.proofs.Common.{◌≡◌, [], ◌∷◌, codes, refl}
 use Rattle.guests.specs.Sum.{summed_bytes}
 use Rattle.guests.specs.Adler32.{low_after, high_after, adler32_of}
 
