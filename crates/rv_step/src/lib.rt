@@ -15,8 +15,8 @@
 //! Both together are the step, whoever holds memory and the input (`two_parts_are_the_step`), and nothing else is read
 //! (`needs_tell_what_is_read`). `need_by` is `need` by how the input is held.
 //!
-//! The program runs `step`, in it `next_effect`, `need_by` and `apply`, and for a tree of memory `touches`. It calls neither `need` nor
-//! `finish`: they are there for a caller who fetches the needed number between the two.
+//! The program runs `step`, and in it `next_effect`, `need_by` and `apply`. `need` and `finish`, which it doesn't call, are there for a
+//! caller who fetches the needed number between the two, and `touches` for one who asks for the page before the step.
 //!
 //! For proofs of a step, `fetched_in` reads the instruction out of an opened chunk, and `named_by` gives the registers that it names.
 //!
