@@ -1,4 +1,4 @@
-// Draws a match as docs/draw_match draws its report, by the same rules and with the same bytes (docs/GAME.md, 'A match, drawn').
+// Draws a match as tools/draw_match draws its report, by the same rules and with the same bytes (docs/GAME.md, 'A match, drawn').
 //
 // `drawMatches` gives the text of an SVG picture and, for each round, where its row stands, so that a page can let it be chosen.
 "use strict";
@@ -12,6 +12,7 @@ const ZOOM = 8;
 const SHOWN_BYTES = 16;
 // Lines of claims; more than these are taken from the circle of hues.
 const COLOURS = ["#0072b2", "#d55e00", "#009e73", "#cc79a7", "#7a5195", "#56718a", "#a6761d"];
+const ONE_TEXT = "one text may stand for several states: only a dispute shows them";
 const GREY = "#8a8f98", DARK = "#23272e", LIGHT = "#d9dee6", CROSS = "#c1121f", SAME = "#2a7f3f", DIFFER = "#c1121f", WHITE = "#ffffff";
 
 /** A number with a comma before each three digits. */
@@ -76,6 +77,14 @@ function statesOf(match) {
     while (taken.includes(state.shade)) state.shade += 1;
   }
   return states;
+}
+
+/** Whether two claims have one colour, of which nothing shows that they are of one state. */
+function areStatesOpen(match, states) {
+  const out = match.disputes.flatMap(outOf), provers = [...match.claims.keys()];
+  const agreed = match.verdict.startsWith("accept") ? provers.filter((prover) => !out.includes(prover)) : [];
+  const apart = [...provers.filter((prover) => !agreed.includes(prover)), ...agreed.slice(0, 1)];
+  return new Set(apart.map((prover) => `${states.get(prover).shade} ${states.get(prover).words}`)).size < apart.length;
 }
 
 /** What a round of a match is shown as: its name and what came of it. */
@@ -182,6 +191,10 @@ class Picture {
       const names = [...this.match.unclaimed].filter(([, other]) => other === word).map(([prover]) => `p${prover}`);
       if (names.length === 0) continue;
       this.text(this.bars + 20, `${names.join(" ")} out: ${why}`);
+      this.y += ROW;
+    }
+    if (areStatesOpen(this.match, this.states)) {
+      this.text(this.bars + 20, ONE_TEXT, { font_size: SMALL });
       this.y += ROW;
     }
     const rows = (this.y - top) / ROW;

@@ -2,7 +2,7 @@
 //
 // Only a text that the audit has confirmed is read (docs/PROGRAM.md, docs/GAME.md), so that no form is tested here. Whether a proof of a step is proved
 // isn't decided here either: `textOfOneProof` makes the full text of a small match that comes to an accepted claim if and only if it is, and the caller
-// has that audited. Numbers are below 2^53, and bytes are kept as the hexadecimal digits of the text.
+// has that audited. Numbers are below 2^53, except for the length of an output, which a refuted proof may make up to 2^64; and bytes are kept as the hexadecimal digits of the text.
 "use strict";
 
 const STATUS_WORDS = ["running", "exited ", "trapped "];
@@ -22,9 +22,14 @@ class Digits {
     return this.digits.slice(this.at - 2 * bytes, this.at);
   }
 
-  /** A number whose least byte is first. */
+  /** A number whose least byte is first, below 2^53. */
   number(bytes) {
     return numberOf(this.take(bytes));
+  }
+
+  /** A number whose least byte is first, of any width. */
+  wideNumber(bytes) {
+    return BigInt(`0x${this.take(bytes).match(/../g).reverse().join("")}`);
   }
 }
 
@@ -37,7 +42,7 @@ function numberOf(digits) {
 
 function readControl(source) {
   const digits = source.take(49), fields = new Digits(digits);
-  return { digits, pc: fields.number(4), status: fields.number(1), code: fields.number(4), length: fields.number(8), chain: fields.take(32) };
+  return { digits, pc: fields.number(4), status: fields.number(1), code: fields.number(4), length: fields.wideNumber(8), chain: fields.take(32) };
 }
 
 function readClaim(wire) {
