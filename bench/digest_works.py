@@ -7,9 +7,9 @@ import sys
 
 from measuring import Figure, Wrong
 
-sys.path.insert(0, str(pathlib.Path(__file__).resolve().parent.parent / "checks"))
-import roots  # noqa: E402
-import images  # noqa: E402
+sys.path.insert(0, str(pathlib.Path(__file__).resolve().parent.parent / "tools"))
+from coshalit import images, machine  # noqa: E402
+from coshalit.commitments import root_of  # noqa: E402
 
 ROOTS_BOUND = 4_096
 # The root of a state that is kept takes a digest each of the registers, the control and the state.
@@ -104,7 +104,7 @@ def fewest_digests(pages):
 def start_of(form, image):
     """The machine that an image starts in, by the second implementation."""
     memory, entry = images.load_image(form, image)
-    return roots.machine.start(memory, entry, b"")
+    return machine.start(memory, entry, b"")
 
 
 def pages_of(form, image):
@@ -113,11 +113,11 @@ def pages_of(form, image):
 
 
 def last_line(form, image, bound):
-    """The last line of roots, computed a second time by checks/roots.py."""
+    """The last line of roots, computed a second time by tools/coshalit."""
     state = start_of(form, image)
     for _ in range(bound):
-        roots.machine.step(state)
-    return f"{bound} {roots.root_of(state).hex()}\n".encode()
+        machine.step(state)
+    return f"{bound} {root_of(state).hex()}\n".encode()
 
 
 class Cases:

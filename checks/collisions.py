@@ -8,49 +8,33 @@ The program is JALR x0, 0(x5). The first is the least pair of multiples of 4 up 
 second is the first multiple of 4 whose state before the step has the root of the honest one, and whose state after it another root than
 the honest one. No code is taken from the crates.
 """
-import hashlib
-import os
+import pathlib
 import sys
 
-# No folders of compiled modules beside the sources.
+# No folder of compiled modules beside the sources.
 sys.dont_write_bytecode = True
-sys.path.insert(0, os.path.dirname(os.path.abspath(__file__)))
-from printing import end  # noqa: E402
+sys.path.insert(0, str(pathlib.Path(__file__).resolve().parent.parent / "tools"))
+from coshalit import commitments, images, process  # noqa: E402
+from coshalit.commitments import weak8  # noqa: E402
 
-IMAGE, BASE, LEVELS, CHUNK = bytes.fromhex("67800200"), 0x10000, 27, 32
-
-
-def weak8(string):
-    return hashlib.sha256(string).digest()[:1] + bytes(31)
+IMAGE = bytes.fromhex("67800200")
 
 
-def memory_digest():
-    """The root over memory: zeros but for the image, as there is no input."""
-    zeros = weak8(b"\x00" + bytes(CHUNK))
-    found = weak8(b"\x00" + IMAGE.ljust(CHUNK, b"\x00"))
-    place = BASE // CHUNK
-    for _ in range(LEVELS):
-        left, right = (zeros, found) if place % 2 else (found, zeros)
-        found, zeros = weak8(b"\x01" + left + right), weak8(b"\x01" + zeros + zeros)
-        place //= 2
-    return found
+MEMORY = commitments.memory_root(weak8, images.load_flat(IMAGE)[0])
 
 
 def registers_string(x5):
-    return b"\x02" + b"".join((x5 if reg == 5 else 0).to_bytes(4, "little") for reg in range(32))
+    return commitments.registers_string(x5 if register == 5 else 0 for register in range(32))
 
 
 def state_string(x5, pc):
     # Running, with no code and no output, whose chain is zeros.
-    control = b"\x03" + pc.to_bytes(4, "little") + bytes(1 + 4 + 8 + 32)
-    return b"\x04" + MEMORY + weak8(registers_string(x5)) + weak8(control)
+    control = commitments.Control(pc, 0, 0, 0, bytes(32))
+    return commitments.state_string(MEMORY, weak8(registers_string(x5)), weak8(control.string()))
 
 
 def root(x5, pc):
     return weak8(state_string(x5, pc))
-
-
-MEMORY = memory_digest()
 
 
 LIARS = range(0, 1025, 4)
@@ -61,13 +45,13 @@ def least_pair():
 
 
 def proved_twice():
-    return next(v for v in range(4, 262_145, 4) if root(v, BASE) == root(0, BASE) and root(v, v) != root(0, 0))
+    return next(v for v in range(4, 262_145, 4) if root(v, images.FLAT_START) == root(0, images.FLAT_START) and root(v, v) != root(0, 0))
 
 
 def lines_of_match(first, second):
     """The lines of two strings of one digest, and of the match that ends with them."""
     if first == second or weak8(first) != weak8(second):
-        sys.exit("collisions.py: no two strings of one digest")
+        process.stop("no two strings of one digest")
     for string in first, second:
         yield f"{weak8(string)[0]:02x} is the digest of {string.hex()}"
     collision = f"collision {first.hex()} {second.hex()}"
@@ -96,4 +80,4 @@ def main():
 
 
 if __name__ == "__main__":
-    end("collisions.py", main)
+    process.end("collisions.py", main)

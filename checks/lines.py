@@ -7,169 +7,31 @@
                                     for texts that are cut and lines that are exchanged, left out and doubled: lines of
                                     crates/test_refcli/stdout for the rows of crates/test_refcli/stdin, which `rt ci` compares
 
-It is written from docs/PROGRAM.md, docs/AUDIT.md and docs/COMMITMENTS.md, and no code is taken from the crates. FILE has to be the full
-text of a match, which `refcli audit` confirms. Its order of lines, who is asked what, and whether each claim is sound are tested here
-too; which side of a dispute is right isn't, as it takes the check of a proof. So no change is tried after which another match is
-played, such as another root, or `spent` in the place of an answer.
+What has to be written is what the game of tools/coshalit gives, which is written from docs/PROGRAM.md, docs/AUDIT.md, docs/GAME.md and
+docs/COMMITMENTS.md; no code is taken from the crates. FILE has to be the full text of a match, which `refcli audit` confirms. A change after which
+the text is that of another legal match isn't among them.
 """
-import hashlib
-import os
-import re
+import pathlib
 import sys
 
-# No folders of compiled modules beside the sources.
+# No folder of compiled modules beside the sources.
 sys.dont_write_bytecode = True
-sys.path.insert(0, os.path.dirname(os.path.abspath(__file__)))
+sys.path[:0] = [str(pathlib.Path(__file__).resolve().parent), str(pathlib.Path(__file__).resolve().parent.parent / "tools")]
 import texts  # noqa: E402
-from printing import end  # noqa: E402
+from coshalit import game, process  # noqa: E402
 
-HEAD = re.compile(rb"refereed provers (\d+) bound (\d+) patience \d+ version \d+ fan (\d+) digest (\w+) start ([0-9a-f]{64})")
-MOVE = re.compile(rb"move (\d+) (\d+) p(\d+) (given|faulty|spent)(?: ([0-9a-f]+))?")
-NOT_ASKED, OTHER_REPLY, OTHER_VERDICT, MOVES_MISSING, MOVES_AFTER_END = 1, 2, 3, 4, 5
-CONTROL = slice(65, 114)
-CONTROL_LENGTH, CONTROL_CHAIN = slice(9, 17), slice(17, 49)
-OUTPUT = 122
-PROOFS = texts.STEP_1, texts.STEP_2, texts.STEP_3
-
-
-class NoMatch(Exception):
-    """The text isn't that of a match, as far as it is tested here."""
-
-
-class Move:
-    """A line of a settled answer."""
-
-    def __init__(self, line):
-        dispute, round_, prover, word, answer = MOVE.fullmatch(line).groups()
-        self.dispute, self.round, self.prover = int(dispute), int(round_), int(prover)
-        self.word, self.answer = word, None if answer is None else bytes.fromhex(answer.decode())
-
-    def question(self):
-        return self.dispute, self.round, self.prover
-
-
-# Which answers fit a question. A question is `claim`, `root`, a number of roots, or `proof`.
-
-
-def digest_of(name, string):
-    whole = hashlib.sha256(string).digest()
-    return whole if name == b"sha256" else whole[:1] + bytes(31)
-
-
-def is_sound(name, claim):
-    """The claim's length and chain are those of its output."""
-    control, output = claim[CONTROL], claim[OUTPUT:]
-    chain = bytes(32)
-    for byte in output:
-        chain = digest_of(name, b"\x05" + chain + bytes([byte]))
-    return int.from_bytes(control[CONTROL_LENGTH], "little") == len(output) and control[CONTROL_CHAIN] == chain
-
-
-def root_of_claim(name, claim):
-    control = digest_of(name, b"\x03" + claim[CONTROL])
-    return digest_of(name, b"\x04" + claim[1:65] + control)
-
-
-def is_fit(name, asked, answer):
-    kind = answer[0]
-    if asked == "claim":
-        return kind == texts.CLAIM and is_sound(name, answer)
-    if asked == "root":
-        return kind == texts.ROOT
-    if asked == "proof":
-        return kind in PROOFS
-    return kind == texts.ROOTS and answer[1] == asked
-
-
-def roots_in(answer):
-    """The roots of an answer to a round."""
-    start = 1 if answer[0] == texts.ROOT else 2
-    return [answer[at : at + 32] for at in range(start, len(answer), 32)]
+NoMatch = game.NoMatch
 
 
 class Text:
-    """A full text that is read, with what each of its lines is asked."""
+    """A confirmed full text: its lines, its moves, and which of these are asked for one root."""
 
     def __init__(self, text):
-        answer = texts.read(text)
-        if answer != "read":
-            raise NoMatch(f"it isn't read: {answer}")
+        played = game.played(text)
         self.lines = text.split(b"\n")[:-1]
-        provers, bound, fan, self.digest, start = HEAD.fullmatch(self.lines[0]).groups()
-        self.provers, self.bound, self.fan = int(provers), int(bound), int(fan)
-        self.moves = [Move(line) for line in self.lines[1:-1]]
-        self.asked = []  # by line, from the second
-        self.roots = {}  # claimed, by prover
-        self.follow()
-
-    def stop(self, why):
-        raise NoMatch(f"line {len(self.asked) + 2}: {why}")
-
-    def take(self, question, asked):
-        """The next line, which has to answer this question, and to say rightly whether its answer fits."""
-        if len(self.asked) == len(self.moves):
-            self.stop(f"question {question} isn't answered")
-        move = self.moves[len(self.asked)]
-        if move.question() != question:
-            self.stop(f"it answers {move.question()}, where {question} is asked")
-        if move.answer is not None and is_fit(self.digest, asked, move.answer) != (move.word == b"given"):
-            self.stop(f"`{move.word.decode()}` isn't right")
-        self.asked.append(asked)
-        return move
-
-    def follow(self):
-        for prover in range(1, self.provers + 1):
-            move = self.take((0, 0, prover), "claim")
-            if move.word == b"given":
-                self.roots[prover] = root_of_claim(self.digest, move.answer)
-        dispute = 0
-        while len(self.asked) < len(self.moves):
-            dispute += 1
-            self.follow_dispute(dispute)
-
-    def follow_dispute(self, dispute):
-        """Two sides whose claimed roots differ, and rounds until one doesn't answer or both prove."""
-        moves = [move for move in self.moves if move.dispute == dispute]
-        sides = sorted({move.prover for move in moves[:2]})
-        if len(sides) != 2 or any(side not in self.roots for side in sides) or len({self.roots[side] for side in sides}) != 2:
-            self.stop(f"dispute {dispute} isn't one of two provers with claims of two roots")
-        low, high, round_ = 0, self.bound, 1
-        while True:
-            parts = min(self.fan, high - low)
-            asked = "proof" if high - low == 1 else "root" if self.fan == 2 else parts - 1
-            first, second = (self.take((dispute, round_, side), asked) for side in sides)
-            if asked == "proof" or {first.word, second.word} != {b"given"}:
-                return
-            cuts = [low + part * (high - low) // parts for part in range(1, parts)]
-            pairs = list(zip(cuts, roots_in(first.answer), roots_in(second.answer)))
-            apart = [part for part, (_, one, other) in enumerate(pairs) if one != other]
-            ends = [low, *cuts, high]
-            part = apart[0] if apart else parts - 1
-            low, high, round_ = ends[part], ends[part + 1], round_ + 1
-
-    def answer(self, text):
-        """What `refcli audit` writes of a text that has this one's head, or None if another match is played in it."""
-        if text == b"\n".join(self.lines) + b"\n":
-            return f"confirmed {self.lines[-1].decode()}"
-        found = texts.read(text)
-        if found != "read":
-            return found
-        lines = text.split(b"\n")[:-1]
-        if lines[0] != self.lines[0]:
-            return None
-        # Up to the first line that differs both texts have played the same. There either of them may have its verdict.
-        at = next(at for at, line in enumerate(lines) if at == len(self.lines) or line != self.lines[at])
-        is_over, is_verdict = at == len(self.lines) - 1, at == len(lines) - 1
-        if is_over:
-            return f"refused {at + 1} {OTHER_VERDICT if is_verdict else MOVES_AFTER_END}"
-        if is_verdict:
-            return f"refused {at + 1} {MOVES_MISSING}"
-        move, here = Move(lines[at]), self.moves[at - 1]
-        if move.question() != here.question():
-            return f"refused {at + 1} {NOT_ASKED}"
-        if move.answer is not None and is_fit(self.digest, self.asked[at - 1], move.answer) != (move.word == b"given"):
-            return f"refused {at + 1} {OTHER_REPLY}"
-        return None
+        self.moves, self.provers = played.text.moves, played.match.head.provers
+        rounds = [(dispute.number, each) for dispute in played.match.disputes() for each in dispute.rounds]
+        self.of_one_root = {(number, each.number) for number, each in rounds if played.match.head.fan == 2 and not each.is_step()}
 
 
 # The changes
@@ -208,11 +70,12 @@ def changes(text):
         if 0 < at < last:
             yield f"line {number} also before the verdict", joined([*lines[:last], lines[at], lines[last]])
             yield f"the verdict in the place of line {number}", joined([*lines[:at], lines[last]])
-            move, asked = text.moves[at - 1], text.asked[at - 1]
+            move = text.moves[at - 1]
             start = b"move %d %d p%d " % move.question()
-            if move.word in OTHER_WORD:
-                yield f"line {number} {OTHER_WORD[move.word].decode()}", with_line(at, lines[at].replace(move.word, OTHER_WORD[move.word], 1))
-            other = CLAIM_ANSWER if asked == "root" else ROOT_ANSWER
+            word = move.word.encode()
+            if word in OTHER_WORD:
+                yield f"line {number} {OTHER_WORD[word].decode()}", with_line(at, lines[at].replace(word, OTHER_WORD[word], 1))
+            other = CLAIM_ANSWER if move.question()[:2] in text.of_one_root else ROOT_ANSWER
             yield f"line {number} with an answer of another kind", with_line(at, start + b"given " + other)
             rest = lines[at][len(start) :]
             for what, question in (
@@ -228,11 +91,10 @@ def changes(text):
 
 
 def answers(data):
-    """The changes of a text, each with its text and what has to be written of it. It raises `NoMatch`."""
-    text = Text(data)
-    for what, changed in changes(text):
-        answer = text.answer(changed)
-        if answer is not None:
+    """The changes of a text that are refused, each with its text and what has to be written of it. It raises `NoMatch`."""
+    for what, changed in changes(Text(data)):
+        answer = game.audited(changed)
+        if not answer.startswith("confirmed "):
             yield what, changed, answer
 
 
@@ -240,12 +102,8 @@ def stored(data):
     """What has to be written of each row's text with one line moved."""
     for name, row in texts.rows(data, b"each line changed"):
         yield f"{name}:"
-        text = Text(row)
-        for what, changed in moved_lines(text):
-            answer = text.answer(changed)
-            if answer is None:
-                raise NoMatch(f"{what}: it isn't said here what this comes to")
-            yield answer
+        for _, changed in moved_lines(Text(row)):
+            yield game.audited(changed)
 
 
 def main():
@@ -256,11 +114,7 @@ def main():
     if len(words) not in (1, 2) or (len(words) == 2 and words[0] not in ("--answers", "--stored")) or words[-1].startswith("-"):
         print(__doc__, end="", file=sys.stderr)
         return 2
-    try:
-        with open(words[-1], "rb") as file:
-            data = file.read()
-    except OSError as fault:
-        sys.exit(f"lines.py: {words[-1]}: {fault.strerror}")
+    data = process.bytes_of_file(words[-1], 1 << 28, "a file of texts")
     try:
         if words[0] == "--stored":
             for answer in stored(data):
@@ -269,9 +123,9 @@ def main():
         for what, _, answer in answers(data):
             print(answer if len(words) == 2 else f"{what}: {answer}")
     except NoMatch as fault:
-        sys.exit(f"lines.py: {words[-1]} isn't the text of a match: {fault}")
+        process.stop(f"{words[-1]} isn't the text of a match: {fault}")
     return 0
 
 
 if __name__ == "__main__":
-    end("lines.py", main)
+    process.end("lines.py", main)

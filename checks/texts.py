@@ -1,131 +1,28 @@
 #!/usr/bin/env python3
-"""A second reader of full texts, written from docs/PROGRAM.md and docs/COMMITMENTS.md.
+"""How full texts and changes of them are read, by the reader of tools/coshalit.
 
     checks/texts.py <FILE           says how the text on standard input is read: `read`, or its fault as `refcli audit` prints it
     checks/texts.py --mutants FILE  the same for each of the mutants of a text, a line each
     checks/texts.py --stored FILE   the same for the text of each row of FILE whose command is `mutants`, behind the row's name: lines of
                                     crates/test_refcli/stdout for the rows of crates/test_refcli/stdin, which `rt ci` compares
 
-No code is taken from the crates. It plays no match: whether the moves are those of one is for the audit.
+It is written from docs/PROGRAM.md and docs/COMMITMENTS.md; no code is taken from the crates. It plays no match: `lines.py` does.
 """
-import os
-import re
+import pathlib
 import sys
 
-# No folders of compiled modules beside the sources.
+# No folder of compiled modules beside the sources.
 sys.dont_write_bytecode = True
-sys.path.insert(0, os.path.dirname(os.path.abspath(__file__)))
-from printing import end  # noqa: E402
-
-NUMBER = b"(0|[1-9][0-9]*)"
-BYTES = b"((?:[0-9a-f]{2})+)"
-HEAD = re.compile(
-    b"refereed provers %b bound %b patience %b version %b fan %b digest (?:sha256|weak8) start [0-9a-f]{64}"
-    % ((NUMBER,) * 5)
-)
-MOVE = re.compile(b"move %b %b p%b (?:(?:given|faulty) %b|spent)" % (NUMBER, NUMBER, NUMBER, BYTES))
-ACCEPT = re.compile(b"accept (?:running|(?:exited|trapped) %b) output(?: %b)?" % (NUMBER, BYTES))
-COLLISION = re.compile(b"collision %b %b" % (BYTES, BYTES))
-# provers, bound, patience, version, fan
-LIMITS = (1, 16), (1, 4_294_967_295), (0, 100), (1, 3), (2, 16)
-MOST_STRING = 129
-MODULUS = 1 << 32
-
-
-class Fault(Exception):
-    """Why a text isn't read, as it is printed."""
-
-
-# Wire forms ('Wire forms' of docs/COMMITMENTS.md): the fixed part and what follows it, by the first byte.
-
-CLAIM, ROOT, STEP_1, STEP_2, ROOTS, STEP_3 = 1, 2, 3, 4, 5, 6
-FIXED = {CLAIM: 122, ROOT: 33, STEP_1: 207, STEP_2: 116, ROOTS: 2, STEP_3: 152}
-CHUNK_OPENING, REGISTER_OPENING, INPUT_OPENING = 32 + 27 * 32, 4 + 5 * 32, 32 + 15 * 32
-# Where the status stands in the fixed part; its code is behind it.
-STATUS = {CLAIM: 69, STEP_1: 161, STEP_2: 69, STEP_3: 105}
-
-
-def is_wire_form(answer):
-    if not answer or answer[0] not in FIXED or len(answer) < FIXED[answer[0]]:
-        return False
-    kind, rest = answer[0], len(answer) - FIXED[answer[0]]
-    if kind in STATUS:
-        at = STATUS[kind]
-        status, code = answer[at], int.from_bytes(answer[at + 1 : at + 5], "little")
-        if status > 2 or (status == 0 and code != 0):
-            return False
-    if kind == ROOT:
-        return rest == 0
-    if kind == CLAIM:
-        length = int.from_bytes(answer[114:122], "little")
-        return length < MODULUS and rest == length
-    if kind == ROOTS:
-        return 1 <= answer[1] <= 15 and rest == 32 * answer[1]
-    if kind == STEP_1:
-        flags = answer[206]
-        return flags <= 3 and rest == CHUNK_OPENING * bin(flags).count("1")
-    flags, count = answer[FIXED[kind] - 2], answer[FIXED[kind] - 1]
-    if flags > (3 if kind == STEP_2 else 7) or count > 3:
-        return False
-    size = CHUNK_OPENING * bin(flags & 3).count("1") + REGISTER_OPENING * count
-    return rest == size + (INPUT_OPENING if flags & 4 else 0)
-
-
-# Lines
-
-
-def read_head(line):
-    found = HEAD.fullmatch(line)
-    if found is None:
-        raise Fault("fault text 1")
-    if any(not is_small(text) or not least <= int(text) <= most for text, (least, most) in zip(found.groups(), LIMITS)):
-        raise Fault("fault text 4 1")
-    return int(found[1])
-
-
-def is_small(text):
-    """Whether digits are a number below 2^32, which has at most ten."""
-    return len(text) <= 10 and int(text) < MODULUS
-
-
-def read_entry(line, provers, number):
-    """Whether a later line is the verdict's."""
-    found = MOVE.fullmatch(line)
-    if found:
-        dispute, round_, prover, answer = found.groups()
-        is_formed = all(map(is_small, (dispute, round_, prover)))
-        if not is_formed or (answer is not None and not is_wire_form(bytes.fromhex(answer.decode()))):
-            raise Fault(f"fault text 2 {number}")
-        if not 1 <= int(prover) <= provers:
-            raise Fault(f"fault text 4 {number}")
-        return False
-    found = ACCEPT.fullmatch(line)
-    if found and (found[1] is None or is_small(found[1])):
-        return True
-    found = COLLISION.fullmatch(line)
-    if found and all(len(text) <= 2 * MOST_STRING for text in found.groups()):
-        return True
-    if line == b"none left":
-        return True
-    raise Fault(f"fault text 2 {number}")
+sys.path.insert(0, str(pathlib.Path(__file__).resolve().parent.parent / "tools"))
+from coshalit import process, texts  # noqa: E402
 
 
 def read(text):
     """`read`, or the fault."""
-    *lines, tail = text.split(b"\n")
     try:
-        if not lines:
-            raise Fault("fault text 3")
-        provers = read_head(lines[0])
-        is_over = False
-        for number, line in enumerate(lines[1:], 2):
-            if is_over:
-                raise Fault(f"fault text 2 {number}")
-            is_over = read_entry(line, provers, number)
-        if not is_over or tail:
-            raise Fault("fault text 3")
-    except Fault as fault:
-        return str(fault)
+        texts.read(text)
+    except texts.NoText as fault:
+        return fault.answer
     return "read"
 
 
@@ -163,18 +60,12 @@ def main():
         return 0
     words = sys.argv[1:]
     if words == []:
-        if sys.stdin is None:
-            sys.exit("texts.py: standard input is closed")
-        print(read(sys.stdin.buffer.read()))
+        print(read(process.bytes_given(2 * texts.MAX_BYTES)))
         return 0
     if len(words) != 2 or words[0] not in ("--mutants", "--stored"):
         print(__doc__, end="", file=sys.stderr)
         return 2
-    try:
-        with open(words[1], "rb") as file:
-            text = file.read()
-    except OSError as fault:
-        sys.exit(f"texts.py: {words[1]}: {fault.strerror}")
+    text = process.bytes_of_file(words[1], 8 * texts.MAX_BYTES, "a file of texts")
     if words[0] == "--mutants":
         for mutant in mutants(text):
             print(read(mutant))
@@ -187,4 +78,4 @@ def main():
 
 
 if __name__ == "__main__":
-    end("texts.py", main)
+    process.end("texts.py", main)

@@ -3,8 +3,8 @@
 Each sets its registers, carries out some words, and puts out all registers and the windows, the places of memory that
 its pointers lead to. What it puts out shows what the words did, unless one of them trapped or went elsewhere.
 """
-import machine
 import words
+from coshalit import machine
 
 FLAT_START = 0x00010000
 BOUND = 2500  # more than twice as many steps as a program without a loop takes

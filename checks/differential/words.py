@@ -1,37 +1,35 @@
 """Instruction words from their fields, which `machine.decode` takes apart, and pieces that the programs share."""
 import struct
 
-LUI, AUIPC, JAL, JALR = 0b0110111, 0b0010111, 0b1101111, 0b1100111
-BRANCH, LOAD, STORE = 0b1100011, 0b0000011, 0b0100011
-COMPUTE_IMMEDIATE, COMPUTE, FENCE, SYSTEM = 0b0010011, 0b0110011, 0b0001111, 0b1110011
-ECALL, EBREAK = 0x00000073, 0x00100073
+from coshalit.instructions import (
+    AUIPC, BRANCH, COMPUTE, COMPUTE_IMMEDIATE, EBREAK, ECALL, FENCE, JAL, JALR, LOAD, LUI, STORE, SYSTEM, laid_fields, laid_immediate,
+)  # fmt: skip
+
+__all__ = ["AUIPC", "EBREAK", "FENCE", "JALR", "SYSTEM"]
 
 
 def register_word(opcode, funct3, funct7, rd, rs1, rs2):
-    return funct7 << 25 | rs2 << 20 | rs1 << 15 | funct3 << 12 | rd << 7 | opcode
+    return laid_fields(opcode, funct3, funct7, rd, rs1, rs2)
 
 
 def immediate_word(opcode, funct3, rd, rs1, imm):
-    return (imm & 0xFFF) << 20 | rs1 << 15 | funct3 << 12 | rd << 7 | opcode
+    return laid_immediate("I", imm) | laid_fields(opcode, funct3, 0, rd, rs1)
 
 
 def store_word(funct3, rs1, rs2, imm):
-    return register_word(STORE, funct3, imm >> 5 & 127, imm & 31, rs1, rs2)
+    return laid_immediate("S", imm) | laid_fields(STORE, funct3, 0, 0, rs1, rs2)
 
 
 def branch_word(funct3, rs1, rs2, imm):
-    high = (imm >> 12 & 1) << 6 | imm >> 5 & 63
-    low = (imm >> 1 & 15) << 1 | imm >> 11 & 1
-    return register_word(BRANCH, funct3, high, low, rs1, rs2)
+    return laid_immediate("B", imm) | laid_fields(BRANCH, funct3, 0, 0, rs1, rs2)
 
 
 def upper_word(opcode, rd, imm):
-    return imm & 0xFFFFF000 | rd << 7 | opcode
+    return laid_immediate("U", imm) | rd << 7 | opcode
 
 
 def jump_word(rd, imm):
-    places = (imm >> 20 & 1) << 31 | (imm >> 1 & 0x3FF) << 21 | (imm >> 11 & 1) << 20 | (imm >> 12 & 0xFF) << 12
-    return places | rd << 7 | JAL
+    return laid_immediate("J", imm) | rd << 7 | JAL
 
 
 NOTHING = immediate_word(COMPUTE_IMMEDIATE, 0, 0, 0, 0)
