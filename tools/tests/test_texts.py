@@ -4,7 +4,7 @@ import re
 import unittest
 import xml.etree.ElementTree
 
-from coshalit import game, pictures, reading, reports, texts
+from coshalit import colours, game, pictures, reading, reports, texts
 
 from . import TOP, commands, rows
 
@@ -146,7 +146,7 @@ class Pictures(unittest.TestCase):
         one, other = bytes(32), bytes([1]) + bytes(31)
         match.roots = {1: one, 2: one, 3: other}
         self.assertEqual(match.claims[1], match.claims[2])
-        self.assertEqual([shade for _, shade in pictures.states_of(match).values()].count(1), 0)
+        self.assertEqual([shade for _, shade in colours.states_of(match).values()].count(1), 0)
         self.assertNotIn(pictures.ONE_TEXT, pictures.picture_of(match))
         match.roots[2] = other
-        self.assertEqual(pictures.states_of(match)[2][1], 1)
+        self.assertEqual(colours.states_of(match)[2][1], 1)
