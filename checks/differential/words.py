@@ -1,12 +1,10 @@
 """Instruction words from their fields, which `machine.decode` takes apart, and pieces that the programs share."""
 import struct
 
-from coshalit.instructions import (
+# Some of these names are for random_programs.
+from coshalit.instructions import (  # noqa: F401
     AUIPC, BRANCH, COMPUTE, COMPUTE_IMMEDIATE, EBREAK, ECALL, FENCE, JAL, JALR, LOAD, LUI, STORE, SYSTEM, laid_fields, laid_immediate,
 )  # fmt: skip
-
-__all__ = ["AUIPC", "EBREAK", "FENCE", "JALR", "SYSTEM"]
-
 
 def register_word(opcode, funct3, funct7, rd, rs1, rs2):
     return laid_fields(opcode, funct3, funct7, rd, rs1, rs2)

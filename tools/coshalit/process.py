@@ -21,7 +21,7 @@ def stop(why: str) -> NoReturn:
 
 def shown(text: str, most: int = SHOWN) -> str:
     """The beginning of a text of others, on one line and without what a terminal would take for a command."""
-    return "".join(character if character.isprintable() else "?" for character in text[:most]) + (".." if len(text) > most else "")
+    return "".join(character if character.isprintable() or character == "\t" else "?" for character in text[:most]) + (".." if len(text) > most else "")
 
 
 def why_not(fault: OSError) -> str:

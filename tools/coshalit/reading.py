@@ -4,6 +4,7 @@ from __future__ import annotations
 from typing import List, Tuple
 
 from . import game, reports
+from .cases import MAX_TASKS
 from .matches import Match
 
 
@@ -26,6 +27,8 @@ def matches_of(text: str) -> Tuple[List[Match], bool]:
     parts = reports.parts_of_tasks(text)
     if not parts:
         return [match_of(text)], False
+    if len(parts) > MAX_TASKS:
+        raise NoMatchText(f"it has more than {MAX_TASKS} tasks")
     matches = []
     for number, part in enumerate(parts, 1):
         try:

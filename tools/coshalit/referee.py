@@ -48,7 +48,7 @@ class OpenedInput(Sequence[int]):
     def __len__(self) -> int:
         return self.length
 
-    def __getitem__(self, at):  # type: ignore[no-untyped-def, override]
+    def __getitem__(self, at: int) -> int:  # type: ignore[override]
         return self.chunk[at % CHUNK]
 
 

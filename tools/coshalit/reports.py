@@ -152,7 +152,7 @@ def read(text: str) -> Match:
 def parts_of_tasks(text: str) -> List[str]:
     """The texts of the tasks of a text, in their order; none if the text is that of one match."""
     parts: List[List[str]] = []
-    for line in text.splitlines(keepends=True) if text.startswith("task 1\n") else ():
+    for line in re.findall("[^\n]*\n|[^\n]+", text) if text.startswith("task 1\n") else ():
         if line == f"task {len(parts) + 1}\n":
             parts.append([])
         else:

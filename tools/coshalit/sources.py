@@ -7,7 +7,7 @@ import subprocess
 from typing import Callable, Dict, List, Optional
 
 from . import images, machine
-from .process import bytes_of_file
+from .process import bytes_of_file, shown
 
 # The place of an instruction, for an address, or None.
 Place = Callable[[int], Optional[str]]
@@ -42,7 +42,7 @@ def in_text(text: str, numbers: List[int]) -> Place:
         at, rest = divmod(address - images.FLAT_START, 4)
         if rest or not 0 <= at < len(numbers):
             return None
-        return f"line {numbers[at]}: {lines[numbers[at] - 1].strip()}"
+        return f"line {numbers[at]}: {shown(lines[numbers[at] - 1].strip(), 200)}"
 
     return place
 

@@ -123,6 +123,11 @@ class FullTexts(unittest.TestCase):
                 game.played(line + b"\n")
             self.assertTrue(str(refused.exception).isprintable())
 
+    def test_more_than_eight_tasks_are_refused(self):
+        parts = "".join(f"task {number}\nmatch\n" for number in range(1, 10))
+        with self.assertRaisesRegex(reading.NoMatchText, "more than 8 tasks"):
+            reading.matches_of(parts)
+
 
 def changed_text(chance, text):
     """A text with a byte or a line changed, left out or doubled."""
