@@ -9,7 +9,7 @@ from .instructions import ALONE, BY_NAME, SYNTAX, word_of
 NAME = "[A-Za-z_][A-Za-z0-9_]*"
 LINE = re.compile(rf"[ \t]*(?:({NAME})[ \t]*:)?[ \t]*(?:([A-Za-z0-9._]+)(?:[ \t]+(.*?))?)?[ \t]*")
 PLACE = re.compile(r"([^ \t(]+)[ \t]*\([ \t]*([^ \t)]+)[ \t]*\)")
-# No number of a text has more digits, but for zeros at the left of one in hexadecimal.
+# No number of a text has more digits, except for zeros at the left of one in hexadecimal.
 MOST_DIGITS = 10
 
 

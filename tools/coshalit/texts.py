@@ -121,7 +121,7 @@ def read(content: bytes) -> FullText:
         else:
             verdict = found
     if verdict is None:
-        raise NoText("fault text 3", f"it is cut off: it ends before a verdict, behind line {len(lines)}")
+        raise NoText("fault text 3", f"it is cut off: it ends before a verdict, after line {len(lines)}")
     if tail:
         raise NoText("fault text 3", f"line {len(lines) + 1}: it follows the verdict")
     return FullText(head, start, moves, verdict)
