@@ -53,8 +53,19 @@ fn sixteen(liar: u32) -> Cast
     Cast { players, count: 16 }
 }
 
-/// Eight tasks of sixteen provers, of whom one lies in each task, the first in the first. Each has one dispute, of the liar with an
-/// honest prover, and 24 entries: sixteen claims, and four answers of each side.
+/// How the match of sixteen players ends of whom the prover of this number lies: sixteen claims, and four answers of each side of its one
+/// dispute, three roots and a proof. The first prover's dispute is with the first one of another root, which the liar loses.
+fn end_of_sixteen(liar: u32) -> Short {
+    if liar == 1 {
+        let dispute = (1, 1, 1, 2, 3, true, false);
+        (24, Ended::Accepted(2), [Some(dispute), None, None])
+    } else {
+        let dispute = (1, 1, 1, liar, 3, false, true);
+        (24, Ended::Accepted(1), [Some(dispute), None, None])
+    }
+}
+
+/// Eight tasks of sixteen provers, of whom one lies in each task, the first in the first, each with its own end.
 #[test]
 fn eight_tasks_of_sixteen_provers(rt: HostRuntime) -> Result<(), Fail> {
     let casts = [
@@ -67,20 +78,21 @@ fn eight_tasks_of_sixteen_provers(rt: HostRuntime) -> Result<(), Fail> {
         sixteen(6),
         sixteen(7),
     ];
-    let mut wanted = Account::new(rt.alloc());
-    for cast in casts {
-        assert!(rt; cast.count == 16);
-        wanted.add_played(&rt, rt.alloc(), &[cast], 1, &OpenGate)?;
-    }
-    assert!(rt; wanted.shorts.len() == 8);
-    for short in wanted.shorts.iter() {
-        assert!(rt; short.0 == 24);
-    }
+    let wanted = [
+        end_of_sixteen(1),
+        end_of_sixteen(2),
+        end_of_sixteen(3),
+        end_of_sixteen(4),
+        end_of_sixteen(5),
+        end_of_sixteen(6),
+        end_of_sixteen(7),
+        end_of_sixteen(8),
+    ];
     for posters in [1, 4, 16] {
         let mut account = Account::new(rt.alloc());
         account.add_played(&rt, rt.alloc(), &casts, posters, &OpenGate)?;
-        let is_alone = account.shorts.as_slice() == wanted.shorts.as_slice();
-        assert!(rt; is_alone && account.entries == 192, "{posters}");
+        let is_wanted = account.shorts.as_slice() == wanted.as_slice();
+        assert!(rt; is_wanted && account.entries == 192, "{posters}");
     }
     Ok(())
 }
