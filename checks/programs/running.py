@@ -195,15 +195,15 @@ def run_of(program: pathlib.Path, case: bytes, seconds: float) -> Run:
 
 
 class Compiler:
-    """gcc with picolibc for the machine. What a program needs of its surroundings is compiled once, into `folder`."""
+    """gcc with picolibc for the machine. What a program needs of its surroundings is compiled once, into `folder`, with these options."""
 
-    def __init__(self, folder: pathlib.Path):
+    def __init__(self, folder: pathlib.Path, options: Sequence[str] = ()):
         need(GCC, AR)
         self.folder = folder
         parts = []
         for source in ("start.S", "_exit.c", "abort.c", "streams.c"):
             part = (folder / source).with_suffix(".o")
-            self._must([GCC, *MACHINE, "-Os", "-Wall", "-Wextra", "-Werror", "-c", HERE / source, "-o", part])
+            self._must([GCC, *MACHINE, "-Os", "-Wall", "-Wextra", "-Werror", *options, "-c", HERE / source, "-o", part])
             parts.append(part)
         self._must([AR, "rcs", folder / "libmachine.a", *parts[1:]])
 
@@ -215,7 +215,9 @@ class Compiler:
         """Makes a stripped executable. Says why it couldn't, or nothing."""
         words = [
             GCC, *MACHINE, "-w", *options, source, self.folder / "start.o", self.folder / "libmachine.a", "-o", target,
-            "-nostartfiles", "-T", HERE / "programs.ld", f"-L{self.folder}", "--oslib=machine", "-lm", "-s", "-Wl,-n,--build-id=none",
+            "-nostartfiles", "-T", HERE / "programs.ld", f"-L{self.folder}", "--oslib=machine", "-lm", "-s",
+            # `abort` is ours, in whatever order the libraries are searched. Pages fit those of Linux, for QEMU.
+            "-Wl,-u,abort,-z,max-page-size=4096,--build-id=none",
         ]  # fmt: skip
         # The reason is on standard error, which is read as output.
         done = ended(["sh", "-c", 'exec "$@" 2>&1', "sh", *words], seconds=seconds, folder=self.folder)
