@@ -11,8 +11,8 @@ from running import stop
 ARCHIVES = pathlib.Path("/usr/src/gcc-12")
 FOLDER = "gcc/testsuite/gcc.c-torture/execute/"
 # Selectors of options that aren't for this machine, and those that are.
-ELSEWHERE = re.compile("i[?]86|x86_64|powerpc|loongarch|newlib_nano_io")
-HERE_TOO = re.compile("target fpic")
+ELSEWHERE = re.compile("i[?]86|x86_64|powerpc|loongarch|newlib_nano_io|hppa")
+HERE_TOO = re.compile("target fpic|target [{] ! signal")
 
 
 def unpack(folder: pathlib.Path, sources: Optional[pathlib.Path]) -> pathlib.Path:
