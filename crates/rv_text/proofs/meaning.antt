@@ -6,4 +6,5 @@ pub mod LabelLemmas
 pub mod UnknownLemmas
 pub mod CauseLemmas
 pub mod TextLemmas
+pub mod OneTargetLemmas
 pub mod TargetLemmas

@@ -40,12 +40,11 @@ pub fn each_word_is_said()
 }
 
 /// A statement that passed before places were known has no fault later but that of the name in its target's place (`of_name`): its distance
-/// is out of range (`far`), or else nothing defines it (`undefined`). Each comes if and only if it is so.
+/// is out of range (`far`), or nothing defines it (`undefined`). Each comes if and only if it is so, as a statement has one target at most.
 pub fn only_names_fail_later()
     ensures of_name { (distances : Distances) (text : List ℕ) (w : Option ℕ) (k : FaultKind) → word_in near text ≡ Ok w → word_in distances text ≡ Err k → OfName k }
     ensures far { (distances : Distances) (text : List ℕ) (w : Option ℕ) → word_in near text ≡ Ok w → (word_in distances text ≡ Err FaultKind.OutOfRange) ↔ HasFarTarget distances text }
-    ensures undefined { (distances : Distances) (text : List ℕ) (w : Option ℕ) → word_in near text ≡ Ok w →
-        (word_in distances text ≡ Err FaultKind.Undefined) ↔ (HasUndefinedTarget distances text × ¬ HasFarTarget distances text) }
+    ensures undefined { (distances : Distances) (text : List ℕ) (w : Option ℕ) → word_in near text ≡ Ok w → (word_in distances text ≡ Err FaultKind.Undefined) ↔ HasUndefinedTarget distances text }
 {}
 
 /// After a first pass without a fault each label stands for the place of the next word, four bytes for each word of the lines before it,

@@ -16,6 +16,7 @@ use Rattle.rv_text.specs.declared.form.Slot.{Slot}
 use Rattle.rv_text.specs.declared.fault.FaultKind.{FaultKind}
 use Rattle.rv_text.specs.declared.fault.FaultKind.TheVariants.{OutOfRange, Undefined}
 use Rattle.rv_text.proofs.meaning.CauseLemmas.{Judged, target-no_register, statement-judged}
+use Rattle.rv_text.proofs.meaning.OneTargetLemmas.{undefined-not_far}
 use Rattle.rv_text.proofs.meaning.LaterLemmas.{name-later, undefined-later, far-later}
 
 named-there : (name : List ℕ) (row : Row) → row_named name ≡ Some row → is_empty name ≡ false
@@ -77,8 +78,5 @@ undefined-fails d text w passed h near_by = by (word_in d text) refl (statement-
 pub far-exactly : (d : Distances) (text : List ℕ) (w : Option ℕ) → word_in near text ≡ Ok w → (word_in d text ≡ Err OutOfRange) ↔ HasFarTarget d text
 far-exactly d text w passed = (far-later d text w passed, far-fails d text w passed)
 
-pub undefined-exactly : (d : Distances) (text : List ℕ) (w : Option ℕ) → word_in near text ≡ Ok w → (word_in d text ≡ Err Undefined) ↔ (HasUndefinedTarget d text × ¬ HasFarTarget d text)
-undefined-exactly d text w passed = (
-  λ e. (undefined-later d text w passed e, far-first d text (subst (Judged {A = Option ℕ} (HasFault d text)) e (statement-judged d text))),
-  λ h. undefined-fails d text w passed h.0 h.1,
-)
+pub undefined-exactly : (d : Distances) (text : List ℕ) (w : Option ℕ) → word_in near text ≡ Ok w → (word_in d text ≡ Err Undefined) ↔ HasUndefinedTarget d text
+undefined-exactly d text w passed = (undefined-later d text w passed, λ h. undefined-fails d text w passed h (undefined-not_far d text h))
