@@ -1,9 +1,9 @@
 -- Nodes from scratch: places one level down, widths in pages, and subtrees of zeros.
-use Rattle.std.proofs.Common.{◌≡◌, ℕ, zero, suc, ◌+◌, ◌*◌, ◌-◌, ◌/◌, ◌%◌, ◌^◌, ◌<◌, ◌≤◌, List, nat_lt, false, true≢false, sym, ap, ◌∙◌, subst, arith, ⊎_elim}
+use Rattle.std.proofs.Common.{◌≡◌, ℕ, zero, suc, ◌+◌, ◌*◌, ◌-◌, ◌/◌, ◌%◌, ◌^◌, ◌<◌, ◌≤◌, List, Option, Some, None, is_some, false, true≢false, sym, ap, ◌∙◌, subst, arith, ⊎_elim}
+use Rattle.std.proofs.lemmas.Bool.{cases_lt}
 use Rattle.std.proofs.Math.Nat.{div-one, div-div-eq-div-mul, pow-suc}
 use Rattle.std.proofs.lemmas.Nat.{div-add-mod', mod_below, shl_below, pow_below}
-use Rattle.std.proofs.lemmas.Bool.{cases_lt, lt-ltb}
-use Rattle.mem_plain.specs.Contents.{Contents, IsUsed}
+use Rattle.mem_plain.specs.Contents.{Contents, IsUsed, IsNextUsedBelow}
 use Rattle.digest_core.specs.Text.{node_text}
 use Rattle.merkle_nodes.specs.Node.{node}
 use Rattle.mem_tree.specs.Memory.{memory_node, memory_leaf, zero_node}
@@ -76,5 +76,7 @@ node-cut empty digest m l w k is unused = sym (empty digest m (7 + l) k (λ j at
     let small = mod_below p w (width-some l w is) in
     unused p (omega arith) (omega arith)))
 
-pub not-less : (a b : ℕ) → nat_lt a b ≡ false → b ≤ a
-not-less a b test = ⊎_elim (λ less. absurd (true≢false (sym (lt-ltb a b less) ∙ test))) (λ more. more) (cases_lt a b)
+-- where no page of a range comes next, none of them is used
+pub none-used : (m : Contents) (from end : ℕ) (o : Option ℕ) → is_some o ≡ false → IsNextUsedBelow m from end o → (p : ℕ) → from ≤ p → p < end → ¬ IsUsed m p
+none-used m from end (Some page) none next = absurd (true≢false none)
+none-used m from end None none next = next

@@ -1,7 +1,7 @@
 //! A machine that is kept with the trees of its commitment.
 ghost use Rattle.std.specs.Prelude.{◌≡◌, ◌≢◌, ℕ, ◌<◌, ◌/◌, ◌^◌, [], Some, IfOk, OnOk, IfSome};
 ghost use Rattle.mem_plain.specs.Contents.{Contents, byte_at};
-ghost use Rattle.mem_tree.specs.Tree.{IsTreeOf};
+ghost use Rattle.mem_tree.specs.Tree.{HasTouched, IsTreeOf};
 ghost use Rattle.rv_step.specs.State.{state_of};
 ghost use Rattle.state_commit.specs.Committing.{HasTreeFor, HasRegisters, HasInput};
 
@@ -9,9 +9,9 @@ use crate::root::{Parts, root_of_parts, storage_digest};
 use crate::shared_input::SharedInput;
 use digest_core::{Digester, registers_text};
 use mem_plain::PlainMem;
-use mem_tree::{MemTree, RegTree};
+use mem_tree::{MemTree, RegTree, touch_used_pages, unused_pages_are_alike};
 use rd_base::{Digest32, Memory, Path, RegPath, RegisterScheme, Scheme};
-use rv_step::{Machine, one_page_changes, runs_keep_the_input, step, touches};
+use rv_step::{Machine, advance, one_page_changes, runs_keep_the_input, step};
 use std::alloc::Global;
 use std::marker::Model;
 use std::thread::Threads;
@@ -32,6 +32,18 @@ fn follow<D: Digester>(
         tree.touch(page)?;
     }
     tree.refresh(mem)
+}
+
+/// A tree turned into that of a memory, from one in which each page is touched that its own memory has in use. As the code shows, only the
+/// chunks that differ are digested, and the nodes above them. An `Err` is out of memory, and drops the tree.
+fn turned<D: Digester>(tree: MemTree<D>, mem: &PlainMem) -> Result<MemTree<D>, Memory>
+    ensures untouched { IfOk result (λ t. t.touched ≡ []) }
+    ensures tree { IfOk result (λ t. (m : Contents) → IsTreeOf D.digest_of tree m → HasTouched tree m → IsTreeOf D.digest_of t mem.now) }
+{
+    unused_pages_are_alike();
+    let mut turned = touch_used_pages(tree, mem)?;
+    turned.refresh(mem)?;
+    Ok(turned)
 }
 
 /// The tree of a machine's registers, if its version has one.
@@ -87,7 +99,7 @@ impl<D: Digester> Model for Committed<D> {
 
 impl<D: Digester> Committed<D> {
     ghost use Rattle.rv_step.specs.State.{state_of, IsChained};
-    ghost use Rattle.rv_step.specs.Step.{step as step_of};
+    ghost use Rattle.rv_step.specs.Step.{step as step_of, state_at};
     ghost use Rattle.merkle_nodes.specs.Opening.{IsPath};
     ghost use Rattle.state_commit.specs.StateRoot.{registers_digest, storage_digest as storage_of_state, root_in};
     ghost use Rattle.mem_tree.specs.Memory.{memory_leaf};
@@ -138,6 +150,51 @@ impl<D: Digester> Committed<D> {
         })
     }
 
+    /// What `new` gives, without a runtime: as the code shows, the subtrees of the memory's pages are computed one after another. An
+    /// `Err` is out of memory, and drops the machine.
+    pub fn alone(alloc: Global, d: D, machine: Machine) -> Result<Self, Memory>
+        requires { IsChained D.digest_of machine }
+        ensures { IfOk result (λ c. c ≡ state_of machine) }
+    {
+        let input = SharedInput::of(alloc, d, &machine)?;
+        let regs = registers_of(d, &machine);
+        let memory = MemTree::build_alone(alloc, d, &machine.mem)?;
+        Ok(Committed {
+            d,
+            machine,
+            memory,
+            regs,
+            input,
+        })
+    }
+
+    /// The machine after this many more steps, with its trees, which are brought up to it once, at the end. As the code shows, of the pages
+    /// that either memory has in use only those chunks are digested anew that differ, and of the registers only those; and no part of
+    /// the input is. An `Err` is out of memory, and drops all.
+    pub fn advance(self, steps: u64) -> Result<Self, Memory>
+        ensures { IfOk result (λ c. c ≡ state_at self steps) }
+    {
+        let Committed {
+            d,
+            mut machine,
+            memory,
+            regs,
+            input,
+        } = self;
+        runs_keep_the_input();
+        let released = touch_used_pages(memory, &machine.mem)?;
+        advance(&mut machine, &d, steps)?;
+        let memory = turned(released, &machine.mem)?;
+        let regs = registers_after(regs, &machine);
+        Ok(Committed {
+            d,
+            machine,
+            memory,
+            regs,
+            input,
+        })
+    }
+
     /// The machine after one more step, with its trees. As the code shows, at most one page, at most one register and no part of the
     /// input are digested anew. An `Err` is out of memory, and drops all.
     pub fn step(self) -> Result<Self, Memory>
@@ -152,8 +209,7 @@ impl<D: Digester> Committed<D> {
         } = self;
         runs_keep_the_input();
         one_page_changes();
-        let page = touches(&machine);
-        step(&mut machine, &d)?;
+        let page = step(&mut machine, &d)?;
         follow(&mut memory, page, &machine.mem)?;
         let regs = registers_after(regs, &machine);
         Ok(Committed {

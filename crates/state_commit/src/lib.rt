@@ -20,8 +20,5 @@ mod shared_input;
 pub use committed::Committed;
 pub use kept_registers::KeptRegisters;
 pub use laws::a_root_binds;
-pub use root::{
-    Parts, registers_digest, root_of_parts, state_root,
-    state_root_with,
-};
+pub use root::{Parts, registers_digest, root_of_parts, state_root, state_root_with};
 pub use shared_input::{SharedInput, one_input_has_one_tree};

@@ -134,10 +134,7 @@ fn is_some_used(mem: &PlainMem, first: u32, width: u32) -> bool
     requires width { width ≤ 2 ^ 20 }
     ensures { result ≡ false → (p : ℕ) → first ≤ p → p < first + width → ¬ IsUsed mem.now p }
 {
-    match mem.next_page(first) {
-        Some(page) => page < first + width,
-        None => false,
-    }
+    mem.next_page_below(first, first + width).is_some()
 }
 
 /// What the nodes of a memory are made of: the digester, the memory, and the empty node of each level.
