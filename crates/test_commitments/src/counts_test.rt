@@ -57,10 +57,10 @@ const PAGES_OF_ZEROS: [Stores; 7] = [
     },
 ];
 
-/// A refresh digests the chunks that differ from those that are kept, and each node above one of them once within a page: of a
-/// store to one chunk 28, of two stores that leave the chunk as it was none, of the first and the last chunk of a page 2 leaves, 12
-/// nodes below the page's root, this and the 20 above it.
-const CHUNKS: [Stores; 7] = [
+/// A refresh digests the chunks that differ from those that are kept, and each node above one of them once: of a store to one chunk
+/// 28, of two stores that leave the chunk as it was none, of the first and the last chunk of a page 2 leaves, 12 nodes below the page's
+/// root, this and the 20 above it; and the nodes above several pages once.
+const CHUNKS: [Stores; 8] = [
     Stores {
         bytes: &[],
         digests: 28,
@@ -85,10 +85,16 @@ const CHUNKS: [Stores; 7] = [
         bytes: &[(0x7000, 4), (0x7fff, 4)],
         digests: 35,
     },
-    // two pages beside one another, each with the 20 nodes above it
+    // pages 7 and 8, each with 8 digests of its own; they meet four levels up, so that 6 nodes of the three levels below stand above
+    // one of them, and 17 above both
     Stores {
         bytes: &[(0x7000, 5), (0x8000, 5)],
-        digests: 56,
+        digests: 39,
+    },
+    // pages 2 and 3, which have their 20 nodes above in common
+    Stores {
+        bytes: &[(0x2000, 5), (0x3000, 5)],
+        digests: 36,
     },
 ];
 
