@@ -1,14 +1,17 @@
 -- What a guest puts out stands in the lines that are written of its run.
-use Rattle.std.proofs.Common.{◌≡◌, ◌⊎◌, inl, inr, ℕ, ◌/◌, ◌%◌, ◌≤◌, ◌<◌, ◌++◌, List, [], ◌∷◌, codes, Option, Ok, refl, sym, ap, subst, ◌∙◌, arith}
+use Rattle.std.proofs.Common.{◌≡◌, ◌⊎◌, inl, inr, ℕ, ◌/◌, ◌%◌, ◌≤◌, ◌++◌, List, [], ◌∷◌, codes, Option, Ok, refl, sym, ap, subst, ◌∙◌, arith}
 use Rattle.std.specs.Fmt.{digits}
+use Rattle.std.specs.Prelude.{All, Contains, zip}
+use Rattle.std.proofs.lemmas.List.Elements.{All-nil, All-cons, All-head, All-tail}
 use Rattle.rd_base.specs.declared.status.Status.{Status}
 use Rattle.rd_base.specs.declared.status.Status.TheVariants.{Exited}
 use Rattle.rv_step.specs.State.{State}
 use Rattle.rv_step.specs.Step.{state_at}
 use Rattle.rv_step.specs.Loaded.{started}
 use Rattle.case_reader.specs.Case.{CaseData}
-use Rattle.case_reader.specs.ReadInputs.{InputsAreRead}
+use Rattle.case_reader.specs.ReadInputs.{IsReadInput, InputsAreRead, InputsOfTasksAreRead}
 use Rattle.case_reader.specs.declared.case.Format.{Format}
+use Rattle.case_reader.specs.declared.case.Format.TheVariants.{Elf}
 use Rattle.image_reader.specs.Image.{Image}
 use Rattle.image_reader.specs.Elf.{elf_at}
 use Rattle.transcript_text.specs.Report.{answer_text}
@@ -16,11 +19,11 @@ use Rattle.digest_core.specs.declared.name.DigestName.{DigestName}
 use Rattle.digest_core.specs.declared.name.DigestName.TheVariants.{Sha256}
 use Rattle.workload.specs.Workload.{input_of}
 use Rattle.guests.specs.Guest.{HasPutOut}
-use Rattle.guests.specs.Sum.{total, summed_bytes, SeedsAreSummed}
+use Rattle.guests.specs.Sum.{byte_total, summed_bytes, SeedsAreSummed}
 use Rattle.guests.specs.Adler32.{adler32_of}
 use Rattle.guests.specs.Adler32File.{adler32_file, FileLoads, FileComputesAdler32}
-use Rattle.delegate.specs.InShort.{accepting, HasLastLine, Accepts, Answers, Collides, EndsWith, EndsWithTwoStrings, IsCaseOf, IsImageOf, IsStartOf, big_start, big_bound, SaysInShort, SaysOfBig, IsWrittenOf}
-use Rattle.delegate.specs.Guests.{exited_with, SaysTheSum, IsChecksumCase, SaysTheChecksum, ChecksumsAreAccepted}
+use Rattle.delegate.specs.InShort.{ImageRule, honest, accepting, HasLastLine, ShowsTwoStrings, Accepts, Answers, Collides, TaskEnds, EndsWith, EndsWithTwoStrings, IsStartOf, Sentence, big_start, big_bound, SaysOfBig, IsWrittenOf}
+use Rattle.delegate.specs.Guests.{exited_with, SaysTheSum, IsChecksumCase, accepting_checksum, SaysTheChecksum}
 
 -- what is said of a run that has put out some bytes
 put-out-text : (status : Status) (output : List ℕ) (b : ℕ) (bytes : List ℕ) → status ≡ Exited 0 → output ≡ b ∷ bytes → answer_text status output ≡ exited_with (b ∷ bytes)
@@ -36,7 +39,7 @@ long-enough = omega arith
 pub accepts-sum : SeedsAreSummed → (seed : ℕ) → accepting (state_at (big_start seed) big_bound) ≡ codes "accept " ++ exited_with (summed_bytes (input_of seed))
 accepts-sum law seed =
     let summed = law seed big_bound long-enough in
-    ap (λ (text : List ℕ). codes "accept " ++ text) (put-out-text _ _ (total (input_of seed) % 256) (total (input_of seed) / 256 % 256 ∷ []) summed.exited summed.output)
+    ap (λ (text : List ℕ). codes "accept " ++ text) (put-out-text _ _ (byte_total (input_of seed) % 256) (byte_total (input_of seed) / 256 % 256 ∷ []) summed.exited summed.output)
 
 abbrev pub AcceptsSum : Type 0
 AcceptsSum = (seed : ℕ) → accepting (state_at (big_start seed) big_bound) ≡ codes "accept " ++ exited_with (summed_bytes (input_of seed))
@@ -57,44 +60,87 @@ sum-by words other number status before now same is said =
 
 -- THE CHECKSUM
 
-checksum-start : (c : CaseData) (image : Image) → elf_at adler32_file ≡ Ok image → IsChecksumCase c → IsStartOf c (started c.version image.memory image.entry c.input)
-checksum-start c image loads is = record {
+-- a rule of images that reads an ELF file as such
+abbrev pub ReadsElf : ImageRule → Type 0
+ReadsElf IsImage = (file : List ℕ) (image : Image) → elf_at file ≡ Ok image → IsImage Elf file image
+
+start-of : CaseData → Image → State
+start-of c image = started c.version image.memory image.entry c.input
+
+checksum-start : (IsImage : ImageRule) → ReadsElf IsImage → (c : CaseData) (image : Image) → elf_at adler32_file ≡ Ok image → IsChecksumCase c → IsStartOf IsImage c (start-of c image)
+unfolding start-of
+checksum-start IsImage elf c image loads is = record {
   image = image;
-  loads = subst (λ (f : Format). IsImageOf f c.image image) (sym is.format) (ap elf_at is.image ∙ loads);
+  loads = subst (λ (f : Format). IsImage f c.image image) (sym is.format) (elf c.image image (ap elf_at is.image ∙ loads));
   is = refl;
 }
 
-puts-checksum : InputsAreRead → FileComputesAdler32 → (bytes : List ℕ) (c : CaseData) (image : Image) → elf_at adler32_file ≡ Ok image → IsCaseOf bytes c → IsChecksumCase c
-    → HasPutOut (adler32_of c.input) (state_at (started c.version image.memory image.entry c.input) c.bound)
-puts-checksum input law bytes c image loads reads is =
-    let range = input bytes c reads.reads in
+puts-checksum : FileComputesAdler32 → (c : CaseData) (image : Image) → elf_at adler32_file ≡ Ok image → IsReadInput c.input → IsChecksumCase c
+    → HasPutOut (adler32_of c.input) (state_at (start-of c image) c.bound)
+unfolding start-of
+puts-checksum law c image loads range is =
     subst (λ v. HasPutOut (adler32_of c.input) (state_at (started v image.memory image.entry c.input) c.bound)) (sym is.version)
     (law image c.input loads range.short range.bytes c.bound is.enough)
 
-checksum-text : (input : List ℕ) (final : State) → HasPutOut (adler32_of input) final → answer_text final.status final.output ≡ exited_with (adler32_of input)
-checksum-text input final has = put-out-text final.status final.output _ _ has.exited has.output
+-- what is said of the end of its run
+checksum-text : FileComputesAdler32 → (c : CaseData) (image : Image) → elf_at adler32_file ≡ Ok image → IsReadInput c.input → IsChecksumCase c
+    → answer_text (state_at (start-of c image) c.bound).status (state_at (start-of c image) c.bound).output ≡ exited_with (adler32_of c.input)
+checksum-text law c image loads range is =
+    let has = puts-checksum law c image loads range is in
+    put-out-text (state_at (start-of c image) c.bound).status (state_at (start-of c image) c.bound).output _ _ has.exited has.output
 
 accepts-or-collides : (name : DigestName) (line : List ℕ) (final : State) (status : ℕ) (text : List ℕ) → answer_text final.status final.output ≡ line → Accepts final status text ⊎ Collides name status text
     → ((status ≡ 0) × HasLastLine (codes "accept " ++ line) text) ⊎ Collides name status text
 accepts-or-collides name line final status text is (inl accepts) = inl (accepts.done, subst (λ l. HasLastLine (codes "accept " ++ l) text) is accepts.last)
 accepts-or-collides name line final status text is (inr collides) = inr collides
 
+accepts-or-shows : (name : DigestName) (line : List ℕ) (final : State) (text : List ℕ) → answer_text final.status final.output ≡ line
+    → HasLastLine (accepting final) text ⊎ ShowsTwoStrings name text → HasLastLine (codes "accept " ++ line) text ⊎ ShowsTwoStrings name text
+accepts-or-shows name line final text is (inl accepts) = inl (subst (λ l. HasLastLine (codes "accept " ++ l) text) is accepts)
+accepts-or-shows name line final text is (inr shows) = inr shows
+
 answers-so : (line : List ℕ) (final : State) (status : ℕ) (text : List ℕ) → answer_text final.status final.output ≡ line → Answers final status text
     → (status ≡ 0) × (text ≡ codes "answer " ++ (line ++ codes "\n"))
 answers-so line final status text is answers = (answers.done, answers.line ∙ ap (λ l. codes "answer " ++ (l ++ codes "\n")) is)
 
-pub checksums-accepted : InputsAreRead → FileLoads → FileComputesAdler32 → ChecksumsAreAccepted
-checksums-accepted input loads law words bytes status text says =
-    let image = loads.0 in
-    record {
-      judge = λ asked name c chosen_is reads is plays.
-          let start = started c.version image.memory image.entry c.input in
-          let has = puts-checksum input law bytes c image loads.1 reads is in
-          accepts-or-collides name (exited_with (adler32_of c.input)) (state_at start c.bound) status text (checksum-text c.input (state_at start c.bound) has)
-          (says.judge asked name c start chosen_is reads (checksum-start c image loads.1 is) plays);
-      run = λ c chosen_is reads is.
-          let start = started c.version image.memory image.entry c.input in
-          let has = puts-checksum input law bytes c image loads.1 reads is in
-          answers-so (exited_with (adler32_of c.input)) (state_at start c.bound) status text (checksum-text c.input (state_at start c.bound) has)
-          (says.run c start chosen_is reads (checksum-start c image loads.1 is));
-    }
+-- of a task
+abbrev TaskEndsSo : DigestName → CaseData × List ℕ → Type 0
+TaskEndsSo name task = IsChecksumCase task.0 → Contains task.0.provers honest → HasLastLine (accepting_checksum task.0) task.1 ⊎ ShowsTwoStrings name task.1
+
+task-so : (IsImage : ImageRule) → ReadsElf IsImage → FileLoads → FileComputesAdler32 → (name : DigestName) (c : CaseData) (text : List ℕ) → IsReadInput c.input
+    → TaskEnds IsImage name (c, text) → TaskEndsSo name (c, text)
+task-so IsImage elf loads law name c text range ends is plays =
+    let start = start-of c loads.0 in
+    accepts-or-shows name (exited_with (adler32_of c.input)) (state_at start c.bound) text (checksum-text law c loads.0 loads.1 range is)
+    (ends start (checksum-start IsImage elf c loads.0 loads.1 is) plays)
+
+tasks-so : (IsImage : ImageRule) → ReadsElf IsImage → FileLoads → FileComputesAdler32 → (name : DigestName) (cs : List CaseData) (texts : List (List ℕ))
+    → All (λ (c : CaseData). IsReadInput c.input) cs → All (TaskEnds IsImage name) (zip cs texts) → All (TaskEndsSo name) (zip cs texts)
+tasks-so IsImage elf loads law name [] texts ranges ends = All-nil (TaskEndsSo name)
+tasks-so IsImage elf loads law name (c ∷ cs) [] ranges ends = All-nil (TaskEndsSo name)
+tasks-so IsImage elf loads law name (c ∷ cs) (text ∷ texts) ranges ends =
+    All-cons (TaskEndsSo name) (c, text) (zip cs texts)
+    (task-so IsImage elf loads law name c text (All-head (λ (d : CaseData). IsReadInput d.input) c cs ranges) (All-head (TaskEnds IsImage name) (c, text) (zip cs texts) ends))
+    (tasks-so IsImage elf loads law name cs texts (All-tail (λ (d : CaseData). IsReadInput d.input) c cs ranges) (All-tail (TaskEnds IsImage name) (c, text) (zip cs texts) ends))
+
+pub checksums-accepted : (IsImage : ImageRule) → ReadsElf IsImage → InputsAreRead → InputsOfTasksAreRead → FileLoads → FileComputesAdler32
+    → (judges : DigestName → Type 0) (runs : Type 0) (bytes : List ℕ) (status : ℕ) (text : List ℕ) → Sentence IsImage judges runs bytes status text
+    → SaysTheChecksum IsImage judges runs bytes status text
+checksums-accepted IsImage elf inputs task_inputs loads law judges runs bytes status text says = record {
+  judge = λ name c asked reads is plays.
+      let start = start-of c loads.0 in
+      accepts-or-collides name (exited_with (adler32_of c.input)) (state_at start c.bound) status text (checksum-text law c loads.0 loads.1 (inputs bytes c reads.reads) is)
+      (says.judge name c start asked reads (checksum-start IsImage elf c loads.0 loads.1 is) plays);
+  judge_tasks = λ name cs asked are.
+      let end = says.judge_tasks name cs asked are in record {
+        parts = end.parts;
+        count = end.count;
+        apart = end.apart;
+        whole = end.whole;
+        each = tasks-so IsImage elf loads law name cs end.parts (task_inputs bytes cs are.reads) end.each;
+      };
+  run = λ c asked reads is.
+      let start = start-of c loads.0 in
+      answers-so (exited_with (adler32_of c.input)) (state_at start c.bound) status text (checksum-text law c loads.0 loads.1 (inputs bytes c reads.reads) is)
+      (says.run c start asked reads (checksum-start IsImage elf c loads.0 loads.1 is));
+}

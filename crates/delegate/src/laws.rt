@@ -7,7 +7,7 @@ ghost use Rattle.rv_step.specs.Step.{state_at};
 ghost use Rattle.workload.specs.Workload.{input_of};
 ghost use Rattle.guests.specs.Sum.{summed_bytes};
 ghost use Rattle.delegate.specs.InShort.{accepting, big_start, big_bound};
-ghost use Rattle.delegate.specs.Guests.{exited_with, ChecksumsAreAccepted};
+ghost use Rattle.delegate.specs.Guests.{exited_with, ChecksumsAreAccepted, ChecksumsAreAcceptedPlainly};
 ghost use Rattle.delegate.specs.AsmImage.{asm_at};
 ghost use Rattle.delegate.specs.declared.loading.AsmImageFault.TheVariants as fault;
 ghost use Rattle.delegate.specs.commands.List.{words_in_file};
@@ -79,10 +79,12 @@ pub fn big_accepts_the_sum()
 }
 
 /// Of a case of the file `guest/adler32/program.elf`, with any input and with a bound that its run doesn't reach, the sentence in short
-/// says a checksum: if one prover is `{}`, the last line that `judge` writes accepts the Adler-32 of the input, or shows two different
-/// strings of one digest; and `run` answers with it.
+/// says a checksum, for all arguments (`in_short`) and for plain words (`plainly`): if one prover is `{}`, the last line that `judge`
+/// writes accepts the Adler-32 of the input, or shows two different strings of one digest. So does the text of each such task, and `run`
+/// answers with the checksum.
 pub fn checksums_are_accepted()
-    ensures { ChecksumsAreAccepted }
+    ensures in_short { ChecksumsAreAccepted }
+    ensures plainly { ChecksumsAreAcceptedPlainly }
 {
     adler32_is_computed();
     inputs_are_read_in_range();
