@@ -25,7 +25,7 @@ use Rattle.tournament.specs.Asked.{IsCut, IsWithinBound, AskedIsWithinBound}
 use Rattle.tournament.specs.Journals.{answers_of}
 use Rattle.tournament.specs.Truthful.{AnswersTruly}
 use Rattle.step_referee.specs.MachineTruth.{machine_truth}
-use Rattle.prover_run.specs.Plain.{plain, plain_root, plain_says}
+use Rattle.plain_answers.specs.Plain.{plain, plain_root, plain_says}
 use Rattle.prover_run.specs.CaseScripts.{script_says, case_says}
 use Rattle.case_match.specs.Match.{rules_of_case, says_of_case, truth_of_case}
 use Rattle.case_match.specs.HonestScripts.{untampered, IsHonest, UntouchedProversAreTruthful, TrueTapesAreTruthful}

@@ -38,7 +38,7 @@ use Rattle.checkpoint_run.specs.TamperedRun.{tampered, run_from, run_at}
 use Rattle.checkpoint_run.specs.ValidRuns.{IsTamperInRange, TamperedRunsKeepValidStates}
 use Rattle.prover_run.specs.CaseScripts.{script_says, case_says}
 use Rattle.prover_run.specs.Growing.{OutputGrowsSlowly}
-use Rattle.prover_run.specs.Plain.{plain, plain_says}
+use Rattle.plain_answers.specs.Plain.{plain, plain_says}
 use Rattle.case_reader.specs.Case.{CaseData}
 use Rattle.case_match.specs.Match.{rules_of_case, says_of_case, record_of_case, truth_of_case}
 use Rattle.case_match.specs.TruthfulInCase.{IsInRange}

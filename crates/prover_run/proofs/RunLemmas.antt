@@ -1,5 +1,5 @@
 -- A recorded run is a prover's, by its states and its bound.
-use Rattle.std.proofs.Common.{◌≡◌, ◌^◌, ◌≤◌, ◌<◌, ℕ, zero, suc, List, [], ◌∷◌, length, map, min, slice_index, slice_index_or, refl, sym, ap, ap₂, ◌∙◌, arith}
+use Rattle.std.proofs.Common.{◌+◌, ◌≡◌, ◌^◌, ◌≤◌, ◌<◌, ℕ, zero, suc, List, [], ◌∷◌, length, map, min, slice_index, slice_index_or, refl, sym, ap, ap₂, ◌∙◌, arith}
 use Rattle.rd_base.specs.declared.digest.Digest32.{Digest32}
 use Rattle.rd_base.specs.declared.answer.Answer.TheVariants as answer
 use Rattle.rv_step.specs.State.{State}
@@ -10,7 +10,7 @@ use Rattle.bisect_game.specs.declared.settled.Kind.TheVariants as kind
 use Rattle.segment_replay.specs.Roots.{own_root, root_at, digests}
 use Rattle.prover_run.specs.Growing.{OutputGrowsSlowly}
 use Rattle.bisect_game.specs.Bisection.{steps_asked}
-use Rattle.prover_run.specs.Plain.{plain, plain_root}
+use Rattle.plain_answers.specs.Plain.{plain, plain_root}
 use Rattle.prover_run.specs.Prover.{Prover, IsRunOf, run_of, root_of}
 
 -- as many roots as steps
@@ -67,12 +67,11 @@ pub roots_answer : (digest : List ℕ → List ℕ) (p : Prover) (k : Kind) (lo 
 roots_answer digest p k lo hi parts roots asked same =
     ap answer.Roots (roots_of_digests digest p (steps_asked lo hi parts) roots same) ∙ ap (plain digest (run_of p) p.bound) (sym asked)
 
--- the last output of a run that began without one can be claimed
-pub last_output : OutputGrowsSlowly → (digest : List ℕ → List ℕ) (p : Prover) (r : Recorded) → IsRunOf digest p r → p.start.output ≡ [] → p.bound < 2 ^ 32
+-- the last output of a run that begins with room for it can be claimed
+pub last_output : OutputGrowsSlowly → (digest : List ℕ → List ℕ) (p : Prover) (r : Recorded) → IsRunOf digest p r → length p.start.output + p.bound < 2 ^ 32
     → length (state_of_step r r.bound).output ≤ 4294967295
-last_output grows digest p r is silent short =
+last_output grows digest p r is room =
     let grown = grows p.tamper p.start p.bound in
-    let none : length p.start.output ≡ 0 = ap (length {A = ℕ}) silent in
     let same : length (state_of_step r r.bound).output ≡ length (run_of p p.bound).output =
     ap (λ (run : ℕ → State). length (run r.bound).output) is.states ∙ ap (λ (bound : ℕ). length (run_of p bound).output) is.bound in
     omega arith

@@ -38,7 +38,7 @@ use Rattle.open_proof.specs.declared.facts.HeldRegisters.{HeldRegisters}
 use Rattle.checkpoint_run.specs.TamperedRun.{run_at}
 use Rattle.prover_script.specs.Manners.{with_opened, with_shown, with_forgery, with_roots, noise, asks_roots}
 use Rattle.prover_run.specs.CaseScripts.{script_says}
-use Rattle.prover_run.specs.Plain.{plain, plain_root}
+use Rattle.plain_answers.specs.Plain.{plain, plain_root}
 
 same-roots : (digest : List ℕ → List ℕ) (run other : ℕ → State) → ((i : ℕ) → run i ≡ other i) → (bound : ℕ) (steps : List ℕ) →
     map (plain_root digest run bound) steps ≡ map (plain_root digest other bound) steps

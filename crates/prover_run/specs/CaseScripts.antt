@@ -7,7 +7,7 @@ use Rattle.checkpoint_run.specs.TamperedRun.{run_at}
 use Rattle.bisect_game.specs.Says.{Says}
 use Rattle.bisect_game.specs.declared.settled.Question.{Question}
 use Rattle.prover_script.specs.Manners.{says}
-use Rattle.prover_run.specs.Plain.{plain_says}
+use Rattle.plain_answers.specs.Plain.{plain_says}
 
 -- what a prover with a script says: what its manner makes of the plain answers of its run
 abbrev pub script_says : (List ℕ → List ℕ) → State → ℕ → Script → Question → ℕ → Option Answer

@@ -1,4 +1,3 @@
-pub mod Plain
 pub mod CaseScripts
 pub mod CaseCode
 pub mod Prover

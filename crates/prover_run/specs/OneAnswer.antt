@@ -9,7 +9,7 @@ use Rattle.bisect_game.specs.Says.{GiveOneAnswer}
 use Rattle.bisect_game.specs.declared.settled.Question.{Question}
 use Rattle.prover_script.specs.Manners.{Behaviour, IsSteady}
 use Rattle.prover_script.specs.Steadiness.{manners_are_steady}
-use Rattle.prover_run.specs.Plain.{plain_says}
+use Rattle.plain_answers.specs.Plain.{plain_says}
 use Rattle.checkpoint_run.specs.TamperedRun.{run_at}
 use Rattle.prover_run.specs.CaseScripts.{case_says, said_by}
 

@@ -1,5 +1,5 @@
 -- Derived: what contracts see of a prover with a run, and what it keeps.
-use Rattle.std.specs.Prelude.{◌≡◌, ℕ, List, [], Option, IfSome, min, refl}
+use Rattle.std.specs.Prelude.{◌≡◌, ℕ, ◌+◌, ◌^◌, ◌<◌, List, length, Option, IfSome, min, refl}
 use Rattle.std.specs.Coded.{Coded, code_by, coded×, coded_ℕ}
 use Rattle.std.specs.Ordering.{nat_cmp}
 use Rattle.std.specs.Map.{lookup}
@@ -16,7 +16,7 @@ use Rattle.checkpoint_run.specs.Recorded.{Recorded, AreChained, state_of_step}
 use Rattle.state_commit.specs.Committing.{HasInput}
 use Rattle.segment_replay.specs.Roots.{own_root}
 use Rattle.bisect_game.specs.declared.settled.Question.{Question}
-use Rattle.prover_run.specs.Plain.{plain_says}
+use Rattle.plain_answers.specs.Plain.{plain_says}
 
 -- a prover with a run: the state from which it starts, what is wrong with it, and how far it goes
 pub record Prover : Type 0 where
@@ -55,10 +55,11 @@ pub record IsRunOf (digest : List ℕ → List ℕ) (p : Prover) (r : Recorded) 
 abbrev pub AreKept : (ℕ → List ℕ) → List (ℕ × Digest32) → Type 0
 AreKept root kept = (i : ℕ) → IfSome (lookup (is_at (nat_cmp i)) kept) (λ r. r.0 ≡ root i)
 
--- its machine is at the start of a run with no output, the tree is that of its input, and what is kept is its run's
+-- its machine is at the start of a run whose output may grow by a byte at each step, the tree is that of its input, and what is kept is its
+-- run's
 pub record IsReady (digest : List ℕ → List ℕ) (p : Prover) (start : Machine) (input : Option (List Digest32)) (run : Option Recorded) (kept : List (ℕ × Digest32)) : Type 0 where
   pub chained : IsChained digest start
   pub has_input : HasInput digest p.start input
-  pub silent : p.start.output ≡ []
+  pub room : length p.start.output + p.bound < 2 ^ 32
   pub recorded : IfSome run (IsRunOf digest p)
   pub are_kept : AreKept (root_of digest p) kept

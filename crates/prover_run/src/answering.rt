@@ -4,7 +4,7 @@ ghost use denote.Param.Send.{IsSync};
 ghost use Rattle.std.specs.Prelude.{◌≡◌, ◌<◌, ◌≤◌, ◌^◌, ℕ, IfOk, IfSome, List, length, map};
 ghost use Rattle.checkpoint_run.specs.Recorded.{state_of_step};
 ghost use Rattle.segment_replay.specs.Roots.{root_at, digests};
-ghost use Rattle.prover_run.specs.Plain as plain;
+ghost use Rattle.plain_answers.specs.Plain as plain;
 ghost use Rattle.prover_run.specs.Prover.{Prover, IsRunOf, AreKept, run_of, root_of};
 
 use bisect_game::{Kind, steps_asked};

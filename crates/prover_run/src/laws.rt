@@ -9,7 +9,7 @@ ghost use Rattle.rv_step.specs.State.{State};
 ghost use Rattle.rv_step.specs.Step.{state_at};
 ghost use Rattle.bisect_game.specs.declared.settled.Kind.TheVariants as kind;
 ghost use Rattle.bisect_game.specs.declared.settled.Question.{Question};
-ghost use Rattle.prover_run.specs.Plain.{plain};
+ghost use Rattle.plain_answers.specs.Plain.{plain};
 ghost use Rattle.prover_script.specs.Manners.{IsSteady, asks_roots, written};
 ghost use Rattle.prover_run.specs.CaseScripts.{script_says, case_says};
 ghost use Rattle.prover_run.specs.Growing.{OutputGrowsSlowly};

@@ -1,5 +1,5 @@
 //! An answerer that reads its answers off its run.
-ghost use Rattle.std.specs.Prelude.{◌≡◌, ◌<◌, ◌^◌, [], IfOk, IfSome};
+ghost use Rattle.std.specs.Prelude.{◌≡◌, ◌+◌, ◌<◌, ◌^◌, length, IfOk, IfSome};
 ghost use Rattle.rv_step.specs.State.{state_of, IsChained};
 ghost use Rattle.state_commit.specs.Committing.{HasInput};
 ghost use Rattle.prover_run.specs.Prover.{IsRunOf};
@@ -49,7 +49,8 @@ impl<D: Replays> Model for RunAnswerer<D> {
 impl<D: Replays> RunAnswerer<D> {
     /// A prover whose run goes from a machine, with this tamper, up to the step `bound`, below 2^32. As the code shows, its run is
     /// recorded with a checkpoint at every `every` steps (at least 1), and the roots that one question asks are made in at most `workers`
-    /// pieces (at least 1), side by side. The machine has no output, and its chain is that of no output by the digester `d`.
+    /// pieces (at least 1), side by side. The bytes of the machine's output and a byte more for each step are fewer than 2^32, and the
+    /// machine's chain is that of its output by the digester `d`.
     pub fn new(
         alloc: Global,
         d: D,
@@ -60,7 +61,7 @@ impl<D: Replays> RunAnswerer<D> {
         workers: u32,
     ) -> Result<Self, Memory>
         requires chained { IsChained D.digest_of machine.now }
-        requires silent { machine.now.output.items ≡ [] }
+        requires room { length machine.now.output.items + bound < 2 ^ 32 }
         requires bound { bound < 2 ^ 32 }
         requires every { 0 < every }
         requires workers { 0 < workers }
@@ -85,7 +86,7 @@ impl<D: Replays> RunAnswerer<D> {
         plan: Plan,
     ) -> Result<Self, Memory>
         requires chained { IsChained D.digest_of machine.now }
-        requires silent { machine.now.output.items ≡ [] }
+        requires room { length machine.now.output.items + plan.bound < 2 ^ 32 }
         requires input { HasInput D.digest_of (state_of machine.now) input }
         ensures { IfOk result (λ p. p ≡ record { start = state_of machine.now; tamper = tamper; bound = plan.bound }) }
     {

@@ -16,6 +16,7 @@ use segment_replay::Replays;
 use state_commit::SharedInput;
 use std::alloc::Global;
 use std::marker::Model;
+use std::snapshot::Snapshot;
 
 /// Where provers' runs start: a machine that has no output, whose chain is that of no output, and the tree of its input.
 ///
@@ -93,14 +94,14 @@ impl Model for CaseNames {
     ghost inverse = { λ n. record { never = 0 } };
 }
 
-/// The provers of a case. The code asks only how many there are and how each one waits, for which it needs their scripts; the rest is
-/// there for contracts alone.
+/// The provers of a case. The code asks only how many there are and how each one waits, for which it needs their scripts. The rest is
+/// there only for contracts, and of the machine that is a snapshot, which has no bytes.
 ///
 /// Contracts see them as the state from which their runs start, the bound, and their scripts.
 #[derive(Drop)]
 pub struct CaseProvers<D: Digester> {
     d: D,
-    start: Machine,
+    start: Snapshot<Machine>,
     bound: u64,
     scripts: Vec<Script>,
 }
@@ -115,7 +116,7 @@ impl<D: Digester> Model for CaseProvers<D> {
 
     ghost coded = { case_scripts_code };
 
-    ghost view = { λ c. record { start = state_of c.start; bound = c.bound; scripts = c.scripts.items } };
+    ghost view = { λ c. record { start = state_of c.start.value; bound = c.bound; scripts = c.scripts.items } };
 
     ghost invariant = { λ c. vec_len c.scripts < 2 ^ 32 };
 }
@@ -132,21 +133,21 @@ fn copied(alloc: Global, scripts: &[Script]) -> Result<Vec<Script>, Memory>
 }
 
 impl<D: Digester> CaseProvers<D> {
-    /// The provers with these scripts, fewer than 2^32, whose runs go from the machine `start` up to the step `bound`. An `Err` is out of
-    /// memory, and drops the machine.
+    /// The provers with these scripts, fewer than 2^32, whose runs go from the machine `start` up to the step `bound`. Nothing of the machine
+    /// is kept. An `Err` is out of memory.
     pub fn new(
         alloc: Global,
         d: D,
         scripts: &[Script],
-        start: Machine,
+        start: &Machine,
         bound: u64,
     ) -> Result<Self, Memory>
         requires { length scripts.now < 2 ^ 32 }
-        ensures { IfOk result (λ c. c ≡ record { start = state_of start; bound = bound; scripts = scripts.now }) }
+        ensures { IfOk result (λ c. c ≡ record { start = state_of start.now; bound = bound; scripts = scripts.now }) }
     {
         Ok(CaseProvers {
             d,
-            start,
+            start: Snapshot::of(start),
             bound,
             scripts: copied(alloc, scripts)?,
         })

@@ -1,7 +1,7 @@
 -- Derived: a machine of a run, a tree that is kept with its memory, and what a worker keeps of a run.
-use Rattle.std.specs.Prelude.{◌≡◌, ℕ, List, [], true, IfSome}
-use Rattle.mem_plain.specs.Contents.{Contents, IsUsed}
-use Rattle.mem_tree.specs.Tree.{Tree, IsTreeOf, SameBut, is_among}
+use Rattle.std.specs.Prelude.{◌≡◌, ℕ, List, [], IfSome}
+use Rattle.mem_plain.specs.Contents.{Contents}
+use Rattle.mem_tree.specs.Tree.{Tree, IsTreeOf, SameBut}
 use Rattle.rv_step.specs.State.{state_of, IsChained}
 use Rattle.rv_step.specs.declared.machine.Machine.{Machine}
 use Rattle.checkpoint_run.specs.Recorded.{Recorded, state_of_step}
@@ -21,10 +21,6 @@ pub record IsBehind (digest : List ℕ → List ℕ) (tree : Tree) (old new : Co
 pub record IsFresh (digest : List ℕ → List ℕ) (tree : Tree) (m : Contents) : Type 0 where
   pub untouched : tree.touched ≡ []
   pub tree_of : IsTreeOf digest tree m
-
--- each page that a memory has in use is touched
-abbrev pub HasTouched : Tree → Contents → Type 0
-HasTouched tree m = (p : ℕ) → IsUsed m p → is_among tree.touched p ≡ true
 
 -- what a worker keeps is of the run: the digests of registers in the run's version, and a cursor, if it has one, whose machine is that of
 -- its step and whose tree is the machine's memory's

@@ -4,18 +4,18 @@ ghost use Rattle.std.specs.Prelude.{◌≡◌, replicate, ℕ, ◌+◌, ◌<◌,
 ghost use Rattle.rd_base.specs.Scheme.{scheme_of};
 ghost use Rattle.rd_base.specs.declared.scheme.InputScheme.TheVariants as InputScheme;
 ghost use Rattle.mem_plain.specs.Contents.{Contents};
-ghost use Rattle.mem_tree.specs.Tree.{IsTreeOf, is_among};
+ghost use Rattle.mem_tree.specs.Tree.{HasTouched, IsTreeOf, is_among};
 ghost use Rattle.checkpoint_run.specs.NamedPages.{IsNamed, ArePages};
 ghost use Rattle.checkpoint_run.specs.Recorded.{AreChained, state_of_step, still_of};
 ghost use Rattle.segment_replay.specs.Roots.{IsInputRoot, root_at};
-ghost use Rattle.segment_replay.specs.Cursor.{IsMachineOf, IsBehind, IsFresh, HasTouched};
+ghost use Rattle.segment_replay.specs.Cursor.{IsMachineOf, IsBehind, IsFresh};
 
 use checkpoint_run::{
     Run, advance, machine_at, pages_of_two_places, tampered_runs, tampered_runs_keep_the_input,
 };
 use digest_core::Digester;
 use mem_plain::PlainMem;
-use mem_tree::{MemTree, input_root};
+use mem_tree::{MemTree, input_root, touch_used_pages, unused_pages_are_alike};
 use rd_base::{Digest32, InputScheme, Memory, Scheme};
 use rv_step::Machine;
 use state_commit::{KeptRegisters, Parts, root_of_parts};
@@ -175,21 +175,6 @@ fn is_cheaper_to_step(machine: &Machine, steps: u64) -> bool {
         || has_pages(&machine.mem, steps.div_ceil(STEPS_WORTH_A_PAGE))
 }
 
-/// A tree with each page touched that a memory has in use, beside those that were.
-fn touch_used_pages<D: Digester>(tree: MemTree<D>, mem: &PlainMem) -> Result<MemTree<D>, Memory>
-    ensures tree { IfOk result (λ t. (m : Contents) → IsTreeOf D.digest_of tree m → IsTreeOf D.digest_of t m) }
-    ensures used { IfOk result (λ t. HasTouched t mem.now) }
-    ensures others { IfOk result (λ t. (p : ℕ) → is_among tree.touched p ≡ true → is_among t.touched p ≡ true) }
-{
-    let mut with = tree;
-    let mut least = 0;
-    'pages: while let Some(page) = mem.next_page(least) {
-        with.touch(page)?;
-        least = page + 1;
-    }
-    Ok(with)
-}
-
 /// The tree of a cursor, with each page touched that its memory has in use. The machine is dropped.
 fn release_tree<D: Digester>(cursor: Cursor<D>) -> Result<MemTree<D>, Memory>
     ensures tree { IfOk result (λ t. (m : Contents) → IsTreeOf D.digest_of cursor.tree m → IsTreeOf D.digest_of t m) }
@@ -213,6 +198,7 @@ fn restore_to<D: Digester>(
     ensures machine { IfOk result (λ c. IsMachineOf D.digest_of replay.now.run.now goal c.machine) }
     ensures tree { IfOk result (λ c. IsFresh D.digest_of c.tree c.machine.mem) }
 {
+    unused_pages_are_alike();
     let kept = release_tree(cursor)?;
     let machine = machine_up_to(replay.d, replay.run, goal)?;
     let mut turned = touch_used_pages(kept, &machine.mem)?;

@@ -1,4 +1,3 @@
-use Rattle.segment_replay.proofs.CursorLemmas.{same_unused}
 use Rattle.segment_replay.proofs.cursor.restore_to.Goals as goal
 
 pub returns-clause-tree : goal.returns-clause-tree
@@ -9,5 +8,5 @@ returns-clause-tree g c =
     record {
       untouched = c.in_ok-refresh.ensures.untouched;
       tree_of = c.in_ok-refresh.ensures.tree old (after.tree old (before.tree old c.requires.tree.tree_of))
-          (same_unused c.in_ok-turned.turned.touched old c.in_ok-machine.machine.mem (λ p used. after.others p (before.used p used)) after.used);
+          (c.unused_pages_are_alike.ensures c.in_ok-turned.turned.touched old c.in_ok-machine.machine.mem (λ p used. after.others p (before.used p used)) after.used);
     }

@@ -6,7 +6,7 @@ use Rattle.prover_run.proofs.prover.RunAnswererAnswerer.answer.Goals as goal
 
 pub plain_answer-answer-requires-clause-short : goal.plain_answer-answer-requires-clause-short
 plain_answer-answer-requires-clause-short g c κs within =
-    last_output c.outputs_grow_slowly.ensures g.D.Digester.digest_of _ c.in_ok-run.run' c.in_ok-run.ensures c.self.invariant.silent c.self.inside.reader.plan.short
+    last_output c.outputs_grow_slowly.ensures g.D.Digester.digest_of _ c.in_ok-run.run' c.in_ok-run.ensures c.self.invariant.room
 
 pub invariant_of-self-in_err-answer : goal.invariant_of-self-in_err-answer
 invariant_of-self-in_err-answer g c =
@@ -15,7 +15,7 @@ invariant_of-self-in_err-answer g c =
     record {
       chained = was.chained;
       has_input = was.has_input;
-      silent = was.silent;
+      room = was.room;
       recorded = subst (IsRunOf g.D.Digester.digest_of p) (sym c.plain_answer-answer.ensures.run) c.in_ok-run.ensures;
       are_kept = c.plain_answer-answer.ensures.kept p c.in_ok-run.ensures was.are_kept;
     }
@@ -27,7 +27,7 @@ invariant_of-self-2 g c =
     record {
       chained = was.chained;
       has_input = was.has_input;
-      silent = was.silent;
+      room = was.room;
       recorded = subst (IsRunOf g.D.Digester.digest_of p) (sym c.plain_answer-answer.ensures.run) c.in_ok-run.ensures;
       are_kept = c.plain_answer-answer.ensures.kept p c.in_ok-run.ensures was.are_kept;
     }
