@@ -186,7 +186,7 @@ module _ {N M : Type 0} where
 
   -- room for a book more
   pub room_more : (bs : List (BookOf N M)) (n k : ℕ) (b : BookOf N M) → HasRoom bs n → IsMost b.opening.setup.fan b.opening.setup.bound k → length b.journal ≤ most_entries b.opening.setup k → HasRoom (bs ++ b ∷ []) (n + most_entries b.opening.setup k)
-  room_more [] n k b r most few = (k, most, few, (n, omega arith, tt))
+  room_more [] n k b r most few = (k, most, few, (n, omega arith, r))
   room_more (c ∷ bs) n k b r most few = let is : n ≡ most_entries c.opening.setup r.0 + r.3.0 = r.3.1 in
       (r.0, r.1, r.2, (r.3.0 + most_entries b.opening.setup k, omega (arith, is), room_more bs r.3.0 k b r.3.2 most few))
 

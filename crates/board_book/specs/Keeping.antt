@@ -30,9 +30,9 @@ module _ {N M : Type 0} where
   all_entries [] = 0
   all_entries (b ∷ bs) = length b.journal + all_entries bs
 
-  -- there is room for n entries, which are all that can come, of all books together
+  -- n is the most entries that the journals of these books can have together
   abbrev pub HasRoom : List (BookOf N M) → ℕ → Type 0
-  HasRoom [] n = Unit {0}
+  HasRoom [] n = n ≡ 0
   HasRoom (b ∷ bs) n = (k : ℕ) × IsMost b.opening.setup.fan b.opening.setup.bound k × (length b.journal ≤ most_entries b.opening.setup k) × ((m : ℕ) × (n ≡ most_entries b.opening.setup k + m) × HasRoom bs m)
 
   pub record AreKept (ruling : N → Ruling) (says : M → Says) (books : List (BookOf N M)) (journal : List (ℕ × Entry)) (capacity : ℕ) : Type 0 where

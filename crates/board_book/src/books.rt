@@ -117,7 +117,7 @@ impl<J: Judge + Drop, P: Provers + Drop> Books<J, P> {
         self.book(t).ask(p)
     }
 
-    /// At least as many entries as the journals of these books can have together.
+    /// The most entries that the journals of these books can have together. The joint journal has memory for them.
     pub fn room(&self) -> u64
         ensures { HasRoom self.now.books result }
     {

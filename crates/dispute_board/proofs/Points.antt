@@ -131,6 +131,7 @@ module _ {T H : Type 0} (head : T → H) (log : T → List (List ℕ)) where
         sees = ap log_of t.sees ∙ sym t.log_left ∙ ey ∙ ap log_of_journal is;
         none_joined = t.none_joined;
         same = t.same;
+        one = t.one;
         receipts = t.receipts ∙ ap₂ (λ (u : Turn) (n : ℕ). with_receipt u n before.receipts) turn long;
         later = subst (λ (n : ℕ). All (λ place. place < n) before.receipts) long t.later;
         none_twice = t.none_twice;

@@ -25,7 +25,7 @@ module _ {H : Type 0} where
       one.1 ∙ ap (λ (h : H). Some (h ∷ [])) same
 
   same_seat : (before after : Known (List H)) → SameSeat before after → SameSeat (of_one before) (of_one after)
-  same_seat before after s = record { lock = s.lock; number = s.number; head = ap (option_and_then only_of) s.head; out = s.out }
+  same_seat before after s = record { lock = s.lock; number = s.number; head = ap (option_and_then only_of) s.head; out = s.out; began = s.began }
 
   stands_of_one : (tasks : List Task) (before after : Known (List H)) (journal : List (ℕ × Entry)) (added : Option (ℕ × Entry)) → IsTurnAt tasks before journal added after → IsTurnAt tasks (of_one before) journal added (of_one after)
   stands_of_one tasks before after journal added s = record {
@@ -36,6 +36,7 @@ module _ {H : Type 0} where
     sees = s.sees;
     none_joined = s.none_joined;
     same = same_seat before after s.same;
+    one = s.one;
     receipts = s.receipts;
     later = s.later;
     none_twice = s.none_twice;

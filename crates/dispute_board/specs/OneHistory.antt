@@ -1,6 +1,6 @@
 -- To believe: one history on the board. The journal of all tasks is the log of the board's lock; each turn of each seat is at a point of
 -- one legal journal, and what it is answered is what its task alone answers there.
-use Rattle.std.specs.Prelude.{◌≡◌, ℕ, ◌<◌, List, [], length, Option, Some, None, is_none, if◌then◌else◌, Bool, true, false, ◌∷◌, ◌++◌, map, ◌≢◌, ◌≤◌}
+use Rattle.std.specs.Prelude.{◌≡◌, ℕ, suc, ◌<◌, List, [], length, Option, Some, None, is_none, if◌then◌else◌, Bool, true, false, ◌∷◌, ◌++◌, map, ◌≢◌, ◌≤◌}
 use Rattle.std.specs.List.{All}
 use Rattle.rd_base.specs.declared.answer.Answer.{Answer}
 use Rattle.rd_base.specs.declared.answer.Qid.{Qid}
@@ -112,6 +112,8 @@ pub record IsTurnAt {H : Type 0} (tasks : List Task) (before : Known H) (journal
   pub sees : log_of after.seen ≡ log_of_journal (with_entry journal added)
   pub none_joined : after.joined ≡ []
   pub same : SameSeat before after
+  -- it is one turn of the seat, no more
+  pub one : after.turns ≡ suc before.turns
   -- the entry's place, which is the length of the journal, is a new receipt behind the others, which are of earlier places; no place occurs
   -- twice
   pub receipts : after.receipts ≡ with_receipt (turn_of added) (length journal) before.receipts

@@ -19,6 +19,8 @@ module _ {H : Type 0} where
     seen = k.seen;
     joined = k.joined;
     receipts = k.receipts;
+    turns = k.turns;
+    began = k.began;
   }
 
   -- a seat with one task

@@ -2,7 +2,7 @@
 ghost use Rattle.std.specs.Prelude.{◌≡◌, ◌+◌, ◌^◌, ◌<◌, length, List, Some};
 ghost use Rattle.std.specs.List.{All};
 ghost use Rattle.seat_lock.specs.History.{log_of, Begins, NoneTwice};
-ghost use Rattle.seat_lock.specs.Seats.{IfMade, first_seat, after_split, split_off, after_join};
+ghost use Rattle.seat_lock.specs.Seats.{IfMade, AreEachOnce, first_seat, after_split, split_off, after_join};
 ghost use Rattle.board_book.specs.declared.book.Opening.{Opening};
 ghost use Rattle.tournament.specs.Posting.{answer_of};
 ghost use Rattle.board_book.specs.Tasks.{openings, tasks_of};
@@ -105,7 +105,8 @@ impl<J: Judge + Drop, P: Provers + Drop> TaskBoard<J, P> {
 
     /// The books, once every seat that was split off is joined in again. Their openings are those of the seat, and their journal begins
     /// with all that was seen. The seat has the receipts of all seats then: no place is in them twice, and each is a place of the
-    /// journal.
+    /// journal (`receipts`). They are the places of all entries since `new`, each once: each of these entries is one post of one seat
+    /// (`posted`).
     pub fn into_books(self, seat: TaskSeat<J, P>) -> Books<J, P>
         requires lock { seat.lock ≡ self }
         requires first { seat.number ≡ 0 }
@@ -114,6 +115,7 @@ impl<J: Judge + Drop, P: Provers + Drop> TaskBoard<J, P> {
         ensures journal { Begins (log_of seat.seen) (log_of_journal result.journal) }
         ensures joined { All (λ seen. Begins (log_of seen) (log_of_journal result.journal)) seat.joined }
         ensures receipts { NoneTwice seat.receipts × All (λ place. place < length result.journal) seat.receipts }
+        ensures posted { AreEachOnce seat.began (length result.journal) seat.receipts }
     {
         let TaskBoard { lock } = self;
         let Locked { books } = lock.close(seat);

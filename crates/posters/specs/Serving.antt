@@ -40,7 +40,7 @@ pub record IsProver {N M : Type 0} (says : M → Says) (heads : List (Opening N 
 module _ {H : Type 0} where
   -- what no turn changes of a seat
   abbrev pub kept_of : Known H → Known H
-  kept_of k = record k { seen = []; joined = []; receipts = [] }
+  kept_of k = record k { seen = []; joined = []; receipts = []; turns = 0 }
 
   -- a seat at this board with this head
   pub record IsSeatOf (board : LockId) (head : H) (k : Known H) : Type 0 where

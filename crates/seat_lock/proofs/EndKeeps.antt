@@ -11,7 +11,7 @@ use Rattle.seat_lock.specs.Rule.{word_size, weight, holds_ticket, Fits}
 use Rattle.seat_lock.specs.Views.{InTurn, after_turn, Ends}
 use Rattle.seat_lock.proofs.Histories.{some≢none, begins-itself, begins-append, log_of-adds, log_of-idle}
 use Rattle.seat_lock.proofs.Totals.{total-set, below-length, next_place}
-use Rattle.seat_lock.proofs.Receipts.{at_most_once, times-with_receipt}
+use Rattle.seat_lock.proofs.Receipts.{at_most_once, times-with_receipt, longer-log}
 use Rattle.seat_lock.proofs.Views.{Table, Rule, each-set, counts-set, own_places, served_is, at_front}
 
 -- in a queue whose first one has left
@@ -38,27 +38,33 @@ module _ {T H : Type 0} (head : T → H) (log : T → List LogEntry) where
       let more : (l : History) → Begins l r.history → Begins l history' = λ l b. begins-append l r.history (turn ∷ []) b in
       let result : (hs : List (maybe.Option (Option T))) → hs ≡ some (Some x) ∷ [] → Rule head log record { words = set s.words 1 ((get_or s.words 1 0 + 1) % word_size); homes = hs; views = set s.views id w } = λ hs is. record {
         at = r.at;
+        began = r.began;
         queue = q;
         history = history';
         serving = serving';
         words = ap (λ ws. set ws 1 ((get_or ws 1 0 + 1) % word_size)) r.words ∙ ap (λ (k : ℕ). k ∷ serving' ∷ []) (ap (λ (k : ℕ). (r.serving + k) % word_size) long ∙ next_place r.serving (length q));
-        each = each-set head log (Fits r.at q history' serving' hs) s.views id w
+        each = each-set head log (Fits r.at r.began q history' serving' hs) s.views id w
             record {
               headed = λ h e. let v = old.headed h e in (v.0, subst (λ l. Begins (me.0.seen ++ turn ∷ []) (l ++ turn ∷ [])) now.1 (begins-itself (me.0.seen ++ turn ∷ [])), λ k d b. more _ (v.2 k d b));
+              knows = old.knows;
+              empty = λ e. absurd (some≢none (head x) (sym has_head ∙ e));
               waits = λ u e. absurd (some≢none u (sym e));
               rests = λ _. refl;
               turn = λ u e _. absurd (some≢none u (sym e));
             }
             (λ j d other e. let v = r.each j d e in record {
               headed = λ h f. let g = v.headed h f in (g.0, more d.seen g.1, λ k c b. more _ (g.2 k c b));
+              knows = v.knows;
+              empty = v.empty;
               waits = λ u f. let p = v.waits u f in (p.0, later_place id q r.serving j other p.1.0 u (ap (λ l. get_elem? l p.1.0) (sym queue_is) ∙ p.1.1) p.1.2);
               rests = v.rests;
               turn = λ u a b. absurd (other (some-injective j id (sym (at_front head log s r small' j d u e a (v.turn u a b).0) ∙ front)));
             });
         holders = let m = total-set holds_ticket s.views id me.0 w at in let z : holds_ticket me.0 ≡ 1 = ap weight has in let c = r.holders in omega arith;
         first = counts-set head log r.at s.views id me.0 w at refl refl r.first;
+        grown = longer-log r.began turn r.history r.grown;
         places = λ p. let m = total-set (λ (u : View H). times p u.receipts) s.views id me.0 w at in let q = r.places p in
-            let step_is = times-with_receipt turn me.0.receipts r.history p in
+            let step_is = times-with_receipt r.began turn me.0.receipts r.history p r.grown in
             let same : times p w.receipts ≡ times p (with_receipt turn (length (log_of r.history)) me.0.receipts) = ap (λ l. times p (with_receipt turn (length (log_of l)) me.0.receipts)) now.1 in omega arith;
         free = λ _. (x, is, (old.headed (head x) has_head).0, right ∙ ap (λ l. log_of (l ++ turn ∷ [])) now.1);
       } in
@@ -91,5 +97,5 @@ module _ {T H : Type 0} (head : T → H) (log : T → List LogEntry) where
       keeps_as turn = ends_as s r small id me it.0 x turn at it.1 it.2 mine has_head
 
       none_twice : (turn : Turn) → Then turn → NoneTwice (after_turn turn me.0).receipts
-      none_twice turn r' p = at_most_once p (length (log_of r'.history)) (times p (after_turn turn me.0).receipts)
+      none_twice turn r' p = at_most_once r'.began p (length (log_of r'.history)) (times p (after_turn turn me.0).receipts)
           (own_places head log (stepped s 1 ((get_or s.words 1 0 + 1) % word_size) id me.1 (after_turn turn me.0) gives) r' id (after_turn turn me.0) p (set_here s.views id (after_turn turn me.0) (below-length s.views id me.0 at)))

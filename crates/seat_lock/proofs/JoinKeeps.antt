@@ -27,24 +27,29 @@ module _ {T H : Type 0} (head : T → H) (log : T → List LogEntry) where
       let small : suc v.out < word_size = subst (λ (x : View H). suc x.out < word_size) same f.few in
       let P : History → Type 0 = λ seen. Begins seen r.history in record {
         at = r.at;
+        began = r.began;
         queue = r.queue;
         history = r.history;
         serving = r.serving;
         words = r.words;
-        each = each-set head log (Fits r.at r.queue r.history r.serving s.homes) vs other spent
+        each = each-set head log (Fits r.at r.began r.queue r.history r.serving s.homes) vs other spent
             record {
               headed = λ x e. absurd (some≢none x (sym e));
+              knows = λ x e. absurd (some≢none x (sym e));
+              empty = λ _. refl;
               waits = λ t e. absurd (some≢none t (sym e));
               rests = λ _. refl;
               turn = λ t e _. absurd (some≢none t (sym e));
             }
-            (λ j d _ e. each-set head log (Fits r.at r.queue r.history r.serving s.homes) s.views 0 w
+            (λ j d _ e. each-set head log (Fits r.at r.began r.queue r.history r.serving s.homes) s.views 0 w
             record {
               headed = λ x e. let mine = old.headed x e in (
                 mine.0,
                 begins-longer_of v.seen u.seen r.history mine.1 its.1,
                 All-cons P v.seen (u.seen ∷ (v.joined ++ u.joined)) mine.1 (All-cons P u.seen (v.joined ++ u.joined) its.1 (All-append P v.joined u.joined mine.2 its.2)),
               );
+              knows = old.knows;
+              empty = λ e. absurd (some≢none r.at (sym v_head ∙ e));
               waits = old.waits;
               rests = old.rests;
               turn = λ t e _. absurd (some≢none t (sym e ∙ no_ticket));
@@ -58,6 +63,7 @@ module _ {T H : Type 0} (head : T → H) (log : T → List LogEntry) where
           counts = let m = total-set lives vs other u spent there in let n = total-set_same lives s.views 0 v w at refl in omega arith;
           few = omega arith;
         };
+        grown = r.grown;
         places = λ p. let m = total-set (λ (x : View H). times p x.receipts) vs other u spent there in let k = total-set (λ (x : View H). times p x.receipts) s.views 0 v w at in let a = times-append p v.receipts u.receipts in let q = r.places p in omega arith;
         free = λ none_after. r.free (none_before head log s.views 0 v w at (not_in_turn head log v no_ticket) (none_before head log vs other u spent there (not_in_turn head log u its_ticket) none_after));
       }

@@ -39,13 +39,16 @@ module _ {T H : Type 0} (head : T → H) (log : T → List LogEntry) where
         let not_mine : ¬ (InTurn w) = λ it. miss (some-injective_or 0 n it.0 it.2 ∙ some-injective_or 0 it.0 t (sym it.1 ∙ has)) in
         let idle : ¬ (InTurn me.0) = λ it. other (it.2 ∙ ap Some (some-injective_or 0 it.0 t (sym it.1 ∙ has))) in record {
           at = r.at;
+          began = r.began;
           queue = r.queue;
           history = r.history;
           serving = r.serving;
           words = set-get_or s.words 1 0 ∙ r.words;
-          each = each-set head log (Fits r.at r.queue r.history r.serving s.homes) s.views id w
+          each = each-set head log (Fits r.at r.began r.queue r.history r.serving s.homes) s.views id w
               record {
                 headed = old.headed;
+                knows = old.knows;
+                empty = old.empty;
                 waits = old.waits;
                 rests = λ e. absurd (some≢none t (sym has ∙ e));
                 turn = λ u a b. absurd (not_mine (u, a, b));
@@ -53,7 +56,8 @@ module _ {T H : Type 0} (head : T → H) (log : T → List LogEntry) where
               (λ j d _ e. r.each j d e);
           holders = total-set_same holds_ticket s.views id me.0 w at refl ∙ r.holders;
           first = counts-set head log r.at s.views id me.0 w at refl refl r.first;
-          places = places-set head log s.views id me.0 w (length (log_of r.history)) at refl r.places;
+          grown = r.grown;
+          places = places-set head log s.views id me.0 w r.began (length (log_of r.history)) at refl r.places;
           free = λ none_after. r.free (none_before head log s.views id me.0 w at idle none_after);
         }
 
@@ -62,26 +66,32 @@ module _ {T H : Type 0} (head : T → H) (log : T → List LogEntry) where
         → Rule head log (stepped s 1 (get_or s.words 1 0) id me.1 (at_turn (get_or s.words 1 0) r.history me.0) (takes 0 (Some x)))
     hits s r at hit none_in x home = let n : ℕ = get_or s.words 1 0 in let w = at_turn n r.history me.0 in let old = r.each id me.0 at in record {
       at = r.at;
+      began = r.began;
       queue = r.queue;
       history = r.history;
       serving = r.serving;
       words = set-get_or s.words 1 0 ∙ r.words;
-      each = each-set head log (Fits r.at r.queue r.history r.serving (set s.homes 0 none)) s.views id w
+      each = each-set head log (Fits r.at r.began r.queue r.history r.serving (set s.homes 0 none)) s.views id w
           record {
             headed = λ h e. ((old.headed h e).0, begins-itself r.history, All-nil (λ seen. Begins seen r.history));
+            knows = old.knows;
+            empty = old.empty;
             waits = old.waits;
             rests = λ e. absurd (some≢none t (sym has ∙ e));
             turn = λ u e g. (some-injective_or 0 u n (sym g) ∙ served_is head log s r, refl, ap (λ hs. set hs 0 none) home);
           }
           (λ j d _ e. let v = r.each j d e in record {
             headed = v.headed;
+            knows = v.knows;
+            empty = v.empty;
             waits = v.waits;
             rests = v.rests;
             turn = λ u a b. absurd (none_in j d e (u, a, b));
           });
       holders = total-set_same holds_ticket s.views id me.0 w at refl ∙ r.holders;
       first = counts-set head log r.at s.views id me.0 w at refl refl r.first;
-      places = places-set head log s.views id me.0 w (length (log_of r.history)) at refl r.places;
+      grown = r.grown;
+      places = places-set head log s.views id me.0 w r.began (length (log_of r.history)) at refl r.places;
       free = λ none_after. absurd (none_after id w (set_here s.views id w (below-length s.views id me.0 at)) (t, has, ap Some hit));
     }
 
@@ -106,7 +116,7 @@ module _ {T H : Type 0} (head : T → H) (log : T → List LogEntry) where
               has_log = f.3;
               saw = seen.1;
               saw_joined = seen.2;
-              later = all_below me.0.receipts (length (log_of r.history)) (λ p. own_places head log s r id me.0 p at);
+              later = all_below me.0.receipts r.began (length (log_of r.history)) (λ p. own_places head log s r id me.0 p at);
             }),
             λ miss. absurd (miss (has ∙ ap Some (sym hit))),
           ),

@@ -19,14 +19,17 @@ module _ {T H : Type 0} (head : T → H) (log : T → List LogEntry) where
       let f = r.first in let same : f.view ≡ v = some-injective f.view v (sym f.is_first ∙ at) in
       let here : get_elem? vs 0 ≡ some w = set_here s.views 0 w (below-length s.views 0 v at) in record {
         at = r.at;
+        began = r.began;
         queue = r.queue;
         history = r.history;
         serving = r.serving;
         words = r.words;
         each = λ j d e. ⊎_elim
-            (each-set head log (Fits r.at r.queue r.history r.serving s.homes) s.views 0 w record { headed = old.headed; waits = old.waits; rests = old.rests; turn = old.turn } (λ i u _ g. r.each i u g) j d)
-            (λ (is : n ≡ d). subst (Fits r.at r.queue r.history r.serving s.homes j) is record {
+            (each-set head log (Fits r.at r.began r.queue r.history r.serving s.homes) s.views 0 w record { headed = old.headed; knows = old.knows; empty = old.empty; waits = old.waits; rests = old.rests; turn = old.turn } (λ i u _ g. r.each i u g) j d)
+            (λ (is : n ≡ d). subst (Fits r.at r.began r.queue r.history r.serving s.homes j) is record {
               headed = old.headed;
+              knows = old.knows;
+              empty = λ _. refl;
               waits = λ t g. absurd (some≢none t (sym g));
               rests = λ _. refl;
               turn = λ t g _. absurd (some≢none t (sym g));
@@ -40,6 +43,7 @@ module _ {T H : Type 0} (head : T → H) (log : T → List LogEntry) where
           counts = total-append_one lives vs n ∙ (let m = total-set_same lives s.views 0 v w at refl in let c : total lives s.views ≡ suc v.out = f.counts ∙ ap (λ u. suc u.out) same in let one : lives v ≡ 1 = ap weight has_head in omega arith);
           few = omega arith;
         };
+        grown = r.grown;
         places = λ p. let m = total-append_one (λ (u : View H). times p u.receipts) vs n in let k = total-set_same (λ (u : View H). times p u.receipts) s.views 0 v w at refl in let q = r.places p in omega arith;
         free = λ none_after. r.free (none_before head log s.views 0 v w at (not_in_turn head log v no_ticket) (λ j d e. none_after j d (at_longer vs (n ∷ []) j d e)));
       }

@@ -35,6 +35,19 @@ module _ {V : Type 0} (f : V → ℕ) where
   total-le-total g [] h = omega arith
   total-le-total g (x ∷ xs) h = let r = total-le-total g xs (λ j v e. h (suc j) v e) in let q = h zero x refl in omega arith
 
+  -- of a list of which only the first counts
+  total-none : (vs : List V) → ((j : ℕ) (v : V) → get_elem? vs j ≡ some v → f v ≡ 0) → total f vs ≡ 0
+  total-none [] h = refl
+  total-none (x ∷ xs) h = let r = total-none xs (λ j v e. h (suc j) v e) in let q = h zero x refl in omega arith
+
+  pub total-alone : (vs : List V) (v : V) → get_elem? vs 0 ≡ some v → ((j : ℕ) (w : V) → 0 ≢ j → get_elem? vs j ≡ some w → f w ≡ 0) → total f vs ≡ f v
+  total-alone [] v e h = absurd (some-ne-none v (sym e))
+  total-alone (x ∷ xs) v e h = let r = total-none xs (λ j w d. h (suc j) w (λ (z : 0 ≡ suc j). absurd (omega (arith, z))) d) in let q : f x ≡ f v = ap f (some-injective x v e) in omega arith
+
+pub weight-none : {A : Type 0} (o : Option A) → weight o ≡ 0 → o ≡ None
+weight-none None e = refl
+weight-none (Some a) e = absurd (omega (arith, e))
+
 -- where one thing is there, so is the other
 pub weight-le-weight : {A B : Type 0} (o : Option A) (p : Option B) (b : B) → ((a : A) → o ≡ Some a → p ≡ Some b) → weight o ≤ weight p
 weight-le-weight None p b h = omega arith

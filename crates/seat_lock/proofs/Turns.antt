@@ -1,5 +1,5 @@
 -- What a turn puts together from its steps.
-use Rattle.std.proofs.Common.{◌≡◌, ⊎_elim, ℕ, ◌<◌, List, [], ◌∷◌, ◌++◌, length, Option, Some, None, sym, ap, ◌∙◌, subst}
+use Rattle.std.proofs.Common.{◌≡◌, ⊎_elim, ℕ, suc, ◌<◌, List, [], ◌∷◌, ◌++◌, length, Option, Some, None, sym, ap, ◌∙◌, subst}
 use Rattle.std.specs.Prelude.{slice_get}
 use Rattle.std.specs.List.{All}
 use Rattle.atomic_table.specs.Table.{rest, Me}
@@ -57,7 +57,14 @@ module _ {T H : Type 0} (head : T → H) (log : T → List LogEntry) where
       let made : (turn : Turn) → m₃ ≡ (after_turn turn m₂.0, []) → log y ≡ log_of (history ++ turn ∷ []) → Turned {T = T} head log (known_as lock number m₀.0) x y (known_as lock' number' m₃.0) = λ turn e after. record {
         shown = history;
         turn = turn;
-        same = record { lock = same_lock; number = same_number; head = ap (λ (n : Mine). n.0.head) e ∙ ap (λ v. v.head) view; out = ap (λ (n : Mine). n.0.out) e ∙ ap (λ v. v.out) view };
+        same = record {
+          lock = same_lock;
+          number = same_number;
+          head = ap (λ (n : Mine). n.0.head) e ∙ ap (λ v. v.head) view;
+          out = ap (λ (n : Mine). n.0.out) e ∙ ap (λ v. v.out) view;
+          began = ap (λ (n : Mine). n.0.began) e ∙ ap (λ v. v.began) view;
+        };
+        one = ap (λ (n : Mine). n.0.turns) e ∙ ap (λ v. suc v.turns) view;
         head_found = sym (ap (λ (n : Mine). n.0.head) drew) ∙ b.has_head ∙ ap (λ z. Some (head z)) (sym same);
         head_left = kept;
         saw = saw;

@@ -8,7 +8,8 @@ use Rattle.atomic_table.specs.Table.{State}
 use Rattle.atomic_table.proofs.Lists.{at_set, set_here, set_else}
 use Rattle.seat_lock.specs.View.{View}
 use Rattle.seat_lock.specs.History.{LogEntry, log_of, times}
-use Rattle.seat_lock.specs.Rule.{word_size, weight, total, once_below, lives, holds_ticket, NoneInTurn, CountsTheOthers, Kept}
+use Rattle.seat_lock.specs.Rule.{word_size, weight, total, lives, holds_ticket, NoneInTurn, CountsTheOthers, Kept}
+use Rattle.seat_lock.specs.Seats.{once_between}
 use Rattle.seat_lock.specs.Views.{InTurn}
 use Rattle.seat_lock.proofs.Histories.{some≢none}
 use Rattle.seat_lock.proofs.Totals.{total-set_same, one-le-total, total-le-total, weight-le-weight, below-length, first_place}
@@ -60,13 +61,13 @@ module _ {T H : Type 0} (head : T → H) (log : T → List LogEntry) where
         few = f.few;
       })
 
-  abbrev pub Places : List D → ℕ → Type 0
-  Places vs n = (p : ℕ) → total (λ v. times p v.receipts) vs ≤ once_below p n
+  abbrev pub Places : List D → ℕ → ℕ → Type 0
+  Places vs from n = (p : ℕ) → total (λ v. times p v.receipts) vs ≡ once_between from n p
 
-  pub places-set : (vs : List D) (me : ℕ) (v w : D) (n : ℕ) → get_elem? vs me ≡ some v → w.receipts ≡ v.receipts → Places vs n → Places (set vs me w) n
-  places-set vs me v w n at same h p = let m = total-set_same (λ (u : D). times p u.receipts) vs me v w at (ap (times p) same) in let q = h p in omega arith
+  pub places-set : (vs : List D) (me : ℕ) (v w : D) (from n : ℕ) → get_elem? vs me ≡ some v → w.receipts ≡ v.receipts → Places vs from n → Places (set vs me w) from n
+  places-set vs me v w from n at same h p = let m = total-set_same (λ (u : D). times p u.receipts) vs me v w at (ap (times p) same) in let q = h p in omega arith
 
-  pub own_places : (s : Table) (r : Rule s) (me : ℕ) (v : D) (p : ℕ) → get_elem? s.views me ≡ some v → times p v.receipts ≤ once_below p (length (log_of r.history))
+  pub own_places : (s : Table) (r : Rule s) (me : ℕ) (v : D) (p : ℕ) → get_elem? s.views me ≡ some v → times p v.receipts ≤ once_between r.began (length (log_of r.history)) p
   own_places s r me v p at = let m = one-le-total (λ (u : D). times p u.receipts) s.views me v at in let q = r.places p in omega arith
 
   -- fewer than 2^64 views hold a ticket

@@ -1,6 +1,6 @@
 -- Derived. The rule of a lock's table: `SeatLock::new` establishes it, each kind of step keeps it, and the clauses of the lock follow from it.
 -- Word 0 is the next ticket and word 1 the number served, both modulo 2^64. Slot 0 holds the value.
-use Rattle.std.specs.Prelude.{◌≡◌, ℕ, suc, ◌+◌, ◌%◌, ◌<◌, ◌≤◌, nat_lt, if◌then◌else◌, List, [], ◌∷◌, length, Option, Some, None}
+use Rattle.std.specs.Prelude.{◌≡◌, ℕ, suc, ◌+◌, ◌%◌, ◌<◌, ◌≤◌, List, [], ◌∷◌, length, Option, Some, None}
 use Rattle.std.specs.List.{All}
 use mathlib.Core.Option.{some, none}
 use mathlib.Core.Option as maybe
@@ -8,6 +8,7 @@ use lib.ListN.{get_elem?}
 use Rattle.atomic_table.specs.Table.{State}
 use Rattle.seat_lock.specs.View.{View}
 use Rattle.seat_lock.specs.History.{LogEntry, History, log_of, Begins, times}
+use Rattle.seat_lock.specs.Seats.{once_between}
 use Rattle.seat_lock.specs.Views.{InTurn}
 
 -- how many numbers a word has, so 2^64
@@ -23,10 +24,6 @@ weight None = 0
 abbrev pub total : {V : Type 0} → (V → ℕ) → List V → ℕ
 total f [] = 0
 total f (v ∷ vs) = f v + total f vs
-
--- 1 for a place below n
-abbrev pub once_below : ℕ → ℕ → ℕ
-once_below place n = if nat_lt place n then 1 else 0
 
 module _ {H : Type 0} where
   -- 1 for a view that isn't spent, which is one with a head
@@ -49,9 +46,13 @@ module _ {H : Type 0} where
     pub few : suc view.out < word_size
 
   -- what the rule requires of view number j alone. The queue has the numbers of the views that hold a ticket, from the one served on
-  pub record Fits {T : Type 0} (at : H) (queue : List ℕ) (history : History) (serving : ℕ) (homes : List (maybe.Option (Option T))) (j : ℕ) (v : View H) : Type 0 where
+  pub record Fits {T : Type 0} (at : H) (began : ℕ) (queue : List ℕ) (history : History) (serving : ℕ) (homes : List (maybe.Option (Option T))) (j : ℕ) (v : View H) : Type 0 where
     -- unless it is spent it has the one head, and has seen a start of the history
     pub headed : (head : H) → v.head ≡ Some head → (head ≡ at) × Begins v.seen history × All (λ seen. Begins seen history) v.joined
+    -- and it knows how long the log was at the start
+    pub knows : (head : H) → v.head ≡ Some head → v.began ≡ began
+    -- one that is spent has no receipts
+    pub empty : v.head ≡ None → v.receipts ≡ []
     -- a ticket is a place in the queue: the number served and some steps further
     pub waits : (ticket : ℕ) → v.ticket ≡ Some ticket → (v.head ≡ Some at) × ((k : ℕ) × (get_elem? queue k ≡ some j) × (ticket ≡ (serving + k) % word_size))
     -- without a ticket it has learnt no number
@@ -62,13 +63,15 @@ module _ {H : Type 0} where
   pub record Kept {T : Type 0} (head : T → H) (log : T → List LogEntry) (s : State (Option T) (View H)) : Type 0 where
     pub at : H
     pub queue : List ℕ
+    pub began : ℕ
     pub history : History
     pub serving : ℕ
     pub words : s.words ≡ (serving + length queue) % word_size ∷ serving ∷ []
-    pub each : (j : ℕ) (v : View H) → get_elem? s.views j ≡ some v → Fits at queue history serving s.homes j v
+    pub each : (j : ℕ) (v : View H) → get_elem? s.views j ≡ some v → Fits at began queue history serving s.homes j v
     pub holders : total holds_ticket s.views ≡ length queue
     pub first : CountsTheOthers at s.views
-    -- each receipt is the place of an entry of the log, and no place occurs twice in all views together
-    pub places : (place : ℕ) → total (λ v. times place v.receipts) s.views ≤ once_below place (length (log_of history))
+    -- the log is no shorter than at the start. Of each entry behind there is one receipt in all views together, and of no other place
+    pub grown : began ≤ length (log_of history)
+    pub places : (place : ℕ) → total (λ v. times place v.receipts) s.views ≡ once_between began (length (log_of history)) place
     -- while nobody is in turn, the slot is at home with a value of the one head, whose log is that of the history
     pub free : NoneInTurn s.views → (value : T) × (s.homes ≡ some (Some value) ∷ []) × (head value ≡ at) × (log value ≡ log_of history)

@@ -1,5 +1,5 @@
 -- To believe: one turn of a seat, which is what the lock promises of a turn.
-use Rattle.std.specs.Prelude.{◌≡◌, ◌<◌, List, [], ◌∷◌, ◌++◌, length, slice_get, Some, None}
+use Rattle.std.specs.Prelude.{◌≡◌, suc, ◌<◌, List, [], ◌∷◌, ◌++◌, length, slice_get, Some, None}
 use Rattle.std.specs.List.{All}
 use Rattle.seat_lock.specs.History.{LogEntry, Turn, History, log_of, Begins, with_receipt, NoneTwice}
 use Rattle.seat_lock.specs.Seats.{Known}
@@ -10,6 +10,7 @@ pub record SameSeat {H : Type 0} (before after : Known H) : Type 0 where
   pub number : after.number ≡ before.number
   pub head : after.head ≡ before.head
   pub out : after.out ≡ before.out
+  pub began : after.began ≡ before.began
 
 -- where the seat found this value under the lock and left that one
 pub record Turned {T H : Type 0} (head : T → H) (log : T → List LogEntry) (before : Known H) (found left : T) (after : Known H) : Type 0 where
@@ -17,6 +18,8 @@ pub record Turned {T H : Type 0} (head : T → H) (log : T → List LogEntry) (b
   pub shown : History
   pub turn : Turn
   pub same : SameSeat before after
+  -- it is one turn
+  pub one : after.turns ≡ suc before.turns
   -- the value has the seat's head, and keeps it
   pub head_found : before.head ≡ Some (head found)
   pub head_left : head left ≡ head found

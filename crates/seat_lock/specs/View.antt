@@ -16,3 +16,6 @@ pub record View (H : Type 0) : Type 0 where
   pub joined : List History
   -- the places of the entries that it added
   pub receipts : List ℕ
+  -- how many turns it has taken, with those of seats joined into it; and how long the log was at the start
+  pub turns : ℕ
+  pub began : ℕ

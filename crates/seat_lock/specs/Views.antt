@@ -1,5 +1,5 @@
 -- Derived. A seat's view after each step, and what a step shows its seat: `Turned`, `split_off` and `after_join` state the result.
-use Rattle.std.specs.Prelude.{◌≡◌, ◌≢◌, ◌⊎◌, ℕ, suc, ◌-◌, ◌<◌, List, [], ◌∷◌, ◌++◌, length, Option, Some, None}
+use Rattle.std.specs.Prelude.{◌≡◌, ◌≢◌, ◌⊎◌, ℕ, suc, ◌+◌, ◌-◌, ◌<◌, List, [], ◌∷◌, ◌++◌, length, Option, Some, None}
 use Rattle.std.specs.List.{All}
 use Rattle.atomic_table.specs.Table.{Me, Step}
 use Rattle.atomic_table.specs.declared.shared.Seat.{Seat}
@@ -14,7 +14,7 @@ module _ {H : Type 0} where
 
   -- the view of a lock's first seat
   abbrev pub starting : H → List LogEntry → View H
-  starting head log = record { head = Some head; ticket = None; served = None; out = 0; seen = turns_of log; joined = []; receipts = [] }
+  starting head log = record { head = Some head; ticket = None; served = None; out = 0; seen = turns_of log; joined = []; receipts = []; turns = 0; began = length log }
 
   -- the first seat's view, after a split
   abbrev pub with_one_more_out : View H → View H
@@ -22,7 +22,7 @@ module _ {H : Type 0} where
 
   -- the view of the seat that was split off
   abbrev pub newcomer : View H → View H
-  newcomer v = record { head = v.head; ticket = None; served = None; out = 0; seen = v.seen; joined = v.joined; receipts = [] }
+  newcomer v = record { head = v.head; ticket = None; served = None; out = 0; seen = v.seen; joined = v.joined; receipts = []; turns = 0; began = v.began }
 
   -- the first seat's view, after a join
   abbrev pub with_joined : View H → View H → View H
@@ -31,11 +31,12 @@ module _ {H : Type 0} where
     seen = longer_of v.seen w.seen;
     joined = v.seen ∷ w.seen ∷ (v.joined ++ w.joined);
     receipts = v.receipts ++ w.receipts;
+    turns = v.turns + w.turns;
   }
 
   -- the view of the seat that was joined in
   abbrev pub spent : View H
-  spent = record { head = None; ticket = None; served = None; out = 0; seen = []; joined = []; receipts = [] }
+  spent = record { head = None; ticket = None; served = None; out = 0; seen = []; joined = []; receipts = []; turns = 0; began = 0 }
 
   -- after a ticket was drawn
   abbrev pub with_ticket : ℕ → View H → View H
@@ -56,11 +57,12 @@ module _ {H : Type 0} where
     served = None;
     seen = v.seen ++ turn ∷ [];
     receipts = with_receipt turn (length (log_of v.seen)) v.receipts;
+    turns = suc v.turns;
   }
 
   -- what contracts see of a seat with this view
   abbrev pub known_as : LockId → ℕ → View H → Known H
-  known_as lock number v = record { lock = lock; number = number; head = v.head; out = v.out; seen = v.seen; joined = v.joined; receipts = v.receipts }
+  known_as lock number v = record { lock = lock; number = number; head = v.head; out = v.out; seen = v.seen; joined = v.joined; receipts = v.receipts; turns = v.turns; began = v.began }
 
 module _ {T H : Type 0} where
   -- a seat's view, and the slots that are lent to it with what they hold

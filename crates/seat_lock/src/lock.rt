@@ -2,7 +2,7 @@
 ghost use Rattle.std.specs.Prelude.{◌≡◌, ◌↔◌, ◌+◌, ◌-◌, ◌*◌, ◌^◌, ◌<◌, ◌≤◌, [], ◌∷◌, length, min, Some, IfSome, IsNone, MatchBool};
 ghost use Rattle.std.specs.List.{All};
 ghost use Rattle.seat_lock.specs.History.{History, log_of, Begins, NoneTwice};
-ghost use Rattle.seat_lock.specs.Seats.{IfMade, first_seat, after_split, split_off, after_join};
+ghost use Rattle.seat_lock.specs.Seats.{IfMade, AreEachOnce, first_seat, after_split, split_off, after_join};
 ghost use Rattle.seat_lock.specs.Turned.{Turned};
 ghost use Rattle.seat_lock.specs.Views.{view_of, lent_to, WaitsFor, InTurn, IsAtRest, StillWaits, BeginsTurn, EndsTurn, with_ticket};
 
@@ -203,7 +203,7 @@ impl<T: Logged> SeatLock<T> {
         }
     }
 
-    /// Waits for a turn of the seat, does the job on the value, and answers what the job answers.
+    /// Waits for a turn of the seat, does the job on the value, and answers what the job answers. It takes one turn, no more.
     ///
     /// The job may rest on all that is known of the seat's head.
     pub fn with_turn<R: Wait, J: Job<T>>(&self, rt: &R, seat: &mut Seat<T>, job: J) -> J::Out
@@ -242,7 +242,8 @@ impl<T: Logged> SeatLock<T> {
     /// The value, once every seat that was split off the first one is joined in again. Its head is the seat's, and its log begins with all
     /// that the seat, and each seat joined into it, had seen.
     ///
-    /// The seat has the receipts of all seats then. No place is in them twice, and each is a place of the log.
+    /// The seat has the receipts of all seats then. No place is in them twice, and each is a place of the log (`receipts`). They are the
+    /// places of all entries that the log gained since `new`, each once, so that each of these entries was added in a turn (`added`).
     pub fn close(self, seat: Seat<T>) -> T
         requires lock { seat.lock ≡ self }
         requires first { seat.number ≡ 0 }
@@ -251,6 +252,7 @@ impl<T: Logged> SeatLock<T> {
         ensures history { (history : History) × (T.log result ≡ log_of history) × Begins seat.seen history × All (λ seen. Begins seen history) seat.joined }
         ensures log { Begins (log_of seat.seen) (T.log result) × All (λ seen. Begins (log_of seen) (T.log result)) seat.joined }
         ensures receipts { NoneTwice seat.receipts × All (λ place. place < length (T.log result)) seat.receipts }
+        ensures added { AreEachOnce seat.began (length (T.log result)) seat.receipts }
     {
         let SeatLock { table } = self;
         let Seat { raw } = seat;

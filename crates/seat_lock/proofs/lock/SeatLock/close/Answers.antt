@@ -38,3 +38,9 @@ returns-clause-receipts g c =
     let d = closed_value g.T.Logged.head g.T.Logged.log raw.table_id raw.id raw.me.0 c.args.seat _ _ c.take-value.result c.seat.view_is c.requires.first c.requires.none_out c.seat.invariant.no_ticket c.close_with-closed.ensures.values.2 c.take-value.ensures.value in
     let last = last_is g.T.Logged.head g.T.Logged.log c.args.seat c.take-value.result c.in-Some.value c.in-Some.is d in
     (last.none_twice, last.places)
+
+pub returns-clause-added : goal.returns-clause-added
+returns-clause-added g c =
+    let raw = c.seat.inside.raw in
+    let d = closed_value g.T.Logged.head g.T.Logged.log raw.table_id raw.id raw.me.0 c.args.seat _ _ c.take-value.result c.seat.view_is c.requires.first c.requires.none_out c.seat.invariant.no_ticket c.close_with-closed.ensures.values.2 c.take-value.ensures.value in
+    (last_is g.T.Logged.head g.T.Logged.log c.args.seat c.take-value.result c.in-Some.value c.in-Some.is d).each_once
