@@ -28,7 +28,9 @@ use Rattle.delegate.specs.declared.response.Answered.{Answered}
 use Rattle.delegate.specs.declared.response.Answered.TheVariants.{Done, Usage, Case, Image, ReadFault, WriteFault, AuditRefused, Memory, NoneLeft as NobodyLeft, Collision, TooLong}
 use Rattle.delegate.proofs.OutcomeLemmas.{no_command, of_command, outcome-of}
 use Rattle.delegate.proofs.TaskLemmas.{gravest-is}
-use Rattle.delegate.proofs.ResponseLemmas.{OfCases, OfCommand, command-of}
+use Rattle.delegate.specs.OfCase.{start_response, response_by, answer_response}
+use Rattle.bisect_game.specs.declared.settled.Kind.{Kind}
+use Rattle.delegate.proofs.ResponseLemmas.{OfCases, OfCommand, command-of, start-of, answer-of, response-of}
 
 -- the answers of each command
 
@@ -75,6 +77,26 @@ parts Roots = case-kind (is_answer_of Roots) refl refl refl refl
 parts Listing = case-kind (is_answer_of Listing) refl refl refl refl
 parts AuditOf = record { long = refl; unread = λ bytes fault e. refl; finding = found-kind }
 parts (Big seed) = λ c start. refl
+
+pub start-kind : (bytes : List ℕ) → Answers is_of_case (response_by start_response bytes)
+start-kind bytes = response-of (Answers is_of_case) refl start_response (start-of (Answers is_of_case) (case-kind is_of_case refl refl refl refl)) bytes
+
+abbrev IsNoMemory : Response → Type 0
+IsNoMemory r = r.answered ≡ Memory → ⊥
+
+no-memory : OfCases IsNoMemory
+no-memory = record {
+  long = λ e. cc e;
+  unread = λ bytes fault is e. cc e;
+  ranged = λ k e. cc e;
+  flat = λ subject file fault is e. cc e;
+  elf = λ subject file fault is e. cc e;
+  text = λ subject text fault is e. cc e;
+  done = λ text e. cc e;
+}
+
+pub answer-kind : (k : Kind) (bytes : List ℕ) → IsNoMemory (response_by (answer_response k) bytes)
+answer-kind k bytes = response-of IsNoMemory (λ e. cc e) (answer_response k) (answer-of IsNoMemory no-memory (λ e. cc e) k) bytes
 
 taken-kind : (words : List (List ℕ)) (bytes : List ℕ) (command : Command) → chosen words ≡ Some command → is_answer_of command (outcome words bytes).answered ≡ true
 taken-kind words bytes command is =

@@ -35,6 +35,9 @@ use Rattle.digest_core.specs.Name.{digest_of}
 use Rattle.delegate.specs.Decided.{Deciding, response_to_case, together, responses_to_cases}
 use Rattle.delegate.specs.Loading.{within_limit, case_in, image_by, start_in, starts_in}
 use Rattle.delegate.specs.commands.Judge.{judging, response_to_tasks, judge_response}
+use Rattle.delegate.specs.OfCase.{start_response, response_by, may_ask, answer_of_run, answer_response}
+use Rattle.bisect_game.specs.declared.settled.Kind.{Kind}
+use Rattle.delegate.specs.Refusal.{usage}
 use Rattle.delegate.specs.commands.Run.{run_response}
 use Rattle.delegate.specs.commands.Roots.{roots_of_run, roots_response}
 use Rattle.delegate.specs.commands.Audit.{text_refusal, ruling_of_text, response_to_finding, audit_response}
@@ -182,6 +185,30 @@ judge-of P text name of bytes = by (tasks_at bytes) refl
 ran-of : (P : Response → Type 0) → OfCases P → (bytes : List ℕ) → Of P (run_response bytes)
 unfolding run_response
 ran-of P of bytes = case-then P of bytes _ (λ c. fit-then P (start_in Whole c) _ (start-fit P of Whole c) (λ start. of.done _))
+
+pub start-of : (P : Response → Type 0) → OfCases P → (bytes : List ℕ) → Of P (start_response bytes)
+unfolding start_response
+start-of P of bytes = case-then P of bytes _ (λ c. fit-then P (start_in Whole c) _ (start-fit P of Whole c) (λ start. of.done _))
+
+-- a question as a test
+abbrev asked-as : Bool → Result (Unit {0}) Response
+asked-as may = cond may (Ok tt) (Err usage)
+
+pub answer-of : (P : Response → Type 0) → OfCases P → P usage → (k : Kind) (bytes : List ℕ) → Of P (answer_response k bytes)
+unfolding answer_response
+answer-of P of unasked k bytes = case-then P of bytes _ (λ c. by c (may_ask c.bound k))
+  where
+    by : (c : CaseData) (asked : Bool) → Of P (asked-as asked >>= (λ done. start_in Whole c >>= (λ start. Ok (answer_of_run k c start))))
+    by c true = fit-then P (start_in Whole c) (λ start. Ok (answer_of_run k c start)) (start-fit P of Whole c) (λ start. of.done (answer_of_run k c start).text)
+    by c false = unasked
+
+-- what is answered to bytes that are not too many, to all
+pub response-of : (P : Response → Type 0) → P too_long → (answer : List ℕ → Result Response Response) → ((bytes : List ℕ) → Of P (answer bytes)) → (bytes : List ℕ) → P (response_by answer bytes)
+response-of P long answer of bytes = by (nat_lt 16777216 (length bytes))
+  where
+    by : (many : Bool) → Of P (cond many (Err too_long) (Ok bytes) >>= answer)
+    by true = long
+    by false = of bytes
 
 -- a limit as a test
 abbrev limit : Response → Bool → Result (Unit {0}) Response

@@ -26,6 +26,7 @@ pub mod Decided
 pub mod commands
 pub mod Outcome
 pub mod Alone
+pub mod OfCase
 pub mod Answering
 pub mod Writing
 pub mod Headline

@@ -1,0 +1,59 @@
+-- To believe. What a caller with the bytes of a case in memory gets of it beside the commands: the root of its run's start, by which a match
+-- of the case begins, and the plain answer of its run to a question of a match, in its wire form.
+use Rattle.std.specs.Prelude.{ℕ, List, Bool, true, ◌&&◌, nat_lt, nat_le, if◌then◌else◌, Result, Ok, Err}
+use Rattle.rd_base.specs.Results.{◌>>=◌}
+use Rattle.rv_step.specs.State.{State}
+use Rattle.sha2.specs.Sha256.{sha256}
+use Rattle.rv_step.specs.Step.{state_at}
+use Rattle.bisect_game.specs.Bisection.{can_cut}
+use Rattle.bisect_game.specs.declared.settled.Kind.{Kind}
+use Rattle.bisect_game.specs.declared.settled.Kind.TheVariants as kind
+use Rattle.proof_wire.specs.Wire.{wire_form}
+use Rattle.plain_answers.specs.Plain.{plain}
+use Rattle.case_reader.specs.Case.{CaseData}
+use Rattle.case_match.specs.Match.{start_root}
+use Rattle.delegate.specs.Refusal.{usage}
+use Rattle.delegate.specs.Loading.{within_limit, case_in, start_in}
+use Rattle.delegate.specs.Outcome.{either_way}
+use Rattle.delegate.specs.declared.response.Subject.TheVariants.{Whole}
+use Rattle.delegate.specs.declared.response.Response.{Response}
+use Rattle.delegate.specs.declared.response.Answered.TheVariants.{Done}
+
+-- the 32 bytes of the root at step 0 of a match by SHA-256, of a run that starts in this state
+abbrev pub root_of_start : State → Response
+root_of_start start = record { answered = Done; text = (start_root sha256 start).0 }
+
+-- of the case of bytes
+unfoldable pub start_response : List ℕ → Result Response Response
+start_response bytes = do
+  c ← case_in bytes
+  start ← start_in Whole c
+  Ok (root_of_start start)
+
+-- the response to these bytes, which may be too many, by what is answered to those that aren't
+abbrev pub response_by : (List ℕ → Result Response Response) → List ℕ → Response
+response_by answer bytes = either_way (within_limit bytes >>= answer)
+
+-- a match with this bound may ask it: the claim, a root between the ends of the run, the roots at the cuts of an interval of it, or the proof
+-- of one of its steps
+abbrev pub may_ask : ℕ → Kind → Bool
+may_ask bound kind.Claim = true
+may_ask bound (kind.Root i) = nat_lt 0 i && nat_lt i bound
+may_ask bound (kind.Roots lo hi parts) = can_cut lo hi parts && nat_le hi bound
+may_ask bound (kind.Proof i) = nat_lt i bound
+
+-- what no match of the case asks is refused as arguments are that name no command
+abbrev pub within_match : Kind → CaseData → Result (Unit {0}) Response
+within_match k c = if may_ask c.bound k then Ok tt else Err usage
+
+-- the wire form of the plain answer of the run, by SHA-256
+abbrev pub answer_of_run : Kind → CaseData → State → Response
+answer_of_run k c start = record { answered = Done; text = (wire_form (plain sha256 (state_at start) c.bound k)).bytes }
+
+-- of the case of bytes
+unfoldable pub answer_response : Kind → List ℕ → Result Response Response
+answer_response k bytes = do
+  c ← case_in bytes
+  asked ← within_match k c
+  start ← start_in Whole c
+  Ok (answer_of_run k c start)
