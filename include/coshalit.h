@@ -1,5 +1,5 @@
-/* The proved code of Coshalit for C, and for languages that call C: the referee of one step, and the program's commands `audit`, `run` and
- * `list`, on bytes in memory.
+/* The proved code of Coshalit for C, and for languages that call C: the referee of one step; the program's commands `audit`, `run` and
+ * `list`, on bytes in memory; a match among your own parties; and the true answer of a prover of your own.
  *
  * Link libcoshalit_c.a (`rt lib` in crates/coshalit_c makes it, in out/) and examples/embed/heap.c, which gives it memory by the program's own
  * malloc, realloc and free:
@@ -38,13 +38,21 @@ extern "C" {
 #define COSHALIT_NO_PROOF 3     /* the bytes are the wire form of no proof of a step */
 #define COSHALIT_WRONG_LENGTH 4 /* `root` or `next` hasn't 32 bytes */
 
-/* The exit statuses of the program, in the answers of coshalit_audit, coshalit_run and coshalit_list. */
+/* The exit statuses of the program, in the answers of coshalit_audit, coshalit_run and coshalit_list, and the statuses of a match. Take a status
+ * that isn't listed for a refusal. */
 #define COSHALIT_DONE 0           /* the text is confirmed; the case was run; its image was listed */
 #define COSHALIT_BAD_CASE 3       /* the bytes are no case, or one that has no listing: `fault case R ..` (docs/FAULTS.md has the numbers R) */
 #define COSHALIT_BAD_IMAGE 4      /* the image of the case can't be loaded: `fault image R ..` */
 #define COSHALIT_AUDIT_REFUSED 8  /* the text is refused: `refused LINE CAUSE`, or `fault text R ..` if it can't be read */
 #define COSHALIT_OUT_OF_MEMORY 9  /* memory ran out: no text, `length` is 0, and nothing is written */
 #define COSHALIT_TOO_LONG 12      /* more than 16,777,216 bytes: `fault too long` */
+#define COSHALIT_NOT_ASKED 2      /* coshalit_answer: no match of the case asks this: `fault usage` */
+#define COSHALIT_ACCEPTED 0       /* a match: it is over, and a claim is accepted */
+#define COSHALIT_NONE_LEFT 10     /* a match: it is over, and nobody is left */
+#define COSHALIT_COLLISION 11     /* a match: it is over, and two different strings with one digest were shown */
+#define COSHALIT_STILL_OPEN 13    /* a match: a question is open */
+#define COSHALIT_BAD_NUMBERS 14   /* a match: one of its numbers is beyond its limit */
+#define COSHALIT_BAD_LOG 15       /* a match: the bytes are no log */
 
 /* What a command answers, by value: 16 bytes where `size_t` has 8. */
 typedef struct CoshalitAnswer {
@@ -80,6 +88,82 @@ CoshalitAnswer coshalit_run(const uint8_t *json, size_t json_length, uint8_t *ro
 /* Lists the image of a case as assembly text, a line for each word: statuses as of coshalit_run. The answer is as above, by the command
  * `list`. */
 CoshalitAnswer coshalit_list(const uint8_t *json, size_t json_length, uint8_t *room, size_t room_length);
+
+/* A MATCH AMONG YOUR OWN PARTIES. You own a log of posts; the library plays it. docs/OPEN_MATCH.md says what a host has to do.
+ *
+ * A log is a list of entries. All numbers have their least byte first:
+ *
+ *     entry = prover(4) dispute(4) round(4) length(4) answer(length)
+ *
+ * `prover` counts from 1; `dispute` and `round` name the question; the answer is a wire form (docs/COMMITMENTS.md), and with the length 0 the
+ * entry is a pass. WHOEVER MAY APPEND AN ENTRY WITH A PROVER'S NUMBER CAN LOSE THAT PROVER'S MATCH: authenticate senders, and write the number
+ * yourself. */
+
+/* The numbers by which a match is played. The digest is SHA-256. */
+typedef struct CoshalitNumbers {
+    uint32_t version;  /* of the commitments, 1 to 3 */
+    uint32_t provers;  /* 1 to 16 */
+    uint32_t fan;      /* into how many parts a round cuts its interval at most, 2 to 16 */
+    uint32_t patience; /* how many passes a question allows, 0 to 100 */
+    uint64_t bound;    /* how many steps the run has, 1 to 4,294,967,295 */
+    uint8_t start[COSHALIT_ROOT_BYTES]; /* the root of the state at step 0 */
+} CoshalitNumbers;
+
+/* What a prover is asked. coshalit_answer takes `kind`, `low`, `high` and `parts` as they are here. */
+typedef struct CoshalitQuestion {
+    uint32_t prover;         /* from 1 */
+    uint32_t dispute, round; /* the question's number; dispute 0 is the claim */
+    uint32_t kind;           /* 1 the claim, 2 a root, 3 the proof of a step, 5 several roots: the tag of the answer's wire form */
+    uint32_t parts;          /* of several roots: in how many parts the interval is cut; else 0 */
+    uint32_t passes;         /* how often the prover has passed on this question */
+    uint64_t low, high;      /* the step of the root or of the proof, and 0; or the interval's two ends; of the claim 0 and 0 */
+} CoshalitQuestion;
+
+/* What a match has come to after a log, or where the bytes are no log. */
+typedef struct CoshalitMatch {
+    uint32_t reply;    /* to the last post: 0 there is none, 1 taken, 2 faulty, 3 spent, 4 stale */
+    uint32_t accepted; /* the number of the accepted prover, or 0 */
+    uint32_t asked;    /* how many provers have an open question */
+    uint32_t cause;    /* of no log: 1 it ends within an entry, 2 no prover has the number, 3 an answer's bytes are no wire form; else 0 */
+    uint32_t rule;     /* of cause 3: the rule that the bytes break, 1 to 5; else 0 */
+    uint64_t at;       /* of no log: where the first entry begins that is none; else 0 */
+} CoshalitMatch;
+
+/* What the match of these numbers has come to after a log. COSHALIT_ACCEPTED, COSHALIT_NONE_LEFT or COSHALIT_COLLISION: it is over. COSHALIT_STILL_OPEN:
+ * the open questions are in `asked`, in the order of their provers, as many as there is room for; room for 16 is always enough. `found` says the
+ * rest. COSHALIT_BAD_LOG: `found` says where and why, and nothing is written to `asked`. COSHALIT_BAD_NUMBERS, COSHALIT_OUT_OF_MEMORY: nothing
+ * is written.
+ *
+ * Proved: what is found is that of the match after the posts of the log, and the place of a bad log is the first. Whatever the others post, in
+ * whatever order: a prover whose entries are true answers within the patience is never out, and a match that is over accepts the status and
+ * the output of the run or shows two strings with one digest. */
+uint32_t coshalit_match(const CoshalitNumbers *numbers, const uint8_t *log, size_t log_length, CoshalitMatch *found,
+                        CoshalitQuestion *asked, size_t asked_length);
+
+/* The full text of a match that is over: the status is that of coshalit_match, and the text is as of coshalit_audit. While a question is open, and
+ * with any other status, there is no text, `length` is 0, and nothing is written. The text is one that coshalit_audit confirms (proved), if it
+ * has at most 16,777,216 bytes; a log of less than 5,000,000 bytes has such a text. */
+CoshalitAnswer coshalit_match_text(const CoshalitNumbers *numbers, const uint8_t *log, size_t log_length, uint8_t *room, size_t room_length);
+
+/* A PROVER OF YOUR OWN. */
+
+/* The root of the state in which the run of a case starts, by SHA-256: COSHALIT_DONE and its 32 bytes as the text. It is the `start` of a match
+ * of this case, and ties a full text to the case: a text is of your case if line 1 has this root and the case's numbers. A refusal is as
+ * of coshalit_run. */
+CoshalitAnswer coshalit_start_root(const uint8_t *json, size_t json_length, uint8_t *room, size_t room_length);
+
+/* The true answer of a case's own run to a question, by SHA-256: COSHALIT_DONE and its wire form as the text. `kind`, `low`, `high` and `parts` are
+ * those of a CoshalitQuestion. What no match of the case asks is COSHALIT_NOT_ASKED; other refusals are as of coshalit_run. It takes as long as
+ * the run up to the step that is asked, which the case bounds.
+ *
+ * Proved: the answer is the plain answer of the run of the case, which is a true one. So whoever posts what this call gives, in time, and is
+ * alone to post in its name, is never put out. */
+CoshalitAnswer coshalit_answer(const uint8_t *json, size_t json_length, uint32_t kind, uint64_t low, uint64_t high, uint32_t parts,
+                               uint8_t *room, size_t room_length);
+
+/* The root of a claim, from its wire form, by which a match compares claims. 0: the claim is sound, and its 32 bytes are in `root`. 1: it isn't
+ * sound. 3: the bytes are no claim. 4: `root` hasn't 32 bytes. 9: memory ran out. Unless it is 0, `root` stays as it was. */
+uint32_t coshalit_claim_root(const uint8_t *wire, size_t wire_length, uint8_t *root, size_t root_length);
 
 #ifdef __cplusplus
 }

@@ -1,13 +1,13 @@
 -- No answer of a command that needs no runtime has the status of out of memory.
 use Rattle.std.proofs.Common.{◌≡◌, true, refl, subst, sym, ◌∙◌}
 use Rattle.delegate.specs.Alone.{command_of}
-use Rattle.delegate.specs.Answered.{is_answer_of, status_number}
+use Rattle.delegate.specs.Answered.{is_answer_of, is_of_case, status_number}
 use Rattle.delegate.specs.declared.commands.Alone.{Alone}
 use Rattle.delegate.specs.declared.commands.Alone.TheVariants.{Run, Audit, Listing}
 use Rattle.delegate.specs.declared.response.Answered.{Answered}
 use Rattle.delegate.specs.declared.response.Answered.TheVariants.{Done, Usage, Case, Image, ReadFault, WriteFault, AuditRefused, Memory, NoneLeft, Collision, TooLong}
 
-nine-is-memory : (answered : Answered) → status_number answered ≡ 9 → answered ≡ Memory
+pub nine-is-memory : (answered : Answered) → status_number answered ≡ 9 → answered ≡ Memory
 nine-is-memory Done is = absurd (cc is)
 nine-is-memory Usage is = absurd (cc is)
 nine-is-memory Case is = absurd (cc is)
@@ -28,3 +28,10 @@ not-memory Listing is = cc is
 pub never-nine : (command : Alone) (answered : Answered) → is_answer_of (command_of command) answered ≡ true → status_number answered ≡ 9 → ⊥
 never-nine command answered own is =
     not-memory command (subst (λ (a : Answered). is_answer_of (command_of command) a ≡ true) (nine-is-memory answered is) own)
+
+-- nor has any answer to the bytes of a case
+pub of-case-nine : (answered : Answered) → is_of_case answered ≡ true → status_number answered ≡ 9 → ⊥
+of-case-nine answered own is = by (nine-is-memory answered is)
+  where
+    by : answered ≡ Memory → ⊥
+    by e = cc (subst (λ (a : Answered). is_of_case a ≡ true) e own)

@@ -5,7 +5,14 @@
 //! so no export has a condition: each tests what it needs. `include/coshalit.h` declares them; read `step` first, then `texts`.
 #![tactic(auto)]
 
+mod answers;
+mod asked;
 #[cfg(test)]
 mod calls_test;
+mod found;
+mod match_texts;
+mod matches;
+mod numbers;
+mod roots;
 mod step;
 mod texts;

@@ -1,5 +1,5 @@
 //! The commands that need no runtime, on a caller's bytes.
-ghost use Rattle.std.specs.Prelude.{◌≡◌, ◌≢◌};
+ghost use Rattle.std.specs.Prelude.{◌≡◌, ◌≢◌, ◌++◌, length, take, drop};
 ghost use Rattle.delegate.specs.declared.commands.Alone.TheVariants as alone;
 ghost use Rattle.coshalit_c.specs.Texts.{IsWrittenTo, IsOutcome, IsUntouched};
 
@@ -16,16 +16,34 @@ pub struct CoshalitAnswer {
     pub length: usize,
 }
 
+/// Writes bytes to the first places of `room`, as far as there are any.
+pub(crate) fn write_bytes(bytes: &[u8], room: &mut [u8])
+    ensures { room.new ≡ take (length room.old) bytes.now ++ drop (length bytes.now) room.old }
+{
+    let count = bytes.len().min(room.len());
+    room[..count].copy_from_slice(&bytes[..count]);
+}
+
 /// Writes a response's text to the first bytes of `room`, as far as there are any.
-fn written(response: &Response, room: &mut [u8]) -> CoshalitAnswer
+pub(crate) fn written(response: &Response, room: &mut [u8]) -> CoshalitAnswer
     ensures { IsWrittenTo response.now result room.old room.new }
 {
     let text = response.text.as_slice();
-    let count = text.len().min(room.len());
-    room[..count].copy_from_slice(&text[..count]);
+    write_bytes(text, room);
     CoshalitAnswer {
         status: u32::from(response.answered.status()),
         length: text.len(),
+    }
+}
+
+/// The answer if memory ran out.
+pub fn out_of_memory() -> CoshalitAnswer
+    ensures status { result.status ≡ 9 }
+    ensures none { result.length ≡ 0 }
+{
+    CoshalitAnswer {
+        status: u32::from(Answered::Memory.status()),
+        length: 0,
     }
 }
 
@@ -36,10 +54,7 @@ fn answered(alloc: Global, command: Alone, bytes: &[u8], room: &mut [u8]) -> Cos
 {
     match answer_alone(alloc, command, bytes) {
         Ok(response) => written(&response, room),
-        Err(_) => CoshalitAnswer {
-            status: u32::from(Answered::Memory.status()),
-            length: 0,
-        },
+        Err(_) => out_of_memory(),
     }
 }
 
