@@ -12,6 +12,8 @@ mod calls_test;
 mod found;
 mod match_texts;
 mod matches;
+#[cfg(test)]
+mod matches_test;
 mod numbers;
 mod roots;
 mod step;
