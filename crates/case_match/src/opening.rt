@@ -108,7 +108,7 @@ fn open_match<D: Replays>(
     let judge = MachineJudge::new(d, start.version);
     let plan = plan_for(case, options);
     let answerers = answerers_with_input(alloc, d, scripts, &Start::new(&start, &input), plan)?;
-    let provers = CaseProvers::new(alloc, d, scripts, &start, case.bound)?;
+    let provers = CaseProvers::new(alloc, d, scripts, start, case.bound)?;
     let book = Book::open(
         alloc,
         judge,

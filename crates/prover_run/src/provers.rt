@@ -16,7 +16,6 @@ use segment_replay::Replays;
 use state_commit::SharedInput;
 use std::alloc::Global;
 use std::marker::Model;
-use std::snapshot::Snapshot;
 
 /// Where provers' runs start: a machine that has no output, whose chain is that of no output, and the tree of its input.
 ///
@@ -94,14 +93,14 @@ impl Model for CaseNames {
     ghost inverse = { λ n. record { never = 0 } };
 }
 
-/// The provers of a case. The code asks only how many there are and how each one waits, for which it needs their scripts. The rest is
-/// there only for contracts, and of the machine that is a snapshot, which has no bytes.
+/// The provers of a case. The code asks only how many there are and how each one waits, for which it needs their scripts; the rest is
+/// there for contracts alone.
 ///
 /// Contracts see them as the state from which their runs start, the bound, and their scripts.
 #[derive(Drop)]
 pub struct CaseProvers<D: Digester> {
     d: D,
-    start: Snapshot<Machine>,
+    start: Machine,
     bound: u64,
     scripts: Vec<Script>,
 }
@@ -116,7 +115,7 @@ impl<D: Digester> Model for CaseProvers<D> {
 
     ghost coded = { case_scripts_code };
 
-    ghost view = { λ c. record { start = state_of c.start.value; bound = c.bound; scripts = c.scripts.items } };
+    ghost view = { λ c. record { start = state_of c.start; bound = c.bound; scripts = c.scripts.items } };
 
     ghost invariant = { λ c. vec_len c.scripts < 2 ^ 32 };
 }
@@ -133,21 +132,21 @@ fn copied(alloc: Global, scripts: &[Script]) -> Result<Vec<Script>, Memory>
 }
 
 impl<D: Digester> CaseProvers<D> {
-    /// The provers with these scripts, fewer than 2^32, whose runs go from the machine `start` up to the step `bound`. Nothing of the machine
-    /// is kept. An `Err` is out of memory.
+    /// The provers with these scripts, fewer than 2^32, whose runs go from the machine `start` up to the step `bound`. An `Err` is out of
+    /// memory, and drops the machine.
     pub fn new(
         alloc: Global,
         d: D,
         scripts: &[Script],
-        start: &Machine,
+        start: Machine,
         bound: u64,
     ) -> Result<Self, Memory>
         requires { length scripts.now < 2 ^ 32 }
-        ensures { IfOk result (λ c. c ≡ record { start = state_of start.now; bound = bound; scripts = scripts.now }) }
+        ensures { IfOk result (λ c. c ≡ record { start = state_of start; bound = bound; scripts = scripts.now }) }
     {
         Ok(CaseProvers {
             d,
-            start: Snapshot::of(start),
+            start,
             bound,
             scripts: copied(alloc, scripts)?,
         })

@@ -76,7 +76,7 @@ fn opened<D: Replays>(alloc: Global, d: D) -> Result<TwoProvers<D>, Memory>
     let root = state_root_with(d, &machine, &input);
     let start = Start::new(&machine, &input);
     let answerers = answerers_with_input(alloc, d, &scripts, &start, plan)?;
-    let provers = CaseProvers::new(alloc, d, &scripts, &machine, 8)?;
+    let provers = CaseProvers::new(alloc, d, &scripts, machine, 8)?;
     let judge = MachineJudge::new(d, 1);
     let book = Book::open(alloc, judge, provers, 8, 2, 0, root)?;
     Ok(TwoProvers { book, answerers })

@@ -69,7 +69,7 @@ fn playing(
     }
     let machine = started(alloc, program)?;
     let answerers = answerers_of(alloc, Sha256, scripts, &machine, plan)?;
-    let provers = CaseProvers::new(alloc, Sha256, scripts, &machine, plan.bound)?;
+    let provers = CaseProvers::new(alloc, Sha256, scripts, machine, plan.bound)?;
     Ok((provers, answerers))
 }
 
