@@ -1,13 +1,10 @@
 -- A chain of accepted claims follows the run.
-use Rattle.std.proofs.Common.{◌≡◌, ◌⊎◌, inl, inr, ℕ, zero, suc, ◌+◌, ◌%◌, ◌^◌, ◌<◌, ◌≤◌, eqb, cond, Bool, true, false, List, [], ◌∷◌, length, Option, Some, None, refl, sym, ap, ◌∙◌, subst, arith, length-append}
-use Rattle.rd_base.specs.Status.{is_running}
+use Rattle.std.proofs.Common.{◌≡◌, ◌⊎◌, inl, inr, ℕ, zero, suc, ◌+◌, ◌^◌, ◌<◌, ◌≤◌, List, [], ◌∷◌, length, Option, Some, None, refl, sym, ap, ◌∙◌, subst, arith, length-append}
 use Rattle.rd_base.specs.declared.digest.Digest32.{Digest32}
 use Rattle.rd_base.specs.declared.claim.Claim.{Claim}
-use Rattle.rv_decode.specs.Reading.{reading_of}
-use Rattle.rv_decode.specs.declared.instr.Instr.{Instr}
-use Rattle.mem_plain.specs.Contents.{number_at}
 use Rattle.rv_step.specs.State.{State}
-use Rattle.rv_step.specs.Step.{step, state_at, after_word, after_effect, output_after}
+use Rattle.rv_step.specs.NextEffect.{seen_of, next_effect}
+use Rattle.rv_step.specs.Step.{step, state_at, after_next, output_after}
 use Rattle.rv_step.specs.Valid.{IsValid}
 use Rattle.rv_step.specs.declared.effect.Effect.{Effect}
 use Rattle.rv_step.specs.declared.effect.Effect.TheVariants.{Write, Jump, Branch, Next, Store, Put, Exit, Trap}
@@ -38,18 +35,13 @@ effect-adds xs (Put byte) = let longer = length-append xs (byte ∷ []) in omega
 effect-adds xs (Exit code) = omega arith
 effect-adds xs (Trap code) = omega arith
 
-word-adds : (s : State) (o : Option Instr) → length (after_word s o).output ≤ length s.output + 1
-word-adds s (Some i) = effect-adds s.output _
-word-adds s None = omega arith
+next-adds : (s : State) (o : Option Effect) → length (after_next s o).output ≤ length s.output + 1
+next-adds s (Some e) = effect-adds s.output e
+next-adds s None = omega arith
 
 step-adds : (s : State) → length (step s).output ≤ length s.output + 1
 unfolding step
-step-adds s = go (is_running s.status) (eqb (s.pc % 4) 0)
-  where
-    go : (r b : Bool) → length (cond r (cond b (after_word s (reading_of (number_at s.memory s.pc 4))) (after_effect s (Trap 0))) s).output ≤ length s.output + 1
-    go true true = word-adds s (reading_of (number_at s.memory s.pc 4))
-    go true false = omega arith
-    go false b = omega arith
+step-adds s = next-adds s (next_effect (seen_of s))
 
 output-at : (s : State) (i : ℕ) → length (state_at s i).output ≤ length s.output + i
 output-at s zero = omega arith
