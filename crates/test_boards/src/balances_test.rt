@@ -1,5 +1,6 @@
 //! Tests of the balances at the end of a match.
 ghost use Rattle.std.specs.Prelude.{◌<◌, ◌≤◌};
+ghost use Rattle.deposits.specs.Balances.{IsSettledUp};
 
 use crate::casts::{NEVER, cast_of, played};
 use crate::players::{FALLS_SILENT, FORGER, LIAR_FALLS_SILENT};
@@ -10,7 +11,7 @@ use std::alloc::Global;
 use std::sync::Wait;
 use std::test::Fail;
 use std::thread::Threads;
-use tournament::Match;
+use tournament::{Match, Record};
 use toy_game::{Cast, HONEST, LIAR, Player, SILENT, ToyJudge};
 
 /// A match in which each player stakes 10. Its last two players may be missing.
@@ -98,6 +99,18 @@ struct Settlements {
     kept: Balances,
 }
 
+/// What each of these provers has at the end of a match with this record and a stake of 10.
+fn settled(alloc: Global, provers: u32, ended: &Record) -> Result<Settlements, Memory>
+    requires some { 0 < provers }
+    requires few { provers ≤ 16 }
+    requires settled_up { IsSettledUp provers ended.now }
+{
+    Ok(Settlements {
+        won: balances(alloc, 10, provers, ended)?,
+        kept: burned(alloc, 10, provers, ended)?,
+    })
+}
+
 /// What each prover of a match has at its end with a stake of 10. `None` if it isn't over, or has more than 16 provers.
 fn paid(alloc: Global, game: &Match<ToyJudge>) -> Result<Option<Settlements>, Memory> {
     let setup = game.setup();
@@ -107,9 +120,7 @@ fn paid(alloc: Global, game: &Match<ToyJudge>) -> Result<Option<Settlements>, Me
     }
     game.is_after_posts();
     a_match_that_has_ended_is_settled_up();
-    let won = balances(alloc, 10, provers, game.record())?;
-    let kept = burned(alloc, 10, provers, game.record())?;
-    Ok(Some(Settlements { won, kept }))
+    Ok(Some(settled(alloc, provers, game.record())?))
 }
 
 /// What the players of a cast have at the end of their match, in which they have no patience.
