@@ -156,8 +156,8 @@ CoshalitAnswer coshalit_start_root(const uint8_t *json, size_t json_length, uint
  * those of a CoshalitQuestion. What no match of the case asks is COSHALIT_NOT_ASKED; other refusals are as of coshalit_run. It takes as long as
  * the run up to the step that is asked, which the case bounds.
  *
- * Proved: the answer is the plain answer of the run of the case, which is a true one. So whoever posts what this call gives, in time, and is
- * alone to post in its name, is never put out. */
+ * Proved: the answer is the plain answer of the run of the case, which is a true one. With what is proved of a match it follows that whoever
+ * posts what this call gives, in time, and is alone to post in its name, is never put out; no one law says both. */
 CoshalitAnswer coshalit_answer(const uint8_t *json, size_t json_length, uint32_t kind, uint64_t low, uint64_t high, uint32_t parts,
                                uint8_t *room, size_t room_length);
 
