@@ -7,7 +7,7 @@
                                     for texts that are cut and lines that are exchanged, left out and doubled: lines of
                                     crates/test_refcli/stdout for the rows of crates/test_refcli/stdin, which `rt ci` compares
 
-What has to be written is what the game of tools/coshalit gives, which is written from docs/PROGRAM.md, docs/AUDIT.md, docs/GAME.md and
+What has to be written is what the game of tools/coshalit gives, which is written from docs/TEXTS.md, docs/AUDIT.md, docs/GAME.md and
 docs/COMMITMENTS.md; no code is taken from the crates. FILE has to be the full text of a match, which `refcli audit` confirms. A change after which
 the text is that of another legal match isn't among them.
 """

@@ -1,4 +1,4 @@
-"""A match played from its full text, a second time, from docs/GAME.md, docs/PROGRAM.md and docs/AUDIT.md alone. It shares nothing with tools/."""
+"""A match played from its full text, a second time, from docs/GAME.md, docs/TEXTS.md and docs/AUDIT.md alone. It shares nothing with tools/."""
 import re
 
 from referee import (
@@ -6,7 +6,7 @@ from referee import (
 )  # fmt: skip
 
 MODULUS = 1 << 32
-# The match (docs/GAME.md and docs/PROGRAM.md).
+# The match (docs/GAME.md and docs/TEXTS.md).
 
 NUMBER = "(0|[1-9][0-9]*)"
 HEAD = re.compile(

@@ -6,7 +6,7 @@
     checks/texts.py --stored FILE   the same for the text of each row of FILE whose command is `mutants`, behind the row's name: lines of
                                     crates/test_refcli/stdout for the rows of crates/test_refcli/stdin, which `rt ci` compares
 
-It is written from docs/PROGRAM.md and docs/COMMITMENTS.md; no code is taken from the crates. It plays no match: `lines.py` does.
+It is written from docs/TEXTS.md and docs/COMMITMENTS.md; no code is taken from the crates. It plays no match: `lines.py` does.
 """
 import pathlib
 import sys

@@ -1,4 +1,4 @@
-"""What a case has to be: keys, types and ranges ('Cases' of docs/PROGRAM.md), with a sentence for each mistake and each key that is ignored."""
+"""What a case has to be: keys, types and ranges ('A case' of docs/PROGRAM.md), with a sentence for each mistake and each key that is ignored."""
 from __future__ import annotations
 
 import difflib

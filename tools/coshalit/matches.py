@@ -1,4 +1,4 @@
-"""What a match is, however it was read, and the lines of its report (docs/GAME.md, 'The report' of docs/PROGRAM.md)."""
+"""What a match is, however it was read, and the lines of its report (docs/GAME.md, 'The report' of docs/TEXTS.md)."""
 from __future__ import annotations
 
 from dataclasses import dataclass, field

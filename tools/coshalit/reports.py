@@ -1,4 +1,4 @@
-"""Reports of `refcli judge`: the only reader of their grammar ('Texts' of docs/PROGRAM.md)."""
+"""Reports of `refcli judge`: the only reader of their grammar ('The grammar' of docs/TEXTS.md)."""
 from __future__ import annotations
 
 import re

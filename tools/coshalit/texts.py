@@ -1,4 +1,4 @@
-"""Full texts of `refcli judge --full`: the only reader of their grammar ('A full text' of docs/PROGRAM.md)."""
+"""Full texts of `refcli judge --full`: the only reader of their grammar ('A full text' of docs/TEXTS.md)."""
 from __future__ import annotations
 
 import re
