@@ -28,6 +28,7 @@ PACKAGES = {
     GCC: "gcc-riscv64-unknown-elf picolibc-riscv64-unknown-elf",
     AR: "binutils-riscv64-unknown-elf",
     "cc": "gcc libc6-dev",
+    "lua5.4": "lua5.4",
     "csmith": "csmith libcsmith-dev",
     "qemu-riscv32": "qemu-user",
     "llvm-mc": "llvm",
@@ -177,8 +178,10 @@ def program_of(given: Optional[pathlib.Path]) -> pathlib.Path:
     return program
 
 
-def case_of(image: bytes, bound: int, provers: Sequence[object] = ({},), form: str = "elf", version: int = 1) -> bytes:
-    case = {"format": form, "image": image.hex(), "input": "", "bound": bound, "patience": 0, "version": version, "provers": list(provers)}
+def case_of(
+    image: bytes, bound: int, provers: Sequence[object] = ({},), form: str = "elf", version: int = 1, given: bytes = b""
+) -> bytes:
+    case = {"format": form, "image": image.hex(), "input": given.hex(), "bound": bound, "patience": 0, "version": version, "provers": list(provers)}
     return json.dumps(case).encode()
 
 
