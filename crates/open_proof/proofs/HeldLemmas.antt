@@ -6,7 +6,7 @@ use Rattle.rd_base.specs.Status.{is_running}
 use Rattle.rd_base.specs.Scheme.{scheme_of}
 use Rattle.rd_base.specs.declared.scheme.InputScheme.{InputScheme}
 use Rattle.rd_base.specs.declared.scheme.InputScheme.TheVariants as input
-use Rattle.rd_base.specs.declared.status.Ctl.{Ctl}
+use Rattle.rd_base.specs.declared.status.Status.{Status}
 use Rattle.rd_base.specs.declared.opened.Opening.{Opening}
 use Rattle.rd_base.specs.declared.opened.InOpening.{InOpening}
 use Rattle.rv_decode.specs.Reading.{reading_of}
@@ -20,34 +20,35 @@ use Rattle.mem_tree.specs.Memory.{memory_node}
 use Rattle.rv_step.specs.State.{State}
 use Rattle.rv_step.specs.Effect.{effect_with}
 use Rattle.rv_step.specs.Offer.{byte_or_ones, offered}
-use Rattle.rv_step.specs.NextEffect.{Seen, seen_of, effect_at, effect_of_word, next_effect}
+use Rattle.rv_step.specs.NextEffect.{Seen, seen_of, address_fetched, effect_at, effect_of_word, fetched, next_effect, read_at}
+use Rattle.rv_step.specs.NextNeed.{needed_by, next_need}
 use Rattle.rv_step.specs.Step.{step, after_effect, after_next}
 use Rattle.rv_step.specs.Parts.{needed_in, finished, Finishes, KeepsMemory, IsAccess, IsAligned}
 use Rattle.rv_step.specs.declared.effect.Effect.{Effect}
 use Rattle.rv_step.specs.declared.effect.Effect.TheVariants.{Write, Jump, Branch, Next, Store, Put, Exit, Trap}
 use Rattle.rv_step.specs.declared.asked.Need.{Need}
 use Rattle.rv_step.specs.declared.asked.Need.TheVariants as need
-use Rattle.rv_step.specs.Fetching.{number_shown, fetch_address, fetched_in}
 use Rattle.mem_tree.specs.InputTree.{input_root}
 use Rattle.open_proof.specs.Held.{held_of, held_after, path_text, chunk_with}
 use Rattle.open_proof.specs.Called.{address_needed}
-use Rattle.open_proof.specs.OpenedChunk.{IsShown, IsShownAt, fetched_at, fetch_of_state}
-use Rattle.open_proof.specs.Facts.{needed_by, byte_needed, byte_in, byte_shown, offering}
-use Rattle.open_proof.specs.Next.{seen_held, held_by, step_held}
+use Rattle.open_proof.specs.OpenedChunk.{IsShown, IsShownAt, fetch_of_state}
+use Rattle.open_proof.specs.Facts.{byte_needed}
+use Rattle.open_proof.specs.Next.{held_by, step_held}
+use Rattle.open_proof.specs.SeenHeld.{number_shown, offering, byte_in, byte_shown, seen_held}
 use Rattle.open_proof.specs.Shown.{tree_by, tree_of, ShowsInput}
 use Rattle.open_proof.specs.LawsBelow.{StepLaws}
 use Rattle.open_proof.specs.declared.facts.HeldInput.{HeldInput}
 
--- an address that is a multiple of 4 below 2^32
-abbrev pub IsWordAt : Option ℕ → Type 0
-IsWordAt (Some addr) = (addr % 4 ≡ 0) × (addr < 2 ^ 32)
-IsWordAt None = Unit {0}
+-- an address that is fetched is a multiple of 4, and lies where pc lies
+abbrev pub IsWordAt : ℕ → Option ℕ → Type 0
+IsWordAt pc (Some addr) = (addr % 4 ≡ 0) × (addr ≡ pc)
+IsWordAt pc None = Unit {0}
 
-pub word-fetched : (ctl : Ctl) → ctl.pc < 2 ^ 32 → IsWordAt (fetch_address ctl)
-word-fetched ctl low = go (is_running ctl.status) (eqb (ctl.pc % 4) 0) refl
+pub word-fetched : (status : Status) (pc : ℕ) → IsWordAt pc (address_fetched status pc)
+word-fetched status pc = go (is_running status) (eqb (pc % 4) 0) refl
   where
-    go : (r b : Bool) → eqb (ctl.pc % 4) 0 ≡ b → IsWordAt (cond (r && b) (Some ctl.pc) None)
-    go true true test = (eqb-true (ctl.pc % 4) 0 test, low)
+    go : (r b : Bool) → eqb (pc % 4) 0 ≡ b → IsWordAt pc (cond (r && b) (Some pc) None)
+    go true true test = (eqb-true (pc % 4) 0 test, refl)
     go true false test = tt
     go false b test = tt
 
@@ -94,13 +95,18 @@ module _ (laws : StepLaws) (digest : List ℕ → List ℕ) where
         ∙ (laws.changed digest m after (digest_at o.path.0) 27 (addr / 32) elsewhere shown.path ∙ ap (memory_node digest after 27) top)
 
   -- the instruction that is fetched
-  pub fetched-same : (m : Contents) (chunk : Option Opening) (address : Option ℕ) → IsWordAt address → IsShownAt digest m chunk address → fetched_in chunk address ≡ fetched_at m address
-  fetched-same m (Some o) (Some addr) word shown =
+  read-same : (m : Contents) (chunk : Option Opening) (pc : ℕ) (address : Option ℕ) → IsWordAt pc address → IsShownAt digest m chunk address
+      → read_at (λ addr. number_shown chunk addr 4) address ≡ read_at (λ addr. number_at m addr 4) address
+  read-same m (Some o) pc (Some addr) word shown =
       let even : addr % 4 ≡ 0 = word.0 in
       ap reading_of (shown-number m o addr 4 shown (omega arith))
-  fetched-same m None (Some addr) word shown = absurd shown
-  fetched-same m (Some o) None word shown = refl
-  fetched-same m None None word shown = refl
+  read-same m None pc (Some addr) word shown = absurd shown
+  read-same m (Some o) pc None word shown = refl
+  read-same m None pc None word shown = refl
+
+  pub fetched-same : (s : State) (chunk : Option Opening) → IsShownAt digest s.memory chunk (fetch_of_state s)
+      → read_at (λ addr. number_shown chunk addr 4) (fetch_of_state s) ≡ fetched (seen_of s)
+  fetched-same s chunk shown = read-same s.memory chunk s.pc (fetch_of_state s) (word-fetched s.status s.pc) shown
 
   -- an effect that keeps memory
   held-kept : (operand : Option Opening) (s : State) (e : Effect) → KeepsMemory e → held_after digest operand (held_of digest s) e ≡ held_of digest (after_effect s e)
@@ -161,15 +167,15 @@ module _ (laws : StepLaws) (digest : List ℕ → List ℕ) where
           ∙ (laws.input_byte input (k / 32) (k % 32) (omega arith) ∙ (ap (slice_index input) whole ∙ byte-inside input k (2 ^ 32 - 1) (omega arith))))
 
   -- what is held after an instruction
-  held-instr : (operand : Option Opening) (chunk : Option InOpening) (s : State) (i : Instr) → IsShownAt digest s.memory operand (address_needed (needed_by (tree_of digest s) s.regs (Some i)))
-      → ShowsInput digest s.input chunk (byte_needed (tree_of digest s) (needed_by (tree_of digest s) s.regs (Some i)))
+  held-instr : (operand : Option Opening) (chunk : Option InOpening) (s : State) (i : Instr) → IsShownAt digest s.memory operand (address_needed (needed_in (scheme_of s.version).input s.regs i))
+      → ShowsInput digest s.input chunk (byte_needed (tree_of digest s) (needed_in (scheme_of s.version).input s.regs i))
       → held_after digest operand (held_of digest s) (effect_with (offered (offering (tree_of digest s)) (byte_shown (tree_of digest s) chunk)) s.regs s.pc (number_shown operand) i) ≡ held_of digest (after_effect s (effect_at s i))
   held-instr operand chunk s i = go (scheme_of s.version).input
     where
       read : ℕ → ℕ → ℕ
       read addr width = number_at s.memory addr width
 
-      go : (held : InputScheme) → IsShownAt digest s.memory operand (address_needed (needed_by (tree_by digest held s.input) s.regs (Some i))) → ShowsInput digest s.input chunk (byte_needed (tree_by digest held s.input) (needed_by (tree_by digest held s.input) s.regs (Some i)))
+      go : (held : InputScheme) → IsShownAt digest s.memory operand (address_needed (needed_in held s.regs i)) → ShowsInput digest s.input chunk (byte_needed (tree_by digest held s.input) (needed_in held s.regs i))
           → held_after digest operand (held_of digest s) (effect_with (offered (offering (tree_by digest held s.input)) (byte_shown (tree_by digest held s.input) chunk)) s.regs s.pc (number_shown operand) i)
           ≡ held_of digest (after_effect s (effect_with (offered held (byte_or_ones s.input)) s.regs s.pc read i))
       go input.Tree shown shows =
@@ -182,29 +188,28 @@ module _ (laws : StepLaws) (digest : List ℕ → List ℕ) where
           (λ k is. refl)
           (laws.any_offer input.InMemory (byte_shown None chunk) s.regs s.pc read i) (laws.any_offer input.InMemory (byte_shown None chunk) s.regs s.pc (number_shown operand) i)
 
-  held-word : (fetch operand : Option Opening) (chunk : Option InOpening) (s : State) (o : Option Instr) → IsShownAt digest s.memory operand (address_needed (needed_by (tree_of digest s) s.regs o))
-      → ShowsInput digest s.input chunk (byte_needed (tree_of digest s) (needed_by (tree_of digest s) s.regs o))
+  held-word : (fetch operand : Option Opening) (chunk : Option InOpening) (s : State) (o : Option Instr) → IsShownAt digest s.memory operand (address_needed (needed_by (scheme_of s.version).input s.regs o))
+      → ShowsInput digest s.input chunk (byte_needed (tree_of digest s) (needed_by (scheme_of s.version).input s.regs o))
       → held_after digest operand (held_of digest s) (effect_of_word (seen_held fetch operand (tree_of digest s) chunk (held_of digest s)) o) ≡ held_of digest (after_effect s (effect_of_word (seen_of s) o))
   held-word fetch operand chunk s None shown shows = held-kept operand s (Trap 2) tt
   held-word fetch operand chunk s (Some i) shown shows = held-instr operand chunk s i shown shows
 
   -- what is held after a step is the step on what is held
-  pub held-step : (fetch operand : Option Opening) (chunk : Option InOpening) (s : State) → IsShownAt digest s.memory fetch (fetch_of_state digest s)
-      → IsShownAt digest s.memory operand (address_needed (needed_by (tree_of digest s) s.regs (fetched_at s.memory (fetch_of_state digest s))))
-      → ShowsInput digest s.input chunk (byte_needed (tree_of digest s) (needed_by (tree_of digest s) s.regs (fetched_at s.memory (fetch_of_state digest s))))
+  pub held-step : (fetch operand : Option Opening) (chunk : Option InOpening) (s : State) → IsShownAt digest s.memory fetch (fetch_of_state s)
+      → IsShownAt digest s.memory operand (address_needed (next_need (seen_of s))) → ShowsInput digest s.input chunk (byte_needed (tree_of digest s) (next_need (seen_of s)))
       → step_held digest fetch operand (tree_of digest s) chunk (held_of digest s) ≡ held_of digest (step s)
   unfolding step next_effect
   held-step fetch operand chunk s = go (is_running s.status) (eqb (s.pc % 4) 0) fetch refl
     where
-      need_of : Option ℕ → Need
-      need_of address = needed_by (tree_of digest s) s.regs (fetched_at s.memory address)
+      need_at : Option ℕ → Need
+      need_at address = needed_by (scheme_of s.version).input s.regs (read_at (λ addr. number_at s.memory addr 4) address)
 
       seen : Option Opening → Seen
       seen f = seen_held f operand (tree_of digest s) chunk (held_of digest s)
 
       go : (r b : Bool) (f : Option Opening) → eqb (s.pc % 4) 0 ≡ b → IsShownAt digest s.memory f (cond (r && b) (Some s.pc) None)
-          → IsShownAt digest s.memory operand (address_needed (need_of (cond (r && b) (Some s.pc) None)))
-          → ShowsInput digest s.input chunk (byte_needed (tree_of digest s) (need_of (cond (r && b) (Some s.pc) None)))
+          → IsShownAt digest s.memory operand (address_needed (need_at (cond (r && b) (Some s.pc) None)))
+          → ShowsInput digest s.input chunk (byte_needed (tree_of digest s) (need_at (cond (r && b) (Some s.pc) None)))
           → held_by digest operand (held_of digest s) (cond r (Some (cond b (effect_of_word (seen f) (reading_of (number_shown f s.pc 4))) (Trap 0))) None)
           ≡ held_of digest (after_next s (cond r (Some (cond b (effect_of_word (seen_of s) (reading_of (number_at s.memory s.pc 4))) (Trap 0))) None))
       go true true (Some f) test fetched shown shows =

@@ -1,16 +1,13 @@
 -- The step on what is shown of a state leads to the root of the next state: where registers are opened, by the step from the state
 -- whose unnamed registers are 0.
-use Rattle.std.proofs.Common.{◌≡◌, ℕ, ◌%◌, List, [], map, length, Option, Some, None, eqb, cond, Bool, true, false, ◌&&◌, refl, sym, ap, subst, ◌∙◌}
-use Rattle.rd_base.specs.Status.{is_running}
+use Rattle.std.proofs.Common.{◌≡◌, ℕ, List, map, length, Option, Some, None, true, refl, sym, ap, subst, ◌∙◌}
 use Rattle.rd_base.specs.Scheme.{scheme_of}
 use Rattle.rd_base.specs.declared.scheme.InputScheme.{InputScheme}
 use Rattle.rd_base.specs.declared.scheme.InputScheme.TheVariants as input
 use Rattle.rd_base.specs.declared.scheme.RegisterScheme.TheVariants as registers
 use Rattle.rd_base.specs.declared.digest.Digest32.{Digest32}
 use Rattle.rd_base.specs.declared.opened.RegOpening.{RegOpening}
-use Rattle.rv_decode.specs.Reading.{reading_of}
 use Rattle.rv_decode.specs.declared.instr.Instr.{Instr}
-use Rattle.mem_plain.specs.Contents.{number_at}
 use Rattle.digest_core.specs.Text.{registers_text, storage_text}
 use Rattle.merkle_nodes.specs.Node.{node}
 use Rattle.mem_tree.specs.Memory.{memory_leaf}
@@ -21,38 +18,39 @@ use Rattle.rv_step.specs.Named.{named_by, AreRegisters}
 use Rattle.rv_step.specs.State.{State}
 use Rattle.rv_step.specs.Step.{step}
 use Rattle.rv_step.specs.Valid.{IsValid}
-use Rattle.rv_step.specs.Fetching.{fetch_address, fetched_in}
+use Rattle.rv_step.specs.Fetching.{fetch_address}
+use Rattle.rv_step.specs.NextEffect.{seen_of, fetched, read_at}
+use Rattle.rv_step.specs.NextNeed.{needed_by, next_need}
 use Rattle.state_commit.specs.StateRoot.{ctl_of, memory_digest, registers_by, storage_by, storage_digest, root_in}
 use Rattle.mem_tree.specs.InputTree.{input_root}
 use Rattle.mem_tree.specs.RegisterTree.{registers_root}
 use Rattle.open_proof.specs.Held.{held_of}
 use Rattle.open_proof.specs.Called.{address_needed}
-use Rattle.open_proof.specs.OpenedChunk.{IsShownAt, fetched_at, fetch_of_state}
-use Rattle.open_proof.specs.Facts.{fetched, named_called, file_of, values_of, file_shown, file_of_facts, needed_by, byte_needed}
+use Rattle.open_proof.specs.OpenedChunk.{IsShownAt, fetch_of_state}
+use Rattle.open_proof.specs.Facts.{fetched_of, named_called, file_of, values_of, file_shown, file_of_facts, byte_needed}
 use Rattle.open_proof.specs.Next.{step_held, storage_held, root_changed, held_shown, held_next, root_of_next, root_next}
-use Rattle.open_proof.specs.Shown.{tree_by, tree_of, word_of_state, needed_of_state, AreShown, ShowsRegisters, ShowsInput, ShowsState}
+use Rattle.open_proof.specs.Shown.{tree_by, tree_of, AreShown, ShowsRegisters, ShowsInput, ShowsState}
+use Rattle.open_proof.specs.SeenHeld.{number_shown, offering}
 use Rattle.open_proof.specs.LawsBelow.{StepLaws, RegisterLaws, TreeLaws}
 use Rattle.open_proof.specs.declared.facts.Facts.{Facts}
 use Rattle.open_proof.specs.declared.facts.HeldInput.{HeldInput}
 use Rattle.open_proof.specs.declared.facts.HeldRegisters.{HeldRegisters}
 use Rattle.open_proof.specs.declared.facts.HeldRegisters.TheVariants.{Whole, Opened}
-use Rattle.open_proof.proofs.HeldLemmas.{word-fetched, fetched-same, held-step}
+use Rattle.open_proof.proofs.HeldLemmas.{fetched-same, held-step}
 use Rattle.open_proof.proofs.RegisterLemmas.{file-size, file-zero, file-shows, map-same, values-are, tree-follows}
 
--- the registers of the instruction that a state fetches
-pub named-fetched : (digest : List ℕ → List ℕ) (s : State) → named_by (word_of_state digest s) ≡ named_at s
-named-fetched digest s = go (is_running s.status) (eqb (s.pc % 4) 0)
-  where
-    go : (r b : Bool) → named_by (fetched_at s.memory (cond (r && b) (Some s.pc) None)) ≡ cond r (cond b (named_by (reading_of (number_at s.memory s.pc 4))) []) []
-    go true true = refl
-    go true false = refl
-    go false b = refl
+-- how the input is held, by the tree of a state
+offers : (digest : List ℕ → List ℕ) (held : InputScheme) (xs : List ℕ) → offering (tree_by digest held xs) ≡ held
+offers digest input.Tree xs = refl
+offers digest input.InMemory xs = refl
+
+pub offers-as-held : (digest : List ℕ → List ℕ) (s : State) → offering (tree_of digest s) ≡ (scheme_of s.version).input
+offers-as-held digest s = offers digest (scheme_of s.version).input s.input
 
 -- what an instruction needs depends on the registers that it names alone
-need-alike : RegisterLaws → (tree : Option HeldInput) (xs ys : List ℕ) (o : Option Instr) → x xs 0 ≡ x ys 0 → map (x xs) (named_by o) ≡ map (x ys) (named_by o) → needed_by tree xs o ≡ needed_by tree ys o
-need-alike laws tree xs ys None zeros same = refl
-need-alike laws (Some t) xs ys (Some i) zeros same = laws.needed input.Tree xs ys i zeros same
-need-alike laws None xs ys (Some i) zeros same = laws.needed input.InMemory xs ys i zeros same
+need-alike : RegisterLaws → (held : InputScheme) (xs ys : List ℕ) (o : Option Instr) → x xs 0 ≡ x ys 0 → map (x xs) (named_by o) ≡ map (x ys) (named_by o) → needed_by held xs o ≡ needed_by held ys o
+need-alike laws held xs ys None zeros same = refl
+need-alike laws held xs ys (Some i) zeros same = laws.needed held xs ys i zeros same
 
 -- what is stored, where the input is held as the state has it
 pub storage-same : (digest : List ℕ → List ℕ) (s t : State) → t.input ≡ s.input → storage_held digest (tree_of digest s) (memory_digest digest t) ≡ storage_digest digest s.version t
@@ -62,15 +60,15 @@ storage-same digest s t same = go (scheme_of s.version).input
     go input.Tree = ap (λ xs. digest (storage_text (memory_digest digest t) (length xs) (input_root digest xs))) (sym same)
     go input.InMemory = refl
 
--- what a proof shows is a state's: first the instruction, then the file
-module _ (steps : StepLaws) (laws : RegisterLaws) (trees : TreeLaws) (digest : List ℕ → List ℕ) (s : State) (valid : IsValid s) where
-  pub shown-word : (facts : Facts) → facts.ctl ≡ ctl_of digest s → IsShownAt digest s.memory facts.fetch (fetch_of_state digest s) → fetched facts ≡ word_of_state digest s
-  shown-word facts ctl fetch =
-      ap (λ c. fetched_in facts.fetch (fetch_address c)) ctl
-      ∙ fetched-same steps digest s.memory facts.fetch (fetch_of_state digest s) (word-fetched (ctl_of digest s) valid.pc) fetch
+-- the instruction that a proof shows is the one that the state fetches
+pub shown-word : StepLaws → (digest : List ℕ → List ℕ) (s : State) (facts : Facts) → facts.ctl ≡ ctl_of digest s → IsShownAt digest s.memory facts.fetch (fetch_of_state s) → fetched_of facts ≡ fetched (seen_of s)
+shown-word steps digest s facts ctl fetch =
+    ap (λ c. read_at (λ addr. number_shown facts.fetch addr 4) (fetch_address c)) ctl ∙ fetched-same steps digest s facts.fetch fetch
 
+-- what a proof shows is a state's: first the registers that are named, then the file
+module _ (steps : StepLaws) (laws : RegisterLaws) (trees : TreeLaws) (digest : List ℕ → List ℕ) (s : State) (valid : IsValid s) where
   pub names-low : AreRegisters (named_at s)
-  names-low = subst AreRegisters (named-fetched digest s) (laws.registers (word_of_state digest s))
+  names-low = laws.registers (fetched (seen_of s))
 
   -- the file of opened registers shows the state's
   module _ (os : List RegOpening) (shown : AreShown digest s.regs (named_at s) os) where
@@ -89,8 +87,8 @@ module _ (steps : StepLaws) (laws : RegisterLaws) (trees : TreeLaws) (digest : L
     file-is-shown : Shows file s
     file-is-shown = record { size = file-size (named_at s) (values_of os) ∙ sym valid.regs.thirty_two; zero_first = zeros; named = named-same }
 
-    pub need-shown : needed_by (tree_of digest s) file (word_of_state digest s) ≡ needed_of_state digest s
-    need-shown = need-alike laws (tree_of digest s) file s.regs (word_of_state digest s) zeros (subst (λ l. map (x file) l ≡ map (x s.regs) l) (sym (named-fetched digest s)) named-same)
+    pub need-shown : needed_by (scheme_of s.version).input file (fetched (seen_of s)) ≡ next_need (seen_of s)
+    need-shown = need-alike laws (scheme_of s.version).input file s.regs (fetched (seen_of s)) zeros named-same
 
   -- the root after the step, where all registers are held
   whole-leads : (facts : Facts) → ShowsState digest facts s → (xs : List ℕ) → facts.regs ≡ Whole xs → (scheme_of s.version).registers ≡ registers.Whole → xs ≡ s.regs → root_next digest facts ≡ root_in digest s.version (step s)
@@ -117,7 +115,7 @@ module _ (steps : StepLaws) (laws : RegisterLaws) (trees : TreeLaws) (digest : L
       let s' = with_registers f s in
       let t = laws.alike f s (file-is-shown os shown) in
       let u = laws.changes s in
-      let names : named_called facts ≡ rs = ap named_by (shown-word facts shows.ctl shows.fetch) ∙ named-fetched digest s in
+      let names : named_called facts ≡ rs = ap named_by (shown-word steps digest s facts shows.ctl shows.fetch) in
       let file' : file_of_facts facts ≡ f = ap (λ l. file_shown l facts.regs) names ∙ ap (file_shown rs) opened in
       let held : held_shown facts ≡ held_of digest s' = λ i. record { mem = shows.mem i; regs = file' i; ctl = shows.ctl i } in
       let needed = need-shown os shown in

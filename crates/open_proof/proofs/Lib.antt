@@ -3,7 +3,6 @@ pub mod RegisterLemmas
 pub mod LeadLemmas
 pub mod WayLemmas
 pub mod TruthLemmas
-pub mod CalledLemmas
 pub mod PathLemmas
 pub mod WholeLemmas
 pub mod SlotLemmas

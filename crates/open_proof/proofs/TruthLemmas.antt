@@ -33,6 +33,8 @@ use Rattle.rv_step.specs.Valid.{IsValid}
 use Rattle.rv_step.specs.declared.asked.Need.{Need}
 use Rattle.rv_step.specs.declared.asked.Need.TheVariants as need
 use Rattle.rv_step.specs.Fetching.{fetch_address}
+use Rattle.rv_step.specs.NextEffect.{seen_of, fetched}
+use Rattle.rv_step.specs.NextNeed.{needed_by, next_need}
 use Rattle.state_commit.specs.StateRoot.{ctl_of, memory_digest, registers_by, registers_digest, storage_of, storage_by, storage_digest, state_text_in, root_in}
 use Rattle.state_commit.specs.Strings.{IsStringIn}
 use Rattle.state_commit.specs.Strings.IsStringIn.{is_state, is_control, is_memory, is_registers, is_register, is_storage, is_input}
@@ -41,13 +43,14 @@ use Rattle.mem_tree.specs.InputTree.{input_node, input_root}
 use Rattle.open_proof.specs.Called.{address_needed}
 use Rattle.open_proof.specs.OpenedChunk.{IsShownAt, opening_at, siblings_of, fetch_of_state}
 use Rattle.open_proof.specs.Conditions.{AllHold, LeadsFrom, conditions}
-use Rattle.open_proof.specs.Facts.{facts_of, proof_of, fetched, named_called, values_of, file_of, file_shown, file_of_facts, needed_by, needed_of, operand_called, byte_needed, input_called, offering}
+use Rattle.open_proof.specs.Facts.{facts_of, proof_of, fetched_of, named_called, file_shown, file_of_facts, needed_of, operand_called, byte_needed, input_called}
 use Rattle.open_proof.specs.InRange.{is_in_range}
+use Rattle.open_proof.specs.SeenHeld.{offering}
 use Rattle.open_proof.specs.Next.{storage_texts, storage_held, registers_held, text_before, root_before}
 use Rattle.open_proof.specs.Openings.{AreCounted, fetch_ways, named_ways, operand_ways, read_ways, register_ways, input_ways}
 use Rattle.open_proof.specs.PlainProof.{register_siblings, register_opening, input_siblings, input_opening_at, registers_opened, plain_facts, plain_proof}
 use Rattle.open_proof.specs.RangeLaws.{FactsRange, TreeRange, RegistersRange, facts-range}
-use Rattle.open_proof.specs.Shown.{tree_by, tree_of, word_of_state, needed_of_state, operand_of_state, input_of_state, AreShown, ShowsRegisters, ShowsInput, ShowsState}
+use Rattle.open_proof.specs.Shown.{tree_by, tree_of, operand_of_state, input_of_state, AreShown, ShowsRegisters, ShowsInput, ShowsState}
 use Rattle.open_proof.specs.StateCollision.{IsStateCollision}
 use Rattle.open_proof.specs.Strings.{registers_texts, part_texts, opened_by_facts}
 use Rattle.open_proof.specs.Ways.{WaysOpen, ways_texts}
@@ -57,7 +60,7 @@ use Rattle.open_proof.specs.declared.facts.HeldInput.{HeldInput}
 use Rattle.open_proof.specs.declared.facts.HeldRegisters.{HeldRegisters}
 use Rattle.open_proof.specs.declared.facts.HeldRegisters.TheVariants.{Whole, Opened}
 use Rattle.open_proof.proofs.HeldLemmas.{IsWordAt, word-fetched}
-use Rattle.open_proof.proofs.LeadLemmas.{named-fetched, storage-same, shown-word, names-low, need-shown, shown-leads}
+use Rattle.open_proof.proofs.LeadLemmas.{offers-as-held, storage-same, shown-word, names-low, need-shown, shown-leads}
 use Rattle.open_proof.proofs.WayLemmas.{IsLowAt, same-or-split, node-size, chunk-or-found, registers-or-found, input-or-found, shown-chunk-opens, shown-registers-open, shown-input-opens}
 
 -- a proof holds registers and input as its version has them
@@ -82,9 +85,9 @@ low-needed (need.Store addr width value) access = access.2
 low-needed (need.Input index) access = tt
 low-needed (need.Trap code) access = tt
 
-low-operand : StepLaws → (tree : Option HeldInput) (xs : List ℕ) (o : Option Instr) → IsLowAt (2 ^ 32) (address_needed (needed_by tree xs o))
-low-operand steps tree xs None = tt
-low-operand steps tree xs (Some i) = low-needed (needed_in (offering tree) xs i) (steps.aligned (offering tree) xs i)
+low-operand : StepLaws → (held : InputScheme) (xs : List ℕ) (o : Option Instr) → IsLowAt (2 ^ 32) (address_needed (needed_by held xs o))
+low-operand steps held xs None = tt
+low-operand steps held xs (Some i) = low-needed (needed_in held xs i) (steps.aligned held xs i)
 
 low-byte : (tree : Option HeldInput) (n : Need) → ((t : HeldInput) → tree ≡ Some t → t.len ≤ 1048576) → IsLowAt (2 ^ 20) (byte_needed tree n)
 low-byte None n short = tt
@@ -99,10 +102,10 @@ low-byte (Some t) (need.Input k) short = go (ltb k t.len) refl
     go false test = tt
 
 low-fetch : (ctl : Ctl) → ctl.pc < 2 ^ 32 → IsLowAt (2 ^ 32) (fetch_address ctl)
-low-fetch ctl low = go (fetch_address ctl) (word-fetched ctl low)
+low-fetch ctl low = go (fetch_address ctl) (word-fetched ctl.status ctl.pc)
   where
-    go : (o : Option ℕ) → IsWordAt o → IsLowAt (2 ^ 32) o
-    go (Some addr) word = word.1
+    go : (o : Option ℕ) → IsWordAt ctl.pc o → IsLowAt (2 ^ 32) o
+    go (Some addr) word = subst (λ n. n < 2 ^ 32) (sym word.1) low
     go None word = tt
 
 code-of : (status : Status) → HasWordCode status → status_code status < 2 ^ 32
@@ -168,19 +171,35 @@ plain-holds digest s valid = go s.version valid.version.0 valid.version.1
     go (suc (suc (suc zero))) low high = refl
     go (suc (suc (suc (suc v)))) low high = absurd (omega arith)
 
+-- the plain openings of memory, of which that at pc shows the instruction that the state fetches
+module _ (digest : List ℕ → List ℕ) (s : State) where
+  siblings-along : (k l : ℕ) → l < 27 → digest_at (siblings_of digest s.memory k) l ≡ memory_node digest s.memory l (beside (k / 2 ^ l))
+  unfolding siblings_of
+  siblings-along k l below =
+      ap (λ (d : Digest32). d.0) (get_or-map-range_with_len (λ j. record { 0 = memory_node digest s.memory j (beside (k / 2 ^ j)) }) 0 27 l l (record { 0 = [] }) below (omega arith))
+
+  plain-chunk : (address : Option ℕ) → IsShownAt digest s.memory (opening_at digest s.memory address) address
+  plain-chunk (Some addr) = record { chunk = refl; path = λ l below. siblings-along (addr / 32) l below }
+  plain-chunk None = tt
+
+  pub plain-names : StepLaws → named_called (plain_facts digest s) ≡ named_at s
+  plain-names steps = ap named_by (shown-word steps digest s (plain_facts digest s) refl (plain-chunk (fetch_of_state s)))
+
 module _ (steps : StepLaws) (laws : RegisterLaws) (trees : TreeLaws) (digest : List ℕ → List ℕ) (s : State) (valid : IsValid s) where
   -- what the instruction needs is what the state's needs
-  needed-same : (f : Facts) (regs : HeldRegisters) → f.regs ≡ regs → f.input_tree ≡ tree_of digest s → fetched f ≡ word_of_state digest s → ShowsRegisters digest s regs → needed_of f ≡ needed_of_state digest s
-  needed-same f (Whole xs) is tree word shows =
-      ap (λ (t : Option HeldInput). needed_by t (file_of_facts f) (fetched f)) tree
-      ∙ (ap (λ (r : HeldRegisters). needed_by (tree_of digest s) (file_shown (named_called f) r) (fetched f)) is
-      ∙ (ap (λ l. needed_by (tree_of digest s) l (fetched f)) shows.1 ∙ ap (needed_by (tree_of digest s) s.regs) word))
-  needed-same f (Opened root os) is tree word shows =
-      let names : named_called f ≡ named_at s = ap named_by word ∙ named-fetched digest s in
-      ap (λ (t : Option HeldInput). needed_by t (file_of_facts f) (fetched f)) tree
-      ∙ (ap (λ (r : HeldRegisters). needed_by (tree_of digest s) (file_shown (named_called f) r) (fetched f)) is
-      ∙ (ap (λ l. needed_by (tree_of digest s) (file_of l (values_of os)) (fetched f)) names
-      ∙ (ap (needed_by (tree_of digest s) (file_of (named_at s) (values_of os))) word ∙ need-shown steps laws trees digest s valid os shows.2)))
+  needed-same : (f : Facts) (regs : HeldRegisters) → f.regs ≡ regs → f.input_tree ≡ tree_of digest s → fetched_of f ≡ fetched (seen_of s) → ShowsRegisters digest s regs → needed_of f ≡ next_need (seen_of s)
+  needed-same f regs is tree word shows =
+      ap (λ (t : Option HeldInput). needed_by (offering t) (file_of_facts f) (fetched_of f)) tree
+      ∙ (ap (λ h. needed_by h (file_of_facts f) (fetched_of f)) (offers-as-held digest s)
+      ∙ (ap (λ (r : HeldRegisters). needed_by held (file_shown (named_called f) r) (fetched_of f)) is
+      ∙ (ap (λ o. needed_by held (file_shown (named_by o) regs) o) word ∙ by-file regs shows)))
+    where
+      held : InputScheme
+      held = (scheme_of s.version).input
+
+      by-file : (regs : HeldRegisters) → ShowsRegisters digest s regs → needed_by held (file_shown (named_at s) regs) (fetched (seen_of s)) ≡ next_need (seen_of s)
+      by-file (Whole xs) shows = ap (λ l. needed_by held l (fetched (seen_of s))) shows.1
+      by-file (Opened root os) shows = need-shown steps laws trees digest s valid os shows.2
 
   tree-known : (f : Facts) → f.input_tree ≡ tree_of digest s → (t : HeldInput) → f.input_tree ≡ Some t → (t.len ≡ length s.input) × (t.root.0 ≡ input_root digest s.input)
   tree-known f tree t is = tree-is digest s t (sym tree ∙ is)
@@ -191,9 +210,9 @@ module _ (steps : StepLaws) (laws : RegisterLaws) (trees : TreeLaws) (digest : L
   -- a proof that shows the state and has exactly what the state calls for meets the conditions
   pub record IsShaped (f : Facts) : Type 0 where
     pub version : f.version ≡ s.version
-    pub fetch : is_some f.fetch ≡ is_some (fetch_of_state digest s)
+    pub fetch : is_some f.fetch ≡ is_some (fetch_of_state s)
     pub counted : AreCounted (named_at s) f.regs
-    pub operand : is_some f.operand ≡ is_some (operand_of_state digest s)
+    pub operand : is_some f.operand ≡ is_some (operand_of_state s)
     pub input : is_some f.input ≡ is_some (input_of_state digest s)
 
   registers-shown : (regs : HeldRegisters) → ShowsRegisters digest s regs → registers_held digest regs ≡ registers_digest digest s.version s.regs
@@ -215,11 +234,11 @@ module _ (steps : StepLaws) (laws : RegisterLaws) (trees : TreeLaws) (digest : L
 
   pub shown-holds : (f : Facts) (a : Digest32) → ShowsState digest f s → IsShaped f → a.0 ≡ root_in digest s.version s → AllHold (conditions digest s.version a f)
   shown-holds f a shows shaped root =
-      let address : fetch_address f.ctl ≡ fetch_of_state digest s = ap fetch_address shows.ctl in
-      let word = shown-word steps laws trees digest s valid f shows.ctl shows.fetch in
-      let names : named_called f ≡ named_at s = ap named_by word ∙ named-fetched digest s in
+      let address : fetch_address f.ctl ≡ fetch_of_state s = ap fetch_address shows.ctl in
+      let word = shown-word steps digest s f shows.ctl shows.fetch in
+      let names : named_called f ≡ named_at s = ap named_by word in
       let needed = needed-same f f.regs refl shows.tree word shows.regs in
-      let operand_is : operand_called f ≡ operand_of_state digest s = ap address_needed needed in
+      let operand_is : operand_called f ≡ operand_of_state s = ap address_needed needed in
       let input_is : input_called f ≡ input_of_state digest s = ap (λ (t : Option HeldInput). byte_needed t (needed_of f)) shows.tree ∙ ap (byte_needed (tree_of digest s)) needed in (
         shaped.version,
         (
@@ -235,7 +254,7 @@ module _ (steps : StepLaws) (laws : RegisterLaws) (trees : TreeLaws) (digest : L
                   (
                     shaped.operand ∙ ap is_some (sym operand_is),
                     (
-                      shown-chunk-opens trees digest s.memory f.mem.0 f.operand (operand_called f) (low-operand steps f.input_tree (file_of_facts f) (fetched f)) shows.mem (subst (IsShownAt digest s.memory f.operand) (sym operand_is) shows.operand),
+                      shown-chunk-opens trees digest s.memory f.mem.0 f.operand (operand_called f) (low-operand steps (offering f.input_tree) (file_of_facts f) (fetched_of f)) shows.mem (subst (IsShownAt digest s.memory f.operand) (sym operand_is) shows.operand),
                       (
                         shaped.input ∙ ap is_some (sym input_is),
                         (
@@ -254,15 +273,6 @@ module _ (steps : StepLaws) (laws : RegisterLaws) (trees : TreeLaws) (digest : L
       )
 
   -- the plain openings
-  siblings-along : (k l : ℕ) → l < 27 → digest_at (siblings_of digest s.memory k) l ≡ memory_node digest s.memory l (beside (k / 2 ^ l))
-  unfolding siblings_of
-  siblings-along k l below =
-      ap (λ (d : Digest32). d.0) (get_or-map-range_with_len (λ j. record { 0 = memory_node digest s.memory j (beside (k / 2 ^ j)) }) 0 27 l l (record { 0 = [] }) below (omega arith))
-
-  plain-chunk : (address : Option ℕ) → IsShownAt digest s.memory (opening_at digest s.memory address) address
-  plain-chunk (Some addr) = record { chunk = refl; path = λ l below. siblings-along (addr / 32) l below }
-  plain-chunk None = tt
-
   chunk-shape : (address : Option ℕ) → is_some (opening_at digest s.memory address) ≡ is_some address
   chunk-shape (Some addr) = refl
   chunk-shape None = refl
@@ -307,16 +317,16 @@ module _ (steps : StepLaws) (laws : RegisterLaws) (trees : TreeLaws) (digest : L
       mem = refl;
       tree = refl;
       ctl = refl;
-      fetch = plain-chunk (fetch_of_state digest s);
+      fetch = plain-chunk digest s (fetch_of_state s);
       regs = plain-registers (scheme_of s.version).registers refl;
-      operand = plain-chunk (operand_of_state digest s);
+      operand = plain-chunk digest s (operand_of_state s);
       input = plain-input (input_of_state digest s);
     },
     record {
       version = refl;
-      fetch = chunk-shape (fetch_of_state digest s);
+      fetch = chunk-shape (fetch_of_state s);
       counted = registers-shape (scheme_of s.version).registers;
-      operand = chunk-shape (operand_of_state digest s);
+      operand = chunk-shape (operand_of_state s);
       input = input-shape (input_of_state digest s);
     },
   )
@@ -456,16 +466,16 @@ module _ (steps : StepLaws) (laws : RegisterLaws) (trees : TreeLaws) (digest : L
       let h = leads.hold in
       ⊎_elim
       (λ parts.
-      let address : fetch_address f.ctl ≡ fetch_of_state digest s = ap fetch_address parts.ctl in
+      let address : fetch_address f.ctl ≡ fetch_of_state s = ap fetch_address parts.ctl in
       ⊎_elim
       (λ fetch'.
       let fetch = subst (IsShownAt digest s.memory f.fetch) address fetch' in
-      let word = shown-word steps laws trees digest s valid f parts.ctl fetch in
-      let names : named_called f ≡ named_at s = ap named_by word ∙ named-fetched digest s in
+      let word = shown-word steps digest s f parts.ctl fetch in
+      let names : named_called f ≡ named_at s = ap named_by word in
       ⊎_elim
       (λ regs.
       let needed = needed-same steps laws trees digest s valid f f.regs refl parts.tree word regs in
-      let operand_is : operand_called f ≡ operand_of_state digest s = ap address_needed needed in
+      let operand_is : operand_called f ≡ operand_of_state s = ap address_needed needed in
       let input_is : input_called f ≡ input_of_state digest s = ap (λ (t : Option HeldInput). byte_needed t (needed_of f)) parts.tree ∙ ap (byte_needed (tree_of digest s)) needed in
       ⊎_elim
       (λ operand. ⊎_elim
@@ -474,7 +484,7 @@ module _ (steps : StepLaws) (laws : RegisterLaws) (trees : TreeLaws) (digest : L
       (input-or-found trees digest is_digest s.input f.input_tree f.input (input_called f) (low-byte f.input_tree (needed_of f) (λ t is. let short = valid.short in let known = tree-known steps laws trees digest s valid f parts.tree t is in omega (arith, known.0)))
       range.input h.1.1.1.1.1.1.1.1.0 (unoffered steps laws trees digest s valid f) (λ t is. (tree-known steps laws trees digest s valid f parts.tree t is).1) h.1.1.1.1.1.1.1.1.1.0))
       (λ found. inr (collision f found.0 found.1 found.2 (among-operand digest f found.0 found.3) (is_memory found.4)))
-      (chunk-or-found trees digest is_digest s.memory f.mem.0 f.operand (operand_called f) (low-operand steps f.input_tree (file_of_facts f) (fetched f)) range.operand h.1.1.1.1.1.1.0 parts.mem h.1.1.1.1.1.1.1.0))
+      (chunk-or-found trees digest is_digest s.memory f.mem.0 f.operand (operand_called f) (low-operand steps (offering f.input_tree) (file_of_facts f) (fetched_of f)) range.operand h.1.1.1.1.1.1.0 parts.mem h.1.1.1.1.1.1.1.0))
       inr (named-or-found f f.regs refl parts.regs range.regs names h.1.1.1.1.0 h.1.1.1.1.1.0))
       (λ found. inr (collision f found.0 found.1 found.2 (among-fetch digest f found.0 found.3) (is_memory found.4)))
       (chunk-or-found trees digest is_digest s.memory f.mem.0 f.fetch (fetch_address f.ctl) (low-fetch f.ctl range.pc) range.fetch h.1.0 parts.mem h.1.1.1.0))

@@ -1,20 +1,19 @@
 -- To believe: what a proof of each version holds, and for what its parts call. The definitions above these speak of what is held and
 -- know no version: a version adds how the registers and the input are held.
-use Rattle.std.specs.Prelude.{ℕ, ◌%◌, ◌^◌, ◌-◌, nat_lt, List, ◌∷◌, map, slice_index, Option, Some, None, if◌then◌else◌}
+use Rattle.std.specs.Prelude.{ℕ, nat_lt, List, ◌∷◌, map, Option, Some, None, if◌then◌else◌}
 use Rattle.rd_base.specs.Regs.{no_registers_set, with_register}
-use Rattle.rd_base.specs.declared.scheme.InputScheme.{InputScheme}
-use Rattle.rd_base.specs.declared.scheme.InputScheme.TheVariants as input
-use Rattle.rd_base.specs.declared.opened.InOpening.{InOpening}
 use Rattle.rd_base.specs.declared.opened.RegOpening.{RegOpening}
 use Rattle.rd_base.specs.declared.proof.Proof.{Proof}
 use Rattle.rd_base.specs.declared.proof.Proof.TheVariants.{V1, V2, V3}
 use Rattle.rv_decode.specs.declared.instr.Instr.{Instr}
 use Rattle.rv_step.specs.Named.{named_by}
-use Rattle.rv_step.specs.Parts.{needed_in}
+use Rattle.rv_step.specs.NextEffect.{Seen, fetched}
+use Rattle.rv_step.specs.NextNeed.{next_need}
 use Rattle.rv_step.specs.declared.asked.Need.{Need}
 use Rattle.rv_step.specs.declared.asked.Need.TheVariants as need
-use Rattle.rv_step.specs.Fetching.{fetch_address, fetched_in}
 use Rattle.open_proof.specs.Called.{address_needed}
+use Rattle.open_proof.specs.Held.{Held}
+use Rattle.open_proof.specs.SeenHeld.{seen_held}
 use Rattle.open_proof.specs.declared.facts.Facts.{Facts}
 use Rattle.open_proof.specs.declared.facts.HeldInput.{HeldInput}
 use Rattle.open_proof.specs.declared.facts.HeldRegisters.{HeldRegisters}
@@ -54,12 +53,19 @@ proof_by f (Opened root named) (Some t) = V3 (record {
 abbrev pub proof_of : Facts → Proof
 proof_of f = proof_by f f.regs f.input_tree
 
--- the instruction that is fetched, and the registers that it names
-abbrev pub fetched : Facts → Option Instr
-fetched facts = fetched_in facts.fetch (fetch_address facts.ctl)
+-- what is held of the state, with these registers, and what a step sees of it
+abbrev pub held_with : Facts → List ℕ → Held
+held_with facts xs = record { mem = facts.mem.0; regs = xs; ctl = facts.ctl }
+
+abbrev pub seen_shown : Facts → List ℕ → Seen
+seen_shown facts xs = seen_held facts.fetch facts.operand facts.input_tree facts.input (held_with facts xs)
+
+-- the instruction that is fetched, for which no register is read, and the registers that it names
+abbrev pub fetched_of : Facts → Option Instr
+fetched_of facts = fetched (seen_shown facts no_registers_set)
 
 abbrev pub named_called : Facts → List ℕ
-named_called facts = named_by (fetched facts)
+named_called facts = named_by (fetched_of facts)
 
 -- the register file in which these registers hold these values, and all others 0
 abbrev pub file_of : List ℕ → List ℕ → List ℕ
@@ -77,18 +83,9 @@ file_shown rs (Opened root named) = file_of rs (values_of named)
 abbrev pub file_of_facts : Facts → List ℕ
 file_of_facts facts = file_shown (named_called facts) facts.regs
 
--- how the input is held
-abbrev pub offering : Option HeldInput → InputScheme
-offering (Some t) = input.Tree
-offering None = input.InMemory
-
--- what the instruction needs of memory or of the input
-abbrev pub needed_by : Option HeldInput → List ℕ → Option Instr → Need
-needed_by tree xs (Some i) = needed_in (offering tree) xs i
-needed_by tree xs None = need.Nothing
-
+-- what the next step needs of memory or of the input
 abbrev pub needed_of : Facts → Need
-needed_of facts = needed_by facts.input_tree (file_of_facts facts) (fetched facts)
+needed_of facts = next_need (seen_shown facts (file_of_facts facts))
 
 -- the address of the data for which it calls, and the number of the input's byte, if the input has that byte
 abbrev pub operand_called : Facts → Option ℕ
@@ -100,12 +97,3 @@ byte_needed tree n = None
 
 abbrev pub input_called : Facts → Option ℕ
 input_called facts = byte_needed facts.input_tree (needed_of facts)
-
--- the input as far as it is shown: the bytes of the opened chunk, and ffffffff behind the input's end
-abbrev pub byte_in : Option InOpening → ℕ → ℕ
-byte_in (Some o) k = slice_index o.chunk (k % 32)
-byte_in None k = 0
-
-abbrev pub byte_shown : Option HeldInput → Option InOpening → ℕ → ℕ
-byte_shown (Some t) input k = if nat_lt k t.len then byte_in input k else 2 ^ 32 - 1
-byte_shown None input k = 2 ^ 32 - 1

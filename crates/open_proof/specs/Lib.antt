@@ -1,4 +1,5 @@
 pub mod Held
+pub mod SeenHeld
 pub mod Called
 pub mod Opened
 pub mod OpenedChunk

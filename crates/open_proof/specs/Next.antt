@@ -9,28 +9,15 @@ use Rattle.digest_core.specs.Text.{register_text, registers_text, storage_text}
 use Rattle.merkle_nodes.specs.Node.{digest_at}
 use Rattle.merkle_nodes.specs.Opening.{opened}
 use Rattle.out_chain.specs.Root.{parts_text}
-use Rattle.rv_step.specs.NextEffect.{Seen, next_effect}
+use Rattle.rv_step.specs.NextEffect.{next_effect}
 use Rattle.rv_step.specs.declared.effect.Effect.{Effect}
-use Rattle.rv_step.specs.Fetching.{number_shown}
 use Rattle.open_proof.specs.Held.{Held, held_after}
-use Rattle.open_proof.specs.Facts.{named_called, file_of_facts, offering, byte_shown}
+use Rattle.open_proof.specs.Facts.{named_called, file_of_facts, held_with}
+use Rattle.open_proof.specs.SeenHeld.{seen_held}
 use Rattle.open_proof.specs.declared.facts.Facts.{Facts}
 use Rattle.open_proof.specs.declared.facts.HeldInput.{HeldInput}
 use Rattle.open_proof.specs.declared.facts.HeldRegisters.{HeldRegisters}
 use Rattle.open_proof.specs.declared.facts.HeldRegisters.TheVariants.{Whole, Opened}
-
--- what a step sees of what is held: the word at pc in the fetched chunk, numbers of memory in the chunk of data, and the input as far as
--- it is shown
-abbrev pub seen_held : Option Opening → Option Opening → Option HeldInput → Option InOpening → Held → Seen
-seen_held fetch operand tree input p = record {
-  status = p.ctl.status;
-  pc = p.ctl.pc;
-  regs = p.regs;
-  word = λ addr. number_shown fetch addr 4;
-  number = λ addr width. number_shown operand addr width;
-  input_scheme = offering tree;
-  byte = λ k. byte_shown tree input k;
-}
 
 -- what is held after the effect of a step; of a state that has stopped there is none, and it stays
 abbrev pub held_by : (List ℕ → List ℕ) → Option Opening → Held → Option Effect → Held
@@ -76,7 +63,7 @@ root_before digest facts = digest (text_before digest facts)
 
 -- what is held of the state, its registers as far as they are shown, and what is held after the step
 abbrev pub held_shown : Facts → Held
-held_shown facts = record { mem = facts.mem.0; regs = file_of_facts facts; ctl = facts.ctl }
+held_shown facts = held_with facts (file_of_facts facts)
 
 abbrev pub held_next : (List ℕ → List ℕ) → Facts → Held
 held_next digest facts = step_held digest facts.fetch facts.operand facts.input_tree facts.input (held_shown facts)

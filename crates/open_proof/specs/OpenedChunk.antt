@@ -3,15 +3,12 @@ use Rattle.std.specs.Prelude.{◌≡◌, ℕ, ◌/◌, ◌^◌, List, map, Optio
 use Rattle.std.specs.List.{range_with_len}
 use Rattle.rd_base.specs.declared.digest.Digest32.{Digest32}
 use Rattle.rd_base.specs.declared.opened.Opening.{Opening}
-use Rattle.rv_decode.specs.Reading.{reading_of}
-use Rattle.rv_decode.specs.declared.instr.Instr.{Instr}
-use Rattle.mem_plain.specs.Contents.{Contents, chunk_at, number_at}
+use Rattle.mem_plain.specs.Contents.{Contents, chunk_at}
 use Rattle.merkle_nodes.specs.Node.{beside}
 use Rattle.merkle_nodes.specs.Opening.{IsPath}
 use Rattle.mem_tree.specs.Memory.{memory_leaf, memory_node}
 use Rattle.rv_step.specs.State.{State}
-use Rattle.rv_step.specs.Fetching.{fetch_address}
-use Rattle.state_commit.specs.StateRoot.{ctl_of}
+use Rattle.rv_step.specs.NextEffect.{address_fetched}
 
 -- the path of a chunk, by its index: the node beside it at each of the levels 0 to 26
 unfoldable pub siblings_of : (List ℕ → List ℕ) → Contents → ℕ → List Digest32
@@ -26,13 +23,8 @@ opening_at digest m (Some addr) = Some (opening_of digest m addr)
 opening_at digest m None = None
 
 -- the address for which a state calls for a chunk first: that of the word at pc
-abbrev pub fetch_of_state : (List ℕ → List ℕ) → State → Option ℕ
-fetch_of_state digest s = fetch_address (ctl_of digest s)
-
--- the instruction that is fetched from a memory
-abbrev pub fetched_at : Contents → Option ℕ → Option Instr
-fetched_at m (Some addr) = reading_of (number_at m addr 4)
-fetched_at m None = None
+abbrev pub fetch_of_state : State → Option ℕ
+fetch_of_state s = address_fetched s.status s.pc
 
 -- an opened chunk is that of a memory which holds an address, and its path is the memory's
 pub record IsShown (digest : List ℕ → List ℕ) (m : Contents) (o : Opening) (addr : ℕ) : Type 0 where

@@ -54,8 +54,8 @@ plain_facts digest s = record {
   input_tree = tree_of digest s;
   regs = registers_opened digest (scheme_of s.version).registers s.regs (named_at s);
   ctl = ctl_of digest s;
-  fetch = opening_at digest s.memory (fetch_of_state digest s);
-  operand = opening_at digest s.memory (operand_of_state digest s);
+  fetch = opening_at digest s.memory (fetch_of_state s);
+  operand = opening_at digest s.memory (operand_of_state s);
   input = input_opening_at digest s.input (input_of_state digest s);
 }
 

@@ -6,18 +6,18 @@ use Rattle.rd_base.specs.declared.scheme.InputScheme.TheVariants as input
 use Rattle.rd_base.specs.declared.scheme.RegisterScheme.TheVariants as registers
 use Rattle.rd_base.specs.declared.opened.InOpening.{InOpening}
 use Rattle.rd_base.specs.declared.opened.RegOpening.{RegOpening}
-use Rattle.rv_decode.specs.declared.instr.Instr.{Instr}
 use Rattle.merkle_nodes.specs.Node.{digest_at}
 use Rattle.merkle_nodes.specs.Opening.{AreSiblings, IsPath}
 use Rattle.rv_step.specs.Alike.{named_at}
+use Rattle.rv_step.specs.NextEffect.{seen_of}
+use Rattle.rv_step.specs.NextNeed.{next_need}
 use Rattle.rv_step.specs.State.{State}
-use Rattle.rv_step.specs.declared.asked.Need.{Need}
 use Rattle.state_commit.specs.StateRoot.{ctl_of, memory_digest}
 use Rattle.mem_tree.specs.RegisterTree.{register_leaf, registers_root}
 use Rattle.mem_tree.specs.InputTree.{input_chunk, input_leaf, input_root}
 use Rattle.open_proof.specs.Called.{address_needed}
-use Rattle.open_proof.specs.OpenedChunk.{IsShownAt, fetched_at, fetch_of_state}
-use Rattle.open_proof.specs.Facts.{needed_by, byte_needed}
+use Rattle.open_proof.specs.OpenedChunk.{IsShownAt, fetch_of_state}
+use Rattle.open_proof.specs.Facts.{byte_needed}
 use Rattle.open_proof.specs.declared.facts.Facts.{Facts}
 use Rattle.open_proof.specs.declared.facts.HeldInput.{HeldInput}
 use Rattle.open_proof.specs.declared.facts.HeldRegisters.{HeldRegisters}
@@ -31,18 +31,12 @@ tree_by digest input.InMemory xs = None
 abbrev pub tree_of : (List ℕ → List ℕ) → State → Option HeldInput
 tree_of digest s = tree_by digest (scheme_of s.version).input s.input
 
--- the instruction that a state fetches, what that needs, and the addresses of its data and of its byte of the input
-abbrev pub word_of_state : (List ℕ → List ℕ) → State → Option Instr
-word_of_state digest s = fetched_at s.memory (fetch_of_state digest s)
-
-abbrev pub needed_of_state : (List ℕ → List ℕ) → State → Need
-needed_of_state digest s = needed_by (tree_of digest s) s.regs (word_of_state digest s)
-
-abbrev pub operand_of_state : (List ℕ → List ℕ) → State → Option ℕ
-operand_of_state digest s = address_needed (needed_of_state digest s)
+-- the address of the data for which a state calls, and the number of the input's byte
+abbrev pub operand_of_state : State → Option ℕ
+operand_of_state s = address_needed (next_need (seen_of s))
 
 abbrev pub input_of_state : (List ℕ → List ℕ) → State → Option ℕ
-input_of_state digest s = byte_needed (tree_of digest s) (needed_of_state digest s)
+input_of_state digest s = byte_needed (tree_of digest s) (next_need (seen_of s))
 
 -- opened registers are those of a register file, with the siblings of its tree
 abbrev pub AreShown : (List ℕ → List ℕ) → List ℕ → List ℕ → List RegOpening → Type 0
@@ -67,7 +61,7 @@ pub record ShowsState (digest : List ℕ → List ℕ) (facts : Facts) (s : Stat
   pub mem : facts.mem.0 ≡ memory_digest digest s
   pub tree : facts.input_tree ≡ tree_of digest s
   pub ctl : facts.ctl ≡ ctl_of digest s
-  pub fetch : IsShownAt digest s.memory facts.fetch (fetch_of_state digest s)
+  pub fetch : IsShownAt digest s.memory facts.fetch (fetch_of_state s)
   pub regs : ShowsRegisters digest s facts.regs
-  pub operand : IsShownAt digest s.memory facts.operand (operand_of_state digest s)
+  pub operand : IsShownAt digest s.memory facts.operand (operand_of_state s)
   pub input : ShowsInput digest s.input facts.input (input_of_state digest s)

@@ -12,8 +12,9 @@ ghost use Rattle.open_proof.specs.Conditions.{LeadsFrom};
 mod laws;
 mod walking;
 
+use crate::called::called_by;
 use crate::collision::walking::{slot_collision, slots_collision, text_collision};
-use crate::facts::{Facts, HeldInput, HeldRegisters, called_by, facts_of, proofs_are_in_range};
+use crate::facts::{Facts, HeldInput, HeldRegisters, facts_of, proofs_are_in_range};
 use crate::ways::{fetch_way, named_ways, operand_way, read_way};
 use digest_core::{Digester, control_text, registers_text, storage_text};
 pub use laws::proofs_from_one_root;

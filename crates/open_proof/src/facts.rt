@@ -1,24 +1,18 @@
-//! What a proof of one step holds, whatever the version of the commitment that it is made for, and for which openings it calls.
+//! What a proof of one step holds, whatever the version of the commitment that it is made for.
 ghost use Rattle.std.specs.Prelude.{◌≡◌};
 ghost use Rattle.open_proof.specs.Facts as facts;
-ghost use Rattle.open_proof.specs.Called as chunks;
-ghost use Rattle.rv_step.specs.Fetching.{fetch_address as fetch_of};
-ghost use Rattle.rv_step.specs.Named.{AreRegisters};
 
 mod laws;
 mod ranges;
 
 pub use laws::{
-    plain_proofs_hold_the_parts, plain_proofs_lead, proofs_lead_to_the_next_state,
-    shown_states_lead, states_name_registers,
+    plain_proofs_hold_the_parts, plain_proofs_lead, plain_proofs_name_registers,
+    proofs_lead_to_the_next_state, shown_states_lead,
 };
 pub use ranges::proofs_are_in_range;
 use rd_base::{
-    Ctl, Digest32, InOpening, InputScheme, Opening, Proof, RegOpening, RegOpenings, Regs,
-    StepProof, StepProof2, StepProof3,
+    Ctl, Digest32, InOpening, Opening, Proof, RegOpenings, Regs, StepProof, StepProof2, StepProof3,
 };
-use rv_decode::Instr;
-use rv_step::{Names, Need, fetch_address, fetched_in, named_by, need_by};
 
 /// How a proof holds the registers.
 #[derive(Debug, Drop)]
@@ -144,136 +138,4 @@ pub fn proof_of(held: Facts) -> Proof
             }),
         },
     }
-}
-
-/// The register file in which these registers hold what is opened, and all others 0.
-fn file_of(names: &[u8], opened: &[RegOpening]) -> Regs
-    requires { AreRegisters names.now }
-    ensures { result ≡ facts.file_of names.now (facts.values_of opened.now) }
-{
-    match names {
-        [] => Regs::new(),
-        [reg, more @ ..] => match opened {
-            [] => Regs::new(),
-            [opening, others @ ..] => {
-                let mut file = file_of(more, others);
-                file.set(*reg, opening.value);
-                file
-            }
-        },
-    }
-}
-
-/// The register file that is shown: all registers, or those that are opened, by their names, and 0 for all others.
-fn file_shown(names: &[u8], regs: &HeldRegisters) -> Regs
-    requires { AreRegisters names.now }
-    ensures { result ≡ facts.file_shown names.now regs.now }
-{
-    match regs {
-        HeldRegisters::Whole(regs) => *regs,
-        HeldRegisters::Opened(_root, named) => file_of(names, named.as_slice()),
-    }
-}
-
-/// How the input is held.
-pub fn offering(tree: &Option<HeldInput>) -> InputScheme
-    ensures { result ≡ facts.offering tree.now }
-{
-    match tree {
-        Some(_tree) => InputScheme::Tree,
-        None => InputScheme::InMemory,
-    }
-}
-
-/// What an instruction needs of memory or of the input, if one is fetched, from the register file that is shown.
-fn needed_by(tree: &Option<HeldInput>, file: &Regs, instr: &Option<Instr>) -> Need
-    ensures { result ≡ facts.needed_by tree.now file.now instr.now }
-{
-    match instr {
-        Some(instr) => need_by(offering(tree), file, instr),
-        None => Need::Nothing,
-    }
-}
-
-/// The address of the data that is needed.
-fn address_needed(need: Need) -> Option<u32>
-    ensures { result ≡ chunks.address_needed need }
-{
-    match need {
-        Need::Nothing => None,
-        Need::Load { addr, .. } => Some(addr),
-        Need::Store { addr, .. } => Some(addr),
-        Need::Input { .. } => None,
-        Need::Trap(_code) => None,
-    }
-}
-
-/// The number of the input's byte that is needed, if the input has it.
-fn byte_needed(tree: &Option<HeldInput>, need: Need) -> Option<u32>
-    ensures { result ≡ facts.byte_needed tree.now need }
-{
-    match tree {
-        Some(tree) => match need {
-            Need::Nothing => None,
-            Need::Load { .. } => None,
-            Need::Store { .. } => None,
-            Need::Input { index } => { if index < tree.len { Some(index) } else { None } }
-            Need::Trap(_code) => None,
-        },
-        None => None,
-    }
-}
-
-/// For which openings a state calls, and the registers by which it does.
-#[derive(Debug, Drop)]
-pub struct Called {
-    /// The address of the word that it fetches.
-    pub fetch: Option<u32>,
-    /// The registers that its instruction names.
-    pub names: Names,
-    /// The register file: that of the state, or that which a proof shows.
-    pub file: Regs,
-    /// The address of the instruction's data.
-    pub operand: Option<u32>,
-    /// The number of the input's byte that the instruction reads.
-    pub input: Option<u32>,
-}
-
-/// For which openings an instruction calls, by the registers that it names and the register file.
-pub(crate) fn called_for(
-    fetch: Option<u32>,
-    instr: &Option<Instr>,
-    names: Names,
-    file: Regs,
-    tree: &Option<HeldInput>,
-) -> Called
-    ensures fetch { result.fetch ≡ fetch }
-    ensures names { result.names ≡ names }
-    ensures file { result.file ≡ file }
-    ensures operand { result.operand ≡ chunks.address_needed (facts.needed_by tree.now file instr.now) }
-    ensures input { result.input ≡ facts.byte_needed tree.now (facts.needed_by tree.now file instr.now) }
-{
-    let needed = needed_by(tree, &file, instr);
-    Called {
-        fetch,
-        names,
-        file,
-        operand: address_needed(needed),
-        input: byte_needed(tree, needed),
-    }
-}
-
-/// For which openings a proof's parts call, by the chunk that it fetches and the registers that it shows.
-pub fn called_by(proof: &Facts) -> Called
-    ensures fetch { result.fetch ≡ fetch_of proof.now.ctl }
-    ensures names { result.names ≡ facts.named_called proof.now }
-    ensures file { result.file ≡ facts.file_of_facts proof.now }
-    ensures operand { result.operand ≡ facts.operand_called proof.now }
-    ensures input { result.input ≡ facts.input_called proof.now }
-{
-    let fetch = fetch_address(&proof.ctl);
-    let instr = fetched_in(&proof.fetch, fetch);
-    let names = named_by(&instr);
-    let file = file_shown(names.as_slice(), &proof.regs);
-    called_for(fetch, &instr, names, file, &proof.input_tree)
 }

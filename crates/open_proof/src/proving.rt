@@ -1,5 +1,5 @@
 //! The two answers that are true of a state, its claim and the plain proof of its step, and the openings of that proof.
-ghost use Rattle.std.specs.Prelude.{◌≡◌, ◌+◌, ◌<◌, ◌≤◌, ◌%◌, ◌++◌, map, length, IfOk, IfSome};
+ghost use Rattle.std.specs.Prelude.{◌≡◌, ◌+◌, ◌<◌, ◌≤◌, ◌++◌, map, length, IfOk, IfSome};
 ghost use Rattle.rd_base.specs.Scheme.{scheme_of};
 ghost use Rattle.rd_base.specs.declared.digest.Digest32.{Digest32};
 ghost use Rattle.rd_base.specs.declared.scheme.InputScheme.TheVariants as InputScheme;
@@ -15,20 +15,16 @@ ghost use Rattle.open_proof.specs.PlainClaim.{plain_claim};
 ghost use Rattle.open_proof.specs.OpenedChunk as openings;
 ghost use Rattle.open_proof.specs.Shown as shown;
 
-use crate::facts::{
-    Called, Facts, HeldInput, HeldRegisters, called_for, plain_proofs_lead, proof_of,
-    states_name_registers,
-};
+use crate::called::{Called, called_of};
+use crate::facts::{Facts, HeldInput, HeldRegisters, plain_proofs_lead, proof_of};
 use digest_core::Digester;
-use mem_plain::PlainMem;
 use mem_tree::input_chunk;
 use rd_base::{
     Claim, ClaimOutput, Ctl, Digest32, InOpening, InputScheme, Memory, Opening, Proof, RegOpening,
     RegOpenings, RegisterScheme, Scheme, paths_have_5_levels, paths_have_15_levels,
     paths_have_27_levels,
 };
-use rv_decode::{Instr, decode};
-use rv_step::{fetch_address, machines_are_valid, named_by};
+use rv_step::machines_are_valid;
 use state_commit::Committed;
 use std::alloc::Global;
 
@@ -109,17 +105,6 @@ pub fn make_proof<D: Digester>(committed: &Committed<D>) -> Proof
     proof_of(plain_facts(committed))
 }
 
-/// The instruction at an address that is a multiple of 4, in memory.
-fn fetched_at(mem: &PlainMem, address: Option<u32>) -> Option<Instr>
-    requires { IfSome address (λ addr. addr % 4 ≡ 0) }
-    ensures { result ≡ openings.fetched_at mem.now address }
-{
-    match address {
-        Some(addr) => decode(mem.word(addr)),
-        None => None,
-    }
-}
-
 /// What a state has of the input as a tree.
 fn tree_of<D: Digester>(committed: &Committed<D>) -> Option<HeldInput>
     ensures value { result ≡ shown.tree_of D.digest_of committed.now }
@@ -137,20 +122,15 @@ fn tree_of<D: Digester>(committed: &Committed<D>) -> Option<HeldInput>
 
 /// For which openings a machine's state calls.
 fn called_by_state<D: Digester>(committed: &Committed<D>) -> Called
-    ensures fetch { result.fetch ≡ openings.fetch_of_state D.digest_of committed.now }
+    ensures fetch { result.fetch ≡ openings.fetch_of_state committed.now }
     ensures names { result.names ≡ named_at committed.now }
     ensures registers { AreRegisters result.names }
-    ensures operand { result.operand ≡ shown.operand_of_state D.digest_of committed.now }
+    ensures operand { result.operand ≡ shown.operand_of_state committed.now }
     ensures input { result.input ≡ shown.input_of_state D.digest_of committed.now }
     ensures inside { IfSome result.input (λ k. k < 1048576) }
     ensures offered { IfSome result.input (λ _. (scheme_of committed.now.version).input ≡ InputScheme.Tree) }
 {
-    states_name_registers();
-    let machine = committed.machine();
-    let fetch = fetch_address(&machine.ctl);
-    let word = fetched_at(&machine.mem, fetch);
-    let tree = tree_of(committed);
-    called_for(fetch, &word, named_by(&word), machine.regs, &tree)
+    called_of(committed.machine(), &tree_of(committed))
 }
 
 /// The chunk of memory that holds an address, with its path.

@@ -12,7 +12,8 @@ ghost use Rattle.open_proof.specs.Ways as way_specs;
 ghost use Rattle.open_proof.specs.Slots as slots;
 ghost use Rattle.open_proof.specs.Slots.{digest_after, digests_after, there};
 
-use crate::facts::{Called, Facts, HeldInput, HeldRegisters};
+use crate::called::Called;
+use crate::facts::{Facts, HeldInput, HeldRegisters};
 use digest_core::{Counted, Digester, leaf_text, register_text};
 use merkle_nodes::{climb_counted, climbing_is_opening, joined_text};
 use rd_base::{

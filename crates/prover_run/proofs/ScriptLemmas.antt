@@ -1,5 +1,5 @@
 -- What an untouched prover says, in the words of the machine's own run.
-use Rattle.std.proofs.Common.{◌≡◌, ℕ, ◌+◌, ◌*◌, ◌/◌, ◌%◌, ◌≤◌, ◌==◌, ◌&&◌, Bool, true, false, cond, if◌then◌else◌, List, [], ◌∷◌, map, min, slice_index, slice_set, Option, Some, None, refl, sym, ap, ap₂, ◌∙◌, arith}
+use Rattle.std.proofs.Common.{◌≡◌, ℕ, ◌==◌, Bool, true, false, if◌then◌else◌, List, [], ◌∷◌, map, min, slice_index, slice_set, Option, Some, None, refl, sym, ap, ap₂, ◌∙◌, arith}
 use Rattle.std.proofs.lemmas.Bool.Decides.{nat_tests}
 use Rattle.std.proofs.lemmas.List.{set-get_or}
 use Rattle.rd_base.specs.declared.proof.Proof.{Proof}
@@ -21,17 +21,10 @@ use Rattle.bisect_game.specs.declared.settled.Kind.TheVariants as kind
 use Rattle.bisect_game.specs.Bisection.{steps_asked}
 use Rattle.bisect_game.specs.declared.settled.Question.{Question}
 use Rattle.rv_step.specs.Step.{state_at}
-use Rattle.rd_base.specs.Status.{is_running}
-use Rattle.rv_decode.specs.Reading.{reading_of}
-use Rattle.mem_plain.specs.Contents.{Contents, chunk_at, number_at}
-use Rattle.mem_plain.specs.Page.{number_in}
 use Rattle.rv_step.specs.Alike.{named_at}
-use Rattle.rv_step.specs.Named.{named_by}
-use Rattle.rv_step.specs.Fetching.{fetched_in}
-use Rattle.open_proof.specs.OpenedChunk.{opening_at, fetched_at, fetch_of_state}
 use Rattle.open_proof.specs.PlainProof.{register_opening, registers_opened, plain_facts, plain_proof}
-use Rattle.open_proof.specs.Facts.{proof_by}
-use Rattle.open_proof.specs.Shown.{tree_by, word_of_state}
+use Rattle.open_proof.specs.Facts.{named_called, proof_by}
+use Rattle.open_proof.specs.Shown.{tree_by}
 use Rattle.open_proof.specs.declared.facts.HeldRegisters.TheVariants.{Opened}
 use Rattle.open_proof.specs.declared.facts.HeldInput.{HeldInput}
 use Rattle.open_proof.specs.declared.facts.HeldRegisters.{HeldRegisters}
@@ -74,33 +67,15 @@ kept-opened digest xs reg value holds (r ∷ rs) = ap₂ (λ (o : RegOpening) (o
     (opened-same (r == reg) (register_opening digest xs r) value (λ same. let e : r ≡ reg = grind (arith, nat_tests) in ap (slice_index xs) e ∙ holds))
     (kept-opened digest xs reg value holds rs)
 
--- a number that lies in one chunk
-abbrev pub LieInChunks : Type 0
-LieInChunks = (m : Contents) (index place width : ℕ) → place + width ≤ 32 → number_in (chunk_at m index) place width ≡ number_at m (32 * index + place) width
-
+-- the plain proof of a state names what the state's next instruction names
 abbrev pub NameRegisters : Type 0
-NameRegisters = (digest : List ℕ → List ℕ) (s : State) → named_by (word_of_state digest s) ≡ named_at s
-
--- the instruction that a state's plain opening shows is the one that the state fetches
-word-shown : LieInChunks → (digest : List ℕ → List ℕ) (s : State) → fetched_in (opening_at digest s.memory (fetch_of_state digest s)) (fetch_of_state digest s) ≡ word_of_state digest s
-word-shown lie digest s = go (is_running s.status) (s.pc % 4 == 0) refl
-  where
-    go : (r b : Bool) → (s.pc % 4 == 0) ≡ b → fetched_in (opening_at digest s.memory (cond (r && b) (Some s.pc) None)) (cond (r && b) (Some s.pc) None) ≡ fetched_at s.memory (cond (r && b) (Some s.pc) None)
-    go true true test =
-        let even : s.pc % 4 ≡ 0 = grind (arith, nat_tests) in
-        let whole : 32 * (s.pc / 32) + s.pc % 32 ≡ s.pc = omega arith in
-        ap reading_of (lie s.memory (s.pc / 32) (s.pc % 32) 4 (omega arith) ∙ ap (λ (a : ℕ). number_at s.memory a 4) whole)
-    go true false test = refl
-    go false b test = refl
+NameRegisters = (digest : List ℕ → List ℕ) (s : State) → named_called (plain_facts digest s) ≡ named_at s
 
 -- the plain proof of a state with a register that shows what it holds, in each version
-module _ (lie : LieInChunks) (name : NameRegisters) (digest : List ℕ → List ℕ) (s : State) (reg value : ℕ) (holds : slice_index s.regs reg ≡ value) where
-  abbrev shown : List ℕ
-  shown = named_by (fetched_in (opening_at digest s.memory (fetch_of_state digest s)) (fetch_of_state digest s))
-
-  named-same : with_opened reg value (map (register_opening digest s.regs) (named_at s)) shown ≡ map (register_opening digest s.regs) (named_at s)
+module _ (name : NameRegisters) (digest : List ℕ → List ℕ) (s : State) (reg value : ℕ) (holds : slice_index s.regs reg ≡ value) where
+  named-same : with_opened reg value (map (register_opening digest s.regs) (named_at s)) (named_called (plain_facts digest s)) ≡ map (register_opening digest s.regs) (named_at s)
   named-same =
-      ap (λ (rs : List ℕ). with_opened reg value (map (register_opening digest s.regs) (named_at s)) rs) (ap named_by (word-shown lie digest s) ∙ name digest s)
+      ap (λ (rs : List ℕ). with_opened reg value (map (register_opening digest s.regs) (named_at s)) rs) (name digest s)
       ∙ kept-opened digest s.regs reg value holds (named_at s)
 
   abbrev by_scheme : RegisterScheme → InputScheme → Proof
@@ -126,23 +101,23 @@ at-its-step : (b : Bool) (forged proof : Proof) → (b ≡ true → forged ≡ p
 at-its-step true forged proof same = ap answer.Step (same refl)
 at-its-step false forged proof same = refl
 
-forged-same : LieInChunks → NameRegisters → (digest : List ℕ → List ℕ) (run : ℕ → State) (bound step reg value : ℕ) (k : Kind)
+forged-same : NameRegisters → (digest : List ℕ → List ℕ) (run : ℕ → State) (bound step reg value : ℕ) (k : Kind)
     → (k ≡ kind.Proof step → slice_index (run (min step bound)).regs reg ≡ value) → with_forgery step reg value k (plain digest run bound k) ≡ plain digest run bound k
-forged-same lie name digest run bound step reg value kind.Claim holds = refl
-forged-same lie name digest run bound step reg value (kind.Root i) holds = refl
-forged-same lie name digest run bound step reg value (kind.Roots lo hi parts) holds = refl
-forged-same lie name digest run bound step reg value (kind.Proof i) holds =
+forged-same name digest run bound step reg value kind.Claim holds = refl
+forged-same name digest run bound step reg value (kind.Root i) holds = refl
+forged-same name digest run bound step reg value (kind.Roots lo hi parts) holds = refl
+forged-same name digest run bound step reg value (kind.Proof i) holds =
     at-its-step (i == step) (with_shown reg value (plain_proof digest (run (min i bound)))) (plain_proof digest (run (min i bound)))
     (λ same.
     let e : i ≡ step = grind (arith, nat_tests) in
-    shown-same lie name digest (run (min i bound)) reg value (ap (λ (j : ℕ). slice_index (run (min j bound)).regs reg) e ∙ holds (ap kind.Proof e)))
+    shown-same name digest (run (min i bound)) reg value (ap (λ (j : ℕ). slice_index (run (min j bound)).regs reg) e ∙ holds (ap kind.Proof e)))
 
-pub forged_says : LieInChunks → NameRegisters → (digest : List ℕ → List ℕ) (start : State) → ((i : ℕ) → run_at Untouched start i ≡ state_at start i) → (bound step reg value : ℕ) (q : Question) (passes : ℕ)
+pub forged_says : NameRegisters → (digest : List ℕ → List ℕ) (start : State) → ((i : ℕ) → run_at Untouched start i ≡ state_at start i) → (bound step reg value : ℕ) (q : Question) (passes : ℕ)
     → (q.kind ≡ kind.Proof step → slice_index (state_at start (min step bound)).regs reg ≡ value)
     → script_says digest start bound (record { tamper = Untouched; manner = Forge step reg value }) q passes ≡ Some (plain digest (state_at start) bound q.kind)
-forged_says lie name digest start untouched bound step reg value q passes holds =
+forged_says name digest start untouched bound step reg value q passes holds =
     ap (λ (a : Answer). Some a)
-    (forged-same lie name digest (run_at Untouched start) bound step reg value q.kind (λ asked. ap (λ (s : State). slice_index s.regs reg) (untouched (min step bound)) ∙ holds asked)
+    (forged-same name digest (run_at Untouched start) bound step reg value q.kind (λ asked. ap (λ (s : State). slice_index s.regs reg) (untouched (min step bound)) ∙ holds asked)
     ∙ same_plain digest (run_at Untouched start) (state_at start) untouched bound q.kind)
 
 -- where no root is asked, noise changes nothing

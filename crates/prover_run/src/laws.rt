@@ -15,8 +15,7 @@ ghost use Rattle.prover_run.specs.CaseScripts.{script_says, case_says};
 ghost use Rattle.prover_run.specs.Growing.{OutputGrowsSlowly};
 
 use checkpoint_run::tampered_runs;
-use mem_plain::numbers_lie_in_chunks;
-use open_proof::states_name_registers;
+use open_proof::plain_proofs_name_registers;
 
 /// A run writes one byte of output a step at most, whatever the tamper.
 pub fn outputs_grow_slowly()
@@ -53,8 +52,7 @@ pub fn harmless_manners()
         script_says digest start bound (record { tamper = tamper; manner = Tape entries }) q passes ≡ written entries q.qid }
 {
     tampered_runs();
-    numbers_lie_in_chunks();
-    states_name_registers();
+    plain_proofs_name_registers();
 }
 
 /// Each prover of a case stays with its answer: once it has given it, it gives it after more passes too.

@@ -3,8 +3,6 @@ use Rattle.std.specs.Prelude.{◌≡◌, ℕ, ◌≤◌, ◌==◌, Bool, true, f
 use Rattle.rd_base.specs.Questions.{same_qid}
 use Rattle.rd_base.specs.Regs.{with_register}
 use Rattle.rd_base.specs.declared.digest.Digest32.{Digest32}
-use Rattle.rd_base.specs.declared.status.Ctl.{Ctl}
-use Rattle.rd_base.specs.declared.opened.Opening.{Opening}
 use Rattle.rd_base.specs.declared.opened.RegOpening.{RegOpening}
 use Rattle.rd_base.specs.declared.proof.Proof.{Proof}
 use Rattle.rd_base.specs.declared.proof.Proof.TheVariants.{V1, V2, V3}
@@ -18,8 +16,7 @@ use Rattle.digest_core.specs.Text.{noise_text}
 use Rattle.bisect_game.specs.declared.settled.Kind.{Kind}
 use Rattle.bisect_game.specs.declared.settled.Kind.TheVariants as kind
 use Rattle.bisect_game.specs.declared.settled.Question.{Question}
-use Rattle.rv_step.specs.Named.{named_by}
-use Rattle.rv_step.specs.Fetching.{fetch_address, fetched_in}
+use Rattle.open_proof.specs.Facts.{facts_of, named_called}
 
 -- what one prover answers to a question after this many passes on it; None is a pass
 abbrev pub Behaviour : Type 0
@@ -36,16 +33,12 @@ abbrev pub with_opened : ℕ → ℕ → List RegOpening → List ℕ → List R
 with_opened reg value (o ∷ os) (r ∷ rs) = (if r == reg then record o { value = value } else o) ∷ with_opened reg value os rs
 with_opened reg value os rs = os
 
--- the registers that the instruction fetched by a proof names, by the chunk that it opens and its control fields
-abbrev pub named_in : Option Opening → Ctl → List ℕ
-named_in fetch ctl = named_by (fetched_in fetch (fetch_address ctl))
-
 -- a proof with another value in a register, if it shows that register: one row for each commitment version. From version 2 on it
 -- shows the registers that its fetched instruction names
 abbrev pub with_shown : ℕ → ℕ → Proof → Proof
 with_shown reg value (V1 proof) = V1 (record proof { regs = with_register proof.regs reg value })
-with_shown reg value (V2 proof) = V2 (record proof { named = with_opened reg value proof.named (named_in proof.fetch proof.ctl) })
-with_shown reg value (V3 proof) = V3 (record proof { named = with_opened reg value proof.named (named_in proof.fetch proof.ctl) })
+with_shown reg value (V2 proof) = V2 (record proof { named = with_opened reg value proof.named (named_called (facts_of (V2 proof))) })
+with_shown reg value (V3 proof) = V3 (record proof { named = with_opened reg value proof.named (named_called (facts_of (V3 proof))) })
 
 -- a proof that answers the question for this step, with another value in a register; any other answer stays
 abbrev pub with_forgery : ℕ → ℕ → ℕ → Kind → Answer → Answer

@@ -5,11 +5,11 @@ ghost use Rattle.prover_script.specs.Manners.{with_output, with_shown, with_forg
 
 use bisect_game::Kind;
 use digest_core::{Digester, noise_text};
+use open_proof::{called_by, facts_of};
 use rd_base::{
-    Answer, Boxed, Claim, ClaimOutput, Ctl, Digest32, Memory, Opening, Proof, Qid, RegOpening,
-    RegOpenings, RegisterNumber, RootList,
+    Answer, Boxed, Claim, ClaimOutput, Digest32, Memory, Proof, Qid, RegOpening, RegOpenings,
+    RegisterNumber, RootList,
 };
-use rv_step::{Names, fetch_address, fetched_in, named_by};
 use std::alloc::Global;
 
 /// A claim that answers the claim's question, with another output; any other answer stays.
@@ -69,17 +69,12 @@ fn with_opened(reg: u8, value: u32, opened: &RegOpenings, names: &[u8]) -> RegOp
     altered
 }
 
-/// The registers that the instruction fetched by a proof names, by the chunk that it opens and its control fields.
-fn named_in(fetch: &Option<Opening>, ctl: &Ctl) -> Names
-    ensures { result ≡ manners.named_in fetch.now ctl.now }
-{
-    named_by(&fetched_in(fetch, fetch_address(ctl)))
-}
-
 /// A proof with another value in a register, if it shows that register. It takes no memory.
 fn with_shown(reg: RegisterNumber, value: u32, proof: &Proof) -> Proof
     ensures { result ≡ with_shown reg value proof.now }
 {
+    let called = called_by(&facts_of(proof));
+    let names = called.names.as_slice();
     match proof {
         Proof::V1(proof) => {
             let mut shown = *proof;
@@ -87,15 +82,13 @@ fn with_shown(reg: RegisterNumber, value: u32, proof: &Proof) -> Proof
             Proof::V1(shown)
         }
         Proof::V2(proof) => {
-            let names = named_in(&proof.fetch, &proof.ctl);
             let mut shown = proof.copy();
-            shown.named = with_opened(reg.get(), value, &proof.named, names.as_slice());
+            shown.named = with_opened(reg.get(), value, &proof.named, names);
             Proof::V2(shown)
         }
         Proof::V3(proof) => {
-            let names = named_in(&proof.fetch, &proof.ctl);
             let mut shown = proof.copy();
-            shown.named = with_opened(reg.get(), value, &proof.named, names.as_slice());
+            shown.named = with_opened(reg.get(), value, &proof.named, names);
             Proof::V3(shown)
         }
     }

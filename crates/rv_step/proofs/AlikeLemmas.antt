@@ -1,5 +1,5 @@
 -- A step reads and changes of the registers what its instruction names.
-use Rattle.std.proofs.Common.{◌≡◌, ◌≢◌, ℕ, ◌%◌, List, [], ◌++◌, map, length, set, slice_index, Option, Some, None, eqb, cond, Bool, true, false, true≢false, not, ◌&&◌, refl, sym, ap, subst, ◌∙◌, arith, ⊎_elim, get_or-set_same, get_or-set_other}
+use Rattle.std.proofs.Common.{◌≡◌, ◌≢◌, ℕ, ◌%◌, List, ◌++◌, map, length, set, slice_index, Option, Some, None, eqb, cond, Bool, true, false, true≢false, not, ◌&&◌, refl, sym, ap, subst, ◌∙◌, arith, ⊎_elim, get_or-set_same, get_or-set_other}
 use Rattle.std.proofs.lemmas.Bool.{cases_eq, cases_lt, eq-eqb, ne_eqb, or_parts, eqb-false}
 use Rattle.std.proofs.lemmas.List.{set_past}
 use Rattle.rd_base.specs.Scheme.{scheme_of}
@@ -11,7 +11,7 @@ use Rattle.mem_plain.specs.Contents.{number_at}
 use Rattle.rv_step.specs.Effect.{x}
 use Rattle.rv_step.specs.Offer.{byte_or_ones, offered}
 use Rattle.rv_step.specs.State.{State}
-use Rattle.rv_step.specs.NextEffect.{seen_of, effect_at, effect_of_word, next_effect}
+use Rattle.rv_step.specs.NextEffect.{seen_of, effect_at, effect_of_word, next_effect, read_at}
 use Rattle.rv_step.specs.Step.{step, after_next, after_effect, regs_after}
 use Rattle.rv_step.specs.declared.effect.Effect.{Effect}
 use Rattle.rv_step.specs.declared.effect.Effect.TheVariants.{Write, Jump, Branch, Next, Store, Put, Exit, Trap}
@@ -58,14 +58,17 @@ module _ (xs : List ℕ) (s : State) (size : length xs ≡ length s.regs) where
 
 pub steps-alike : (xs : List ℕ) (s : State) → Shows xs s → StepAlike xs s (step (with_registers xs s)) (step s)
 unfolding step next_effect
-steps-alike xs s shows = go (is_running s.status) (eqb (s.pc % 4) 0) (reading_of (number_at s.memory s.pc 4)) shows.named
+steps-alike xs s shows = go (is_running s.status) (eqb (s.pc % 4) 0) shows.named
   where
-    go : (r b : Bool) (o : Option Instr) → map (x xs) (cond r (cond b (named_by o) []) []) ≡ map (x s.regs) (cond r (cond b (named_by o) []) [])
-        → StepAlike xs s (after_next (with_registers xs s) (cond r (Some (cond b (effect_of_word (seen_of (with_registers xs s)) o) (Trap 0))) None))
-        (after_next s (cond r (Some (cond b (effect_of_word (seen_of s) o) (Trap 0))) None))
-    go true true o same = word-alike xs s shows.size o shows.zero_first same
-    go true false o same = effect-alike xs s shows.size (Trap 0)
-    go false b o same = record { pc = refl; memory = refl; status = refl; output = refl; version = refl; input = refl; regs = λ r alike. alike }
+    word : ℕ → ℕ
+    word addr = number_at s.memory addr 4
+
+    go : (r b : Bool) → map (x xs) (named_by (read_at word (cond (r && b) (Some s.pc) None))) ≡ map (x s.regs) (named_by (read_at word (cond (r && b) (Some s.pc) None)))
+        → StepAlike xs s (after_next (with_registers xs s) (cond r (Some (cond b (effect_of_word (seen_of (with_registers xs s)) (reading_of (word s.pc))) (Trap 0))) None))
+        (after_next s (cond r (Some (cond b (effect_of_word (seen_of s) (reading_of (word s.pc))) (Trap 0))) None))
+    go true true same = word-alike xs s shows.size (reading_of (word s.pc)) shows.zero_first same
+    go true false same = effect-alike xs s shows.size (Trap 0)
+    go false b same = record { pc = refl; memory = refl; status = refl; output = refl; version = refl; input = refl; regs = λ r alike. alike }
 
 -- what an effect changes
 effect-elsewhere : (xs : List ℕ) (pc d : ℕ) (e : Effect) → WritesOnly d e → (r : ℕ) → r ≢ d → x (regs_after xs pc e) r ≡ x xs r
@@ -129,10 +132,14 @@ word-changes s (Some i) =
 pub step-changes : (s : State) → ChangesNamed s
 unfolding step next_effect
 step-changes s =
-    let both = go (is_running s.status) (eqb (s.pc % 4) 0) (reading_of (number_at s.memory s.pc 4)) in
+    let both = go (is_running s.status) (eqb (s.pc % 4) 0) in
     record { elsewhere = both.0; one = both.1 }
   where
-    go : (r b : Bool) (o : Option Instr) → Changes s (cond r (cond b (named_by o) []) []) (after_next s (cond r (Some (cond b (effect_of_word (seen_of s) o) (Trap 0))) None)).regs
-    go true true o = word-changes s o
-    go true false o = (λ r out. refl, λ r q changed apart. refl)
-    go false b o = (λ r out. refl, λ r q changed apart. refl)
+    word : ℕ → ℕ
+    word addr = number_at s.memory addr 4
+
+    go : (r b : Bool)
+        → Changes s (named_by (read_at word (cond (r && b) (Some s.pc) None))) (after_next s (cond r (Some (cond b (effect_of_word (seen_of s) (reading_of (word s.pc))) (Trap 0))) None)).regs
+    go true true = word-changes s (reading_of (word s.pc))
+    go true false = (λ r out. refl, λ r q changed apart. refl)
+    go false b = (λ r out. refl, λ r q changed apart. refl)

@@ -1,17 +1,14 @@
 -- To believe: a state and one with other registers step alike, if the registers that the next instruction names hold the
 -- same.
-use Rattle.std.specs.Prelude.{◌≡◌, ◌≢◌, ℕ, ◌%◌, ◌==◌, List, [], ◌∷◌, Bool, false, ◌||◌, map, length, slice_index, if◌then◌else◌}
-use Rattle.rd_base.specs.Status.{is_running}
-use Rattle.rv_decode.specs.Reading.{reading_of}
-use Rattle.mem_plain.specs.Contents.{number_at}
+use Rattle.std.specs.Prelude.{◌≡◌, ◌≢◌, ℕ, ◌==◌, List, [], ◌∷◌, Bool, false, ◌||◌, map, length, slice_index}
+use Rattle.rv_step.specs.NextEffect.{seen_of, fetched}
 use Rattle.rv_step.specs.State.{State}
 use Rattle.rv_step.specs.Step.{step}
 use Rattle.rv_step.specs.Named.{named_by}
 
 -- the registers that the next instruction of a state names; none if nothing is fetched
 abbrev pub named_at : State → List ℕ
-named_at s =
-    if is_running s.status then (if s.pc % 4 == 0 then named_by (reading_of (number_at s.memory s.pc 4)) else []) else []
+named_at s = named_by (fetched (seen_of s))
 
 -- the state with these registers
 abbrev pub with_registers : List ℕ → State → State

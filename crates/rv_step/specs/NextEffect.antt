@@ -1,6 +1,6 @@
 -- To believe: what a step sees of a state, whoever holds the state, and the effect that the step has by what it sees (RISC-V Unprivileged
 -- ISA 20191213, 1.2 and 2).
-use Rattle.std.specs.Prelude.{ℕ, ◌%◌, ◌==◌, List, Option, Some, None, if◌then◌else◌}
+use Rattle.std.specs.Prelude.{ℕ, ◌%◌, ◌==◌, ◌&&◌, List, Option, Some, None, if◌then◌else◌}
 use Rattle.rd_base.specs.Scheme.{scheme_of}
 use Rattle.rd_base.specs.Status.{is_running}
 use Rattle.rd_base.specs.declared.scheme.InputScheme.{InputScheme}
@@ -37,6 +37,19 @@ seen_of s = record {
   input_scheme = (scheme_of s.version).input;
   byte = byte_or_ones s.input;
 }
+
+-- the address of the word that is fetched: pc, if a state of this status is running and pc is a multiple of 4
+abbrev pub address_fetched : Status → ℕ → Option ℕ
+address_fetched status pc = if is_running status && (pc % 4 == 0) then Some pc else None
+
+-- the instruction that the word at an address is
+abbrev pub read_at : (ℕ → ℕ) → Option ℕ → Option Instr
+read_at word (Some addr) = reading_of (word addr)
+read_at word None = None
+
+-- the instruction that is fetched; none if no word is fetched, or one that is no instruction
+abbrev pub fetched : Seen → Option Instr
+fetched s = read_at s.word (address_fetched s.status s.pc)
 
 -- the effect of the instruction that a word is; a word that is none traps
 abbrev pub effect_of_word : Seen → Option Instr → Effect

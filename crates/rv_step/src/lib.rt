@@ -18,15 +18,17 @@
 //! The program runs `step`, and in it `next_effect`, `need_by` and `apply`. `need` and `finish`, which it doesn't call, are there for a
 //! caller who fetches the needed number between the two, and `touches` for one who asks for the page before the step.
 //!
-//! For proofs of a step, `fetched_in` reads the instruction out of an opened chunk, and `named_by` gives the registers that it names.
+//! What a step calls for is asked over the same access. `fetched` gives the instruction that it fetches, and is the first thing that
+//! `next_effect` asks; `next_need` gives what that instruction needs of memory or of the input. `fetch_address` gives the address of the
+//! word at `pc`, and `named_by` the registers that an instruction names. So these functions say what a proof of a step has to open.
 //!
 //! A machine has a version, that of the commitment to its states. In versions 1 and 2 its input lies in memory; in version 3
 //! it is offered to a call, byte by byte.
 //!
 //! The other laws are in `laws`: that a step reads the registers alone that its instruction names and changes at most one of
 //! them, which bytes a step leaves, that a stopped state stays and output only grows, that a run keeps version and input, and
-//! that each machine's state is valid and steps keep it so. `arithmetic_laws` has the manual's sentences on arithmetic, of all words:
-//! sums, products, divisions, shifts, extensions, and that what was stored is loaded.
+//! that each machine's state is valid and steps keep it so. `arithmetic_laws` has the
+//! manual's sentences on arithmetic, of all words: sums, products, divisions, shifts, extensions, and that what was stored is loaded.
 //!
 //! Read `specs/Effect.antt` first, which defines what each instruction does, `specs/NextEffect.antt`, which says what a step sees of a
 //! state and which effect it has, and `specs/Step.antt`, which makes a step of that. Then read `stepping`.
@@ -40,6 +42,7 @@ mod effect;
 mod fetching;
 mod laws;
 mod machine;
+mod naming;
 mod parts;
 mod stepping;
 mod touching;
@@ -51,13 +54,14 @@ pub use arithmetic_laws::{
 };
 pub use asked::{Need, Outcome};
 pub use effect::{Effect, ILLEGAL_INSTRUCTION, MISALIGNED_JUMP};
-pub use fetching::{Names, fetch_address, fetched_in, named_by, number_shown};
+pub use fetching::{fetch_address, fetched, next_need, number_in_chunk};
 pub use laws::{
     effects_read_named_registers, machines_are_valid, names_are_registers, needs_tell_what_is_read,
     one_page_changes, output_only_grows, runs_keep_the_input, steps_keep_valid_states,
     steps_read_named_registers, stopped_states_stay, two_parts_are_the_step,
 };
 pub use machine::{INPUT_BASE, Machine};
+pub use naming::{Names, named_by};
 pub use parts::{finish, need, need_by};
 pub use stepping::{advance, apply, next_effect, step};
 pub use touching::touches;

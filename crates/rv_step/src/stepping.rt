@@ -1,7 +1,7 @@
 //! One step, and many.
-ghost use Rattle.std.specs.Prelude.{◌≡◌, ◌++◌, [], ◌∷◌, ℕ, ◌<◌, ◌^◌, Some, IfOk, IfSome, OnOk, OnErr};
+ghost use Rattle.std.specs.Prelude.{◌≡◌, ◌++◌, [], ◌∷◌, ℕ, ◌<◌, ◌^◌, Some, None, IfOk, IfSome, OnOk, OnErr};
 ghost use Rattle.rv_step.specs.Naming.{NamesRegister};
-ghost use Rattle.rv_step.specs.NextEffect.{effect_of_word, next_effect as effect_seen};
+ghost use Rattle.rv_step.specs.NextEffect.{effect_of_word, fetched as fetched_seen, next_effect as effect_seen};
 ghost use Rattle.rv_step.specs.State.{state_of, IsChained};
 ghost use Rattle.rv_step.specs.Step.{step as step_of, after_effect, pc_after, regs_after, state_at, status_after};
 ghost use Rattle.rv_step.specs.Parts.{IsAligned};
@@ -12,12 +12,13 @@ ghost use Rattle.rv_step.specs.OutOfMemory.{NeedsMemory, StepNeedsMemory};
 use crate::access::StateAccess;
 use crate::asked::Need;
 use crate::effect::{Effect, ILLEGAL_INSTRUCTION, MISALIGNED_JUMP, effect_of};
+use crate::fetching::fetched;
 use crate::machine::Machine;
 use crate::parts::{change, need_by};
 use digest_core::{Digester, chain_grows, link};
 use mem_plain::PAGE_BYTES;
 use rd_base::{Ctl, Memory, Regs, Status};
-use rv_decode::{Instr, decode};
+use rv_decode::Instr;
 
 /// The number that an instruction reads of memory or of the input; 0 if it reads nothing.
 #[inline(always)]
@@ -51,11 +52,9 @@ fn effect_by<A: StateAccess>(state: &A, instr: &Instr) -> Effect
     }
 }
 
-/// The effect of the next step of a state, whoever holds the state: that of the instruction at `pc`. It is a trap if `pc` isn't a
-/// multiple of 4, if the word at `pc` is no instruction, or if the instruction can't be carried out. `None` comes if and only if the
-/// state has stopped. Nothing is changed. A register that the effect names is below 32, and a store lies at a multiple of its width.
-#[inline(always)]
-pub fn next_effect<A: StateAccess>(state: &A) -> Option<Effect>
+/// The effect of the next step of a state that fetches no instruction: it has stopped, or traps.
+fn effect_of_none<A: StateAccess>(state: &A) -> Option<Effect>
+    requires { fetched_seen (A.seen state.now) ≡ None }
     ensures value { result ≡ effect_seen (A.seen state.now) }
     ensures register { IfSome result NamesRegister }
     ensures aligned { IfSome result StoresAligned }
@@ -66,9 +65,21 @@ pub fn next_effect<A: StateAccess>(state: &A) -> Option<Effect>
     if state.pc() % 4 != 0 {
         return Some(Effect::Trap(MISALIGNED_JUMP));
     }
-    match decode(state.fetch(state.pc())) {
+    Some(Effect::Trap(ILLEGAL_INSTRUCTION))
+}
+
+/// The effect of the next step of a state, whoever holds the state: that of the instruction at `pc`. It is a trap if `pc` isn't a
+/// multiple of 4, if the word at `pc` is no instruction, or if the instruction can't be carried out. `None` comes if and only if the
+/// state has stopped. Nothing is changed. A register that the effect names is below 32, and a store lies at a multiple of its width.
+#[inline(always)]
+pub fn next_effect<A: StateAccess>(state: &A) -> Option<Effect>
+    ensures value { result ≡ effect_seen (A.seen state.now) }
+    ensures register { IfSome result NamesRegister }
+    ensures aligned { IfSome result StoresAligned }
+{
+    match fetched(state) {
         Some(instr) => Some(effect_by(state, &instr)),
-        None => Some(Effect::Trap(ILLEGAL_INSTRUCTION)),
+        None => effect_of_none(state),
     }
 }
 

@@ -14,6 +14,7 @@ use Rattle.rv_decode.specs.declared.instr.Instr.{Instr}
 use Rattle.rv_decode.specs.declared.instr.Instr.TheVariants.{Lb, Lh, Lw, Lbu, Lhu, Sb, Sh, Sw, Ecall}
 use Rattle.rv_step.specs.Effect.{x}
 use Rattle.rv_step.specs.Named.{first_source, second_source, destination, kept, once, named, named_by}
+use Rattle.rv_step.specs.NextNeed.{needed_by}
 use Rattle.rv_step.specs.Parts.{byte_called, call_needed, needed_in}
 use Rattle.rv_step.specs.Step.{regs_after}
 use Rattle.rv_step.specs.declared.asked.Need.TheVariants as need
@@ -22,9 +23,10 @@ use Rattle.rv_step.specs.declared.effect.Effect.TheVariants.{Write, Jump, Branch
 use Rattle.rv_step.specs.Fetching.{fetch_address}
 use Rattle.open_proof.specs.Held.{Held}
 use Rattle.open_proof.specs.Called.{address_needed}
-use Rattle.open_proof.specs.Facts.{facts_of, fetched, named_called, file_of_facts, needed_by, operand_called, byte_needed, input_called, offering}
+use Rattle.open_proof.specs.Facts.{facts_of, fetched_of, named_called, file_of_facts, seen_shown, operand_called, byte_needed, input_called}
 use Rattle.rv_step.specs.NextEffect.{next_effect}
-use Rattle.open_proof.specs.Next.{seen_held, held_by, held_shown}
+use Rattle.open_proof.specs.Next.{held_by, held_shown}
+use Rattle.open_proof.specs.SeenHeld.{offering}
 use Rattle.open_proof.specs.Openings.{chunk_ways, each_way, input_ways}
 use Rattle.open_proof.specs.Ways.{ways_digests}
 use Rattle.open_proof.specs.declared.facts.Facts.{Facts}
@@ -167,7 +169,7 @@ access-two held xs (Sw i) called = once-last i.rs1 i.rs2
 access-two held xs Ecall called = absurd (true≢false (sym called ∙ ap is_some (call-address held (x xs 17) (x xs 10))))
 access-two held xs i called = absurd (true≢false (sym called))
 
-operand-two : (tree : Option HeldInput) (xs : List ℕ) (o : Option Instr) → is_some (address_needed (needed_by tree xs o)) ≡ true → length (named_by o) ≤ 2
+operand-two : (tree : Option HeldInput) (xs : List ℕ) (o : Option Instr) → is_some (address_needed (needed_by (offering tree) xs o)) ≡ true → length (named_by o) ≤ 2
 operand-two tree xs None called = absurd (true≢false (sym called))
 operand-two tree xs (Some i) called = access-two (offering tree) xs i called
 
@@ -196,20 +198,20 @@ read-two t xs (Sw i) called = none-called _ (store-reads-none t _ _ _ _ _) calle
 read-two t xs Ecall called = (omega arith, call-address input.Tree (x xs 17) (x xs 10))
 read-two t xs i called = absurd (true≢false (sym called))
 
-input-two : (tree : Option HeldInput) (xs : List ℕ) (o : Option Instr) → is_some (byte_needed tree (needed_by tree xs o)) ≡ true → (length (named_by o) ≤ 2) × (address_needed (needed_by tree xs o) ≡ None)
+input-two : (tree : Option HeldInput) (xs : List ℕ) (o : Option Instr) → is_some (byte_needed tree (needed_by (offering tree) xs o)) ≡ true → (length (named_by o) ≤ 2) × (address_needed (needed_by (offering tree) xs o) ≡ None)
 input-two None xs o called = absurd (true≢false (sym called))
 input-two (Some t) xs None called = absurd (true≢false (sym called))
 input-two (Some t) xs (Some i) called = read-two t xs i called
 
 -- a chunk of data leaves two registers
-names-chunk : (tree : Option HeldInput) (xs : List ℕ) (o : Option Instr) (operand : Option Opening) → is_some operand ≡ is_some (address_needed (needed_by tree xs o))
+names-chunk : (tree : Option HeldInput) (xs : List ℕ) (o : Option Instr) (operand : Option Opening) → is_some operand ≡ is_some (address_needed (needed_by (offering tree) xs o))
     → length (named_by o) + chunk_count operand ≤ 3
 names-chunk tree xs o None shaped = let few = named-few o in omega arith
 names-chunk tree xs o (Some chunk) shaped = let two = operand-two tree xs o (sym shaped) in omega arith
 
 -- and so does a chunk of the input, beside which there is none of data
-names-input : (tree : Option HeldInput) (xs : List ℕ) (o : Option Instr) (operand : Option Opening) (input : Option InOpening) → is_some operand ≡ is_some (address_needed (needed_by tree xs o))
-    → is_some input ≡ is_some (byte_needed tree (needed_by tree xs o)) → (length (named_by o) + input_count input ≤ 3) × (input_count input + chunk_count operand ≤ 1)
+names-input : (tree : Option HeldInput) (xs : List ℕ) (o : Option Instr) (operand : Option Opening) (input : Option InOpening) → is_some operand ≡ is_some (address_needed (needed_by (offering tree) xs o))
+    → is_some input ≡ is_some (byte_needed tree (needed_by (offering tree) xs o)) → (length (named_by o) + input_count input ≤ 3) × (input_count input + chunk_count operand ≤ 1)
 unfolding input_count
 names-input tree xs o operand None shaped read = let few = named-few o in let one = one-chunk operand in (omega arith, omega arith)
 names-input tree xs o operand (Some chunk) shaped read =
@@ -234,7 +236,7 @@ module _ (digest : List ℕ → List ℕ) where
       let one = one-chunk facts.fetch in
       let operand = chunk-few facts.mem.0 facts.operand (operand_called facts) in
       let most = one-chunk facts.operand in
-      let step = step-digests facts.operand (next_effect (seen_held facts.fetch facts.operand facts.input_tree facts.input (held_shown facts))) in
+      let step = step-digests facts.operand (next_effect (seen_shown facts (file_of_facts facts))) in
       (omega arith, λ gone. let none = no-chunk facts.operand gone in omega arith)
   ticks-few (V2 p) shaped =
       let facts = facts_of (V2 p) in
@@ -244,8 +246,8 @@ module _ (digest : List ℕ → List ℕ) where
       let operand = chunk-few facts.mem.0 facts.operand (operand_called facts) in
       let most = one-chunk facts.operand in
       let registers = each-few p.regs.0 rs p.named in
-      let names = names-chunk facts.input_tree (file_of_facts facts) (fetched facts) facts.operand shaped.0 in
-      let step = step-cost digest facts.operand rs p.named (held_shown facts) (next_effect (seen_held facts.fetch facts.operand facts.input_tree facts.input (held_shown facts))) in
+      let names = names-chunk facts.input_tree (file_of_facts facts) (fetched_of facts) facts.operand shaped.0 in
+      let step = step-cost digest facts.operand rs p.named (held_shown facts) (next_effect (seen_shown facts (file_of_facts facts))) in
       (omega arith, λ gone. let none = no-chunk facts.operand gone in omega arith)
   ticks-few (V3 p) shaped =
       let facts = facts_of (V3 p) in
@@ -256,11 +258,11 @@ module _ (digest : List ℕ → List ℕ) where
       let most = one-chunk facts.operand in
       let registers = each-few p.regs.0 rs p.named in
       let read = input-few facts.input_tree facts.input (input_called facts) in
-      let names = names-chunk facts.input_tree (file_of_facts facts) (fetched facts) facts.operand shaped.0 in
-      let inputs = names-input facts.input_tree (file_of_facts facts) (fetched facts) facts.operand facts.input shaped.0 shaped.1 in
+      let names = names-chunk facts.input_tree (file_of_facts facts) (fetched_of facts) facts.operand shaped.0 in
+      let inputs = names-input facts.input_tree (file_of_facts facts) (fetched_of facts) facts.operand facts.input shaped.0 shaped.1 in
       let left = inputs.0 in
       let apart = inputs.1 in
-      let step = step-cost digest facts.operand rs p.named (held_shown facts) (next_effect (seen_held facts.fetch facts.operand facts.input_tree facts.input (held_shown facts))) in
+      let step = step-cost digest facts.operand rs p.named (held_shown facts) (next_effect (seen_shown facts (file_of_facts facts))) in
       (omega arith, λ gone. let none = no-chunk facts.operand gone in omega arith)
 
   -- of one that is refused
@@ -279,7 +281,7 @@ module _ (digest : List ℕ → List ℕ) where
       let operand = chunk-few facts.mem.0 facts.operand (operand_called facts) in
       let most = one-chunk facts.operand in
       let registers = each-few p.regs.0 (named_called facts) p.named in
-      let few = named-few (fetched facts) in
+      let few = named-few (fetched_of facts) in
       (omega arith, λ gone. let none = no-chunk facts.operand gone in omega arith)
   early-few (V3 p) =
       let facts = facts_of (V3 p) in
@@ -288,7 +290,7 @@ module _ (digest : List ℕ → List ℕ) where
       let operand = chunk-few facts.mem.0 facts.operand (operand_called facts) in
       let most = one-chunk facts.operand in
       let registers = each-few p.regs.0 (named_called facts) p.named in
-      let few = named-few (fetched facts) in
+      let few = named-few (fetched_of facts) in
       let read = input-few facts.input_tree facts.input (input_called facts) in
       let once = one-input facts.input in
       (omega arith, λ gone. let none = no-chunk facts.operand gone in omega arith)

@@ -145,4 +145,4 @@ module _ (digest : List ℕ → List ℕ) (is_digest : (bytes : List ℕ) → le
     plain-in-range holds =
         ap are_facts_in_range holds
         ∙ parts-true (plain_facts digest s) (memory-size s) (tree-range (scheme_of s.version).input) (registers-range (scheme_of s.version).registers) ctl-range
-        (chunk-range s.memory (fetch_of_state digest s)) (chunk-range s.memory (operand_of_state digest s)) (input-range s.input (input_of_state digest s))
+        (chunk-range s.memory (fetch_of_state s)) (chunk-range s.memory (operand_of_state s)) (input-range s.input (input_of_state digest s))

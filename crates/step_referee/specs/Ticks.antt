@@ -8,8 +8,8 @@ use Rattle.rv_step.specs.NextEffect.{next_effect}
 use Rattle.rv_step.specs.declared.effect.Effect.{Effect}
 use Rattle.rv_step.specs.declared.effect.Effect.TheVariants.{Store, Put}
 use Rattle.open_proof.specs.Conditions.{Condition}
-use Rattle.open_proof.specs.Facts.{named_called, file_of_facts}
-use Rattle.open_proof.specs.Next.{seen_held, held_shown, held_next}
+use Rattle.open_proof.specs.Facts.{named_called, file_of_facts, seen_shown}
+use Rattle.open_proof.specs.Next.{held_next}
 use Rattle.open_proof.specs.Openings.{fetch_ways, named_ways, operand_ways, read_ways}
 use Rattle.open_proof.specs.Ways.{ways_digests}
 use Rattle.open_proof.specs.declared.facts.Facts.{Facts}
@@ -85,7 +85,7 @@ TicksUntil cs ns more old new = ⊥
 -- the digests of the step, what it has changed of the registers, and the strings of the parts after it
 abbrev pub next_digests : (List ℕ → List ℕ) → Facts → ℕ
 next_digests digest facts =
-    digests_by facts.operand (next_effect (seen_held facts.fetch facts.operand facts.input_tree facts.input (held_shown facts)))
+    digests_by facts.operand (next_effect (seen_shown facts (file_of_facts facts)))
     + registers_changed_digests (named_called facts) facts.regs (file_of_facts facts) (held_next digest facts).regs
     + storage_digests facts.input_tree + 2
 

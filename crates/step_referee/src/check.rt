@@ -20,13 +20,13 @@ ghost use Rattle.open_proof.specs.StateCollision.{IsStateCollision};
 mod carrying;
 mod laws;
 
-use crate::check::carrying::{ShownState, step_on};
+use crate::check::carrying::step_on;
 use digest_core::{Counted, Digester, control_text, registers_text, state_text, storage_text};
 pub use laws::leading_is_decided;
 use open_proof::{
-    Called, Facts, HeldInput, HeldRegisters, called_by, changed_register, facts_of, fetch_way,
-    named_ways, operand_way, proofs_are_in_range, proofs_lead_to_the_next_state, read_way,
-    root_after, ways_climb,
+    Called, Facts, HeldInput, HeldRegisters, ShownState, called_by, changed_register, facts_of,
+    fetch_way, named_ways, operand_way, proofs_are_in_range, proofs_lead_to_the_next_state,
+    read_way, root_after, ways_climb,
 };
 use rd_base::{Ctl, Digest32, Proof, Regs, Steps, same_digest};
 use rv_step::names_are_registers;

@@ -3,18 +3,17 @@ ghost use Rattle.std.specs.Prelude.{◌≡◌, ◌⊎◌, ℕ, List, length, tru
 ghost use Rattle.rd_base.specs.declared.digest.Digest32.{Digest32};
 ghost use Rattle.rd_base.specs.declared.proof.Proof.{Proof};
 ghost use Rattle.rv_step.specs.Alike.{named_at};
-ghost use Rattle.rv_step.specs.Named.{named_by};
 ghost use Rattle.rv_step.specs.State.{State};
 ghost use Rattle.rv_step.specs.Step.{step};
 ghost use Rattle.rv_step.specs.Valid.{IsValid};
 ghost use Rattle.state_commit.specs.StateRoot.{root_in};
 ghost use Rattle.open_proof.specs.Conditions.{LeadsFrom};
-ghost use Rattle.open_proof.specs.Facts.{facts_of};
+ghost use Rattle.open_proof.specs.Facts.{facts_of, named_called};
 ghost use Rattle.open_proof.specs.InRange.{is_in_range};
 ghost use Rattle.open_proof.specs.LawsBelow.{StepLaws, RegisterLaws, TreeLaws};
 ghost use Rattle.open_proof.specs.Next.{root_next};
 ghost use Rattle.open_proof.specs.PlainProof.{plain_facts, plain_proof};
-ghost use Rattle.open_proof.specs.Shown.{ShowsState, word_of_state};
+ghost use Rattle.open_proof.specs.Shown.{ShowsState};
 ghost use Rattle.open_proof.specs.StateCollision.{IsStateCollision};
 ghost use Rattle.open_proof.specs.declared.facts.Facts.{Facts};
 
@@ -85,7 +84,9 @@ pub fn proofs_lead_to_the_next_state()
     laws_below();
 }
 
-/// The registers that a state's next instruction names are those of the word that it fetches.
-pub fn states_name_registers()
-    ensures { (digest : List ℕ → List ℕ) (s : State) → named_by (word_of_state digest s) ≡ named_at s }
-{}
+/// The plain proof of a state names the registers that the state's next instruction names.
+pub fn plain_proofs_name_registers()
+    ensures { (digest : List ℕ → List ℕ) (s : State) → named_called (plain_facts digest s) ≡ named_at s }
+{
+    laws_below();
+}

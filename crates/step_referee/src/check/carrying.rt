@@ -1,20 +1,20 @@
 //! The step on the opened parts of a proof: the machine's own `next_effect` and `apply`, over what the proof shows. Only a store and a
 //! byte of output are carried out otherwise than by the machine: a store climbs to the root of memory again, and a byte makes a digest.
-ghost use Rattle.std.specs.Prelude.{◌≡◌, ◌+◌, ◌%◌, ℕ, List};
+ghost use Rattle.std.specs.Prelude.{◌≡◌, ◌+◌};
 ghost use Rattle.rv_step.specs.NextEffect.{next_effect as effect_seen};
 ghost use Rattle.rv_step.specs.Naming.{NamesRegister};
 ghost use Rattle.rv_step.specs.Step.{pc_after, regs_after, status_after};
 ghost use Rattle.rv_step.specs.Stores.{StoresAligned};
 ghost use Rattle.open_proof.specs.Held.{held_after};
-ghost use Rattle.open_proof.specs.Facts as facts_of_proof;
+ghost use Rattle.open_proof.specs.Facts.{held_with, seen_shown};
 ghost use Rattle.open_proof.specs.Next.{held_by};
-ghost use Rattle.step_referee.specs.HeldParts.{held_in, held_with, seen_shown};
+ghost use Rattle.step_referee.specs.HeldParts.{held_in};
 ghost use Rattle.step_referee.specs.Ticks.{digests_by, digests_of_effect};
 
 use digest_core::{Counted, link_text};
-use open_proof::{Facts, HeldInput, changed_chunk, offering, root_after};
-use rd_base::{Ctl, Digest32, InOpening, InputScheme, Opening, Regs, Status, Steps};
-use rv_step::{Effect, StateAccess, apply, next_effect, number_shown};
+use open_proof::{ShownState, changed_chunk, root_after};
+use rd_base::{Ctl, Digest32, Opening, Regs, Steps};
+use rv_step::{Effect, apply, next_effect};
 use std::sync::ledger::Ledger;
 
 /// What a proof holds of a state: the root of memory, the registers as far as they are shown, and the control fields.
@@ -23,73 +23,6 @@ pub(crate) struct Parts {
     pub mem: Digest32,
     pub regs: Regs,
     pub ctl: Ctl,
-}
-
-/// A state as far as a proof shows it. It answers to a step as a machine does: where a chunk isn't shown it reads 0.
-#[derive(Drop)]
-pub(crate) struct ShownState<'a> {
-    /// What the proof holds.
-    pub facts: &'a Facts,
-    /// The register file that the proof shows.
-    pub regs: Regs,
-}
-
-/// A byte of the opened chunk of the input, and 0 if none is there.
-fn byte_in(input: &Option<InOpening>, k: u32) -> u32
-    ensures { result ≡ facts_of_proof.byte_in input.now k }
-{
-    match input {
-        Some(opening) => u32::from(opening.chunk[(k % 32) as usize]),
-        None => 0,
-    }
-}
-
-/// A byte of the input as far as it is shown, and all ones if the input has no such byte.
-fn byte_shown(tree: &Option<HeldInput>, input: &Option<InOpening>, k: u32) -> u32
-    ensures { result ≡ facts_of_proof.byte_shown tree.now input.now k }
-{
-    match tree {
-        Some(tree) => {
-            if k < tree.len {
-                byte_in(input, k)
-            } else {
-                u32::MAX
-            }
-        }
-        None => u32::MAX,
-    }
-}
-
-impl<'a> StateAccess for ShownState<'a> {
-    ghost seen = { λ s. seen_shown s.facts.now s.regs };
-
-    fn status(&self) -> Status {
-        self.facts.ctl.status
-    }
-
-    fn pc(&self) -> u32 {
-        self.facts.ctl.pc
-    }
-
-    fn registers(&self) -> &Regs {
-        &self.regs
-    }
-
-    fn input_scheme(&self) -> InputScheme {
-        offering(&self.facts.input_tree)
-    }
-
-    fn fetch(&self, addr: u32) -> u32 {
-        number_shown(&self.facts.fetch, addr, 4)
-    }
-
-    fn load(&self, addr: u32, width: u8) -> u32 {
-        number_shown(&self.facts.operand, addr, width)
-    }
-
-    fn input_byte(&self, index: u32) -> u32 {
-        byte_shown(&self.facts.input_tree, &self.facts.input, index)
-    }
 }
 
 /// The parts with what an effect changes of registers, `pc` and status.

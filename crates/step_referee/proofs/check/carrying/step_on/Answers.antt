@@ -1,6 +1,6 @@
 use Rattle.std.proofs.Common.{arith, ap, ◌∙◌}
+use Rattle.open_proof.specs.Facts.{held_with}
 use Rattle.open_proof.specs.Next.{held_by}
-use Rattle.step_referee.specs.HeldParts.{held_with}
 use Rattle.step_referee.specs.Ticks.{digests_by}
 use Rattle.step_referee.proofs.check.carrying.step_on.Goals as goal
 
