@@ -1,13 +1,10 @@
 -- A chain of accepted claims follows the run.
-use Rattle.std.proofs.Common.{◌≡◌, ◌⊎◌, inl, inr, ℕ, zero, suc, ◌+◌, ◌^◌, ◌<◌, ◌≤◌, List, [], ◌∷◌, length, Option, Some, None, refl, sym, ap, ◌∙◌, subst, arith, length-append}
+use Rattle.std.proofs.Common.{◌≡◌, ◌⊎◌, inl, inr, ℕ, ◌+◌, ◌^◌, ◌<◌, ◌≤◌, List, [], ◌∷◌, length, refl, sym, ap, ◌∙◌, subst, arith}
 use Rattle.rd_base.specs.declared.digest.Digest32.{Digest32}
 use Rattle.rd_base.specs.declared.claim.Claim.{Claim}
 use Rattle.rv_step.specs.State.{State}
-use Rattle.rv_step.specs.NextEffect.{seen_of, next_effect}
-use Rattle.rv_step.specs.Step.{step, state_at, after_next, output_after}
+use Rattle.rv_step.specs.Step.{state_at}
 use Rattle.rv_step.specs.Valid.{IsValid}
-use Rattle.rv_step.specs.declared.effect.Effect.{Effect}
-use Rattle.rv_step.specs.declared.effect.Effect.TheVariants.{Write, Jump, Branch, Next, Store, Put, Exit, Trap}
 use Rattle.state_commit.specs.StateRoot.{root_in}
 use Rattle.state_commit.specs.Binding.{StatesSplit, committed_part}
 use Rattle.open_proof.specs.PlainClaim.{plain_claim}
@@ -23,63 +20,25 @@ use Rattle.step_referee.specs.MachineRuling.{machine_ruling}
 use Rattle.step_referee.specs.MachineTruth.{machine_truth}
 use Rattle.match_chain.specs.Chains.{Played, record_of, verdict_reached, bound_of, IsOfRun, HasAccepted, claimed_root, IsChain, step_after, root_after, first_root, IsRightOfStep, IsRunOver, ChainsAreRight, TwoAreRight, StatesOfChainsAreOfTheRun}
 
--- A STEP puts out one byte at most
-
-effect-adds : (xs : List ℕ) (e : Effect) → length (output_after xs e) ≤ length xs + 1
-effect-adds xs (Write rd value) = omega arith
-effect-adds xs (Jump rd target) = omega arith
-effect-adds xs (Branch target) = omega arith
-effect-adds xs Next = omega arith
-effect-adds xs (Store addr width value) = omega arith
-effect-adds xs (Put byte) = let longer = length-append xs (byte ∷ []) in omega (arith, longer)
-effect-adds xs (Exit code) = omega arith
-effect-adds xs (Trap code) = omega arith
-
-next-adds : (s : State) (o : Option Effect) → length (after_next s o).output ≤ length s.output + 1
-next-adds s (Some e) = effect-adds s.output e
-next-adds s None = omega arith
-
-step-adds : (s : State) → length (step s).output ≤ length s.output + 1
-unfolding step
-step-adds s = next-adds s (next_effect (seen_of s))
-
-output-at : (s : State) (i : ℕ) → length (state_at s i).output ≤ length s.output + i
-output-at s zero = omega arith
-output-at s (suc i) = omega (arith, output-at s i, step-adds (state_at s i))
-
--- ONE RUN after another
-
-run-on : (s : State) (i j : ℕ) → state_at (state_at s i) j ≡ state_at s (i + j)
-run-on s i zero = ap (state_at s) (plain i)
-  where
-    plain : (n : ℕ) → n ≡ n + 0
-    plain n = omega arith
-run-on s i (suc j) = ap step (run-on s i j) ∙ ap (state_at s) (more i j)
-  where
-    more : (n k : ℕ) → suc (n + k) ≡ n + suc k
-    more n k = omega arith
-
 -- the laws of the crates below
 pub record ChainLaws (digest : List ℕ → List ℕ) : Type 0 where
   pub right : VerdictIsRight
   pub true_ : (s : State) (rules : Rules) → IsValid s → length s.output + rules.setup.bound < 2 ^ 64 → rules.ruling ≡ machine_ruling digest s.version →
       rules.setup.start.0 ≡ root_in digest s.version s → IsRun rules (machine_truth digest s rules.setup.bound)
   pub fair : (version : ℕ) → IsFair (machine_ruling digest version)
-  pub valid : (s : State) → IsValid s → IsValid (step s)
+  pub further : (s : State) (n k : ℕ) → state_at s (n + k) ≡ state_at (state_at s n) k
+  pub valid : (s : State) (n : ℕ) → IsValid s → IsValid (state_at s n)
+  pub output : (s : State) (n : ℕ) → length (state_at s n).output ≤ length s.output + n
   pub version : (s : State) (n : ℕ) → (state_at s n).version ≡ s.version
   pub input : (s : State) (n : ℕ) → (state_at s n).input ≡ s.input
   pub binds : (s t : State) → IsValid s → IsValid t → s.version ≡ t.version → length s.output < 2 ^ 64 → length t.output < 2 ^ 64 →
       root_in digest s.version s ≡ root_in digest t.version t → (committed_part s ≡ committed_part t) ⊎ StatesSplit digest s t
 
 module _ (digest : List ℕ → List ℕ) (laws : ChainLaws digest) where
-  valid-at : (s : State) (i : ℕ) → IsValid s → IsValid (state_at s i)
-  valid-at s zero valid = valid
-  valid-at s (suc i) valid = laws.valid (state_at s i) (valid-at s i valid)
-
   -- ONE MATCH from the root of a state of the run decides the run at the end of its steps
 
   as-step : (s : State) (from : ℕ) (m : Played) (v : Verdict) → IsRightVerdict m.rules (machine_truth digest (state_at s from) (bound_of m)) (record_of m) v → IsRightOfStep digest s (from + bound_of m) m v
-  as-step s from m (Accept n) right = subst (λ (t : State). HasGiven (record_of m).claims n (plain_claim digest t)) (run-on s from (bound_of m)) right
+  as-step s from m (Accept n) right = subst (λ (t : State). HasGiven (record_of m).claims n (plain_claim digest t)) (sym (laws.further s from (bound_of m))) right
   as-step s from m (Collision x y) right = right
   as-step s from m NoneLeft right = right
 
@@ -88,10 +47,10 @@ module _ (digest : List ℕ → List ℕ) (laws : ChainLaws digest) where
   match-right s from m over i =
       let t : State = state_at s from in
       let same : (state_at s from).version ≡ s.version = laws.version s from in
-      let short : length (state_at s from).output + bound_of m < 2 ^ 64 = omega (arith, output-at s from, over.short) in
+      let short : length (state_at s from).output + bound_of m < 2 ^ 64 = omega (arith, laws.output s from, over.short) in
       let judge : m.rules.ruling ≡ machine_ruling digest (state_at s from).version = i.judge ∙ ap (machine_ruling digest) (sym same) in
       let start : m.rules.setup.start.0 ≡ root_in digest (state_at s from).version (state_at s from) = ap (λ (d : Digest32). d.0) i.begins in
-      let run : IsRun m.rules (machine_truth digest (state_at s from) (bound_of m)) = laws.true_ (state_at s from) m.rules (valid-at s from over.valid) short judge start in
+      let run : IsRun m.rules (machine_truth digest (state_at s from) (bound_of m)) = laws.true_ (state_at s from) m.rules (laws.valid s from over.valid) short judge start in
       let fair : IsFair m.rules.ruling = subst IsFair (sym i.judge) (laws.fair s.version) in
       as-step s from m (verdict_reached m) (laws.right m.rules (machine_truth digest (state_at s from) (bound_of m)) m.posts i.prover i.playable fair run i.numbered i.truthful i.over)
 
@@ -151,7 +110,7 @@ module _ (digest : List ℕ → List ℕ) (laws : ChainLaws digest) where
       let at : root_after digest (first_root digest s) ms ≡ first_root digest (state_at s (step_after 0 ms)) = chain-root s 0 (first_root digest s) ms over refl chain in
       let roots : root_in digest t.version t ≡ root_in digest (state_at s (step_after 0 ms)).version (state_at s (step_after 0 ms)) = ap (λ (d : Digest32). d.0) (root ∙ at) in
       let same : t.version ≡ (state_at s (step_after 0 ms)).version = version ∙ sym (laws.version s (step_after 0 ms)) in
-      elim (laws.binds t (state_at s (step_after 0 ms)) valid (valid-at s (step_after 0 ms) over.valid) same short (omega (arith, output-at s (step_after 0 ms), over.short)) roots) [
+      elim (laws.binds t (state_at s (step_after 0 ms)) valid (laws.valid s (step_after 0 ms) over.valid) same short (omega (arith, laws.output s (step_after 0 ms), over.short)) roots) [
         | inl e ↦ inl (same-state t (state_at s (step_after 0 ms)) e (input ∙ sym (laws.input s (step_after 0 ms))))
         | inr split ↦ inr split
       ]

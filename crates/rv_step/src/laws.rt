@@ -1,5 +1,5 @@
 //! Laws of the definitions, each the contract of a function that changes nothing.
-ghost use Rattle.std.specs.Prelude.{◌≡◌, ◌≢◌, ℕ, ◌++◌, ◌/◌, ◌<◌, ◌^◌, List, map, slice_index, Option, Some, None, false};
+ghost use Rattle.std.specs.Prelude.{◌≡◌, ◌≢◌, ℕ, ◌+◌, ◌++◌, ◌/◌, ◌<◌, ◌≤◌, ◌^◌, List, map, length, slice_index, Option, Some, None, false};
 ghost use Rattle.rd_base.specs.Status.{is_running, HasWordCode};
 ghost use Rattle.rv_decode.specs.declared.instr.Instr.{Instr};
 ghost use Rattle.mem_plain.specs.Contents.{byte_at};
@@ -102,6 +102,15 @@ pub fn steps_keep_valid_states()
     ensures { (s : State) → IsValid s → IsValid (step s) }
 {
     memories_are_their_bytes();
+}
+
+/// A run goes on from where it is (`further`), keeps states valid (`valid`), and puts out at most one byte a step (`output`).
+pub fn runs_go_on()
+    ensures further { (s : State) (n k : ℕ) → state_at s (n + k) ≡ state_at (state_at s n) k }
+    ensures valid { (s : State) (n : ℕ) → IsValid s → IsValid (state_at s n) }
+    ensures output { (s : State) (n : ℕ) → length (state_at s n).output ≤ length s.output + n }
+{
+    steps_keep_valid_states();
 }
 
 /// The state of each machine is valid.

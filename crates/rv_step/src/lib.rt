@@ -26,8 +26,8 @@
 //! it is offered to a call, byte by byte.
 //!
 //! The other laws are in `laws`: that a step reads the registers alone that its instruction names and changes at most one of
-//! them, which bytes a step leaves, that a stopped state stays and output only grows, that a run keeps version and input, and
-//! that each machine's state is valid and steps keep it so. `arithmetic_laws` has the
+//! them, which bytes a step leaves, that a stopped state stays and output only grows, that a run keeps version and input and
+//! puts out at most one byte a step, and that each machine's state is valid and steps keep it so. `arithmetic_laws` has the
 //! manual's sentences on arithmetic, of all words: sums, products, divisions, shifts, extensions, and that what was stored is loaded.
 //!
 //! Read `specs/Effect.antt` first, which defines what each instruction does, `specs/NextEffect.antt`, which says what a step sees of a
@@ -57,7 +57,7 @@ pub use effect::{Effect, ILLEGAL_INSTRUCTION, MISALIGNED_JUMP};
 pub use fetching::{fetch_address, fetched, next_need, number_in_chunk};
 pub use laws::{
     effects_read_named_registers, machines_are_valid, names_are_registers, needs_tell_what_is_read,
-    one_page_changes, output_only_grows, runs_keep_the_input, steps_keep_valid_states,
+    one_page_changes, output_only_grows, runs_go_on, runs_keep_the_input, steps_keep_valid_states,
     steps_read_named_registers, stopped_states_stay, two_parts_are_the_step,
 };
 pub use machine::{INPUT_BASE, Machine};

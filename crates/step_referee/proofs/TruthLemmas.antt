@@ -1,6 +1,6 @@
 -- A run of the machine is a true run for the game.
-use Rattle.std.proofs.Common.{◌≡◌, ℕ, zero, suc, ◌+◌, ◌%◌, ◌^◌, ◌<◌, ◌≤◌, List, length, Option, Some, None, true, refl, sym, ap, ◌∙◌, subst, arith, add-one, length-append, []}
-use Rattle.std.specs.Prelude.{bytes_eq, if◌then◌else◌, ◌∷◌}
+use Rattle.std.proofs.Common.{◌≡◌, ℕ, ◌+◌, ◌%◌, ◌^◌, ◌<◌, ◌≤◌, List, length, Some, true, refl, sym, ap, ◌∙◌, subst, arith, add-one}
+use Rattle.std.specs.Prelude.{bytes_eq, if◌then◌else◌}
 use Rattle.std.proofs.lemmas.Bool.{and_from}
 use Rattle.std.proofs.lemmas.Bool.Decides.{Decides-eqb, Decides-ltb}
 use Rattle.std.proofs.lemmas.Slice.Eq.{bytes_eq-Decides}
@@ -15,11 +15,8 @@ use Rattle.digest_core.specs.Text.{status_code}
 use Rattle.out_chain.specs.Soundness.{is_sound, says_sound, claim_check}
 use Rattle.out_chain.specs.declared.checking.ClaimCheck.TheVariants.{Sound, WrongLength, WrongChain}
 use Rattle.rv_step.specs.State.{State}
-use Rattle.rv_step.specs.NextEffect.{seen_of, next_effect}
-use Rattle.rv_step.specs.Step.{step, state_at, after_next, output_after}
+use Rattle.rv_step.specs.Step.{step, state_at}
 use Rattle.rv_step.specs.Valid.{IsValid}
-use Rattle.rv_step.specs.declared.effect.Effect.{Effect}
-use Rattle.rv_step.specs.declared.effect.Effect.TheVariants.{Write, Jump, Branch, Next, Store, Put, Exit, Trap}
 use Rattle.state_commit.specs.StateRoot.{ctl_of, memory_digest, registers_by, registers_digest, storage_by, storage_digest, root_in}
 use Rattle.mem_tree.specs.InputTree.{input_root}
 use Rattle.open_proof.specs.Conditions.{LeadsFrom}
@@ -34,47 +31,18 @@ use Rattle.step_referee.specs.MachineRuling.{leads_in, machine_ruling}
 use Rattle.step_referee.specs.MachineTruth.{machine_truth}
 use Rattle.step_referee.proofs.RangeLemmas.{code-fits, length-fits, memory-size, registers-size, plain-in-range}
 
--- a step puts out one byte at most
-effect-adds : (xs : List ℕ) (e : Effect) → length (output_after xs e) ≤ length xs + 1
-effect-adds xs (Write rd value) = omega arith
-effect-adds xs (Jump rd target) = omega arith
-effect-adds xs (Branch target) = omega arith
-effect-adds xs Next = omega arith
-effect-adds xs (Store addr width value) = omega arith
-effect-adds xs (Put byte) = let longer = length-append xs (byte ∷ []) in omega (arith, longer)
-effect-adds xs (Exit code) = omega arith
-effect-adds xs (Trap code) = omega arith
-
-next-adds : (s : State) (next : Option Effect) → length (after_next s next).output ≤ length s.output + 1
-next-adds s (Some e) = effect-adds s.output e
-next-adds s None = omega arith
-
-step-adds : (s : State) → length (step s).output ≤ length s.output + 1
-unfolding step
-step-adds s = next-adds s (next_effect (seen_of s))
-
-output-at : (s : State) (i : ℕ) → length (state_at s i).output ≤ length s.output + i
-output-at s zero = omega arith
-output-at s (suc i) =
-    let before = output-at s i in
-    let more = step-adds (state_at s i) in
-    omega (arith, before, more)
-
 -- the laws of the crates below
 pub record RunLaws (digest : List ℕ → List ℕ) : Type 0 where
   pub is_digest : (bytes : List ℕ) → length (digest bytes) ≡ 32
   pub chained : (output : List ℕ) → length (chain_of digest output) ≡ 32
-  pub valid : (s : State) → IsValid s → IsValid (step s)
+  pub valid : (s : State) (n : ℕ) → IsValid s → IsValid (state_at s n)
+  pub output : (s : State) (n : ℕ) → length (state_at s n).output ≤ length s.output + n
   pub version : (s : State) (n : ℕ) → (state_at s n).version ≡ s.version
   pub leads : (s : State) (a b : Digest32) → IsValid s → a.0 ≡ root_in digest s.version s → b.0 ≡ root_in digest s.version (step s)
       → LeadsFrom digest s.version a (facts_of (plain_proof digest s)) b
   pub holds : (s : State) → IsValid s → facts_of (plain_proof digest s) ≡ plain_facts digest s
 
 module _ (digest : List ℕ → List ℕ) (laws : RunLaws digest) where
-  valid-at : (s : State) (i : ℕ) → IsValid s → IsValid (state_at s i)
-  valid-at s zero valid = valid
-  valid-at s (suc i) valid = laws.valid (state_at s i) (valid-at s i valid)
-
   abbrev root-at : State → Digest32
   root-at s = record { 0 = root_in digest s.version s }
 
@@ -123,13 +91,13 @@ module _ (digest : List ℕ → List ℕ) (laws : RunLaws digest) where
       → rules.setup.start.0 ≡ root_in digest s.version s → IsRun rules (machine_truth digest s rules.setup.bound)
   machine-runs s rules valid low is start =
       let last = state_at s rules.setup.bound in
-      let short = output-at s rules.setup.bound in
+      let short = laws.output s rules.setup.bound in
       let fits : length last.output < 2 ^ 64 = omega (arith, short, low) in
       record {
         begins = λ i. record { 0 = sym start i };
         leads = λ i below. subst (λ (r : Ruling). r.leads (root-at (state_at s i)) (plain_proof digest (state_at s i)) ≡ Some (root-at (state_at s (i + 1)))) (sym is)
             (subst (λ v. leads_in digest v (root-at (state_at s i)) (plain_proof digest (state_at s i)) ≡ Some (root-at (state_at s (i + 1)))) (laws.version s i)
-            (plain-leads (state_at s i) (valid-at s i valid) ∙ ap (λ n. Some (root-at (state_at s n))) (sym (add-one i))));
-        sound = subst (λ (r : Ruling). r.is_sound (plain_claim digest last) ≡ true) (sym is) (plain-sound last (valid-at s rules.setup.bound valid) fits);
+            (plain-leads (state_at s i) (laws.valid s i valid) ∙ ap (λ n. Some (root-at (state_at s n))) (sym (add-one i))));
+        sound = subst (λ (r : Ruling). r.is_sound (plain_claim digest last) ≡ true) (sym is) (plain-sound last (laws.valid s rules.setup.bound valid) fits);
         ends = subst (λ (r : Ruling). r.root_of (plain_claim digest last) ≡ root-at last) (sym is) refl;
       }

@@ -15,7 +15,7 @@ ghost use Rattle.step_referee.specs.MachineTruth.{machine_truth};
 
 use digest_core::{Digester, chain_grows};
 use open_proof::{plain_proofs_hold_the_parts, plain_proofs_lead};
-use rv_step::{runs_keep_the_input, steps_keep_valid_states};
+use rv_step::{runs_go_on, runs_keep_the_input};
 
 /// By the judge of a version a proof leads from a root to another if and only if it is in the ranges of its types, as each proof that a
 /// program holds, and its conditions for this version hold.
@@ -33,7 +33,7 @@ pub fn machine_runs_are_true<D: Digester>()
         IsRun rules (machine_truth D.digest_of s rules.setup.bound) }
 {
     chain_grows();
-    steps_keep_valid_states();
+    runs_go_on();
     runs_keep_the_input();
     plain_proofs_lead();
     plain_proofs_hold_the_parts();
