@@ -139,15 +139,43 @@ impl<D: Digester> Committed<D> {
         requires input { HasInput D.digest_of (state_of machine) input }
         ensures { IfOk result (λ c. c ≡ state_of machine) }
     {
-        let regs = registers_of(d, &machine);
         let memory = MemTree::build(rt, alloc, d, &machine.mem)?;
-        Ok(Committed {
+        Ok(Committed::with_trees(d, machine, memory, input))
+    }
+
+    /// A machine with the trees of its version, from those of its memory and of its input. As the code shows, no part of either is digested,
+    /// and the registers are only if the version holds them as a tree. The machine's chain is that of its output, by this digester, and no
+    /// page of the memory's tree is touched.
+    pub fn with_trees(d: D, machine: Machine, memory: MemTree<D>, input: SharedInput<D>) -> Self
+        requires chained { IsChained D.digest_of machine }
+        requires memory { IsTreeOf D.digest_of memory machine.mem }
+        requires untouched { memory.touched ≡ [] }
+        requires input { HasInput D.digest_of (state_of machine) input }
+        ensures { result ≡ state_of machine }
+    {
+        let regs = registers_of(d, &machine);
+        Committed {
             d,
             machine,
             memory,
             regs,
             input,
-        })
+        }
+    }
+
+    /// The machine and the tree of its memory, of which no page is touched. The other trees are dropped.
+    pub fn into_parts(self) -> (Machine, MemTree<D>)
+        ensures state { state_of result.0 ≡ self }
+        ensures chained { IsChained D.digest_of result.0 }
+        ensures memory { IsTreeOf D.digest_of result.1 self.memory }
+        ensures untouched { result.1.touched ≡ [] }
+    {
+        let Committed {
+            machine,
+            memory,
+            ..
+        } = self;
+        (machine, memory)
     }
 
     /// What `new` gives, without a runtime: as the code shows, the subtrees of the memory's pages are computed one after another. An
@@ -157,15 +185,8 @@ impl<D: Digester> Committed<D> {
         ensures { IfOk result (λ c. c ≡ state_of machine) }
     {
         let input = SharedInput::of(alloc, d, &machine)?;
-        let regs = registers_of(d, &machine);
         let memory = MemTree::build_alone(alloc, d, &machine.mem)?;
-        Ok(Committed {
-            d,
-            machine,
-            memory,
-            regs,
-            input,
-        })
+        Ok(Committed::with_trees(d, machine, memory, input))
     }
 
     /// The machine after this many more steps, with its trees, which are brought up to it once, at the end. As the code shows, of the pages
