@@ -68,7 +68,7 @@ fn machine_up_to<D: Digester>(d: D, run: &Run, goal: u64) -> Result<Machine, Mem
 
 /// The step to replay to for the state of the step asked: once the run stands still, and above the bound, an earlier one has the
 /// same state.
-fn goal_of(run: &Run, step: u64) -> u64
+pub fn goal_of(run: &Run, step: u64) -> u64
     ensures within { result ≤ still_of run.now }
     ensures same { state_of_step run.now result ≡ state_of_step run.now (min step run.now.bound) }
 {
@@ -265,6 +265,24 @@ pub struct Rooted<D: Digester> {
     pub root: Digest32,
 }
 
+/// The cursor of a step, made from one that is kept; above the bound it is that of the bound.
+pub fn cursor_of_step<D: Digester + Send + Sync, R: Threads + Sync>(
+    rt: &R,
+    alloc: Global,
+    replay: &Replay<'_, D>,
+    kept: Option<Cursor<D>>,
+    step: u64,
+) -> Result<Cursor<D>, Memory>
+    requires machine { IfSome kept (λ c. IsMachineOf D.digest_of replay.now.run.now c.at c.machine) }
+    requires tree { IfSome kept (λ c. IsFresh D.digest_of c.tree c.machine.mem) }
+    ensures machine { IfOk result (λ c. IsMachineOf D.digest_of replay.now.run.now c.at c.machine) }
+    ensures tree { IfOk result (λ c. IsFresh D.digest_of c.tree c.machine.mem) }
+    ensures step { IfOk result (λ c. state_of_step replay.now.run.now c.at ≡ state_of_step replay.now.run.now (min step replay.now.run.now.bound)) }
+{
+    let goal = goal_of(replay.run, step);
+    cursor_at(rt, alloc, replay, kept, goal)
+}
+
 /// The root of a step, and a cursor for the next one. As the code shows, from version 2 on those leaves alone of the registers are
 /// digested that differ from those of the root before.
 pub fn root_of_step<D: Digester + Send + Sync, R: Threads + Sync>(
@@ -284,8 +302,7 @@ pub fn root_of_step<D: Digester + Send + Sync, R: Threads + Sync>(
     ensures root { IfOk result (λ r. r.root.0 ≡ root_at D.digest_of replay.now.run.now step) }
 {
     tampered_runs_keep_the_input();
-    let goal = goal_of(replay.run, step);
-    let cursor = cursor_at(rt, alloc, replay, kept, goal)?;
+    let cursor = cursor_of_step(rt, alloc, replay, kept, step)?;
     let machine = &cursor.machine;
     let parts = Parts {
         memory: cursor.tree.root(),

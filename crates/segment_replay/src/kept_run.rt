@@ -1,12 +1,13 @@
 //! A run that is kept with what each worker's last root was made of.
 ghost use denote.Param.Send.{IsSync};
-ghost use Rattle.std.specs.Prelude.{◌≡◌, ◌<◌, IfOk, map, min};
+ghost use Rattle.std.specs.Prelude.{◌≡◌, ◌<◌, All, IfOk, map, min};
 ghost use Rattle.state_commit.specs.Committing.{HasInput};
 ghost use Rattle.checkpoint_run.specs.Recorded.{AreChained, state_of_step};
 ghost use Rattle.segment_replay.specs.Roots.{root_at, digests};
+ghost use Rattle.segment_replay.specs.Cursor.{IsKept};
 
-use crate::cursor::{Replay, machine_of_step};
-use crate::replaying::{Worker, roots_by};
+use crate::cursor::{Cursor, Replay, goal_of};
+use crate::replaying::{Worker, keep_cursor, roots_by, take_cursor};
 use checkpoint_run::{Run, tampered_runs_keep_the_input};
 use digest_core::{Digester, Sha256, Weak8};
 use rd_base::{Digest32, Memory};
@@ -15,23 +16,24 @@ use std::alloc::Global;
 use std::marker::Model;
 use std::thread::Threads;
 
-/// The machine of a step with the trees of its version, from the tree of the run's input.
-fn committed_with_input<D: Digester + Send + Sync, R: Threads + Sync>(
+/// The machine of a step with the trees of its version, made from what the first worker keeps, which gives it away.
+fn committed_by<D: Digester + Send + Sync, R: Threads + Sync>(
     rt: &R,
     alloc: Global,
-    d: D,
-    run: &Run,
+    replay: &Replay<'_, D>,
     input: SharedInput<D>,
     step: u64,
+    workers: &mut Vec<Worker<D>>,
 ) -> Result<Committed<D>, Memory>
-    requires chained { AreChained D.digest_of run.now }
-    requires input { HasInput D.digest_of run.now.first input }
-    ensures { IfOk result (λ c. c ≡ state_of_step run.now (min step run.now.bound)) }
+    requires input { HasInput D.digest_of replay.now.run.now.first input }
+    requires kept { All (λ w. IsKept D.digest_of replay.now.run.now w) workers.old.items }
+    ensures kept { All (λ w. IsKept D.digest_of replay.now.run.now w) workers.new.items }
+    ensures committed { IfOk result (λ c. c ≡ state_of_step replay.now.run.now (min step replay.now.run.now.bound)) }
 {
     tampered_runs_keep_the_input();
     one_input_has_one_tree();
-    let machine = machine_of_step(d, run, step)?;
-    Committed::with_input(rt, alloc, d, machine, input)
+    let Cursor { machine, tree, .. } = take_cursor(rt, alloc, replay, step, workers)?;
+    Ok(Committed::with_trees(replay.d, machine, tree, input))
 }
 
 /// A run that is kept with what each worker's last root was made of, so that its next root takes the digests of what differs alone: a
@@ -113,19 +115,36 @@ impl<D: Digester> KeptRun<D> {
     }
 
     /// The machine of a step with the trees of its version, that of its input shared with the run; above the bound the state of the
-    /// bound stands for it.
+    /// bound stands for it. As the code shows, it is made from the first worker's last root, and digests only what differs; the worker is
+    /// left with nothing, until `put_back`. An `Err` is out of memory.
     pub fn committed<R: Threads + Sync>(
-        &self,
+        &mut self,
         rt: &R,
         alloc: Global,
         step: u64,
     ) -> Result<Committed<D>, Memory>
     where
         D: Send + Sync,
-        ensures { IfOk result (λ c. c ≡ state_of_step self.now (min step self.now.bound)) }
+        ensures committed { IfOk result (λ c. c ≡ state_of_step self.old (min step self.old.bound)) }
+        ensures run { self.new ≡ self.old }
     {
         let input = self.input.share()?;
-        committed_with_input(rt, alloc, self.d, &self.run, input, step)
+        let replay = Replay {
+            d: self.d,
+            run: &self.run,
+            input: self.input.root(),
+        };
+        committed_by(rt, alloc, &replay, input, step, &mut self.workers)
+    }
+
+    /// Takes back the machine of a step that `committed` gave, so that the first worker makes its next root from it, or the next machine.
+    pub fn put_back(&mut self, step: u64, committed: Committed<D>)
+        requires { committed ≡ state_of_step self.old (min step self.old.bound) }
+        ensures { self.new ≡ self.old }
+    {
+        let at = goal_of(&self.run, step);
+        let (machine, tree) = committed.into_parts();
+        keep_cursor(&self.run, Cursor { at, machine, tree }, &mut self.workers);
     }
 }
 
@@ -151,11 +170,12 @@ pub trait Replays: Digester {
         self,
         rt: &R,
         alloc: Global,
-        run: &KeptRun<Self>,
+        run: &mut KeptRun<Self>,
         step: u64,
     ) -> Result<Committed<Self>, Memory>
         requires { IsSync R.row }
-        ensures { IfOk result (λ c. c ≡ state_of_step run.now (min step run.now.bound)) };
+        ensures committed { IfOk result (λ c. c ≡ state_of_step run.old (min step run.old.bound)) }
+        ensures run { run.new ≡ run.old };
 }
 
 impl Replays for Sha256 {
@@ -174,7 +194,7 @@ impl Replays for Sha256 {
         self,
         rt: &R,
         alloc: Global,
-        run: &KeptRun<Self>,
+        run: &mut KeptRun<Self>,
         step: u64,
     ) -> Result<Committed<Self>, Memory> {
         run.committed(rt, alloc, step)
@@ -197,7 +217,7 @@ impl Replays for Weak8 {
         self,
         rt: &R,
         alloc: Global,
-        run: &KeptRun<Self>,
+        run: &mut KeptRun<Self>,
         step: u64,
     ) -> Result<Committed<Self>, Memory> {
         run.committed(rt, alloc, step)

@@ -3,10 +3,12 @@ ghost use Rattle.std.specs.Prelude.{◌≡◌, ◌<◌, ◌≤◌, ◌+◌, ◌*
 ghost use Rattle.std.specs.Fork.{slice_chunk};
 ghost use Rattle.checkpoint_run.specs.Recorded.{AreChained, state_of_step};
 ghost use Rattle.segment_replay.specs.Roots.{IsInputRoot, root_at, digests};
-ghost use Rattle.segment_replay.specs.Cursor.{IsKept};
+ghost use Rattle.segment_replay.specs.Cursor.{IsMachineOf, IsFresh, IsKept};
 ghost use Rattle.segment_replay.specs.Pieces.{ArePieces};
 
-use crate::cursor::{Cursor, Replay, Rooted, machine_of_step, root_of_step, run_input_root};
+use crate::cursor::{
+    Cursor, Replay, Rooted, cursor_of_step, machine_of_step, root_of_step, run_input_root,
+};
 use checkpoint_run::Run;
 use digest_core::Digester;
 use rd_base::{Digest32, Memory, Regs};
@@ -189,6 +191,37 @@ pub fn roots_by<D: Digester + Send + Sync, R: Threads + Sync>(
     let (busy, _) = workers.split_at_mut(pieces);
     replay_pieces(rt, alloc, replay, steps, size, busy);
     joined(alloc, busy)
+}
+
+/// The cursor of a step, made from that of the first worker, which is left without one.
+pub fn take_cursor<D: Digester + Send + Sync, R: Threads + Sync>(
+    rt: &R,
+    alloc: Global,
+    replay: &Replay<'_, D>,
+    step: u64,
+    workers: &mut Vec<Worker<D>>,
+) -> Result<Cursor<D>, Memory>
+    requires kept { All (λ w. IsKept D.digest_of replay.now.run.now w) workers.old.items }
+    ensures kept { All (λ w. IsKept D.digest_of replay.now.run.now w) workers.new.items }
+    ensures machine { IfOk result (λ c. IsMachineOf D.digest_of replay.now.run.now c.at c.machine) }
+    ensures tree { IfOk result (λ c. IsFresh D.digest_of c.tree c.machine.mem) }
+    ensures step { IfOk result (λ c. state_of_step replay.now.run.now c.at ≡ state_of_step replay.now.run.now (min step replay.now.run.now.bound)) }
+{
+    add_workers(replay, 1, workers)?;
+    let kept = workers[0].cursor.take();
+    cursor_of_step(rt, alloc, replay, kept, step)
+}
+
+/// Gives the first worker a cursor of the run, if there is one.
+pub fn keep_cursor<D: Digester>(_run: &Run, cursor: Cursor<D>, workers: &mut Vec<Worker<D>>)
+    requires machine { IsMachineOf D.digest_of _run.now cursor.at cursor.machine }
+    requires tree { IsFresh D.digest_of cursor.tree cursor.machine.mem }
+    requires kept { All (λ w. IsKept D.digest_of _run.now w) workers.old.items }
+    ensures kept { All (λ w. IsKept D.digest_of _run.now w) workers.new.items }
+{
+    if !workers.is_empty() {
+        workers[0].cursor = Some(cursor);
+    }
 }
 
 /// `roots`, from the root of the run's input, which `run_input_root` gives. So it is made once, however often roots are asked of a run, or
