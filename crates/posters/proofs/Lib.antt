@@ -1,5 +1,6 @@
 pub mod Answering
 pub mod Numbering
+pub mod Ended
 pub mod Seats
 pub mod Servers
 pub mod Swaps

@@ -1,14 +1,18 @@
--- Derived: how the provers of all tasks are numbered, what stays of a poster while it serves, and what a seat must be for it. The clauses
--- of `play_tasks` state the result.
-use Rattle.std.specs.Prelude.{◌≡◌, ℕ, ◌<◌, ◌≤◌, [], List, Option, Some, None, get_or, map, zero, suc, ◌+◌, ◌∷◌, ◌++◌}
+-- Derived: how the provers of all tasks are numbered, what stays of a poster while it serves, what a seat must be for it, and what a seat
+-- has seen when its poster leaves. The clauses of `play_tasks` state the result.
+use Rattle.std.specs.Prelude.{◌≡◌, ℕ, ◌<◌, ◌≤◌, true, [], List, Option, Some, None, get_or, slice_get, map, zero, suc, ◌+◌, ◌∷◌, ◌++◌}
 use Rattle.std.specs.List.{All}
 use Rattle.rd_base.specs.declared.answer.Answer.{Answer}
 use Rattle.bisect_game.specs.declared.settled.Question.{Question}
 use Rattle.bisect_game.specs.Says.{Says}
+use Rattle.bisect_game.specs.Ruling.{Ruling}
+use Rattle.tournament.specs.Bracket.{is_complete}
 use Rattle.seat_lock.specs.History.{LogEntry, log_of, Begins}
 use Rattle.seat_lock.specs.Seats.{LockId, Known}
 use Rattle.board_book.specs.declared.book.Opening.{Opening}
-use Rattle.board_book.specs.Tasks.{numbered, sayings}
+use Rattle.board_book.specs.declared.entry.Entry.{Entry}
+use Rattle.board_book.specs.Tasks.{Task, tasks_of, games_of, IsTaskJournal, numbered, sayings}
+use Rattle.dispute_board.specs.OneHistory.{log_of_journal, own_state}
 use Rattle.posters.specs.declared.playing.Place.{Place}
 
 -- the provers of all tasks are numbered from 0, through all tasks in order: this many provers of a task, from this one on
@@ -57,3 +61,20 @@ pub record MayServe {N M : Type 0} (says : M → Says) (board : LockId) (places 
   pub seat : IsSeatOf board heads k
   pub placed : places ≡ places_from 1 heads
   pub said_all : said ≡ map (said_by says heads) numbers
+
+-- a seat sees that the match of a task is over: what it has seen is the log of a legal journal, at which nothing is open in that match
+pub record SeesOver {N M : Type 0} (ruling : N → Ruling) (says : M → Says) (k : Known (List (Opening N M))) (t : ℕ) : Type 0 where
+  pub heads : List (Opening N M)
+  pub head_is : k.head ≡ Some heads
+  pub task : Task
+  pub there : numbered (tasks_of ruling says heads) t ≡ Some task
+  pub journal : List (ℕ × Entry)
+  pub legal : IsTaskJournal journal (games_of (tasks_of ruling says heads))
+  pub seen : log_of k.seen ≡ log_of_journal journal
+  pub over : is_complete (own_state task t journal).record_ ≡ true
+
+-- it sees that the match of the prover of this number is over, of all provers at these places
+pub record SeesOverOf {N M : Type 0} (ruling : N → Ruling) (says : M → Says) (places : List Place) (k : Known (List (Opening N M))) (number : ℕ) : Type 0 where
+  pub place : Place
+  pub placed : slice_get places number ≡ Some place
+  pub sees : SeesOver ruling says k place.task

@@ -2,18 +2,21 @@
 //!
 //! No run can sleep for good. Each sleep ends by itself after at most a tenth of a second, and the loop of each poster is bounded by the
 //! room for posts and by `MOST_IDLE_TURNS`. The board's lock isn't held while a poster answers, waits at its gate or sleeps. As long as a
-//! match isn't over it asks one of its provers (`Match::is_never_stuck`), and that prover's poster serves it. Posters wake each other for
-//! speed alone, so that a lost wake costs time.
+//! match isn't over it asks one of its provers (`Match::is_never_stuck`), and that prover's poster serves it: a poster leaves once its seat
+//! sees that the match of each of its provers is over (`serve_until_over`), and else makes the others end early with it. Posters wake each
+//! other for speed alone, so that a lost wake costs time.
 ghost use Rattle.std.specs.Prelude.{◌≡◌, ◌≢◌, ◌↔◌, ◌+◌, ◌<◌, ◌≤◌, ◌^◌, [], true, IsTrue, List, map, min, slice_get};
+ghost use Rattle.std.specs.List.{All};
 ghost use Rattle.std.specs.Thread.{IsSync};
+ghost use Rattle.seat_lock.specs.History.{log_of, Begins};
 ghost use Rattle.board_book.specs.declared.book.Opening.{Opening};
-ghost use Rattle.posters.specs.Serving.{kept_of, IsSeatOf, IsProver, MayServe};
+ghost use Rattle.posters.specs.Serving.{kept_of, IsSeatOf, IsProver, MayServe, SeesOver, SeesOverOf};
 
 use crate::playing::{Place, TaskGate};
 use crate::round_robin::ClassServer;
 use bisect_game::{Answerer, Judge, Provers};
-use board_book::{Ask, tasks_are_numbered};
-use dispute_board::{TaskBoard, TaskSeat, what_is_said_may_be_posted};
+use board_book::{Ask, entries_are_told_apart, tasks_are_alone, tasks_are_numbered};
+use dispute_board::{TaskBoard, TaskSeat, logs_tell_journals, what_is_said_may_be_posted};
 use std::sync::Wait;
 use std::sync::atomic::{AtomicU32, AtomicU64, Ordering};
 use std::thread::Threads;
@@ -165,7 +168,8 @@ impl<'g, J: Judge + Drop, P: Provers + Drop, G: TaskGate> Hall<'g, J, P, G> {
         is_too_long(quiet, self.begun.load(Ordering::SeqCst), self.posters)
     }
 
-    /// One turn for a prover: it is asked, and what it answers is posted. The answer is made between the two turns at the board.
+    /// One turn for a prover: it is asked, and what it answers is posted. The answer is made between the two turns at the board. The result
+    /// is `Over` only if the seat sees that the prover's match is over.
     fn serve_prover<A: Answerer, R: Threads + Wait + Sync>(
         &self,
         rt: &R,
@@ -176,7 +180,9 @@ impl<'g, J: Judge + Drop, P: Provers + Drop, G: TaskGate> Hall<'g, J, P, G> {
         requires sync { IsSync R.row }
         requires seat { (heads : List (Opening J.Names P.Names)) × IsSeatOf self.now.board heads seat.old × IsProver P.says heads place (A.answers answerer.old) }
         ensures seat { kept_of seat.new ≡ kept_of seat.old }
+        ensures seen { Begins (log_of seat.old.seen) (log_of seat.new.seen) }
         ensures answerer { A.answers answerer.new ≡ A.answers answerer.old }
+        ensures over { result ≡ Turn.Over → SeesOver J.ruling P.says seat.new place.task }
     {
         let Place { task, prover } = place;
         tasks_are_numbered::<J, P>();
@@ -199,8 +205,8 @@ impl<'g, J: Judge + Drop, P: Provers + Drop, G: TaskGate> Hall<'g, J, P, G> {
         }
     }
 
-    /// A turn for each prover of these numbers. It is over if each prover's match is, as it is without provers, and idle if none had
-    /// anything to do.
+    /// A turn for each prover of these numbers. The result is `Over` only if the seat sees that each prover's match is over; without provers
+    /// it is. It is `Idle` if none had anything to do.
     fn serve_each<A: Answerer, R: Threads + Wait + Sync>(
         &self,
         rt: &R,
@@ -212,11 +218,15 @@ impl<'g, J: Judge + Drop, P: Provers + Drop, G: TaskGate> Hall<'g, J, P, G> {
         requires seat { MayServe P.says self.now.board self.now.places.items seat.old numbers.now (map A.answers answerers.old) }
         ensures seat { kept_of seat.new ≡ kept_of seat.old }
         ensures answerers { map A.answers answerers.new ≡ map A.answers answerers.old }
+        ensures over { result ≡ Turn.Over → All (SeesOverOf J.ruling P.says self.now.places.items seat.new) numbers.now }
         ensures none { numbers.now ≡ [] → result ≡ Turn.Over }
     {
         if numbers.is_empty() {
             return Turn::Over;
         }
+        tasks_are_alone();
+        entries_are_told_apart();
+        logs_tell_journals();
         let mut over = 0;
         let mut has_posted = false;
         let mut i = 0;
@@ -243,7 +253,8 @@ impl<'g, J: Judge + Drop, P: Provers + Drop, G: TaskGate> Hall<'g, J, P, G> {
         }
     }
 
-    /// Serves the provers of these numbers until one has posted or all their matches are over. It sleeps after each idle turn.
+    /// Serves the provers of these numbers until one has posted or all their matches are over. It sleeps after each idle turn. The result is
+    /// `Over` only if the seat sees that each prover's match is over.
     fn serve_until_post<A: Answerer, R: Threads + Wait + Sync>(
         &self,
         rt: &R,
@@ -255,6 +266,7 @@ impl<'g, J: Judge + Drop, P: Provers + Drop, G: TaskGate> Hall<'g, J, P, G> {
         requires seat { MayServe P.says self.now.board self.now.places.items seat.old numbers.now (map A.answers answerers.old) }
         ensures seat { kept_of seat.new ≡ kept_of seat.old }
         ensures answerers { map A.answers answerers.new ≡ map A.answers answerers.old }
+        ensures over { result ≡ Turn.Over → All (SeesOverOf J.ruling P.says self.now.places.items seat.new) numbers.now }
     {
         let mut quiet = 0;
         for _ in 0..MOST_IDLE_TURNS {
@@ -271,8 +283,9 @@ impl<'g, J: Judge + Drop, P: Provers + Drop, G: TaskGate> Hall<'g, J, P, G> {
         Turn::EndsEarly
     }
 
-    /// Serves the provers of these numbers until the matches of all are over. The result is whether they are. There are at most as many
-    /// posts as the matches have room for, and at most `MOST_IDLE_TURNS` before each, so this ends whatever the other posters do.
+    /// Serves the provers of these numbers until the matches of all are over. The result is whether the seat sees that they are. There are at
+    /// most as many posts as the matches have room for, and at most `MOST_IDLE_TURNS` before each, so this ends whatever the other posters
+    /// do.
     fn serve_until_over<A: Answerer, R: Threads + Wait + Sync>(
         &self,
         rt: &R,
@@ -284,6 +297,7 @@ impl<'g, J: Judge + Drop, P: Provers + Drop, G: TaskGate> Hall<'g, J, P, G> {
         requires seat { MayServe P.says self.now.board self.now.places.items seat.old numbers.now (map A.answers answerers.old) }
         ensures seat { kept_of seat.new ≡ kept_of seat.old }
         ensures answerers { map A.answers answerers.new ≡ map A.answers answerers.old }
+        ensures over { IsTrue result → All (SeesOverOf J.ruling P.says self.now.places.items seat.new) numbers.now }
     {
         for _ in 0..self.most_posts.saturating_add(1) {
             match self.serve_until_post(rt, seat, numbers, answerers) {

@@ -1,8 +1,11 @@
-use Rattle.std.proofs.Common.{rules, ℕ, List, slice_index_or, map, sym, ap, ◌∙◌}
+use Rattle.std.proofs.Common.{rules, ℕ, ◌+◌, ◌<◌, List, get_or, slice_index_or, map, sym, ap, ◌∙◌, subst, arith}
 use Rattle.std.specs.Prelude.{slice_get}
 use Rattle.posters.specs.declared.playing.Place.{Place}
-use Rattle.posters.specs.Serving.{kept_of, said_by}
+use Rattle.seat_lock.specs.Seats.{Known}
+use Rattle.board_book.specs.declared.book.Opening.{Opening}
+use Rattle.posters.specs.Serving.{kept_of, said_by, SeesOverOf}
 use Rattle.posters.proofs.Answering.{said_at, said_again}
+use Rattle.posters.proofs.Ended.{one_more_over}
 use Rattle.posters.proofs.Numbering.{prover_at}
 use Rattle.posters.proofs.Seats.{seat_again}
 use Rattle.posters.proofs.serving.Hall.serve_each.Goals as goal
@@ -30,18 +33,25 @@ loop-i-preserved g c = let v = c.loop-i.invariant in let answers = g.A.Answerer.
         ap (map answers) w.answerers-is ∙ said_again answers c.loop-i.answerers c.loop-i.i w.serve_prover.new.answerer w.index-answerers-i.result w.serve_prover.ensures.answerer ∙ v.1,
         search rules,
         search rules,
+        λ all.
+            let now = w.serve_prover.ensures in
+            subst (λ (k : Known (List (Opening g.row.J-Names.Denot g.row.P-Names.Denot))). (j d : ℕ) → j < c.loop-i.i + 1 → SeesOverOf g.J.Judge.ruling g.P.Provers.says c.args.self.now.places.items k (get_or c.args.numbers.now j d)) (sym w.seat-is)
+            (one_more_over g.J.Judge.ruling g.P.Provers.says c.tasks_are_alone.ensures.alone c.entries_are_told_apart.ensures c.logs_tell_journals.ensures.start c.args.self.now.places.items c.loop-i.seat w.serve_prover.new.seat c.args.numbers.now c.loop-i.i w.in-Some.place c.loop-i-test.true
+            (ap (λ (k : Known (List (Opening g.row.J-Names.Denot g.row.P-Names.Denot))). k.head) now.seat) now.seen (sym c.place_at.ensures ∙ w.in-Some.is) (now.over w.in-Over.is) (v.4 (omega (arith, all, w.over-is)))),
       )
       | in-Some+in-Posted w ↦ (
         ap kept_of w.seat-is ∙ w.serve_prover.ensures.seat ∙ v.0,
         ap (map answers) w.answerers-is ∙ said_again answers c.loop-i.answerers c.loop-i.i w.serve_prover.new.answerer w.index-answerers-i.result w.serve_prover.ensures.answerer ∙ v.1,
         search rules,
         search rules,
+        λ all. absurd (let few = v.3 in omega (arith, all, w.over-is, few)),
       )
       | in-Some+in-Idle w ↦ (
         ap kept_of w.seat-is ∙ w.serve_prover.ensures.seat ∙ v.0,
         ap (map answers) w.answerers-is ∙ said_again answers c.loop-i.answerers c.loop-i.i w.serve_prover.new.answerer w.index-answerers-i.result w.serve_prover.ensures.answerer ∙ v.1,
         search rules,
         search rules,
+        λ all. absurd (let few = v.3 in omega (arith, all, w.over-is, few)),
       )
-      | in_default w ↦ (ap kept_of w.seat-is ∙ v.0, ap (map answers) w.answerers-is ∙ v.1, search rules, search rules)
+      | in_default w ↦ (ap kept_of w.seat-is ∙ v.0, ap (map answers) w.answerers-is ∙ v.1, search rules, search rules, λ all. absurd (let few = v.3 in omega (arith, all, w.over-is, few)))
     ]

@@ -34,3 +34,7 @@ post-posted-requires-clause-may g c = λ heads e.
     (may_post_for g.J.Judge.ruling g.P.Provers.says c.tasks_are_numbered.ensures c.what_is_said_may_be_posted.ensures r.0 c.args.place (g.A.Answerer.answers c.args.answerer.now) question passes (answer_of c.move_of.result) r.2 a.2.task
     (subst (λ (hs : List (Opening g.row.J-Names.Denot g.row.P-Names.Denot)). Rattle.board_book.specs.Tasks.numbered (tasks_of g.J.Judge.ruling g.P.Provers.says hs) c.args.place.task ≡ Some a.2.task) (sym first) a.2.there)
     (a.2.asked question passes c.in-Question.is) m)
+
+-- with nothing to do the turn is idle
+pub returns-in-Nothing-clause-over : goal.returns-in-Nothing-clause-over
+returns-in-Nothing-clause-over g c = λ over. absurd (cc over)
