@@ -42,7 +42,7 @@ impl Replays for Counting<'_, Sha256> {
         self,
         rt: &R,
         alloc: Global,
-        run: &KeptRun<Self>,
+        run: &mut KeptRun<Self>,
         step: u64,
     ) -> Result<Committed<Self>, Memory> {
         run.committed(rt, alloc, step)

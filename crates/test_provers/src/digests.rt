@@ -152,14 +152,15 @@ fn kept_run<'a>(
     Ok(Box::new(alloc, with_input(alloc, counted, &machine, run, input))?)
 }
 
-/// How many digests the committed machine of the bound takes less if it shares the tree of the input with its run.
-fn saved_at_bound<R: Threads + Sync>(
+/// How many digests the committed machine of the bound takes without what is kept of a run, and from a kept run that shares the tree of the
+/// input and has made nothing so far.
+fn made_at_bound<R: Threads + Sync>(
     rt: &R,
     alloc: Global,
     program: &Program,
     run: &Run,
     words: &[&str],
-) -> Result<u64, Unanswered>
+) -> Result<(u64, u64), Unanswered>
     requires { AreChained sha256 run.now }
 {
     let made = AtomicU64::new(0);
@@ -169,14 +170,14 @@ fn saved_at_bound<R: Threads + Sync>(
     };
     drop(committed_at(rt, alloc, counted, run, run.bound())?);
     let without = made.load(Ordering::SeqCst);
-    let kept = kept_run(alloc, counted, program, words)?;
+    let mut kept = kept_run(alloc, counted, program, words)?;
     made.store(0, Ordering::SeqCst);
     drop(kept.committed(rt, alloc, run.bound())?);
-    Ok(without.wrapping_sub(made.load(Ordering::SeqCst)))
+    Ok((without, made.load(Ordering::SeqCst)))
 }
 
-/// `input_tree BOUND EVERY untouched`: how many digests the root of the first state, and the committed machine of the bound, take less if
-/// the tree of the input is given.
+/// `input_tree BOUND EVERY untouched`: how many digests the root of the first state takes less if the tree of the input is given; and how
+/// many the committed machine of the bound takes less, or more, from a kept run.
 pub fn input_tree<R: Threads + Sync>(
     rt: &R,
     alloc: Global,
@@ -187,8 +188,11 @@ pub fn input_tree<R: Threads + Sync>(
     requires { AreChained sha256 run.now }
 {
     let root = saved_at_start(alloc, program)?;
-    let machine = saved_at_bound(rt, alloc, program, run, words)?;
-    Ok(format!(in alloc; "{root}, {machine}")?)
+    let (without, with) = made_at_bound(rt, alloc, program, run, words)?;
+    if without < with {
+        return Ok(format!(in alloc; "{root}, {} more", with - without)?);
+    }
+    Ok(format!(in alloc; "{root}, {} less", without - with)?)
 }
 
 /// The root of a step of a kept run. An `Err` is out of memory.
