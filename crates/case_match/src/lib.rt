@@ -27,5 +27,6 @@ pub use laws::{
 };
 pub use opening::{LoadedCase, ended_one, ended_tasks, loaded_cases};
 pub use options::Options;
+pub use posters::{OpenGate, TaskGate};
 pub use referee::Ended;
 pub use verdict::{verdict_of_case, verdict_of_tasks};

@@ -16,6 +16,7 @@ use crate::referee::{Ended, decide};
 use bisect_game::{Answerer, Provers};
 use board_book::{Book, answerers_say_in_order};
 use case_reader::Case;
+use posters::{OpenGate, TaskGate};
 use prover_run::{CaseProvers, Plan, RunAnswerer, Start, answerers_with_input};
 use prover_script::Scripted;
 use rd_base::Memory;
@@ -156,13 +157,15 @@ fn open_matches<D: Replays>(
 
 /// The results of the matches of 1 to 8 loaded cases, in their order, played by commitments of the digester `d`. Posters go over the
 /// provers of all cases. Each case ends as it ends alone, whatever the others' provers do. Each machine has no output, and its chain is
-/// that of no output by `d`; each option is at least 1, and none changes the answer.
-pub fn ended_tasks<R: Threads + Wait + Sync, D: Replays>(
+/// that of no output by `d`; each option is at least 1, and none changes the answer. As the code shows, the gate comes before each post: a
+/// program hands `OpenGate` over, and a test may wait there.
+pub fn ended_tasks<R: Threads + Wait + Sync, D: Replays, G: TaskGate + Sync>(
     rt: &R,
     alloc: Global,
     d: D,
     loads: Vec<LoadedCase>,
     options: Options,
+    gate: &G,
 ) -> Result<Vec<Ended>, Memory>
 where
     D: Send + Sync,
@@ -176,7 +179,14 @@ where
         books,
         mut answerers,
     } = open_matches(alloc, d, loads, options)?;
-    decide(rt, alloc, books, answerers.as_mut_slice(), options.posters)
+    decide(
+        rt,
+        alloc,
+        books,
+        answerers.as_mut_slice(),
+        options.posters,
+        gate,
+    )
 }
 
 /// The result of the match of one loaded case, as of one task. The record may be paid. The machine and the options are as for
@@ -198,6 +208,6 @@ where
     records_of_cases_are_settled_up();
     let mut loads = Vec::with_capacity(alloc, 1)?;
     loads.push(loaded)?;
-    let mut ends = ended_tasks(rt, alloc, d, loads, options)?;
+    let mut ends = ended_tasks(rt, alloc, d, loads, options, &OpenGate)?;
     Ok(ends.pop().unwrap())
 }

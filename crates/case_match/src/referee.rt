@@ -8,7 +8,7 @@ ghost use Rattle.case_match.specs.Openings.{ended_alone};
 
 use bisect_game::{Answerer, Judge, Provers, Setup};
 use board_book::{Book, Books};
-use posters::{OpenGate, play_tasks};
+use posters::{TaskGate, play_tasks};
 use rd_base::Memory;
 use std::alloc::Global;
 use std::sync::Wait;
@@ -57,18 +57,20 @@ fn endings<J: Judge + Drop, P: Provers + Drop>(
 
 /// Plays the matches of 1 to 8 books out, with this many posters over all of them, and decides them. The result has that of each, in their
 /// order. Their answerers are numbered through all books, and answer as their provers say. Each match ends as it ends alone, however many
-/// posters there are and whatever the others do.
+/// posters there are and whatever the others do. As the code shows, the gate comes before each post.
 pub fn decide<
     R: Threads + Wait + Sync,
     J: Judge + Drop + Send,
     P: Provers + Drop + Send,
     A: Answerer + Send,
+    G: TaskGate + Sync,
 >(
     rt: &R,
     alloc: Global,
     books: Vec<Book<J, P>>,
     answerers: &mut [A],
     posters: u32,
+    gate: &G,
 ) -> Result<Vec<Ended>, Memory>
 where
     J::Names: Send,
@@ -81,6 +83,6 @@ where
     ensures { IfOk result (λ ends. ends.items ≡ map (ended_alone J.ruling P.says) (openings books.items)) }
 {
     let books = Books::open(alloc, books)?;
-    let played = play_tasks(rt, alloc, books, answerers, posters, &OpenGate)?;
+    let played = play_tasks(rt, alloc, books, answerers, posters, gate)?;
     endings(alloc, played.into_list())
 }

@@ -12,6 +12,7 @@ use crate::opening::{LoadedCase, ended_one, ended_tasks, loaded_cases};
 use crate::options::Options;
 use crate::referee::Ended;
 use case_reader::Case;
+use posters::OpenGate;
 use rd_base::Memory;
 use rv_step::Machine;
 use segment_replay::Replays;
@@ -87,6 +88,6 @@ where
 {
     records_of_cases_are_settled_up();
     let loads = loaded_cases(alloc, cases, starts)?;
-    let ends = ended_tasks(rt, alloc, d, loads, options)?;
+    let ends = ended_tasks(rt, alloc, d, loads, options, &OpenGate)?;
     endings(alloc, ends)
 }

@@ -87,3 +87,15 @@ impl TaskGate for Watch {
         self.note(t, qid.round);
     }
 }
+
+/// A gate of one task, whose provers are the parties.
+#[derive(Drop)]
+pub(crate) struct OfOneTask<'w> {
+    pub watch: &'w Watch,
+}
+
+impl<'w> TaskGate for OfOneTask<'w> {
+    fn before_post(&self, _t: u32, p: u32, qid: Qid) {
+        self.watch.note(p, qid.round);
+    }
+}

@@ -1,12 +1,15 @@
 //! Posters of the product's own provers, each of which answers by a run of the machine.
-ghost use Rattle.std.specs.Prelude.{◌≡◌, ℕ, [], List, IfOk, length};
+ghost use Rattle.std.specs.Prelude.{◌≡◌, ℕ, [], List, All, IfOk, length};
 ghost use Rattle.bisect_game.specs.Says.{AnswerAs};
 ghost use Rattle.rv_step.specs.State.{IsChained};
+ghost use Rattle.case_match.specs.Openings.{IsFresh};
 
-use crate::gates::Watch;
+use crate::gates::{OfOneTask, Watch};
 use crate::in_short::{Short, in_short};
 use bisect_game::{Answerer, Provers};
 use board_book::Book;
+use case_match::{LoadedCase, Options, ended_tasks};
+use case_reader::{Case, read_case};
 use digest_core::Sha256;
 use mem_plain::PlainMem;
 use posters::play;
@@ -21,6 +24,7 @@ use std::sync::Wait;
 use std::test::Fail;
 use std::thread::Threads;
 use step_referee::MachineJudge;
+use tournament::Verdict;
 use toy_game::in_short::Ended;
 
 /// The program addi a0, zero, 42; addi a7, zero, 1; ecall; addi a0, zero, 0; addi a7, zero, 93; ecall: it writes the byte 42 and exits.
@@ -108,5 +112,61 @@ fn posters_of_runs_side_by_side(rt: HostRuntime) -> Result<(), Fail> {
     let dispute = Some((1, 1, 1, 2, 3, false, true));
     let wanted = (10, Ended::Accepted(1), [dispute, None, None]);
     assert!(rt; short == wanted && watch.met() == 10);
+    Ok(())
+}
+
+/// The case of the same match.
+const CASE: &[u8] =
+    b"{\"format\":\"flat\",\"image\":\"1305a0029308100073000000130500009308d00573000000\",\"input\":\"\",\"bound\":8,\"patience\":0,\"provers\":[{},{\"tamper\":{\"kind\":\"reg\",\"step\":2,\"reg\":10,\"value\":43}}]}";
+
+/// That case, which has no fault.
+fn read(alloc: Global) -> Result<Case, Memory> {
+    match read_case(alloc, CASE) {
+        Ok(case) => Ok(case),
+        Err(_) => Err(Memory),
+    }
+}
+
+/// A case of the program, loaded.
+fn loaded(alloc: Global, case: &Case) -> Result<Vec<LoadedCase>, Memory>
+    ensures one { IfOk result (λ loads. length loads.items ≡ 1) }
+    ensures fresh { IfOk result (λ loads. (digest : List ℕ → List ℕ) → All (λ l. IsFresh digest l.start) loads.items) }
+{
+    let start = started(alloc)?;
+    let mut loads = Vec::new(alloc);
+    loads.push(LoadedCase { case, start })?;
+    Ok(loads)
+}
+
+/// The prover that is accepted, if one is, in the match of that case, which two posters play with this gate.
+fn accepted_prover<R: Threads + Wait + Sync>(
+    rt: &R,
+    alloc: Global,
+    gate: &OfOneTask,
+) -> Result<Option<u32>, Memory> {
+    let case = read(alloc)?;
+    let loads = loaded(alloc, &case)?;
+    let options = Options {
+        workers: 1,
+        posters: 2,
+        every: 4,
+    };
+    let ends = ended_tasks(rt, alloc, Sha256, loads, options, gate)?;
+    match ends.first() {
+        Some(end) => match end.verdict {
+            Verdict::Accept(p) => Ok(Some(p)),
+            _ => Ok(None),
+        },
+        None => Ok(None),
+    }
+}
+
+/// The posters of loaded cases are as many as the options say: of two, one waits before each post until the other one is about to post on
+/// the same question.
+#[test]
+fn as_many_posters_as_the_options_say(rt: HostRuntime) -> Result<(), Fail> {
+    let watch = Watch::new(true);
+    let accepted = accepted_prover(&rt, rt.alloc(), &OfOneTask { watch: &watch })?;
+    assert!(rt; accepted == Some(1) && watch.met() == 10);
     Ok(())
 }

@@ -21,7 +21,7 @@ ghost use Rattle.delegate.specs.commands.Judge.{judging, response_to_tasks, judg
 use crate::loading::{start_in, starts_in, tasks_in};
 use crate::response::{Answered, Response, Stop, Subject};
 use case_match::{
-    Ended, LoadedCase, Options, ended_one, ended_tasks, loaded_cases,
+    Ended, LoadedCase, OpenGate, Options, ended_one, ended_tasks, loaded_cases,
     records_of_cases_are_settled_up,
 };
 use case_reader::{Case, Tasks};
@@ -173,8 +173,8 @@ fn ended_by<R: Threads + Wait + Sync>(
     ensures { IfOk result (λ ends. ends.items ≡ map (ended_of (digest_of name)) loads.entry.items) }
 {
     match name {
-        DigestName::Sha256 => ended_tasks(rt, alloc, Sha256, loads, options),
-        DigestName::Weak8 => ended_tasks(rt, alloc, Weak8, loads, options),
+        DigestName::Sha256 => ended_tasks(rt, alloc, Sha256, loads, options, &OpenGate),
+        DigestName::Weak8 => ended_tasks(rt, alloc, Weak8, loads, options, &OpenGate),
     }
 }
 
