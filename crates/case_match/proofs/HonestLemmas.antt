@@ -28,6 +28,7 @@ use Rattle.step_referee.specs.MachineTruth.{machine_truth}
 use Rattle.plain_answers.specs.Plain.{plain, plain_root, plain_says}
 use Rattle.prover_run.specs.CaseScripts.{script_says, case_says}
 use Rattle.case_match.specs.Match.{rules_of_case, says_of_case, truth_of_case}
+use Rattle.case_match.specs.PlainTruth.{PlainAnswersAreTrue}
 use Rattle.case_match.specs.HonestScripts.{untampered, IsHonest, UntouchedProversAreTruthful, TrueTapesAreTruthful}
 use Rattle.prover_script.specs.Manners.{asks_roots, written}
 use Rattle.bisect_game.specs.Truth.{Truth}
@@ -150,6 +151,10 @@ sequential digest start bound = record {
   claim = refl;
 }
 
+-- so the plain answers of a case's own run are true
+pub plain-of-case : (digest : List ℕ → List ℕ) → CutsDivide → PlainAnswersAreTrue digest
+plain-of-case digest divide c start k within = plain-true digest divide (state_at start) c.bound (truth_of_case digest c start) k (sequential digest start c.bound) within
+
 -- a step whose proof is asked within the bound is below the bound
 proof-below : (bound step : ℕ) (k : Kind) → IsWithinBound bound k → k ≡ kind.Proof step → step < bound
 proof-below bound step kind.Claim within is = absurd (cc)
@@ -246,7 +251,7 @@ untouched-are-truthful digest laws divide within c start p manner range some is 
       within (rules_of_case digest c start) (answers_of (rules_of_case digest c start) (says_of_case digest c start)) p q.qid q.kind
       (record { some = range.some; parted = range.parted; few_parts = range.few_parts; steps = range.steps }) asked_ in
       answers-by digest laws c start p manner q is honest below
-      (plain-true digest divide (state_at start) c.bound (truth_of_case digest c start) q.kind (sequential digest start c.bound) below);
+      (plain-of-case digest divide c start q.kind below);
 }
 
 -- what is written down, and true

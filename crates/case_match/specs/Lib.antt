@@ -7,6 +7,7 @@ pub mod Ended
 pub mod Openings
 pub mod TruthfulInCase
 pub mod HonestScripts
+pub mod PlainTruth
 pub mod Earnings
 pub mod RefutedTampers
 pub mod PartingRuns

@@ -4,6 +4,7 @@ ghost use Rattle.case_match.specs.TruthfulInCase.{TruthfulProversOfCasesAreSafe}
 ghost use Rattle.case_match.specs.Match.{RecordsOfCasesAreSettledUp};
 ghost use Rattle.case_match.specs.Ended.{RecordsOfCasesHaveEnded};
 ghost use Rattle.case_match.specs.HonestScripts.{UntouchedProversAreTruthful, TrueTapesAreTruthful};
+ghost use Rattle.case_match.specs.PlainTruth.{PlainAnswersAreTrue};
 ghost use Rattle.case_match.specs.Earnings.{WhoLivesInACaseWinsAll};
 ghost use Rattle.case_match.specs.RefutedTampers.{TampersAreRefuted, TampersOfCasesAreInRange, ReadTampersAreRefuted};
 ghost use Rattle.case_match.specs.PartingRuns.{DisputesOfCasesEndWhereRunsPart};
@@ -125,4 +126,11 @@ pub fn untouched_provers_are_truthful()
     harmless_manners();
     cuts_divide();
     questions_are_within_the_bound();
+}
+
+/// The plain answer of a case's sequential run, by any digest function, to what is asked within the case's bound is the true one.
+pub fn plain_answers_within_the_bound_are_true()
+    ensures { (digest : List ℕ → List ℕ) → PlainAnswersAreTrue digest }
+{
+    cuts_divide();
 }

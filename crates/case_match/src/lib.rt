@@ -20,10 +20,10 @@ mod referee;
 mod verdict;
 
 pub use laws::{
-    records_of_cases_are_settled_up, records_of_cases_have_ended, tampers_are_refuted,
-    tampers_of_cases_are_in_range, tampers_of_cases_are_refuted,
-    truthful_provers_of_cases_are_safe, untouched_provers_are_truthful,
-    who_lives_in_a_case_wins_all,
+    plain_answers_within_the_bound_are_true, records_of_cases_are_settled_up,
+    records_of_cases_have_ended, tampers_are_refuted, tampers_of_cases_are_in_range,
+    tampers_of_cases_are_refuted, truthful_provers_of_cases_are_safe,
+    untouched_provers_are_truthful, who_lives_in_a_case_wins_all,
 };
 pub use opening::{LoadedCase, ended_one, ended_tasks, loaded_cases};
 pub use options::Options;

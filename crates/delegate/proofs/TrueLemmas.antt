@@ -1,14 +1,10 @@
--- The plain answer to what a match may ask is the true one.
-use Rattle.std.proofs.Common.{◌≡◌, ℕ, ◌-◌, ◌<◌, ◌≤◌, List, Bool, true, false, ◌&&◌, nat_lt, nat_le, min, refl, sym, ap, ◌∙◌, arith}
+-- What a match may ask is within its bound, so that the plain answer to it is the true one.
+use Rattle.std.proofs.Common.{◌≡◌, ℕ, ◌-◌, ◌<◌, ◌≤◌, Bool, true, false, ◌&&◌, nat_lt, nat_le, refl, arith}
 use Rattle.std.proofs.lemmas.Bool.Decides.{nat_tests}
-use Rattle.rv_step.specs.State.{State}
-use Rattle.rv_step.specs.Step.{state_at}
 use Rattle.bisect_game.specs.Bisection.{can_cut}
 use Rattle.bisect_game.specs.declared.settled.Kind.{Kind}
 use Rattle.bisect_game.specs.declared.settled.Kind.TheVariants as kind
 use Rattle.tournament.specs.Asked.{IsCut, IsWithinBound}
-use Rattle.step_referee.specs.MachineTruth.{machine_truth}
-use Rattle.case_match.proofs.HonestLemmas.{IsPlainRun}
 use Rattle.delegate.specs.OfCase.{may_ask}
 
 both : (a b : Bool) → (a && b) ≡ true → (a ≡ true) × (b ≡ true)
@@ -32,11 +28,3 @@ is-within bound (kind.Roots lo hi parts) may =
     let parted = at-most 2 parts cut.0 in
     record { parted = omega (arith, parted); few_parts = at-most parts 16 few.0; long = at-most parts (hi - lo) few.1; high = at-most hi bound is.1 }
 is-within bound (kind.Proof i) may = below i bound may
-
--- the sequential run as the game sees it
-pub of-sequential-run : (digest : List ℕ → List ℕ) (start : State) (bound : ℕ) → IsPlainRun digest (state_at start) bound (machine_truth digest start bound)
-of-sequential-run digest start bound = record {
-  root = λ i some low. let e : min i bound ≡ i = omega (arith, low) in ap (machine_truth digest start bound).root e;
-  proof = λ i low. let e : min i bound ≡ i = omega (arith, low) in ap (machine_truth digest start bound).proof e;
-  claim = refl;
-}

@@ -20,7 +20,8 @@ use crate::faults;
 use crate::loading::{case_in, start_in};
 use crate::program::MAX_CASE_BYTES;
 use crate::response::{Answered, Response, Stop, Subject, either_way};
-use bisect_game::{Kind, cuts_divide};
+use bisect_game::Kind;
+use case_match::plain_answers_within_the_bound_are_true;
 use case_reader::Case;
 use checkpoint_run::tampered_runs;
 use digest_core::Sha256;
@@ -195,5 +196,5 @@ pub fn plain_answers_are_true()
     ensures { (digest : List ℕ → List ℕ) (c : CaseData) (start : State) (k : Asked) → may_ask c.bound k ≡ true →
         IsTrueAnswer (truth_of_case digest c start) k (plain_answers.plain digest (state_at start) c.bound k) }
 {
-    cuts_divide();
+    plain_answers_within_the_bound_are_true();
 }
