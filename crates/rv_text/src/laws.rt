@@ -65,10 +65,10 @@ pub fn least_fault_counts()
 {}
 
 /// A text has a fault if and only if a line has one: the first such line counts, first before places are known and then by the places of
-/// names (`fault`). If it has words, no line has a fault, and each word is that of a statement, in their order: names stand for the
-/// distances from the place of the word, four bytes for each word before it (`words`).
+/// names (`fault`). It has these words if and only if no line has a fault, and each word is that of a statement, in their order: names stand
+/// for the distances from the place of the word, four bytes for each word before it (`words`).
 pub fn texts_have_words_or_a_fault()
-    ensures words { (text words : List ℕ) → assembled text ≡ Ok words → IsAssembled (source_lines text) words }
+    ensures words { (text words : List ℕ) → (assembled text ≡ Ok words) ↔ IsAssembled (source_lines text) words }
     ensures fault { (text : List ℕ) (f : AsmFault) → (assembled text ≡ Err f) ↔ IsFaultOf (source_lines text) f }
 {
     one_reading();

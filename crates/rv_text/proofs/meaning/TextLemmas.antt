@@ -1,6 +1,7 @@
 -- Both passes by the lines of a text: the first fault, and the word of each statement.
-use Rattle.std.proofs.Common.{◌≡◌, ℕ, zero, suc, ◌+◌, ◌*◌, ◌<◌, ◌≤◌, Bool, true, false, List, [], ◌∷◌, length, slice_index, refl, ap, ◌∙◌, sym, subst, arith, Option, Some, None, Result, Ok, Err, ◌⊎◌, inl, inr, ⊎_elim}
+use Rattle.std.proofs.Common.{◌≡◌, ℕ, zero, suc, ◌+◌, ◌*◌, ◌<◌, ◌≤◌, Bool, true, false, List, [], ◌∷◌, length, get_or, slice_index, refl, ap, ◌∙◌, sym, subst, arith, Option, Some, None, Result, Ok, Err, ◌⊎◌, inl, inr, ⊎_elim}
 use Rattle.std.proofs.lemmas.Bool.{true≢false, false≢true, cases_eq, cases_lt}
+use Rattle.std.proofs.lemmas.List.{ext_get_or}
 use Rattle.std.specs.Prelude.{◌↔◌, if◌then◌else◌, not, is_some}
 use Rattle.rd_base.specs.Results.{◌>>=◌, map_fault}
 use Rattle.rv_text.specs.Characters.{is_empty, source_lines}
@@ -9,14 +10,15 @@ use Rattle.rv_text.specs.Operands.{Distances}
 use Rattle.rv_text.specs.Lines.{code_in, statement_in, word_of_statement, word_in}
 use Rattle.rv_text.specs.Assembly.{Names, no_names, near, distances_from, with_label, with_name, place_after, Pass, pass, after_line, first_pass, also, word_of_line, second_pass, assembled}
 use Rattle.rv_text.specs.Labels.{has_statement, word_count}
+use Rattle.rv_text.specs.Meaning.{StandsForWord}
 use Rattle.rv_text.specs.Causes.{HasFault, IsLeast}
-use Rattle.rv_text.specs.LineFaults.{line_at, label_at, statement_at, words_before, IsLabelledBefore, IsDefinedTwice, HasLineFault, distances_at, HasLaterFault, AreFaultless, IsFirstFault, ArePlaces, IsAssembled, IsFaultOf, at_first, later}
+use Rattle.rv_text.specs.LineFaults.{line_at, label_at, statement_at, words_before, IsLabelledBefore, IsDefinedTwice, HasLineFault, distances_at, HasLaterFault, AreFaultless, IsFirstFault, AreWordsOf, ArePlaces, IsAssembled, IsFaultOf, at_first, later}
 use Rattle.rv_text.specs.declared.fault.FaultKind.{FaultKind}
 use Rattle.rv_text.specs.declared.fault.FaultKind.TheVariants.{OtherForm, UnknownMnemonic, NoRegister, OutOfRange, Undefined, DefinedTwice}
 use Rattle.rv_text.specs.declared.fault.AsmFault.{AsmFault}
 use Rattle.rv_text.proofs.meaning.CauseLemmas.{Judged, same-judged, then-judged, same-kind, statement-judged, none-of_six}
 use Rattle.rv_text.proofs.meaning.LabelLemmas.{then-ok, mapped-ok, same-ok, Passed, line-passed, name-kept, name-given, name-from, word-place, places}
-use Rattle.rv_text.proofs.meaning.MeaningLemmas.{EachHasWord, said}
+use Rattle.rv_text.proofs.meaning.MeaningLemmas.{EachHasWord, said, statement-stands}
 
 -- ---- a line of the first pass
 -- the fault of a label alone
@@ -313,7 +315,7 @@ first-by {A} has_fault lines r f e scanned =
     let found = subst (Scanned {A = A} has_fault 0 (length lines)) e scanned in
     record { index = found.index; is_line = found.below; is_number = found.is_number; is_fault = found.is_fault; is_first = λ i before k h. found.is_first i (omega arith) before k h }
 
-pub text-words : EachHasWord → (text ws : List ℕ) → assembled text ≡ Ok ws → IsAssembled (source_lines text) ws
+text-words : EachHasWord → (text ws : List ℕ) → assembled text ≡ Ok ws → IsAssembled (source_lines text) ws
 unfolding assembled
 text-words law text ws e =
     let lines = source_lines text in
@@ -396,3 +398,57 @@ faults text f fault_is = by (first_pass 1 (pass no_names 0) (source_lines text))
 
 pub text-fault : (text : List ℕ) (f : AsmFault) → (assembled text ≡ Err f) ↔ IsFaultOf (source_lines text) f
 text-fault text f = (fails text f, faults text f)
+
+-- ---- the words of a text are one list
+
+-- the line of a word: its statement is behind as many words as the word's number says
+record IsLineOf (ls : List (List ℕ)) (j : ℕ) : Type 0 where
+  index : ℕ
+  is_line : index < length ls
+  has : has_statement (line_at ls index) ≡ true
+  behind : words_before ls index ≡ j
+
+line-of : (ls : List (List ℕ)) (j : ℕ) → j < word_count ls → IsLineOf ls j
+line-of [] j below = absurd (omega arith)
+line-of (l ∷ ls) j below = by (λ k low. line-of ls k low) (has_statement l) refl j below
+  where
+    further : (j k : ℕ) → counted (has_statement l) + j ≡ k → IsLineOf ls j → IsLineOf (l ∷ ls) k
+    further j k e r = let within = r.is_line in record { index = suc r.index; is_line = omega arith; has = r.has; behind = ap (λ (n : ℕ). counted (has_statement l) + n) r.behind ∙ e }
+
+    by : ((k : ℕ) → k < word_count ls → IsLineOf ls k) → (b : Bool) → has_statement l ≡ b → (j : ℕ) → j < counted (has_statement l) + word_count ls → IsLineOf (l ∷ ls) j
+    by rest true is zero below = record { index = 0; is_line = omega arith; has = is; behind = refl }
+    by rest true is (suc j) below = let one : counted (has_statement l) ≡ 1 = ap counted is in further j (suc j) (omega (arith, one)) (rest j (omega (arith, one)))
+    by rest false is j below = let none : counted (has_statement l) ≡ 0 = ap counted is in further j j (omega (arith, none)) (rest j (omega (arith, none)))
+
+one-word : EachHasWord → (d : Distances) (text : List ℕ) (v w : ℕ) → StandsForWord d text v → StandsForWord d text w → v ≡ w
+one-word law d text v w a b = let same : Ok v ≡ Ok w = sym ((statement-stands law d text v).1 a) ∙ (statement-stands law d text w).1 b in cc
+
+same-words : EachHasWord → (names : Names) (lines : List (List ℕ)) (vs ws : List ℕ) → AreWordsOf names lines vs → AreWordsOf names lines ws → vs ≡ ws
+same-words law names lines vs ws a b = ext_get_or 0 vs ws (a.count ∙ sym b.count) (λ j below. at j (line-of lines j (subst (λ (n : ℕ). j < n) a.count below)))
+  where
+    at : (j : ℕ) → IsLineOf lines j → get_or vs j 0 ≡ get_or ws j 0
+    at j l = ap (λ (k : ℕ). get_or vs k 0) (sym l.behind)
+        ∙ one-word law (distances_at names lines l.index) (statement_at lines l.index) _ _ (a.each l.index l.is_line l.has) (b.each l.index l.is_line l.has)
+        ∙ ap (λ (k : ℕ). get_or ws k 0) l.behind
+
+-- a text whose lines stand for words, and have no fault, has these words
+text-words-back : EachHasWord → (text ws : List ℕ) → IsAssembled (source_lines text) ws → assembled text ≡ Ok ws
+text-words-back law text ws a = by (assembled text) refl
+  where
+    no-fault : (f : AsmFault) → IsFaultOf (source_lines text) f → ⊥
+    no-fault f (at_first first) = a.faultless first.index first.is_line f.kind first.is_fault.is_there
+    no-fault f (later names placed none first) =
+        let same : names ≡ a.names = same-places (source_lines text) names a.names placed a.are_places in
+        let there = subst (λ (n : Names). HasLaterFault n (source_lines text) first.index f.kind) same first.is_fault.is_there in
+        a.faultless_later first.index first.is_line f.kind there
+
+    by : (r : Result (List ℕ) AsmFault) → assembled text ≡ r → assembled text ≡ Ok ws
+    by (Err f) e = absurd (no-fault f (fails text f e))
+    by (Ok vs) e =
+        let b : IsAssembled (source_lines text) vs = text-words law text vs e in
+        let same : b.names ≡ a.names = same-places (source_lines text) b.names a.names b.are_places a.are_places in
+        let words : AreWordsOf a.names (source_lines text) vs = subst (λ (n : Names). AreWordsOf n (source_lines text) vs) same b.are_words in
+        e ∙ ap (λ (l : List ℕ). Ok l) (same-words law a.names (source_lines text) vs ws words a.are_words)
+
+pub text-assembled : EachHasWord → (text ws : List ℕ) → (assembled text ≡ Ok ws) ↔ IsAssembled (source_lines text) ws
+text-assembled law text ws = (text-words law text ws, text-words-back law text ws)
