@@ -4,6 +4,9 @@
  * makes it a block of `size` bytes, of which the first `kept` are as they were; it may move, and if it fails the block is as it was.
  * rattle_dealloc takes back what either gave. If `ok` is false `start` is any address but null, which isn't given back. Nothing says when they
  * may fail: the library has an answer for it.
+ *
+ * The three are to be linked once a program: two libraries that bring them along don't link. To set a limit on memory, let rattle_alloc and
+ * rattle_realloc fail above it.
  */
 #include <stdbool.h>
 #include <stddef.h>
