@@ -1,14 +1,19 @@
 -- To believe. What is promised of every open match, over logs of posts by anybody and with any contents. The laws of these names show it.
-use Rattle.std.specs.Prelude.{◌≡◌, ℕ, ◌+◌, ◌<◌, ◌≤◌, true, false, List, [], ◌∷◌, ◌++◌, length, map, Some, None}
+use Rattle.std.specs.Prelude.{◌≡◌, ℕ, ◌+◌, ◌<◌, ◌≤◌, ◌^◌, true, false, List, [], ◌∷◌, ◌++◌, length, map, Some, None}
+use Rattle.rd_base.specs.declared.answer.Answer.{Answer}
+use Rattle.proof_wire.specs.Wire.{wire_form}
 use Rattle.rv_step.specs.State.{State}
 use Rattle.rv_step.specs.Step.{state_at}
-use Rattle.bisect_game.specs.Truth.{Truth}
+use Rattle.rv_step.specs.Valid.{IsValid}
+use Rattle.bisect_game.specs.declared.settled.Kind.{Kind}
+use Rattle.bisect_game.specs.Truth.{Truth, IsTrueAnswer}
 use Rattle.bisect_game.specs.Rules.{Rules}
 use Rattle.bisect_game.specs.Ruling.{Ruling}
 use Rattle.step_referee.specs.MachineRuling.{machine_ruling}
 use Rattle.step_referee.specs.MachineTruth.{machine_truth}
 use Rattle.tournament.specs.declared.reading.Verdict.{Verdict}
 use Rattle.tournament.specs.declared.reading.Verdict.TheVariants as verdict
+use Rattle.tournament.specs.Asked.{IsWithinBound}
 use Rattle.tournament.specs.Bracket.{Record, is_complete, verdict_of}
 use Rattle.tournament.specs.Moves.{MatchState, begun}
 use Rattle.tournament.specs.Posting.{Post, reply_to, is_stale, after_posts, record_after}
@@ -89,6 +94,13 @@ OpenMatchesAreRight digest =
     let rules : Rules = machine_rules digest head in
     numbers_are_in_limits head ≡ true → IsLogOf head.provers xs log → IsStatedStart digest head s → 0 < p → p ≤ head.provers →
     MovesTruly rules (run_of_head digest head s) p (begun rules) xs → IsSafeAndRight digest head s p (record_after rules xs)
+
+-- TRUE ANSWERS CAN BE SENT: each true answer to what a match may ask has a wire form, if the run starts in a valid state and its output at the bound
+-- is short enough for a claim
+abbrev pub TrueAnswersHaveWireForms : (List ℕ → List ℕ) → Type 0
+TrueAnswersHaveWireForms digest =
+    (s : State) (bound : ℕ) (k : Kind) (a : Answer) → IsValid s → length (state_at s bound).output < 2 ^ 32 → IsWithinBound bound k →
+    IsTrueAnswer (machine_truth digest s bound) k a → (wire_form a).fits
 
 -- OPEN TEXTS ARE CONFIRMED: what `full` writes of a match that is over is read, and the text that is read is confirmed, with its verdict,
 -- after whatever posts, so after those of each log
