@@ -28,9 +28,9 @@ use Rattle.delegate.specs.declared.response.Answered.{Answered}
 use Rattle.delegate.specs.declared.response.Answered.TheVariants.{Done, Usage, Case, Image, ReadFault, WriteFault, AuditRefused, Memory, NoneLeft as NobodyLeft, Collision, TooLong}
 use Rattle.delegate.proofs.OutcomeLemmas.{no_command, of_command, outcome-of}
 use Rattle.delegate.proofs.TaskLemmas.{gravest-is}
-use Rattle.delegate.specs.OfCase.{start_response, response_by, answer_response}
+use Rattle.delegate.specs.OfCase.{start_response, response_by, answer_response, roots_at_response}
 use Rattle.bisect_game.specs.declared.settled.Kind.{Kind}
-use Rattle.delegate.proofs.ResponseLemmas.{OfCases, OfCommand, command-of, start-of, answer-of, response-of}
+use Rattle.delegate.proofs.ResponseLemmas.{OfCases, OfCommand, command-of, start-of, answer-of, roots-of, response-of}
 
 -- the answers of each command
 
@@ -97,6 +97,9 @@ no-memory = record {
 
 pub answer-kind : (k : Kind) (bytes : List ℕ) → IsNoMemory (response_by (answer_response k) bytes)
 answer-kind k bytes = response-of IsNoMemory (λ e. cc e) (answer_response k) (answer-of IsNoMemory no-memory (λ e. cc e) k) bytes
+
+pub roots-kind : (steps bytes : List ℕ) → IsNoMemory (response_by (roots_at_response steps) bytes)
+roots-kind steps bytes = response-of IsNoMemory (λ e. cc e) (roots_at_response steps) (roots-of IsNoMemory no-memory (λ e. cc e) steps) bytes
 
 taken-kind : (words : List (List ℕ)) (bytes : List ℕ) (command : Command) → chosen words ≡ Some command → is_answer_of command (outcome words bytes).answered ≡ true
 taken-kind words bytes command is =

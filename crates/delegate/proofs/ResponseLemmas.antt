@@ -35,7 +35,7 @@ use Rattle.digest_core.specs.Name.{digest_of}
 use Rattle.delegate.specs.Decided.{Deciding, response_to_case, together, responses_to_cases}
 use Rattle.delegate.specs.Loading.{within_limit, case_in, image_by, start_in, starts_in}
 use Rattle.delegate.specs.commands.Judge.{judging, response_to_tasks, judge_response}
-use Rattle.delegate.specs.OfCase.{start_response, response_by, may_ask, answer_of_run, answer_response}
+use Rattle.delegate.specs.OfCase.{start_response, response_by, may_ask, answer_of_run, answer_response, has_steps, roots_of_steps, roots_at_response}
 use Rattle.bisect_game.specs.declared.settled.Kind.{Kind}
 use Rattle.delegate.specs.Refusal.{usage}
 use Rattle.delegate.specs.commands.Run.{run_response}
@@ -201,6 +201,14 @@ answer-of P of unasked k bytes = case-then P of bytes _ (λ c. by c (may_ask c.b
     by : (c : CaseData) (asked : Bool) → Of P (asked-as asked >>= (λ done. start_in Whole c >>= (λ start. Ok (answer_of_run k c start))))
     by c true = fit-then P (start_in Whole c) (λ start. Ok (answer_of_run k c start)) (start-fit P of Whole c) (λ start. of.done (answer_of_run k c start).text)
     by c false = unasked
+
+pub roots-of : (P : Response → Type 0) → OfCases P → P usage → (steps bytes : List ℕ) → Of P (roots_at_response steps bytes)
+unfolding roots_at_response
+roots-of P of none steps bytes = case-then P of bytes _ (λ c. by c (has_steps c.bound steps))
+  where
+    by : (c : CaseData) (there : Bool) → Of P (asked-as there >>= (λ done. start_in Whole c >>= (λ start. Ok (roots_of_steps steps c start))))
+    by c true = fit-then P (start_in Whole c) (λ start. Ok (roots_of_steps steps c start)) (start-fit P of Whole c) (λ start. of.done (roots_of_steps steps c start).text)
+    by c false = none
 
 -- what is answered to bytes that are not too many, to all
 pub response-of : (P : Response → Type 0) → P too_long → (answer : List ℕ → Result Response Response) → ((bytes : List ℕ) → Of P (answer bytes)) → (bytes : List ℕ) → P (response_by answer bytes)

@@ -1,15 +1,18 @@
 -- To believe. What a caller with the bytes of a case in memory gets of it beside the commands: the root of its run's start, by which a match
--- of the case begins, and the plain answer of its run to a question of a match, in its wire form.
-use Rattle.std.specs.Prelude.{ℕ, List, Bool, true, ◌&&◌, nat_lt, nat_le, if◌then◌else◌, Result, Ok, Err}
+-- of the case begins, the roots of its run after some numbers of steps, and the plain answer of its run to a question of a match, in its wire
+-- form.
+use Rattle.std.specs.Prelude.{◌≡◌, ℕ, List, Bool, true, ◌&&◌, nat_lt, nat_le, if◌then◌else◌, Result, Ok, Err}
+use Rattle.std.specs.List.{list_all, flat_map}
 use Rattle.rd_base.specs.Results.{◌>>=◌}
 use Rattle.rv_step.specs.State.{State}
+use Rattle.rv_step.specs.Valid.{IsValid}
 use Rattle.sha2.specs.Sha256.{sha256}
 use Rattle.rv_step.specs.Step.{state_at}
 use Rattle.bisect_game.specs.Bisection.{can_cut}
 use Rattle.bisect_game.specs.declared.settled.Kind.{Kind}
 use Rattle.bisect_game.specs.declared.settled.Kind.TheVariants as kind
 use Rattle.proof_wire.specs.Wire.{wire_form}
-use Rattle.plain_answers.specs.Plain.{plain}
+use Rattle.plain_answers.specs.Plain.{plain, plain_root}
 use Rattle.case_reader.specs.Case.{CaseData}
 use Rattle.case_match.specs.Match.{start_root}
 use Rattle.delegate.specs.Refusal.{usage}
@@ -34,6 +37,10 @@ start_response bytes = do
 abbrev pub response_by : (List ℕ → Result Response Response) → List ℕ → Response
 response_by answer bytes = either_way (within_limit bytes >>= answer)
 
+-- the start of a case that is read and loaded is a valid state
+abbrev pub StartsValid : List ℕ → Type 0
+StartsValid bytes = (c : CaseData) (start : State) → (within_limit bytes >>= case_in) ≡ Ok c → start_in Whole c ≡ Ok start → IsValid start
+
 -- a match with this bound may ask it: the claim, a root between the ends of the run, the roots at the cuts of an interval of it, or the proof
 -- of one of its steps
 abbrev pub may_ask : ℕ → Kind → Bool
@@ -57,3 +64,22 @@ answer_response k bytes = do
   asked ← within_match k c
   start ← start_in Whole c
   Ok (answer_of_run k c start)
+
+-- steps that the run doesn't have, which are above the bound, are refused like a question that no match asks
+abbrev pub has_steps : ℕ → List ℕ → Bool
+has_steps bound steps = list_all (λ i. nat_le i bound) steps
+
+abbrev pub within_run : List ℕ → CaseData → Result (Unit {0}) Response
+within_run steps c = if has_steps c.bound steps then Ok tt else Err usage
+
+-- the 32 bytes of each root of the run after so many steps, by SHA-256, one behind another
+abbrev pub roots_of_steps : List ℕ → CaseData → State → Response
+roots_of_steps steps c start = record { answered = Done; text = flat_map (λ i. (plain_root sha256 (state_at start) c.bound i).0) steps }
+
+-- of the case of bytes
+unfoldable pub roots_at_response : List ℕ → List ℕ → Result Response Response
+roots_at_response steps bytes = do
+  c ← case_in bytes
+  there ← within_run steps c
+  start ← start_in Whole c
+  Ok (roots_of_steps steps c start)

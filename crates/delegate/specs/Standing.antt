@@ -1,15 +1,16 @@
 -- Derived. What a call gives of its definition, and what is known of cases that were read, loaded or played.
-use Rattle.std.specs.Prelude.{◌≡◌, ℕ, List, [], ◌∷◌, ◌++◌, map, length, Some, Result, Ok, Err}
+use Rattle.std.specs.Prelude.{◌≡◌, ◌<◌, ◌≤◌, ℕ, List, [], ◌∷◌, ◌++◌, map, length, slice_index, Some, Result, Ok, Err}
 use Rattle.std.specs.List.{All}
 use Rattle.std.specs.Option.{option_and_then}
 use Rattle.rv_step.specs.State.{State, state_of}
+use Rattle.rv_step.specs.Valid.{IsValid}
 use Rattle.rv_step.specs.declared.machine.Machine.{Machine}
 use Rattle.case_reader.specs.Case.{CaseData}
 use Rattle.case_reader.specs.Tasks.{TasksData, One, Many}
 use Rattle.command_line.specs.Words.{chosen}
 use Rattle.command_line.specs.declared.request.Command.{Command}
 use Rattle.case_match.specs.TruthfulInCase.{IsInRange}
-use Rattle.delegate.specs.Loading.{start_in, starts_in}
+use Rattle.delegate.specs.Loading.{case_in, start_in, starts_in}
 use Rattle.case_match.specs.Match.{record_of_case, verdict_of_record}
 use Rattle.case_match.specs.Openings.{IsFresh}
 use Rattle.transcript_text.specs.MoveLists.{moves_of}
@@ -121,3 +122,11 @@ abbrev pub CanBePaid : List CaseData → List Ended → Type 0
 CanBePaid [] ends = Unit {0}
 CanBePaid (c ∷ cs) [] = Unit {0}
 CanBePaid (c ∷ cs) (end ∷ ends) = IsSettledUp (length c.provers) end.match_record × CanBePaid cs ends
+
+-- numbers none of which is above one that stands behind it
+abbrev pub IsAscending : List ℕ → Type 0
+IsAscending xs = (i j : ℕ) → i ≤ j → j < length xs → slice_index xs i ≤ slice_index xs j
+
+-- the start of the case of bytes that aren't too many is a valid state
+abbrev pub StartsValidIn : List ℕ → Type 0
+StartsValidIn bytes = (c : CaseData) (start : State) → case_in bytes ≡ Ok c → start_in Whole c ≡ Ok start → IsValid start

@@ -13,8 +13,8 @@ ghost use Rattle.bisect_game.specs.Truth.{IsTrueAnswer};
 ghost use Rattle.case_match.specs.Match.{truth_of_case};
 ghost use Rattle.bisect_game.specs.Bisection.{can_cut};
 ghost use Rattle.plain_answers.specs.Plain as plain_answers;
-ghost use Rattle.delegate.specs.OfCase.{root_of_start, start_response, response_by, may_ask, within_match, answer_of_run, answer_response};
-ghost use Rattle.delegate.specs.Standing.{Stands, IsFreshStart};
+ghost use Rattle.delegate.specs.OfCase.{root_of_start, start_response, response_by, StartsValid, may_ask, within_match, answer_of_run, answer_response};
+ghost use Rattle.delegate.specs.Standing.{Stands, IsFreshStart, StartsValidIn};
 
 use crate::faults;
 use crate::loading::{case_in, start_in};
@@ -48,7 +48,8 @@ fn root_of(alloc: Global, start: &Machine) -> Result<Response, Memory>
 /// Loads the case of the bytes, and answers with the root of the state in which its run starts.
 #[tactic(auto, unfolding(crate::specs::OfCase::start_response))]
 fn start(alloc: Global, bytes: Vec<u8>) -> Result<Response, Stop>
-    ensures { Stands (λ response. response) result (start_response bytes.items) }
+    ensures stands { Stands (λ response. response) result (start_response bytes.items) }
+    ensures valid { IfOk result (λ _. StartsValidIn bytes.items) }
 {
     let case = case_in(alloc, bytes)?;
     let machine = start_in(alloc, Subject::Whole, &case)?;
@@ -57,11 +58,12 @@ fn start(alloc: Global, bytes: Vec<u8>) -> Result<Response, Stop>
 
 /// The root of the state in which the run of the case of these bytes starts, in the case's version and by SHA-256: with `Done` its 32 bytes.
 /// What is no case, has an image that isn't loaded or is longer than 16,777,216 bytes is refused, as by the command `run`, with the same
-/// text.
+/// text. The state in which the run starts, if it does, is valid (`valid`).
 ///
 /// An `Err` is out of memory, which no answer is (`own`).
 pub fn start_root(alloc: Global, bytes: &[u8]) -> Result<Response, Memory>
     ensures response { IfOk result (λ response. response ≡ response_by start_response bytes.now) }
+    ensures valid { IfOk result (λ _. StartsValid bytes.now) }
     ensures own { IfOk result (λ response. is_of_case response.answered ≡ true) }
 {
     starts_are_answers_of_cases();
@@ -75,7 +77,8 @@ fn starts_are_answers_of_cases()
 
 /// The response to these bytes.
 fn start_response_to(alloc: Global, bytes: &[u8]) -> Result<Response, Memory>
-    ensures { IfOk result (λ response. response ≡ response_by start_response bytes.now) }
+    ensures response { IfOk result (λ response. response ≡ response_by start_response bytes.now) }
+    ensures valid { IfOk result (λ _. StartsValid bytes.now) }
 {
     if bytes.len() > MAX_CASE_BYTES {
         return Ok(faults::too_long(alloc)?);

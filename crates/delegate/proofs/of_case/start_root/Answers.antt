@@ -6,4 +6,4 @@ use Rattle.delegate.proofs.of_case.start_root.Goals as goal
 
 pub returns-clause-own : goal.returns-clause-own
 returns-clause-own c =
-    IfOk-weaker c.start_response_to.result _ _ (λ response is. subst (λ (r : Response). is_of_case r.answered ≡ true) (sym is) (c.starts_are_answers_of_cases.ensures c.args.bytes.now)) c.start_response_to.ensures
+    IfOk-weaker c.start_response_to.result _ _ (λ response is. subst (λ (r : Response). is_of_case r.answered ≡ true) (sym is) (c.starts_are_answers_of_cases.ensures c.args.bytes.now)) c.start_response_to.ensures.response
