@@ -5,3 +5,5 @@ pub mod Claims
 pub mod Questions
 pub mod Asked
 pub mod HostMatch
+pub mod Stakes
+pub mod GivenAnswers

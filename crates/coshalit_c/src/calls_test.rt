@@ -2,6 +2,7 @@
 
 use crate::step::coshalit_check_step;
 use crate::texts::{CoshalitAnswer, coshalit_audit, coshalit_list, coshalit_run};
+use crate::version::coshalit_version;
 use std::process::Abort;
 use std::test::Fail;
 
@@ -57,4 +58,9 @@ fn what_is_no_proof_leaves_the_next_root(rt: HostRuntime) {
     let mut next = [7; 32];
     let ruling = coshalit_check_step(1, &[0; 32], b"", &mut next);
     assert_eq!(rt; (ruling, next), (3, [7; 32]));
+}
+
+#[test]
+fn the_version_is_that_of_the_header(rt: HostRuntime) {
+    assert_eq!(rt; coshalit_version(), 10_000);
 }

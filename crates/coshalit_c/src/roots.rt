@@ -1,12 +1,12 @@
-//! The root of a case's start, and the root of a claim on the bytes in which it is sent.
+//! The roots of a case's run, and the root of a claim on the bytes in which it is sent.
 ghost use Rattle.std.specs.Prelude.{◌≡◌, ◌≢◌, ◌↔◌, length};
 ghost use Rattle.proof_wire.specs.Reading.{answer_in};
-ghost use Rattle.delegate.specs.OfCase.{start_response, response_by};
+ghost use Rattle.delegate.specs.OfCase.{start_response, roots_at_response, response_by, StartsValid};
 ghost use Rattle.coshalit_c.specs.Texts.{IsWrittenTo, IsUntouched};
 ghost use Rattle.coshalit_c.specs.Claims.{status_of_claim, claimed_root_or_before, status_of_reading, root_of_reading};
 
 use crate::texts::{CoshalitAnswer, out_of_memory, written};
-use delegate::start_root;
+use delegate::{roots_at, start_root};
 use digest_core::Sha256;
 use out_chain::{check_claim, root_of_claim};
 use proof_wire::{WireFault, decode};
@@ -72,13 +72,33 @@ pub extern "C" fn coshalit_claim_root(alloc: Global, wire: &[u8], root: &mut [u8
 
 /// The root of the state in which the run of the case of the bytes `case` starts, in the case's version and by SHA-256, by which each match of
 /// the case begins: status 0, and its 32 bytes in `room`, as far as there are any. What is no case, or has an image that isn't loaded, is
-/// refused with the status and the text of `coshalit_run`.
+/// refused with the status and the text of `coshalit_run`. The state is valid (`valid`), as the law `given_answers_are_right` wants it.
 #[unsafe(no_mangle)]
 pub extern "C" fn coshalit_start_root(alloc: Global, case: &[u8], room: &mut [u8]) -> CoshalitAnswer
     ensures response { result.status ≢ 9 → IsWrittenTo (response_by start_response case.now) result room.old room.new }
+    ensures valid { result.status ≢ 9 → StartsValid case.now }
     ensures memory { result.status ≡ 9 → IsUntouched result room.old room.new }
 {
     match start_root(alloc, case) {
+        Ok(response) => written(&response, room),
+        Err(_) => out_of_memory(),
+    }
+}
+
+/// The roots of the states after these many steps each of the run of the case of the bytes `case`, in the case's version and by SHA-256:
+/// status 0, and 32 bytes for each, in the order of `steps`, in `room`, as far as there are any. The steps may have any order, and one run
+/// reaches them. A step above the case's bound has status 2; other refusals are as of `coshalit_start_root`.
+#[unsafe(no_mangle)]
+pub extern "C" fn coshalit_roots_at(
+    alloc: Global,
+    case: &[u8],
+    steps: &[u64],
+    room: &mut [u8],
+) -> CoshalitAnswer
+    ensures response { result.status ≢ 9 → IsWrittenTo (response_by (roots_at_response steps.now) case.now) result room.old room.new }
+    ensures memory { result.status ≡ 9 → IsUntouched result room.old room.new }
+{
+    match roots_at(alloc, steps, case) {
         Ok(response) => written(&response, room),
         Err(_) => out_of_memory(),
     }

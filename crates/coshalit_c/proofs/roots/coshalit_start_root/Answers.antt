@@ -9,3 +9,6 @@ returns-in-Ok-clause-response c = λ other. subst (λ (r : Response). IsWrittenT
 
 pub returns-in-Ok-clause-memory : goal.returns-in-Ok-clause-memory
 returns-in-Ok-clause-memory c = λ nine. absurd (of-case-nine c.in-Ok.response.answered c.in-Ok.ensures.own (sym c.written.ensures.status ∙ nine))
+
+pub returns-in-Ok-clause-valid : goal.returns-in-Ok-clause-valid
+returns-in-Ok-clause-valid c = λ other. c.in-Ok.ensures.valid

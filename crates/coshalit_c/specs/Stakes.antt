@@ -1,0 +1,42 @@
+-- To believe. What a caller in another language gets of the stakes of a match of its own that is over.
+use Rattle.std.specs.Prelude.{◌≡◌, ℕ, Bool, true, ◌&&◌, nat_le, List, ◌++◌, length, take, drop, Option, Some, None, if◌then◌else◌}
+use Rattle.sha2.specs.Sha256.{sha256}
+use Rattle.tournament.specs.declared.posting.Reply.{Reply}
+use Rattle.tournament.specs.Bracket.{Record, is_complete}
+use Rattle.tournament.specs.Moves.{MatchState}
+use Rattle.deposits.specs.declared.amounts.Balances.{Balances}
+use Rattle.deposits.specs.Balances.{balances_of}
+use Rattle.deposits.specs.Burning.{balances_if_burned}
+use Rattle.transcript_text.specs.declared.text.Head.{Head}
+use Rattle.open_match.specs.OpenMatch.{numbers_are_in_limits, IsAfterLog}
+use Rattle.open_match.specs.Laws.{machine_rules}
+use Rattle.coshalit_c.specs.HostMatch.{status_of_match}
+use Rattle.coshalit_c.specs.declared.stakes.Settlement.{Settlement}
+use Rattle.coshalit_c.specs.declared.stakes.Settlement.TheVariants.{Ledger, Burning}
+
+-- what each prover has by a settlement, and what is in the pool or burned
+abbrev pub balances_by : Settlement → ℕ → ℕ → Record → Balances
+balances_by Ledger stake provers r = balances_of stake provers r
+balances_by Burning stake provers r = balances_if_burned stake provers r
+
+-- these, once the match is over
+abbrev pub balances_if_over : Settlement → ℕ → ℕ → Record → Option Balances
+balances_if_over settlement stake provers r = if is_complete r then Some (balances_by settlement stake provers r) else None
+
+-- the numbers of the match and the stake are within their limits
+abbrev pub stakes_are_in_limits : Head → ℕ → Bool
+stakes_are_in_limits head stake = nat_le stake 1000000000 && numbers_are_in_limits head
+
+-- what is written of a match that is over: its status, the balances in the order of the provers, as far as there is room, and the pool
+pub record AreStakesWritten (settlement : Settlement) (head : Head) (stake : ℕ) (st : MatchState) (status : ℕ) (before now : List ℕ) (pool : ℕ) : Type 0 where
+  pub over : is_complete st.record_ ≡ true
+  pub status_ : status ≡ status_of_match (machine_rules sha256 head) st.record_
+  pub room : now ≡ take (length before) (balances_by settlement stake head.provers st.record_).of ++ drop (length (balances_by settlement stake head.provers st.record_).of) before
+  pub pool_ : pool ≡ (balances_by settlement stake head.provers st.record_).pool
+
+-- it is written of the match after the log
+pub record AreStakesFound (settlement : Settlement) (head : Head) (stake : ℕ) (log : List ℕ) (status : ℕ) (before now : List ℕ) (pool : ℕ) : Type 0 where
+  pub state : MatchState
+  pub reply : Option Reply
+  pub after : IsAfterLog (machine_rules sha256 head) log state reply
+  pub written : AreStakesWritten settlement head stake state status before now pool
