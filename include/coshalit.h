@@ -207,8 +207,11 @@ CoshalitAnswer coshalit_roots_at(const uint8_t *json, size_t json_length, const 
  * `parts` are those of a CoshalitQuestion. What no match of the case asks is COSHALIT_NOT_ASKED; other refusals are as of coshalit_run.
  * It takes as long as the run up to the step that is asked, which the case bounds.
  *
- * Proved: the answer is the plain answer of the run of the case, which is a true one. With what is proved of a match it follows that
- * whoever posts what this call gives, in time, and is alone to post in its name, is never put out; no one law says both. */
+ * Proved: the answer is the plain answer of the run of the case, which is a true one. And by one law (`given_answers_are_right`): take a
+ * match with the case's version, its bound and the root that coshalit_start_root gives, and any log. If each entry in a prover's name that
+ * isn't stale is what this call gives on the question that is open, or a pass within the patience, that prover is never out, whatever the
+ * others post; and a match that is over accepts the status and the output of the case's run, or shows two strings with one digest. No
+ * question that such a match asks is refused. */
 CoshalitAnswer coshalit_answer(const uint8_t *json, size_t json_length, uint32_t kind, uint64_t low, uint64_t high, uint32_t parts,
                                uint8_t *room, size_t room_length);
 
