@@ -1,0 +1,71 @@
+//! The program's commands on bytes in memory, and how a text is taken from a call.
+
+use crate::errors::Error;
+use alloc::string::String;
+use alloc::vec;
+use alloc::vec::Vec;
+use coshalit_sys::{COSHALIT_DONE, CoshalitAnswer, coshalit_audit, coshalit_list, coshalit_run};
+
+/// How many bytes a text may have before a call is made a second time for it.
+const FIRST_ROOM: usize = 4096;
+
+type Command = unsafe extern "C" fn(*const u8, usize, *mut u8, usize) -> CoshalitAnswer;
+
+/// Audits a full text, as `judge --full` or [`Match::text`](crate::Match::text) gives it: the line `confirmed VERDICT`.
+///
+/// It is confirmed that the text is one of a legal match with this verdict, and no more: compare its first line with the root of your
+/// case's start and the case's numbers, and refuse another digest than `sha256`.
+///
+/// # Errors
+///
+/// [`Error::Refused`] with the line `refused LINE CAUSE` or `fault text R ..`, [`Error::TooLong`], [`Error::OutOfMemory`].
+pub fn audit(text: &[u8]) -> Result<String, Error> {
+    command(coshalit_audit, text)
+}
+
+/// Runs the program of a case, a JSON text, up to the case's bound: the line `answer STATUS output BYTES`.
+///
+/// # Errors
+///
+/// [`Error::BadCase`], [`Error::BadImage`], [`Error::TooLong`], [`Error::OutOfMemory`].
+pub fn run(case: &[u8]) -> Result<String, Error> {
+    command(coshalit_run, case)
+}
+
+/// Lists the image of a case, a JSON text, as assembly text: a line for each word.
+///
+/// # Errors
+///
+/// As [`run`]; a case whose image has no listing is an [`Error::BadCase`].
+pub fn list(case: &[u8]) -> Result<String, Error> {
+    command(coshalit_list, case)
+}
+
+fn command(call: Command, bytes: &[u8]) -> Result<String, Error> {
+    // The pointers are those of slices of these lengths, and `room` is no part of `bytes`.
+    let (status, text) = text_of(|room| unsafe { call(bytes.as_ptr(), bytes.len(), room.as_mut_ptr(), room.len()) });
+    done(status, text).map(in_letters)
+}
+
+/// What a call answers: its status and its whole text. It is called again if its text is longer than the first room.
+pub(crate) fn text_of(call: impl Fn(&mut [u8]) -> CoshalitAnswer) -> (u32, Vec<u8>) {
+    let mut room = vec![0; FIRST_ROOM];
+    loop {
+        let found = call(&mut room);
+        let is_whole = found.length <= room.len();
+        room.resize(found.length, 0);
+        if is_whole {
+            return (found.status, room);
+        }
+    }
+}
+
+/// The text of an answer, or the refusal that it is.
+pub(crate) fn done(status: u32, text: Vec<u8>) -> Result<Vec<u8>, Error> {
+    if status == COSHALIT_DONE { Ok(text) } else { Err(Error::of(status, in_letters(text))) }
+}
+
+/// Each text of a command is of ASCII letters.
+fn in_letters(text: Vec<u8>) -> String {
+    String::from_utf8(text).unwrap_or_else(|other| String::from_utf8_lossy(other.as_bytes()).into_owned())
+}

@@ -1,0 +1,40 @@
+//! The proved referee of Coshalit in safe Rust, over the C library `coshalit_c`:
+//!
+//! - [`check_step`]: the ruling on the proof of one step;
+//! - [`audit`], [`run`], [`list`]: the program's commands on bytes in memory;
+//! - [`Match`]: a match among parties of your own, as a log of posts;
+//! - [`Prover`]: the true answers of a case's own run;
+//! - [`claim_root`]: the root by which claims are compared.
+//!
+//! What is proved ends at the library. This crate passes slices, and gives errors as types; `include/coshalit.h` says what each call
+//! promises. A call takes no more memory than its arguments ask for, and can't be stopped: bound the cases and the texts that you give it.
+//!
+//! The crate has no `std`: it needs an allocator. Without the feature `malloc` the program defines the three functions by which the library
+//! asks for memory, as `coshalit-sys` says.
+#![no_std]
+
+extern crate alloc;
+
+mod answers;
+mod errors;
+mod matches;
+mod prover;
+mod steps;
+
+pub use answers::{audit, list, run};
+pub use errors::{ClaimRefused, Error, LogCause, MatchError, StepRefused};
+pub use matches::{Asked, Match, Number, Numbers, Post, Question, Reply, Settlement, Verdict};
+pub use prover::Prover;
+pub use steps::{check_step, claim_root};
+
+/// How many bytes a root has.
+pub const ROOT_BYTES: usize = coshalit_sys::COSHALIT_ROOT_BYTES;
+
+/// The root of a state: it commits to memory, registers, input and output.
+pub type Root = [u8; ROOT_BYTES];
+
+/// The version of the library that is linked: major * 10000 + minor * 100 + patch. This crate is written for 10000 and those after it with
+/// the same major number.
+pub fn version() -> u32 {
+    coshalit_sys::coshalit_version()
+}

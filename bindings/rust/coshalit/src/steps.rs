@@ -1,0 +1,42 @@
+//! The referee of one step, and the roots of claims.
+
+use crate::errors::{ClaimRefused, StepRefused};
+use crate::{ROOT_BYTES, Root};
+use coshalit_sys::{
+    COSHALIT_LEADS, COSHALIT_NO_PROOF, COSHALIT_NOT_OPEN, COSHALIT_OUT_OF_MEMORY, coshalit_check_step, coshalit_claim_root,
+};
+
+/// The root to which the proof of one step leads, from a root on which both sides agree, by SHA-256. `wire` is the proof as it is sent, and
+/// `version` that of the commitments, 1, 2 or 3. It takes no memory.
+///
+/// # Errors
+///
+/// By the first condition that fails; with any other `version` each proof has the wrong shape.
+pub fn check_step(version: u32, root: &Root, wire: &[u8]) -> Result<Root, StepRefused> {
+    let mut next = [0; ROOT_BYTES];
+    // The pointers are those of slices of these lengths, and `next` is no part of the others.
+    let ruling =
+        unsafe { coshalit_check_step(version, root.as_ptr(), root.len(), wire.as_ptr(), wire.len(), next.as_mut_ptr(), next.len()) };
+    match ruling {
+        COSHALIT_LEADS => Ok(next),
+        COSHALIT_NOT_OPEN => Err(StepRefused::NotOpen),
+        COSHALIT_NO_PROOF => Err(StepRefused::NoProof),
+        _ => Err(StepRefused::WrongShape),
+    }
+}
+
+/// The root of a claim, from its wire form, by which a match compares claims.
+///
+/// # Errors
+///
+/// If the bytes are no claim, if the claim isn't sound, or if memory ran out.
+pub fn claim_root(wire: &[u8]) -> Result<Root, ClaimRefused> {
+    let mut root = [0; ROOT_BYTES];
+    // As in `check_step`.
+    match unsafe { coshalit_claim_root(wire.as_ptr(), wire.len(), root.as_mut_ptr(), root.len()) } {
+        0 => Ok(root),
+        COSHALIT_OUT_OF_MEMORY => Err(ClaimRefused::OutOfMemory),
+        COSHALIT_NO_PROOF => Err(ClaimRefused::NoClaim),
+        _ => Err(ClaimRefused::Unsound),
+    }
+}
