@@ -1,0 +1,3 @@
+module coshalit.example/coshalit
+
+go 1.19

@@ -1,0 +1,234 @@
+package coshalit
+
+// #include "coshalit.h"
+import "C"
+
+import (
+	"encoding/binary"
+	"math"
+	"unsafe"
+)
+
+// A match has at most so many provers, and so many open questions.
+const mostProvers = 16
+
+// Numbers are those by which a match is played. The digest is SHA-256.
+type Numbers struct {
+	Version  uint32 // of the commitments, 1 to 3
+	Provers  uint32 // 1 to 16
+	Fan      uint32 // into how many parts a round cuts its interval at most, 2 to 16
+	Patience uint32 // how many passes a question allows, 0 to 100
+	Bound    uint64 // how many steps the run has, 1 to 4,294,967,295
+	Start    Root   // the root of the state at step 0: Prover.StartRoot
+}
+
+// Kind is what is asked for: the first byte of the answer's wire form.
+type Kind uint32
+
+const (
+	// Claim: the state at the bound, its status and output.
+	Claim Kind = 1
+	// OneRoot: the root of the state after Low steps.
+	OneRoot Kind = 2
+	// Proof: the proof of the step that follows Low steps.
+	Proof Kind = 3
+	// Roots: the roots at the cuts of the interval from Low to High into Parts parts.
+	Roots Kind = 5
+)
+
+// Question is an open question of a match.
+type Question struct {
+	Prover         uint32 // who is asked, from 1
+	Dispute, Round uint32 // the question's number; that of a claim is 0 and 0
+	Kind           Kind
+	Parts          uint32
+	Passes         uint32 // how often the prover has passed on it
+	Low, High      uint64
+}
+
+// Reply is what came of a post.
+type Reply uint32
+
+const (
+	// Taken: it is an answer of the right kind, or a pass within the patience.
+	Taken Reply = 1
+	// Faulty: it is an answer of another kind, or an unsound claim: its prover is out.
+	Faulty Reply = 2
+	// Spent: it is a pass beyond the patience: its prover is out.
+	Spent Reply = 3
+	// Stale: it names no open question of its prover, and changes nothing.
+	Stale Reply = 4
+)
+
+// Verdict is how a match stands.
+type Verdict uint32
+
+const (
+	// Open: a question is open.
+	Open Verdict = C.COSHALIT_STILL_OPEN
+	// Accepted: a claim is accepted.
+	Accepted Verdict = C.COSHALIT_ACCEPTED
+	// NoneLeft: every prover is out.
+	NoneLeft Verdict = C.COSHALIT_NONE_LEFT
+	// Collision: two different strings with one digest were shown.
+	Collision Verdict = C.COSHALIT_COLLISION
+)
+
+// Settlement is what becomes of the stakes.
+type Settlement struct {
+	Balances []uint64 // what each prover has, in the order of the provers
+	Pool     uint64   // what is in the pool, or is burned
+}
+
+// Match is a match: its numbers, its log, and what it has come to.
+//
+// The log is what one stores, orders, signs and compares: who has the same numbers and the same log has the same match. It grows by Post
+// and Pass only. Who may call these with a prover's number can lose that prover's match: authenticate senders.
+type Match struct {
+	numbers   C.CoshalitNumbers
+	log       []byte
+	verdict   Verdict
+	found     C.CoshalitMatch
+	questions []Question
+}
+
+// NewMatch begins a match that nobody has posted in yet. The error is a Refusal: a number is beyond its limit, or memory ran out.
+func NewMatch(numbers Numbers) (*Match, error) {
+	return ResumeMatch(numbers, nil)
+}
+
+// ResumeMatch gives the match after a log that was stored. The error is as NewMatch's, or a NoLog.
+func ResumeMatch(numbers Numbers, log []byte) (*Match, error) {
+	match := &Match{log: append([]byte(nil), log...)}
+	match.numbers = C.CoshalitNumbers{
+		version: C.uint32_t(numbers.Version), provers: C.uint32_t(numbers.Provers), fan: C.uint32_t(numbers.Fan),
+		patience: C.uint32_t(numbers.Patience), bound: C.uint64_t(numbers.Bound),
+	}
+	for at, byte := range numbers.Start {
+		match.numbers.start[at] = C.uint8_t(byte)
+	}
+	if err := match.play(match.log); err != nil {
+		return nil, err
+	}
+	return match, nil
+}
+
+// Post appends the bytes that a prover sends as its answer to a question, and plays on. The prover is who sent them, and nothing that the
+// sender says. If they are no wire form, as empty ones are, the error is a NoLog: they are no answer and no pass, and the match is as it
+// was.
+func (match *Match) Post(prover, dispute, round uint32, answer []byte) (Reply, error) {
+	if len(answer) == 0 {
+		return 0, NoLog{At: uint64(len(match.log)), Cause: NoAnswer, Rule: 1}
+	}
+	return match.append(prover, dispute, round, answer)
+}
+
+// Pass appends a pass of a prover that is late. One silence is one pass, however long it is.
+func (match *Match) Pass(prover, dispute, round uint32) (Reply, error) {
+	return match.append(prover, dispute, round, nil)
+}
+
+// Questions are the open ones, in the order of their provers; none if the match is over.
+func (match *Match) Questions() []Question {
+	return match.questions
+}
+
+// Verdict is how the match stands, and the number of the prover whose claim is accepted, or 0.
+func (match *Match) Verdict() (Verdict, uint32) {
+	return match.verdict, uint32(match.found.accepted)
+}
+
+// Text is the full text of a match that is over, which anybody can audit, and nil while a question is open.
+func (match *Match) Text() ([]byte, error) {
+	log, length := bytesOf(match.log)
+	status, text := answerOf(func(room *C.uint8_t, size C.size_t) C.CoshalitAnswer {
+		return C.coshalit_match_text(&match.numbers, log, length, room, size)
+	})
+	if isOver, err := match.isOver(status); !isOver || err != nil {
+		return nil, err
+	}
+	return text, nil
+}
+
+// Balances says what the provers of a match that is over have, if each put down this stake: one that is lost in a dispute goes to the other
+// side, or to the pool. It is nil while a question is open.
+func (match *Match) Balances(stake uint64) (*Settlement, error) {
+	return match.settled(func(log *C.uint8_t, length C.size_t, balances, pool *C.uint64_t) C.uint32_t {
+		return C.coshalit_match_balances(&match.numbers, C.uint64_t(stake), log, length, balances, mostProvers, pool)
+	})
+}
+
+// Burned is as Balances, by the settlement that burns each stake that is lost.
+func (match *Match) Burned(stake uint64) (*Settlement, error) {
+	return match.settled(func(log *C.uint8_t, length C.size_t, balances, pool *C.uint64_t) C.uint32_t {
+		return C.coshalit_match_burned(&match.numbers, C.uint64_t(stake), log, length, balances, mostProvers, pool)
+	})
+}
+
+// Log is the log: store it, and resume the match with it. It isn't to be changed.
+func (match *Match) Log() []byte {
+	return match.log
+}
+
+func (match *Match) settled(call func(*C.uint8_t, C.size_t, *C.uint64_t, *C.uint64_t) C.uint32_t) (*Settlement, error) {
+	var balances [mostProvers]uint64
+	var pool uint64
+	log, length := bytesOf(match.log)
+	status := call(log, length, (*C.uint64_t)(unsafe.Pointer(&balances)), (*C.uint64_t)(unsafe.Pointer(&pool)))
+	if isOver, err := match.isOver(status); !isOver || err != nil {
+		return nil, err
+	}
+	return &Settlement{Balances: append([]uint64(nil), balances[:match.numbers.provers]...), Pool: pool}, nil
+}
+
+// Whether a call with this status found the match at its end.
+func (match *Match) isOver(status C.uint32_t) (bool, error) {
+	switch Verdict(status) {
+	case Accepted, NoneLeft, Collision:
+		return true, nil
+	case Open:
+		return false, nil
+	}
+	return false, Refusal{Status: Status(status)}
+}
+
+// Appends an entry, if the log with it is one.
+func (match *Match) append(prover, dispute, round uint32, answer []byte) (Reply, error) {
+	if uint64(len(answer)) > math.MaxUint32 {
+		return 0, NoLog{At: uint64(len(match.log)), Cause: NoAnswer, Rule: 4}
+	}
+	log := match.log
+	for _, word := range []uint32{prover, dispute, round, uint32(len(answer))} {
+		log = binary.LittleEndian.AppendUint32(log, word)
+	}
+	log = append(log, answer...)
+	if err := match.play(log); err != nil {
+		return 0, err
+	}
+	match.log = log
+	return Reply(match.found.reply), nil
+}
+
+// Finds what the match has come to after this log. After an error the match is as it was.
+func (match *Match) play(log []byte) error {
+	var found C.CoshalitMatch
+	var asked [mostProvers]C.CoshalitQuestion
+	place, length := bytesOf(log)
+	status := C.coshalit_match(&match.numbers, place, length, &found, &asked[0], mostProvers)
+	if Status(status) == BadLog {
+		return NoLog{At: uint64(found.at), Cause: LogCause(found.cause), Rule: uint32(found.rule)}
+	}
+	if _, err := match.isOver(status); err != nil {
+		return err
+	}
+	match.questions = make([]Question, found.asked)
+	for at := range match.questions {
+		one := asked[at]
+		match.questions[at] = Question{
+			Prover: uint32(one.prover), Dispute: uint32(one.dispute), Round: uint32(one.round), Kind: Kind(one.kind),
+			Parts: uint32(one.parts), Passes: uint32(one.passes), Low: uint64(one.low), High: uint64(one.high),
+		}
+	}
+	match.verdict, match.found = Verdict(status), found
+	return nil
+}
