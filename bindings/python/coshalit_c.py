@@ -1,0 +1,385 @@
+"""The proved referee of Coshalit from Python, over the shared library libcoshalit_c.so, by ctypes. It takes no other package.
+
+- `check_step`: the ruling on the proof of one step; `claim_root`: the root by which claims are compared;
+- `audit`, `run`, `listing`: the program's commands on bytes in memory;
+- `Match`: a match among parties of one's own, as a log of posts;
+- `Prover`: the true answers of a case's own run.
+
+The library is the file that COSHALIT_LIBRARY names, else libcoshalit_c.so beside this module, else the system's; `load` takes another one.
+What is proved ends at the library. This module passes bytes, and gives refusals as exceptions; include/coshalit.h says what each call
+promises. A call can't be stopped: bound the cases and the texts that you give it.
+"""
+import ctypes
+import dataclasses
+import enum
+import os
+import pathlib
+import struct
+
+ROOT_BYTES = 32
+# A match has at most so many provers, and so many open questions.
+MOST_PROVERS = 16
+# How many bytes a text may have before a call is made a second time for it.
+FIRST_ROOM = 4096
+
+
+class Status(enum.IntEnum):
+    """The statuses of commands and matches. Take one that isn't listed for a refusal."""
+
+    DONE = 0
+    NOT_ASKED = 2
+    BAD_CASE = 3
+    BAD_IMAGE = 4
+    AUDIT_REFUSED = 8
+    OUT_OF_MEMORY = 9
+    NONE_LEFT = 10
+    COLLISION = 11
+    TOO_LONG = 12
+    STILL_OPEN = 13
+    BAD_NUMBERS = 14
+    BAD_LOG = 15
+
+
+class Ruling(enum.IntEnum):
+    """Why the proof of a step is refused."""
+
+    NOT_OPEN = 1
+    WRONG_SHAPE = 2
+    NO_PROOF = 3
+    WRONG_LENGTH = 4
+
+
+class Reply(enum.IntEnum):
+    """What came of a post: a taken one is an answer of the right kind, or a pass within the patience; a faulty or a spent one puts its
+    prover out; a stale one names no open question of its prover, and changes nothing."""
+
+    TAKEN = 1
+    FAULTY = 2
+    SPENT = 3
+    STALE = 4
+
+
+class Kind(enum.IntEnum):
+    """What is asked for: the first byte of the answer's wire form."""
+
+    CLAIM = 1
+    ROOT = 2
+    PROOF = 3
+    ROOTS = 5
+
+
+class Verdict(enum.IntEnum):
+    """How a match ended: a claim is accepted, nobody is left, or two different strings with one digest were shown."""
+
+    ACCEPTED = 0
+    NONE_LEFT = 10
+    COLLISION = 11
+
+
+class Error(Exception):
+    """The library gives no answer."""
+
+
+class StepRefused(Error):
+    """The proof of a step is refused, by the first condition that fails."""
+
+    def __init__(self, ruling):
+        super().__init__(ruling.name.lower().replace("_", " "))
+        self.ruling = ruling
+
+
+class ClaimRefused(Error):
+    """A claim has no root: 1 it isn't sound, 3 the bytes are no claim, 4 a length is wrong, 9 memory ran out."""
+
+    def __init__(self, status):
+        super().__init__({1: "the claim isn't sound", 3: "the bytes are no claim"}.get(status, f"status {status}"))
+        self.status = status
+
+
+class Refused(Error):
+    """A command, a prover or a match gives no answer. `text` is what the program writes, such as `fault case 5 bound` and a newline."""
+
+    def __init__(self, status, text=""):
+        named = Status(status).name.lower().replace("_", " ") if status in list(Status) else f"status {status}"
+        super().__init__(text.rstrip("\n") or named)
+        self.status, self.text = status, text
+
+
+class NoLog(Error):
+    """Bytes are no log from the byte `at` on. `cause`: 1 they end within an entry, 2 no prover has the number, 3 the answer's bytes are no
+    wire form, and then `rule` is the rule of docs/COMMITMENTS.md that they break."""
+
+    def __init__(self, at, cause, rule):
+        super().__init__(f"no log from byte {at} on: cause {cause}" + (f", rule {rule}" if rule else ""))
+        self.at, self.cause, self.rule = at, cause, rule
+
+
+# The structures of include/coshalit.h
+
+
+class _Numbers(ctypes.Structure):
+    _fields_ = [(name, ctypes.c_uint32) for name in ("version", "provers", "fan", "patience")]
+    _fields_ += [("bound", ctypes.c_uint64), ("start", ctypes.c_uint8 * ROOT_BYTES)]
+
+
+class _Question(ctypes.Structure):
+    _fields_ = [(name, ctypes.c_uint32) for name in ("prover", "dispute", "round", "kind", "parts", "passes")]
+    _fields_ += [("low", ctypes.c_uint64), ("high", ctypes.c_uint64)]
+
+
+class _Match(ctypes.Structure):
+    _fields_ = [(name, ctypes.c_uint32) for name in ("reply", "accepted", "asked", "cause", "rule")] + [("at", ctypes.c_uint64)]
+
+
+class _Answer(ctypes.Structure):
+    _fields_ = [("status", ctypes.c_uint32), ("length", ctypes.c_size_t)]
+
+
+_WORD, _WIDE, _SIZE, _BYTES = ctypes.c_uint32, ctypes.c_uint64, ctypes.c_size_t, ctypes.c_char_p
+_WIDES = ctypes.POINTER(_WIDE)
+_LOG = (ctypes.POINTER(_Numbers), _BYTES, _SIZE)
+_STAKED = (ctypes.POINTER(_Numbers), _WIDE, _BYTES, _SIZE, _WIDES, _SIZE, _WIDES)
+_CALLS = {
+    "version": (_WORD, ()),
+    "check_step": (_WORD, (_WORD, _BYTES, _SIZE, _BYTES, _SIZE, _BYTES, _SIZE)),
+    "claim_root": (_WORD, (_BYTES, _SIZE, _BYTES, _SIZE)),
+    "audit": (_Answer, (_BYTES, _SIZE, _BYTES, _SIZE)),
+    "run": (_Answer, (_BYTES, _SIZE, _BYTES, _SIZE)),
+    "list": (_Answer, (_BYTES, _SIZE, _BYTES, _SIZE)),
+    "match": (_WORD, (*_LOG, ctypes.POINTER(_Match), ctypes.POINTER(_Question), _SIZE)),
+    "match_text": (_Answer, (*_LOG, _BYTES, _SIZE)),
+    "match_balances": (_WORD, _STAKED),
+    "match_burned": (_WORD, _STAKED),
+    "start_root": (_Answer, (_BYTES, _SIZE, _BYTES, _SIZE)),
+    "roots_at": (_Answer, (_BYTES, _SIZE, _WIDES, _SIZE, _BYTES, _SIZE)),
+    "answer": (_Answer, (_BYTES, _SIZE, _WORD, _WIDE, _WIDE, _WORD, _BYTES, _SIZE)),
+}
+_calls = {}
+
+
+def load(path):
+    """Takes the calls of this shared library from here on. It's an OSError if it isn't one, and an AttributeError if it lacks a call."""
+    library = ctypes.CDLL(os.fspath(path))
+    for name, (result, arguments) in _CALLS.items():
+        call = getattr(library, f"coshalit_{name}")
+        call.restype, call.argtypes = result, arguments
+        _calls[name] = call
+
+
+def _number(value, kind=_WIDE):
+    """The number, if C's type holds it: ctypes would cut it."""
+    if not 0 <= value < 1 << 8 * ctypes.sizeof(kind):
+        raise ValueError(f"{value} is no number of {8 * ctypes.sizeof(kind)} bits")
+    return value
+
+
+def _call(name, *arguments):
+    if not _calls:
+        beside = pathlib.Path(__file__).with_name("libcoshalit_c.so")
+        load(os.environ.get("COSHALIT_LIBRARY") or (beside if beside.is_file() else "libcoshalit_c.so"))
+    return _calls[name](*arguments)
+
+
+def _answered(name, *arguments):
+    """What a call answers: its status and its whole text. It is called again if its text is longer than the first room."""
+    room = ctypes.create_string_buffer(FIRST_ROOM)
+    found = _call(name, *arguments, room, len(room))
+    if found.length > len(room):
+        room = ctypes.create_string_buffer(found.length)
+        found = _call(name, *arguments, room, len(room))
+    return found.status, room.raw[: found.length]
+
+
+def _done(name, *arguments):
+    """The text of an answer, or the refusal that it is."""
+    status, text = _answered(name, *arguments)
+    if status != Status.DONE:
+        raise Refused(status, text.decode("ascii", "replace"))
+    return text
+
+
+def version():
+    """The version of the library: major * 10000 + minor * 100 + patch. This module is written for 10000 and those after it with the same
+    major number."""
+    return _call("version")
+
+
+def check_step(version, root, wire):
+    """The root to which the proof of one step leads, from a root on which both sides agree, by SHA-256: 32 bytes. The proof is as it is
+    sent, and the version that of the commitments, 1, 2 or 3. Otherwise it is StepRefused."""
+    following = ctypes.create_string_buffer(ROOT_BYTES)
+    ruling = _call("check_step", _number(version, _WORD), root, len(root), wire, len(wire), following, ROOT_BYTES)
+    if ruling != 0:
+        raise StepRefused(Ruling(ruling))
+    return following.raw
+
+
+def claim_root(wire):
+    """The root of a claim, from its wire form, by which a match compares claims: 32 bytes. Otherwise it is ClaimRefused."""
+    root = ctypes.create_string_buffer(ROOT_BYTES)
+    status = _call("claim_root", wire, len(wire), root, ROOT_BYTES)
+    if status != 0:
+        raise ClaimRefused(status)
+    return root.raw
+
+
+def audit(text):
+    """Audits a full text, as `judge --full` or `Match.text` gives it: the line `confirmed VERDICT`. Otherwise it is Refused.
+
+    It is confirmed that the text is one of a legal match with this verdict, and no more: compare its first line with the root of your
+    case's start and the case's numbers, and refuse another digest than sha256."""
+    return _done("audit", text, len(text)).decode()
+
+
+def run(case):
+    """Runs the program of a case, a JSON text as bytes, up to the case's bound: the line `answer STATUS output BYTES`, or Refused."""
+    return _done("run", case, len(case)).decode()
+
+
+def listing(case):
+    """Lists the image of a case, a JSON text as bytes, as assembly text: a line for each word, or Refused."""
+    return _done("list", case, len(case)).decode()
+
+
+@dataclasses.dataclass(frozen=True)
+class Numbers:
+    """The numbers by which a match is played, by SHA-256."""
+
+    version: int  # of the commitments, 1 to 3
+    provers: int  # 1 to 16
+    fan: int  # into how many parts a round cuts its interval at most, 2 to 16
+    patience: int  # how many passes a question allows, 0 to 100
+    bound: int  # how many steps the run has, 1 to 4,294,967,295
+    start: bytes  # the root of the state at step 0: Prover.start_root
+
+
+@dataclasses.dataclass(frozen=True)
+class Question:
+    """An open question of a match."""
+
+    prover: int  # who is asked, from 1
+    dispute: int  # with `round` the question's number; that of a claim is 0 and 0
+    round: int
+    kind: int  # a Kind
+    parts: int = 0  # of several roots: into how many parts the interval is cut
+    passes: int = 0  # how often the prover has passed on it
+    low: int = 0  # the step of a root or a proof, or the interval's lower end
+    high: int = 0  # the interval's upper end
+
+
+@dataclasses.dataclass(frozen=True)
+class Settlement:
+    """What each prover has, in the order of the provers, and what is in the pool or is burned."""
+
+    balances: tuple
+    pool: int
+
+
+class Match:
+    """A match: its numbers, its log, and what it has come to.
+
+    The log is what one stores, orders, signs and compares: who has the same numbers and the same log has the same match. It grows by `post`
+    and `pass_` only. WHOEVER MAY CALL THESE WITH A PROVER'S NUMBER CAN LOSE THAT PROVER'S MATCH: authenticate senders."""
+
+    def __init__(self, numbers, log=b""):
+        """A match of these Numbers that nobody has posted in, or the one after a log that was stored. Refused if a number is beyond its
+        limit, and NoLog if the bytes are no log."""
+        words = [_number(value, _WORD) for value in (numbers.version, numbers.provers, numbers.fan, numbers.patience)]
+        if len(numbers.start) != ROOT_BYTES:
+            raise ValueError(f"a root has {ROOT_BYTES} bytes")
+        self._numbers = _Numbers(*words, _number(numbers.bound), (ctypes.c_uint8 * ROOT_BYTES)(*numbers.start))
+        self._play(bytes(log))
+
+    @property
+    def log(self):
+        return self._log
+
+    @property
+    def questions(self):
+        """The open ones, in the order of their provers; none if the match is over."""
+        return self._questions
+
+    @property
+    def verdict(self):
+        """How the match ended, or None while a question is open."""
+        return None if self._status == Status.STILL_OPEN else Verdict(self._status)
+
+    @property
+    def accepted(self):
+        """The number of the prover whose claim is accepted, or 0."""
+        return self._found.accepted
+
+    def post(self, prover, dispute, round_, answer):
+        """Appends the bytes that a prover sends as its answer to a question, and plays on: the Reply. The prover is who sent them, and
+        nothing that the sender says. NoLog if they are no wire form, as empty ones are: they are no answer and no pass, and the match is as
+        it was."""
+        if not answer:
+            raise NoLog(len(self._log), 3, 1)
+        return self._append(prover, dispute, round_, answer)
+
+    def pass_(self, prover, dispute, round_):
+        """Appends a pass of a prover that is late: the Reply. One silence is one pass, however long it is."""
+        return self._append(prover, dispute, round_, b"")
+
+    def text(self):
+        """The full text of a match that is over, as bytes, which anybody can audit; None while a question is open."""
+        status, text = _answered("match_text", ctypes.byref(self._numbers), self._log, len(self._log))
+        return text if self._is_over(status) else None
+
+    def balances(self, stake):
+        """What the provers of a match that is over have, if each put down this stake, by the Settlement in which one that is lost in a
+        dispute goes to the other side, or to the pool; None while a question is open. Refused if the stake is beyond its limit."""
+        return self._settled("match_balances", stake)
+
+    def burned(self, stake):
+        """As `balances`, by the settlement that burns each stake that is lost."""
+        return self._settled("match_burned", stake)
+
+    def _settled(self, name, stake):
+        balances, pool = (_WIDE * MOST_PROVERS)(), _WIDE()
+        log = self._log, len(self._log)
+        status = _call(name, ctypes.byref(self._numbers), _number(stake), *log, balances, MOST_PROVERS, ctypes.byref(pool))
+        return Settlement(tuple(balances[: self._numbers.provers]), pool.value) if self._is_over(status) else None
+
+    def _is_over(self, status):
+        if status not in (*Verdict, Status.STILL_OPEN):
+            raise Refused(status)
+        return status != Status.STILL_OPEN
+
+    def _append(self, prover, dispute, round_, answer):
+        self._play(self._log + struct.pack("<IIII", prover, dispute, round_, len(answer)) + answer)
+        return Reply(self._found.reply)
+
+    def _play(self, log):
+        """Finds what the match has come to after this log. After a refusal the match is as it was."""
+        found, asked = _Match(), (_Question * MOST_PROVERS)()
+        status = _call("match", ctypes.byref(self._numbers), log, len(log), ctypes.byref(found), asked, MOST_PROVERS)
+        if status == Status.BAD_LOG:
+            raise NoLog(found.at, found.cause, found.rule)
+        self._is_over(status)
+        self._status, self._found, self._log = status, found, log
+        self._questions = [Question(**{name: getattr(one, name) for name, _ in _Question._fields_}) for one in asked[: found.asked]]
+
+
+class Prover:
+    """The true answers of the run of a case, a JSON text as bytes. Whoever posts what it gives, in time, and is alone to post in its name,
+    is never put out."""
+
+    def __init__(self, case):
+        self.case = bytes(case)
+
+    def start_root(self):
+        """The root of the state in which the run starts, the `start` of a match of the case: 32 bytes, or Refused."""
+        return _done("start_root", self.case, len(self.case))
+
+    def roots_at(self, steps):
+        """The roots of the states after these many steps each, in their order; all are reached by one run. Refused if a step is above the
+        bound."""
+        text = _done("roots_at", self.case, len(self.case), (_WIDE * len(steps))(*map(_number, steps)), len(steps))
+        return [text[at : at + ROOT_BYTES] for at in range(0, len(text), ROOT_BYTES)]
+
+    def answer(self, question):
+        """The true answer to a Question of a match of the case, as a wire form; Refused if no match of the case asks it. It takes as long
+        as the run up to the step that is asked."""
+        kind, parts = _number(question.kind, _WORD), _number(question.parts, _WORD)
+        return _done("answer", self.case, len(self.case), kind, _number(question.low), _number(question.high), parts)
