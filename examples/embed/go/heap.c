@@ -1,2 +1,0 @@
-// Go compiles the C files of a package with it.
-#include "../heap.c"
