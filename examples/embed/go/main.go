@@ -7,7 +7,9 @@
 package main
 
 import (
+	"coshalit.example/coshalit"
 	"encoding/hex"
+	"errors"
 	"fmt"
 	"io"
 	"os"
@@ -17,7 +19,9 @@ import (
 	"syscall"
 )
 
-var rulings = map[Ruling]string{NotOpen: "not open", WrongShape: "wrong shape", NoProof: "no proof", WrongLength: "wrong length"}
+var rulings = map[coshalit.StepRefused]string{
+	coshalit.NotOpen: "not open", coshalit.WrongShape: "wrong shape", coshalit.NoProof: "no proof",
+}
 
 // The ruling on the step of a line, in words.
 func rulingOn(line string) (string, error) {
@@ -26,7 +30,7 @@ func rulingOn(line string) (string, error) {
 	if err != nil {
 		return "", err
 	}
-	root, err := hex.DecodeString(words[1])
+	digits, err := hex.DecodeString(words[1])
 	if err != nil {
 		return "", err
 	}
@@ -34,11 +38,17 @@ func rulingOn(line string) (string, error) {
 	if err != nil {
 		return "", err
 	}
-	ruling, next := CheckStep(uint32(version), root, proof)
-	if ruling == Leads {
-		return "leads " + hex.EncodeToString(next[:]), nil
+	var root coshalit.Root
+	if len(digits) != len(root) {
+		return "wrong length", nil
 	}
-	return rulings[ruling], nil
+	copy(root[:], digits)
+	next, err := coshalit.CheckStep(uint32(version), root, proof)
+	var why coshalit.StepRefused
+	if errors.As(err, &why) {
+		return rulings[why], nil
+	}
+	return "leads " + hex.EncodeToString(next[:]), err
 }
 
 const (
@@ -61,7 +71,7 @@ func write(text []byte) {
 }
 
 func main() {
-	commands := map[string]Command{"audit": Audit, "run": Run, "list": List}
+	commands := map[string]func([]byte) (string, error){"audit": coshalit.Audit, "run": coshalit.Run, "list": coshalit.List}
 	if len(os.Args) != 2 || (os.Args[1] != "steps" && commands[os.Args[1]] == nil) {
 		fail(usage, "steps|audit|run|list")
 	}
@@ -77,9 +87,13 @@ func main() {
 		fail(readFault, err)
 	}
 	if command != nil {
-		status, text := command(input)
-		write(text)
-		os.Exit(status)
+		text, err := command(input)
+		var why coshalit.Refusal
+		if errors.As(err, &why) {
+			text = why.Text
+		}
+		write([]byte(text))
+		os.Exit(int(why.Status))
 	}
 	if len(input) == 0 {
 		return

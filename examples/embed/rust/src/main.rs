@@ -5,9 +5,7 @@
 //!
 //! As refcli's, its status is 5 if standard input can't be read, and 6 if standard output can't be written; but Rust takes one that is closed,
 //! or open the wrong way, for an empty input, and for an output that takes everything.
-mod coshalit;
-
-use coshalit::{Command, Ruling, answer, check_step};
+use coshalit::{Error, StepRefused, audit, check_step, list, run};
 use std::ffi::OsString;
 use std::fmt::{Display, Write as _};
 use std::io::{self, Read, Write};
@@ -38,13 +36,13 @@ fn ruling_on(line: &str) -> Option<String> {
         return Some("wrong length".to_owned());
     };
     Some(match check_step(version, &root, &proof) {
-        Ruling::Leads(next) => next.iter().fold("leads ".to_owned(), |mut text, byte| {
+        Ok(next) => next.iter().fold("leads ".to_owned(), |mut text, byte| {
             let _ = write!(text, "{byte:02x}");
             text
         }),
-        Ruling::NotOpen => "not open".to_owned(),
-        Ruling::WrongShape => "wrong shape".to_owned(),
-        Ruling::NoProof => "no proof".to_owned(),
+        Err(StepRefused::NotOpen) => "not open".to_owned(),
+        Err(StepRefused::WrongShape) => "wrong shape".to_owned(),
+        Err(StepRefused::NoProof) => "no proof".to_owned(),
     })
 }
 
@@ -63,20 +61,25 @@ fn steps(input: &[u8]) -> io::Result<ExitCode> {
     Ok(ExitCode::SUCCESS)
 }
 
+type Command = fn(&[u8]) -> Result<String, Error>;
+
 fn carry_out(command: Command, input: &[u8]) -> io::Result<ExitCode> {
-    let found = answer(command, input);
-    io::stdout().write_all(&found.text)?;
+    let (status, text) = match command(input) {
+        Ok(text) => (0, text),
+        Err(why) => (why.status(), why.text().to_owned()),
+    };
+    io::stdout().write_all(text.as_bytes())?;
     io::stdout().flush()?;
-    Ok(ExitCode::from(found.status as u8))
+    Ok(ExitCode::from(status as u8))
 }
 
 fn main() -> ExitCode {
     let words: Vec<OsString> = std::env::args_os().skip(1).collect();
-    let command = match words.iter().map(|word| word.to_str()).collect::<Vec<_>>()[..] {
+    let command: Option<Command> = match words.iter().map(|word| word.to_str()).collect::<Vec<_>>()[..] {
         [Some("steps")] => None,
-        [Some("audit")] => Some(Command::Audit),
-        [Some("run")] => Some(Command::Run),
-        [Some("list")] => Some(Command::List),
+        [Some("audit")] => Some(audit),
+        [Some("run")] => Some(run),
+        [Some("list")] => Some(list),
         _ => return fail(USAGE, "steps|audit|run|list"),
     };
     let mut input = Vec::new();
