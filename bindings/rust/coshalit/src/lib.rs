@@ -9,6 +9,28 @@
 //! What is proved ends at the library. This crate passes slices, and gives errors as types; `include/coshalit.h` says what each call
 //! promises. A call takes no more memory than its arguments ask for, and can't be stopped: bound the cases and the texts that you give it.
 //!
+//! ```
+//! use coshalit::{Match, Numbers, Post, Prover, Verdict, audit};
+//!
+//! # fn main() -> Result<(), Box<dyn std::error::Error>> {
+//! // Two programs that put out one byte, 2a and 2b. The match is about the first.
+//! let case = |byte| format!(
+//!     r#"{{"format":"flat","image":"1305{byte}029308100073000000130500009308d00573000000","input":"","bound":8,"patience":0,"provers":[{{}}]}}"#
+//! );
+//! let provers = [Prover::new(case("a0")), Prover::new(case("b0"))];
+//! let start = provers[0].start_root()?;
+//! let mut game = Match::new(Numbers { version: 1, provers: 2, fan: 2, patience: 0, bound: 8, start })?;
+//! while let Some(&question) = game.questions().first() {
+//!     let answer = provers[question.prover as usize - 1].answer(&question)?;
+//!     game.post(question.prover, question.number, Post::Answer(&answer))?;
+//! }
+//! assert_eq!(game.verdict(), Some(Verdict::Accepted { prover: 1 }));
+//! let text = game.text()?.expect("the match is over");
+//! assert_eq!(audit(&text)?, "confirmed accept exited 0 output 2a\n");
+//! # Ok(())
+//! # }
+//! ```
+//!
 //! The crate has no `std`: it needs an allocator. Without the feature `malloc` the program defines the three functions by which the library
 //! asks for memory, as `coshalit-sys` says.
 #![no_std]
