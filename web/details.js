@@ -8,12 +8,6 @@ const WHY_NOT = {
 };
 const WORDS_OF_SPENT = { spent: "it didn't answer within the patience", faulty: "it answered something else than it was asked for" };
 const SYSTEM_CALLS = { 1: "output a byte", 2: "read a byte of the input", 93: "exit" };
-const LOAD = 0x03, STORE = 0x23, ECALL = 0x73;
-const MODULUS = 2 ** 32, CHUNK_BYTES = 32;
-
-function hexadecimal(number) {
-  return number.toString(16).padStart(8, "0");
-}
 
 /** The root of a claim: of its two digests and its control string (docs/COMMITMENTS.md). */
 function claimRoot(match, prover) {
@@ -38,8 +32,9 @@ function factsOfClaims(match, ofTask) {
 
 /** What the head of a text states, which a reader compares with the case, and the roots that are claimed. */
 function factsOfMatch(match, ofTask) {
-  const numbers = `${withCommas(match.provers)} provers, bound ${withCommas(match.bound)}, patience ${match.patience}, version ${match.version}, fan ${match.fan}`;
-  const head = [`head${ofTask}`, `${numbers.replace(/^1 provers/, "1 prover")}, digest ${match.digest}`];
+  const { provers, bound, patience, version, fan, digest } = match, count = `${provers} prover${provers === 1 ? "" : "s"}`;
+  const numbers = `${count}, bound ${withCommas(bound)}, patience ${patience}, version ${version}, fan ${fan}, digest ${digest}`;
+  const head = [`head${ofTask}`, numbers];
   return [[`start root${ofTask}`, match.start, "digest"], head, ...factsOfClaims(match, ofTask)];
 }
 
@@ -65,24 +60,14 @@ function detailsOfRound(match, dispute, round) {
   round.answers.forEach((answer) => {
     if (answer.word !== "given") facts.push([`p${answer.prover} is out`, `${answer.word}: ${WORDS_OF_SPENT[answer.word]}`]);
   });
-  const rows = round.cuts.map((cut, at) => [withCommas(cut), ...round.answers.map(({ roots }) => roots?.[at] ?? "none"), wordsOfCut(round, cut)]);
+  const rootsAt = (at) => round.answers.map(({ roots }) => roots?.[at] ?? "none");
+  const rows = round.cuts.map((cut, at) => [withCommas(cut), ...rootsAt(at), wordsOfCut(round, cut)]);
   return { facts, table: { head: ["cut at step", ...dispute.sides.map((side) => `root of p${side}`), "they are"], rows }, sections: [] };
-}
-
-/** The value of a register that a proof shows, or null. */
-function shownRegister(proof, register) {
-  if (register === 0) return 0;
-  if (proof.shown) return proof.shown[register];
-  const at = registersOf(proof.word).indexOf(register);
-  return proof.opened[at] ? numberOf(proof.opened[at].content) : null;
 }
 
 /** The address that a load or a store goes to, or null. */
 function addressOf(proof) {
-  const opcode = proof.word & 127, base = shownRegister(proof, (proof.word >>> 15) & 31);
-  if (base === null || (opcode !== LOAD && opcode !== STORE)) return null;
-  const low = opcode === LOAD ? (proof.word >>> 20) & 31 : (proof.word >>> 7) & 31;
-  return (base + ((proof.word >> 25) * 32 + low) + MODULUS) % MODULUS;
+  return accessOf(proof.word, (register) => shownRegister(proof, register) ?? 0)?.address ?? null;
 }
 
 /** Bytes in pairs of digits, four by four. */
@@ -93,12 +78,12 @@ function spaced(digits) {
 function factsOfInstruction(proof, instructionOf) {
   const { pc, status, code } = proof.control;
   if (!proof.fetched) {
-    const why = status === 0 ? `pc is ${hexadecimal(pc)}, which is no multiple of 4` : `the machine has stopped: ${STATUS_WORDS[status]}${code}`;
-    return [["instruction", `none: ${why}`]];
+    const hasStopped = `the machine has stopped: ${STATUS_WORDS[status]}${code}`;
+    return [["instruction", `none: ${status === RUNNING ? `pc is ${hexadecimal(pc)}, which is no multiple of 4` : hasStopped}`]];
   }
   const facts = [["instruction", `${instructionOf(proof.fetched.content.slice(2 * (pc % CHUNK_BYTES)).slice(0, 8))}`, "code"]];
   facts.push(["at", `pc ${hexadecimal(pc)}, the word ${hexadecimal(proof.word)}`]);
-  if (proof.word === ECALL) facts.push(["call", SYSTEM_CALLS[shownRegister(proof, 17)] ?? "none that there is"]);
+  if (proof.word === ECALL_WORD) facts.push(["call", SYSTEM_CALLS[shownRegister(proof, 17)] ?? "none that there is"]);
   for (const register of registersOf(proof.word)) {
     const value = shownRegister(proof, register);
     if (value !== null) facts.push([`x${register}`, `${hexadecimal(value)} (${withCommas(value)})`]);
@@ -113,8 +98,10 @@ function factsOfOpenings(proof) {
   if (proof.fetched) add(`memory at ${from(proof.control.pc)}, fetched`, proof.fetched);
   proof.opened.forEach((opening, at) => add(`register x${registersOf(proof.word)[at] ?? "?"}`, opening));
   const address = proof.data ? addressOf(proof) : null;
-  if (proof.data) add(address === null ? "memory, data" : `memory at ${from(address)}, for the access at ${hexadecimal(address)}`, proof.data);
-  if (proof.input) add(`input, of ${withCommas(proof.inputLength)} bytes, chunk ${Math.floor((shownRegister(proof, 10) ?? 0) / CHUNK_BYTES)}`, proof.input);
+  const ofAccess = address === null ? "memory, data" : `memory at ${from(address)}, for the access at ${hexadecimal(address)}`;
+  const chunk = Math.floor((shownRegister(proof, 10) ?? 0) / CHUNK_BYTES);
+  if (proof.data) add(ofAccess, proof.data);
+  if (proof.input) add(`input, of ${withCommas(proof.inputLength)} bytes, chunk ${chunk}`, proof.input);
   return facts;
 }
 
@@ -130,31 +117,79 @@ function linesOfPath(name, { content, siblings }) {
   return [`${name}: ${content}`, ...siblings.map((sibling, level) => `${String(level).padStart(2)} ${sibling}`)];
 }
 
-/** What isn't shown at first: digests, control, all registers, and paths. */
-function moreOf(proof) {
-  const { control } = proof;
-  const state = [`memory    ${proof.memory}`, proof.registers ? `registers ${proof.registers}` : "", proof.inputRoot ? `input     ${proof.inputRoot}` : ""].filter(Boolean);
-  state.push(`pc ${hexadecimal(control.pc)}, ${STATUS_WORDS[control.status]}${control.status ? control.code : ""}, ${withCommas(control.length)} bytes of output`);
-  state.push(`chain     ${control.chain}`);
+/** What isn't shown at first: the state's parts, with their digests if those are by SHA-256, all registers, and paths. */
+function moreOf(proof, digest) {
+  const { pc, status, code, length, chain } = proof.control, state = [`memory    ${proof.memory}`];
+  if (proof.registers) state.push(`registers ${proof.registers}`);
+  if (proof.inputRoot) state.push(`input     ${proof.inputRoot}`);
+  state.push(`pc ${hexadecimal(pc)}, ${STATUS_WORDS[status]}${status ? code : ""}, ${withCommas(length)} bytes of output`);
+  state.push(`chain     ${chain}`);
+  if (digest === "sha256") state.push("", ...linesOfDigests(proof, digestsOf(proof)));
   const more = [{ title: "The state's parts", lines: state }];
-  if (proof.shown) more.push({ title: "All registers", lines: proof.shown.map((value, register) => `x${String(register).padEnd(2)} ${hexadecimal(value)}`) });
-  const openings = [["fetched", proof.fetched], ...proof.opened.map((opening) => ["register", opening]), ["data", proof.data], ["input", proof.input]];
+  const lineOf = (value, register) => `x${String(register).padEnd(2)} ${hexadecimal(value)}`;
+  if (proof.shown) more.push({ title: "All registers", lines: proof.shown.map(lineOf) });
+  const { fetched, opened, data, input } = proof;
+  const openings = [["fetched", fetched], ...opened.map((opening) => ["register", opening]), ["data", data], ["input", input]];
   const lines = openings.filter(([, opening]) => opening).flatMap(([name, opening]) => linesOfPath(name, opening));
   if (lines.length > 0) more.push({ title: "Openings with their siblings, the leaf's own first", lines });
   return more;
 }
 
+/** What a step writes, each with what was there before. */
+function factsOfEffect(proof, { effect, after }) {
+  const { control } = proof, { writes, stores, output } = effect;
+  if (effect.isStopped) return [["nothing", "the machine has stopped, and stays as it is"]];
+  const facts = [["pc", `${hexadecimal(control.pc)} → ${hexadecimal(after.control.pc)}`]];
+  if (effect.status !== undefined) facts.push(["status", `running → ${STATUS_WORDS[effect.status]}${effect.code}`]);
+  if (writes?.register === 0) facts.push(["x0", "stays 0: what is written to it is dropped"]);
+  else if (writes) {
+    facts.push([`x${writes.register}`, `${hexadecimal(shownRegister(proof, writes.register))} → ${hexadecimal(writes.value)}`]);
+  }
+  if (stores) {
+    const before = digitsOfBytes(bytesInChunk(proof.data.content, stores.address, stores.bytes.length));
+    facts.push([`memory at ${hexadecimal(stores.address)}`, `${before} → ${digitsOfBytes(stores.bytes)}`, "bytes"]);
+  }
+  if (output !== undefined) {
+    const lengths = `${withCommas(control.length)} → ${withCommas(after.control.length)}`;
+    facts.push(["output", `the byte ${littleEndian(output, 1)}, its length ${lengths}`]);
+  }
+  return facts;
+}
+
+/** The parts of a state with their digests, as lines. */
+function linesOfDigests(parts, digests) {
+  return [
+    `memory digest    ${digests.memory}`, `registers digest ${digests.registers}`, `control digest   ${digests.control}`,
+    `control string   ${OF_CONTROL}${controlDigits(parts.control)}`, `root             ${digests.root}`,
+  ];
+}
+
+/** The state's parts after a step, with their digests. */
+function moreAfter({ after, digests }) {
+  return [{ title: "The state's parts after it, with their digests", lines: linesOfDigests(after, digests) }];
+}
+
+/** What is worked out beside the ruling on a proof: what its step writes, or where it fails. */
+function factsOfExplained(proof, explained) {
+  const failed = explained.conditions.find(({ holds }) => !holds);
+  if (failed) return [["fails", failed.about], ["wanted", failed.wanted, "digest"], ["found", failed.found, "digest"]];
+  return factsOfEffect(proof, explained).map(([name, words, kind = "plain"]) => [`writes ${name}`, words, kind]);
+}
+
+function sectionOfAnswer(match, round, answer, own, instructionOf) {
+  const { proof } = answer, facts = [["why", whyOf(answer, own)]];
+  const section = { title: `p${answer.prover}`, mark: wordOf(round, answer), facts, more: [] };
+  if (!proof) return section;
+  facts.push(...factsOfInstruction(proof, instructionOf), ...factsOfOpenings(proof));
+  if (match.digest === "sha256") facts.push(...factsOfExplained(proof, explainedStep(proof, match.version, round.agreed)));
+  if (answer.check?.next) facts.push(["it leads to", answer.check.next, "digest"]);
+  facts.push(["proof", `version ${proof.version}, ${withCommas(answer.wire.length / 2)} bytes`]);
+  return { ...section, more: moreOf(proof, match.digest) };
+}
+
 function detailsOfStep(match, dispute, round, instructionOf) {
   const own = ownRoots(match, dispute, round);
-  const sections = round.answers.map((answer, at) => {
-    const mark = wordOf(round, answer), facts = [["why", whyOf(answer, own[at])]], { proof } = answer;
-    if (proof) {
-      facts.push(...factsOfInstruction(proof, instructionOf), ...factsOfOpenings(proof));
-      if (answer.check?.next) facts.push(["it leads to", answer.check.next, "digest"]);
-      facts.push(["proof", `version ${proof.version}, ${withCommas(answer.wire.length / 2)} bytes`]);
-    }
-    return { title: `p${answer.prover}`, mark, facts, more: proof ? moreOf(proof) : [] };
-  });
+  const sections = round.answers.map((answer, at) => sectionOfAnswer(match, round, answer, own[at], instructionOf));
   return { facts: factsOfInterval(match, dispute, round), table: null, sections };
 }
 

@@ -97,6 +97,12 @@ function wordsOfRound(match, dispute, round) {
   return `round ${round.number} [${withCommas(round.low)}, ${withCommas(round.high)}] ${where}: ${found}`;
 }
 
+/** What the round is shown as that is asked for. */
+function wordsOfOpen({ rounds, open: { low, high } }) {
+  if (high - low === 1) return `step ${withCommas(low)}: both are asked for its proof`;
+  return `round ${rounds.length + 1} [${withCommas(low)}, ${withCommas(high)}]: both are asked`;
+}
+
 function headOf(match) {
   let head = `${match.provers} prover${match.provers > 1 ? "s" : ""}, bound ${withCommas(match.bound)}, patience ${match.patience}`;
   for (const [name, usual] of [["version", 1], ["fan", 2], ["digest", "sha256"]]) if (match[name] !== usual) head += `, ${name} ${match[name]}`;
@@ -226,10 +232,24 @@ class Picture {
         this.down(live, 1, dispute.sides);
       }
       this.drawRound(dispute, round);
+      const hasEnded = isLast && !dispute.open;
       if (isLast) out.forEach((prover) => this.cross(prover));
-      this.down(isLast ? left : live, 1, isLast ? [] : dispute.sides);
+      this.down(hasEnded ? left : live, 1, hasEnded ? [] : dispute.sides);
     });
+    if (dispute.open) this.drawOpen(dispute, live);
     return left;
+  }
+
+  /** The round that is asked for: its interval, on which the sides haven't answered yet. */
+  drawOpen(dispute, live) {
+    const { low, high } = dispute.open, isStep = high - low === 1;
+    if (!isStep && ZOOM * (high - low) <= this.scale[1] - this.scale[0]) {
+      this.zoom(low, high);
+      this.down(live, 1, dispute.sides);
+    }
+    this.bar(low, high, isStep ? DARK : GREY);
+    this.text(this.words, wordsOfOpen(dispute));
+    this.down(live, 1, dispute.sides);
   }
 
   /** Bars are from now on drawn between these steps. */
@@ -307,8 +327,8 @@ class Picture {
 /**
  * The pictures of matches below one another, as the text of an SVG file, with the size and the rows of the rounds.
  *
- * `matches` are those of the tasks of a text, or one match in a list if `areTasks` is false. Their proofs have been ruled on. The stake is a number, or null if
- * no balances are drawn, one for each match.
+ * `matches` are those of the tasks of a text, or one match in a list if `areTasks` is false. Their proofs have been ruled on. The stake is
+ * a number, or null if no balances are drawn, one for each match.
  */
 function drawMatches(matches, areTasks, stakes) {
   const titles = matches.map((match, at) => (areTasks ? `task ${at + 1}: ` : "") + headOf(match));

@@ -1,8 +1,9 @@
 // Reads a full text as a match: its claims, disputes, rounds and proofs, and the lines of its report.
 //
-// Only a text that the audit has confirmed is read (docs/PROGRAM.md, docs/GAME.md), so that no form is tested here. Whether a proof of a step is proved
-// isn't decided here either: `textOfOneProof` makes the full text of a small match that comes to an accepted claim if and only if it is, and the caller
-// has that audited. Numbers are below 2^53, except for the length of an output, which a refuted proof may make up to 2^64; and bytes are kept as the hexadecimal digits of the text.
+// Only a text that the audit has confirmed is read, or answers that the library has taken (docs/PROGRAM.md, docs/GAME.md), so that no form
+// is tested here. Whether a proof of a step is proved isn't decided here either: `textOfOneProof` makes the full text of a small match that
+// comes to an accepted claim if and only if it is, and the caller has that audited. Numbers are below 2^53, except for the length of an
+// output, which a refuted proof may make up to 2^64. Bytes are kept as the hexadecimal digits of the text.
 "use strict";
 
 const STATUS_WORDS = ["running", "exited ", "trapped "];
@@ -42,7 +43,8 @@ function numberOf(digits) {
 
 function readControl(source) {
   const digits = source.take(49), fields = new Digits(digits);
-  return { digits, pc: fields.number(4), status: fields.number(1), code: fields.number(4), length: fields.wideNumber(8), chain: fields.take(32) };
+  const [pc, status, code] = [4, 1, 4].map((bytes) => fields.number(bytes));
+  return { digits, pc, status, code, length: fields.wideNumber(8), chain: fields.take(32) };
 }
 
 function readClaim(wire) {
@@ -87,17 +89,6 @@ function readProof(wire) {
   return proof;
 }
 
-/** The registers that a word names: those that it reads, then the one that it writes; `x0` never, and each once (docs/COMMITMENTS.md). */
-function registersOf(word) {
-  if (word === 0x73) return [17, 10];
-  const rd = (word >>> 7) & 31, first = (word >>> 15) & 31, second = (word >>> 20) & 31;
-  const named = {
-    0x37: [rd], 0x17: [rd], 0x6f: [rd], 0x67: [first, rd], 0x63: [first, second],
-    0x03: [first, rd], 0x23: [first, second], 0x13: [first, rd], 0x33: [first, second, rd],
-  }[word & 127] || [];
-  return [...new Set(named)].filter((register) => register !== 0);
-}
-
 /** The ends of the parts into which a round cuts an interval. */
 function cutsOf(low, high, fan) {
   const parts = Math.min(fan, high - low);
@@ -117,74 +108,92 @@ function readHead(line) {
   return head;
 }
 
+/** The numbers of a match, as its head has them. */
+function numbersOf({ provers, bound, patience, version, fan, digest }) {
+  return `provers ${provers} bound ${bound} patience ${patience} version ${version} fan ${fan} digest ${digest}`;
+}
+
 /** A line `move D R pI ..`: its number in the text, and the answer's digits, none if it is spent. */
 function readMove(line, number) {
   const [, dispute, round, prover, word, wire = ""] = line.split(" ");
   return { line: number, dispute: Number(dispute), round: Number(round), prover: Number(prover.slice(1)), word, wire };
 }
 
-/**
- * The match of a confirmed full text, `text` a string.
- *
- * `claims` and `unclaimed` are by prover; `stages` are lists of disputes; a dispute has its two sides in `sides` and its rounds. A round has the interval
- * `low` to `high`, the root `agreed` at its low end and each side's `own` root at its high end (null where that is the claim's, which `claimRoot` makes), the
- * `cuts` between, both `answers`, and `kept`, the interval that is left, or null where the dispute ends. The proofs of a step are the round with `isStep`.
- */
+/** The match of a confirmed full text, `text` a string. */
 function readMatch(text) {
   const lines = text.split("\n");
   lines.pop();
-  const head = readHead(lines[0]), verdict = lines[lines.length - 1];
-  const moves = lines.slice(1, -1).map((line, at) => readMove(line, at + 2));
-  const match = { ...head, verdict, claims: new Map(), unclaimed: new Map(), stages: [], disputes: [], moves };
-  for (const move of moves.splice(0, head.provers)) {
+  return matchOf(readHead(lines[0]), lines.slice(1, -1).map((line, at) => readMove(line, at + 2)), lines[lines.length - 1]);
+}
+
+/**
+ * The match of a head, of its moves in the order of a full text, and of a verdict. It may be unfinished: then the moves are those of whole
+ * rounds.
+ *
+ * `claims` and `unclaimed` are by prover; `stages` are lists of disputes; a dispute has its two sides in `sides`, its rounds, and in `open`
+ * what its next round cuts or shows, or null where it has ended. A round has the interval `low` to `high`, the root `agreed` at its low end
+ * and each side's `own` root at its high end (null where that is the claim's, which `claimRoot` makes), the `cuts` between, both `answers`,
+ * and `kept`, the interval that is left, or null where the dispute ends. The proofs of a step are the round with `isStep`.
+ */
+function matchOf(head, moves, verdict) {
+  const match = { ...head, verdict, claims: new Map(), unclaimed: new Map(), stages: [], disputes: [] };
+  const isOfClaims = ({ dispute }) => dispute === 0, left = moves.filter((move) => !isOfClaims(move));
+  for (const move of moves.filter(isOfClaims)) {
     if (move.word === "given") match.claims.set(move.prover, { ...readClaim(move.wire), wire: move.wire, line: move.line });
     else match.unclaimed.set(move.prover, move.word);
   }
-  for (let at = 0; at < moves.length; ) {
+  for (let at = 0; at < left.length; ) {
     const from = at;
-    while (at < moves.length && moves[at].dispute === moves[from].dispute) at += 1;
-    addDispute(match, moves.slice(from, at));
+    while (at < left.length && left[at].dispute === left[from].dispute) at += 1;
+    addDispute(match, left[from].dispute, [left[from].prover, left[from + 1].prover], left.slice(from, at));
   }
   return match;
 }
 
-/** Adds a dispute. Its stage is the last one unless one of its sides has a dispute there: two that are left over in a stage have one root. */
-function addDispute(match, moves) {
-  const dispute = { number: moves[0].dispute, sides: [moves[0].prover, moves[1].prover], rounds: [] };
+/** Adds a dispute. Its stage is the last one unless one of its sides has a dispute there: two left over in a stage have one root. */
+function addDispute(match, number, sides, moves) {
+  const dispute = { number, sides, rounds: [], open: { low: 0, high: match.bound, agreed: match.start, own: [null, null] } };
   const last = match.stages[match.stages.length - 1];
-  if (!last || last.some((other) => other.sides.some((side) => dispute.sides.includes(side)))) match.stages.push([dispute]);
+  if (!last || last.some((other) => other.sides.some((side) => sides.includes(side)))) match.stages.push([dispute]);
   else last.push(dispute);
   match.disputes.push(dispute);
-  let left = { low: 0, high: match.bound, agreed: match.start, own: [null, null] };
   for (let at = 0; at < moves.length; at += 2) {
-    const answers = moves.slice(at, at + 2), number = at / 2 + 1;
-    const isStep = left.high - left.low === 1;
-    const round = { ...left, number, isStep, cuts: [], answers, kept: null };
+    const round = roundOf(match, dispute, moves.slice(at, at + 2));
     dispute.rounds.push(round);
-    if (isStep) {
-      for (const answer of answers) answer.proof = answer.word === "given" ? readProof(answer.wire) : null;
-      continue;
-    }
-    const ends = cutsOf(left.low, left.high, match.fan);
-    round.cuts = ends.slice(1, -1);
-    for (const answer of answers) answer.roots = answer.word === "given" ? readRoots(answer.wire) : null;
-    if (answers.some((answer) => answer.word !== "given")) continue;
-    const part = keptPart(answers[0].roots, answers[1].roots);
-    const agreed = part > 0 ? answers[0].roots[part - 1] : left.agreed;
-    const own = part < round.cuts.length ? answers.map((answer) => answer.roots[part]) : left.own;
-    round.part = part + 1;
-    left = { low: ends[part], high: ends[part + 1], agreed, own };
-    round.kept = [left.low, left.high];
+    dispute.open = afterRound(round);
   }
 }
 
+/** The next round of a dispute, with both answers. */
+function roundOf(match, dispute, answers) {
+  const { low, high } = dispute.open, isStep = high - low === 1;
+  const round = { ...dispute.open, number: dispute.rounds.length + 1, isStep, cuts: [], answers, kept: null };
+  if (isStep) {
+    for (const answer of answers) answer.proof = answer.word === "given" ? readProof(answer.wire) : null;
+    return round;
+  }
+  const ends = cutsOf(low, high, match.fan);
+  round.cuts = ends.slice(1, -1);
+  for (const answer of answers) answer.roots = answer.word === "given" ? readRoots(answer.wire) : null;
+  if (answers.some((answer) => answer.word !== "given")) return round;
+  const part = keptPart(answers[0].roots, answers[1].roots);
+  return { ...round, part: part + 1, kept: [ends[part], ends[part + 1]] };
+}
+
+/** What is left after a round for the next one, or null where the dispute ends. */
+function afterRound(round) {
+  if (!round.kept) return null;
+  const [low, high] = round.kept, at = round.part - 1, roots = round.answers.map((answer) => answer.roots);
+  const agreed = at > 0 ? roots[0][at - 1] : round.agreed, own = at < round.cuts.length ? roots.map((list) => list[at]) : round.own;
+  return { low, high, agreed, own };
+}
+
 /**
- * The full text of a match of two, the sides of this dispute, in which one of them gives all its answers and the other doesn't prove its step: the claim
- * of that side is accepted if and only if its proof is proved.
+ * The full text of a match of two, the sides of this dispute, in which one of them gives all its answers and the other doesn't prove its
+ * step: the claim of that side is accepted if and only if its proof is proved.
  */
 function textOfOneProof(match, dispute, side) {
-  const numbers = `provers 2 bound ${match.bound} patience ${match.patience} version ${match.version} fan ${match.fan} digest ${match.digest}`;
-  const lines = [`refereed ${numbers} start ${match.start}`];
+  const lines = [`refereed ${numbersOf({ ...match, provers: 2 })} start ${match.start}`];
   const wires = dispute.sides.map((prover) => match.claims.get(prover).wire);
   wires.forEach((wire, at) => lines.push(`move 0 0 p${at + 1} given ${wire}`));
   for (const round of dispute.rounds) {
@@ -205,7 +214,9 @@ function wordOf(round, answer) {
 
 /** The sides of a dispute that are out at its end. */
 function outOf(dispute) {
-  const last = dispute.rounds[dispute.rounds.length - 1], stays = last.isStep ? "proved" : "given";
+  const last = dispute.rounds[dispute.rounds.length - 1];
+  if (!last) return [];
+  const stays = last.isStep ? "proved" : "given";
   return dispute.sides.filter((_, at) => wordOf(last, last.answers[at]) !== stays);
 }
 
@@ -234,13 +245,13 @@ function lineOfRound(match, dispute, round) {
 }
 
 /**
- * The lines of the report of a match whose proofs have been ruled on, each with the dispute and the round that it is about, if it is about one. With
- * a stake, which a full text doesn't state, the balances are among them; without one it is null.
+ * The lines of the report of a match whose proofs have been ruled on, each with the dispute and the round that it is about, if it is about
+ * one. With a stake, which a full text doesn't state, the balances are among them; without one it is null.
  */
 function reportOf(match, stake) {
   const lines = [];
   const add = (words, dispute, round) => lines.push({ words, dispute, round });
-  add(`match provers ${match.provers} bound ${match.bound} patience ${match.patience} version ${match.version} fan ${match.fan} digest ${match.digest}`);
+  add(`match ${numbersOf(match)}`);
   for (let prover = 1; prover <= match.provers; prover += 1) {
     const claim = match.claims.get(prover);
     add(claim ? `p${prover} claims ${claim.words}` : `out p${prover} ${match.unclaimed.get(prover)}`);
