@@ -4,7 +4,7 @@
 "use strict";
 
 const PLAYER = 1, HONEST = 2;
-const NONE = 0, TAKEN = 1, FAULTY = 2, SPENT = 3;
+const TAKEN = 1, FAULTY = 2, SPENT = 3;
 const WORD_OF_REPLY = { [TAKEN]: "given", [FAULTY]: "faulty", [SPENT]: "spent" };
 const ENTRY_BYTES = 16;
 

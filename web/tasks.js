@@ -7,8 +7,8 @@ const HEAD_OF_TASK = /(?<![^\n])task [^\n]*/g;
 const ARE_TASKS = "fault case 6 tasks\n";
 
 /**
- * The full texts of a text as bytes, one for each task, or the text itself if it isn't of tasks. Tasks are numbered from 1, by lines `task
- * T`, and there are at most 8; `wrong` says where that is otherwise, and else is null.
+ * The full texts of a text as bytes, one for each task, or the text itself if it isn't of tasks. Lines `task T` number the tasks from 1, and
+ * there are at most 8; `wrong` says where that is otherwise, and else is null.
  */
 function textsOf(bytes) {
   if (LATIN.decode(bytes.subarray(0, 5)) !== "task ") return { texts: [bytes], areTasks: false, wrong: null };
