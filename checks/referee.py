@@ -1,6 +1,7 @@
 """A second referee of one step, written from docs/COMMITMENTS.md and docs/MACHINE.md alone. It shares nothing with tools/, and isn't proved.
 
-`leads` says to which root a proof leads. `wire_forms` reads answers, `second_machine` makes a step on what a proof opens, `second_game` plays matches.
+`leads` says to which root a proof leads. `wire_forms` reads answers, `second_machine` makes a step on what a proof opens, and on
+`second_board` a match is played.
 """
 from second_machine import TARGET, Instruction, Step
 from wire_forms import (
