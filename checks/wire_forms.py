@@ -83,13 +83,17 @@ class Opening:
         self.content, self.siblings = content, siblings
 
 
+def chain_of(digest, output):
+    """The chain of an output."""
+    return functools.reduce(lambda chain, byte: digest(b"\x05" + chain + bytes([byte])), output, bytes(32))
+
+
 class Claim:
     def __init__(self, memory, registers, control, output):
         self.memory, self.registers, self.control, self.output = memory, registers, control, output
 
     def is_sound(self, digest):
-        chain = functools.reduce(lambda chain, byte: digest(b"\x05" + chain + bytes([byte])), self.output, bytes(32))
-        return self.control.length == len(self.output) and self.control.chain == chain
+        return self.control.length == len(self.output) and self.control.chain == chain_of(digest, self.output)
 
     def root(self, digest):
         return digest(b"\x04" + self.memory + self.registers + digest(self.control.string()))
