@@ -1,6 +1,7 @@
 """How the tools read, write and end: one line on standard error and status 1 if something is wrong, and never a traceback."""
 from __future__ import annotations
 
+import argparse
 import os
 import re
 import sys
@@ -58,6 +59,18 @@ def number_in(text: str, least: int, most: int) -> Optional[int]:
     if not re.fullmatch("[0-9]{1,20}", text) or not least <= int(text) <= most:
         return None
     return int(text)
+
+
+def number_from(least: int, most: int) -> Callable[[str], int]:
+    """The type of an argument that is a number within these limits."""
+
+    def number(text: str) -> int:
+        found = number_in(text, least, most)
+        if found is None:
+            raise argparse.ArgumentTypeError(f"{shown(text)!r} isn't a number from {least:,} to {most:,}")
+        return found
+
+    return number
 
 
 class Progress:
