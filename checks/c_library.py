@@ -5,15 +5,12 @@ import shutil
 import struct
 import subprocess
 
-TOP = pathlib.Path(__file__).resolve().parent.parent
+from checking import TOP, stop
+
 LIBRARY = TOP / "crates/coshalit_c/out/libcoshalit_c.a"
 HEAP = TOP / "examples/embed/heap.c"
 ACCEPTED, NONE_LEFT, COLLISION, STILL_OPEN, BAD_LOG = 0, 10, 11, 13, 15
 MOST_TEXT = 1 << 22
-
-
-class NoLibrary(Exception):
-    """There is no shared library to call, with the reason."""
 
 
 class Numbers(ctypes.Structure):
@@ -35,17 +32,19 @@ class Answer(ctypes.Structure):
 
 
 class Library:
-    """The calls, of a shared library that is made of the static one."""
+    """The calls, of a shared library that is made of the static one in a folder. If it can't be made the check ends in status 2."""
 
     def __init__(self, library, folder):
+        if not library.is_file():
+            stop(f"there is no {library}: `rt lib` in crates/coshalit_c makes it")
         shared = pathlib.Path(folder) / "libcoshalit.so"
         compiler = shutil.which("cc")
         if compiler is None:
-            raise NoLibrary("there is no C compiler `cc` here")
+            stop("there is no C compiler `cc` here")
         words = [compiler, "-shared", "-fPIC", "-o", shared, HEAP, "-Wl,--whole-archive", library, "-Wl,--no-whole-archive"]
         made = subprocess.run(words, stdout=subprocess.PIPE, stderr=subprocess.STDOUT, text=True)
         if made.returncode != 0:
-            raise NoLibrary(f"no shared library can be made of {library}:\n{made.stdout}")
+            stop(f"no shared library can be made of {library}:\n{made.stdout}")
         calls = ctypes.CDLL(str(shared))
         size, text = ctypes.c_size_t, ctypes.c_char_p
         calls.coshalit_match.restype = ctypes.c_uint32

@@ -8,12 +8,10 @@ The program is JALR x0, 0(x5). The first is the least pair of multiples of 4 up 
 second is the first multiple of 4 whose state before the step has the root of the honest one, and whose state after it another root than
 the honest one. No code is taken from the crates.
 """
-import pathlib
 import sys
 
-# No folder of compiled modules beside the sources.
 sys.dont_write_bytecode = True
-sys.path.insert(0, str(pathlib.Path(__file__).resolve().parent.parent / "tools"))
+from checking import no_arguments  # noqa: E402
 from coshalit import commitments, images, process  # noqa: E402
 from coshalit.commitments import weak8  # noqa: E402
 
@@ -68,12 +66,7 @@ def lines():
 
 
 def main():
-    if sys.argv[1:] in (["--help"], ["-h"]):
-        print(__doc__, end="")
-        return 0
-    if len(sys.argv) != 1:
-        print(__doc__, end="", file=sys.stderr)
-        return 2
+    no_arguments(__doc__)
     for line in lines():
         print(line)
     return 0

@@ -6,7 +6,9 @@ import struct
 import sys
 import tempfile
 
-sys.path.insert(0, str(pathlib.Path(__file__).resolve().parent.parent / "bench"))
+from checking import TOP
+
+sys.path.insert(1, str(TOP / "bench"))
 import measuring  # noqa: E402
 
 PROVERS, MOST_TASKS = 16, 8

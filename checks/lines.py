@@ -11,12 +11,10 @@ What has to be written is what the game of tools/coshalit gives, which is writte
 docs/COMMITMENTS.md; no code is taken from the crates. FILE has to be the full text of a match, which `refcli audit` confirms. A change after which
 the text is that of another legal match isn't among them.
 """
-import pathlib
 import sys
 
-# No folder of compiled modules beside the sources.
 sys.dont_write_bytecode = True
-sys.path[:0] = [str(pathlib.Path(__file__).resolve().parent), str(pathlib.Path(__file__).resolve().parent.parent / "tools")]
+from checking import parser_of  # noqa: E402
 import texts  # noqa: E402
 from coshalit import game, process  # noqa: E402
 
@@ -107,23 +105,21 @@ def stored(data):
 
 
 def main():
-    if sys.argv[1:] in (["--help"], ["-h"]):
-        print(__doc__, end="")
-        return 0
-    words = sys.argv[1:]
-    if len(words) not in (1, 2) or (len(words) == 2 and words[0] not in ("--answers", "--stored")) or words[-1].startswith("-"):
-        print(__doc__, end="", file=sys.stderr)
-        return 2
-    data = process.bytes_of_file(words[-1], 1 << 28, "a file of texts")
+    parser = parser_of(__doc__)
+    parser.add_argument("--answers", action="store_true")
+    parser.add_argument("--stored", action="store_true")
+    parser.add_argument("file", metavar="FILE")
+    asked = parser.parse_args()
+    data = process.bytes_of_file(asked.file, 1 << 28, "a file of texts")
     try:
-        if words[0] == "--stored":
+        if asked.stored:
             for answer in stored(data):
                 print(answer)
             return 0
         for what, _, answer in answers(data):
-            print(answer if len(words) == 2 else f"{what}: {answer}")
+            print(answer if asked.answers else f"{what}: {answer}")
     except NoMatch as fault:
-        process.stop(f"{words[-1]} isn't the text of a match: {fault}")
+        process.stop(f"{asked.file} isn't the text of a match: {fault}")
     return 0
 
 

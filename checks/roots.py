@@ -6,12 +6,10 @@
 IMAGE and INPUT are hexadecimal, the image is flat. It prints what `refcli roots` prints of such a case in version 1: for i from 0 to
 the bound, `i` and the root of the i-th state. Memory is hashed from scratch at each step, and no code is taken from the crates.
 """
-import pathlib
 import sys
 
-# No folder of compiled modules beside the sources.
 sys.dont_write_bytecode = True
-sys.path.insert(0, str(pathlib.Path(__file__).resolve().parent.parent / "tools"))
+from checking import parser_of  # noqa: E402
 from coshalit import images, machine, process  # noqa: E402
 from coshalit.commitments import root_of  # noqa: E402
 
@@ -24,25 +22,13 @@ def roots(image, bound, given):
         machine.step(state)
 
 
-def hexadecimal(text, what):
-    try:
-        return bytes.fromhex(text)
-    except ValueError:
-        process.stop(f"{what} isn't bytes in hexadecimal")
-
-
 def main():
-    if sys.argv[1:] in (["--help"], ["-h"]):
-        print(__doc__, end="")
-        return 0
-    if len(sys.argv) not in (3, 4):
-        print(__doc__, end="", file=sys.stderr)
-        return 2
-    bound = process.number_in(sys.argv[2], 0, machine.MODULUS - 1)
-    if bound is None:
-        process.stop(f"the bound {process.shown(sys.argv[2])!r} isn't a number below 2^32")
-    given = hexadecimal(sys.argv[3], "INPUT") if len(sys.argv) > 3 else b""
-    for step, root in roots(hexadecimal(sys.argv[1], "IMAGE"), bound, given):
+    parser = parser_of(__doc__)
+    parser.add_argument("image", metavar="IMAGE", type=bytes.fromhex)
+    parser.add_argument("bound", metavar="BOUND", type=process.number_from(0, machine.MODULUS - 1))
+    parser.add_argument("input", metavar="INPUT", type=bytes.fromhex, nargs="?", default=b"")
+    asked = parser.parse_args()
+    for step, root in roots(asked.image, asked.bound, asked.input):
         print(step, root.hex())
     return 0
 

@@ -8,12 +8,10 @@
 
 It is written from docs/TEXTS.md and docs/COMMITMENTS.md; no code is taken from the crates. It plays no match: `lines.py` does.
 """
-import pathlib
 import sys
 
-# No folder of compiled modules beside the sources.
 sys.dont_write_bytecode = True
-sys.path.insert(0, str(pathlib.Path(__file__).resolve().parent.parent / "tools"))
+from checking import parser_of  # noqa: E402
 from coshalit import process, texts  # noqa: E402
 
 
@@ -54,26 +52,29 @@ def rows(data, command):
             yield name.decode(), text.replace(b"|", b"\n")
 
 
+def content_of(path):
+    return process.bytes_of_file(path, 8 * texts.MAX_BYTES, "a file of texts")
+
+
+def print_mutants(text):
+    for mutant in mutants(text):
+        print(read(mutant))
+
+
 def main():
-    if sys.argv[1:] in (["--help"], ["-h"]):
-        print(__doc__, end="")
-        return 0
-    words = sys.argv[1:]
-    if words == []:
+    parser = parser_of(__doc__)
+    one = parser.add_mutually_exclusive_group()
+    one.add_argument("--mutants", metavar="FILE", type=content_of)
+    one.add_argument("--stored", metavar="FILE", type=content_of)
+    asked = parser.parse_args()
+    if asked.stored is not None:
+        for name, row in rows(asked.stored, b"mutants"):
+            print(f"{name}:")
+            print_mutants(row)
+    elif asked.mutants is not None:
+        print_mutants(asked.mutants)
+    else:
         print(read(process.bytes_given(2 * texts.MAX_BYTES)))
-        return 0
-    if len(words) != 2 or words[0] not in ("--mutants", "--stored"):
-        print(__doc__, end="", file=sys.stderr)
-        return 2
-    text = process.bytes_of_file(words[1], 8 * texts.MAX_BYTES, "a file of texts")
-    if words[0] == "--mutants":
-        for mutant in mutants(text):
-            print(read(mutant))
-        return 0
-    for name, row in rows(text, b"mutants"):
-        print(f"{name}:")
-        for mutant in mutants(row):
-            print(read(mutant))
     return 0
 
 

@@ -4,17 +4,13 @@ Which cases are decided is read here, and is never asked of the program that is 
 """
 import json
 import os
-import pathlib
 import re
 import shlex
 import subprocess
-import sys
 
-TOP = pathlib.Path(__file__).resolve().parent.parent
-BUILT = TOP / "crates/refcli/out/refcli"
+from checking import DECIDED, TOP, run
+
 FOLDERS = ["examples", "guest"]
-# The statuses of a match that is decided: a claim is accepted, nobody is left, or there is a collision.
-DECIDED = (0, 10, 11)
 
 
 class Malformed(Exception):
@@ -132,36 +128,33 @@ def decided_cases():
     return sorted((case for case in cases if json.dumps(case.tree, sort_keys=True) in shown), key=lambda case: case.path)
 
 
-def built():
-    """The built program. Where it wasn't built of these sources, checks/build says so, and this ends with status 2."""
-    if subprocess.run([TOP / "checks/build", "--is-built"]).returncode != 0:
-        sys.exit(2)
-    return BUILT
+# Cases and their full texts, by what the program says
 
 
-def program_given(name):
-    """The program that the first argument names, or the built one; where it can't be run this ends with status 2."""
-    program = pathlib.Path(sys.argv[1]).absolute() if sys.argv[1:] else built()
-    if not program.is_file() or not os.access(program, os.X_OK):
-        print(f"{name}: {program} can't be run", file=sys.stderr)
-        sys.exit(2)
-    return program
+def case_files():
+    """The JSON files of the examples and the guests, by their paths."""
+    return sorted(path for folder in FOLDERS for path in (TOP / folder).glob("*/*.json"))
 
 
-def run(program, arguments, data):
-    """The status of a run, and the bytes that it writes."""
-    done = subprocess.run([program, *arguments], input=data, stdout=subprocess.PIPE)
-    return done.returncode, done.stdout
+def cases_in(path):
+    """The cases of a file: the one that it is, or those of its tasks; none if it is neither."""
+    try:
+        tree = json.loads(path.read_bytes())
+    except ValueError:
+        return []
+    if not isinstance(tree, dict):
+        return []
+    return tree["tasks"] if isinstance(tree.get("tasks"), list) else [tree]
 
 
-def last_line(text):
-    """The last line of a text, with its line feed; nothing of an empty text."""
-    return text.splitlines(keepends=True)[-1] if text else text[:0]
-
-
-def close(passed, failed):
-    """Prints how many passed and failed. The status is 1 where one failed, and where nothing was compared."""
-    print(f"{passed} passed, {failed} failed")
-    if passed + failed == 0:
-        print("nothing was compared", file=sys.stderr)
-    return 1 if failed or passed == 0 else 0
+def full_texts_of(program):
+    """Of each case whose match the program decides, and by both digests: its name, the digest, the report and the full text."""
+    for path in case_files():
+        for number, case in enumerate(cases_in(path), 1):
+            data = json.dumps(case).encode()
+            for digest in "sha256", "weak8":
+                words = ["--digest", digest]
+                status, report = run(program, ["judge", *words], data)
+                if status in DECIDED:
+                    name = f"{path.relative_to(TOP)}, case {number}"
+                    yield name, digest, report.decode(), run(program, ["judge", "--full", *words], data)[1]

@@ -1,5 +1,5 @@
-"""What the checks of this folder share: processes that are ended where they take too long or print too much, the program under test,
-programs in C that are built for its machine, and how a check counts."""
+"""What the checks of this folder share: processes that are ended where they take too long or print too much, what `run` answers, and
+programs in C that are built for its machine."""
 from __future__ import annotations
 
 import argparse
@@ -19,8 +19,10 @@ import time
 from typing import Callable, Iterable, Iterator, NamedTuple, NoReturn, Optional, Sequence, TypeVar, Union
 
 HERE = pathlib.Path(__file__).resolve().parent
-TOP = HERE.parent.parent
-BUILT = TOP / "crates/refcli/out/refcli"
+sys.path.insert(1, str(HERE.parent))
+import checking  # noqa: E402
+from checking import stop  # noqa: E402
+
 GCC = "riscv64-unknown-elf-gcc"
 AR = "riscv64-unknown-elf-ar"
 # Debian's packages of what the checks call.
@@ -41,16 +43,6 @@ MOST_BYTES = 1 << 20
 Word = Union[str, pathlib.Path]
 Item = TypeVar("Item")
 Result = TypeVar("Result")
-
-
-def name_of_check() -> str:
-    return pathlib.Path(sys.argv[0]).name
-
-
-def stop(text: str) -> NoReturn:
-    """Ends a check that can't be run."""
-    print(f"{name_of_check()}: {text}", file=sys.stderr)
-    sys.exit(2)
 
 
 def need(*commands: str) -> None:
@@ -166,18 +158,6 @@ class Run(NamedTuple):
     came: str
 
 
-def program_of(given: Optional[pathlib.Path]) -> pathlib.Path:
-    """The program under test: the one that is given, or the built one where it was built of these sources."""
-    if given is None:
-        if subprocess.run([TOP / "checks/build", "--is-built"]).returncode != 0:
-            sys.exit(2)
-        return BUILT
-    program = given.absolute()
-    if not os.access(program, os.X_OK):
-        stop(f"there is no program {program}")
-    return program
-
-
 def case_of(
     image: bytes, bound: int, provers: Sequence[object] = ({},), form: str = "elf", version: int = 1, given: bytes = b""
 ) -> bytes:
@@ -233,36 +213,14 @@ class Compiler:
         return re.sub("^.*?(error: |undefined |multiple definition )", r"\1", telling[0])[:160]
 
 
-# Counting
+# Arguments
 
 
-class Count:
-    def __init__(self) -> None:
-        self.passed = 0
-        self.failed = 0
-
-    def add(self, name: str, fault: str) -> None:
-        """Counts one, and writes a line of it if it failed."""
-        if fault:
-            self.failed += 1
-            print(f"{name}: {fault}", flush=True)
-        else:
-            self.passed += 1
-
-    def end(self) -> int:
-        """Prints the last line and gives the status. A check that compared nothing fails."""
-        if self.passed + self.failed == 0:
-            print(f"{name_of_check()}: nothing was compared", file=sys.stderr)
-        print(f"{self.passed} passed, {self.failed} failed")
-        return 0 if self.passed and not self.failed else 1
-
-
-def parser_of(text: str) -> argparse.ArgumentParser:
-    """The options that each check has."""
-    parser = argparse.ArgumentParser(description=text, formatter_class=argparse.RawDescriptionHelpFormatter, allow_abbrev=False, usage=argparse.SUPPRESS)
+def parser_of(text: Optional[str]) -> argparse.ArgumentParser:
+    """The options that each check of this folder has; `checking.with_program` reads them."""
+    parser = checking.parser_of(text)
     parser.add_argument("--jobs", type=positive, metavar="N", default=os.cpu_count() or 1, help="how many are worked on at one time; as many as processors")
     parser.add_argument("--seconds", type=positive, metavar="S", default=60, help="a process is ended after so many seconds; 60")
-    parser.add_argument("program", nargs="?", metavar="PROGRAM", type=pathlib.Path)
     return parser
 
 

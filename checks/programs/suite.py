@@ -6,7 +6,7 @@ import re
 import tarfile
 from typing import Optional
 
-from running import stop
+from checking import stop
 
 ARCHIVES = pathlib.Path("/usr/src/gcc-12")
 FOLDER = "gcc/testsuite/gcc.c-torture/execute/"
