@@ -1,13 +1,9 @@
 """The programs and cases by which `run` beside this file tells how many digests a second the program makes."""
 import hashlib
 import json
-import pathlib
 import struct
-import sys
 
-from measuring import Figure, Wrong
-
-sys.path.insert(0, str(pathlib.Path(__file__).resolve().parent.parent / "tools"))
+from measuring import Figure, Wrong, image_of
 from coshalit import images, machine  # noqa: E402
 from coshalit.commitments import root_of  # noqa: E402
 
@@ -27,48 +23,44 @@ C_TIMES = 1_000_000
 C_LENGTHS = [34, 65]
 
 # Flat images, as in `run`.
-PUTTING = [
-    0x000F4337,  #       lui  x6, 0xf4
-    0x24030313,  #       addi x6, x6, 576     # 1,000,000
-    0x00100893,  #       addi x17, x0, 1
-    0x02A00513,  #       addi x10, x0, 42
-    0x00000073,  # loop: ecall                # puts out 2a
-    0xFFF30313,  #       addi x6, x6, -1
-    0xFE031CE3,  #       bne  x6, x0, loop
-    0x00000513,  #       addi x10, x0, 0
-    0x05D00893,  #       addi x17, x0, 93
-    0x00000073,  #       ecall
-]
+PUTTING = """
+          lui  x6, 0xf4
+          addi x6, x6, 576     # 1,000,000
+          addi x17, x0, 1
+          addi x10, x0, 42
+    loop: ecall                # puts out 2a
+          addi x6, x6, -1
+          bne  x6, x0, loop
+          addi x10, x0, 0
+          addi x17, x0, 93
+          ecall
+"""
 PUTTING_STEPS = 4 + 3 * OUTPUT_BYTES + 3
 
-JUMP_TO_ITSELF = 0x0000006F
+JUMP_TO_ITSELF = image_of("jal x0, 0")
 
 
 def storing(distance, pages, rounds):
     """Stores a word that isn't 0 to so many pages in turn, this many pages apart, and goes round so often."""
-    return [
-        distance << 12 | 0x337,  #       lui  x6, distance
-        rounds << 20 | 0x493,  #         addi x9, x0, rounds
-        0x00020E37,  #           round:  lui  x28, 0x20       # the page at 0x00020000
-        pages << 20 | 0x393,  #          addi x7, x0, pages
-        0x007E2023,  #           page:   sw   x7, 0(x28)
-        0x006E0E33,  #                   add  x28, x28, x6
-        0xFFF38393,  #                   addi x7, x7, -1
-        0xFE039AE3,  #                   bne  x7, x0, page
-        0xFFF48493,  #                   addi x9, x9, -1
-        0xFE0492E3,  #                   bne  x9, x0, round
-        0x05D00893,  #                   addi x17, x0, 93
-        0x00000073,  #                   ecall
-    ]
+    return f"""
+        lui  x6, {distance}
+        addi x9, x0, {rounds}
+    round: lui  x28, 0x20      # the page at 0x00020000
+        addi x7, x0, {pages}
+    page: sw   x7, 0(x28)
+        add  x28, x28, x6
+        addi x7, x7, -1
+        bne  x7, x0, page
+        addi x9, x9, -1
+        bne  x9, x0, round
+        addi x17, x0, 93
+        ecall
+    """
 
 
 # A thousand stores each: how many pages they go to, and the program.
 STORES = 1_000
 STORING = [(1, storing(0, 1_000, 1)), (100, storing(1, 100, 10)), (1_000, storing(1, 1_000, 1))]
-
-
-def bytes_of(words):
-    return b"".join(struct.pack("<I", word) for word in words)
 
 
 def used_bytes(count):
@@ -84,13 +76,13 @@ def elf_image(loads, pages):
     image += struct.pack("<HHIIIIIHHHHHH", 2, 243, 1, 0x1_0000 + start, 52, 0, 0, 52, 32, loads, 40, 0, 0)
     for k in range(loads):
         image += struct.pack("<IIIIIIII", 1, 0, 0x1_0000 + size * k, 0, size, size, 5, 0)
-    return image + bytes_of([JUMP_TO_ITSELF]) + used_bytes(size - start - 4)
+    return image + JUMP_TO_ITSELF + used_bytes(size - start - 4)
 
 
 # Images that fill a hundred pages, and as many as the largest flat one, and ten thousand.
 LOADED = [
-    ("flat", bytes_of([JUMP_TO_ITSELF]) + used_bytes(409_596)),
-    ("flat", bytes_of([JUMP_TO_ITSELF]) + used_bytes(4_194_300)),
+    ("flat", JUMP_TO_ITSELF + used_bytes(409_596)),
+    ("flat", JUMP_TO_ITSELF + used_bytes(4_194_300)),
     ("elf", elf_image(10, 1_000)),
 ]
 
@@ -155,15 +147,15 @@ def c_line(length, digests, folder):
 
 def output_line(program, folder):
     """Digests a second of a run that puts out many bytes, each of which is a link of the output's chain."""
-    cases = Cases(program, folder, "flat", bytes_of(PUTTING))
+    cases = Cases(program, folder, "flat", image_of(PUTTING))
     end = b"answer exited 0 output " + b"2a" * OUTPUT_BYTES + b"\n"
     figure = Figure(OUTPUT_BYTES, cases.run(1, b"answer running output\n"), cases.run(PUTTING_STEPS, end))
     return f"{figure.speed('digests')} {figure.peak / 1e6:6.1f} MB"
 
 
-def roots_line(program, folder, words):
+def roots_line(program, folder, text):
     """Digests a second of roots at its largest bound, over a program that stores a thousand times."""
-    cases = Cases(program, folder, "flat", bytes_of(words))
+    cases = Cases(program, folder, "flat", image_of(text))
     count = (CHUNK_DIGESTS + UPPER_LEVELS) * STORES + ROOT_DIGESTS * (ROOTS_BOUND - 1)
     figure = Figure(count, cases.roots(1), cases.roots(ROOTS_BOUND))
     return f"{figure.speed('digests')} {figure.peak / 1e6:6.1f} MB   {count:,} digests, {figure.longest:.2f} s in all"
@@ -182,8 +174,8 @@ def digest_lines(program, compiled, folder):
     """The lines about digests a second."""
     digests, reason = compiled
     works = [("a million bytes out", output_line, (program, folder))]
-    for pages, words in STORING:
-        works.append((f"roots, pages: {pages}", roots_line, (program, folder, words)))
+    for pages, text in STORING:
+        works.append((f"roots, pages: {pages}", roots_line, (program, folder, text)))
     for form, image in LOADED:
         works.append((f"build, pages: {len(pages_of(form, image))}", build_line, (program, folder, form, image)))
     for length in C_LENGTHS if digests else ():

@@ -1,10 +1,8 @@
 """The cases by which `run` beside this file tells how long a match takes."""
 import json
-import struct
 
-from measuring import Wrong, answered
+from measuring import Timing, Wrong, image_of
 
-RUNS = 3
 BOUNDS = [2**10, 2**16, 2**20, 2**24]
 PROVERS_BOUND = 2**20
 PROVERS = 16
@@ -18,17 +16,17 @@ BIG_LINE = b"big 0 provers 8 disputes 7 rounds 112 accept exited 0 output f504\n
 RUNNING = b"accept running output\n"
 
 # A flat image, as in `run`. It never ends, so that each bound is a run of so many steps.
-STORING_ON = [
-    0x00020337,  #       lui  x6, 0x20        # the page at 0x00020000
-    0x000013B7,  #       lui  x7, 0x1
-    0xFFC38393,  #       addi x7, x7, -4      # 0x00000ffc: the offset of a word in a page
-    0x00229E13,  # loop: slli x28, x5, 2
-    0x007E7E33,  #       and  x28, x28, x7
-    0x006E0E33,  #       add  x28, x28, x6
-    0x005E2023,  #       sw   x5, 0(x28)
-    0x00128293,  #       addi x5, x5, 1
-    0xFEDFF06F,  #       jal  x0, loop
-]
+STORING_ON = """
+          lui  x6, 0x20        # the page at 0x00020000
+          lui  x7, 0x1
+          addi x7, x7, -4      # 0x00000ffc: the offset of a word in a page
+    loop: slli x28, x5, 2
+          and  x28, x28, x7
+          add  x28, x28, x6
+          sw   x5, 0(x28)
+          addi x5, x5, 1
+          jal  x0, loop
+"""
 COUNT_REGISTER = 5
 
 
@@ -38,28 +36,12 @@ def liar(step, number):
 
 
 def case(bound, provers):
-    image = b"".join(struct.pack("<I", word) for word in STORING_ON)
-    return {"format": "flat", "image": image.hex(), "input": "", "bound": bound, "patience": 0, "provers": provers}
+    return {"format": "flat", "image": image_of(STORING_ON).hex(), "input": "", "bound": bound, "patience": 0, "provers": provers}
 
 
 def rounds(bound):
     """Of a power of two; a dispute has so many lines more, and two others: its own and that of the proof."""
     return bound.bit_length() - 1
-
-
-class Timing:
-    """The least time by the clock and of the processors of some runs, and the most memory."""
-
-    def __init__(self, words, source, folder, answer):
-        self.clock, self.processor, self.peak = float("inf"), float("inf"), 0
-        for _ in range(RUNS):
-            end = answered(words, source, folder / "answer", answer)
-            self.clock = min(self.clock, end.clock)
-            self.processor = min(self.processor, end.processor)
-            self.peak = max(self.peak, end.peak)
-
-    def __str__(self):
-        return f"{self.clock:9.3f} s   {self.processor:9.3f} s of processors   {self.peak / 1e6:8.1f} MB"
 
 
 def written(folder, name, tree):

@@ -2,15 +2,48 @@
 import collections
 import ctypes
 import os
+import pathlib
 import subprocess
 import sys
 import time
 
+sys.path.insert(1, str(pathlib.Path(__file__).resolve().parent.parent / "checks"))
+from checking import TOP  # noqa: E402
+from coshalit import assembly  # noqa: E402
+
 RUNS = 10
+# Of a `Timing`.
+FEW_RUNS = 3
+# The program that measures layers of the house alone.
+LAYERS = TOP / "crates/bench_layers/out/bench_layers"
 
 
 class Wrong(Exception):
     """An answer isn't the expected one."""
+
+
+def image_of(*texts):
+    """The bytes of assembly texts, one after another. Each has its own labels."""
+    return b"".join(assembly.assemble(text)[0] for text in texts)
+
+
+def demand_layers(words):
+    """Ends, with the line that builds it, if `LAYERS` isn't there."""
+    if not LAYERS.is_file():
+        sys.exit(f"bench: there is no program {LAYERS}\nbench: this proves and builds it: (cd crates/bench_layers && rt run -- {words})")
+
+
+def print_head(words):
+    print(f"{os.cpu_count()} processors, load {os.getloadavg()[0]:.1f}; {words}", flush=True)
+
+
+def print_lines(lines):
+    """Prints lines as they come, and gives the status: 1 if one says that an answer is another one than expected."""
+    is_wrong = False
+    for line in lines:
+        is_wrong = is_wrong or "WRONG" in line
+        print(line, flush=True)
+    return int(is_wrong)
 
 
 # Makes a process that becomes the command once there is a line on standard input; prints its id, and ends.
@@ -61,6 +94,21 @@ def measured(command, source, sink, answer):
     """The processor time of a command in seconds, and its peak memory in bytes. `answer` is how many lines it prints, and the last."""
     end = answered(command, source, sink, answer)
     return end.processor, end.peak
+
+
+class Timing:
+    """The least times of some runs, and the most memory. Each run has to print so many lines and the last one, as `answer` says."""
+
+    def __init__(self, command, source, folder, answer):
+        self.clock, self.processor, self.peak = float("inf"), float("inf"), 0
+        for _ in range(FEW_RUNS):
+            end = answered(command, source, folder / "answer", answer)
+            self.clock = min(self.clock, end.clock)
+            self.processor = min(self.processor, end.processor)
+            self.peak = max(self.peak, end.peak)
+
+    def __str__(self):
+        return f"{self.clock:9.3f} s   {self.processor:9.3f} s of processors   {self.peak / 1e6:8.1f} MB"
 
 
 class Figure:

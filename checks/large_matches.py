@@ -2,13 +2,13 @@
 import collections
 import json
 import pathlib
-import struct
 import sys
 import tempfile
 
 from checking import TOP
 
 sys.path.insert(1, str(TOP / "bench"))
+import dispute_works  # noqa: E402
 import measuring  # noqa: E402
 
 PROVERS, MOST_TASKS = 16, 8
@@ -28,8 +28,8 @@ def case(image, provers, bound, given=b"", patience=0):
     }  # fmt: skip
 
 
-def image_of(words):
-    return b"".join(struct.pack("<I", word) for word in words).hex()
+def image_of(text):
+    return measuring.image_of(text).hex()
 
 
 def reg(step, register, value):
@@ -48,49 +48,52 @@ def late(passes):
     return {"manner": {"kind": "late", "passes": passes}}
 
 
-STORES_ONE_PAGE = [
-    0x00020337,  #       lui  x6, 0x20        # the page at 0x00020000
-    0x000013B7,  #       lui  x7, 0x1
-    0xFFC38393,  #       addi x7, x7, -4      # 0x00000ffc: the offset of a word in a page
-    0x00229E13,  # loop: slli x28, x5, 2
-    0x007E7E33,  #       and  x28, x28, x7
-    0x006E0E33,  #       add  x28, x28, x6
-    0x005E2023,  #       sw   x5, 0(x28)
-    0x00128293,  #       addi x5, x5, 1
-    0xFEDFF06F,  #       jal  x0, loop
-]
+STORES_ONE_PAGE = dispute_works.STORING_ON
 # As `big`: adds up the input, stores each partial sum, puts out its two lowest bytes and exits, after 13 + 8 n steps.
-ADDS_UP = [
-    0x400002B7, 0x0002A303, 0x00428293, 0x000203B7, 0x00000513,
-    0x02030063, 0x0002C403, 0x00850533, 0x00A3A023, 0x00128293, 0x00438393, 0xFFF30313, 0xFE5FF06F,
-    0x00100893, 0x00000073, 0x00855513, 0x00000073, 0x00000513, 0x05D00893, 0x00000073,
-]  # fmt: skip
-ECALL = 0x00000073
+ADDS_UP = """
+          lui  x5, 0x40000     # the input: its length, and then its bytes
+          lw   x6, 0(x5)
+          addi x5, x5, 4
+          lui  x7, 0x20
+          addi x10, x0, 0
+    byte: beq  x6, x0, end
+          lbu  x8, 0(x5)
+          add  x10, x10, x8
+          sw   x10, 0(x7)
+          addi x5, x5, 1
+          addi x7, x7, 4
+          addi x6, x6, -1
+          jal  x0, byte
+    end:  addi x17, x0, 1
+          ecall
+          srli x10, x10, 8
+          ecall
+          addi x10, x0, 0
+          addi x17, x0, 93
+          ecall
+"""
 
 
 def stores_pages(pages):
     """Stores a word to so many pages, one after the other, again and again, in four steps each."""
-    high, low = (pages + (pages & 0x800)) >> 12, pages & 0xFFF
-    return [
-        0x00001337,  #                                lui  x6, 0x1         # the length of a page
-        high << 12 | 0x4B7,  #                        lui  x9, ..
-        low << 20 | 9 << 15 | 9 << 7 | 0x13,  #       addi x9, x9, ..      # how many pages
-        0x00020E37,  #                         round: lui  x28, 0x20       # the page at 0x00020000
-        0x000483B3,  #                                add  x7, x9, x0
-        0x007E2023,  #                         page:  sw   x7, 0(x28)
-        0x006E0E33,  #                                add  x28, x28, x6
-        0xFFF38393,  #                                addi x7, x7, -1
-        0xFE039AE3,  #                                bne  x7, x0, page
-        0xFE5FF06F,  #                                jal  x0, round
-    ]
+    high = pages + 0x800 >> 12
+    return f"""
+               lui  x6, 0x1         # the length of a page
+               lui  x9, {high}
+               addi x9, x9, {pages - (high << 12)}
+        round: lui  x28, 0x20       # the page at 0x00020000
+               add  x7, x9, x0
+        page:  sw   x7, 0(x28)
+               add  x28, x28, x6
+               addi x7, x7, -1
+               bne  x7, x0, page
+               jal  x0, round
+    """
 
 
 def puts_out(count):
     """So many calls to put out a byte in a row, again and again; it never ends."""
-    calls = [ECALL] * count
-    back = -4 * count
-    places = (back >> 20 & 1) << 31 | (back >> 1 & 0x3FF) << 21 | (back >> 11 & 1) << 20 | (back >> 12 & 0xFF) << 12
-    return [0x00100893, 0x02A00513, *calls, places | 0x6F]
+    return "addi x17, x0, 1\naddi x10, x0, 42\nfirst: ecall\n" + "ecall\n" * (count - 1) + "jal x0, first\n"
 
 
 # A large match: its name, its case, options, and its verdict.
