@@ -52,44 +52,6 @@ fn kept_root(kept: &BTreeMap<u64, Digest32>, step: u64) -> Option<Digest32>
     kept.get(&step).copied()
 }
 
-/// The root of a step, made from the root that was made last.
-#[tactic(auto, using(crate::proofs::RunLemmas::same_length, crate::proofs::RunLemmas::root_of_place))]
-fn made<D: Replays, R: Threads + Sync>(
-    rt: &R,
-    reader: &RunReader<D>,
-    run: &mut KeptRun<D>,
-    step: u64,
-) -> Result<Digest32, Memory>
-    requires sync { IsSync R.row }
-    ensures root { IfOk result (λ r. r.0 ≡ root_at D.digest_of run.old step) }
-    ensures run { run.new ≡ run.old }
-{
-    let RunReader { alloc, d, plan } = *reader;
-    let roots = d.roots_of(rt, alloc, run, &[step], plan.workers)?;
-    Ok(roots[0])
-}
-
-/// The root of a step, which is kept, or else is made and kept.
-fn root<D: Replays, R: Threads + Sync>(
-    rt: &R,
-    reader: &RunReader<D>,
-    run: &mut KeptRun<D>,
-    kept: &mut BTreeMap<u64, Digest32>,
-    step: u64,
-) -> Result<Digest32, Memory>
-    requires sync { IsSync R.row }
-    ensures kept { (root : ℕ → List ℕ) → root ≡ root_at D.digest_of run.old → AreKept root kept.old.entries → AreKept root kept.new.entries }
-    ensures root { (root : ℕ → List ℕ) → root ≡ root_at D.digest_of run.old → AreKept root kept.old.entries → IfOk result (λ r. r.0 ≡ root step) }
-    ensures run { run.new ≡ run.old }
-{
-    if let Some(root) = kept_root(kept, step) {
-        return Ok(root);
-    }
-    let root = made(rt, reader, run, step)?;
-    keep(kept, step, root)?;
-    Ok(root)
-}
-
 /// The roots of steps, in their order, if all of them are kept.
 fn kept_roots(
     alloc: Global,
@@ -127,7 +89,7 @@ fn keep_all(
     keep_all(kept, later_steps, later_roots)
 }
 
-/// The roots of 1 to 15 steps, in their order, which are kept, or else are made in one go and kept.
+/// The roots of steps, in their order, which are kept, or else are made in one go and kept.
 #[tactic(auto, using(crate::proofs::RunLemmas::same_length))]
 fn roots_of_steps<D: Replays, R: Threads + Sync>(
     rt: &R,
@@ -135,21 +97,20 @@ fn roots_of_steps<D: Replays, R: Threads + Sync>(
     run: &mut KeptRun<D>,
     kept: &mut BTreeMap<u64, Digest32>,
     steps: &[u64],
-) -> Result<RootList, Memory>
+) -> Result<Vec<Digest32>, Memory>
     requires sync { IsSync R.row }
-    requires some { 0 < length steps.now }
-    requires few { length steps.now ≤ 15 }
+    ensures count { IfOk result (λ v. length v.items ≡ length steps.now) }
     ensures kept { (root : ℕ → List ℕ) → root ≡ root_at D.digest_of run.old → AreKept root kept.old.entries → AreKept root kept.new.entries }
-    ensures roots { (root : ℕ → List ℕ) → root ≡ root_at D.digest_of run.old → AreKept root kept.old.entries → IfOk result (λ l. digests l ≡ map root steps.now) }
+    ensures roots { (root : ℕ → List ℕ) → root ≡ root_at D.digest_of run.old → AreKept root kept.old.entries → IfOk result (λ v. digests v.items ≡ map root steps.now) }
     ensures run { run.new ≡ run.old }
 {
     let RunReader { alloc, d, plan } = *reader;
     if let Some(roots) = kept_roots(alloc, kept, steps)? {
-        return Ok(RootList::new(roots).unwrap());
+        return Ok(roots);
     }
     let roots = d.roots_of(rt, alloc, run, steps, plan.workers)?;
     keep_all(kept, steps, &roots)?;
-    Ok(RootList::new(roots).unwrap())
+    Ok(roots)
 }
 
 /// The plain answer of a prover to what is asked, read off its recorded run. Its last output is at most 4,294,967,295 bytes
@@ -172,23 +133,25 @@ pub fn plain_answer<D: Replays, R: Threads + Sync>(
     let RunReader { alloc, d, .. } = *reader;
     match kind {
         Kind::Root(step) => {
-            let root = root(rt, reader, run, kept, step)?;
-            Ok(Answer::Root(root))
+            let roots = roots_of_steps(rt, reader, run, kept, &[step])?;
+            Ok(Answer::Root(roots[0]))
         }
         Kind::Roots { lo, hi, parts } => {
             let steps = steps_asked(alloc, lo, hi, parts)?;
             let roots = roots_of_steps(rt, reader, run, kept, &steps)?;
-            Ok(Answer::Roots(roots))
+            Ok(Answer::Roots(RootList::new(roots).unwrap()))
         }
         Kind::Claim => {
             let bound = run.run().bound();
             let last = d.committed_of(rt, alloc, run, bound)?;
             let claim = make_claim(alloc, &last)?;
+            run.put_back(bound, last);
             Ok(Answer::Claim(claim))
         }
         Kind::Proof(step) => {
             let committed = d.committed_of(rt, alloc, run, step)?;
             let proof = make_proof(&committed);
+            run.put_back(step, committed);
             Ok(Answer::Step(Boxed::new(Box::new(alloc, proof)?)))
         }
     }

@@ -7,9 +7,9 @@
 //! one tree of the input, which it gets in its `Start`. What an untouched script says in the words of the sequential run is in `laws`, and
 //! that each prover stays with its answer.
 //!
-//! A root is made from the root that was made last, as the run is kept with a cursor for each worker (`KeptRun`). If several roots are
-//! asked at once, as in rounds of more than two parts, the workers share them. A run is recorded once, and each root is made once. This
-//! isn't proved: the code of `prover` and `answering` shows it, and tests in `test_provers` count the digests. Read that file
+//! A root, a claim or a proof is made from what was made last, as the run is kept with a cursor for each worker (`KeptRun`). If several
+//! roots are asked at once, as in rounds of more than two parts, the workers share them. A run is recorded once, and each root is made
+//! once. This isn't proved: the code of `prover` and `answering` shows it, and tests in `test_provers` count the digests. Read that file
 //! first, then `prover`, then `provers`. An `Err` that no comment names is out of memory.
 #![tactic(auto)]
 

@@ -1,10 +1,7 @@
-use Rattle.std.proofs.Common.{◌≡◌, ◌∙◌, IfSome, map, subst, ap}
+use Rattle.std.proofs.Common.{◌≡◌, IfSome, map, subst}
 use Rattle.segment_replay.specs.Roots.{digests}
 use Rattle.prover_run.proofs.answering.roots_of_steps.Goals as goal
 
 pub returns-in-Some-clause-roots : goal.returns-in-Some-clause-roots
 returns-in-Some-clause-roots g c root is kept =
-    let some : digests c.in-Some.roots.items ≡ map root c.args.steps.now =
-    subst (λ found. IfSome found (λ v. digests v.items ≡ map root c.args.steps.now)) c.in-Some.is (c.in_ok-roots.ensures.roots root kept) in
-    let same : c.unwrap.result ≡ c.in-Some.roots.items = subst (λ list. IfSome list (λ l. l ≡ c.in-Some.roots.items)) c.unwrap.ensures c.new.ensures.value in
-    ap digests same ∙ some
+    subst (λ found. IfSome found (λ v. digests v.items ≡ map root c.args.steps.now)) c.in-Some.is (c.in_ok-roots.ensures.roots root kept)
