@@ -135,7 +135,8 @@ def silences(check, case):
         check.browser.evaluate('found("silent").checked = true')
         state = to_end(check.browser)
         problem = mistake_of_end(check, patient, state, True)
-        if not problem and (state["accepted"] != 1 or "The accepted claim is false" not in state["said"]):
+        is_said = "The accepted claim is false" in state["said"] and "and it is false" in state["state"]
+        if not problem and (state["accepted"] != 1 or not is_said):
             problem = f"prover {state['accepted']} is accepted, and it says {state['said'][:200]!r}"
         check.row(f"the honest prover is silent, patience {patience}", problem)
         state = begun(check, patient)

@@ -205,6 +205,9 @@ def of_itself(check, page):
         said = json.loads(beside.read_text()) if beside.exists() else {"sha256": own}
         missing = [words for words in said.values() if words not in written.partition("<footer>")[2]]
         check.row(f"the footer, {name}", f"it lacks {missing[0]}" if missing or said["sha256"] != own else None)
+    is_recorded = page.with_name("answers.wasm.json").exists() and page.with_name("step.wasm.json").exists()
+    is_called_proved = "whether it was made of proved code" not in written
+    check.row("where the modules come from", None if is_recorded == is_called_proved else "it is claimed without a record, or not with one")
     policy = re.search('http-equiv="Content-Security-Policy" content="([^"]*)"', written)[1]
     check.row("the policy", f"it is {policy}" if "unsafe-inline" in policy or policy.count("'sha256-") != 2 else None)
     check.row("a script that stands in no policy", None if browser.evaluate(INJECTED) == "undefined" else "it ran")

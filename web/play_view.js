@@ -19,9 +19,10 @@ function wordsOfQuestion({ dispute, round, kind, low, high, parts }) {
 }
 
 /** How a match stands, in words. */
-function wordsOfState({ status, accepted, isOver }) {
+function wordsOfState({ status, accepted, isTrue, isOver }) {
   if (!isOver) return "Both provers are asked. The interval in the picture is where your runs part.";
-  if (accepted === PLAYER) return "It is over, and your claim is accepted.";
+  if (accepted && !isTrue) return `It is over: the claim of prover ${accepted} is accepted, and it is false. Nobody answered truly in time.`;
+  if (accepted === PLAYER) return "It is over: your claim is accepted, and it is true.";
   if (accepted) return `It is over: the claim of prover ${accepted} is accepted, and you are out.`;
   return `It is over. ${ENDINGS[status] ?? `Its status is ${status}.`}`;
 }
@@ -59,7 +60,7 @@ function layPlay(play, match, linkOf) {
   found("match").classList.add("of-play");
   const why = play.refused && wordsOfRefused(play.refused);
   found("play-state").textContent = why ?? wordsOfState(play);
-  found("play-state").className = `note ${why || (play.isOver && play.accepted !== PLAYER) ? "bad" : "plain"}`;
+  found("play-state").className = `note ${why || (play.isOver && !(play.isTrue && play.accepted === PLAYER)) ? "bad" : "plain"}`;
   layTurn(play);
   found("posts").replaceChildren(...play.posts.map(layPost));
   found("back").disabled = play.posts.length === 0;

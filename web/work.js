@@ -147,7 +147,8 @@ function playOf(task) {
   const { numbers, posts, status, found } = game, answers = isOver ? [endOf(game, text)] : [];
   const match = isOver && answers[0].status === 0 ? readMatch(LATIN.decode(text)) : game.shown();
   const { accepted } = found, file = text && new Blob([text]);
-  const play = { numbers, posts, status, accepted, from, refused, question, choices, isOver, text: file };
+  const isTrue = answers.every(({ isGood }) => isGood);
+  const play = { numbers, posts, status, accepted, isTrue, from, refused, question, choices, isOver, text: file };
   return { answers, play, match: shownMatches([match], false, [null]) };
 }
 
