@@ -186,24 +186,13 @@ class Board:
             self.collision = self.collision_of_claims()
         elif self.collisions:
             self.collision = self.collisions[min(self.collisions)]
-        pairs = [] if self.collision else self.pairs()
+        pairs = [] if self.collision else pairs_of(self.live(), self.roots)
         self.stages += bool(pairs)
         for sides in pairs:
             own = {side: self.roots[side] for side in sides}
             dispute = Dispute(len(self.disputes) + 1, sides, self.numbers.bound, self.numbers.start, own)
             self.disputes[dispute.number] = dispute
             self.ask(dispute)
-
-    def pairs(self):
-        """The pairs of a stage: by number, each with the lowest later one whose claimed root is another."""
-        unpaired, pairs = self.live(), []
-        while unpaired:
-            first = unpaired.pop(0)
-            second = next((prover for prover in unpaired if self.roots[prover] != self.roots[first]), None)
-            if second is not None:
-                unpaired.remove(second)
-                pairs.append((first, second))
-        return pairs
 
     def collision_of_claims(self):
         """Of the least pair of claims that differ and have one root, two strings that differ and have one digest."""
@@ -239,6 +228,18 @@ class Board:
         for (dispute, round_, prover), (word, sent) in sorted(self.moves.items()):
             yield f"move {dispute} {round_} p{prover} {word}{'' if word == SPENT else f' {sent.hex()}'}"
         yield self.verdict()
+
+
+def pairs_of(provers, roots):
+    """The pairs of a stage: of live provers, by number, each with the lowest later one whose claimed root is another."""
+    unpaired, pairs = list(provers), []
+    while unpaired:
+        first = unpaired.pop(0)
+        second = next((prover for prover in unpaired if roots[prover] != roots[first]), None)
+        if second is not None:
+            unpaired.remove(second)
+            pairs.append((first, second))
+    return pairs
 
 
 def accepted(claim):

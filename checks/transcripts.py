@@ -81,6 +81,17 @@ def files():
     return sorted(path for folder in FOLDERS for path in (TOP / folder).rglob("*"))
 
 
+def transcripts():
+    return [path for path in files() if path.name == "transcript.txt"]
+
+
+def texts_of_transcripts():
+    """The text of each command of each transcript, with its folder's name."""
+    for path in transcripts():
+        for command in commands_of(path):
+            yield path.parent.name, command.text
+
+
 class Case:
     """A case whose match is decided, as a transcript says."""
 
@@ -106,7 +117,7 @@ def is_decided(command):
 def decided_cases():
     """The cases that a transcript shows to be decided, by their paths; that of the same case in another folder serves as well."""
     cases, shown = [], set()
-    for transcript in (path for path in files() if path.name == "transcript.txt"):
+    for transcript in transcripts():
         by_file = {}
         for command in commands_of(transcript):
             if command.file is not None and command.file.endswith(".json"):
