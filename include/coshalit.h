@@ -11,7 +11,7 @@
  *
  * By Semantic Versioning, these stay within a major version: the names and the types of this header, the layouts of its structs, what its
  * calls promise, and the numbers of statuses, replies, causes, rules and kinds. A minor version may add calls, and statuses where there was
- * a refusal: take an unknown status for a refusal. docs/PROGRAM.md says what stays of the texts ('What stays').
+ * a refusal: take an unknown status for a refusal. docs/TEXTS.md says what stays of the texts ('What stays').
  *
  * Every call:
  * - takes slices as a pointer and a number of items, which are bytes unless the type says otherwise. The pointer may be null if the number

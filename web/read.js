@@ -1,6 +1,6 @@
 // Reads a full text as a match: its claims, disputes, rounds and proofs, and the lines of its report.
 //
-// Only a text that the audit has confirmed is read, or answers that the library has taken (docs/PROGRAM.md, docs/GAME.md), so that no form
+// Only a text that the audit has confirmed is read, or answers that the library has taken (docs/TEXTS.md, docs/GAME.md), so that no form
 // is tested here. Whether a proof of a step is proved isn't decided here either: `textOfOneProof` makes the full text of a small match that
 // comes to an accepted claim if and only if it is, and the caller has that audited. Numbers are below 2^53, except for the length of an
 // output, which a refuted proof may make up to 2^64. Bytes are kept as the hexadecimal digits of the text.
