@@ -171,7 +171,7 @@ uint32_t coshalit_match(const CoshalitNumbers *numbers, const uint8_t *log, size
 
 /* The full text of a match that is over: the status is that of coshalit_match, and the text is as of coshalit_audit. While a question is
  * open, and with any other status, there is no text, `length` is 0, and nothing is written. The text is one that coshalit_audit confirms
- * (proved), if it has at most 16,777,216 bytes; a log of less than 5,000,000 bytes has such a text. */
+ * (proved), if it has at most 16,777,216 bytes; a log of less than 4,000,000 bytes has such a text. */
 CoshalitAnswer coshalit_match_text(const CoshalitNumbers *numbers, const uint8_t *log, size_t log_length,
                                    uint8_t *room, size_t room_length);
 
