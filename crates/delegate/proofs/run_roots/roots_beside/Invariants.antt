@@ -1,6 +1,6 @@
 use Rattle.std.proofs.Common.{◌≡◌, ℕ, map, flat_map, take}
 use Rattle.rd_base.specs.declared.digest.Digest32.{Digest32}
-use Rattle.delegate.proofs.roots_at.roots_beside.Given as goal
+use Rattle.delegate.proofs.run_roots.roots_beside.Given as goal
 
 -- the bytes of the roots of the steps so far
 abbrev pub invariant-steps : goal.invariant-steps

@@ -1,6 +1,6 @@
 use Rattle.std.proofs.Common.{◌≡◌, drop, nat_le}
 use Rattle.std.specs.List.{list_all}
-use Rattle.delegate.proofs.roots_at.has_steps.Given as goal
+use Rattle.delegate.proofs.run_roots.has_steps.Given as goal
 
 -- none of the steps so far is above the bound
 abbrev pub invariant-steps : goal.invariant-steps

@@ -6,7 +6,7 @@ use Rattle.rv_step.specs.Step.{state_at}
 use Rattle.plain_answers.specs.Plain.{plain_root}
 use Rattle.delegate.specs.Standing.{IsAscending}
 use Rattle.delegate.proofs.RootsAtLemmas.{ascending, all-there}
-use Rattle.delegate.proofs.roots_at.roots_of_run.Goals as goal
+use Rattle.delegate.proofs.run_roots.roots_of_run.Goals as goal
 
 pub roots_beside-requires-clause-sorted : goal.roots_beside-requires-clause-sorted
 roots_beside-requires-clause-sorted c = subst IsAscending (sym c.as_slice-in_order.ensures.value) (ascending c.sort_unstable.new.self.items c.sort_unstable.ensures.sorted)

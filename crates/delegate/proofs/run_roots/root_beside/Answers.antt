@@ -1,5 +1,5 @@
 use Rattle.delegate.proofs.RootsAtLemmas.{found, beside}
-use Rattle.delegate.proofs.roots_at.root_beside.Goals as goal
+use Rattle.delegate.proofs.run_roots.root_beside.Goals as goal
 
 pub unwrap-place-requires : goal.unwrap-place-requires
 unwrap-place-requires c = found c.args.sorted.now c.args.step c.binary_search.result c.binary_search.ensures.position c.requires.sorted c.requires.there

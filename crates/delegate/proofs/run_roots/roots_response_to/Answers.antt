@@ -1,7 +1,7 @@
 use Rattle.std.proofs.Common.{arith}
 use Rattle.delegate.specs.OfCase.{roots_at_response}
 use Rattle.delegate.proofs.OfCaseLemmas.{too_long-by, ended-by}
-use Rattle.delegate.proofs.roots_at.roots_response_to.Goals as goal
+use Rattle.delegate.proofs.run_roots.roots_response_to.Goals as goal
 
 pub returns-then-bytes-gt-MAX_CASE_BYTES : goal.returns-then-bytes-gt-MAX_CASE_BYTES
 returns-then-bytes-gt-MAX_CASE_BYTES c =

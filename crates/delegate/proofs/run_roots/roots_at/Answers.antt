@@ -2,7 +2,7 @@ use Rattle.std.proofs.Common.{◌≡◌, ◌≢◌, sym, subst}
 use Rattle.std.proofs.lemmas.Result.{IfOk-weaker}
 use Rattle.delegate.specs.declared.response.Answered.TheVariants as answered
 use Rattle.delegate.specs.declared.response.Response.{Response}
-use Rattle.delegate.proofs.roots_at.roots_at.Goals as goal
+use Rattle.delegate.proofs.run_roots.roots_at.Goals as goal
 
 pub returns-clause-own : goal.returns-clause-own
 returns-clause-own c =
