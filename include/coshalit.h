@@ -125,8 +125,11 @@ CoshalitAnswer coshalit_list(const uint8_t *json, size_t json_length, uint8_t *r
  *     entry = prover(4) dispute(4) round(4) length(4) answer(length)
  *
  * `prover` counts from 1; `dispute` and `round` name the question; the answer is a wire form (docs/COMMITMENTS.md), and with the length
- * 0 the entry is a pass. WHOEVER MAY APPEND AN ENTRY WITH A PROVER'S NUMBER CAN LOSE THAT PROVER'S MATCH: authenticate senders, and
- * write the number yourself. */
+ * 0 the entry is a pass. So don't append an empty answer that somebody sends: it would be a pass in the sender's name. Entries of several
+ * open questions may come in any order. An entry that doesn't name its prover's open question is stale, and changes nothing: keep it or
+ * drop it. After the end of a match each entry is stale.
+ *
+ * WHOEVER MAY APPEND AN ENTRY WITH A PROVER'S NUMBER CAN LOSE THAT PROVER'S MATCH: authenticate senders, and write the number yourself. */
 
 /* The numbers by which a match is played. The digest is SHA-256. */
 typedef struct CoshalitNumbers {
@@ -142,7 +145,7 @@ typedef struct CoshalitNumbers {
 typedef struct CoshalitQuestion {
     uint32_t prover;         /* from 1 */
     uint32_t dispute, round; /* the question's number; dispute 0 is the claim */
-    uint32_t kind;           /* 1 the claim, 2 a root, 3 the proof of a step, 5 several roots: the tag of the answer's wire form */
+    uint32_t kind;           /* 1 the claim, 2 a root, 3 the proof of a step in any version, 5 several roots */
     uint32_t parts;          /* of several roots: in how many parts the interval is cut; else 0 */
     uint32_t passes;         /* how often the prover has passed on this question */
     uint64_t low, high;      /* the step of the root or of the proof, and 0; or the interval's two ends; of the claim 0 and 0 */
@@ -150,7 +153,7 @@ typedef struct CoshalitQuestion {
 
 /* What a match has come to after a log, or where the bytes are no log. */
 typedef struct CoshalitMatch {
-    uint32_t reply;    /* to the last post: 0 there is none, 1 taken, 2 faulty, 3 spent, 4 stale */
+    uint32_t reply;    /* to the last post: 0 there is none, 1 taken, 2 faulty, 3 spent, 4 stale; by 2 and 3 its prover is out */
     uint32_t accepted; /* the number of the accepted prover, or 0 */
     uint32_t asked;    /* how many provers have an open question */
     uint32_t cause;    /* of no log: 1 it ends within an entry, 2 no prover has the number, 3 an answer's bytes are no wire form; else 0 */
@@ -194,7 +197,7 @@ uint32_t coshalit_match_burned(const CoshalitNumbers *numbers, uint64_t stake, c
 
 /* The root of the state in which the run of a case starts, by SHA-256: COSHALIT_DONE and its 32 bytes as the text. It is the `start` of
  * a match of this case, and ties a full text to the case: a text is of your case if line 1 has this root and the case's numbers. A
- * refusal is as of coshalit_run. */
+ * refusal is as of coshalit_run: a room of 32 bytes, such as `start` itself, then has the first 32 bytes of its text. */
 CoshalitAnswer coshalit_start_root(const uint8_t *json, size_t json_length, uint8_t *room, size_t room_length);
 
 /* The roots of the states of a case's run after these many steps each, in the case's version and by SHA-256: COSHALIT_DONE and 32 bytes
@@ -205,7 +208,7 @@ CoshalitAnswer coshalit_roots_at(const uint8_t *json, size_t json_length, const 
 
 /* The true answer of a case's own run to a question, by SHA-256: COSHALIT_DONE and its wire form as the text. `kind`, `low`, `high` and
  * `parts` are those of a CoshalitQuestion. What no match of the case asks is COSHALIT_NOT_ASKED; other refusals are as of coshalit_run.
- * It takes as long as the run up to the step that is asked, which the case bounds.
+ * It takes as long as the run up to the step that is asked, which the case bounds. The case's fan, patience and provers change no answer.
  *
  * Proved: the answer is the plain answer of the run of the case, which is a true one. And by one law (`given_answers_are_right`): take a
  * match with the case's version, its bound and the root that coshalit_start_root gives, and any log. If each entry in a prover's name that
