@@ -1,9 +1,10 @@
 package coshalit_test
 
 import (
-	"coshalit.example/coshalit"
 	"fmt"
 	"log"
+
+	"coshalit.example/coshalit"
 )
 
 // Two programs put out one byte, 2a and 2b. The match is about the first.

@@ -5,6 +5,8 @@ import "C"
 
 import (
 	"encoding/binary"
+	"errors"
+	"fmt"
 	"math"
 	"unsafe"
 )
@@ -22,7 +24,7 @@ type Numbers struct {
 	Start    Root   // the root of the state at step 0: Prover.StartRoot
 }
 
-// Kind is what is asked for: the first byte of the answer's wire form.
+// Kind is what is asked for.
 type Kind uint32
 
 const (
@@ -30,11 +32,25 @@ const (
 	Claim Kind = 1
 	// OneRoot: the root of the state after Low steps.
 	OneRoot Kind = 2
-	// Proof: the proof of the step that follows Low steps.
+	// Proof: the proof of the step that follows Low steps, in any version of the commitments.
 	Proof Kind = 3
 	// Roots: the roots at the cuts of the interval from Low to High into Parts parts.
 	Roots Kind = 5
 )
+
+func (kind Kind) String() string {
+	switch kind {
+	case Claim:
+		return "claim"
+	case OneRoot:
+		return "root"
+	case Proof:
+		return "proof"
+	case Roots:
+		return "roots"
+	}
+	return fmt.Sprintf("kind %d", uint32(kind))
+}
 
 // Question is an open question of a match.
 type Question struct {
@@ -60,19 +76,50 @@ const (
 	Stale Reply = 4
 )
 
-// Verdict is how a match stands.
+func (reply Reply) String() string {
+	switch reply {
+	case Taken:
+		return "taken"
+	case Faulty:
+		return "faulty"
+	case Spent:
+		return "spent"
+	case Stale:
+		return "stale"
+	}
+	return fmt.Sprintf("reply %d", uint32(reply))
+}
+
+// Verdict is how a match stands. Its numbers are this package's own, so that the zero value accepts nothing.
 type Verdict uint32
 
 const (
 	// Open: a question is open.
-	Open Verdict = C.COSHALIT_STILL_OPEN
+	Open Verdict = iota
 	// Accepted: a claim is accepted.
-	Accepted Verdict = C.COSHALIT_ACCEPTED
+	Accepted
 	// NoneLeft: every prover is out.
-	NoneLeft Verdict = C.COSHALIT_NONE_LEFT
+	NoneLeft
 	// Collision: two different strings with one digest were shown.
-	Collision Verdict = C.COSHALIT_COLLISION
+	Collision
 )
+
+func (verdict Verdict) String() string {
+	switch verdict {
+	case Open:
+		return "open"
+	case Accepted:
+		return "accepted"
+	case NoneLeft:
+		return "none left"
+	case Collision:
+		return "collision"
+	}
+	return fmt.Sprintf("verdict %d", uint32(verdict))
+}
+
+// ErrOpen is the error of what only a match that is over has.
+var ErrOpen = errors.New("the match isn't over: a question is open")
 
 // Settlement is what becomes of the stakes.
 type Settlement struct {
@@ -138,20 +185,20 @@ func (match *Match) Verdict() (Verdict, uint32) {
 	return match.verdict, uint32(match.found.accepted)
 }
 
-// Text is the full text of a match that is over, which anybody can audit, and nil while a question is open.
+// Text is the full text of a match that is over, which anybody can audit. The error is ErrOpen or a Refusal.
 func (match *Match) Text() ([]byte, error) {
 	log, length := bytesOf(match.log)
 	status, text := answerOf(func(room *C.uint8_t, size C.size_t) C.CoshalitAnswer {
 		return C.coshalit_match_text(&match.numbers, log, length, room, size)
 	})
-	if isOver, err := match.isOver(status); !isOver || err != nil {
+	if err := isOver(status); err != nil {
 		return nil, err
 	}
 	return text, nil
 }
 
 // Balances says what the provers of a match that is over have, if each put down this stake: one that is lost in a dispute goes to the other
-// side, or to the pool. It is nil while a question is open.
+// side, or to the pool. The error is ErrOpen or a Refusal.
 func (match *Match) Balances(stake uint64) (*Settlement, error) {
 	return match.settled(func(log *C.uint8_t, length C.size_t, balances, pool *C.uint64_t) C.uint32_t {
 		return C.coshalit_match_balances(&match.numbers, C.uint64_t(stake), log, length, balances, mostProvers, pool)
@@ -167,7 +214,7 @@ func (match *Match) Burned(stake uint64) (*Settlement, error) {
 
 // Log is the log: store it, and resume the match with it. It isn't to be changed.
 func (match *Match) Log() []byte {
-	return match.log
+	return match.log[:len(match.log):len(match.log)]
 }
 
 func (match *Match) settled(call func(*C.uint8_t, C.size_t, *C.uint64_t, *C.uint64_t) C.uint32_t) (*Settlement, error) {
@@ -175,21 +222,34 @@ func (match *Match) settled(call func(*C.uint8_t, C.size_t, *C.uint64_t, *C.uint
 	var pool uint64
 	log, length := bytesOf(match.log)
 	status := call(log, length, (*C.uint64_t)(unsafe.Pointer(&balances)), (*C.uint64_t)(unsafe.Pointer(&pool)))
-	if isOver, err := match.isOver(status); !isOver || err != nil {
+	if err := isOver(status); err != nil {
 		return nil, err
 	}
 	return &Settlement{Balances: append([]uint64(nil), balances[:match.numbers.provers]...), Pool: pool}, nil
 }
 
-// Whether a call with this status found the match at its end.
-func (match *Match) isOver(status C.uint32_t) (bool, error) {
-	switch Verdict(status) {
-	case Accepted, NoneLeft, Collision:
-		return true, nil
-	case Open:
-		return false, nil
+// What a status says of a match. The error is a Refusal: it is the status of none.
+func verdictOf(status C.uint32_t) (Verdict, error) {
+	switch status {
+	case C.COSHALIT_STILL_OPEN:
+		return Open, nil
+	case C.COSHALIT_ACCEPTED:
+		return Accepted, nil
+	case C.COSHALIT_NONE_LEFT:
+		return NoneLeft, nil
+	case C.COSHALIT_COLLISION:
+		return Collision, nil
 	}
-	return false, Refusal{Status: Status(status)}
+	return Open, Refusal{Status: Status(status)}
+}
+
+// Whether a call with this status found the match at its end: ErrOpen if not, or the Refusal that the status is.
+func isOver(status C.uint32_t) error {
+	verdict, err := verdictOf(status)
+	if err == nil && verdict == Open {
+		return ErrOpen
+	}
+	return err
 }
 
 // Appends an entry, if the log with it is one.
@@ -218,7 +278,8 @@ func (match *Match) play(log []byte) error {
 	if Status(status) == BadLog {
 		return NoLog{At: uint64(found.at), Cause: LogCause(found.cause), Rule: uint32(found.rule)}
 	}
-	if _, err := match.isOver(status); err != nil {
+	verdict, err := verdictOf(status)
+	if err != nil {
 		return err
 	}
 	match.questions = make([]Question, found.asked)
@@ -229,6 +290,6 @@ func (match *Match) play(log []byte) error {
 			Parts: uint32(one.parts), Passes: uint32(one.passes), Low: uint64(one.low), High: uint64(one.high),
 		}
 	}
-	match.verdict, match.found = Verdict(status), found
+	match.verdict, match.found = verdict, found
 	return nil
 }

@@ -130,10 +130,28 @@ func TestAPassBeyondThePatiencePutsOut(t *testing.T) {
 	wants(t, "accepted", accepted, 1)
 }
 
+func TestAMatchThatWasNotBegunAcceptsNothing(t *testing.T) {
+	verdict, accepted := new(Match).Verdict()
+	wants(t, "verdict", verdict, Open)
+	wants(t, "accepted", accepted, 0)
+}
+
+func TestWhatIsAppendedToALogIsNotOverwritten(t *testing.T) {
+	match := begun(t, numbers(t, 2, 3))
+	for pass := 0; pass < 3; pass++ {
+		_, err := match.Pass(1, 0, 0)
+		wants(t, "error", err, nil)
+		longer := append(match.Log(), 7)
+		_, err = match.Pass(2, 0, 0)
+		wants(t, "error", err, nil)
+		wants(t, "the byte behind", longer[len(longer)-1], 7)
+	}
+}
+
 func TestNobodyIsLeftIfAllFallSilent(t *testing.T) {
 	match := begun(t, numbers(t, 1, 0))
 	text, err := match.Text()
-	wants(t, "error", err, nil)
+	wants(t, "error", err, ErrOpen)
 	wants(t, "text of an open match", text, nil)
 	reply, err := match.Pass(1, 0, 0)
 	wants(t, "error", err, nil)
@@ -171,7 +189,7 @@ func TestNumbersBeyondTheirLimitsAreRefused(t *testing.T) {
 func TestTheHonestProverHasTheStakesOfTwoLiars(t *testing.T) {
 	match := begun(t, numbers(t, 3, 0))
 	open, err := match.Balances(10)
-	wants(t, "error", err, nil)
+	wants(t, "error", err, ErrOpen)
 	wants(t, "while it is open", open, nil)
 	playOn(t, match, caseOf2b, caseOf2b, caseOf2a)
 	balances, err := match.Balances(10)
