@@ -7,7 +7,6 @@
 package main
 
 import (
-	"coshalit.example/coshalit"
 	"encoding/hex"
 	"errors"
 	"fmt"
@@ -17,6 +16,8 @@ import (
 	"strconv"
 	"strings"
 	"syscall"
+
+	"coshalit.example/coshalit"
 )
 
 var rulings = map[coshalit.StepRefused]string{
