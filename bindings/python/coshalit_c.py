@@ -7,7 +7,8 @@
 
 The library is the file that COSHALIT_LIBRARY names, else libcoshalit_c.so beside this module, else the system's; `load` takes another one.
 What is proved ends at the library. This module passes bytes, and gives refusals as exceptions; include/coshalit.h says what each call
-promises. A call can't be stopped: bound the cases and the texts that you give it.
+promises. A call can't be stopped: bound the cases and the texts that you give it. What is taken as bytes may also be a bytearray or a
+memoryview.
 """
 import ctypes
 import dataclasses
@@ -60,7 +61,7 @@ class Reply(enum.IntEnum):
 
 
 class Kind(enum.IntEnum):
-    """What is asked for: the first byte of the answer's wire form."""
+    """What is asked for. A proof is of the kind 3 in each version of the commitments."""
 
     CLAIM = 1
     ROOT = 2
@@ -68,8 +69,9 @@ class Kind(enum.IntEnum):
     ROOTS = 5
 
 
-class Verdict(enum.IntEnum):
-    """How a match ended: a claim is accepted, nobody is left, or two different strings with one digest were shown."""
+class Verdict(enum.Enum):
+    """How a match ended: a claim is accepted, nobody is left, or two different strings with one digest were shown. Each counts as true, so
+    `while not match.verdict` ends."""
 
     ACCEPTED = 0
     NONE_LEFT = 10
@@ -84,7 +86,7 @@ class StepRefused(Error):
     """The proof of a step is refused, by the first condition that fails."""
 
     def __init__(self, ruling):
-        super().__init__(ruling.name.lower().replace("_", " "))
+        super().__init__(Ruling(ruling).name.lower().replace("_", " ") if ruling in list(Ruling) else f"ruling {ruling}")
         self.ruling = ruling
 
 
@@ -160,10 +162,12 @@ _calls = {}
 def load(path):
     """Takes the calls of this shared library from here on. It's an OSError if it isn't one, and an AttributeError if it lacks a call."""
     library = ctypes.CDLL(os.fspath(path))
+    calls = {}
     for name, (result, arguments) in _CALLS.items():
-        call = getattr(library, f"coshalit_{name}")
-        call.restype, call.argtypes = result, arguments
-        _calls[name] = call
+        calls[name] = getattr(library, f"coshalit_{name}")
+        calls[name].restype, calls[name].argtypes = result, arguments
+    # All at once: another thread may be about to call, and a library that lacks a call takes the place of none.
+    _calls.update(calls)
 
 
 def _number(value, kind=_WIDE):
@@ -171,6 +175,11 @@ def _number(value, kind=_WIDE):
     if not 0 <= value < 1 << 8 * ctypes.sizeof(kind):
         raise ValueError(f"{value} is no number of {8 * ctypes.sizeof(kind)} bits")
     return value
+
+
+def _bytes(value):
+    """The bytes of a value that has some: neither a number nor a text."""
+    return value if isinstance(value, bytes) else bytes(memoryview(value))
 
 
 def _call(name, *arguments):
@@ -190,9 +199,10 @@ def _answered(name, *arguments):
     return found.status, room.raw[: found.length]
 
 
-def _done(name, *arguments):
-    """The text of an answer, or the refusal that it is."""
-    status, text = _answered(name, *arguments)
+def _done(name, given, *arguments):
+    """The text of the answer to what is given, or the refusal that it is."""
+    given = _bytes(given)
+    status, text = _answered(name, given, len(given), *arguments)
     if status != Status.DONE:
         raise Refused(status, text.decode("ascii", "replace"))
     return text
@@ -207,16 +217,16 @@ def version():
 def check_step(version, root, wire):
     """The root to which the proof of one step leads, from a root on which both sides agree, by SHA-256: 32 bytes. The proof is as it is
     sent, and the version that of the commitments, 1, 2 or 3. Otherwise it is StepRefused."""
-    following = ctypes.create_string_buffer(ROOT_BYTES)
+    root, wire, following = _bytes(root), _bytes(wire), ctypes.create_string_buffer(ROOT_BYTES)
     ruling = _call("check_step", _number(version, _WORD), root, len(root), wire, len(wire), following, ROOT_BYTES)
     if ruling != 0:
-        raise StepRefused(Ruling(ruling))
+        raise StepRefused(ruling)
     return following.raw
 
 
 def claim_root(wire):
     """The root of a claim, from its wire form, by which a match compares claims: 32 bytes. Otherwise it is ClaimRefused."""
-    root = ctypes.create_string_buffer(ROOT_BYTES)
+    wire, root = _bytes(wire), ctypes.create_string_buffer(ROOT_BYTES)
     status = _call("claim_root", wire, len(wire), root, ROOT_BYTES)
     if status != 0:
         raise ClaimRefused(status)
@@ -228,17 +238,17 @@ def audit(text):
 
     It is confirmed that the text is one of a legal match with this verdict, and no more: compare its first line with the root of your
     case's start and the case's numbers, and refuse another digest than sha256."""
-    return _done("audit", text, len(text)).decode()
+    return _done("audit", text).decode()
 
 
 def run(case):
     """Runs the program of a case, a JSON text as bytes, up to the case's bound: the line `answer STATUS output BYTES`, or Refused."""
-    return _done("run", case, len(case)).decode()
+    return _done("run", case).decode()
 
 
 def listing(case):
     """Lists the image of a case, a JSON text as bytes, as assembly text: a line for each word, or Refused."""
-    return _done("list", case, len(case)).decode()
+    return _done("list", case).decode()
 
 
 @dataclasses.dataclass(frozen=True)
@@ -288,7 +298,7 @@ class Match:
         if len(numbers.start) != ROOT_BYTES:
             raise ValueError(f"a root has {ROOT_BYTES} bytes")
         self._numbers = _Numbers(*words, _number(numbers.bound), (ctypes.c_uint8 * ROOT_BYTES)(*numbers.start))
-        self._play(bytes(log))
+        self._play(_bytes(log))
 
     @property
     def log(self):
@@ -301,7 +311,7 @@ class Match:
 
     @property
     def verdict(self):
-        """How the match ended, or None while a question is open."""
+        """How the match ended, a Verdict, or None while a question is open."""
         return None if self._status == Status.STILL_OPEN else Verdict(self._status)
 
     @property
@@ -342,12 +352,14 @@ class Match:
         return Settlement(tuple(balances[: self._numbers.provers]), pool.value) if self._is_over(status) else None
 
     def _is_over(self, status):
-        if status not in (*Verdict, Status.STILL_OPEN):
+        if status not in (Status.STILL_OPEN, *(verdict.value for verdict in Verdict)):
             raise Refused(status)
         return status != Status.STILL_OPEN
 
     def _append(self, prover, dispute, round_, answer):
-        self._play(self._log + struct.pack("<IIII", prover, dispute, round_, len(answer)) + answer)
+        answer = _bytes(answer)
+        words = [_number(value, _WORD) for value in (prover, dispute, round_, len(answer))]
+        self._play(self._log + struct.pack("<IIII", *words) + answer)
         return Reply(self._found.reply)
 
     def _play(self, log):
@@ -366,20 +378,20 @@ class Prover:
     is never put out."""
 
     def __init__(self, case):
-        self.case = bytes(case)
+        self.case = _bytes(case)
 
     def start_root(self):
         """The root of the state in which the run starts, the `start` of a match of the case: 32 bytes, or Refused."""
-        return _done("start_root", self.case, len(self.case))
+        return _done("start_root", self.case)
 
     def roots_at(self, steps):
         """The roots of the states after these many steps each, in their order; all are reached by one run. Refused if a step is above the
         bound."""
-        text = _done("roots_at", self.case, len(self.case), (_WIDE * len(steps))(*map(_number, steps)), len(steps))
+        text = _done("roots_at", self.case, (_WIDE * len(steps))(*map(_number, steps)), len(steps))
         return [text[at : at + ROOT_BYTES] for at in range(0, len(text), ROOT_BYTES)]
 
     def answer(self, question):
         """The true answer to a Question of a match of the case, as a wire form; Refused if no match of the case asks it. It takes as long
         as the run up to the step that is asked."""
         kind, parts = _number(question.kind, _WORD), _number(question.parts, _WORD)
-        return _done("answer", self.case, len(self.case), kind, _number(question.low), _number(question.high), parts)
+        return _done("answer", self.case, kind, _number(question.low), _number(question.high), parts)

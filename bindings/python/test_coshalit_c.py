@@ -130,6 +130,28 @@ class Matches(unittest.TestCase):
         self.assertEqual([match.pass_(2, 0, 0) for _ in range(2)], [Reply.TAKEN, Reply.SPENT])
         self.assertEqual((match.verdict, match.accepted), (Verdict.ACCEPTED, 1))
 
+    def test_a_match_is_over_once_it_has_a_verdict(self):
+        match = Match(numbers(1))
+        self.assertFalse(match.verdict)
+        match.post(1, 0, 0, Prover(OF_2A).answer(CLAIM))
+        self.assertIs(match.verdict, Verdict.ACCEPTED)
+        self.assertTrue(match.verdict)
+
+    def test_bytes_of_any_type_are_taken_and_nothing_else(self):
+        for kind in bytearray, memoryview:
+            match = Match(numbers(1))
+            match.post(1, 0, 0, kind(Prover(kind(OF_2A)).answer(CLAIM)))
+            self.assertEqual(coshalit_c.audit(kind(match.text())), "confirmed accept exited 0 output 2a\n")
+            self.assertEqual(Match(numbers(1), kind(match.log)).log, match.log)
+        for call in (
+            lambda: Prover(OF_2A.decode()),
+            lambda: Match(numbers(1), 100),
+            lambda: Match(numbers(1)).post(1, 0, 0, "2a"),
+            lambda: coshalit_c.audit("confirmed"),
+            lambda: coshalit_c.check_step(1, START.hex(), b""),
+        ):
+            self.assertRaises(TypeError, call)
+
     def test_a_stored_log_is_the_same_match(self):
         match = played(Match(numbers(2)), OF_2A, OF_2B)
         self.assertEqual(Match(numbers(2), match.log).text(), match.text())
@@ -148,6 +170,8 @@ class Matches(unittest.TestCase):
             lambda: Match(numbers(2**32 + 2)),
             lambda: Match(numbers(2, start=START + b"\0")),
             lambda: Match(numbers(2)).balances(-1),
+            lambda: Match(numbers(2)).pass_(2**32 + 1, 0, 0),
+            lambda: Match(numbers(2)).post(-1, 0, 0, b"\2" + bytes(32)),
             lambda: Prover(OF_2A).roots_at([2**64]),
             lambda: Prover(OF_2A).answer(Question(1, 1, 1, Kind.ROOT, low=2**64)),
             lambda: coshalit_c.check_step(2**32 + 1, START, b""),
