@@ -14,6 +14,7 @@
 #include <stdlib.h>
 #include <string.h>
 #include <sys/wait.h>
+#include <time.h>
 #include <unistd.h>
 
 enum { PROVERS = 3, PATIENCE = 1, BOUND = 8, PERIOD = 500, BUDGET = 1500, MOST_ANSWER = 1 << 16 };
@@ -97,9 +98,17 @@ static void append(uint32_t prover, const CoshalitQuestion *asked, const uint8_t
     log_length += 16 + length;
 }
 
-/* The answer of a party to its question: its length, or 0 for a pass. A party that is silent for a period passes. A silence uses up the
- * party's budget for the whole match; once that is gone, the referee waits no longer. */
-static uint32_t answer_of(Party *party, const CoshalitQuestion *asked, uint8_t *room) {
+static long now(void) {
+    struct timespec time;
+    clock_gettime(CLOCK_MONOTONIC, &time);
+    return 1000L * time.tv_sec + time.tv_nsec / 1000000;
+}
+
+/* What a party sends as the answer to its question: how many bytes, or -1 for a pass. A party that is silent for a period passes, and one
+ * that is gone, or sends more than there is room for, passes at once. While it is waited for, its budget for the whole match runs down,
+ * whatever it sends then. Once that is used up, nothing more is read of it: else answers that are none could hold up a match for ever. */
+static long answer_of(Party *party, const CoshalitQuestion *asked, uint8_t *room) {
+    if (party->budget <= 0) return -1;
     if (!party->is_sent || party->dispute != asked->dispute || party->round != asked->round) {
         write_all(party->questions, asked, sizeof *asked);
         party->is_sent = 1;
@@ -109,12 +118,15 @@ static uint32_t answer_of(Party *party, const CoshalitQuestion *asked, uint8_t *
     int wait = party->budget < PERIOD ? party->budget : PERIOD;
     struct pollfd ready = {.fd = party->answers, .events = POLLIN};
     uint32_t length = 0;
-    if (poll(&ready, 1, wait) <= 0) {
-        party->budget -= wait;
-        return 0;
-    }
-    if (!read_all(party->answers, &length, sizeof length) || length > MOST_ANSWER || !read_all(party->answers, room, length)) return 0;
-    return length;
+    long begun = now();
+    int is_ready = poll(&ready, 1, wait) > 0;
+    party->budget -= is_ready ? (int)(now() - begun) : wait;
+    if (!is_ready) return -1;
+    if (read_all(party->answers, &length, sizeof length) && length <= MOST_ANSWER && read_all(party->answers, room, length))
+        return (long)length;
+    /* What comes next would be read from its middle. */
+    party->budget = 0;
+    return -1;
 }
 
 static const char *kind_of(uint32_t kind) {
@@ -123,6 +135,11 @@ static const char *kind_of(uint32_t kind) {
 
 static const char *reply_of(uint32_t reply) {
     return reply == 1 ? "taken" : reply == 2 ? "faulty" : reply == 3 ? "spent" : "stale";
+}
+
+/* Memory may run out, and the library writes nothing then. */
+static int is_of_a_match(uint32_t status) {
+    return status == COSHALIT_STILL_OPEN || status == COSHALIT_ACCEPTED || status == COSHALIT_NONE_LEFT || status == COSHALIT_COLLISION;
 }
 
 static void begin(int number) {
@@ -162,17 +179,22 @@ int main(void) {
         /* One entry at a time: the first prover that is asked. A host may ask all of them at once, and append as answers come. */
         const CoshalitQuestion question = asked[0];
         size_t before = log_length;
-        uint32_t length = answer_of(&parties[question.prover - 1], &question, room);
-        append(question.prover, &question, room, length);
-        status = coshalit_match(&numbers, log_bytes, log_length, &found, asked, 16);
-        if (status == COSHALIT_BAD_LOG) {
+        long length = answer_of(&parties[question.prover - 1], &question, room);
+        /* An empty answer is none. It must not be appended: it would be a pass. */
+        if (length != 0) {
+            append(question.prover, &question, room, length > 0 ? (uint32_t)length : 0);
+            status = coshalit_match(&numbers, log_bytes, log_length, &found, asked, 16);
+        }
+        if (length == 0 || status == COSHALIT_BAD_LOG) {
             log_length = before;
             printf("p%u sends what is no answer: dropped\n", question.prover);
             continue;
         }
+        if (!is_of_a_match(status)) stop("the match can't be played");
         printf("dispute %u round %u p%u %s %s: %s\n", question.dispute, question.round, question.prover, length > 0 ? "gives" : "passes on",
                kind_of(question.kind), reply_of(found.reply));
     }
+    if (!is_of_a_match(status)) stop("the match can't be played");
     if (status == COSHALIT_ACCEPTED) printf("accepted: prover %u\n", found.accepted);
 
     CoshalitAnswer full = coshalit_match_text(&numbers, log_bytes, log_length, text, sizeof text);

@@ -8,13 +8,13 @@ use coshalit::{Asked, Match, MatchError, Number, Numbers, Post, Prover, Question
 use std::error::Error;
 use std::sync::mpsc::{Receiver, Sender, channel};
 use std::thread;
-use std::time::Duration;
+use std::time::{Duration, Instant};
 
 const PATIENCE: u32 = 1;
 const BOUND: u64 = 8;
 /// A silence of this length is a pass.
 const PERIOD: Duration = Duration::from_millis(500);
-/// How long a prover may be silent in the whole match.
+/// How long a prover is waited for in the whole match.
 const BUDGET: Duration = Duration::from_millis(1500);
 
 /// The case of a program that puts out one byte and exits. The provers' scripts count for nothing here.
@@ -58,18 +58,20 @@ impl Party {
         Party { questions, answers, sent: None, budget: BUDGET }
     }
 
-    /// The answer to a question, or nothing after a silence. A silence uses up the budget; once it is gone, nobody waits.
+    /// The answer to a question, or nothing after a silence. While it is waited for, the budget runs down, whatever comes then. Once that
+    /// is used up, nothing more is received: else answers that are none could hold up a match for ever.
     fn answer(&mut self, question: Question) -> Option<Vec<u8>> {
+        if self.budget.is_zero() {
+            return None;
+        }
         if self.sent != Some(question.number) {
             self.sent = Some(question.number);
             // A party that is gone is silent.
             let _ = self.questions.send(question);
         }
-        let wait = self.budget.min(PERIOD);
-        let answer = self.answers.recv_timeout(wait).ok();
-        if answer.is_none() {
-            self.budget -= wait;
-        }
+        let begun = Instant::now();
+        let answer = self.answers.recv_timeout(self.budget.min(PERIOD)).ok();
+        self.budget = self.budget.saturating_sub(begun.elapsed());
         answer
     }
 }
