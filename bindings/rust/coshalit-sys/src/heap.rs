@@ -25,18 +25,18 @@ fn tried(start: *mut c_void) -> Tried {
 /// `align` is 16 at most, and a block of no bytes gets `align` of them.
 #[unsafe(no_mangle)]
 extern "C" fn rattle_alloc(size: usize, align: usize) -> Tried {
-    // Any size may be asked of malloc.
+    // SAFETY: any size may be asked of malloc.
     tried(unsafe { malloc(if size != 0 { size } else { align }) })
 }
 
 #[unsafe(no_mangle)]
 unsafe extern "C" fn rattle_realloc(start: *mut u8, _kept: usize, size: usize, align: usize) -> Tried {
-    // `start` is that of a block from here.
+    // SAFETY: `start` is that of a block from here.
     tried(unsafe { realloc(start.cast(), if size != 0 { size } else { align }) })
 }
 
 #[unsafe(no_mangle)]
 unsafe extern "C" fn rattle_dealloc(start: *mut u8) {
-    // `start` is that of a block from here, which nobody uses any more.
+    // SAFETY: `start` is that of a block from here, which nobody uses any more.
     unsafe { free(start.cast()) }
 }

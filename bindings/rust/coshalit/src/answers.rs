@@ -42,7 +42,7 @@ pub fn list(case: &[u8]) -> Result<String, Error> {
 }
 
 fn command(call: Command, bytes: &[u8]) -> Result<String, Error> {
-    // The pointers are those of slices of these lengths, and `room` is no part of `bytes`.
+    // SAFETY: the pointers are those of slices of these lengths, and `room` is no part of `bytes`.
     let (status, text) = text_of(|room| unsafe { call(bytes.as_ptr(), bytes.len(), room.as_mut_ptr(), room.len()) });
     done(status, text).map(in_letters)
 }

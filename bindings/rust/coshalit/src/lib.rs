@@ -7,7 +7,7 @@
 //! - [`claim_root`]: the root by which claims are compared.
 //!
 //! What is proved ends at the library. This crate passes slices, and gives errors as types; `include/coshalit.h` says what each call
-//! promises. A call takes no more memory than its arguments ask for, and can't be stopped: bound the cases and the texts that you give it.
+//! promises. A call can't be stopped: bound the cases and the texts that you give it.
 //!
 //! ```
 //! use coshalit::{Match, Numbers, Post, Prover, Verdict, audit};

@@ -13,7 +13,7 @@ use coshalit_sys::{
 /// A match has at most so many provers, and so many open questions.
 const MOST_PROVERS: usize = 16;
 
-/// The first byte of an answer's wire form says which kind of question it answers.
+/// The kinds of questions. A proof is of the kind 3 in each version of the commitments.
 const CLAIM: u32 = 1;
 const ROOT: u32 = 2;
 const PROOF: u32 = 3;
@@ -200,7 +200,7 @@ impl Match {
     ///
     /// [`MatchError::OutOfMemory`].
     pub fn text(&self) -> Result<Option<Vec<u8>>, MatchError> {
-        // The pointers are those of a struct and of slices of these lengths, and `room` is no part of the others.
+        // SAFETY: the pointers are those of a struct and of slices of these lengths, and `room` is no part of the others.
         let (status, text) =
             text_of(|room| unsafe { coshalit_match_text(&self.numbers, self.log.as_ptr(), self.log.len(), room.as_mut_ptr(), room.len()) });
         Ok(self.is_over(status)?.then_some(text))
@@ -232,7 +232,7 @@ impl Match {
 
     fn settled(&self, call: Settle, stake: u64) -> Result<Option<Settlement>, MatchError> {
         let (mut balances, mut pool) = ([0; MOST_PROVERS], 0);
-        // As in `text`.
+        // SAFETY: as in `text`.
         let status =
             unsafe { call(&self.numbers, stake, self.log.as_ptr(), self.log.len(), balances.as_mut_ptr(), balances.len(), &mut pool) };
         let provers = self.numbers.provers as usize;
@@ -252,7 +252,7 @@ impl Match {
     fn play(&mut self) -> Result<(), MatchError> {
         let mut found = CoshalitMatch::default();
         let mut asked = [CoshalitQuestion::default(); MOST_PROVERS];
-        // As in `text`; `found` and `asked` are no part of the others.
+        // SAFETY: as in `text`; `found` and `asked` are no part of the others.
         let status =
             unsafe { coshalit_match(&self.numbers, self.log.as_ptr(), self.log.len(), &mut found, asked.as_mut_ptr(), asked.len()) };
         if !matches!(status, COSHALIT_ACCEPTED | COSHALIT_NONE_LEFT | COSHALIT_COLLISION | COSHALIT_STILL_OPEN) {

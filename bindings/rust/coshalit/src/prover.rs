@@ -27,7 +27,7 @@ impl Prover {
     ///
     /// As [`run`](crate::run).
     pub fn start_root(&self) -> Result<Root, Error> {
-        // The pointers are those of slices of these lengths, and `room` is no part of the case.
+        // SAFETY: the pointers are those of slices of these lengths, and `room` is no part of the case.
         let (status, text) =
             text_of(|room| unsafe { coshalit_start_root(self.case.as_ptr(), self.case.len(), room.as_mut_ptr(), room.len()) });
         let roots = done(status, text)?;
@@ -40,7 +40,7 @@ impl Prover {
     ///
     /// As [`run`](crate::run); a step above the case's bound is [`Error::NotAsked`].
     pub fn roots_at(&self, steps: &[u64]) -> Result<Vec<Root>, Error> {
-        // As in `start_root`; `steps` is no part of `room`.
+        // SAFETY: as in `start_root`; `steps` is no part of `room`.
         let (status, text) = text_of(|room| unsafe {
             coshalit_roots_at(self.case.as_ptr(), self.case.len(), steps.as_ptr(), steps.len(), room.as_mut_ptr(), room.len())
         });
@@ -55,7 +55,7 @@ impl Prover {
     /// As [`run`](crate::run); what no match of the case asks is [`Error::NotAsked`].
     pub fn answer(&self, question: &Question) -> Result<Vec<u8>, Error> {
         let asked = question.in_numbers();
-        // As in `start_root`.
+        // SAFETY: as in `start_root`.
         let (status, text) = text_of(|room| unsafe {
             coshalit_answer(
                 self.case.as_ptr(),

@@ -14,7 +14,7 @@ use coshalit_sys::{
 /// By the first condition that fails; with any other `version` each proof has the wrong shape.
 pub fn check_step(version: u32, root: &Root, wire: &[u8]) -> Result<Root, StepRefused> {
     let mut next = [0; ROOT_BYTES];
-    // The pointers are those of slices of these lengths, and `next` is no part of the others.
+    // SAFETY: the pointers are those of slices of these lengths, and `next` is no part of the others.
     let ruling =
         unsafe { coshalit_check_step(version, root.as_ptr(), root.len(), wire.as_ptr(), wire.len(), next.as_mut_ptr(), next.len()) };
     match ruling {
@@ -32,7 +32,7 @@ pub fn check_step(version: u32, root: &Root, wire: &[u8]) -> Result<Root, StepRe
 /// If the bytes are no claim, if the claim isn't sound, or if memory ran out.
 pub fn claim_root(wire: &[u8]) -> Result<Root, ClaimRefused> {
     let mut root = [0; ROOT_BYTES];
-    // As in `check_step`.
+    // SAFETY: as in `check_step`.
     match unsafe { coshalit_claim_root(wire.as_ptr(), wire.len(), root.as_mut_ptr(), root.len()) } {
         0 => Ok(root),
         COSHALIT_OUT_OF_MEMORY => Err(ClaimRefused::OutOfMemory),
