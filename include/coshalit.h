@@ -131,7 +131,9 @@ CoshalitAnswer coshalit_list(const uint8_t *json, size_t json_length, uint8_t *r
  *
  * WHOEVER MAY APPEND AN ENTRY WITH A PROVER'S NUMBER CAN LOSE THAT PROVER'S MATCH: authenticate senders, and write the number yourself. */
 
-/* The numbers by which a match is played. The digest is SHA-256. */
+/* The numbers by which a match is played. The digest is SHA-256. `version`, `bound` and `start` are those of the case that the parties
+ * agreed on. With others nothing is refused, but what is proved isn't about your case: all proofs may be refuted, and each prover that
+ * answers by the case may lose. */
 typedef struct CoshalitNumbers {
     uint32_t version;  /* of the commitments, 1 to 3 */
     uint32_t provers;  /* 1 to 16 */
