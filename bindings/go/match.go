@@ -14,7 +14,8 @@ import (
 // A match has at most so many provers, and so many open questions.
 const mostProvers = 16
 
-// Numbers are those by which a match is played. The digest is SHA-256.
+// Numbers are those by which a match is played. The digest is SHA-256. Version, Bound and Start are those of the case that the parties
+// agreed on: with others nothing is refused, and each prover that answers by the case may lose.
 type Numbers struct {
 	Version  uint32 // of the commitments, 1 to 3
 	Provers  uint32 // 1 to 16

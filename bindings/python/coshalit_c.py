@@ -161,7 +161,10 @@ _calls = {}
 
 def load(path):
     """Takes the calls of this shared library from here on. It's an OSError if it isn't one, and an AttributeError if it lacks a call."""
-    library = ctypes.CDLL(os.fspath(path))
+    try:
+        library = ctypes.CDLL(os.fspath(path))
+    except OSError as why:
+        raise OSError(f"{why}: bindings/python/build makes libcoshalit_c.so, and COSHALIT_LIBRARY names it") from why
     calls = {}
     for name, (result, arguments) in _CALLS.items():
         calls[name] = getattr(library, f"coshalit_{name}")
@@ -253,7 +256,8 @@ def listing(case):
 
 @dataclasses.dataclass(frozen=True)
 class Numbers:
-    """The numbers by which a match is played, by SHA-256."""
+    """The numbers by which a match is played, by SHA-256. `version`, `bound` and `start` are those of the case that the parties agreed on:
+    with others nothing is refused, and each prover that answers by the case may lose."""
 
     version: int  # of the commitments, 1 to 3
     provers: int  # 1 to 16

@@ -20,6 +20,9 @@ const PROOF: u32 = 3;
 const ROOTS: u32 = 5;
 
 /// The numbers by which a match is played. The digest is SHA-256.
+///
+/// `version`, `bound` and `start` are those of the case that the parties agreed on: with others nothing is refused, and each prover that
+/// answers by the case may lose.
 #[derive(Clone, Copy, Debug, PartialEq, Eq)]
 pub struct Numbers {
     /// Of the commitments, 1 to 3.
