@@ -143,23 +143,41 @@ typedef struct CoshalitNumbers {
     uint8_t start[COSHALIT_ROOT_BYTES]; /* the root of the state at step 0 */
 } CoshalitNumbers;
 
+/* What a question asks for, its `kind`. */
+#define COSHALIT_ASKS_CLAIM 1 /* the claim */
+#define COSHALIT_ASKS_ROOT 2  /* a root */
+#define COSHALIT_ASKS_PROOF 3 /* the proof of a step, in any version */
+#define COSHALIT_ASKS_ROOTS 5 /* several roots */
+
 /* What a prover is asked. coshalit_answer takes `kind`, `low`, `high` and `parts` as they are here. */
 typedef struct CoshalitQuestion {
     uint32_t prover;         /* from 1 */
     uint32_t dispute, round; /* the question's number; dispute 0 is the claim */
-    uint32_t kind;           /* 1 the claim, 2 a root, 3 the proof of a step in any version, 5 several roots */
+    uint32_t kind;           /* what it asks for, one of the above */
     uint32_t parts;          /* of several roots: in how many parts the interval is cut; else 0 */
     uint32_t passes;         /* how often the prover has passed on this question */
     uint64_t low, high;      /* the step of the root or of the proof, and 0; or the interval's two ends; of the claim 0 and 0 */
 } CoshalitQuestion;
 
+/* The reply to a post. By COSHALIT_FAULTY and COSHALIT_SPENT its prover is out. */
+#define COSHALIT_NO_POST 0 /* the log is empty */
+#define COSHALIT_TAKEN 1   /* the answer or the pass counts, also for a proof that will be refuted */
+#define COSHALIT_FAULTY 2  /* the answer is of another kind than asked, a list of another length, or an unsound claim */
+#define COSHALIT_SPENT 3   /* a pass more than the patience allows */
+#define COSHALIT_STALE 4   /* the question isn't open for the prover: nothing changes */
+
+/* Why bytes are no log. */
+#define COSHALIT_CUT 1       /* they end within an entry */
+#define COSHALIT_NO_PROVER 2 /* no prover has the number */
+#define COSHALIT_NO_ANSWER 3 /* an answer's bytes are no wire form */
+
 /* What a match has come to after a log, or where the bytes are no log. */
 typedef struct CoshalitMatch {
-    uint32_t reply;    /* to the last post: 0 there is none, 1 taken, 2 faulty, 3 spent, 4 stale; by 2 and 3 its prover is out */
+    uint32_t reply;    /* to the last post, one of the above */
     uint32_t accepted; /* the number of the accepted prover, or 0 */
     uint32_t asked;    /* how many provers have an open question */
-    uint32_t cause;    /* of no log: 1 it ends within an entry, 2 no prover has the number, 3 an answer's bytes are no wire form; else 0 */
-    uint32_t rule;     /* of cause 3: the rule that the bytes break, 1 to 5; else 0 */
+    uint32_t cause;    /* of no log, one of the above; else 0 */
+    uint32_t rule;     /* of COSHALIT_NO_ANSWER: the rule that the bytes break, 1 to 5; else 0 */
     uint64_t at;       /* of no log: where the first entry begins that is none; else 0 */
 } CoshalitMatch;
 
@@ -168,9 +186,10 @@ typedef struct CoshalitMatch {
  * always enough. `found` says the rest. COSHALIT_BAD_LOG: `found` says where and why, and nothing is written to `asked`.
  * COSHALIT_BAD_NUMBERS, COSHALIT_OUT_OF_MEMORY: nothing is written.
  *
- * Proved: what is found is that of the match after the posts of the log, and the place of a bad log is the first. Whatever the others
- * post, in whatever order: a prover whose entries are true answers within the patience is never out, and a match that is over accepts
- * the status and the output of the run or shows two strings with one digest. */
+ * Proved: what is found is that of the match after the posts of the log, and the place of a bad log is the first. Let `start` be the root
+ * of a valid state without output. Whatever the others post, in whatever order: a prover in whose name only true answers are posted,
+ * within the patience, is never out, and a match that is over accepts the status and the output of the run or shows two strings with one
+ * digest. */
 uint32_t coshalit_match(const CoshalitNumbers *numbers, const uint8_t *log, size_t log_length, CoshalitMatch *found,
                         CoshalitQuestion *asked, size_t asked_length);
 
@@ -209,19 +228,23 @@ CoshalitAnswer coshalit_roots_at(const uint8_t *json, size_t json_length, const 
                                  uint8_t *room, size_t room_length);
 
 /* The true answer of a case's own run to a question, by SHA-256: COSHALIT_DONE and its wire form as the text. `kind`, `low`, `high` and
- * `parts` are those of a CoshalitQuestion. What no match of the case asks is COSHALIT_NOT_ASKED; other refusals are as of coshalit_run.
+ * `parts` are those of a CoshalitQuestion. COSHALIT_NOT_ASKED: no match of the case asks this; other refusals are as of coshalit_run.
  * It takes as long as the run up to the step that is asked, which the case bounds. The case's fan, patience and provers change no answer.
  *
  * Proved: the answer is the plain answer of the run of the case, which is a true one. And by one law (`given_answers_are_right`): take a
  * match with the case's version, its bound and the root that coshalit_start_root gives, and any log. If each entry in a prover's name that
  * isn't stale is what this call gives on the question that is open, or a pass within the patience, that prover is never out, whatever the
  * others post; and a match that is over accepts the status and the output of the case's run, or shows two strings with one digest. No
- * question that such a match asks is refused. */
+ * question that such a match asks is refused. The law supposes a valid start, which coshalit_start_root shows if it gives a root. */
 CoshalitAnswer coshalit_answer(const uint8_t *json, size_t json_length, uint32_t kind, uint64_t low, uint64_t high, uint32_t parts,
                                uint8_t *room, size_t room_length);
 
-/* The root of a claim, from its wire form, by which a match compares claims. 0: the claim is sound, and its 32 bytes are in `root`. 1:
- * it isn't sound. 3: the bytes are no claim. 4: `root` hasn't 32 bytes. 9: memory ran out. Unless it is 0, `root` stays as it was. */
+/* What coshalit_claim_root returns, beside COSHALIT_WRONG_LENGTH (`root` hasn't 32 bytes) and COSHALIT_OUT_OF_MEMORY. */
+#define COSHALIT_SOUND 0    /* the claim is sound, and its root is in `root` */
+#define COSHALIT_UNSOUND 1  /* its length or its chain isn't that of its output */
+#define COSHALIT_NO_CLAIM 3 /* the bytes are the wire form of no claim */
+
+/* The root of a claim, from its wire form, by which a match compares claims. Unless it is COSHALIT_SOUND, `root` stays as it was. */
 uint32_t coshalit_claim_root(const uint8_t *wire, size_t wire_length, uint8_t *root, size_t root_length);
 
 #ifdef __cplusplus
