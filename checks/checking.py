@@ -1,6 +1,6 @@
 """What the checks share: the program that they check, how they run it, and how they count.
 
-Who imports this finds the modules of checks/ and tools/ after it.
+Who imports this finds the modules of checks/, tools/ and bindings/python/ after it.
 """
 from __future__ import annotations
 
@@ -17,8 +17,9 @@ from typing import AnyStr, Iterable, NoReturn, Optional, Sequence, Tuple, Union
 
 CHECKS = pathlib.Path(__file__).resolve().parent
 TOP = CHECKS.parent
-sys.path[1:1] = [str(CHECKS), str(TOP / "tools")]
+sys.path[1:1] = [str(CHECKS), str(TOP / "tools"), str(TOP / "bindings/python")]
 BUILT = TOP / "crates/refcli/out/refcli"
+LIBRARY = TOP / "crates/coshalit_c/out/libcoshalit_c.a"
 # The statuses of a match that is decided: a claim is accepted, nobody is left, or there is a collision.
 DECIDED = (0, 10, 11)
 
@@ -93,6 +94,32 @@ def run(program: pathlib.Path, arguments: Sequence[Union[str, bytes]], data: byt
 def last_line(text: AnyStr) -> AnyStr:
     """The last line of a text, with its line feed; nothing of an empty text."""
     return text.splitlines(keepends=True)[-1] if text else text[:0]
+
+
+# The library, by its calls
+
+
+def shared_library(library: pathlib.Path, folder: pathlib.Path) -> pathlib.Path:
+    """The shared library that is made in a folder of the static one. If there is none to make, this ends in status 2."""
+    if not library.is_file():
+        stop(f"there is no {library}: `rt lib` in crates/coshalit_c makes it")
+    if shutil.which("cc") is None:
+        stop("there is no C compiler `cc` here")
+    shared = folder / "libcoshalit_c.so"
+    made = subprocess.run([TOP / "bindings/python/build", library, shared], stdout=subprocess.PIPE, stderr=subprocess.STDOUT, text=True)
+    if made.returncode != 0:
+        stop(f"no shared library can be made of {library}:\n{made.stdout}")
+    return shared
+
+
+def take_calls(library: pathlib.Path, folder: pathlib.Path) -> None:
+    """Lets the module coshalit_c call a shared library that is made in a folder of the static one. If it can't, this ends in status 2."""
+    import coshalit_c
+
+    try:
+        coshalit_c.load(shared_library(library, folder))
+    except (AttributeError, OSError) as fault:
+        stop(f"{library} isn't of include/coshalit.h: {fault}")
 
 
 # Copies, in which nothing that is tried changes anything here
