@@ -2,6 +2,8 @@
 import json
 import subprocess
 
+from checking import Count
+
 SECONDS = 300
 # Puts a text into the page as its reader would, and waits for what is shown.
 PUT = """
@@ -43,15 +45,8 @@ class Rows:
     """The page, the program, and how many rows have passed and failed."""
 
     def __init__(self, browser, program):
-        self.browser, self.program = browser, program
-        self.passed = self.failed = 0
-
-    def row(self, name, problem):
-        if problem:
-            self.failed += 1
-            print(f"{name}: {problem}", flush=True)
-        else:
-            self.passed += 1
+        self.browser, self.program, self.count = browser, program, Count()
+        self.row = self.count.add
 
     def put(self, text, kind, stake="", case="", **choices):
         """What the page shows of a text; with the stake, the case and the choices that stand beside it."""
