@@ -116,6 +116,15 @@ fn assert_bytes(rt: &impl Abort, bytes: &[u8], want: &[u8]) {
     assert_eq!(rt; bytes, want);
 }
 
+/// Asserts that a room has these four roots, one after another, and that its last byte has stayed.
+fn assert_roots(rt: &impl Abort, room: &[u8; 129], want: [&[u8; 32]; 4]) {
+    assert_bytes(rt, &room[..32], want[0]);
+    assert_bytes(rt, &room[32..64], want[1]);
+    assert_bytes(rt, &room[64..96], want[2]);
+    assert_bytes(rt, &room[96..128], want[3]);
+    assert_bytes(rt, &room[128..], b".");
+}
+
 /// The numbers of what is found of a match, in the order of their fields.
 fn fields(found: &CoshalitMatch) -> (u32, u32, u32, u32, u32, u64) {
     (
@@ -264,11 +273,7 @@ fn roots_come_in_the_order_of_their_steps(rt: HostRuntime) {
     let mut room = [b'.'; 129];
     let answer = coshalit_roots_at(rt.alloc(), CASE, &[8, 0, 3, 8], &mut room);
     assert_eq!(rt; (answer.status, answer.length), (0, 128));
-    assert_bytes(&rt, &room[..32], &CLAIM_ROOT);
-    assert_bytes(&rt, &room[32..64], &START);
-    assert_bytes(&rt, &room[64..96], &THIRD);
-    assert_bytes(&rt, &room[96..128], &CLAIM_ROOT);
-    assert_bytes(&rt, &room[128..], b".");
+    assert_roots(&rt, &room, [&CLAIM_ROOT, &START, &THIRD, &CLAIM_ROOT]);
 }
 
 #[test]
