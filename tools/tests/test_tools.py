@@ -93,8 +93,10 @@ class Tools(unittest.TestCase):
         """Each that waits for its input says nothing and ends in 130."""
         for words in ["read_text"], ["draw_match"], ["where", "--dispute", "1", str(CASE)]:
             child = subprocess.Popen(
-                [sys.executable, str(TOOLS / words[0]), *words[1:]], stdin=subprocess.PIPE, stdout=subprocess.PIPE, stderr=subprocess.PIPE
-            )
+                [sys.executable, str(TOOLS / words[0]), *words[1:]], stdin=subprocess.PIPE, stdout=subprocess.PIPE, stderr=subprocess.PIPE,
+                # What a shell runs in the background ignores the signal, and so would a child of it.
+                preexec_fn=lambda: signal.signal(signal.SIGINT, signal.default_int_handler),
+            )  # fmt: skip
             for _ in range(600):
                 # It waits for standard input, so that all is imported.
                 time.sleep(0.05)
