@@ -8,7 +8,7 @@
 // node knows from version 24 on, and before with the flag --experimental-wasm-memory64. The calls are those of web/coshalit.js.
 import { readFileSync } from "node:fs";
 import { join } from "node:path";
-import { argv, exit, stderr, stdout } from "node:process";
+import { argv, exit, stderr, stdin, stdout } from "node:process";
 import vm from "node:vm";
 
 const COMMANDS = ["audit", "run", "list"];
@@ -22,7 +22,9 @@ if (argv.length !== 4 || (word !== "steps" && !COMMANDS.includes(word))) {
 // The page's scripts are no modules: they are run as the browser runs them.
 const calls = readFileSync(new URL("../../../web/coshalit.js", import.meta.url), "utf8");
 const { Coshalit, StepReferee } = vm.runInThisContext(`${calls}\n({ Coshalit, StepReferee });`);
-const given = readFileSync(0);
+const parts = [];
+for await (const part of stdin) parts.push(part);
+const given = Buffer.concat(parts);
 
 if (word === "steps") {
   const referee = await StepReferee.of(readFileSync(join(folder, "step.wasm")));
